@@ -1,0 +1,97 @@
+-- The range of a call: the bytes whose pages it needs.
+use Rattle.std.specs.Prelude.{ℕ, ◌+◌, ◌/◌, Bool, true, false, not, length, min}
+use Rattle.cc_model.specs.Places.{has_page}
+use Rattle.std.specs.declared.option.Option.{Option}
+use Rattle.std.specs.declared.option.Option.TheVariants.{Some, None}
+use Rattle.cc_entry.specs.Place.{Range}
+use Rattle.cc_entry.specs.declared.call.Call.{Call}
+use Rattle.cc_entry.specs.declared.call.Call.TheVariants as call
+use Rattle.cc_entry.specs.declared.reply.Reply.{Reply}
+use Rattle.cc_entry.specs.declared.reply.Reply.TheVariants as reply
+use Rattle.cc_model.specs.Sizes.{stored_range}
+
+-- n bytes from `at` on, as far as they lie below the size
+abbrev pub cut_range : ℕ → ℕ → ℕ → Range
+cut_range size at n = record { from = at; to = min (at + n) size }
+
+-- n bytes from `at` on
+abbrev pub whole_range : ℕ → ℕ → Range
+whole_range at n = record { from = at; to = at + n }
+
+-- the range of a call on a stream of this size
+abbrev pub range_of : ℕ → Call → Option Range
+range_of size (call.CopyRead file at len wait) = Some (cut_range size at len)
+range_of size (call.CopyWrite file at bytes) = Some (whole_range at (length bytes))
+range_of size (call.Zero file span) = Some span
+range_of size (call.Map file at len) = Some (whole_range at len)
+range_of size (call.PinRead file at len exclusive) = Some (whole_range at len)
+range_of size (call.PreparePin file at len zero exclusive) = Some (whole_range at len)
+range_of size (call.MdlRead file at len) = Some (whole_range at len)
+range_of size (call.MdlWrite file at len) = Some (whole_range at len)
+range_of size (call.NcRead file page) = Some (stored_range page size)
+range_of size (call.NcStore file page bytes) = Some (stored_range page size)
+range_of size (call.NcWrite file page) = Some (stored_range page size)
+range_of size (call.AheadStep request) = Some (cut_range size request.at request.len)
+range_of size (call.Initialise file sizes quota temporary) = None
+range_of size (call.Uninitialise file truncate) = None
+range_of size (call.PinMapped hold exclusive) = None
+range_of size (call.MappedRead hold at len) = None
+range_of size (call.PinnedRead hold at len) = None
+range_of size (call.PinnedWrite hold at bytes) = None
+range_of size (call.SetDirty hold lsn) = None
+range_of size (call.EndHold hold) = None
+range_of size (call.Repin hold) = None
+range_of size (call.MdlBytes hold at len) = None
+range_of size (call.MdlStore hold at bytes) = None
+range_of size (call.SetSizes file allocation to) = None
+range_of size (call.State file) = None
+range_of size (call.Flush file span) = None
+range_of size (call.Purge file span) = None
+range_of size (call.SetLog file handle) = None
+range_of size (call.DirtyPages handle) = None
+range_of size (call.LsnForFile file) = None
+range_of size call.IsDirtyData = None
+range_of size (call.SetGranularity file bytes) = None
+range_of size (call.SetAttributes file no_read_ahead no_write_behind) = None
+range_of size (call.SetThreshold file pages) = None
+range_of size (call.AskAhead file at len) = None
+range_of size (call.CanWrite file bytes) = None
+
+-- whether a done call with this reply leaves the use of its blocks as it was: the two noncached calls
+-- that look at the disk, and a read-ahead that brought nothing in
+abbrev pub uses_no_block : Call → Reply → Bool
+uses_no_block (call.NcRead file page) r = true
+uses_no_block (call.NcWrite file page) r = true
+uses_no_block (call.AheadStep request) (reply.Whole whole) = not whole
+uses_no_block other r = false
+
+-- whether every page of its range has to be resident where a call is done with this reply
+abbrev pub needs_pages : Call → Reply → Bool
+needs_pages (call.NcRead file page) r = false
+needs_pages (call.NcStore file page bytes) r = false
+needs_pages (call.NcWrite file page) r = false
+needs_pages (call.AheadStep request) (reply.Whole whole) = whole
+needs_pages other r = true
+
+-- the first page of the range that a call was given, also where it is empty; 0 where it has none
+abbrev pub first_page : Call → ℕ
+first_page (call.CopyRead file at len wait) = at / 4096
+first_page (call.CopyWrite file at bytes) = at / 4096
+first_page (call.Zero file span) = span.from / 4096
+first_page (call.Map file at len) = at / 4096
+first_page (call.PinRead file at len exclusive) = at / 4096
+first_page (call.PreparePin file at len zero exclusive) = at / 4096
+first_page (call.MdlRead file at len) = at / 4096
+first_page (call.MdlWrite file at len) = at / 4096
+first_page (call.NcRead file page) = page
+first_page (call.NcStore file page bytes) = page
+first_page (call.NcWrite file page) = page
+first_page (call.AheadStep request) = request.at / 4096
+first_page (call.Flush file (Some span)) = span.from / 4096
+first_page (call.Purge file (Some span)) = span.from / 4096
+first_page other = 0
+
+-- whether a page is of a span, where none is the whole stream
+abbrev pub span_has : Option Range → ℕ → Bool
+span_has None p = true
+span_has (Some span) p = has_page span p

@@ -1,0 +1,42 @@
+-- Refusals: which calls may not be done, and the order in which the reasons count.
+use Rattle.std.specs.Prelude.{List, [], ◌∷◌}
+use Rattle.std.specs.declared.option.Option.{Option}
+use Rattle.std.specs.declared.option.Option.TheVariants.{Some, None}
+use Rattle.cc_entry.specs.declared.call.Call.{Call}
+use Rattle.cc_entry.specs.declared.error.CcError.{CcError}
+use Rattle.cc_entry.specs.declared.entry.Entry.{Entry}
+use Rattle.cc_model.specs.Setup.{Setup}
+use Rattle.cc_model.specs.History.{Effect}
+use Rattle.cc_model.specs.Acts.{file_of}
+use Rattle.cc_model.specs.Holds.{holds_of}
+use Rattle.cc_model.specs.Touches.{size_of, valid_of}
+use Rattle.cc_model.specs.Ranges.{range_of}
+use Rattle.cc_model.specs.Reasons.{not_cached, cached_file, too_long, view_boundary, bad_sizes, bad_granularity, no_log, beyond_size, beyond_valid}
+use Rattle.cc_model.specs.Conflicts.{held, busy}
+use Rattle.cc_model.specs.Views.{viewed, no_views, no_vacbs, not_resident}
+
+-- the first refusal of a list
+abbrev pub first_of : List (Option CcError) → Option CcError
+first_of [] = None
+first_of (None ∷ rest) = first_of rest
+first_of (Some e ∷ rest) = Some e
+
+-- The refusal of a call, given the stream that it names, where there is one: the first reason that
+-- holds. Want of room in the journal, of memory, and faults are no reasons of this list.
+unfoldable pub refusal : Setup → List Entry → List Effect → Call → Option CcError
+refusal u past h call =
+    first_of
+    (not_cached h (cached_file call (file_of call))
+    ∷ too_long call
+    ∷ view_boundary call
+    ∷ bad_sizes h call
+    ∷ bad_granularity call
+    ∷ no_log u call
+    ∷ beyond_size (size_of h) call
+    ∷ beyond_valid (valid_of h) call
+    ∷ held h call
+    ∷ busy (holds_of h) call
+    ∷ no_views h (viewed h call (range_of (size_of h) call))
+    ∷ no_vacbs past h call
+    ∷ not_resident h call
+    ∷ [])

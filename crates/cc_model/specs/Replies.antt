@@ -1,0 +1,81 @@
+-- What a call that is done answers.
+use Rattle.std.specs.Prelude.{◌≡◌, ℕ, suc, ◌*◌, Bool, not, ◌&&◌, nat_le, List, ◌∷◌, length}
+use Rattle.std.specs.declared.option.Option.{Option}
+use Rattle.std.specs.declared.option.Option.TheVariants.{Some, None}
+use Rattle.cc_entry.specs.declared.call.Call.{Call}
+use Rattle.cc_entry.specs.declared.call.Call.TheVariants as call
+use Rattle.cc_entry.specs.declared.place.FileState.{FileState}
+use Rattle.cc_entry.specs.declared.place.Request.{Request}
+use Rattle.cc_entry.specs.declared.reply.Reply.{Reply}
+use Rattle.cc_entry.specs.declared.reply.Reply.TheVariants as reply
+use Rattle.cc_entry.specs.declared.entry.Entry.{Entry}
+use Rattle.cc_model.specs.Setup.{Setup}
+use Rattle.cc_model.specs.History.{Effect, Did}
+use Rattle.cc_model.specs.Holds.{holds_of}
+use Rattle.cc_model.specs.Touches.{size_of, valid_of, is_mapped, dirty_pages}
+use Rattle.cc_model.specs.Bytes.{answer, answer_length}
+use Rattle.cc_model.specs.Settings.{allocation_of, log_of, quota_of}
+use Rattle.cc_model.specs.Ranges.{cut_range}
+use Rattle.cc_model.specs.Stamps.{oldest_among, newest_among, lsn_pair, dirty_table}
+use Rattle.cc_model.specs.ReadAhead.{ahead_of}
+use Rattle.cc_model.specs.Cache.{holds_made, is_any_dirty}
+use Rattle.cc_model.specs.Throttle.{may_go, pages_for}
+use Rattle.cc_model.specs.Reasons.{is_open}
+use Rattle.cc_model.specs.Views.{needed_blocks}
+
+-- A read answers the plain file's bytes; where the disk does not tell its opening pages, of these only
+-- the number is said.
+abbrev pub Reads : Option (ℕ → List ℕ) → List Effect → ℕ → ℕ → Reply → Type 0
+Reads None h at n r = (bytes : List ℕ) × (r ≡ reply.Read bytes) × (length bytes ≡ answer_length h at n)
+Reads (Some pages) h at n r = r ≡ reply.Read (answer pages h at n)
+
+-- the sizes and the log of a stream
+abbrev pub state_of : List Effect → FileState
+state_of h =
+    record { sizes = record { allocation = allocation_of h; size = size_of h; valid = valid_of h }; log = log_of h }
+
+-- whether every page of a read-ahead is resident: its object is open, and its blocks fit the quota
+abbrev pub is_whole : List Effect → Request → Bool
+is_whole h request =
+    is_open h request.file && nat_le (needed_blocks (holds_of h) (cut_range (size_of h) request.at request.len)) (quota_of h)
+
+-- the reply of a done call, given the opening pages and the history of its stream, and its pass
+abbrev pub IsReply : Setup → List Entry → Option (ℕ → List ℕ) → List Effect → ℕ → Call → Reply → Type 0
+IsReply u past told h pass (call.CopyRead file at len wait) r = Reads told h at len r
+IsReply u past told h pass (call.MappedRead hold at len) r = Reads told h at len r
+IsReply u past told h pass (call.PinnedRead hold at len) r = Reads told h at len r
+IsReply u past told h pass (call.MdlBytes hold at len) r = Reads told h at len r
+IsReply u past told h pass (call.NcRead file page) r = Reads told h (4096 * page) 4096 r
+IsReply u past told h pass (call.Map file at len) r = r ≡ reply.Hold (suc (holds_made past))
+IsReply u past told h pass (call.PinRead file at len exclusive) r = r ≡ reply.Hold (suc (holds_made past))
+IsReply u past told h pass (call.PreparePin file at len zero exclusive) r = r ≡ reply.Hold (suc (holds_made past))
+IsReply u past told h pass (call.Repin hold) r = r ≡ reply.Hold (suc (holds_made past))
+IsReply u past told h pass (call.MdlRead file at len) r = r ≡ reply.Hold (suc (holds_made past))
+IsReply u past told h pass (call.MdlWrite file at len) r = r ≡ reply.Hold (suc (holds_made past))
+IsReply u past told h pass (call.PinMapped hold exclusive) r = r ≡ reply.Hold hold
+IsReply u past told h pass (call.Uninitialise file truncate) r =
+    r ≡ reply.Flag (not (is_mapped (Did pass (call.Uninitialise file truncate) r ∷ h)))
+IsReply u past told h pass (call.DirtyPages handle) r = r ≡ reply.Rows (dirty_table past handle)
+IsReply u past told h pass (call.LsnForFile file) r =
+    r ≡ reply.Lsns (lsn_pair (oldest_among h (dirty_pages h)) (newest_among h (dirty_pages h)))
+IsReply u past told h pass call.IsDirtyData r = r ≡ reply.Flag (is_any_dirty past)
+IsReply u past told h pass (call.State file) r = r ≡ reply.State (state_of h)
+IsReply u past told h pass (call.AskAhead file at len) r = r ≡ reply.Ahead (ahead_of h file at len)
+IsReply u past told h pass (call.AheadStep request) r = r ≡ reply.Whole (is_whole h request)
+IsReply u past told h pass (call.CanWrite file bytes) r = r ≡ reply.Flag (may_go u past file.stream (pages_for bytes))
+IsReply u past told h pass (call.Initialise file sizes quota temporary) r = r ≡ reply.Unit
+IsReply u past told h pass (call.CopyWrite file at bytes) r = r ≡ reply.Unit
+IsReply u past told h pass (call.Zero file span) r = r ≡ reply.Unit
+IsReply u past told h pass (call.PinnedWrite hold at bytes) r = r ≡ reply.Unit
+IsReply u past told h pass (call.SetDirty hold lsn) r = r ≡ reply.Unit
+IsReply u past told h pass (call.EndHold hold) r = r ≡ reply.Unit
+IsReply u past told h pass (call.MdlStore hold at bytes) r = r ≡ reply.Unit
+IsReply u past told h pass (call.NcStore file page bytes) r = r ≡ reply.Unit
+IsReply u past told h pass (call.NcWrite file page) r = r ≡ reply.Unit
+IsReply u past told h pass (call.SetSizes file allocation size) r = r ≡ reply.Unit
+IsReply u past told h pass (call.Flush file span) r = r ≡ reply.Unit
+IsReply u past told h pass (call.Purge file span) r = r ≡ reply.Unit
+IsReply u past told h pass (call.SetLog file handle) r = r ≡ reply.Unit
+IsReply u past told h pass (call.SetGranularity file bytes) r = r ≡ reply.Unit
+IsReply u past told h pass (call.SetAttributes file no_read_ahead no_write_behind) r = r ≡ reply.Unit
+IsReply u past told h pass (call.SetThreshold file pages) r = r ≡ reply.Unit

@@ -1,0 +1,44 @@
+-- Room in the journal: what is owed to entries that have to find a place later.
+use Rattle.std.specs.Prelude.{ℕ, suc, ◌+◌, ◌-◌, true, false, not, ◌&&◌, List, [], ◌∷◌, length, is_some, if◌then◌else◌}
+use Rattle.std.specs.List.{sum_by}
+use Rattle.cc_entry.specs.declared.entry.Entry.{Entry}
+use Rattle.cc_entry.specs.declared.entry.Entry.TheVariants as entry
+use Rattle.cc_model.specs.Setup.{Setup}
+use Rattle.cc_model.specs.Places.{is_empty, is_among}
+use Rattle.cc_model.specs.History.{Effect, history}
+use Rattle.cc_model.specs.Holds.{Hold, holds_of}
+use Rattle.cc_model.specs.Stamps.{is_pin}
+use Rattle.cc_model.specs.Images.{open_of}
+use Rattle.cc_model.specs.Cache.{all_streams}
+use Rattle.cc_model.specs.Passes.{is_store}
+
+-- an open hold owes its end, and a pin that changed bytes a set-dirty too
+abbrev pub owed_by_hold : Hold → ℕ
+owed_by_hold hold = if is_pin hold.kind && not (is_empty hold.owed) then 2 else 1
+
+-- a stream owes what its holds owe, and the end of its open transfer
+abbrev pub owed_by_stream : List Effect → ℕ
+owed_by_stream h = sum_by owed_by_hold (holds_of h) + (if is_some (open_of h) then 1 else 0)
+
+-- how many passes, but for those listed, have a done noncached store as their last call: each owes the
+-- end of that write
+unfoldable pub stores_unfinished : List ℕ → List Entry → ℕ
+stores_unfinished seen [] = 0
+stores_unfinished seen (entry.Call pass nth stream call ended ∷ past) =
+    elim (is_among pass seen) [
+      true ↦ stores_unfinished seen past
+    | false ↦ (if is_store call ended then 1 else 0) + stores_unfinished (pass ∷ seen) past
+    ]
+stores_unfinished seen (other ∷ past) = stores_unfinished seen past
+
+-- the entries that are reserved in a journal
+unfoldable pub reserved_in : List Entry → ℕ
+reserved_in past = sum_by (λ s. owed_by_stream (history past s)) all_streams + stores_unfinished [] past
+
+-- the room that is left, where so many entries are reserved for device and log calls under way
+unfoldable pub room_in : Setup → List Entry → ℕ → ℕ
+room_in u past under_way = u.capacity - (length past + (reserved_in past + under_way))
+
+-- what an append asks: its own place and what it newly reserves, where its place was not reserved before
+unfoldable pub asked_by : List Entry → Entry → ℕ
+asked_by past e = suc (reserved_in (e ∷ past)) - reserved_in past
