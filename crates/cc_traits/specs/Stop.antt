@@ -4,10 +4,13 @@ use Rattle.cc_traits.specs.declared.stop.Stop.{Stop}
 use Rattle.cc_traits.specs.declared.stop.Stop.TheVariants.{Failed, NoMemory}
 
 -- by how much a call raises its object's count of faults: by one exactly where it failed
+abbrev pub faults_of : Stop → ℕ
+faults_of Failed = 1
+faults_of NoMemory = 0
+
 abbrev pub faults_in : {T : Type 0} → Result T Stop → ℕ
 faults_in (Ok _) = 0
-faults_in (Err Failed) = 1
-faults_in (Err NoMemory) = 0
+faults_in (Err stop) = faults_of stop
 
 -- a fact for a call that failed
 abbrev pub OnFailed : {T : Type 0} → Result T Stop → Type 0 → Type 0

@@ -11,6 +11,7 @@
 #![tactic(auto)]
 
 mod disk;
+mod faults;
 mod gate;
 mod log;
 mod post;
@@ -19,9 +20,13 @@ mod stop;
 mod stream;
 
 pub use disk::{PageDisk, Told};
+pub use faults::Faults;
 pub use gate::Gate;
 pub use log::LogFile;
 pub use post::{PostRoutine, PostedRoutine};
 pub use setup::Setup;
 pub use stop::Stop;
 pub use stream::{Sink, Source};
+
+#[cfg(test)]
+mod tests;
