@@ -1,4 +1,4 @@
-ghost use Rattle.std.specs.Prelude.{◌≡◌, ℕ, ◌+◌, None, Some, OnOk, false, true};
+ghost use Rattle.std.specs.Prelude.{◌≡◌, ℕ, ◌+◌, [], None, Some, OnOk, false, true};
 ghost use Rattle.cc_traits.specs.Told.{IfTold};
 
 use super::*;
@@ -71,10 +71,10 @@ fn a_disk_that_tells_nothing(rt: HostRuntime) {
     assert_eq!(rt; faults.count(), 3);
 }
 
-/// A log that keeps the number of its entries alone.
+/// A log that tells nothing and has room for one entry.
 #[derive(Drop)]
 struct SilentLog {
-    appended: u8,
+    full: bool,
     faults: Faults,
 }
 
@@ -84,10 +84,10 @@ impl LogFile for SilentLog {
     ghost faults = { λ log. log.faults };
 
     fn append(&mut self, _lsn: u64, _piece: &[u8]) -> Result<(), Stop> {
-        if self.appended == 1 {
+        if self.full {
             return Err(self.faults.raise());
         }
-        self.appended += 1;
+        self.full = true;
         Ok(())
     }
 
@@ -104,7 +104,7 @@ fn append_and_flush<L: LogFile>(log: &mut L) -> Result<(), Stop> {
 #[test]
 fn a_boxed_log(rt: HostRuntime) -> Result<(), Fail> {
     let log = SilentLog {
-        appended: 0,
+        full: false,
         faults: Faults::new(),
     };
     let mut boxed: Box<dyn LogFile + Send> = Box::new(rt.alloc(), log)?;
@@ -169,7 +169,8 @@ fn setup_over<D, L>(disks: Vec<D>, logs: Vec<L>) -> Setup<D, L>
 #[test]
 fn a_gate_and_a_setup(rt: HostRuntime) {
     pass(&Open);
-    let setup: Setup<SilentLog> = setup_over(Vec::new(rt.alloc()), Vec::new(rt.alloc()));
+    let setup: Setup<SilentLog, SilentLog> =
+        setup_over(Vec::new(rt.alloc()), Vec::new(rt.alloc()));
     assert_eq!(rt; setup.journal, 64);
 }
 
