@@ -63,8 +63,14 @@ fn a_disk_that_tells_nothing(rt: HostRuntime) {
         let mut out = [0; 4096];
         assert!(rt; write_and_read(&mut disk, 0, &[7; 4096], &mut out).is_ok());
         assert_eq!(rt; out, [7; 4096]);
-        assert_eq!(rt; write_and_read(&mut disk, 1, &[8; 4096], &mut out), Err(Stop::Failed));
-        assert_eq!(rt; sync_twice(&mut disk), (Err(Stop::Failed), Err(Stop::Failed)));
+        assert_eq!(rt;
+            write_and_read(&mut disk, 1, &[8; 4096], &mut out),
+            Err(Stop::Failed)
+        );
+        assert_eq!(rt;
+            sync_twice(&mut disk),
+            (Err(Stop::Failed), Err(Stop::Failed))
+        );
         disk
     };
     assert_eq!(rt; bytes, [7; 4096]);
@@ -169,8 +175,7 @@ fn setup_over<D, L>(disks: Vec<D>, logs: Vec<L>) -> Setup<D, L>
 #[test]
 fn a_gate_and_a_setup(rt: HostRuntime) {
     pass(&Open);
-    let setup: Setup<SilentLog, SilentLog> =
-        setup_over(Vec::new(rt.alloc()), Vec::new(rt.alloc()));
+    let setup: Setup<SilentLog, SilentLog> = setup_over(Vec::new(rt.alloc()), Vec::new(rt.alloc()));
     assert_eq!(rt; setup.journal, 64);
 }
 
