@@ -5,3 +5,8 @@ pub mod ObjectSteps
 pub mod TouchedSteps
 pub mod SizeSteps
 pub mod TouchSteps
+pub mod HoldSteps
+pub mod ByteSteps
+pub mod ImageSteps
+pub mod MapSteps
+pub mod ResidencySteps

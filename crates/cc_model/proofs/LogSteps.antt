@@ -1,17 +1,10 @@
 -- How what the journal says of a log steps at each kind of entry.
-use Rattle.std.specs.Prelude.{◌≡◌, ℕ, Bool, true, false, ◌||◌, ◌==◌, List, [], ◌∷◌, ◌++◌, max, refl, if◌then◌else◌}
-use Rattle.std.specs.declared.option.Option.{Option}
-use Rattle.std.specs.declared.option.Option.TheVariants.{Some, None}
-use Rattle.std.proofs.Common.{ap, sym, ◌∙◌, arith}
-use Rattle.cc_entry.specs.Place.{Page, File}
-use Rattle.cc_entry.specs.declared.call.Call.{Call}
-use Rattle.cc_entry.specs.declared.call.Call.TheVariants as call
-use Rattle.cc_entry.specs.declared.reply.Outcome.{Outcome}
+use Rattle.std.specs.Prelude.{◌≡◌, ℕ, Bool, true, false, ◌==◌, List, [], ◌∷◌, ◌++◌, max, refl}
+use Rattle.std.proofs.Common.{◌∙◌, arith}
 use Rattle.cc_entry.specs.declared.entry.Entry.{Entry}
 use Rattle.cc_entry.specs.declared.entry.Entry.TheVariants as entry
-use Rattle.cc_entry.specs.declared.entry.End.{End}
 use Rattle.cc_model.specs.Logs.{flushed_to, floor_of, flush_of, reach_of}
-use Rattle.cc_model.specs.Turns.{Turn, Log, needs, call_needs, is_quiet}
+use Rattle.cc_model.specs.Turns.{Log, needs, is_quiet}
 use Rattle.cc_model.proofs.QuietSteps.{eqb-swapped, is_quiet-first, is_quiet-rest}
 
 max-zero : (n : ℕ) → max 0 n ≡ n

@@ -3,17 +3,17 @@ use Rattle.std.specs.Prelude.{◌≡◌, ℕ, suc, ◌+◌, Bool, true, false, �
 use Rattle.std.proofs.Common.{ap}
 use Rattle.std.specs.declared.option.Option.{Option}
 use Rattle.std.specs.declared.option.Option.TheVariants.{Some, None}
-use Rattle.cc_entry.specs.Place.{File, Range}
+use Rattle.cc_entry.specs.Place.{File}
 use Rattle.cc_entry.specs.declared.place.FileSizes.{FileSizes}
 use Rattle.cc_entry.specs.declared.call.Call.{Call}
 use Rattle.cc_entry.specs.declared.reply.Reply.{Reply}
 use Rattle.cc_entry.specs.declared.entry.End.{End}
 use Rattle.cc_model.specs.History.{Effect, Did, CameIn, WentOut, Began, Ended, Synced}
-use Rattle.cc_model.specs.Acts.{Act, act_of, Opens, Closes, Resizes, Writes, Zeroes, Stores, Stamps, Looks}
+use Rattle.cc_model.specs.Acts.{act_of, Opens, Closes, Resizes, Writes, Zeroes, Stores, Stamps, Looks}
 use Rattle.cc_model.specs.Places.{has_page}
 use Rattle.cc_model.specs.Objects.{objects, truncation}
 use Rattle.cc_model.specs.Holds.{holds_of, hold_at}
-use Rattle.cc_model.specs.Sizes.{Touch, touched_if, cut_if, hold_has, stored_range, is_good}
+use Rattle.cc_model.specs.Sizes.{touched_if, cut_if, hold_has, stored_range, is_good}
 use Rattle.cc_model.specs.Touches.{touches, size_of}
 
 pub touches-opens : (ended : Bool) {file : File} {given : FileSizes} {quota : ℕ} {temporary : Bool} (pass : ℕ) (call : Call) (reply : Reply) (h : List Effect) (p : ℕ) → act_of call ≡ Opens file given quota temporary → touches ended (Did pass call reply ∷ h) p ≡ touches ended h p
