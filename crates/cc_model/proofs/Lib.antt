@@ -1,0 +1,12 @@
+pub mod HistorySteps
+pub mod QuietSteps
+pub mod LogSteps
+pub mod ObjectSteps
+pub mod TouchedSteps
+pub mod SizeSteps
+pub mod TouchSteps
+pub mod HoldSteps
+pub mod ByteSteps
+pub mod ImageSteps
+pub mod MapSteps
+pub mod ResidencySteps
