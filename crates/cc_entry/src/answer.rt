@@ -15,8 +15,7 @@ pub struct Tick {
     pub failed: u32,
 }
 
-/// A read-ahead request that was served, and whether every page of it below the size was brought in: not so where
-/// its object is closed or its blocks exceed the quota.
+/// A read-ahead request that was served, and whether every page of it is resident.
 #[derive(Clone, Copy, Debug, PartialEq, Eq, Hash)]
 pub struct AheadDone {
     pub request: Request,

@@ -51,8 +51,7 @@ pub enum CcError {
     BadSizes,
     /// An open hold forbids the call; the least such id.
     Held { id: u64 },
-    /// An open pin forbids the pin, the least such id; or a pin owes a stamp to a page that would be written, the
-    /// least such pin of the least such page.
+    /// An open pin forbids the pin, or owes a stamp to the page that would be written; the least such id.
     Busy { id: u64 },
     /// The blocks of open holds and of the range exceed the quota; `active` counts those of open holds.
     NoViews { active: u64, quota: u64 },

@@ -27,7 +27,7 @@ pub struct HoldRow {
     pub kind: HoldKind,
     /// Whether no other pin may share a page with it.
     pub exclusive: bool,
-    /// The span that covers what a zeroing prepare and pinned writes changed since the last set-dirty.
+    /// The span that the pinned writes since the last set-dirty cover.
     pub written: Option<Span>,
 }
 
@@ -36,6 +36,6 @@ pub struct HoldRow {
 pub struct Deferral {
     pub id: u64,
     pub file: FileId,
-    /// How many pages the write counts: one for each 4096 bytes begun.
+    /// How many pages the write would make dirty.
     pub pages: u64,
 }

@@ -5,7 +5,7 @@
 //! value are small types over `Vec` that contracts see as lists, and `Bytes` is kept as runs of equal
 //! bytes and seen as the list of them. Units are bytes, pages of 4096 bytes and blocks of 64 pages.
 //!
-//! It stands on no crate. Every crate that names a call, an entry or a place stands on it.
+//! It stands on no crate; every other crate but the containers without values stands on it.
 #![tactic(auto)]
 
 pub mod answer;

@@ -21,7 +21,7 @@ pub enum Reply {
     State(FileState),
     /// The read-ahead that was asked for, where there is one.
     Ahead(Option<Request>),
-    /// Whether every page of the request below the size was brought in.
+    /// Whether every page of the request is resident.
     Whole(bool),
 }
 
