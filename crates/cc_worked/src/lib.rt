@@ -1,4 +1,16 @@
 //! Worked journals.
 #![tactic(auto, unfolding(crate::proofs::Opened::opened))]
 
+pub mod callers;
+pub mod chains;
 pub mod copies;
+pub mod faults;
+pub mod holds;
+pub mod lazy_writer;
+pub mod logs;
+pub mod maps;
+pub mod noncached;
+pub mod read_ahead;
+pub mod sizes;
+pub mod throttle;
+pub mod transfers;
