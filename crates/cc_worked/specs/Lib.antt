@@ -12,3 +12,4 @@ pub mod LazyWriter
 pub mod ReadAhead
 pub mod Throttle
 pub mod Callers
+pub mod Views

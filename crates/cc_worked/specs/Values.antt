@@ -15,9 +15,17 @@ use Rattle.cc_entry.specs.declared.entry.Entry.{Entry}
 use Rattle.cc_entry.specs.declared.entry.Entry.TheVariants as entry
 use Rattle.cc_model.specs.Setup.{Setup}
 
--- every page of every disk is 4096 times the byte 90
+-- Every page of every disk is 4096 times the byte 90, there are four logs, and the cache may have fewer
+-- dirty pages than the threshold.
+abbrev pub with_threshold : ℕ → Setup
+with_threshold n = record { opening = λ s. Some (λ p. replicate 4096 90); logs = 4; capacity = 1048576; threshold = n }
+
 abbrev pub setup : Setup
-setup = record { opening = λ s. Some (λ p. replicate 4096 90); logs = 4; capacity = 1048576; threshold = 1024 }
+setup = with_threshold 1024
+
+-- the same with disks that do not tell what they hold
+abbrev pub untold : Setup
+untold = record setup { opening = λ s. None }
 
 -- two file objects of stream 0, and one of stream 1
 abbrev pub a : File

@@ -14,3 +14,4 @@ pub mod read_ahead;
 pub mod sizes;
 pub mod throttle;
 pub mod transfers;
+pub mod views;
