@@ -7,6 +7,12 @@ pub mod SizeSteps
 pub mod TouchSteps
 pub mod HoldSteps
 pub mod ByteSteps
-pub mod ImageSteps
+pub mod QuotaSteps
+pub mod SettingSteps
+pub mod SettingEffects
+pub mod ReadSteps
 pub mod MapSteps
 pub mod ResidencySteps
+pub mod ImageSteps
+pub mod QueueSteps
+pub mod PassSteps
