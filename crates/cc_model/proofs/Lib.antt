@@ -1,5 +1,6 @@
 pub mod HistorySteps
 pub mod QuietSteps
+pub mod QuietLaws
 pub mod LogSteps
 pub mod ObjectSteps
 pub mod TouchedSteps
@@ -14,5 +15,7 @@ pub mod ReadSteps
 pub mod MapSteps
 pub mod ResidencySteps
 pub mod ImageSteps
+pub mod ActSteps
+pub mod ByteLaws
 pub mod QueueSteps
 pub mod PassSteps
