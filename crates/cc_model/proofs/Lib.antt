@@ -1,5 +1,6 @@
 pub mod HistorySteps
 pub mod QuietSteps
+pub mod QuietLaws
 pub mod LogSteps
 pub mod ObjectSteps
 pub mod TouchedSteps
@@ -7,6 +8,14 @@ pub mod SizeSteps
 pub mod TouchSteps
 pub mod HoldSteps
 pub mod ByteSteps
-pub mod ImageSteps
+pub mod QuotaSteps
+pub mod SettingSteps
+pub mod SettingEffects
+pub mod ReadSteps
 pub mod MapSteps
 pub mod ResidencySteps
+pub mod ImageSteps
+pub mod ActSteps
+pub mod ByteLaws
+pub mod QueueSteps
+pub mod PassSteps
