@@ -11,7 +11,7 @@ use Rattle.cc_model.specs.Logs.{flushed_to, floor_of}
 use Rattle.cc_model.specs.Stamps.{dirty_table}
 use Rattle.cc_model.specs.Images.{open_of}
 use Rattle.cc_model.specs.ReadAhead.{reads_of, ahead_of}
-use Rattle.cc_model.specs.Passes.{calls_of, since_call, is_written_since}
+use Rattle.cc_model.specs.Passes.{calls_of, up_to_call, is_written_since}
 use Rattle.cc_model.specs.Faults.{faults_since}
 use Rattle.cc_model.specs.Flushed.{synced_after, is_flushed}
 use Rattle.cc_model.specs.Cache.{holds_made, views_taken, dirty_total, is_any_dirty, lazy_pages}
@@ -23,5 +23,5 @@ use Rattle.cc_model.specs.Covered.{IsCovered, IsCoveredEntry}
 use Rattle.cc_model.specs.Allowed.{IsAllowed, IsAllowedSoFar}
 
 unfoldable pub opened : Unit {0}
-unfolding history objects had_map holds_of touched sizes touches content byte_of answer quota_of is_temporary allocation_of log_of has_no_read_ahead has_no_write_behind threshold_of granularity_of residents flushed_to floor_of dirty_table open_of reads_of ahead_of calls_of since_call is_written_since faults_since synced_after is_flushed holds_made views_taken dirty_total is_any_dirty lazy_pages last_total cursor pick may_go queue deferred refusal IsLegal IsLegalEntry IsCovered IsCoveredEntry IsAllowed IsAllowedSoFar
+unfolding history objects had_map holds_of touched sizes touches content byte_of answer quota_of is_temporary allocation_of log_of has_no_read_ahead has_no_write_behind threshold_of granularity_of residents flushed_to floor_of dirty_table open_of reads_of ahead_of calls_of up_to_call is_written_since faults_since synced_after is_flushed holds_made views_taken dirty_total is_any_dirty lazy_pages last_total cursor pick may_go queue deferred refusal IsLegal IsLegalEntry IsCovered IsCoveredEntry IsAllowed IsAllowedSoFar
 opened = tt
