@@ -35,3 +35,4 @@ pub mod Allowed
 pub mod Good
 pub mod Room
 pub mod Turns
+pub mod Laws
