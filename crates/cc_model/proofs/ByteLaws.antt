@@ -14,7 +14,6 @@ use Rattle.cc_model.specs.Bytes.{byte_of}
 use Rattle.cc_model.proofs.SizeSteps.{sizes-writes, sizes-zeroes, sizes-looks, sizes-stamps, sizes-resizes}
 use Rattle.cc_model.proofs.ByteSteps.{content-writes_covered, content-writes_past, content-zeroes_covered, content-zeroes_past, content-looks, content-stamps, byte_of-below, byte_of-above, byte_of-same}
 
-
 -- a byte of a range is one from its beginning on and before its end
 has_byte-inside : (r : Range) (i : ℕ) → r.from ≤ i → i < r.to → has_byte r i ≡ true
 has_byte-inside r i from_on before = and_from _ _ (le-leb r.from i from_on) (lt-ltb i r.to before)
@@ -23,13 +22,15 @@ has_byte-inside r i from_on before = and_from _ _ (le-leb r.from i from_on) (lt-
 pub byte_of-written : {at : ℕ} {bytes : List ℕ} (pages : ℕ → List ℕ) (pass : ℕ) (call : Call) (reply : Reply) (h : List Effect) (k : ℕ) → act_of call ≡ Writes at bytes → k < length bytes → byte_of pages (Did pass call reply ∷ h) (at + k) ≡ slice_index bytes k
 byte_of-written {at} {bytes} pages pass call reply h k is inside =
     byte_of-below pages (Did pass call reply ∷ h) (at + k) below
-        ∙ (content-writes_covered pages pass call reply h (at + k) is (has_byte-inside (record { from = at; to = at + length bytes }) (at + k) (omega arith) (omega arith))
-        ∙ ap (slice_index bytes) offset)
+    ∙ (content-writes_covered pages pass call reply h (at + k) is (has_byte-inside (record { from = at; to = at + length bytes }) (at + k) (omega arith) (omega arith))
+    ∙ ap (slice_index bytes) offset)
   where
     offset : (at + k) - at ≡ k
     offset = omega arith
+
     reaches : at + k < max (valid_of h) (at + length bytes)
     reaches = omega arith
+
     below : nat_lt (at + k) (valid_of (Did pass call reply ∷ h)) ≡ true
     below = rw (sizes-writes _ _ _ _ is, valid_of) (lt-ltb (at + k) (max (valid_of h) (at + length bytes)) reaches)
 
@@ -37,10 +38,11 @@ byte_of-written {at} {bytes} pages pass call reply h k is inside =
 pub byte_of-past_write : {at : ℕ} {bytes : List ℕ} (pages : ℕ → List ℕ) (pass : ℕ) (call : Call) (reply : Reply) (h : List Effect) (i : ℕ) → act_of call ≡ Writes at bytes → i < valid_of h → has_byte (record { from = at; to = at + length bytes }) i ≡ false → byte_of pages (Did pass call reply ∷ h) i ≡ byte_of pages h i
 byte_of-past_write {at} {bytes} pages pass call reply h i is valid past =
     byte_of-below pages (Did pass call reply ∷ h) i below
-        ∙ (content-writes_past pages pass call reply h i is past ∙ sym (byte_of-below pages h i (lt-ltb i (valid_of h) valid)))
+    ∙ (content-writes_past pages pass call reply h i is past ∙ sym (byte_of-below pages h i (lt-ltb i (valid_of h) valid)))
   where
     reaches : i < max (valid_of h) (at + length bytes)
     reaches = omega arith
+
     below : nat_lt i (valid_of (Did pass call reply ∷ h)) ≡ true
     below = rw (sizes-writes _ _ _ _ is, valid_of) (lt-ltb i (max (valid_of h) (at + length bytes)) reaches)
 
@@ -48,10 +50,11 @@ byte_of-past_write {at} {bytes} pages pass call reply h i is valid past =
 pub byte_of-zeroed : {from to : ℕ} (pages : ℕ → List ℕ) (pass : ℕ) (call : Call) (reply : Reply) (h : List Effect) (i : ℕ) → act_of call ≡ Zeroes from to → from ≤ i → i < to → byte_of pages (Did pass call reply ∷ h) i ≡ 0
 byte_of-zeroed {from} {to} pages pass call reply h i is from_on before =
     byte_of-below pages (Did pass call reply ∷ h) i below
-        ∙ content-zeroes_covered pages pass call reply h i is (has_byte-inside (record { from = from; to = to }) i from_on before)
+    ∙ content-zeroes_covered pages pass call reply h i is (has_byte-inside (record { from = from; to = to }) i from_on before)
   where
     reaches : i < max (valid_of h) to
     reaches = omega arith
+
     below : nat_lt i (valid_of (Did pass call reply ∷ h)) ≡ true
     below = rw (sizes-zeroes _ _ _ _ is, valid_of) (lt-ltb i (max (valid_of h) to) reaches)
 
@@ -59,10 +62,11 @@ byte_of-zeroed {from} {to} pages pass call reply h i is from_on before =
 pub byte_of-past_zero : {from to : ℕ} (pages : ℕ → List ℕ) (pass : ℕ) (call : Call) (reply : Reply) (h : List Effect) (i : ℕ) → act_of call ≡ Zeroes from to → i < valid_of h → has_byte (record { from = from; to = to }) i ≡ false → byte_of pages (Did pass call reply ∷ h) i ≡ byte_of pages h i
 byte_of-past_zero {from} {to} pages pass call reply h i is valid past =
     byte_of-below pages (Did pass call reply ∷ h) i below
-        ∙ (content-zeroes_past pages pass call reply h i is past ∙ sym (byte_of-below pages h i (lt-ltb i (valid_of h) valid)))
+    ∙ (content-zeroes_past pages pass call reply h i is past ∙ sym (byte_of-below pages h i (lt-ltb i (valid_of h) valid)))
   where
     reaches : i < max (valid_of h) to
     reaches = omega arith
+
     below : nat_lt i (valid_of (Did pass call reply ∷ h)) ≡ true
     below = rw (sizes-zeroes _ _ _ _ is, valid_of) (lt-ltb i (max (valid_of h) to) reaches)
 
@@ -79,5 +83,6 @@ byte_of-resized {allocation} {size} pages pass call reply h i is from_on = byte_
   where
     reaches : min (valid_of h) size ≤ i
     reaches = omega arith
+
     above : nat_lt i (valid_of (Did pass call reply ∷ h)) ≡ false
     above = rw (sizes-resizes _ _ _ _ is, valid_of) (le-ltb i (min (valid_of h) size) reaches)

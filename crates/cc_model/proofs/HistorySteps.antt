@@ -37,6 +37,12 @@ pub history-failed : (pass nth stream : ℕ) (call : Call) (error : CcError) (pa
 unfolding history
 history-failed pass nth stream call error past s = refl
 
+-- the same whether or not the call has a stream
+pub history-call_failed : (pass nth : ℕ) (stream : Option ℕ) (call : Call) (error : CcError) (past : List Entry) (s : ℕ) → history (entry.Call pass nth stream call (outcome.Failed error) ∷ past) s ≡ history past s
+unfolding history
+history-call_failed pass nth (Some stream) call error past s = refl
+history-call_failed pass nth None call error past s = refl
+
 pub history-no_stream : (pass nth : ℕ) (call : Call) (ended : Outcome) (past : List Entry) (s : ℕ) → history (entry.Call pass nth None call ended ∷ past) s ≡ history past s
 unfolding history
 history-no_stream pass nth call ended past s = refl

@@ -19,3 +19,6 @@ pub mod ActSteps
 pub mod ByteLaws
 pub mod QueueSteps
 pub mod PassSteps
+pub mod PassLaws
+pub mod KeptLaws
+pub mod TransferLaws

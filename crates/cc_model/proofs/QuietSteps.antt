@@ -148,7 +148,7 @@ pub history-quiet : (later past : List Entry) (s : ℕ) → is_quiet (Book s) la
 history-quiet [] past s b d = refl
 history-quiet (e ∷ later) past s b d =
     history-no_effect e (later ++ past) s (effect_of-unneeded e s (is_quiet-first (Book s) e later b) (is_quiet-first (Device s) e later d))
-        ∙ history-quiet later past s (is_quiet-rest (Book s) e later b) (is_quiet-rest (Device s) e later d)
+    ∙ history-quiet later past s (is_quiet-rest (Book s) e later b) (is_quiet-rest (Device s) e later d)
 
 -- entries that do not need the book of the stream add only syncs to its history
 pub history-bookless : (later : List Entry) (s : ℕ) → is_quiet (Book s) later ≡ true → list_all is_sync (history later s) ≡ true
