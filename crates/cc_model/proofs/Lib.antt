@@ -22,3 +22,5 @@ pub mod PassSteps
 pub mod PassLaws
 pub mod KeptLaws
 pub mod TransferLaws
+pub mod BlockLists
+pub mod OrderOfUse
