@@ -10,3 +10,5 @@ pub mod ByteSteps
 pub mod ImageSteps
 pub mod MapSteps
 pub mod ResidencySteps
+pub mod Steady
+pub mod SteadyCalls
