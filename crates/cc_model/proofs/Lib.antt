@@ -12,3 +12,7 @@ pub mod MapSteps
 pub mod ResidencySteps
 pub mod Steady
 pub mod SteadyCalls
+pub mod SteadyPasts
+pub mod FirstMap
+pub mod CoveredBytes
+pub mod KeptBytes
