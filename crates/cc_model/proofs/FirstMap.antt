@@ -15,7 +15,7 @@ use Rattle.cc_model.specs.Bytes.{content}
 use Rattle.cc_model.specs.Images.{open_of, begun, image}
 use Rattle.cc_model.proofs.ObjectSteps.{objects-looks, had_map-opens, had_map-closes, had_map-resizes, had_map-writes, had_map-zeroes, had_map-stores, had_map-stamps, had_map-looks}
 use Rattle.cc_model.proofs.TouchSteps.{touches-looks}
-use Rattle.cc_model.proofs.ByteSteps.{content-looks}
+use Rattle.cc_model.proofs.ByteSteps.{content-opens, content-looks}
 use Rattle.cc_model.proofs.Steady.{needs_no_map, IsSteadyCall, IsSteadyEffect, IsSteady}
 
 pub record IsFirst (h : List Effect) : Type 0 where
@@ -46,6 +46,20 @@ IsFirst-done pass call reply h steady first never = go (act_of call) refl (stead
     go : (a : Act) → act_of call ≡ a → needs_no_map (act_of call) ≡ true → IsFirst (Did pass call reply ∷ h)
     go (Opens file given quota temporary) is fits = absurd (cc (had_map-opens pass call reply h is))
     go Looks is fits = IsFirst-looks pass call reply h is steady first
+    go (Closes file truncate) is fits = absurd (cc (ap needs_no_map is))
+    go (Resizes allocation size) is fits = absurd (cc (ap needs_no_map is))
+    go (Writes at bytes) is fits = absurd (cc (ap needs_no_map is))
+    go (Zeroes from to) is fits = absurd (cc (ap needs_no_map is))
+    go (Stores page bytes) is fits = absurd (cc (ap needs_no_map is))
+    go (Stamps hold lsn) is fits = absurd (cc (ap needs_no_map is))
+
+-- a call that may be done before the first map changes no content
+pub content-first : (pages : ℕ → List ℕ) (pass : ℕ) (call : Call) (reply : Reply) (h : List Effect) (i : ℕ) → IsSteadyCall h call → IsFirst h → content pages (Did pass call reply ∷ h) i ≡ content pages h i
+content-first pages pass call reply h i steady first = go (act_of call) refl (steady.first first.unopened first.unheld)
+  where
+    go : (a : Act) → act_of call ≡ a → needs_no_map (act_of call) ≡ true → content pages (Did pass call reply ∷ h) i ≡ content pages h i
+    go (Opens file given quota temporary) is fits = content-opens pages pass call reply h i is
+    go Looks is fits = content-looks pages pass call reply h i is
     go (Closes file truncate) is fits = absurd (cc (ap needs_no_map is))
     go (Resizes allocation size) is fits = absurd (cc (ap needs_no_map is))
     go (Writes at bytes) is fits = absurd (cc (ap needs_no_map is))

@@ -16,3 +16,5 @@ pub mod SteadyPasts
 pub mod FirstMap
 pub mod CoveredBytes
 pub mod KeptBytes
+pub mod OpenTransfers
+pub mod CleanPages
