@@ -1,12 +1,9 @@
 -- What is clean is on the disk: each byte below the valid data length of a page that is not dirty.
 use Rattle.std.specs.Prelude.{◌≡◌, ℕ, ◌+◌, ◌-◌, ◌*◌, ◌/◌, ◌%◌, ◌<◌, ◌≤◌, Bool, true, false, ◌==◌, List, [], ◌∷◌, slice_index, refl}
-use Rattle.std.proofs.Common.{arith, ap, sym, subst, ◌∙◌}
-use Rattle.std.proofs.lemmas.Bool.{eq-eqb, eqb-true, lt-ltb}
+use Rattle.std.proofs.Common.{arith, ap, sym, ◌∙◌}
+use Rattle.std.proofs.lemmas.Bool.{eqb-true, lt-ltb}
 use Rattle.std.proofs.lemmas.List.FromFn.{get_or-map-range_with_len}
-use Rattle.std.specs.declared.option.Option.{Option}
-use Rattle.std.specs.declared.option.Option.TheVariants.{Some, None}
-use Rattle.cc_entry.specs.declared.call.Call.{Call}
-use Rattle.cc_entry.specs.declared.reply.Reply.{Reply}
+use Rattle.std.specs.declared.option.Option.TheVariants.{Some}
 use Rattle.cc_entry.specs.declared.entry.End.{End}
 use Rattle.cc_entry.specs.declared.entry.Entry.{Entry}
 use Rattle.cc_model.specs.Setup.{Setup}
@@ -15,17 +12,17 @@ use Rattle.cc_model.specs.Objects.{had_map}
 use Rattle.cc_model.specs.Sizes.{is_good}
 use Rattle.cc_model.specs.Touches.{sizes, touches, valid_of, is_dirty}
 use Rattle.cc_model.specs.Bytes.{content, byte_of, page_size, page_bytes}
-use Rattle.cc_model.specs.Images.{open_of, begun, image}
+use Rattle.cc_model.specs.Images.{image}
 use Rattle.cc_model.specs.Good.{IsGoodSoFar}
 use Rattle.cc_model.specs.Facts.{IsOnDisk}
 use Rattle.cc_model.proofs.TouchSteps.{touches-ended_good, touches-ended_bad, touches-ended_other}
 use Rattle.cc_model.proofs.ByteSteps.{byte_of-below}
-use Rattle.cc_model.proofs.ImageSteps.{image-done, image-ended_good, image-ended_other}
-use Rattle.cc_model.proofs.Steady.{IsSteadyCall, IsSteady}
+use Rattle.cc_model.proofs.ImageSteps.{image-ended_good, image-ended_other}
+use Rattle.cc_model.proofs.Steady.{IsSteady}
 use Rattle.cc_model.proofs.SteadyPasts.{IsSteady-good}
 use Rattle.cc_model.proofs.FirstMap.{IsFirst, IsFirst-steady, content-first}
-use Rattle.cc_model.proofs.KeptBytes.{IsKeptByte, IsKeptByte-done}
-use Rattle.cc_model.proofs.OpenTransfers.{open_is_dirty, HasBegun, HasBegun-open, IsSinceBegin-untouched}
+use Rattle.cc_model.proofs.KeptBytes.{IsKeptByte-done}
+use Rattle.cc_model.proofs.OpenTransfers.{open_is_dirty, HasBegun-open, IsSinceBegin-untouched}
 
 -- the byte of a page as a list
 page_bytes-at : (pages : ℕ → List ℕ) (h : List Effect) (p i : ℕ) → 4096 * p ≤ i → i < 4096 * p + 4096 → slice_index (page_bytes pages h p) (i - 4096 * p) ≡ byte_of pages h i
@@ -60,7 +57,7 @@ IsStored-ended pages pass page how h p i steady low high clean below before = go
         record {
           bytes = page_bytes pages b.front p;
           known = image-ended_good pages pass page how h b.front p same is b.is;
-          same = page_bytes-at pages b.front p i low high ∙ byte_of-below pages b.front i (lt-ltb i (valid_of b.front) k.below) ∙ k.same
+          same = page_bytes-at pages b.front p i low high ∙ byte_of-below pages b.front i (lt-ltb i (valid_of b.front) k.below) ∙ k.same;
         }
     go true same false is =
         absurd (open_is_dirty h steady.1 (record { pass = pass; page = p }) (steady.0 ∙ ap (λ q. Some (record { pass = pass; page = q })) (eqb-true page p same)) i low high (sym (touches-ended_bad false pass page how h p is) ∙ clean) below)

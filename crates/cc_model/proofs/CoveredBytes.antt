@@ -1,12 +1,11 @@
 -- Which bytes of a page a range leaves alone that does not touch the page.
-use Rattle.std.specs.Prelude.{◌≡◌, ℕ, suc, ◌+◌, ◌*◌, ◌<◌, ◌≤◌, Bool, true, false, ◌&&◌, nat_lt, nat_le, List, [], ◌∷◌, max, refl}
+use Rattle.std.specs.Prelude.{◌≡◌, ℕ, ◌+◌, ◌*◌, ◌<◌, ◌≤◌, Bool, true, false, nat_lt, List, [], max, refl}
 use Rattle.std.proofs.Common.{arith}
-use Rattle.std.proofs.lemmas.Bool.{ltb-true, ltb-false, leb-true, leb-false, lt-ltb, le-leb, and_parts, and_from}
+use Rattle.std.proofs.lemmas.Bool.{ltb-true, ltb-false, leb-true, lt-ltb, le-leb, and_parts, and_from}
 use Rattle.std.specs.declared.option.Option.{Option}
-use Rattle.std.specs.declared.option.Option.TheVariants.{Some, None}
 use Rattle.cc_entry.specs.Place.{Range}
 use Rattle.cc_model.specs.Places.{has_byte, has_page}
-use Rattle.cc_model.specs.Sizes.{Touch, touched_if, cut_if}
+use Rattle.cc_model.specs.Sizes.{Touch, touched_if}
 
 -- a range that has a byte of the page has the page
 pub has_page-byte : (r : Range) (p i : ℕ) → 4096 * p ≤ i → i < 4096 * p + 4096 → has_byte r i ≡ true → has_page r p ≡ true

@@ -1,8 +1,7 @@
 -- Before its first map a stream has no object, hold, touch or transfer, and its bytes are the opening
 -- ones.
-use Rattle.std.specs.Prelude.{◌≡◌, ℕ, ◌/◌, ◌%◌, Bool, true, false, List, [], ◌∷◌, slice_index, refl}
+use Rattle.std.specs.Prelude.{◌≡◌, ℕ, ◌/◌, ◌%◌, true, false, List, [], ◌∷◌, slice_index, refl}
 use Rattle.std.proofs.Common.{ap, sym, ◌∙◌}
-use Rattle.std.specs.declared.option.Option.{Option}
 use Rattle.std.specs.declared.option.Option.TheVariants.{Some, None}
 use Rattle.cc_entry.specs.declared.call.Call.{Call}
 use Rattle.cc_entry.specs.declared.reply.Reply.{Reply}
@@ -16,7 +15,7 @@ use Rattle.cc_model.specs.Images.{open_of, begun, image}
 use Rattle.cc_model.proofs.ObjectSteps.{objects-looks, had_map-opens, had_map-closes, had_map-resizes, had_map-writes, had_map-zeroes, had_map-stores, had_map-stamps, had_map-looks}
 use Rattle.cc_model.proofs.TouchSteps.{touches-looks}
 use Rattle.cc_model.proofs.ByteSteps.{content-opens, content-looks}
-use Rattle.cc_model.proofs.Steady.{needs_no_map, IsSteadyCall, IsSteadyEffect, IsSteady}
+use Rattle.cc_model.proofs.Steady.{needs_no_map, IsSteadyCall, IsSteady}
 
 pub record IsFirst (h : List Effect) : Type 0 where
   pub unopened : objects h ≡ []
@@ -37,7 +36,7 @@ IsFirst-looks pass call reply h is steady first =
       not_begun = first.not_begun;
       untouched = λ p. touches-looks false pass call reply h p is ∙ first.untouched p;
       opening = λ pages i. content-looks pages pass call reply h i is ∙ first.opening pages i;
-      opening_page = first.opening_page
+      opening_page = first.opening_page;
     }
 
 IsFirst-done : (pass : ℕ) (call : Call) (reply : Reply) (h : List Effect) → IsSteadyCall h call → IsFirst h → had_map (Did pass call reply ∷ h) ≡ false → IsFirst (Did pass call reply ∷ h)
@@ -94,7 +93,7 @@ IsFirst-steady [] steady never =
       not_begun = λ p. refl;
       untouched = λ p. refl;
       opening = λ pages i. refl;
-      opening_page = λ pages p. refl
+      opening_page = λ pages p. refl;
     }
 IsFirst-steady (Did pass call reply ∷ h) steady never =
     IsFirst-done pass call reply h steady.0 (IsFirst-steady h steady.1 (never_before pass call reply h never)) never

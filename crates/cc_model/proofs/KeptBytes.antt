@@ -1,7 +1,7 @@
 -- A call that leaves nothing of its own in a page leaves the page's bytes, and raises the valid data
 -- length over none of them.
-use Rattle.std.specs.Prelude.{◌≡◌, ℕ, suc, ◌+◌, ◌*◌, ◌<◌, ◌≤◌, Bool, true, false, nat_le, List, [], ◌∷◌, length, min, max, refl}
-use Rattle.std.proofs.Common.{arith, ap, sym, subst, ◌∙◌}
+use Rattle.std.specs.Prelude.{◌≡◌, ℕ, suc, ◌+◌, ◌*◌, ◌<◌, ◌≤◌, Bool, true, false, nat_le, List, [], ◌∷◌, length, max, refl}
+use Rattle.std.proofs.Common.{arith, sym, subst, ◌∙◌}
 use Rattle.std.proofs.lemmas.Bool.{leb-true}
 use Rattle.std.specs.declared.option.Option.{Option}
 use Rattle.std.specs.declared.option.Option.TheVariants.{Some, None}
@@ -14,14 +14,14 @@ use Rattle.cc_model.specs.Acts.{Act, act_of, Opens, Closes, Resizes, Writes, Zer
 use Rattle.cc_model.specs.Places.{has_byte, has_page}
 use Rattle.cc_model.specs.Objects.{objects, had_map, truncation}
 use Rattle.cc_model.specs.Holds.{holds_of, hold_at}
-use Rattle.cc_model.specs.Sizes.{Sizes, resized_by, raised, stored_range, Touch, touched_if, cut_if, hold_has}
+use Rattle.cc_model.specs.Sizes.{Sizes, resized_by, stored_range, touched_if, cut_if, hold_has}
 use Rattle.cc_model.specs.Touches.{sizes, touches, size_of, valid_of, is_mapped}
 use Rattle.cc_model.specs.Bytes.{content}
 use Rattle.cc_model.proofs.SizeSteps.{sizes-opens_mapped, sizes-opens_anew, sizes-closes, sizes-resizes, sizes-writes, sizes-zeroes, sizes-stores, sizes-stamps, sizes-looks}
 use Rattle.cc_model.proofs.TouchSteps.{touches-opens, touches-closes, touches-resizes, touches-writes, touches-zeroes, touches-stores, touches-stamps, touches-looks}
 use Rattle.cc_model.proofs.ByteSteps.{content-opens, content-closes, content-resizes, content-writes_past, content-zeroes_past, content-stores_past, content-stamps, content-looks}
 use Rattle.cc_model.proofs.Steady.{BeginsWithin, ComesBackWithin, IsSteadyCall}
-use Rattle.cc_model.proofs.CoveredBytes.{IsUncovered, IsUncovered-page, IsUntouched, IsUntouched-none}
+use Rattle.cc_model.proofs.CoveredBytes.{IsUncovered-page, IsUntouched-none}
 
 -- nothing stood before the call that is not written, and the byte lay below the valid data length
 pub record IsKept (ended : Bool) (h : List Effect) (p i : ℕ) : Type 0 where
@@ -62,9 +62,9 @@ module _ (pages : ℕ → List ℕ) (ended : Bool) (pass : ℕ) (call : Call) (r
       record {
         kept = record {
           clean = sym (touches-opens ended pass call reply h p is) ∙ none;
-          below = below_as (sizes h) (sizes-opens_mapped pass call reply h is mapped)
+          below = below_as (sizes h) (sizes-opens_mapped pass call reply h is mapped);
         };
-        same = content-opens pages pass call reply h i is
+        same = content-opens pages pass call reply h i is;
       }
 
   kept-opens_anew : (file : File) (given : FileSizes) (quota : ℕ) (temporary : Bool) → act_of call ≡ Opens file given quota temporary → is_mapped h ≡ false → given.valid ≤ valid_of h → IsKeptByte pages ended (Did pass call reply) h p i
@@ -72,7 +72,7 @@ module _ (pages : ℕ → List ℕ) (ended : Bool) (pass : ℕ) (call : Call) (r
       let now : i < given.valid = below_as (record { size = given.size; valid = given.valid }) (sizes-opens_anew pass call reply h is unmapped) in
       record {
         kept = record { clean = sym (touches-opens ended pass call reply h p is) ∙ none; below = omega arith };
-        same = content-opens pages pass call reply h i is
+        same = content-opens pages pass call reply h i is;
       }
 
   kept-opens : (file : File) (given : FileSizes) (quota : ℕ) (temporary : Bool) → act_of call ≡ Opens file given quota temporary → (is_mapped h ≡ false → given.valid ≤ valid_of h) → IsKeptByte pages ended (Did pass call reply) h p i
@@ -86,14 +86,14 @@ module _ (pages : ℕ → List ℕ) (ended : Bool) (pass : ℕ) (call : Call) (r
   kept-closes file truncate is =
       record {
         kept = IsKept-cut (truncation (objects h) (size_of h) file truncate) ended h p i (sym (touches-closes ended pass call reply h p is) ∙ none) low (below_as _ (sizes-closes pass call reply h is));
-        same = content-closes pages pass call reply h i is
+        same = content-closes pages pass call reply h i is;
       }
 
   kept-resizes : (allocation size : ℕ) → act_of call ≡ Resizes allocation size → IsKeptByte pages ended (Did pass call reply) h p i
   kept-resizes allocation size is =
       record {
         kept = IsKept-cut (Some size) ended h p i (sym (touches-resizes ended pass call reply h p is) ∙ none) low (below_as _ (sizes-resizes pass call reply h is));
-        same = content-resizes pages pass call reply h i is
+        same = content-resizes pages pass call reply h i is;
       }
 
   kept-writes : (at : ℕ) (bytes : List ℕ) → act_of call ≡ Writes at bytes → at ≤ valid_of h → IsKeptByte pages ended (Did pass call reply) h p i
@@ -118,7 +118,7 @@ module _ (pages : ℕ → List ℕ) (ended : Bool) (pass : ℕ) (call : Call) (r
       let u = IsUntouched-none (hold_has (hold_at (holds_of h) hold) p) (suc (length h)) lsn (touches ended h p) (sym (touches-stamps ended pass call reply h p is) ∙ none) in
       record {
         kept = record { clean = u.none; below = below_as (sizes h) (sizes-stamps pass call reply h is) };
-        same = content-stamps pages pass call reply h i is
+        same = content-stamps pages pass call reply h i is;
       }
 
   kept-looks : act_of call ≡ Looks → IsKeptByte pages ended (Did pass call reply) h p i
@@ -126,9 +126,9 @@ module _ (pages : ℕ → List ℕ) (ended : Bool) (pass : ℕ) (call : Call) (r
       record {
         kept = record {
           clean = sym (touches-looks ended pass call reply h p is) ∙ none;
-          below = below_as (sizes h) (sizes-looks pass call reply h is)
+          below = below_as (sizes h) (sizes-looks pass call reply h is);
         };
-        same = content-looks pages pass call reply h i is
+        same = content-looks pages pass call reply h i is;
       }
 
   pub IsKeptByte-done : IsSteadyCall h call → had_map h ≡ true → IsKeptByte pages ended (Did pass call reply) h p i

@@ -1,11 +1,8 @@
 -- What an open transfer says of its page, and what a page keeps since its transfer began.
 use Rattle.std.specs.Prelude.{◌≡◌, ℕ, ◌+◌, ◌*◌, ◌<◌, ◌≤◌, Bool, true, false, ◌==◌, List, [], ◌∷◌, refl}
 use Rattle.std.proofs.Common.{ap, sym, subst, ◌∙◌}
-use Rattle.std.proofs.lemmas.Bool.{eq-eqb, eqb-true}
-use Rattle.std.specs.declared.option.Option.{Option}
-use Rattle.std.specs.declared.option.Option.TheVariants.{Some, None}
-use Rattle.cc_entry.specs.declared.call.Call.{Call}
-use Rattle.cc_entry.specs.declared.reply.Reply.{Reply}
+use Rattle.std.proofs.lemmas.Bool.{eq-eqb}
+use Rattle.std.specs.declared.option.Option.TheVariants.{Some}
 use Rattle.cc_model.specs.History.{Effect, Did, CameIn, WentOut, Began, Ended, Synced}
 use Rattle.cc_model.specs.Objects.{had_map}
 use Rattle.cc_model.specs.Touches.{sizes, touches, valid_of, is_dirty}
@@ -13,9 +10,9 @@ use Rattle.cc_model.specs.Bytes.{content}
 use Rattle.cc_model.specs.Images.{Transfer, open_of, begun}
 use Rattle.cc_model.proofs.TouchSteps.{touches-began_other}
 use Rattle.cc_model.proofs.ImageSteps.{begun-began_page, begun-began_other}
-use Rattle.cc_model.proofs.Steady.{IsSteadyCall, IsSteady}
+use Rattle.cc_model.proofs.Steady.{IsSteady}
 use Rattle.cc_model.proofs.FirstMap.{IsFirst-steady}
-use Rattle.cc_model.proofs.KeptBytes.{IsKeptByte, IsKeptByte-done}
+use Rattle.cc_model.proofs.KeptBytes.{IsKeptByte-done}
 
 -- while a transfer is open its page is dirty, or has no byte below the valid data length
 pub open_is_dirty : (h : List Effect) → IsSteady h → (t : Transfer) → open_of h ≡ Some t → (i : ℕ) → 4096 * t.page ≤ i → i < 4096 * t.page + 4096 → touches false h t.page ≡ [] → i < valid_of h → ⊥
@@ -36,6 +33,7 @@ open_is_dirty (Began pass page ∷ h) steady t under i low high clean below =
   where
     ap_page : (s u : Transfer) → Some s ≡ Some u → s.page ≡ u.page
     ap_page s u e = let same : s ≡ u = cc in ap (λ (v : Transfer). v.page) same
+
     dirty-clean : (g : List Effect) (p q : ℕ) → p ≡ q → is_dirty g p ≡ true → touches false g q ≡ [] → ⊥
     dirty-clean g p q same dirty none = absurd (cc)
 open_is_dirty (Ended pass page how ∷ h) steady t under i low high clean below = absurd (cc)

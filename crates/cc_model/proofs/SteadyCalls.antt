@@ -1,6 +1,5 @@
 -- A call that is done in a legal and allowed journal is steady.
-use Rattle.std.specs.Prelude.{◌≡◌, ℕ, ◌+◌, ◌*◌, ◌≤◌, Bool, true, false, not, ◌&&◌, ◌||◌, nat_lt, List, [], ◌∷◌, length, refl}
-use Rattle.std.proofs.Common.{arith, ap, sym, ◌∙◌}
+use Rattle.std.specs.Prelude.{◌≡◌, ℕ, ◌*◌, ◌≤◌, Bool, true, false, not, ◌&&◌, ◌||◌, nat_lt, List, [], ◌∷◌, length, refl}
 use Rattle.std.proofs.lemmas.Bool.{ltb-false}
 use Rattle.std.specs.declared.option.Option.{Option}
 use Rattle.std.specs.declared.option.Option.TheVariants.{Some, None}
@@ -9,16 +8,15 @@ use Rattle.cc_entry.specs.declared.call.Call.{Call}
 use Rattle.cc_entry.specs.declared.call.Call.TheVariants as call
 use Rattle.cc_entry.specs.declared.hold.HoldKind.{HoldKind}
 use Rattle.cc_entry.specs.declared.error.CcError.{CcError}
-use Rattle.cc_entry.specs.declared.error.CcError.TheVariants as error
 use Rattle.cc_entry.specs.declared.entry.Entry.{Entry}
 use Rattle.cc_model.specs.Setup.{Setup}
 use Rattle.cc_model.specs.Places.{is_among}
 use Rattle.cc_model.specs.History.{Effect}
-use Rattle.cc_model.specs.Acts.{act_of, file_of, Opens, Looks}
+use Rattle.cc_model.specs.Acts.{act_of, file_of}
 use Rattle.cc_model.specs.Objects.{objects, had_map}
 use Rattle.cc_model.specs.Holds.{Hold, hold_at, holds_of, held_after}
 use Rattle.cc_model.specs.Touches.{size_of, valid_of, is_mapped}
-use Rattle.cc_model.specs.Reasons.{refuse_if, is_open, not_cached, cached_file, too_long, view_boundary, in_order, bad_sizes, bad_granularity, no_log, beyond_size, past_valid, beyond_valid}
+use Rattle.cc_model.specs.Reasons.{refuse_if, not_cached, cached_file, too_long, view_boundary, in_order, bad_sizes, bad_granularity, no_log, beyond_size, past_valid, beyond_valid}
 use Rattle.cc_model.specs.Ranges.{range_of}
 use Rattle.cc_model.specs.Conflicts.{held, busy}
 use Rattle.cc_model.specs.Views.{viewed, no_views, no_vacbs, not_resident}
@@ -48,22 +46,22 @@ unrefused : (u : Setup) (past : List Entry) (h : List Effect) (call : Call) → 
 unfolding refusal
 unrefused u past h call e =
     let each =
-        first_none
-        (not_cached h (cached_file call (file_of call))
-        ∷ too_long call
-        ∷ view_boundary call
-        ∷ bad_sizes h call
-        ∷ bad_granularity call
-        ∷ no_log u call
-        ∷ beyond_size (size_of h) call
-        ∷ beyond_valid (valid_of h) call
-        ∷ held h call
-        ∷ busy (holds_of h) call
-        ∷ no_views h (viewed h call (range_of (size_of h) call))
-        ∷ no_vacbs past h call
-        ∷ not_resident h call
-        ∷ [])
-        e in
+    first_none
+    (not_cached h (cached_file call (file_of call))
+    ∷ too_long call
+    ∷ view_boundary call
+    ∷ bad_sizes h call
+    ∷ bad_granularity call
+    ∷ no_log u call
+    ∷ beyond_size (size_of h) call
+    ∷ beyond_valid (valid_of h) call
+    ∷ held h call
+    ∷ busy (holds_of h) call
+    ∷ no_views h (viewed h call (range_of (size_of h) call))
+    ∷ no_vacbs past h call
+    ∷ not_resident h call
+    ∷ [])
+    e in
     record { cached = each.0; ordered = each.1.1.1.0; within = each.1.1.1.1.1.1.1.0 }
 
 -- a reason that does not hold
@@ -151,7 +149,7 @@ IsSteadyCall-unrefused u past h pass stream call e filed =
       within = within-valid (valid_of h) call free.within;
       back = comes_back h call free.ordered;
       first = first_acts h pass stream call free.cached filed;
-      unheld = λ none held. first_holds h call free.cached none
+      unheld = λ none held. first_holds h call free.cached none;
     }
 
 -- a call that may be done is steady, the end of a noncached write too, which changes nothing

@@ -1,11 +1,8 @@
 -- The history of a stream in a good journal is steady.
 use Rattle.std.specs.Prelude.{◌≡◌, ℕ, Bool, true, false, ◌==◌, List, [], ◌∷◌, refl, if◌then◌else◌}
-use Rattle.std.proofs.Common.{sym, subst}
+use Rattle.std.proofs.Common.{subst}
 use Rattle.std.proofs.lemmas.Bool.{eqb-true}
-use Rattle.std.specs.declared.option.Option.{Option}
 use Rattle.std.specs.declared.option.Option.TheVariants.{Some, None}
-use Rattle.cc_entry.specs.declared.call.Call.{Call}
-use Rattle.cc_entry.specs.declared.reply.Reply.{Reply}
 use Rattle.cc_entry.specs.declared.reply.Outcome.TheVariants as outcome
 use Rattle.cc_entry.specs.declared.entry.Entry.{Entry}
 use Rattle.cc_entry.specs.declared.entry.Entry.TheVariants as entry
@@ -14,7 +11,7 @@ use Rattle.cc_model.specs.History.{Effect, Did, CameIn, WentOut, Began, Ended, S
 use Rattle.cc_model.specs.Legal.{IsLegal, IsLegalEntry}
 use Rattle.cc_model.specs.Allowed.{MayStand, IsAllowedSoFar}
 use Rattle.cc_model.specs.Good.{IsGoodSoFar}
-use Rattle.cc_model.proofs.Steady.{IsSteadyCall, IsSteadyEffect, IsSteady, IsSteadyOption, IsSteady-onto}
+use Rattle.cc_model.proofs.Steady.{IsSteadyEffect, IsSteady, IsSteadyOption, IsSteady-onto}
 use Rattle.cc_model.proofs.SteadyCalls.{IsSteadyCall-admitted}
 
 -- an effect on the stream of an entry, where that stream is the one
