@@ -24,3 +24,11 @@ pub mod KeptLaws
 pub mod TransferLaws
 pub mod BlockLists
 pub mod OrderOfUse
+pub mod Steady
+pub mod SteadyCalls
+pub mod SteadyPasts
+pub mod FirstMap
+pub mod CoveredBytes
+pub mod KeptBytes
+pub mod OpenTransfers
+pub mod CleanPages
