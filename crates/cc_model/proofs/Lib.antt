@@ -32,3 +32,10 @@ pub mod CoveredBytes
 pub mod KeptBytes
 pub mod OpenTransfers
 pub mod CleanPages
+pub mod AdmittedCalls
+pub mod RoomPasts
+pub mod OrderedPasts
+pub mod HeldObjects
+pub mod ViewSums
+pub mod MapGone
+pub mod ViewsTaken
