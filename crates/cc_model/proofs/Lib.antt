@@ -39,3 +39,5 @@ pub mod HeldObjects
 pub mod ViewSums
 pub mod MapGone
 pub mod ViewsTaken
+pub mod BlockPages
+pub mod DirtyPages

@@ -3,6 +3,7 @@
 
 pub mod laws;
 pub mod durability;
+pub mod limits;
 
 ghost use Rattle.std.specs.Prelude.{◌≡◌};
 
