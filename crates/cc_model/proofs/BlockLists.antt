@@ -1,7 +1,7 @@
 -- Lists of view blocks: what stays after a test, and an order of use after blocks were used.
 use Rattle.std.specs.Prelude.{◌≡◌, ℕ, Bool, true, false, cond, not, ◌&&◌, ◌||◌, ◌==◌, nat_eq, List, [], ◌∷◌, ◌++◌, refl}
 use Rattle.std.proofs.Common.{ap, sym, ◌∙◌}
-use Rattle.std.proofs.lemmas.Bool.{and_right, or_right, eqb-true, eq-eqb, ne_eqb}
+use Rattle.std.proofs.lemmas.Bool.{and_right, eqb-true, eq-eqb, ne_eqb}
 use Rattle.std.proofs.lemmas.List.Folds.{list_any-append}
 use Rattle.std.proofs.lemmas.List.Kept.{AllPairs-filter}
 use Rattle.std.proofs.lemmas.Map.Keys.{IsDistinct-push, apart_from_distinct, IsDistinct-from_apart}
@@ -66,6 +66,7 @@ is_among-used c (b ∷ bs) order =
   where
     placed : is_among c (without b order ++ b ∷ []) ≡ ((is_among c order && not (b == c)) || ((b == c) || false))
     placed = list_any-append (λ m. m == c) (without b order) (b ∷ []) ∙ ap (λ t. t || ((b == c) || false)) (is_among-filter (λ m. not (m == b)) c order ∙ rw (same-flip c b) refl)
+
     regroup : (x y s : Bool) → (x || ((y && not s) || (s || false))) ≡ ((s || x) || y)
     regroup true y true = refl
     regroup true y false = refl

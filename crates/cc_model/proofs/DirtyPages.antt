@@ -1,9 +1,9 @@
 -- The dirty pages of all streams are at most as many as the pages of the pool of views.
-use Rattle.std.specs.Prelude.{◌≡◌, ℕ, zero, suc, ◌+◌, ◌*◌, ◌<◌, ◌≤◌, Bool, true, false, nat_eq, List, refl}
-use Rattle.std.proofs.Common.{ap, sym, ◌∙◌, arith}
+use Rattle.std.specs.Prelude.{◌≡◌, ℕ, zero, suc, ◌+◌, ◌*◌, ◌≤◌, Bool, true, false, nat_eq, List, refl}
+use Rattle.std.proofs.Common.{sym, ◌∙◌, arith}
 use Rattle.std.proofs.lemmas.Bool.{and_parts}
 use Rattle.std.proofs.lemmas.List.Sums.{sum_by-cons}
-use Rattle.std.specs.List.{sum_by, range_with_len, IsDistinct}
+use Rattle.std.specs.List.{sum_by, range_with_len}
 use Rattle.std.specs.Set.{is_member}
 use Rattle.cc_entry.specs.declared.entry.Entry.{Entry}
 use Rattle.cc_model.specs.Places.{is_among, ascending}
@@ -15,7 +15,7 @@ use Rattle.cc_model.specs.Cache.{views_of, views_taken, dirty_count, dirty_total
 use Rattle.cc_model.proofs.ResidencySteps.{residents-unmapped}
 use Rattle.cc_model.proofs.BlockLists.{is_among-filter, IsDistinct-filter}
 use Rattle.cc_model.proofs.BlockPages.{IsDistinct-ascending, is_member-among, length-within_blocks}
-use Rattle.cc_model.proofs.ViewsTaken.{views_of-mapped, views_of-gone}
+use Rattle.cc_model.proofs.ViewsTaken.{views_of-mapped}
 
 pub dirty_pages-dirty : (h : List Effect) (q : ℕ) → is_among q (dirty_pages h) ≡ true → is_dirty h q ≡ true
 dirty_pages-dirty h q is = (and_parts (is_among q (ascending (touched h))) (is_dirty h q) (sym (is_among-filter (is_dirty h) q (ascending (touched h))) ∙ is)).1

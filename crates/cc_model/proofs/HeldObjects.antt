@@ -1,5 +1,5 @@
 -- A stream with an open hold has an open object.
-use Rattle.std.specs.Prelude.{◌≡◌, ℕ, Bool, true, false, List, [], ◌∷◌, refl, if◌then◌else◌}
+use Rattle.std.specs.Prelude.{◌≡◌, ℕ, true, List, [], ◌∷◌, refl}
 use Rattle.std.proofs.Common.{ap, sym, ◌∙◌}
 use Rattle.std.specs.declared.option.Option.{Option}
 use Rattle.std.specs.declared.option.Option.TheVariants.{Some, None}
@@ -9,14 +9,13 @@ use Rattle.cc_entry.specs.declared.call.Call.TheVariants as call
 use Rattle.cc_entry.specs.declared.reply.Reply.{Reply}
 use Rattle.cc_entry.specs.declared.entry.Entry.{Entry}
 use Rattle.cc_model.specs.Setup.{Setup}
-use Rattle.cc_model.specs.Places.{is_empty, without}
-use Rattle.cc_model.specs.History.{Effect, Did, CameIn, WentOut, Began, Ended, Synced, effect_of, history}
+use Rattle.cc_model.specs.History.{Effect, Did, effect_of, history}
 use Rattle.cc_model.specs.Objects.{objects}
 use Rattle.cc_model.specs.Holds.{Hold, holds_of, id_of, held_after, lesser, least_id}
-use Rattle.cc_model.specs.Conflicts.{held, held_by}
+use Rattle.cc_model.specs.Conflicts.{held_by}
 use Rattle.cc_model.specs.Good.{IsGoodSoFar}
 use Rattle.cc_model.proofs.HoldSteps.{holds_of-done}
-use Rattle.cc_model.proofs.Steady.{IsSteadyCall, IsSteadyOption, IsSteadyEffect, IsSteady}
+use Rattle.cc_model.proofs.Steady.{IsSteadyCall, IsSteadyEffect, IsSteady}
 use Rattle.cc_model.proofs.SteadyPasts.{IsSteady-good}
 use Rattle.cc_model.proofs.AdmittedCalls.{HasRoomFor}
 use Rattle.cc_model.proofs.RoomPasts.{RoomEffect, RoomOption, RoomOption-legal, IsGoodSoFar-before}

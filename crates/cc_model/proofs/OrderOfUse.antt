@@ -1,13 +1,11 @@
 -- The order of use of a stream's view blocks has each mapped block once, and no other.
-use Rattle.std.specs.Prelude.{◌≡◌, ℕ, suc, zero, ◌+◌, ◌-◌, ◌*◌, ◌/◌, ◌<◌, ◌≤◌, Bool, true, false, not, ◌&&◌, ◌||◌, ◌==◌, nat_eq, nat_lt, List, [], ◌∷◌, min, refl}
-use Rattle.std.proofs.Common.{ap, sym, ◌∙◌, arith}
+use Rattle.std.specs.Prelude.{◌≡◌, ℕ, suc, zero, ◌+◌, ◌-◌, ◌*◌, ◌/◌, ◌<◌, Bool, true, false, not, ◌&&◌, ◌||◌, ◌==◌, nat_lt, List, [], ◌∷◌, min, refl}
+use Rattle.std.proofs.Common.{ap, ◌∙◌, arith}
 use Rattle.std.proofs.lemmas.Bool.{or_left, or_right, lt-ltb, eq-eqb, eqb-true}
 use Rattle.std.specs.declared.option.Option.{Option}
 use Rattle.std.specs.declared.option.Option.TheVariants.{Some, None}
-use Rattle.std.specs.List.{filter, list_any, range_with_len, IsDistinct}
-use Rattle.cc_entry.specs.declared.call.Call.{Call}
+use Rattle.std.specs.List.{list_any, range_with_len, IsDistinct}
 use Rattle.cc_entry.specs.declared.call.Call.TheVariants as call
-use Rattle.cc_entry.specs.declared.reply.Reply.{Reply}
 use Rattle.cc_model.specs.Places.{is_among, without, block_of, blocks_of}
 use Rattle.cc_model.specs.History.{Effect, Did, CameIn, WentOut, Began, Ended, Synced}
 use Rattle.cc_model.specs.Objects.{objects, truncation}
@@ -45,6 +43,7 @@ stored-first page size b inside same = rw (lt-ltb (4096 * page) size inside) (go
       where
         scaled : 4096 * page / 262144 ≡ page / 64
         scaled = omega arith
+
     go : (to : ℕ) → 4096 * page < to → is_among b (blocks_of (record { from = 4096 * page; to = to })) ≡ true
     go to below = rw (lt-ltb (4096 * page) to below) (head ((to - 1) / 262144 + 1 - 4096 * page / 262144) (omega arith))
 

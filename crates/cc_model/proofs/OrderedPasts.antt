@@ -1,13 +1,12 @@
 -- The order of use at every place of a legal journal.
-use Rattle.std.specs.Prelude.{◌≡◌, ℕ, List, [], ◌∷◌}
+use Rattle.std.specs.Prelude.{ℕ, List, [], ◌∷◌}
 use Rattle.std.specs.declared.option.Option.{Option}
 use Rattle.std.specs.declared.option.Option.TheVariants.{Some, None}
 use Rattle.std.specs.List.{cons_option}
-use Rattle.cc_entry.specs.declared.call.Call.{Call}
 use Rattle.cc_entry.specs.declared.call.Call.TheVariants as call
 use Rattle.cc_entry.specs.declared.entry.Entry.{Entry}
 use Rattle.cc_model.specs.Setup.{Setup}
-use Rattle.cc_model.specs.History.{Effect, Did, CameIn, WentOut, Began, Ended, Synced, effect_of, history}
+use Rattle.cc_model.specs.History.{Effect, Did, effect_of, history}
 use Rattle.cc_model.specs.Touches.{size_of}
 use Rattle.cc_model.specs.Legal.{IsLegal}
 use Rattle.cc_model.specs.Facts.{IsOrderOfMapped}

@@ -1,5 +1,5 @@
 -- The views that mapped streams take are at most 256.
-use Rattle.std.specs.Prelude.{◌≡◌, ℕ, ◌+◌, ◌-◌, ◌<◌, ◌≤◌, Bool, true, false, not, ◌&&◌, ◌==◌, nat_lt, List, [], ◌∷◌, refl, if◌then◌else◌}
+use Rattle.std.specs.Prelude.{◌≡◌, ℕ, ◌-◌, ◌≤◌, Bool, true, false, not, ◌&&◌, ◌==◌, nat_lt, List, [], ◌∷◌, refl, if◌then◌else◌}
 use Rattle.std.proofs.Common.{ap, sym, ◌∙◌, arith, subst}
 use Rattle.std.proofs.lemmas.Bool.{ltb-false, eqb-true, eq-eqb}
 use Rattle.std.specs.declared.option.Option.{Option}
@@ -29,10 +29,10 @@ use Rattle.cc_model.proofs.QuotaSteps.{quota_of-opens_mapped, quota_of-opens_ane
 use Rattle.cc_model.proofs.Steady.{IsSteadyEffect, IsSteady}
 use Rattle.cc_model.proofs.SteadyPasts.{IsSteady-good}
 use Rattle.cc_model.proofs.AdmittedCalls.{HasRoom, HasRoomFor-admitted, refuse_if-none}
-use Rattle.cc_model.proofs.RoomPasts.{RoomOption-legal, IsGoodSoFar-before}
+use Rattle.cc_model.proofs.RoomPasts.{IsGoodSoFar-before}
 use Rattle.cc_model.proofs.BlockLists.{same-flip}
 use Rattle.cc_model.proofs.HeldObjects.{HoldsAsOpen, HoldsAsOpen-good}
-use Rattle.cc_model.proofs.MapGone.{makes_map, NoInitialise, is_mapped-effect_gone}
+use Rattle.cc_model.proofs.MapGone.{NoInitialise, is_mapped-effect_gone}
 use Rattle.cc_model.proofs.ViewSums.{sum_by-one_within, sum_by-none_rose}
 
 -- a stream with a map keeps its quota
@@ -132,8 +132,10 @@ views-anew past pass nth stream file given quota temporary reply gone room befor
   where
     initialise : Call
     initialise = call.Initialise file given quota temporary
+
     others : (s : ℕ) → (s == stream) ≡ false → views_of (history (entry.Call pass nth (Some stream) initialise (outcome.Done reply) ∷ past) s) ≤ views_of (history past s)
     others s other = at_most _ _ (ap views_of (history-done_other pass nth stream initialise reply past s (same-flip stream s ∙ other)))
+
     one : views_of (history (entry.Call pass nth (Some stream) initialise (outcome.Done reply) ∷ past) stream) ≤ 256 - sum_by (λ s. views_of (history past s)) (range_with_len 0 16)
     one =
         subst (λ h. views_of h ≤ 256 - sum_by (λ s. views_of (history past s)) (range_with_len 0 16)) (sym (history-done pass nth stream initialise reply past stream (eq-eqb stream stream refl))) (through _ _ _ _ (views_of-within (Did pass initialise reply ∷ history past stream)) (quota_of-opens_anew pass initialise reply (history past stream) refl gone) room)

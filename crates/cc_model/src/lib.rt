@@ -1,8 +1,8 @@
 //! What a journal means.
 #![tactic(auto)]
 
-pub mod laws;
 pub mod durability;
+pub mod laws;
 pub mod limits;
 
 ghost use Rattle.std.specs.Prelude.{◌≡◌};
