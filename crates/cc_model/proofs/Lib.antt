@@ -22,3 +22,4 @@ pub mod PassSteps
 pub mod PassLaws
 pub mod KeptLaws
 pub mod TransferLaws
+pub mod Lists1
