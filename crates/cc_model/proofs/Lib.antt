@@ -23,3 +23,7 @@ pub mod PassLaws
 pub mod KeptLaws
 pub mod TransferLaws
 pub mod Lists1
+pub mod SafeHistory
+pub mod SafeCalls
+pub mod SafeJournals
+pub mod HeldFacts
