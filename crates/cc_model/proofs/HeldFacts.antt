@@ -121,7 +121,7 @@ new-opened h (call.MdlWrite file at len) safe empty = absurd (cc safe.opened)
 new-opened h other safe empty = tt
 
 pub new-resident : (h : List Effect) (p : ℕ) (call : Call) → IsHoldSafe h call → is_resident h p ≡ false → IsNewClear (λ at len. has_page (record { from = at; to = at + len }) p) call
-new-resident h p call safe absent = go call safe
+new-resident h p made_by safe absent = go made_by safe
   where
     apart : (at len : ℕ) → MayHold h at len → has_page (record { from = at; to = at + len }) p ≡ false
     apart at len made = go (has_page (record { from = at; to = at + len }) p) refl
@@ -152,7 +152,7 @@ no-holds (Did pass call reply ∷ h) safe empty = go (act_of call) refl (no-hold
     kept still none = ap (list_any (λ hold. true)) (holds_of-still pass call reply h still) ∙ none
 
     moved : objects (Did pass call reply ∷ h) ≡ objects h → (is_empty (objects h) ≡ true → list_any (λ hold. true) (holds_of h) ≡ false) → list_any (λ hold. true) (holds_of (Did pass call reply ∷ h)) ≡ false
-    moved same none = let before : is_empty (objects h) ≡ true = rw same at empty in holds-clear (λ at len. true) pass call (id_of reply) (holds_of h) (none before) (new-opened h call safe.0.0 before)
+    moved same none = let before : is_empty (objects h) ≡ true = rw same at empty in ap (list_any (λ hold. true)) (holds_of-done pass call reply h) ∙ holds-clear (λ at len. true) pass call (id_of reply) (holds_of h) (none before) (new-opened h call safe.0.0 before)
 
     go : (a : Act) → act_of call ≡ a → (is_empty (objects h) ≡ true → list_any (λ hold. true) (holds_of h) ≡ false) → list_any (λ hold. true) (holds_of (Did pass call reply ∷ h)) ≡ false
     go (Opens file sizes quota temporary) is none = absurd (cc (ap is_empty (objects-opens pass call reply h is)))

@@ -27,3 +27,5 @@ pub mod SafeHistory
 pub mod SafeCalls
 pub mod SafeJournals
 pub mod HeldFacts
+pub mod SizeFacts
+pub mod ResidentFacts
