@@ -29,3 +29,4 @@ pub mod SafeJournals
 pub mod HeldFacts
 pub mod SizeFacts
 pub mod ResidentFacts
+pub mod DirtyFacts
