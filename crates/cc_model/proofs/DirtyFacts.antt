@@ -135,11 +135,11 @@ touches-fewer (Began pass page ∷ h) p left = go (page == p) left (touches-fewe
     go : (t : Bool) → is_empty (elim t as (λ x. List Touch) [ true ↦ [] | false ↦ touches true h p ]) ≡ false → (is_empty (touches true h p) ≡ false → is_empty (touches false h p) ≡ false) → is_empty (touches false h p) ≡ false
     go true it rest = absurd (cc)
     go false it rest = rest it
-touches-fewer (Ended pass page how ∷ h) p left = go (page == p && is_good how)
+touches-fewer (Ended pass page how ∷ h) p left = go (page == p && is_good how) (touches-fewer h p left)
   where
-    go : (t : Bool) → is_empty (touches t h p) ≡ false
-    go true = left
-    go false = touches-fewer h p left
+    go : (t : Bool) → is_empty (touches false h p) ≡ false → is_empty (touches t h p) ≡ false
+    go true rest = left
+    go false rest = rest
 touches-fewer (Synced pass how ∷ h) p left = touches-fewer h p left
 
 ended-dirty : (pass page : ℕ) (how : End) (h : List Effect) (p : ℕ) → is_dirty (Ended pass page how ∷ h) p ≡ true → is_dirty h p ≡ true

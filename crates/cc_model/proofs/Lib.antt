@@ -30,3 +30,4 @@ pub mod HeldFacts
 pub mod SizeFacts
 pub mod ResidentFacts
 pub mod DirtyFacts
+pub mod QuotaFacts
