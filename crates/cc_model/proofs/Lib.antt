@@ -31,3 +31,4 @@ pub mod SizeFacts
 pub mod ResidentFacts
 pub mod DirtyFacts
 pub mod QuotaFacts
+pub mod SoundFacts

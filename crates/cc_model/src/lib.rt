@@ -2,6 +2,7 @@
 #![tactic(auto)]
 
 pub mod laws;
+pub mod soundness;
 
 ghost use Rattle.std.specs.Prelude.{◌≡◌};
 
