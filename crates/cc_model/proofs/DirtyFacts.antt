@@ -1,23 +1,22 @@
 -- A dirty page was touched, so its stream has a map, and it is resident.
-use Rattle.std.specs.Prelude.{◌≡◌, ℕ, suc, ◌+◌, ◌*◌, ◌<◌, ◌≤◌, Bool, true, false, not, ◌&&◌, ◌||◌, ◌==◌, nat_lt, nat_le, List, [], ◌∷◌, ◌++◌, length, cond, min, refl}
+use Rattle.std.specs.Prelude.{◌≡◌, ℕ, suc, ◌+◌, ◌*◌, ◌<◌, Bool, true, false, not, ◌&&◌, ◌||◌, ◌==◌, nat_lt, nat_le, List, [], ◌∷◌, length, cond, min, refl}
 use Rattle.std.specs.declared.option.Option.{Option}
 use Rattle.std.specs.declared.option.Option.TheVariants.{Some, None}
-use Rattle.std.specs.List.{list_any, find}
 use Rattle.std.proofs.Common.{ap, sym, ◌∙◌, arith}
 use Rattle.std.proofs.lemmas.Bool.{and_parts, or_left, or_right, not-true, eq-eqb, eqb-true, ltb-true}
 use Rattle.cc_entry.specs.declared.call.Call.{Call}
 use Rattle.cc_entry.specs.declared.reply.Reply.{Reply}
 use Rattle.cc_entry.specs.declared.entry.End.{End}
-use Rattle.cc_model.specs.Places.{is_empty, is_among, without, has_page, pages_of}
+use Rattle.cc_model.specs.Places.{is_empty, is_among, has_page, pages_of}
 use Rattle.cc_model.specs.History.{Effect, Did, CameIn, WentOut, Began, Ended, Synced}
 use Rattle.cc_model.specs.Acts.{Act, act_of, Opens, Closes, Resizes, Writes, Zeroes, Stores, Stamps, Looks}
 use Rattle.cc_model.specs.Objects.{objects, truncation}
-use Rattle.cc_model.specs.Holds.{Hold, range_held, hold_at, holds_of, is_held}
+use Rattle.cc_model.specs.Holds.{Hold, range_held, hold_at, holds_of}
 use Rattle.cc_model.specs.Sizes.{Touch, touched_if, cut_if, hold_has, hold_pages, stored_range, is_good}
 use Rattle.cc_model.specs.Touches.{touched, touches, unwritten, is_dirty, size_of, is_mapped}
-use Rattle.cc_model.specs.Residency.{residents, is_resident}
+use Rattle.cc_model.specs.Residency.{is_resident}
 use Rattle.cc_model.proofs.ActSteps.{touched_by, touched-done, touches_by, touches-done}
-use Rattle.cc_model.proofs.TouchSteps.{touches-came_in, touches-went_out, touches-synced, touches-began_open, touches-ended_good, touches-ended_bad, touches-ended_other}
+use Rattle.cc_model.proofs.TouchSteps.{touches-came_in, touches-went_out, touches-synced, touches-began_open}
 use Rattle.cc_model.proofs.ResidencySteps.{residents-stores}
 use Rattle.cc_model.proofs.Lists1.{among-append_left, among-append_right, among-any, among-pages, any-found}
 use Rattle.cc_model.proofs.SafeHistory.{IsActSafe, IsSafe}

@@ -1,25 +1,24 @@
 -- A hold is open only while an object is, and ends within the size, with its pages resident.
-use Rattle.std.specs.Prelude.{◌≡◌, ℕ, suc, ◌+◌, ◌*◌, ◌<◌, ◌≤◌, ◌^◌, Bool, true, false, not, ◌&&◌, ◌||◌, ◌==◌, nat_lt, nat_le, List, [], ◌∷◌, length, map, cond, min, max, refl}
+use Rattle.std.specs.Prelude.{◌≡◌, ℕ, ◌+◌, Bool, true, false, ◌||◌, ◌==◌, nat_lt, List, [], ◌∷◌, cond, refl}
 use Rattle.std.specs.declared.option.Option.{Option}
 use Rattle.std.specs.declared.option.Option.TheVariants.{Some, None}
-use Rattle.std.specs.List.{list_any, filter, find}
-use Rattle.std.proofs.Common.{ap, sym, ◌∙◌, arith}
-use Rattle.std.proofs.lemmas.Bool.{or_from, or_parts, and_parts, eqb-true}
-use Rattle.cc_entry.specs.Place.{File}
+use Rattle.std.specs.List.{list_any, filter}
+use Rattle.std.proofs.Common.{ap, ◌∙◌}
+use Rattle.std.proofs.lemmas.Bool.{or_from, or_parts}
 use Rattle.cc_entry.specs.declared.call.Call.{Call}
 use Rattle.cc_entry.specs.declared.call.Call.TheVariants as call
 use Rattle.cc_entry.specs.declared.reply.Reply.{Reply}
-use Rattle.cc_model.specs.Places.{is_empty, without, has_page}
+use Rattle.cc_model.specs.Places.{is_empty, has_page}
 use Rattle.cc_model.specs.History.{Effect, Did, CameIn, WentOut, Began, Ended, Synced}
 use Rattle.cc_model.specs.Acts.{Act, act_of, Opens, Closes, Resizes, Writes, Zeroes, Stores, Stamps, Looks}
 use Rattle.cc_model.specs.Objects.{objects}
-use Rattle.cc_model.specs.Holds.{Hold, range_held, hold_at, changed_at, repinned, id_of, held_after, holds_of}
+use Rattle.cc_model.specs.Holds.{Hold, hold_at, changed_at, repinned, id_of, held_after, holds_of}
 use Rattle.cc_model.specs.Touches.{size_of}
 use Rattle.cc_model.specs.Residency.{is_resident}
 use Rattle.cc_model.proofs.HoldSteps.{changes_holds, holds_of-done, holds_of-other, holds_of-came_in, holds_of-went_out, holds_of-began, holds_of-ended, holds_of-synced}
 use Rattle.cc_model.proofs.ObjectSteps.{objects-opens, objects-closes, objects-resizes, objects-writes, objects-zeroes, objects-stores, objects-stamps, objects-looks, objects-came_in, objects-went_out, objects-began, objects-ended, objects-synced}
 use Rattle.cc_model.proofs.Lists1.{any-found}
-use Rattle.cc_model.proofs.SafeHistory.{MayHold, IsHoldSafe, IsActSafe, IsEffectSafe, IsSafe}
+use Rattle.cc_model.proofs.SafeHistory.{MayHold, IsHoldSafe, IsSafe}
 
 -- what a test of ranges says of the range of the hold that a call makes
 abbrev pub IsNewClear : (ℕ → ℕ → Bool) → Call → Type 0

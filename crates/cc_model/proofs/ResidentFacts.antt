@@ -1,5 +1,5 @@
 -- Resident pages stay but where a size step or a page-out takes them, and the pages of holds are resident.
-use Rattle.std.specs.Prelude.{◌≡◌, ℕ, ◌+◌, ◌*◌, ◌<◌, ◌≤◌, Bool, true, false, not, ◌&&◌, ◌||◌, ◌==◌, nat_lt, nat_le, List, [], ◌∷◌, refl}
+use Rattle.std.specs.Prelude.{◌≡◌, ℕ, ◌+◌, ◌*◌, ◌<◌, ◌≤◌, Bool, true, false, not, ◌&&◌, ◌==◌, nat_lt, nat_le, List, [], ◌∷◌, refl}
 use Rattle.std.specs.declared.option.Option.{Option}
 use Rattle.std.specs.declared.option.Option.TheVariants.{Some, None}
 use Rattle.std.specs.List.{list_any}
@@ -16,10 +16,9 @@ use Rattle.cc_model.specs.Holds.{Hold, range_held, holds_of, is_held, id_of}
 use Rattle.cc_model.specs.Touches.{size_of, is_mapped}
 use Rattle.cc_model.specs.Residency.{below, residents, is_resident}
 use Rattle.cc_model.proofs.HoldSteps.{holds_of-done, holds_of-came_in, holds_of-went_out, holds_of-began, holds_of-ended, holds_of-synced}
-use Rattle.cc_model.proofs.MapSteps.{is_mapped-came_in}
 use Rattle.cc_model.proofs.ResidencySteps.{residents-mapped, residents-looks, residents-opens, residents-closes, residents-resizes, residents-writes, residents-zeroes, residents-stores, residents-stamps, residents-went_out, residents-began, residents-ended, residents-synced}
 use Rattle.cc_model.proofs.Lists1.{among-filter, among-without, among-placed, any-weaker, any-none}
-use Rattle.cc_model.proofs.SafeHistory.{MayChange, Filled, Held, in_hold, IsActSafe, IsSafe}
+use Rattle.cc_model.proofs.SafeHistory.{MayChange, Filled, Held, IsActSafe, IsSafe}
 use Rattle.cc_model.proofs.HeldFacts.{is_still, holds-clear, holds_of-still, new-resident, no-holds}
 use Rattle.cc_model.proofs.SizeFacts.{truncation-last}
 

@@ -2,10 +2,10 @@
 use Rattle.std.specs.Prelude.{◌≡◌, ℕ, ◌+◌, ◌<◌, ◌≤◌, ◌^◌, Bool, true, false, not, ◌&&◌, ◌||◌, ◌==◌, nat_lt, nat_le, List, [], ◌∷◌, length, cond, refl}
 use Rattle.std.specs.declared.option.Option.{Option}
 use Rattle.std.specs.declared.option.Option.TheVariants.{Some, None}
-use Rattle.std.specs.List.{list_any, find}
+use Rattle.std.specs.List.{list_any}
 use Rattle.std.specs.Bool.{OnTrue}
-use Rattle.std.proofs.Common.{ap, sym, ◌∙◌, arith}
-use Rattle.std.proofs.lemmas.Bool.{and_parts, or_right, not-false, not-true, ltb-true, leb-true, ltb-false, eqb-true}
+use Rattle.std.proofs.Common.{arith}
+use Rattle.std.proofs.lemmas.Bool.{and_parts, not-false, ltb-true, leb-true, ltb-false}
 use Rattle.cc_entry.specs.Place.{File}
 use Rattle.cc_entry.specs.declared.call.Call.{Call}
 use Rattle.cc_entry.specs.declared.call.Call.TheVariants as call
@@ -14,23 +14,23 @@ use Rattle.cc_entry.specs.declared.reply.Reply.{Reply}
 use Rattle.cc_entry.specs.declared.hold.HoldKind.{HoldKind}
 use Rattle.cc_entry.specs.declared.entry.Entry.{Entry}
 use Rattle.cc_model.specs.Setup.{Setup}
-use Rattle.cc_model.specs.Places.{is_empty, is_among, without, pages_of, has_page}
+use Rattle.cc_model.specs.Places.{is_empty, pages_of, has_page}
 use Rattle.cc_model.specs.History.{Effect, history}
 use Rattle.cc_model.specs.Acts.{act_of, file_of}
-use Rattle.cc_model.specs.Objects.{objects, had_map}
+use Rattle.cc_model.specs.Objects.{objects}
 use Rattle.cc_model.specs.Holds.{Hold, holds_of, hold_at, least_id, lesser}
 use Rattle.cc_model.specs.Touches.{size_of, valid_of, is_mapped}
-use Rattle.cc_model.specs.Ranges.{range_of, needs_pages, whole_range}
+use Rattle.cc_model.specs.Ranges.{range_of, needs_pages}
 use Rattle.cc_model.specs.Residency.{is_resident, all_resident}
 use Rattle.cc_model.specs.Reasons.{refuse_if, not_cached, cached_file, too_long, view_boundary, past_size, beyond_size, beyond_valid, bad_sizes, bad_granularity, no_log}
 use Rattle.cc_model.specs.Conflicts.{held, held_by, busy}
 use Rattle.cc_model.specs.Views.{viewed, no_views, no_vacbs, not_resident}
 use Rattle.cc_model.specs.Refusals.{first_of, refusal}
 use Rattle.cc_model.specs.Filing.{serves_range, IsFiled}
-use Rattle.cc_model.specs.Conditions.{IsFilled, IsReady, IsReadyIn}
+use Rattle.cc_model.specs.Conditions.{IsFilled, IsReady}
 use Rattle.cc_model.specs.Legal.{IsAdmitted}
 use Rattle.cc_model.proofs.Lists1.{among-all, among-pages, among-not_empty, any-found}
-use Rattle.cc_model.proofs.SafeHistory.{MayHold, MayChange, Filled, Held, in_hold, IsHoldSafe, IsActSafe}
+use Rattle.cc_model.proofs.SafeHistory.{MayHold, Filled, Held, in_hold, IsHoldSafe, IsActSafe}
 
 -- the rows of the table of refusals that the sizes, the holds and the pages hang on
 pub record IsUnrefused (h : List Effect) (call : Call) : Type 0 where

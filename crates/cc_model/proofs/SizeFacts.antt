@@ -3,8 +3,8 @@ use Rattle.std.specs.Prelude.{◌≡◌, ℕ, ◌+◌, ◌*◌, ◌<◌, ◌≤�
 use Rattle.std.specs.declared.option.Option.{Option}
 use Rattle.std.specs.declared.option.Option.TheVariants.{Some, None}
 use Rattle.std.specs.List.{list_any}
-use Rattle.std.proofs.Common.{ap, sym, ◌∙◌, arith}
-use Rattle.std.proofs.lemmas.Bool.{and_parts, or_parts, not-false, ltb-true, leb-true, lt-ltb, le-ltb, ltb-false}
+use Rattle.std.proofs.Common.{ap, ◌∙◌, arith}
+use Rattle.std.proofs.lemmas.Bool.{and_parts, or_parts, not-false, ltb-true, leb-true, lt-ltb, ltb-false}
 use Rattle.cc_entry.specs.Place.{File}
 use Rattle.cc_entry.specs.declared.place.FileSizes.{FileSizes}
 use Rattle.cc_entry.specs.declared.call.Call.{Call}
@@ -20,7 +20,7 @@ use Rattle.cc_model.specs.Reasons.{in_order}
 use Rattle.cc_model.proofs.HoldSteps.{holds_of-done, holds_of-came_in, holds_of-went_out, holds_of-began, holds_of-ended, holds_of-synced}
 use Rattle.cc_model.proofs.SizeSteps.{sizes-opens_mapped, sizes-opens_anew, sizes-closes, sizes-resizes, sizes-writes, sizes-zeroes, sizes-stores, sizes-stamps, sizes-looks, sizes-came_in, sizes-went_out, sizes-began, sizes-ended, sizes-synced}
 use Rattle.cc_model.proofs.Lists1.{any-weaker, any-none}
-use Rattle.cc_model.proofs.SafeHistory.{MayChange, Filled, Held, in_hold, IsActSafe, IsSafe}
+use Rattle.cc_model.proofs.SafeHistory.{MayChange, Filled, Held, IsActSafe, IsSafe}
 use Rattle.cc_model.proofs.HeldFacts.{is_still, holds-clear, holds_of-still, new-within, no-holds}
 
 -- whether an open hold ends past the size
