@@ -17,6 +17,8 @@ pub mod ResidencySteps
 pub mod ImageSteps
 pub mod ActSteps
 pub mod ByteLaws
+pub mod AnswerSteps
+pub mod MapKept
 pub mod QueueSteps
 pub mod PassSteps
 pub mod PassLaws
