@@ -12,6 +12,9 @@ pub mod QuotaSteps
 pub mod SettingSteps
 pub mod SettingEffects
 pub mod ReadSteps
+pub mod DirtySteps
+pub mod StampSteps
+pub mod DirtyLaws
 pub mod MapSteps
 pub mod ResidencySteps
 pub mod ImageSteps
