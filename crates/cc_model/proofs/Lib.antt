@@ -1,4 +1,5 @@
 pub mod HistorySteps
+pub mod TurnSteps
 pub mod QuietSteps
 pub mod QuietLaws
 pub mod LogSteps
@@ -24,6 +25,8 @@ pub mod AnswerSteps
 pub mod MapKept
 pub mod QueueSteps
 pub mod PassSteps
+pub mod FaultSteps
+pub mod FlushSteps
 pub mod PassLaws
 pub mod KeptLaws
 pub mod TransferLaws
