@@ -19,3 +19,11 @@ pub mod ActSteps
 pub mod ByteLaws
 pub mod QueueSteps
 pub mod PassSteps
+pub mod Steady
+pub mod SteadyCalls
+pub mod SteadyPasts
+pub mod FirstMap
+pub mod CoveredBytes
+pub mod KeptBytes
+pub mod OpenTransfers
+pub mod CleanPages

@@ -1,6 +1,8 @@
 //! What a journal means.
 #![tactic(auto)]
 
+pub mod durability;
+
 ghost use Rattle.std.specs.Prelude.{◌≡◌};
 
 pub fn one() -> u8
