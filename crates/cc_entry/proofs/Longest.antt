@@ -1,10 +1,11 @@
 -- Runs that are extended at the end spell the bytes and those added, and stay the longest.
-use Rattle.std.proofs.Common.{◌≡◌, ℕ, suc, zero, ◌+◌, ◌<◌, ◌==◌, Bool, true, false, List, [], ◌∷◌, ◌++◌, replicate, if◌then◌else◌, refl, ap, sym, ◌∙◌, append_assoc, arith, get_or, set, length, slice_get, Some, ◌≤◌, ◌-◌}
-use Rattle.std.proofs.lemmas.List.{replicate-append-replicate, append-nil, length-append, length-replicate, get_or_append_left, get_or-replicate}
+use Rattle.std.proofs.Common.{◌≡◌, ℕ, suc, zero, ◌+◌, ◌<◌, ◌==◌, Bool, true, false, List, [], ◌∷◌, ◌++◌, replicate, if◌then◌else◌, refl, ap, sym, ◌∙◌, append_assoc, arith, get_or, set, length, slice_get, Some, ◌≤◌, ◌-◌, Decides, ◌&&◌, drop, nat_eq}
+use Rattle.std.proofs.lemmas.List.{replicate-append-replicate, append-nil, length-append, length-replicate, get_or_append_left, get_or-replicate, drop_more}
 use Rattle.std.proofs.lemmas.Option.{slice_get-get_or}
-use Rattle.std.proofs.lemmas.Bool.Decides.{nat_tests, Decides-eqb}
+use Rattle.std.proofs.lemmas.Bool.Decides.{nat_tests, Decides-eqb, Decides-like, Decides-and, same_from_decides}
+use Rattle.std.specs.Cmp.Lexicographic.{pointwise, pointwise_decides, bytes_decides}
 use Rattle.cc_entry.specs.declared.bytes.Run.{Run}
-use Rattle.cc_entry.specs.Runs.{spelled, joined, runs_of, extended}
+use Rattle.cc_entry.specs.Runs.{spelled, joined, runs_of, extended, AreLongest}
 
 -- the bytes of extended runs
 pub spelled-extended : (rs : List Run) (b n : ℕ) → spelled (extended rs b n) ≡ spelled rs ++ replicate n b
@@ -91,3 +92,47 @@ past_first byte zero bs i h = let e : i - 0 ≡ i = omega arith in rw e
 past_first byte (suc count) bs zero h = absurd (omega arith)
 past_first byte (suc count) bs (suc i) h =
     let e : suc i - suc count ≡ i - count = omega arith in rw e (past_first byte count bs i (omega arith))
+
+-- a byte before the longest runs leaves them the longest
+joined-longest : (x : ℕ) (rs : List Run) → AreLongest rs → AreLongest (joined x rs)
+joined-longest x [] h = omega arith
+joined-longest x (r ∷ []) h = either (r.byte == x) refl
+  where
+    either : (s : Bool) → (r.byte == x) ≡ s → AreLongest (joined x (r ∷ []))
+    either true e = rw e (omega arith)
+    either false e = rw e (omega arith, (λ same. grind (arith, nat_tests)), h)
+joined-longest x (r ∷ next ∷ rs) h = either (r.byte == x) refl
+  where
+    either : (s : Bool) → (r.byte == x) ≡ s → AreLongest (joined x (r ∷ next ∷ rs))
+    either true e = rw e (omega arith, h.1, h.2)
+    either false e = rw e (omega arith, (λ same. grind (arith, nat_tests)), h)
+
+-- no run of a list's is empty, and neighbours differ
+pub runs_of-longest : (bs : List ℕ) → AreLongest (runs_of bs)
+runs_of-longest [] = tt
+runs_of-longest (x ∷ bs) = joined-longest x (runs_of bs) (runs_of-longest bs)
+
+-- bytes before, and a run of those that follow, are no longer than all
+pub run_fits : (bs : List ℕ) (rs : List Run) (i : ℕ) (d : Run) (all : List ℕ) → i < length rs → bs ++ spelled (drop i rs) ≡ all → length bs + (get_or rs i d).count ≤ length all
+run_fits bs rs i d all h e =
+    let r = get_or rs i d in let rest = spelled (drop (i + 1) rs) in
+    let front : spelled (drop i rs) ≡ replicate r.count r.byte ++ rest = ap spelled (drop_more rs i d h) in
+    let whole : length (bs ++ spelled (drop i rs)) ≡ length all = ap length e in
+    let parts : length (spelled (drop i rs)) ≡ length (replicate r.count r.byte ++ rest) = ap length front in
+    omega (arith, whole, parts, length-append bs (spelled (drop i rs)), length-append (replicate r.count r.byte) rest, length-replicate r.count r.byte)
+
+-- equal runs are the same run
+run_eq-decides : (r s : Run) → Decides ((r.byte == s.byte) && (r.count == s.count)) (r ≡ s)
+run_eq-decides r s =
+    Decides-like _ (λ both. same both.0 both.1) (λ e. (ap (λ (x : Run). x.byte) e, ap (λ (x : Run). x.count) e)) (Decides-and _ _ (Decides-eqb r.byte s.byte) (Decides-eqb r.count s.count))
+  where
+    same : r.byte ≡ s.byte → r.count ≡ s.count → r ≡ s
+    same e f = λ i. record { byte = e i; count = f i }
+
+-- bytes are the same exactly where their longest runs are
+pub same_bytes : (rs ss : List Run) (b : Bool) → rs ≡ runs_of (spelled rs) → ss ≡ runs_of (spelled ss)
+    → b ≡ pointwise (λ r s. (r.byte == s.byte) && (r.count == s.count)) rs ss → b ≡ pointwise nat_eq (spelled rs) (spelled ss)
+same_bytes rs ss b h g e =
+    e ∙ same_from_decides _ _
+    (Decides-like _ (λ same. ap spelled same) (λ same. h ∙ ap runs_of same ∙ sym g) (pointwise_decides run_eq-decides rs ss))
+    (bytes_decides (spelled rs) (spelled ss))

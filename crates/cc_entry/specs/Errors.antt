@@ -3,6 +3,10 @@ use Rattle.std.specs.Prelude.{ℕ, List, codes}
 use Rattle.cc_entry.specs.declared.error.CcError.{CcError}
 use Rattle.cc_entry.specs.declared.error.CcError.TheVariants as error
 
+-- the refusal for want of memory
+abbrev pub out_of_memory : CcError
+out_of_memory = error.NoMemory
+
 -- the number of a refusal
 abbrev pub number_of : CcError → ℕ
 number_of error.NotCached = 1

@@ -1,3 +1,4 @@
 pub mod Place
 pub mod Runs
 pub mod Errors
+pub mod Same

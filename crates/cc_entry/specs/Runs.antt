@@ -1,5 +1,5 @@
 -- Bytes as runs of equal bytes, always the longest.
-use Rattle.std.specs.Prelude.{ℕ, ◌+◌, ◌==◌, List, [], ◌∷◌, ◌++◌, replicate, if◌then◌else◌}
+use Rattle.std.specs.Prelude.{ℕ, ◌+◌, ◌==◌, List, [], ◌∷◌, ◌++◌, replicate, if◌then◌else◌, ◌<◌, ◌≢◌, ⊤}
 use Rattle.cc_entry.specs.declared.bytes.Run.{Run}
 
 -- the bytes that runs spell
@@ -22,3 +22,9 @@ abbrev pub extended : List Run → ℕ → ℕ → List Run
 extended [] byte count = record { byte = byte; count = count } ∷ []
 extended (run ∷ []) byte count = if run.byte == byte then record run { count = run.count + count } ∷ [] else run ∷ record { byte = byte; count = count } ∷ []
 extended (run ∷ next ∷ runs) byte count = run ∷ extended (next ∷ runs) byte count
+
+-- no run is empty, and neighbours have different bytes
+abbrev pub AreLongest : List Run → Type 0
+AreLongest [] = ⊤
+AreLongest (run ∷ []) = 0 < run.count
+AreLongest (run ∷ next ∷ runs) = (0 < run.count) × (run.byte ≢ next.byte) × AreLongest (next ∷ runs)

@@ -7,7 +7,7 @@ use crate::reply::Reply;
 
 /// What one tick of the lazy writer did: the pages that it picked, and how many of them were written,
 /// skipped, and not written because the disk or the log failed.
-#[derive(Debug, Drop)]
+#[derive(Clone, Debug, Drop, PartialEq)]
 pub struct Tick {
     pub picked: Pages,
     pub written: u32,
@@ -23,7 +23,7 @@ pub struct AheadDone {
 }
 
 /// The answer of a line.
-#[derive(Debug, Drop)]
+#[derive(Clone, Debug, Drop, PartialEq)]
 pub enum Answer {
     /// The call was done.
     Given(Reply),
@@ -53,7 +53,7 @@ pub enum Answer {
 }
 
 /// The answer of the script's line of this number, counted from 1.
-#[derive(Debug, Drop)]
+#[derive(Clone, Debug, Drop, PartialEq)]
 pub struct LineReply {
     pub line: u32,
     pub answer: Answer,

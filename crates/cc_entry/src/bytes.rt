@@ -4,7 +4,7 @@
 //! is printed of the bytes.
 
 ghost use Rattle.std.specs.Prelude.{◌≡◌, ◌<◌, ◌≤◌, ◌+◌, ◌^◌, [], ◌++◌, length, replicate, slice_get, IfOk, OnOk, OnErr, IsTrue, ◌↔◌};
-ghost use Rattle.cc_entry.specs.Runs.{runs_of, spelled, extended};
+ghost use Rattle.cc_entry.specs.Runs.{runs_of, spelled, extended, AreLongest};
 
 use crate::error::NoMemory;
 use std::alloc::Global;
@@ -18,7 +18,7 @@ pub struct Run {
 }
 
 /// A list of bytes, of fewer than 2^64.
-#[derive(Debug, Drop)]
+#[derive(Clone, Debug, Drop)]
 pub struct Bytes {
     runs: Vec<Run>,
     len: u64,
@@ -97,12 +97,39 @@ impl Bytes {
         None
     }
 
-    /// The longest runs of equal bytes, in order.
+    /// The bytes in a `Vec`.
+    pub fn to_vec(&self, alloc: Global) -> Result<Vec<u8>, NoMemory>
+        ensures { IfOk result (λ bytes. bytes.items ≡ self.now) }
+    {
+        let mut bytes = Vec::with_capacity(alloc, self.len as usize)?;
+        for run in &self.runs {
+            push_run(&mut bytes, run)?;
+        }
+        Ok(bytes)
+    }
+
+    /// The longest runs of equal bytes, in order: none is empty, and neighbours have different bytes.
     pub fn runs(&self) -> &[Run]
         ensures runs { result.now ≡ runs_of self.now }
         ensures spell { spelled result.now ≡ self.now }
+        ensures longest { AreLongest result.now }
     {
         &self.runs
+    }
+}
+
+// Equal lists have the same runs.
+impl PartialEq for Bytes {
+    ghost use Rattle.std.specs.Prelude.{nat_eq};
+    ghost use Rattle.std.specs.Cmp.Lexicographic.{pointwise, nat_list_eq_equiv};
+    ghost use Rattle.std.specs.Cmp.{partial_equiv_from_equiv};
+
+    ghost eq = { pointwise nat_eq };
+
+    ghost laws = { partial_equiv_from_equiv nat_list_eq_equiv };
+
+    fn eq(&self, other: &Bytes) -> bool {
+        self.runs == other.runs
     }
 }
 
@@ -116,7 +143,17 @@ fn extend(runs: &mut Vec<Run>, byte: u8, count: u64) -> Result<(), NoMemory>
     if last > 0 && runs[last - 1].byte == byte {
         runs[last - 1].count += count;
     } else {
-        runs.push(Run { byte, count }).map_err(|_| NoMemory)?;
+        runs.push(Run { byte, count })?;
     }
+    Ok(())
+}
+
+// Adds the bytes of a run at the end.
+fn push_run(bytes: &mut Vec<u8>, run: &Run) -> Result<(), NoMemory>
+    requires fits { length bytes.old.items + run.now.count < 2 ^ 64 }
+    ensures { OnOk result (bytes.new.items ≡ bytes.old.items ++ replicate run.now.count run.now.byte) }
+{
+    let len = bytes.len() + run.count as usize;
+    bytes.resize(len, run.byte)?;
     Ok(())
 }

@@ -17,7 +17,7 @@ pub enum End {
 }
 
 /// One event. `pass` is the number of the caller, `handle` that of a log.
-#[derive(Debug, Drop)]
+#[derive(Clone, Debug, Drop, PartialEq)]
 pub enum Entry {
     /// A call that ended; `nth` counts the pass's calls from 1. The stream is that of the call's file
     /// or hold.

@@ -1,8 +1,9 @@
 //! Why a call of the cache is refused.
 
 ghost use Rattle.std.specs.Prelude.{◌≡◌};
-ghost use Rattle.cc_entry.specs.Errors.{number_of, name_of};
+ghost use Rattle.cc_entry.specs.Errors.{number_of, name_of, out_of_memory};
 
+use std::alloc::{AllocError, AllocFailed};
 use std::error::Error;
 use std::fmt;
 
@@ -17,6 +18,18 @@ impl fmt::Display for NoMemory {
 }
 
 impl Error for NoMemory {}
+
+impl From<AllocError> for NoMemory {
+    fn from(_e: AllocError) -> NoMemory {
+        NoMemory
+    }
+}
+
+impl<T: Drop> From<AllocFailed<T>> for NoMemory {
+    fn from(_e: AllocFailed<T>) -> NoMemory {
+        NoMemory
+    }
+}
 
 /// The refusals of the calls. Sizes, places and lengths are in bytes; a page is the page's number in
 /// its stream; an id is that of a hold.
@@ -127,5 +140,29 @@ impl CcError {
             CcError::NoLog { .. } => "NoLog",
             CcError::GapTooLong { .. } => "GapTooLong",
         }
+    }
+}
+
+impl From<NoMemory> for CcError {
+    ghost from_gives = { λ _ e. e ≡ out_of_memory };
+
+    fn from(_e: NoMemory) -> CcError {
+        CcError::NoMemory
+    }
+}
+
+impl From<AllocError> for CcError {
+    ghost from_gives = { λ _ e. e ≡ out_of_memory };
+
+    fn from(_e: AllocError) -> CcError {
+        CcError::NoMemory
+    }
+}
+
+impl<T: Drop> From<AllocFailed<T>> for CcError {
+    ghost from_gives = { λ _ e. e ≡ out_of_memory };
+
+    fn from(_e: AllocFailed<T>) -> CcError {
+        CcError::NoMemory
     }
 }

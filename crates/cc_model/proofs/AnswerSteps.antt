@@ -22,7 +22,7 @@ pub answer-same : (pages : ℕ → List ℕ) (h front : List Effect) (at n : ℕ
 unfolding answer
 answer-same pages h front at n same_sizes same =
     ap (λ f. map f (range_with_len at (answer_length h at n))) (λ k i. same i k)
-        ∙ ap (λ (s : Sizes). map (byte_of pages front) (range_with_len at (min (at + n) s.size - at))) same_sizes
+    ∙ ap (λ (s : Sizes). map (byte_of pages front) (range_with_len at (min (at + n) s.size - at))) same_sizes
 
 pub page_bytes-looks : (pages : ℕ → List ℕ) (pass : ℕ) (call : Call) (reply : Reply) (h : List Effect) (p : ℕ) → act_of call ≡ Looks → page_bytes pages (Did pass call reply ∷ h) p ≡ page_bytes pages h p
 page_bytes-looks pages pass call reply h p is = page_bytes-same pages (Did pass call reply ∷ h) h p (λ i. byte_of-looks pages pass call reply h i is)

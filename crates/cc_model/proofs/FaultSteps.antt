@@ -16,9 +16,9 @@ use Rattle.cc_entry.specs.declared.entry.Entry.TheVariants as entry
 use Rattle.cc_entry.specs.declared.entry.End.{End}
 use Rattle.cc_entry.specs.declared.entry.End.TheVariants as how
 use Rattle.cc_model.specs.Sizes.{is_good}
-use Rattle.cc_model.specs.Passes.{is_store, is_same_page, is_written_since, since_call, store_of}
+use Rattle.cc_model.specs.Passes.{is_store, is_same_page, is_written_since, up_to_call, store_of}
 use Rattle.cc_model.specs.Faults.{Unread, Unwritten, Unsynced, Unlogged, is_failed, faults_since}
-use Rattle.cc_model.proofs.PassSteps.{since_call-not_mine}
+use Rattle.cc_model.proofs.PassSteps.{up_to_call-not_mine}
 use Rattle.cc_model.specs.Passes.{is_mine}
 
 -- a call that failed is no done store
@@ -103,8 +103,8 @@ is_written_since-write_end pass page other how past me same same_page good = rw 
 
 -- what the pass's last call stored
 pub store_of-store : (pass nth stream : ℕ) (file : File) (page : ℕ) (bytes : List ℕ) (reply : Reply) (past : List Entry) (me : ℕ) → (pass == me) ≡ true → store_of (entry.Call pass nth (Some stream) (call.NcStore file page bytes) (outcome.Done reply) ∷ past) me ≡ Some (record { stream = stream; page = page })
-unfolding since_call
-store_of-store pass nth stream file page bytes reply past me same = rw (same, since_call) refl
+unfolding up_to_call
+store_of-store pass nth stream file page bytes reply past me same = rw (same, up_to_call) refl
 
 pub store_of-not_mine : (e : Entry) (past : List Entry) (me : ℕ) → is_mine me e ≡ false → store_of (e ∷ past) me ≡ store_of past me
-store_of-not_mine e past me other = rw (since_call-not_mine e past me other, store_of) refl
+store_of-not_mine e past me other = rw (up_to_call-not_mine e past me other, store_of) refl

@@ -7,7 +7,7 @@ use Rattle.cc_entry.specs.declared.entry.Entry.TheVariants as entry
 use Rattle.cc_entry.specs.declared.entry.End.{End}
 use Rattle.cc_model.specs.History.{history}
 use Rattle.cc_model.specs.Sizes.{is_good}
-use Rattle.cc_model.specs.Passes.{is_call_of, since_call}
+use Rattle.cc_model.specs.Passes.{is_call_of, up_to_call}
 use Rattle.cc_model.specs.Flushed.{settled_since, is_good_sync_of, synced_after, is_flushed}
 
 pub synced_after-call : (seen : ℕ) (e : Entry) (past : List Entry) (me s : ℕ) (span : Option Range) → is_call_of me e ≡ true → synced_after seen (e ∷ past) me s span ≡ false
@@ -23,6 +23,6 @@ unfolding synced_after
 synced_after-other seen e past me s span goes_on no_sync = rw (goes_on, no_sync, synced_after) refl
 
 -- a flush that has just begun is done when a good sync stands after its last call
-pub is_flushed-synced_after : (past : List Entry) (me s : ℕ) (span : Option Range) → is_flushed past me s span ≡ synced_after (length (history (since_call past me) s)) past me s span
+pub is_flushed-synced_after : (past : List Entry) (me s : ℕ) (span : Option Range) → is_flushed past me s span ≡ synced_after (length (history (up_to_call past me) s)) past me s span
 unfolding is_flushed
 is_flushed-synced_after past me s span = refl

@@ -30,3 +30,11 @@ pub mod FlushSteps
 pub mod PassLaws
 pub mod KeptLaws
 pub mod TransferLaws
+pub mod Steady
+pub mod SteadyCalls
+pub mod SteadyPasts
+pub mod FirstMap
+pub mod CoveredBytes
+pub mod KeptBytes
+pub mod OpenTransfers
+pub mod CleanPages

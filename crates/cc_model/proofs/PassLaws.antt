@@ -2,10 +2,10 @@
 use Rattle.std.specs.Prelude.{◌≡◌, ℕ, Bool, true, false, List, [], ◌∷◌, ◌++◌, refl}
 use Rattle.std.proofs.Common.{sym, ◌∙◌}
 use Rattle.cc_entry.specs.declared.entry.Entry.{Entry}
-use Rattle.cc_model.specs.Passes.{is_mine, mine_of, calls_of, since_call, is_written_since}
+use Rattle.cc_model.specs.Passes.{is_mine, mine_of, calls_of, up_to_call, is_written_since}
 use Rattle.cc_model.specs.Faults.{faults_since}
 use Rattle.cc_model.specs.Laws.{SamePass}
-use Rattle.cc_model.proofs.PassSteps.{mine_of-mine, mine_of-other, calls_of-not_mine, since_call-not_mine, faults_since-not_mine, is_written_since-not_mine}
+use Rattle.cc_model.proofs.PassSteps.{mine_of-mine, mine_of-other, calls_of-not_mine, up_to_call-not_mine, faults_since-not_mine, is_written_since-not_mine}
 
 -- of entries that are all others', the first and the rest
 pub mine_of-first : (me : ℕ) (e : Entry) (later : List Entry) → mine_of me (e ∷ later) ≡ [] → is_mine me e ≡ false
@@ -28,7 +28,7 @@ pub SamePass-others : (later past : List Entry) (me : ℕ) → mine_of me later 
 SamePass-others later past me none = record {
   same_entries = kept_by_others (mine_of me) me (mine_of-other me) later past none;
   same_calls = kept_by_others (λ past. calls_of past me) me (λ e past other. calls_of-not_mine e past me other) later past none;
-  same_since = kept_by_others (λ past. since_call past me) me (λ e past other. since_call-not_mine e past me other) later past none;
+  same_up_to = kept_by_others (λ past. up_to_call past me) me (λ e past other. up_to_call-not_mine e past me other) later past none;
   same_faults = kept_by_others (λ past. faults_since past me) me (λ e past other. faults_since-not_mine e past me other) later past none;
   same_written = λ page. kept_by_others (λ past. is_written_since past me page) me (λ e past other. is_written_since-not_mine e past me page other) later past none;
 }

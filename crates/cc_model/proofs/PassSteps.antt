@@ -11,7 +11,7 @@ use Rattle.cc_entry.specs.declared.reply.Outcome.TheVariants as outcome
 use Rattle.cc_entry.specs.declared.entry.Entry.{Entry}
 use Rattle.cc_entry.specs.declared.entry.Entry.TheVariants as entry
 use Rattle.cc_model.specs.Cache.{makes_hold, holds_made_by, holds_made}
-use Rattle.cc_model.specs.Passes.{is_mine, mine_of, is_call_of, calls_of, since_call, ends_call_of, is_good_end_of, is_written_since}
+use Rattle.cc_model.specs.Passes.{is_mine, mine_of, is_call_of, calls_of, up_to_call, ends_call_of, is_good_end_of, is_written_since}
 use Rattle.cc_model.specs.Faults.{Fault, fault_of, faults_since}
 
 -- the entries of a pass
@@ -33,13 +33,13 @@ unfolding calls_of
 calls_of-other e past me other = rw (other, calls_of) refl
 
 -- the past since its last call
-pub since_call-call : (pass nth : ℕ) (stream : Option ℕ) (call : Call) (ended : Outcome) (past : List Entry) (me : ℕ) → (pass == me) ≡ true → since_call (entry.Call pass nth stream call ended ∷ past) me ≡ entry.Call pass nth stream call ended ∷ past
-unfolding since_call
-since_call-call pass nth stream call ended past me same = rw (same, since_call) refl
+pub up_to_call-call : (pass nth : ℕ) (stream : Option ℕ) (call : Call) (ended : Outcome) (past : List Entry) (me : ℕ) → (pass == me) ≡ true → up_to_call (entry.Call pass nth stream call ended ∷ past) me ≡ entry.Call pass nth stream call ended ∷ past
+unfolding up_to_call
+up_to_call-call pass nth stream call ended past me same = rw (same, up_to_call) refl
 
-pub since_call-other : (e : Entry) (past : List Entry) (me : ℕ) → is_call_of me e ≡ false → since_call (e ∷ past) me ≡ since_call past me
-unfolding since_call
-since_call-other e past me other = rw (other, since_call) refl
+pub up_to_call-other : (e : Entry) (past : List Entry) (me : ℕ) → is_call_of me e ≡ false → up_to_call (e ∷ past) me ≡ up_to_call past me
+unfolding up_to_call
+up_to_call-other e past me other = rw (other, up_to_call) refl
 
 -- its faults since its last call other than a done noncached store
 pub faults_since-ended : (e : Entry) (past : List Entry) (me : ℕ) → ends_call_of me e ≡ true → faults_since (e ∷ past) me ≡ []
@@ -75,8 +75,8 @@ is_call_of-other me e other = refl
 pub calls_of-not_mine : (e : Entry) (past : List Entry) (me : ℕ) → is_mine me e ≡ false → calls_of (e ∷ past) me ≡ calls_of past me
 calls_of-not_mine e past me other = calls_of-other e past me (is_call_of-other me e other)
 
-pub since_call-not_mine : (e : Entry) (past : List Entry) (me : ℕ) → is_mine me e ≡ false → since_call (e ∷ past) me ≡ since_call past me
-since_call-not_mine e past me other = since_call-other e past me (is_call_of-other me e other)
+pub up_to_call-not_mine : (e : Entry) (past : List Entry) (me : ℕ) → is_mine me e ≡ false → up_to_call (e ∷ past) me ≡ up_to_call past me
+up_to_call-not_mine e past me other = up_to_call-other e past me (is_call_of-other me e other)
 
 ends_call_of-other : (me : ℕ) (e : Entry) → is_mine me e ≡ false → ends_call_of me e ≡ false
 ends_call_of-other me (entry.Call pass nth stream call ended) other = rw other refl

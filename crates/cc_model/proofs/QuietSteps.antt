@@ -30,10 +30,10 @@ or-left false b e = refl
 or-left true b e = e
 
 -- a call that does not need the book of the stream is of another stream
-call_needs-book : (stream s : ℕ) (call : Call) → call_needs (Some stream) call (Book s) ≡ false → (stream == s) ≡ false
-call_needs-book stream s (call.NcStore file page bytes) b = eqb-swapped s stream (or-left _ _ b)
-call_needs-book stream s (call.NcRead file page) b = eqb-swapped s stream (or-left _ _ b)
-call_needs-book stream s other b = eqb-swapped s stream b
+call_needs-book : (stream s : ℕ) (call : Call) (reply : Reply) → call_needs (Some stream) call (outcome.Done reply) (Book s) ≡ false → (stream == s) ≡ false
+call_needs-book stream s (call.NcStore file page bytes) reply b = eqb-swapped s stream (or-left _ _ b)
+call_needs-book stream s (call.NcRead file page) reply b = eqb-swapped s stream (or-left _ _ b)
+call_needs-book stream s other reply b = eqb-swapped s stream b
 
 -- an effect that a sync has
 abbrev pub is_sync : Effect → Bool
@@ -58,7 +58,7 @@ none_or test (Some effect) = test effect
 
 -- an entry that needs neither turn of the stream has no effect on it
 pub effect_of-unneeded : (e : Entry) (s : ℕ) → needs e (Book s) ≡ false → needs e (Device s) ≡ false → effect_of e s ≡ None
-effect_of-unneeded (entry.Call pass nth (Some stream) call (outcome.Done reply)) s b d = rw (call_needs-book stream s call b) refl
+effect_of-unneeded (entry.Call pass nth (Some stream) call (outcome.Done reply)) s b d = rw (call_needs-book stream s call reply b) refl
 effect_of-unneeded (entry.Call pass nth (Some stream) call (outcome.Failed error)) s b d = refl
 effect_of-unneeded (entry.Call pass nth None call ended) s b d = refl
 effect_of-unneeded (entry.PageIn pass page from_disk) s b d = rw (eqb-swapped s page.stream (or-left _ _ b)) refl
@@ -76,7 +76,7 @@ effect_of-unneeded (entry.Scan pass picked) s b d = refl
 
 -- an entry that does not need the book of the stream has no effect on it, or that of a sync
 pub effect_of-bookless : (e : Entry) (s : ℕ) → needs e (Book s) ≡ false → none_or is_sync (effect_of e s) ≡ true
-effect_of-bookless (entry.Call pass nth (Some stream) call (outcome.Done reply)) s b = rw (call_needs-book stream s call b) refl
+effect_of-bookless (entry.Call pass nth (Some stream) call (outcome.Done reply)) s b = rw (call_needs-book stream s call reply b) refl
 effect_of-bookless (entry.Call pass nth (Some stream) call (outcome.Failed error)) s b = refl
 effect_of-bookless (entry.Call pass nth None call ended) s b = refl
 effect_of-bookless (entry.PageIn pass page from_disk) s b = rw (eqb-swapped s page.stream (or-left _ _ b)) refl
@@ -97,7 +97,7 @@ effect_of-bookless (entry.Posted id) s b = refl
 effect_of-bookless (entry.Scan pass picked) s b = refl
 
 -- a done call that does not need the disk of the stream has no effect on it, or does not go to the disk
-call_needs-device : (pass stream : ℕ) (call : Call) (reply : Reply) (s : ℕ) → call_needs (Some stream) call (Device s) ≡ false → none_or is_cached_call (if stream == s then Some (Did pass call reply) else None) ≡ true
+call_needs-device : (pass stream : ℕ) (call : Call) (reply : Reply) (s : ℕ) → call_needs (Some stream) call (outcome.Done reply) (Device s) ≡ false → none_or is_cached_call (if stream == s then Some (Did pass call reply) else None) ≡ true
 call_needs-device pass stream (call.NcStore file page bytes) reply s d = rw (eqb-swapped s stream d) refl
 call_needs-device pass stream (call.NcRead file page) reply s d = rw (eqb-swapped s stream d) refl
 call_needs-device pass stream other reply s d = either (stream == s)

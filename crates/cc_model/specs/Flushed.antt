@@ -9,7 +9,7 @@ use Rattle.cc_model.specs.History.{Effect, history}
 use Rattle.cc_model.specs.Touches.{unwritten, dirty_pages}
 use Rattle.cc_model.specs.Sizes.{is_good}
 use Rattle.cc_model.specs.Ranges.{span_has}
-use Rattle.cc_model.specs.Passes.{is_call_of, since_call}
+use Rattle.cc_model.specs.Passes.{is_call_of, up_to_call}
 
 -- whether each unwritten touch of a page of the span came after so many effects of the stream
 abbrev pub settled_since : ℕ → List Effect → Option Range → Bool
@@ -35,4 +35,4 @@ synced_after seen (e ∷ past) me s span =
 -- which each touch of a page of the span that is neither written nor cut is later than that call
 -- (CcFlushCache).
 unfoldable pub is_flushed : List Entry → ℕ → ℕ → Option Range → Bool
-is_flushed past me s span = synced_after (length (history (since_call past me) s)) past me s span
+is_flushed past me s span = synced_after (length (history (up_to_call past me) s)) past me s span

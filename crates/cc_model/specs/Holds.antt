@@ -48,7 +48,7 @@ abbrev pub repinned : ℕ → ℕ → Option Hold → List Hold → List Hold
 repinned id pass None holds = holds
 repinned id pass (Some hold) holds = made id pass hold.file hold.at hold.len kind.Repin false [] holds
 
--- the id in a reply
+-- The id in a reply. In a legal journal it is one more than the number of holds made before.
 abbrev pub id_of : Reply → ℕ
 id_of (reply.Hold id) = id
 id_of reply.Unit = 0

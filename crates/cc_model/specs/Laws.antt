@@ -12,7 +12,7 @@ use Rattle.cc_model.specs.Residency.{residents, order_of_use}
 use Rattle.cc_model.specs.Images.{open_of, begun, image, crash_pages}
 use Rattle.cc_model.specs.ReadAhead.{reads_of}
 use Rattle.cc_model.specs.Logs.{flushed_to, floor_of}
-use Rattle.cc_model.specs.Passes.{mine_of, calls_of, since_call, is_written_since}
+use Rattle.cc_model.specs.Passes.{mine_of, calls_of, up_to_call, is_written_since}
 use Rattle.cc_model.specs.Faults.{faults_since}
 
 -- of two histories of a stream, all that its book stands for is the same
@@ -58,6 +58,6 @@ pub record SameLog (log : ℕ) (new old : List Entry) : Type 0 where
 pub record SamePass (me : ℕ) (new old : List Entry) : Type 0 where
   pub same_entries : mine_of me new ≡ mine_of me old
   pub same_calls : calls_of new me ≡ calls_of old me
-  pub same_since : since_call new me ≡ since_call old me
+  pub same_up_to : up_to_call new me ≡ up_to_call old me
   pub same_faults : faults_since new me ≡ faults_since old me
   pub same_written : (page : Page) → is_written_since new me page ≡ is_written_since old me page

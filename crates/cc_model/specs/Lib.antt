@@ -36,3 +36,4 @@ pub mod Good
 pub mod Room
 pub mod Turns
 pub mod Laws
+pub mod Facts

@@ -3,7 +3,7 @@ use Rattle.std.specs.Prelude.{ℕ, Bool, true, false, ◌&&◌, nat_lt, List, []
 use Rattle.std.specs.declared.option.Option.{Option}
 use Rattle.std.specs.declared.option.Option.TheVariants.{Some, None}
 use Rattle.cc_entry.specs.Place.{File}
-use Rattle.cc_model.specs.Places.{is_empty, without}
+use Rattle.cc_model.specs.Places.{is_empty, is_among, without}
 use Rattle.cc_model.specs.History.{Effect, Did}
 use Rattle.cc_model.specs.Acts.{act_of, Opens, Closes}
 
@@ -30,7 +30,7 @@ had_map (Did pass call reply ∷ h) =
 had_map (other ∷ h) = had_map h
 
 -- The size that an uninitialise of the object sets, given the objects and the size before it: its
--- truncate, where the object is the last and the truncate is below the size.
+-- truncate, where the object is open and the last, and the truncate is below the size.
 abbrev pub truncation : List ℕ → ℕ → File → Option ℕ → Option ℕ
 truncation opened size file None = None
-truncation opened size file (Some to) = if is_empty (without file.object opened) && nat_lt to size then Some to else None
+truncation opened size file (Some to) = if is_among file.object opened && (is_empty (without file.object opened) && nat_lt to size) then Some to else None

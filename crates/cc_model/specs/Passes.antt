@@ -1,5 +1,5 @@
 -- A pass is one caller. What it did, and what has befallen it since its last call.
-use Rattle.std.specs.Prelude.{ℕ, suc, Bool, true, false, not, ◌&&◌, ◌||◌, ◌==◌, List, [], ◌∷◌, if◌then◌else◌}
+use Rattle.std.specs.Prelude.{◌≡◌, ◌++◌, ℕ, suc, Bool, true, false, not, ◌&&◌, ◌||◌, ◌==◌, List, [], ◌∷◌, if◌then◌else◌}
 use Rattle.std.specs.declared.option.Option.{Option}
 use Rattle.std.specs.declared.option.Option.TheVariants.{Some, None}
 use Rattle.std.specs.List.{filter}
@@ -40,6 +40,19 @@ is_mine me e = is_pass me (pass_of e)
 unfoldable pub mine_of : ℕ → List Entry → List Entry
 mine_of me past = filter (is_mine me) past
 
+-- A pass has seen a part of the journal: the journal is that part, and what came later.
+pub record HasSeen (seen past : List Entry) : Type 0 where
+  pub later : List Entry
+  pub grew : past ≡ later ++ seen
+
+-- A call of a pass that had seen one part, and has seen another after it: what it placed stands after
+-- the first, and its own entry is in the second.
+pub record WasPlaced (me : ℕ) (e : Entry) (before after : List Entry) : Type 0 where
+  pub later : List Entry
+  pub earlier : List Entry
+  pub grew : after ≡ later ++ e ∷ earlier ++ before
+  pub is_own : is_mine me e ≡ true
+
 -- whether an entry is a call of the pass
 abbrev pub is_call_of : ℕ → Entry → Bool
 is_call_of me (entry.Call pass nth stream call ended) = pass == me
@@ -51,9 +64,9 @@ calls_of [] me = 0
 calls_of (e ∷ past) me = if is_call_of me e then suc (calls_of past me) else calls_of past me
 
 -- the past up to and with the last call of the pass, empty where it made none
-unfoldable pub since_call : List Entry → ℕ → List Entry
-since_call [] me = []
-since_call (e ∷ past) me = elim (is_call_of me e) [ true ↦ e ∷ past | false ↦ since_call past me ]
+unfoldable pub up_to_call : List Entry → ℕ → List Entry
+up_to_call [] me = []
+up_to_call (e ∷ past) me = elim (is_call_of me e) [ true ↦ e ∷ past | false ↦ up_to_call past me ]
 
 -- whether a call is a done noncached store
 abbrev pub is_store : Call → Outcome → Bool
@@ -77,7 +90,7 @@ stored_by (entry.Call pass nth stream call ended ∷ past) = stored_page stream 
 stored_by (other ∷ past) = None
 
 abbrev pub store_of : List Entry → ℕ → Option Page
-store_of past me = stored_by (since_call past me)
+store_of past me = stored_by (up_to_call past me)
 
 -- whether two pages are the same
 abbrev pub is_same_page : Page → Page → Bool

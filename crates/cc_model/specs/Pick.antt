@@ -41,7 +41,7 @@ base_pick total = if nat_le total 8 then total else total / 8
 abbrev pub pick_count : ℕ → ℕ → ℕ → ℕ
 pick_count threshold total before =
     let base = base_pick total in
-    min total (base + (total - base + (total - before) - 3 * threshold / 4))
+    min total (base + (((total - base) + (total - before)) - (3 * threshold) / 4))
 
 -- the pages that a scan picks: so many of those that the lazy writer looks at, from the cursor on, then
 -- round from the first

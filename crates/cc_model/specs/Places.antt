@@ -26,7 +26,7 @@ has_page r p = nat_lt r.from r.to && (nat_lt r.from (4096 * p + 4096) && nat_lt 
 
 -- the pages of the range, ascending
 abbrev pub pages_of : Range → List ℕ
-pages_of r = if nat_lt r.from r.to then range_with_len (r.from / 4096) ((r.to - 1) / 4096 + 1 - r.from / 4096) else []
+pages_of r = if nat_lt r.from r.to then range_with_len (r.from / 4096) (((r.to - 1) / 4096 + 1) - r.from / 4096) else []
 
 -- the view block of a page
 abbrev pub block_of : ℕ → ℕ
@@ -34,7 +34,7 @@ block_of p = p / 64
 
 -- the view blocks of the range, ascending
 abbrev pub blocks_of : Range → List ℕ
-blocks_of r = if nat_lt r.from r.to then range_with_len (r.from / 262144) ((r.to - 1) / 262144 + 1 - r.from / 262144) else []
+blocks_of r = if nat_lt r.from r.to then range_with_len (r.from / 262144) (((r.to - 1) / 262144 + 1) - r.from / 262144) else []
 
 -- a number put in its place in an ascending list, which keeps each number once
 abbrev pub placed : ℕ → List ℕ → List ℕ

@@ -47,7 +47,7 @@ is_sequential at [] = false
 
 -- a number rounded up to a multiple
 abbrev pub rounded_up : ℕ → ℕ → ℕ
-rounded_up n step = (n + (step - 1)) / step * step
+rounded_up n step = ((n + (step - 1)) / step) * step
 
 -- The read-ahead that a read of len bytes at a place leads to, where it leads to one
 -- (CcScheduleReadAhead): one granule after its end, cut at the size.

@@ -47,7 +47,7 @@ too_long other = None
 
 -- whether n bytes from `at` on lie in more than one view block
 abbrev pub crosses_blocks : ℕ → ℕ → Bool
-crosses_blocks at n = nat_lt 0 n && not (at / 262144 == (at + n - 1) / 262144)
+crosses_blocks at n = nat_lt 0 n && not (at / 262144 == ((at + n) - 1) / 262144)
 
 abbrev pub view_boundary : Call → Option CcError
 view_boundary (call.Map file at len) = refuse_if (crosses_blocks at len) error.ViewBoundary

@@ -34,7 +34,8 @@ abbrev pub state_of : List Effect → FileState
 state_of h =
     record { sizes = record { allocation = allocation_of h; size = size_of h; valid = valid_of h }; log = log_of h }
 
--- whether every page of a read-ahead is resident: its object is open, and its blocks fit the quota
+-- whether a read-ahead brings in every page of its request below the size: its object is open, and its
+-- blocks fit the quota beside those of open holds
 abbrev pub is_whole : List Effect → Request → Bool
 is_whole h request =
     is_open h request.file && nat_le (needed_blocks (holds_of h) (cut_range (size_of h) request.at request.len)) (quota_of h)

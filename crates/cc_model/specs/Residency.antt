@@ -7,12 +7,12 @@ use Rattle.std.specs.Set.{distinct_count}
 use Rattle.cc_entry.specs.Place.{Range}
 use Rattle.cc_model.specs.Places.{is_among, without, block_of, blocks_of, pages_of}
 use Rattle.cc_model.specs.History.{Effect, Did, CameIn, WentOut, Began, Ended, Synced}
-use Rattle.cc_model.specs.Acts.{act_of, Closes, Resizes, Stores}
+use Rattle.cc_model.specs.Acts.{act_of, Opens, Closes, Resizes, Writes, Zeroes, Stores, Stamps, Looks}
 use Rattle.cc_model.specs.Objects.{objects, truncation}
 use Rattle.cc_model.specs.Touches.{size_of, is_mapped}
 use Rattle.cc_model.specs.Ranges.{range_of, uses_no_block}
 
--- a size step keeps the pages that begin below the new size
+-- a size step cuts the pages that begin at the new size or past it
 abbrev pub below : Option ℕ → List ℕ → List ℕ
 below None pages = pages
 below (Some to) pages = filter (λ p. nat_lt (4096 * p) to) pages
@@ -24,7 +24,11 @@ moved_by (Did pass call reply) h pages =
       Closes file truncate ↦ below (truncation (objects h) (size_of h) file truncate) pages
     | Resizes allocation size ↦ below (Some size) pages
     | Stores page bytes ↦ page ∷ without page pages
-    | _ ↦ pages
+    | Opens file sizes quota temporary ↦ pages
+    | Writes at bytes ↦ pages
+    | Zeroes from to ↦ pages
+    | Stamps hold lsn ↦ pages
+    | Looks ↦ pages
     ]
 moved_by (CameIn pass page from_disk) h pages = page ∷ without page pages
 moved_by (WentOut pass page) h pages = without page pages

@@ -1,6 +1,9 @@
 -- Room in the journal: what is owed to entries that have to find a place later.
-use Rattle.std.specs.Prelude.{ℕ, suc, ◌+◌, ◌-◌, true, false, not, ◌&&◌, List, [], ◌∷◌, length, is_some, if◌then◌else◌}
+use Rattle.std.specs.Prelude.{Option, Bool, ℕ, suc, ◌+◌, ◌-◌, true, false, not, ◌&&◌, List, [], ◌∷◌, length, is_some, if◌then◌else◌}
 use Rattle.std.specs.List.{sum_by}
+use Rattle.std.specs.Prelude.{Some, None}
+use Rattle.cc_entry.specs.declared.call.Call.{Call}
+use Rattle.cc_entry.specs.declared.call.Call.TheVariants as call
 use Rattle.cc_entry.specs.declared.entry.Entry.{Entry}
 use Rattle.cc_entry.specs.declared.entry.Entry.TheVariants as entry
 use Rattle.cc_model.specs.Setup.{Setup}
@@ -10,7 +13,7 @@ use Rattle.cc_model.specs.Holds.{Hold, holds_of}
 use Rattle.cc_model.specs.Stamps.{is_pin}
 use Rattle.cc_model.specs.Images.{open_of}
 use Rattle.cc_model.specs.Cache.{all_streams}
-use Rattle.cc_model.specs.Passes.{is_store}
+use Rattle.cc_model.specs.Passes.{is_store, store_of, is_the_page}
 
 -- an open hold owes its end, and a pin that changed bytes a set-dirty too
 abbrev pub owed_by_hold : Hold → ℕ
@@ -39,6 +42,24 @@ reserved_in past = sum_by (λ s. owed_by_stream (history past s)) all_streams + 
 unfoldable pub room_in : Setup → List Entry → ℕ → ℕ
 room_in u past under_way = u.capacity - (length past + (reserved_in past + under_way))
 
--- what an append asks: its own place and what it newly reserves, where its place was not reserved before
+-- whether a call is the end of the noncached write whose store is the pass's last call
+abbrev pub finishes : List Entry → ℕ → Option ℕ → Call → Bool
+finishes past pass (Some s) (call.NcWrite file page) = is_the_page (record { stream = s; page = page }) (store_of past pass)
+finishes past pass stream other = false
+
+-- Another call of a pass whose store is unfinished gives the room of that store's end away: it doesn't
+-- pay for the call.
+abbrev pub forgone : List Entry → Entry → ℕ
+forgone past (entry.Call pass nth stream call ended) =
+    if is_some (store_of past pass) && not (finishes past pass stream call) then 1 else 0
+forgone past other = 0
+
+-- What an append asks: its own place and what it newly reserves, less what was reserved for it. A place
+-- that was kept for a device or log call under way is given back before the append asks.
 unfoldable pub asked_by : List Entry → Entry → ℕ
-asked_by past e = suc (reserved_in (e ∷ past)) - reserved_in past
+asked_by past e = suc (reserved_in (e ∷ past) + forgone past e) - reserved_in past
+
+-- what several entries ask at once, the first one first, as a noncached store with its begin
+abbrev pub asked_by_all : List Entry → List Entry → ℕ
+asked_by_all past [] = 0
+asked_by_all past (e ∷ entries) = asked_by past e + asked_by_all (e ∷ past) entries

@@ -1,5 +1,5 @@
 -- Steps of the two sizes of a stream, and touches of its pages.
-use Rattle.std.specs.Prelude.{ℕ, ◌+◌, ◌*◌, Bool, true, false, nat_le, List, [], ◌∷◌, min, max, if◌then◌else◌}
+use Rattle.std.specs.Prelude.{ℕ, ◌+◌, ◌*◌, Bool, true, false, nat_lt, nat_le, List, [], ◌∷◌, min, max, if◌then◌else◌}
 use Rattle.std.specs.declared.option.Option.{Option}
 use Rattle.std.specs.declared.option.Option.TheVariants.{Some, None}
 use Rattle.cc_entry.specs.Place.{Range}
@@ -26,9 +26,10 @@ resized_by (Some to) s = resized to s
 abbrev pub raised : ℕ → Sizes → Sizes
 raised end s = record { size = s.size; valid = max s.valid end }
 
--- the range of a noncached store: its page up to the size
+-- the range of a noncached page: the page up to the size, and no byte where it begins at the size or past it
 abbrev pub stored_range : ℕ → ℕ → Range
-stored_range page size = record { from = 4096 * page; to = min (4096 * page + 4096) size }
+stored_range page size =
+    record { from = 4096 * page; to = (if nat_lt (4096 * page) size then min (4096 * page + 4096) size else 0) }
 
 -- One touch of a page: a change of a byte of it, or a set-dirty of a pin that has it. Its place is how
 -- many effects the stream had had with it.

@@ -5,6 +5,8 @@ use Rattle.std.specs.declared.option.Option.TheVariants.{Some, None}
 use Rattle.std.specs.List.{list_all}
 use Rattle.cc_entry.specs.declared.call.Call.{Call}
 use Rattle.cc_entry.specs.declared.call.Call.TheVariants as call
+use Rattle.cc_entry.specs.declared.reply.Outcome.{Outcome}
+use Rattle.cc_entry.specs.declared.reply.Outcome.TheVariants as outcome
 use Rattle.cc_entry.specs.declared.entry.Entry.{Entry}
 use Rattle.cc_entry.specs.declared.entry.Entry.TheVariants as entry
 
@@ -31,16 +33,18 @@ abbrev pub is_journal : Turn → Bool
 is_journal Journal = true
 is_journal other = false
 
--- the turns of a stream that a call needs: its book, and for a noncached page its disk too
-abbrev pub call_needs : Option ℕ → Call → Turn → Bool
-call_needs None call turn = false
-call_needs (Some s) (call.NcStore file page bytes) turn = is_book s turn || is_device s turn
-call_needs (Some s) (call.NcRead file page) turn = is_book s turn || is_device s turn
-call_needs (Some s) other turn = is_book s turn
+-- the turns of a stream that a call needs: its book, and where a noncached page was read or stored its
+-- disk too
+abbrev pub call_needs : Option ℕ → Call → Outcome → Turn → Bool
+call_needs None call ended turn = false
+call_needs (Some s) (call.NcStore file page bytes) (outcome.Done reply) turn = is_book s turn || is_device s turn
+call_needs (Some s) (call.NcRead file page) (outcome.Done reply) turn = is_book s turn || is_device s turn
+call_needs (Some s) other ended turn = is_book s turn
 
--- whether the placer of an entry needs a turn; every entry needs the journal's
+-- Whether the placer of an entry needs a turn; every entry needs the journal's. A stream without a disk
+-- has no turns, so what is said of it binds nobody.
 abbrev pub needs : Entry → Turn → Bool
-needs (entry.Call pass nth stream call ended) turn = is_journal turn || call_needs stream call turn
+needs (entry.Call pass nth stream call ended) turn = is_journal turn || call_needs stream call ended turn
 needs (entry.PageIn pass page from_disk) turn = is_journal turn || (is_book page.stream turn || is_device page.stream turn)
 needs (entry.PageOut pass page) turn = is_journal turn || (is_book page.stream turn || is_device page.stream turn)
 needs (entry.FillFailed pass page) turn = is_journal turn || is_device page.stream turn

@@ -110,44 +110,30 @@ pub fn looks_change_no_byte()
 /// After a change the pages of its range are dirty, after a set-dirty those of its hold, and every
 /// other page is as it was.
 pub fn changes_dirty_their_pages()
-    ensures writes {
-        (pass : ℕ) (call : Call) (reply : Reply) (h : List Effect) (at : ℕ) (bytes : List ℕ) (p : ℕ) →
-            act_of call ≡ Writes at bytes → is_dirty (Did pass call reply ∷ h) p
-                ≡ (has_page (record { from = at; to = at + length bytes }) p || is_dirty h p)
-    }
-    ensures zeroings {
-        (pass : ℕ) (call : Call) (reply : Reply) (h : List Effect) (from to p : ℕ) →
-            act_of call ≡ Zeroes from to → is_dirty (Did pass call reply ∷ h) p
-                ≡ (has_page (record { from = from; to = to }) p || is_dirty h p)
-    }
-    ensures stores {
-        (pass : ℕ) (call : Call) (reply : Reply) (h : List Effect) (page : ℕ) (bytes : List ℕ) (p : ℕ) →
-            act_of call ≡ Stores page bytes → is_dirty (Did pass call reply ∷ h) p
-                ≡ (has_page (stored_range page (size_of h)) p || is_dirty h p)
-    }
-    ensures set_dirty {
-        (pass : ℕ) (call : Call) (reply : Reply) (h : List Effect) (hold : ℕ) (lsn : Option ℕ) (p : ℕ) →
-            act_of call ≡ Stamps hold lsn → is_dirty (Did pass call reply ∷ h) p
-                ≡ (hold_has (hold_at (holds_of h) hold) p || is_dirty h p)
-    }
-{
-}
+    ensures writes { (pass : ℕ) (call : Call) (reply : Reply) (h : List Effect) (at : ℕ) (bytes : List ℕ) (p : ℕ) →
+        act_of call ≡ Writes at bytes → is_dirty (Did pass call reply ∷ h) p
+        ≡ (has_page (record { from = at; to = at + length bytes }) p || is_dirty h p) }
+    ensures zeroings { (pass : ℕ) (call : Call) (reply : Reply) (h : List Effect) (from to p : ℕ) →
+        act_of call ≡ Zeroes from to → is_dirty (Did pass call reply ∷ h) p
+        ≡ (has_page (record { from = from; to = to }) p || is_dirty h p) }
+    ensures stores { (pass : ℕ) (call : Call) (reply : Reply) (h : List Effect) (page : ℕ) (bytes : List ℕ) (p : ℕ) →
+        act_of call ≡ Stores page bytes → is_dirty (Did pass call reply ∷ h) p
+        ≡ (has_page (stored_range page (size_of h)) p || is_dirty h p) }
+    ensures set_dirty { (pass : ℕ) (call : Call) (reply : Reply) (h : List Effect) (hold : ℕ) (lsn : Option ℕ) (p : ℕ) →
+        act_of call ≡ Stamps hold lsn → is_dirty (Did pass call reply ∷ h) p
+        ≡ (hold_has (hold_at (holds_of h) hold) p || is_dirty h p) }
+{}
 
 /// After the size is set no page past it is dirty, each other page is as it was, and from the size on
 /// every byte reads as zero.
 pub fn size_steps_cut_pages()
-    ensures dirty {
-        (pass : ℕ) (call : Call) (reply : Reply) (h : List Effect) (allocation size p : ℕ) →
-            act_of call ≡ Resizes allocation size → is_dirty (Did pass call reply ∷ h) p
-                ≡ (not (nat_le size (4096 * p)) && is_dirty h p)
-    }
-    ensures zeros {
-        (pages : ℕ → List ℕ) (pass : ℕ) (call : Call) (reply : Reply) (h : List Effect)
-            (allocation size i : ℕ) → act_of call ≡ Resizes allocation size → size ≤ i →
-            byte_of pages (Did pass call reply ∷ h) i ≡ 0
-    }
-{
-}
+    ensures dirty { (pass : ℕ) (call : Call) (reply : Reply) (h : List Effect) (allocation size p : ℕ) →
+        act_of call ≡ Resizes allocation size → is_dirty (Did pass call reply ∷ h) p
+        ≡ (not (nat_le size (4096 * p)) && is_dirty h p) }
+    ensures zeros { (pages : ℕ → List ℕ) (pass : ℕ) (call : Call) (reply : Reply) (h : List Effect)
+        (allocation size i : ℕ) → act_of call ≡ Resizes allocation size → size ≤ i →
+        byte_of pages (Did pass call reply ∷ h) i ≡ 0 }
+{}
 
 /// A transfer that ends well with nothing between leaves its page clean and on the disk as it began;
 /// one that does not leaves each page as dirty as it was.

@@ -1,6 +1,7 @@
 //! What a journal means.
 #![tactic(auto)]
 
+pub mod durability;
 pub mod laws;
 
 ghost use Rattle.std.specs.Prelude.{◌≡◌};

@@ -1,1 +1,15 @@
-pub mod FirstPath
+pub mod Values
+pub mod Copies
+pub mod Noncached
+pub mod Holds
+pub mod Chains
+pub mod Logs
+pub mod Transfers
+pub mod Faults
+pub mod Sizes
+pub mod Maps
+pub mod LazyWriter
+pub mod ReadAhead
+pub mod Throttle
+pub mod Callers
+pub mod Views

@@ -25,8 +25,8 @@ returns-then-index-byte-clause-ok c =
     let same : r.byte ≡ c.args.byte = ap (λ (x : Run). x.byte) (sym one) ∙ c.if-index-byte.true in
     joins_last items i c.args.byte c.args.count r (omega arith) at same
 
-pub returns-in_ok-map_err-clause-ok : goal.returns-in_ok-map_err-clause-ok
-returns-in_ok-map_err-clause-ok c =
+pub returns-in_ok-push-clause-ok : goal.returns-in_ok-push-clause-ok
+returns-in_ok-push-clause-ok c =
     let items = c.args.runs.now.items in
     let one : Run = record { byte = c.args.byte; count = c.args.count } in
     let added : c.push.new.self.items ≡ items ++ one ∷ [] = search rules in

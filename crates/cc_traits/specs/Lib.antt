@@ -1,0 +1,4 @@
+pub mod Stop
+pub mod Told
+pub mod Disk
+pub mod Log

@@ -1,0 +1,46 @@
+ghost use Rattle.std.specs.Prelude.{◌≡◌, ℕ, ◌+◌, ◌-◌, ◌^◌, Option, OnOk, OnErr};
+ghost use Rattle.cc_traits.specs.Stop.{faults_in, OnFailed, OnNoMemory};
+ghost use Rattle.cc_traits.specs.Told.{Both};
+ghost use Rattle.cc_traits.specs.Log.{Log, Appended, Kept, Flushed};
+
+use crate::Stop;
+
+/// A log of entries, each with its log sequence number (LSN) and its bytes.
+pub trait LogFile: Drop {
+    // The entries, and the LSN up to which they are on the medium.
+    ghost told: { Self → Option Log };
+
+    // How many calls failed, a number below 2 ^ 64.
+    ghost faults: { Self → ℕ };
+
+    /// Puts one entry behind the others.
+    fn append(&mut self, lsn: u64, piece: &[u8]) -> Result<(), Stop>
+        ensures appended { OnOk result
+            (Both (told self.old) (told self.new) (Appended lsn piece.now)) }
+        ensures failed { OnFailed result (Both (told self.old) (told self.new) Kept) }
+        ensures no_memory { OnNoMemory result (told self.new ≡ told self.old) }
+        ensures counted { faults self.new ≡ faults self.old + faults_in result };
+
+    /// Waits until every entry up to `lsn` is on the medium. It takes no memory: it answers
+    /// [`Stop::NoMemory`] only where the count of faults is at its end.
+    fn flush(&mut self, lsn: u64) -> Result<(), Stop>
+        ensures flushed { OnOk result (Both (told self.old) (told self.new) (Flushed lsn)) }
+        ensures failed { OnFailed result (Both (told self.old) (told self.new) Kept) }
+        ensures no_memory { OnNoMemory result (told self.new ≡ told self.old) }
+        ensures takes_no_memory { OnNoMemory result (faults self.old ≡ 2 ^ 64 - 1) }
+        ensures counted { faults self.new ≡ faults self.old + faults_in result };
+}
+
+impl LogFile for Box<dyn LogFile + Send> {
+    ghost told = { λ b. (LogFile-box b).told b.value };
+
+    ghost faults = { λ b. (LogFile-box b).faults b.value };
+
+    fn append(&mut self, lsn: u64, piece: &[u8]) -> Result<(), Stop> {
+        (**self).append(lsn, piece)
+    }
+
+    fn flush(&mut self, lsn: u64) -> Result<(), Stop> {
+        (**self).flush(lsn)
+    }
+}

@@ -1,0 +1,64 @@
+-- The lazy writer: which pages a scan picks.
+use Rattle.std.specs.Prelude.{ℕ, List, [], ◌∷◌, ◌++◌, ◌+◌, ◌*◌, true, reverse, map, flat_map}
+use Rattle.std.specs.List.{range_with_len}
+use Rattle.cc_entry.specs.declared.call.Call.TheVariants as call
+use Rattle.cc_entry.specs.declared.entry.Entry.{Entry}
+use Rattle.cc_entry.specs.declared.entry.Entry.TheVariants as entry
+use Rattle.cc_worked.specs.Values.{a, page, sized, opened, done, read_in, begins, written}
+
+-- one byte is written into each of nine pages
+abbrev pub nine_changes : List Entry
+nine_changes =
+    opened 65536 65536
+    ∷ flat_map (λ p. read_in 1 p ∷ done 1 (p + 1) (call.CopyWrite a (4096 * p) (171 ∷ [])) ∷ []) (range_with_len 0 9)
+
+-- a scan that picks n pages from a page on
+abbrev pub scan : ℕ → ℕ → Entry
+scan p n = entry.Scan 1 (map page (range_with_len p n))
+
+-- Three scans: of nine pages one in eight, then all eight that are left, then none.
+abbrev pub three_scans : List Entry
+three_scans =
+    reverse (
+    nine_changes
+    ++ scan 0 1
+    ∷ written 1 0
+    ++ scan 1 8
+    ∷ flat_map (λ p. written 1 p) (range_with_len 1 8)
+    ++ scan 0 0
+    ∷ [])
+
+-- wrong: the scan picks all pages
+abbrev pub all_picked : List Entry
+all_picked = reverse (nine_changes ++ scan 0 9 ∷ [])
+
+-- wrong: it picks none
+abbrev pub none_picked : List Entry
+none_picked = reverse (nine_changes ++ scan 0 0 ∷ [])
+
+-- wrong: it picks another page than the first
+abbrev pub another_picked : List Entry
+another_picked = reverse (nine_changes ++ scan 1 1 ∷ [])
+
+-- the first page is picked and not written, and the next scan goes on after it
+abbrev pub cursor_moved : List Entry
+cursor_moved = reverse (nine_changes ++ scan 0 1 ∷ scan 1 1 ∷ [])
+
+-- wrong: the next scan begins with the first page again
+abbrev pub cursor_lost : List Entry
+cursor_lost = reverse (nine_changes ++ scan 0 1 ∷ scan 0 1 ∷ [])
+
+-- wrong: the lazy writer begins a page that is clean
+abbrev pub clean_page_begun : List Entry
+clean_page_begun = begins 1 0 ∷ three_scans
+
+-- wrong: a temporary stream's page is picked
+abbrev pub temporary_change : List Entry
+temporary_change =
+    done 0 1 (call.Initialise a (sized 8192 8192) 16 true) ∷ read_in 1 0 ∷ done 1 1 (call.CopyWrite a 0 (171 ∷ [])) ∷ []
+
+abbrev pub temporary_passed_over : List Entry
+temporary_passed_over = reverse (temporary_change ++ scan 0 0 ∷ [])
+
+abbrev pub temporary_picked : List Entry
+temporary_picked = reverse (temporary_change ++ scan 0 1 ∷ [])
