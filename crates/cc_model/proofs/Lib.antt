@@ -21,6 +21,7 @@ pub mod ResidencySteps
 pub mod ImageSteps
 pub mod ActSteps
 pub mod ByteLaws
+pub mod StoreLaws
 pub mod AnswerSteps
 pub mod MapKept
 pub mod QueueSteps

@@ -1,6 +1,6 @@
 //! Laws of what a journal means. Each function does nothing: its contract is the law.
 
-ghost use Rattle.std.specs.Prelude.{◌≡◌, ℕ, ◌+◌, ◌*◌, ◌<◌, ◌≤◌, true, false, not, ◌&&◌, ◌||◌, nat_le, Option, List, [], ◌∷◌, ◌++◌, length, slice_index};
+ghost use Rattle.std.specs.Prelude.{◌≡◌, ℕ, ◌+◌, ◌-◌, ◌*◌, ◌<◌, ◌≤◌, true, false, not, ◌&&◌, ◌||◌, nat_le, Option, List, [], ◌∷◌, ◌++◌, length, slice_index};
 ghost use Rattle.cc_entry.specs.declared.call.Call.{Call};
 ghost use Rattle.cc_entry.specs.declared.reply.Reply.{Reply};
 ghost use Rattle.cc_entry.specs.declared.reply.Outcome.TheVariants as outcome;
@@ -96,6 +96,19 @@ pub fn zeroings_clear_their_bytes()
     ensures others { (pages : ℕ → List ℕ) (pass : ℕ) (call : Call) (reply : Reply) (h : List Effect)
         (from to i : ℕ) → act_of call ≡ Zeroes from to → i < valid_of h →
         has_byte (record { from = from; to = to }) i ≡ false →
+        byte_of pages (Did pass call reply ∷ h) i ≡ byte_of pages h i }
+{}
+
+/// After a noncached store each byte of its page below the size reads as it was given, and each other
+/// byte below the valid data length as before.
+pub fn stores_change_their_bytes()
+    ensures given { (pages : ℕ → List ℕ) (pass : ℕ) (call : Call) (reply : Reply) (h : List Effect)
+        (page : ℕ) (bytes : List ℕ) (i : ℕ) → act_of call ≡ Stores page bytes →
+        has_byte (stored_range page (size_of h)) i ≡ true →
+        byte_of pages (Did pass call reply ∷ h) i ≡ slice_index bytes (i - 4096 * page) }
+    ensures others { (pages : ℕ → List ℕ) (pass : ℕ) (call : Call) (reply : Reply) (h : List Effect)
+        (page : ℕ) (bytes : List ℕ) (i : ℕ) → act_of call ≡ Stores page bytes → i < valid_of h →
+        has_byte (stored_range page (size_of h)) i ≡ false →
         byte_of pages (Did pass call reply ∷ h) i ≡ byte_of pages h i }
 {}
 
