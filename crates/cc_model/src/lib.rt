@@ -1,6 +1,7 @@
 //! What a journal means.
 #![tactic(auto)]
 
+pub mod durability;
 pub mod laws;
 pub mod soundness;
 
