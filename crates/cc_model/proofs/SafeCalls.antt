@@ -54,24 +54,24 @@ pub unrefused : (u : Setup) (past : List Entry) (h : List Effect) (call : Call) 
 unfolding refusal AreNone
 unrefused u past h call is =
     let none =
-        are-none
-        (not_cached h (cached_file call (file_of call))
-        ∷ too_long call
-        ∷ view_boundary call
-        ∷ bad_sizes h call
-        ∷ bad_granularity call
-        ∷ no_log u call
-        ∷ beyond_size (size_of h) call
-        ∷ beyond_valid (valid_of h) call
-        ∷ held h call
-        ∷ busy (holds_of h) call
-        ∷ no_views h (viewed h call (range_of (size_of h) call))
-        ∷ no_vacbs past h call
-        ∷ not_resident h call
-        ∷ [])
-        is
-        in
-    record { cached = none.0; sizes = none.1.1.1.0; size = none.1.1.1.1.1.1.0; held = none.1.1.1.1.1.1.1.1.0; }
+    are-none
+    (not_cached h (cached_file call (file_of call))
+    ∷ too_long call
+    ∷ view_boundary call
+    ∷ bad_sizes h call
+    ∷ bad_granularity call
+    ∷ no_log u call
+    ∷ beyond_size (size_of h) call
+    ∷ beyond_valid (valid_of h) call
+    ∷ held h call
+    ∷ busy (holds_of h) call
+    ∷ no_views h (viewed h call (range_of (size_of h) call))
+    ∷ no_vacbs past h call
+    ∷ not_resident h call
+    ∷ [])
+    is
+    in
+    record { cached = none.0; sizes = none.1.1.1.0; size = none.1.1.1.1.1.1.0; held = none.1.1.1.1.1.1.1.1.0 }
 
 refuse-none : (b : Bool) (e : CcError) → refuse_if b e ≡ None → b ≡ false
 refuse-none true e is = absurd (cc)

@@ -143,7 +143,7 @@ sized-done pass call reply h safe before = go (act_of call) refl
 
 sized-first : IsSized []
 unfolding sizes holds_of
-sized-first = record { valid_within = omega arith; size_in_range = omega arith; held_within = refl; }
+sized-first = record { valid_within = omega arith; size_in_range = omega arith; held_within = refl }
 
 pub sized : (h : List Effect) → IsSafe h → IsSized h
 unfolding IsSafe
