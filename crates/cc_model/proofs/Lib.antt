@@ -49,3 +49,4 @@ pub mod CoveredBytes
 pub mod KeptBytes
 pub mod OpenTransfers
 pub mod CleanPages
+pub mod WholeFacts

@@ -11,6 +11,7 @@ ghost use Rattle.cc_model.specs.Touches.{size_of, valid_of, is_dirty};
 ghost use Rattle.cc_model.specs.Settings.{quota_of};
 ghost use Rattle.cc_model.specs.Residency.{is_resident, mapped_blocks};
 ghost use Rattle.cc_model.specs.Good.{IsGoodSoFar};
+ghost use Rattle.cc_model.specs.Facts.{IsSound};
 
 /// The valid data length of a stream lies within its size, and the size is below 2^63.
 pub fn sizes_are_in_order()
@@ -42,4 +43,9 @@ pub fn dirty_pages_are_resident()
 pub fn blocks_are_within_quota()
     ensures { (u : Setup) (past : List Entry) (s : ℕ) → IsGoodSoFar u past →
         mapped_blocks (history past s) ≤ quota_of (history past s) }
+{}
+
+/// All of this holds of each stream, and what is clean is on the disk.
+pub fn streams_are_sound()
+    ensures { (u : Setup) (past : List Entry) (s : ℕ) → IsGoodSoFar u past → IsSound (history past s) }
 {}
