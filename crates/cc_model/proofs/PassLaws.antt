@@ -28,7 +28,7 @@ pub SamePass-others : (later past : List Entry) (me : ℕ) → mine_of me later 
 SamePass-others later past me none = record {
   same_entries = kept_by_others (mine_of me) me (mine_of-other me) later past none;
   same_calls = kept_by_others (λ past. calls_of past me) me (λ e past other. calls_of-not_mine e past me other) later past none;
-  same_since = kept_by_others (λ past. up_to_call past me) me (λ e past other. up_to_call-not_mine e past me other) later past none;
+  same_up_to = kept_by_others (λ past. up_to_call past me) me (λ e past other. up_to_call-not_mine e past me other) later past none;
   same_faults = kept_by_others (λ past. faults_since past me) me (λ e past other. faults_since-not_mine e past me other) later past none;
   same_written = λ page. kept_by_others (λ past. is_written_since past me page) me (λ e past other. is_written_since-not_mine e past me page other) later past none;
 }

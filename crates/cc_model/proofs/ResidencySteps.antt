@@ -1,5 +1,5 @@
 -- How the resident pages of a stream, and the order of use of its view blocks, step.
-use Rattle.std.specs.Prelude.{◌≡◌, ℕ, Bool, true, false, cond, List, [], ◌∷◌, refl}
+use Rattle.std.specs.Prelude.{◌≡◌, ℕ, Bool, true, false, cond, List, [], ◌∷◌, ◌++◌, refl}
 use Rattle.std.specs.declared.option.Option.{Option}
 use Rattle.std.specs.declared.option.Option.TheVariants.{Some}
 use Rattle.std.proofs.Common.{ap, sym, ◌∙◌}
@@ -9,7 +9,7 @@ use Rattle.cc_entry.specs.declared.place.FileSizes.{FileSizes}
 use Rattle.cc_entry.specs.declared.call.Call.{Call}
 use Rattle.cc_entry.specs.declared.reply.Reply.{Reply}
 use Rattle.cc_entry.specs.declared.entry.End.{End}
-use Rattle.cc_model.specs.Places.{without}
+use Rattle.cc_model.specs.Places.{without, block_of}
 use Rattle.cc_model.specs.History.{Effect, Did, CameIn, WentOut, Began, Ended, Synced}
 use Rattle.cc_model.specs.Acts.{act_of, Opens, Closes, Resizes, Writes, Zeroes, Stores, Stamps, Looks}
 use Rattle.cc_model.specs.Objects.{objects, truncation}
@@ -105,3 +105,16 @@ order_of_use-ended pass page how h mapped = order_of_use-kept (Ended pass page h
 
 pub order_of_use-synced : (pass : ℕ) (how : End) (h : List Effect) → order_of_use (Synced pass how ∷ h) ≡ order_of_use h
 order_of_use-synced pass how h = order_of_use-kept (Synced pass how) h refl (residents-synced pass how h)
+
+pub order_of_use-done : (pass : ℕ) (call : Call) (reply : Reply) (h : List Effect) → order_of_use (Did pass call reply ∷ h) ≡ filter (block_is_mapped (Did pass call reply ∷ h)) (used (used_by (Did pass call reply) h) (order_of_use h))
+order_of_use-done pass call reply h = order_of_use-effect (Did pass call reply) h
+
+pub order_of_use-came_in : (pass page : ℕ) (from_disk : Bool) (h : List Effect) → order_of_use (CameIn pass page from_disk ∷ h) ≡ filter (block_is_mapped (CameIn pass page from_disk ∷ h)) (without (block_of page) (order_of_use h) ++ block_of page ∷ [])
+order_of_use-came_in pass page from_disk h = order_of_use-effect (CameIn pass page from_disk) h
+
+pub order_of_use-went_out : (pass page : ℕ) (h : List Effect) → order_of_use (WentOut pass page ∷ h) ≡ filter (block_is_mapped (WentOut pass page ∷ h)) (order_of_use h)
+order_of_use-went_out pass page h = order_of_use-effect (WentOut pass page) h
+
+-- a call that uses no block and moves no page leaves it
+pub order_of_use-unused : (pass : ℕ) (call : Call) (reply : Reply) (h : List Effect) → used_by (Did pass call reply) h ≡ [] → residents (Did pass call reply ∷ h) ≡ residents h → order_of_use (Did pass call reply ∷ h) ≡ order_of_use h
+order_of_use-unused pass call reply h unused kept = order_of_use-kept (Did pass call reply) h unused kept

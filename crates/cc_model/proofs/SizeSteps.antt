@@ -1,6 +1,7 @@
 -- How the sizes of a stream step.
 use Rattle.std.specs.Prelude.{◌≡◌, ℕ, ◌+◌, Bool, true, false, List, ◌∷◌, length, refl}
 use Rattle.std.specs.declared.option.Option.{Option}
+use Rattle.std.specs.declared.option.Option.TheVariants.{Some, None}
 use Rattle.cc_entry.specs.Place.{File}
 use Rattle.cc_entry.specs.declared.place.FileSizes.{FileSizes}
 use Rattle.cc_entry.specs.declared.call.Call.{Call}
@@ -23,6 +24,14 @@ sizes-opens_anew pass call reply h is p0 = rw (is, p0, sizes) refl
 pub sizes-closes : {file : File} {truncate : Option ℕ} (pass : ℕ) (call : Call) (reply : Reply) (h : List Effect) → act_of call ≡ Closes file truncate → sizes (Did pass call reply ∷ h) ≡ resized_by (truncation (objects h) (size_of h) file truncate) (sizes h)
 unfolding sizes
 sizes-closes pass call reply h is = rw (is, sizes) refl
+
+pub sizes-closes_kept : {file : File} {truncate : Option ℕ} (pass : ℕ) (call : Call) (reply : Reply) (h : List Effect) → act_of call ≡ Closes file truncate → truncation (objects h) (size_of h) file truncate ≡ None → sizes (Did pass call reply ∷ h) ≡ sizes h
+unfolding sizes
+sizes-closes_kept pass call reply h is none = rw (is, none, sizes) refl
+
+pub sizes-closes_cut : {file : File} {truncate : Option ℕ} {to : ℕ} (pass : ℕ) (call : Call) (reply : Reply) (h : List Effect) → act_of call ≡ Closes file truncate → truncation (objects h) (size_of h) file truncate ≡ Some to → sizes (Did pass call reply ∷ h) ≡ resized to (sizes h)
+unfolding sizes
+sizes-closes_cut pass call reply h is cut = rw (is, cut, sizes) refl
 
 pub sizes-resizes : {allocation size : ℕ} (pass : ℕ) (call : Call) (reply : Reply) (h : List Effect) → act_of call ≡ Resizes allocation size → sizes (Did pass call reply ∷ h) ≡ resized size (sizes h)
 unfolding sizes

@@ -58,6 +58,6 @@ pub record SameLog (log : ℕ) (new old : List Entry) : Type 0 where
 pub record SamePass (me : ℕ) (new old : List Entry) : Type 0 where
   pub same_entries : mine_of me new ≡ mine_of me old
   pub same_calls : calls_of new me ≡ calls_of old me
-  pub same_since : up_to_call new me ≡ up_to_call old me
+  pub same_up_to : up_to_call new me ≡ up_to_call old me
   pub same_faults : faults_since new me ≡ faults_since old me
   pub same_written : (page : Page) → is_written_since new me page ≡ is_written_since old me page

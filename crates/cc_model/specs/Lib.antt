@@ -35,5 +35,5 @@ pub mod Allowed
 pub mod Good
 pub mod Room
 pub mod Turns
-pub mod Facts
 pub mod Laws
+pub mod Facts

@@ -1,6 +1,6 @@
 //! Laws of what a journal means. Each function does nothing: its contract is the law.
 
-ghost use Rattle.std.specs.Prelude.{◌≡◌, ℕ, ◌+◌, ◌<◌, ◌≤◌, true, false, Option, List, [], ◌∷◌, ◌++◌, length, slice_index};
+ghost use Rattle.std.specs.Prelude.{◌≡◌, ℕ, ◌+◌, ◌-◌, ◌*◌, ◌<◌, ◌≤◌, true, false, not, ◌&&◌, ◌||◌, nat_le, Option, List, [], ◌∷◌, ◌++◌, length, slice_index};
 ghost use Rattle.cc_entry.specs.declared.call.Call.{Call};
 ghost use Rattle.cc_entry.specs.declared.reply.Reply.{Reply};
 ghost use Rattle.cc_entry.specs.declared.reply.Outcome.TheVariants as outcome;
@@ -8,11 +8,12 @@ ghost use Rattle.cc_entry.specs.declared.error.CcError.{CcError};
 ghost use Rattle.cc_entry.specs.declared.entry.Entry.{Entry};
 ghost use Rattle.cc_entry.specs.declared.entry.Entry.TheVariants as entry;
 ghost use Rattle.cc_entry.specs.declared.entry.End.{End};
-ghost use Rattle.cc_model.specs.Places.{has_byte};
+ghost use Rattle.cc_model.specs.Places.{has_byte, has_page};
 ghost use Rattle.cc_model.specs.History.{Effect, Did, Began, Ended, Synced, history};
-ghost use Rattle.cc_model.specs.Acts.{act_of, Writes, Zeroes, Looks};
-ghost use Rattle.cc_model.specs.Sizes.{is_good};
-ghost use Rattle.cc_model.specs.Touches.{valid_of, unwritten};
+ghost use Rattle.cc_model.specs.Acts.{act_of, Resizes, Writes, Zeroes, Stores, Stamps, Looks};
+ghost use Rattle.cc_model.specs.Holds.{holds_of, hold_at};
+ghost use Rattle.cc_model.specs.Sizes.{hold_has, stored_range, is_good};
+ghost use Rattle.cc_model.specs.Touches.{size_of, valid_of, unwritten, is_dirty};
 ghost use Rattle.cc_model.specs.Bytes.{byte_of, page_bytes};
 ghost use Rattle.cc_model.specs.Images.{image};
 ghost use Rattle.cc_model.specs.Passes.{mine_of};
@@ -98,12 +99,53 @@ pub fn zeroings_clear_their_bytes()
         byte_of pages (Did pass call reply ∷ h) i ≡ byte_of pages h i }
 {}
 
+/// After a noncached store each byte of its page below the size reads as it was given, and each other
+/// byte below the valid data length as before.
+pub fn stores_change_their_bytes()
+    ensures given { (pages : ℕ → List ℕ) (pass : ℕ) (call : Call) (reply : Reply) (h : List Effect)
+        (page : ℕ) (bytes : List ℕ) (i : ℕ) → act_of call ≡ Stores page bytes →
+        has_byte (stored_range page (size_of h)) i ≡ true →
+        byte_of pages (Did pass call reply ∷ h) i ≡ slice_index bytes (i - 4096 * page) }
+    ensures others { (pages : ℕ → List ℕ) (pass : ℕ) (call : Call) (reply : Reply) (h : List Effect)
+        (page : ℕ) (bytes : List ℕ) (i : ℕ) → act_of call ≡ Stores page bytes → i < valid_of h →
+        has_byte (stored_range page (size_of h)) i ≡ false →
+        byte_of pages (Did pass call reply ∷ h) i ≡ byte_of pages h i }
+{}
+
 /// A call that looks changes no byte and leaves no page more or less dirty.
 pub fn looks_change_no_byte()
     ensures bytes { (pages : ℕ → List ℕ) (pass : ℕ) (call : Call) (reply : Reply) (h : List Effect) (i : ℕ) →
         act_of call ≡ Looks → byte_of pages (Did pass call reply ∷ h) i ≡ byte_of pages h i }
     ensures dirty { (pass : ℕ) (call : Call) (reply : Reply) (h : List Effect) (p : ℕ) →
         act_of call ≡ Looks → unwritten (Did pass call reply ∷ h) p ≡ unwritten h p }
+{}
+
+/// After a change the pages of its range are dirty, after a set-dirty those of its hold, and every
+/// other page is as it was.
+pub fn changes_dirty_their_pages()
+    ensures writes { (pass : ℕ) (call : Call) (reply : Reply) (h : List Effect) (at : ℕ) (bytes : List ℕ) (p : ℕ) →
+        act_of call ≡ Writes at bytes → is_dirty (Did pass call reply ∷ h) p
+        ≡ (has_page (record { from = at; to = at + length bytes }) p || is_dirty h p) }
+    ensures zeroings { (pass : ℕ) (call : Call) (reply : Reply) (h : List Effect) (from to p : ℕ) →
+        act_of call ≡ Zeroes from to → is_dirty (Did pass call reply ∷ h) p
+        ≡ (has_page (record { from = from; to = to }) p || is_dirty h p) }
+    ensures stores { (pass : ℕ) (call : Call) (reply : Reply) (h : List Effect) (page : ℕ) (bytes : List ℕ) (p : ℕ) →
+        act_of call ≡ Stores page bytes → is_dirty (Did pass call reply ∷ h) p
+        ≡ (has_page (stored_range page (size_of h)) p || is_dirty h p) }
+    ensures set_dirty { (pass : ℕ) (call : Call) (reply : Reply) (h : List Effect) (hold : ℕ) (lsn : Option ℕ) (p : ℕ) →
+        act_of call ≡ Stamps hold lsn → is_dirty (Did pass call reply ∷ h) p
+        ≡ (hold_has (hold_at (holds_of h) hold) p || is_dirty h p) }
+{}
+
+/// After the size is set no page past it is dirty, each other page is as it was, and from the size on
+/// every byte reads as zero.
+pub fn size_steps_cut_pages()
+    ensures dirty { (pass : ℕ) (call : Call) (reply : Reply) (h : List Effect) (allocation size p : ℕ) →
+        act_of call ≡ Resizes allocation size → is_dirty (Did pass call reply ∷ h) p
+        ≡ (not (nat_le size (4096 * p)) && is_dirty h p) }
+    ensures zeros { (pages : ℕ → List ℕ) (pass : ℕ) (call : Call) (reply : Reply) (h : List Effect)
+        (allocation size i : ℕ) → act_of call ≡ Resizes allocation size → size ≤ i →
+        byte_of pages (Did pass call reply ∷ h) i ≡ 0 }
 {}
 
 /// A transfer that ends well with nothing between leaves its page clean and on the disk as it began;

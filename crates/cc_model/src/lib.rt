@@ -4,6 +4,7 @@
 pub mod durability;
 pub mod laws;
 pub mod limits;
+pub mod soundness;
 
 ghost use Rattle.std.specs.Prelude.{◌≡◌};
 
