@@ -7,15 +7,19 @@ use Rattle.std.specs.List.{sum_by, range_with_len}
 use Rattle.std.specs.Set.{is_member}
 use Rattle.cc_entry.specs.declared.entry.Entry.{Entry}
 use Rattle.cc_model.specs.Places.{is_among, ascending}
+use Rattle.cc_model.specs.Setup.{Setup}
 use Rattle.cc_model.specs.History.{Effect, history}
 use Rattle.cc_model.specs.Touches.{touched, is_dirty, dirty_pages, is_mapped}
 use Rattle.cc_model.specs.Settings.{quota_of}
 use Rattle.cc_model.specs.Residency.{residents, is_resident, mapped_blocks}
 use Rattle.cc_model.specs.Cache.{views_of, views_taken, dirty_count, dirty_total}
+use Rattle.cc_model.specs.Good.{IsGoodSoFar}
+use Rattle.cc_model.specs.Facts.{IsWithinLimits}
 use Rattle.cc_model.proofs.ResidencySteps.{residents-unmapped}
 use Rattle.cc_model.proofs.BlockLists.{is_among-filter, IsDistinct-filter}
 use Rattle.cc_model.proofs.BlockPages.{IsDistinct-ascending, is_member-among, length-within_blocks}
-use Rattle.cc_model.proofs.ViewsTaken.{views_of-mapped}
+use Rattle.cc_model.proofs.SoundFacts.{dirty_resident-good, within_quota-good}
+use Rattle.cc_model.proofs.ViewsTaken.{views_of-mapped, views_taken-good}
 
 pub dirty_pages-dirty : (h : List Effect) (q : ℕ) → is_among q (dirty_pages h) ≡ true → is_dirty h q ≡ true
 dirty_pages-dirty h q is = (and_parts (is_among q (ascending (touched h))) (is_dirty h q) (sym (is_among-filter (is_dirty h) q (ascending (touched h))) ∙ is)).1
@@ -55,3 +59,9 @@ pub dirty_total-within : (past : List Entry) → views_taken past ≤ 256 → ((
 dirty_total-within past views resident within =
     let scaled : dirty_total past ≤ 64 * views_taken past = dirty_total-views past (λ s. dirty_count-views (history past s) (resident s) (within s)) in
     omega arith
+
+pub IsWithinLimits-good : (u : Setup) (past : List Entry) → IsGoodSoFar u past → IsWithinLimits past
+IsWithinLimits-good u past good = record {
+  views = views_taken-good u past good;
+  dirty = dirty_total-within past (views_taken-good u past good) (λ s. dirty_resident-good u past s good) (λ s. within_quota-good u past s good);
+}

@@ -57,7 +57,7 @@ quota_of-mapped (Synced pass how) h mapped = quota_of-synced pass how h
 pub views_of-mapped : (h : List Effect) → is_mapped h ≡ true → views_of h ≡ quota_of h
 views_of-mapped h mapped = rw mapped refl
 
-pub views_of-gone : (h : List Effect) → is_mapped h ≡ false → views_of h ≡ 0
+views_of-gone : (h : List Effect) → is_mapped h ≡ false → views_of h ≡ 0
 views_of-gone h gone = rw gone refl
 
 views_of-within : (h : List Effect) → views_of h ≤ quota_of h
