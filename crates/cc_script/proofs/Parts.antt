@@ -1,0 +1,35 @@
+-- The first part of a list, and lines and words that follow it.
+use Rattle.std.proofs.Common.{◌≡◌, ℕ, zero, suc, ◌+◌, ◌<◌, ◌≤◌, ◌==◌, Bool, true, false, cond, Option, Some, None, List, [], ◌∷◌, length, take, drop, nat_lt, refl, ap, sym, ◌∙◌, arith, rules}
+use Rattle.std.specs.List.{slice_split, onto_first, position, position_or_len}
+use Rattle.std.proofs.lemmas.List.Splits.{slice_split_first}
+use Rattle.std.proofs.lemmas.Bool.Decides.{nat_tests}
+
+-- where an element passes, the first part ends there
+pub split_found : {X : Type 0} (p : X → Bool) → (xs : List X) (d : X) (i : ℕ) → position p xs ≡ Some i → slice_split p xs ≡ take i xs ∷ slice_split p (drop (i + 1) xs)
+split_found p xs d i h = found (nat_lt (position_or_len p xs) (length xs)) refl h
+  where
+    found : (t : Bool) → nat_lt (position_or_len p xs) (length xs) ≡ t → cond t (Some (position_or_len p xs)) None ≡ Some i → slice_split p xs ≡ take i xs ∷ slice_split p (drop (i + 1) xs)
+    found true e f =
+        let within : position_or_len p xs < length xs = grind (arith, nat_tests) in
+        let same : position_or_len p xs ≡ i = cc in
+        rw (← same) (slice_split_first p xs d within)
+    found false e f = absurd (cc)
+
+-- where none does, the list is the one part
+pub split_past : {X : Type 0} (p : X → Bool) → (xs : List X) → length xs ≤ position_or_len p xs → slice_split p xs ≡ xs ∷ []
+split_past p [] l = refl
+split_past p (x ∷ xs) l = either (p x) refl (split_past p xs)
+  where
+    either : (t : Bool) → p x ≡ t → (length xs ≤ position_or_len p xs → slice_split p xs ≡ xs ∷ []) → slice_split p (x ∷ xs) ≡ (x ∷ xs) ∷ []
+    either true e more =
+        let z : position_or_len p (x ∷ xs) ≡ 0 = simp e in absurd (omega (arith, z))
+    either false e more =
+        let z : position_or_len p (x ∷ xs) ≡ 1 + position_or_len p xs = simp e in
+        simp (e, more (omega (arith, z)))
+
+pub split_none : {X : Type 0} (p : X → Bool) → (xs : List X) → position p xs ≡ None → slice_split p xs ≡ xs ∷ []
+split_none {X} p xs h = alone (nat_lt (position_or_len p xs) (length xs)) refl h
+  where
+    alone : (t : Bool) → nat_lt (position_or_len p xs) (length xs) ≡ t → cond t (Some (position_or_len p xs)) None ≡ None → slice_split p xs ≡ xs ∷ []
+    alone true e f = absurd (cc)
+    alone false e f = split_past p xs (grind (arith, nat_tests))

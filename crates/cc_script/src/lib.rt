@@ -1,0 +1,6 @@
+//! The script: what the program is asked to do, read from the bytes of a file.
+#![tactic(auto)]
+
+mod fault;
+mod part;
+mod word;
