@@ -56,13 +56,18 @@ pair_of a b = do
 unfoldable pub with_bytes : List ℕ → ℕ → ℕ → Option (List ℕ)
 with_bytes before byte count = if nat_le (length before + count) 2097152 then Some (before ++ replicate count byte) else None
 
+-- a pair of digits, one byte
+unfoldable pub pair_onto : List ℕ → ℕ → ℕ → Option (List ℕ)
+pair_onto before a b = do
+  byte ← pair_of a b
+  with_bytes before byte 1
+
 -- pairs of digits, one byte each
 unfoldable pub pairs_onto : List ℕ → List ℕ → Option (List ℕ)
 pairs_onto before [] = Some before
 pairs_onto before (a ∷ []) = None
 pairs_onto before (a ∷ b ∷ more) = do
-  byte ← pair_of a b
-  bytes ← with_bytes before byte 1
+  bytes ← pair_onto before a b
   pairs_onto bytes more
 
 -- a pair, `x` and how many bytes there are of that value

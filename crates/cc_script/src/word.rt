@@ -1,6 +1,6 @@
 //! The forms of a word.
 
-ghost use Rattle.std.specs.Prelude.{◌≡◌};
+ghost use Rattle.std.specs.Prelude.{◌≡◌, ◌≤◌, IfSome};
 ghost use Rattle.cc_script.specs.Words.{number_of, number_onto, number_between, is_name, is_name_byte, caller_of};
 ghost use Rattle.std.specs.List.{list_all};
 
@@ -34,7 +34,8 @@ fn digits(word: &[u8]) -> Option<u64>
 /// A number from `low` to `high`.
 #[tactic(auto, unfolding(crate::specs::Words::number_between))]
 pub(crate) fn number_between(low: u64, high: u64, word: &[u8]) -> Option<u64>
-    ensures { result ≡ number_between low high word.now }
+    ensures value { result ≡ number_between low high word.now }
+    ensures in_range { IfSome result (λ n. (low ≤ n) × (n ≤ high)) }
 {
     let n = number(word)?;
     if low <= n && n <= high { Some(n) } else { None }
