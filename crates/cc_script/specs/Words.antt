@@ -31,7 +31,7 @@ is_name_byte c = is_lower_case c || is_ascii_digit c
 -- a name: a lower-case letter, then up to 15 lower-case letters or digits
 unfoldable pub is_name : List ℕ → Bool
 is_name [] = false
-is_name (c ∷ more) = is_lower_case c && (nat_le (length more) 15 && list_all is_name_byte more)
+is_name (c ∷ more) = is_lower_case c && (nat_le (length more) 15 && list_all is_name_byte (c ∷ more))
 
 unfoldable pub name_of : List ℕ → Option (List ℕ)
 name_of word = if is_name word then Some word else None

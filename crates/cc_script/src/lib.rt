@@ -3,5 +3,12 @@
 
 mod byte_word;
 mod fault;
+mod name;
 mod part;
+mod script;
 mod word;
+
+pub use name::Name;
+pub use script::{
+    Action, ActionLine, ActionLines, Mode, Offer, Script, ScriptFault, StreamLine, StreamLines,
+};

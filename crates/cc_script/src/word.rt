@@ -1,6 +1,7 @@
 //! The forms of a word.
 
-ghost use Rattle.std.specs.Prelude.{◌≡◌, ◌≤◌, IfSome};
+ghost use Rattle.std.specs.Prelude.{◌≡◌, ◌≤◌, true, IfSome};
+ghost use Rattle.std.specs.Bool.{OnTrue};
 ghost use Rattle.cc_script.specs.Words.{number_of, number_onto, number_between, is_name, is_name_byte, caller_of};
 ghost use Rattle.std.specs.List.{list_all};
 
@@ -44,18 +45,25 @@ pub(crate) fn number_between(low: u64, high: u64, word: &[u8]) -> Option<u64>
 /// Whether a word is a name: a lower-case letter, then up to 15 lower-case letters or digits.
 #[tactic(auto, unfolding(crate::specs::Words::is_name))]
 pub(crate) fn is_name(word: &[u8]) -> bool
-    ensures { result ≡ is_name word.now }
+    ensures value { result ≡ is_name word.now }
+    ensures bytes { OnTrue result (list_all is_name_byte word.now ≡ true) }
 {
     let Some((first, rest)) = first_byte(word) else {
         return false;
     };
-    first.is_ascii_lowercase() && rest.len() <= 15 && are_name_bytes(rest)
+    first.is_ascii_lowercase() && rest.len() <= 15 && are_name_bytes(word)
 }
 
 fn are_name_bytes(bytes: &[u8]) -> bool
     ensures { result ≡ list_all is_name_byte bytes.now }
 {
-    bytes.iter().all(|c| c.is_ascii_lowercase() || c.is_ascii_digit())
+    bytes.iter().all(|c| is_name_byte(*c))
+}
+
+pub(crate) fn is_name_byte(c: u8) -> bool
+    ensures { result ≡ is_name_byte c }
+{
+    c.is_ascii_lowercase() || c.is_ascii_digit()
 }
 
 /// The caller that a word `t1` to `t16` names.
