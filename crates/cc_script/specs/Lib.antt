@@ -1,3 +1,5 @@
 pub mod Outcome
 pub mod Text
 pub mod Words
+pub mod Verbs
+pub mod Actions

@@ -1,11 +1,14 @@
 //! The script: what the program is asked to do, read from the bytes of a file.
 #![tactic(auto)]
 
+mod action;
 mod byte_word;
 mod fault;
 mod name;
 mod part;
 mod script;
+mod slot;
+mod verb;
 mod word;
 
 pub use name::Name;

@@ -65,6 +65,7 @@ fn first_word(bytes: &[u8]) -> (&[u8], &[u8])
 }
 
 /// The words of a line that were not taken yet.
+#[derive(Drop)]
 pub(crate) struct Words<'a> {
     rest: &'a [u8],
 }
@@ -98,5 +99,12 @@ impl<'a> Words<'a> {
             }
         }
         None
+    }
+
+    pub(crate) fn is_empty(&self) -> bool
+        ensures { result ≡ (length self.now == 0) }
+    {
+        let mut rest = Words { rest: self.rest };
+        rest.next().is_none()
     }
 }

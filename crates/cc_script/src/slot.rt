@@ -1,0 +1,60 @@
+//! The words behind a verb, taken one after another in the form that the verb asks.
+
+ghost use Rattle.std.specs.Prelude.{◌≡◌, ◌==◌, length};
+ghost use Rattle.cc_script.specs.Outcome.{Takes, TakesIf};
+ghost use Rattle.cc_script.specs.Words.{number_of, number_between, name_of, bytes_of};
+ghost use Rattle.cc_script.specs.Actions.{next, file_of, span_of};
+
+use crate::byte_word;
+use crate::fault::LineFault;
+use crate::name::Name;
+use crate::part::Words;
+use crate::script::StreamLines;
+use crate::word;
+use cc_entry::{Bytes, FileId, Span};
+use std::alloc::Global;
+
+impl Words<'_> {
+    pub(crate) fn number(&mut self) -> Option<u64>
+        ensures { Takes (next number_of self.old) result self.new }
+    {
+        word::number(self.next()?)
+    }
+
+    pub(crate) fn number_between(&mut self, low: u64, high: u64) -> Option<u64>
+        ensures { Takes (next (number_between low high) self.old) result self.new }
+    {
+        word::number_between(low, high, self.next()?)
+    }
+
+    #[tactic(auto, unfolding(crate::specs::Actions::span_of))]
+    pub(crate) fn span(&mut self) -> Option<Span>
+        ensures { Takes (span_of self.old) result self.new }
+    {
+        let from = self.number()?;
+        let to = self.number()?;
+        Span::new(from, to)
+    }
+
+    #[tactic(auto, unfolding(crate::specs::Actions::file_of))]
+    pub(crate) fn file(&mut self, streams: &StreamLines) -> Option<FileId>
+        ensures { Takes (next (file_of streams.now) self.old) result self.new }
+    {
+        let stream = streams.find(self.next()?)?;
+        FileId::new(stream.number(), 0)
+    }
+
+    pub(crate) fn name(&mut self, alloc: Global) -> Result<Name, LineFault>
+        ensures { TakesIf (next name_of self.old) result self.new }
+    {
+        let word = self.next().ok_or(LineFault::Syntax)?;
+        Name::of(alloc, word)
+    }
+
+    pub(crate) fn bytes(&mut self, alloc: Global) -> Result<Bytes, LineFault>
+        ensures { TakesIf (next bytes_of self.old) result self.new }
+    {
+        let word = self.next().ok_or(LineFault::Syntax)?;
+        byte_word::bytes(alloc, word)
+    }
+}
