@@ -3,3 +3,5 @@ pub mod Text
 pub mod Words
 pub mod Verbs
 pub mod Actions
+pub mod Grammar
+pub mod Answers

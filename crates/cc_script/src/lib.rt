@@ -6,12 +6,15 @@ mod byte_word;
 mod fault;
 mod name;
 mod part;
+mod read;
+mod reading;
 mod script;
 mod slot;
 mod verb;
 mod word;
 
 pub use name::Name;
+pub use read::{OFFERED, read_offered, read_script};
 pub use script::{
     Action, ActionLine, ActionLines, Mode, Offer, Script, ScriptFault, StreamLine, StreamLines,
 };

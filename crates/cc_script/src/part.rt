@@ -101,6 +101,17 @@ impl<'a> Words<'a> {
         None
     }
 
+    /// The first word, and the words behind it.
+    pub(crate) fn split_first(&self) -> Option<(&'a [u8], Words<'a>)>
+        ensures { MatchOption result (self.now ≡ []) (λ found. self.now ≡ found.0.now ∷ found.1) }
+    {
+        let mut behind = Words { rest: self.rest };
+        match behind.next() {
+            Some(word) => Some((word, behind)),
+            None => None,
+        }
+    }
+
     pub(crate) fn is_empty(&self) -> bool
         ensures { result ≡ (length self.now == 0) }
     {

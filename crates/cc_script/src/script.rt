@@ -70,6 +70,19 @@ impl StreamLines {
         &self.items
     }
 
+    pub fn len(&self) -> usize
+        ensures count { result ≡ length self.now }
+        ensures most { result ≤ 16 }
+    {
+        self.items.len()
+    }
+
+    pub fn is_empty(&self) -> bool
+        ensures { result ≡ (length self.now == 0) }
+    {
+        self.items.is_empty()
+    }
+
     /// The first stream of a name.
     pub fn find(&self, name: &[u8]) -> Option<StreamId>
         ensures { result ≡ position (λ s. bytes_eq s.name name.now) self.now }

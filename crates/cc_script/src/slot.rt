@@ -1,15 +1,17 @@
 //! The words behind a verb, taken one after another in the form that the verb asks.
 
-ghost use Rattle.std.specs.Prelude.{◌≡◌, ◌==◌, length};
+ghost use Rattle.std.specs.Prelude.{◌≡◌, ◌≤◌, IfSome};
 ghost use Rattle.cc_script.specs.Outcome.{Takes, TakesIf};
 ghost use Rattle.cc_script.specs.Words.{number_of, number_between, name_of, bytes_of};
+ghost use Rattle.cc_script.specs.Verbs.{verb_in};
 ghost use Rattle.cc_script.specs.Actions.{next, file_of, span_of};
 
 use crate::byte_word;
 use crate::fault::LineFault;
 use crate::name::Name;
 use crate::part::Words;
-use crate::script::StreamLines;
+use crate::script::{Mode, Offer, StreamLines};
+use crate::verb::Verb;
 use crate::word;
 use cc_entry::{Bytes, FileId, Span};
 use std::alloc::Global;
@@ -22,9 +24,16 @@ impl Words<'_> {
     }
 
     pub(crate) fn number_between(&mut self, low: u64, high: u64) -> Option<u64>
-        ensures { Takes (next (number_between low high) self.old) result self.new }
+        ensures value { Takes (next (number_between low high) self.old) result self.new }
+        ensures in_range { IfSome result (λ n. (low ≤ n) × (n ≤ high)) }
     {
         word::number_between(low, high, self.next()?)
+    }
+
+    pub(crate) fn verb(&mut self, offer: Offer, mode: Mode) -> Option<Verb>
+        ensures { Takes (next (verb_in offer mode) self.old) result self.new }
+    {
+        Verb::offered(offer, mode, self.next()?)
     }
 
     #[tactic(auto, unfolding(crate::specs::Actions::span_of))]

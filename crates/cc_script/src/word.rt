@@ -68,9 +68,13 @@ pub(crate) fn is_name_byte(c: u8) -> bool
 
 /// The caller that a word `t1` to `t16` names.
 #[tactic(auto, unfolding(crate::specs::Words::caller_of))]
-pub(crate) fn caller(word: &[u8]) -> Option<u64>
+pub(crate) fn caller(word: &[u8]) -> Option<u32>
     ensures { result ≡ caller_of word.now }
 {
     let (first, number) = first_byte(word)?;
-    if first == b't' { number_between(1, 16, number) } else { None }
+    if first != b't' {
+        return None;
+    }
+    let caller = number_between(1, 16, number)?;
+    Some(caller as u32)
 }
