@@ -5,3 +5,4 @@ pub mod Verbs
 pub mod Actions
 pub mod Grammar
 pub mod Answers
+pub mod Laws

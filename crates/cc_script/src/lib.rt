@@ -4,6 +4,7 @@
 mod action;
 mod byte_word;
 mod fault;
+mod laws;
 mod name;
 mod part;
 mod read;
@@ -13,6 +14,7 @@ mod slot;
 mod verb;
 mod word;
 
+pub use laws::{lines_join, numbers_are_decimal, verbs_differ};
 pub use name::Name;
 pub use read::{OFFERED, read_offered, read_script};
 pub use script::{
