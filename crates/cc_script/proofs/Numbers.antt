@@ -64,6 +64,7 @@ decimal-number_of (d ∷ ds) n h = either (d == 48) (nat_lt 0 (length ds)) refl 
         let small : read_on 0 (d ∷ ds) < 2 ^ 64 = omega (arith, r.value, r.small) in
         let text : decimal (read_on 0 (d ∷ ds)) ≡ d ∷ ds = decimal-digits_value own (d ∷ ds) r.digits (omega arith) lead small in
         (r.small, sym text ∙ ap decimal r.value)
+
     either : (s t : Bool) → (d == 48) ≡ s → nat_lt 0 (length ds) ≡ t → (if s && t then None else number_onto 0 (d ∷ ds)) ≡ Some n → (n < 2 ^ 64) × (d ∷ ds ≡ decimal n)
     either true true e f g = absurd (cc)
     either true false e f g = plain (λ _. let z : length ds ≡ 0 = grind (arith, nat_tests) in omega (arith, z)) g
@@ -91,7 +92,7 @@ number_of-decimal (suc k) h =
     let lead = glyph_leads (digits_of 10 (suc k)) first in
     let value : read_on 0 (decimal (suc k)) ≡ suc k = digits_value-decimal own (suc k) h in
     let read : number_of (decimal (suc k)) ≡ Some (read_on 0 (decimal (suc k))) =
-        number_of-digits (decimal (suc k)) (rw text lead.0) (λ z. absurd (lead.1 (ap (λ (t : List ℕ). get_or t 0 0) (sym text) ∙ z))) (digits_decimal own (suc k) h) (omega (arith, value)) in
+    number_of-digits (decimal (suc k)) (rw text lead.0) (λ z. absurd (lead.1 (ap (λ (t : List ℕ). get_or t 0 0) (sym text) ∙ z))) (digits_decimal own (suc k) h) (omega (arith, value)) in
     read ∙ ap Some value
   where
     glyph_leads : (xs : List ℕ) → 0 < get_or xs 0 0 → (0 < length (map (λ d. 48 + d) xs)) × (get_or (map (λ d. 48 + d) xs) 0 0 ≡ 48 → ⊥)

@@ -21,7 +21,7 @@ abbrev pub nothing_read : Reading
 nothing_read = record {
   script = record { journal = 1048576; threshold = 1024; ticks = 0; aheads = 0; phases = 1; streams = []; lines = [] };
   total = 0;
-  has_journal = false
+  has_journal = false;
 }
 
 -- a stream may follow: before the first action, while there are fewer than are offered, by a new name

@@ -55,7 +55,11 @@ fn zero(streams: &StreamLines, words: &mut Words) -> Option<Action>
 {
     let file = words.file(streams)?;
     let span = words.span()?;
-    if words.is_empty() { Some(Action::Zero { file, span }) } else { None }
+    if words.is_empty() {
+        Some(Action::Zero { file, span })
+    } else {
+        None
+    }
 }
 
 #[tactic(auto, unfolding(crate::specs::Actions::set_sizes_of))]
@@ -81,7 +85,11 @@ fn state(streams: &StreamLines, words: &mut Words) -> Option<Action>
     ensures { result ≡ state_of streams.now words.old }
 {
     let file = words.file(streams)?;
-    if words.is_empty() { Some(Action::State { file }) } else { None }
+    if words.is_empty() {
+        Some(Action::State { file })
+    } else {
+        None
+    }
 }
 
 #[tactic(auto, unfolding(crate::specs::Actions::flush_span_of))]
@@ -92,7 +100,11 @@ fn flush_span(words: &mut Words) -> Option<Option<Span>>
         return Some(None);
     }
     let span = words.span()?;
-    if words.is_empty() { Some(Some(span)) } else { None }
+    if words.is_empty() {
+        Some(Some(span))
+    } else {
+        None
+    }
 }
 
 #[tactic(auto, unfolding(crate::specs::Actions::flush_of))]
@@ -107,7 +119,11 @@ fn flush(streams: &StreamLines, words: &mut Words) -> Option<Action>
 fn is_dirty_data(words: &mut Words) -> Option<Action>
     ensures { result ≡ ended words.old action.IsDirtyData }
 {
-    if words.is_empty() { Some(Action::IsDirtyData) } else { None }
+    if words.is_empty() {
+        Some(Action::IsDirtyData)
+    } else {
+        None
+    }
 }
 
 /// The action of a verb, `Syntax` where it has none of these words.

@@ -60,7 +60,8 @@ fn text_of(alloc: Global, word: &[u8]) -> Result<String, LineFault>
         if !is_name_byte(byte) {
             return Err(LineFault::Syntax);
         }
-        text.push(char::from(byte)).map_err(|_| LineFault::NoMemory)?;
+        text.push(char::from(byte))
+            .map_err(|_| LineFault::NoMemory)?;
     }
     Ok(text)
 }

@@ -152,14 +152,22 @@ impl Reading {
 fn caller_in(offer: Offer, word: &[u8]) -> Option<u32>
     ensures { result ≡ caller_in offer word.now }
 {
-    if offer.has_callers() { word::caller(word) } else { None }
+    if offer.has_callers() {
+        word::caller(word)
+    } else {
+        None
+    }
 }
 
 fn without_return(line: &[u8]) -> &[u8]
     ensures { result.now ≡ strip_carriage_return line.now }
 {
     let last = line.len().saturating_sub(1);
-    if !line.is_empty() && line[last] == b'\r' { &line[..last] } else { line }
+    if !line.is_empty() && line[last] == b'\r' {
+        &line[..last]
+    } else {
+        line
+    }
 }
 
 fn is_printable(text: &[u8]) -> bool

@@ -187,5 +187,9 @@ fn journal(words: &mut Words) -> Option<u32>
     ensures { result ≡ journal_of words.old }
 {
     let capacity = words.number_between(64, MOST_ENTRIES)?;
-    if words.is_empty() { Some(capacity as u32) } else { None }
+    if words.is_empty() {
+        Some(capacity as u32)
+    } else {
+        None
+    }
 }

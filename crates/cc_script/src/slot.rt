@@ -6,13 +6,12 @@ ghost use Rattle.cc_script.specs.Words.{number_of, number_between, name_of, byte
 ghost use Rattle.cc_script.specs.Verbs.{verb_in};
 ghost use Rattle.cc_script.specs.Actions.{next, file_of, span_of};
 
-use crate::byte_word;
 use crate::fault::LineFault;
 use crate::name::Name;
 use crate::part::Words;
 use crate::script::{Mode, Offer, StreamLines};
 use crate::verb::Verb;
-use crate::word;
+use crate::{byte_word, word};
 use cc_entry::{Bytes, FileId, Span};
 use std::alloc::Global;
 

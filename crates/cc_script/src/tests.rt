@@ -41,7 +41,10 @@ const WHOLE: [(&str, u32); 60] = [
     ("stream A 1 1", 1),
     ("stream a 1 1\nstream b 1 1\nstream a 1 1", 3),
     ("stream a 1 1\nstate a\nstream b 1 1", 3),
-    ("journal 64\nstream a 1 1\nphase\nphase\nstream b 1 1\nstate b", 0),
+    (
+        "journal 64\nstream a 1 1\nphase\nphase\nstream b 1 1\nstate b",
+        0,
+    ),
     ("journal 63", 1),
     ("journal 1048577", 1),
     ("journal 64\njournal 64", 2),
@@ -61,7 +64,10 @@ const WHOLE: [(&str, u32); 60] = [
     ("stream a 1 1\ncread a 0 2097152", 0),
     ("stream a 1 1\ncread a 0 2097153", 2),
     ("stream a 1 1\ncread a 0 1 nowait", 2),
-    ("stream a 1 1\ncwrite a 0 AB\ncwrite a 0 ABx3\ncwrite a 0 ABCD,00x2\ncwrite a 0 -", 0),
+    (
+        "stream a 1 1\ncwrite a 0 AB\ncwrite a 0 ABx3\ncwrite a 0 ABCD,00x2\ncwrite a 0 -",
+        0,
+    ),
     ("stream a 1 1\ncwrite a 0 ABx2097152", 0),
     ("stream a 1 1\ncwrite a 0 ABx2097153", 2),
     ("stream a 1 1\ncwrite a 0 ABx2097152,00", 2),
@@ -71,7 +77,10 @@ const WHOLE: [(&str, u32); 60] = [
     ("stream a 1 1\ncwrite a 0 AB,", 2),
     ("stream a 1 1\ncwrite a 0 ABCDx2", 2),
     ("stream a 1 1\nzero a 5 5\nzero a 6 5", 3),
-    ("stream a 1 1\nsizes a 18446744073709551615 4194304\nsizes a 0 4194305", 3),
+    (
+        "stream a 1 1\nsizes a 18446744073709551615 4194304\nsizes a 0 4194305",
+        3,
+    ),
     ("stream a 1 1\nflush a\nflush a 0 1\nflush a 1", 4),
     ("stream a 1 1\nisdirty\nisdirty a", 3),
     ("stream a 1 1\nmap a 0 1 h\nmap", 2),
@@ -92,25 +101,45 @@ const COPIES: [(&str, u32); 8] = [
 #[test]
 fn accepts_and_refuses_whole(rt: HostRuntime) {
     for (text, line) in WHOLE {
-        assert_eq!(rt; wrong_line(rt.alloc(), text.as_bytes(), Mode::Run, Offer::Whole), Some(line), "{text}");
+        assert_eq!(rt;
+            wrong_line(rt.alloc(), text.as_bytes(), Mode::Run, Offer::Whole),
+            Some(line),
+            "{text}"
+        );
     }
 }
 
 #[test]
 fn accepts_and_refuses_copies(rt: HostRuntime) {
     for (text, line) in COPIES {
-        assert_eq!(rt; wrong_line(rt.alloc(), text.as_bytes(), Mode::Run, Offer::Copies), Some(line), "{text}");
-        assert_eq!(rt; wrong_line(rt.alloc(), text.as_bytes(), Mode::Steps, Offer::Copies), Some(line), "{text}");
+        assert_eq!(rt;
+            wrong_line(rt.alloc(), text.as_bytes(), Mode::Run, Offer::Copies),
+            Some(line),
+            "{text}"
+        );
+        assert_eq!(rt;
+            wrong_line(rt.alloc(), text.as_bytes(), Mode::Steps, Offer::Copies),
+            Some(line),
+            "{text}"
+        );
     }
     let phase = b"stream a 1 1\nphase";
-    assert_eq!(rt; wrong_line(rt.alloc(), phase, Mode::Steps, Offer::Whole), Some(2));
-    assert_eq!(rt; wrong_line(rt.alloc(), b"\x80", Mode::Run, Offer::Whole), Some(1));
+    assert_eq!(rt;
+        wrong_line(rt.alloc(), phase, Mode::Steps, Offer::Whole),
+        Some(2)
+    );
+    assert_eq!(rt;
+        wrong_line(rt.alloc(), b"\x80", Mode::Run, Offer::Whole),
+        Some(1)
+    );
 }
 
 #[test]
 fn keeps_values(rt: HostRuntime) -> Result<(), Fail> {
     let text = b"# r\n\njournal 64\nstream a 9 7\nt3 cwrite a 5 AB,00x2\nphase\nflush a 1 4\n";
-    let script = read_offered(rt.alloc(), text, Mode::Run, Offer::Whole).ok().ok_or("read")?;
+    let script = read_offered(rt.alloc(), text, Mode::Run, Offer::Whole)
+        .ok()
+        .ok_or("read")?;
     assert_eq!(rt; script.journal, 64);
     assert_eq!(rt; script.threshold, 1024);
     assert_eq!(rt; script.phases, 2);
@@ -143,17 +172,29 @@ fn keeps_values(rt: HostRuntime) -> Result<(), Fail> {
 #[test]
 fn counts_lines_and_bytes(rt: HostRuntime) -> Result<(), Fail> {
     let most = vec![in rt.alloc(); b'\n'; 65536]?;
-    assert_eq!(rt; wrong_line(rt.alloc(), &most, Mode::Run, Offer::Copies), Some(0));
+    assert_eq!(rt;
+        wrong_line(rt.alloc(), &most, Mode::Run, Offer::Copies),
+        Some(0)
+    );
     let more = vec![in rt.alloc(); b'\n'; 65537]?;
-    assert_eq!(rt; wrong_line(rt.alloc(), &more, Mode::Run, Offer::Copies), Some(65537));
+    assert_eq!(rt;
+        wrong_line(rt.alloc(), &more, Mode::Run, Offer::Copies),
+        Some(65537)
+    );
     let mut text = String::from_str(rt.alloc(), "stream a 1 1\n")?;
     for _ in 0..16 {
         text.push_str("cwrite a 0 00x2097152\n")?;
     }
     text.push_str("cread a 0 0\n")?;
-    assert_eq!(rt; wrong_line(rt.alloc(), text.as_bytes(), Mode::Run, Offer::Copies), Some(0));
+    assert_eq!(rt;
+        wrong_line(rt.alloc(), text.as_bytes(), Mode::Run, Offer::Copies),
+        Some(0)
+    );
     text.push_str("cread a 0 1\n")?;
-    assert_eq!(rt; wrong_line(rt.alloc(), text.as_bytes(), Mode::Run, Offer::Copies), Some(19));
+    assert_eq!(rt;
+        wrong_line(rt.alloc(), text.as_bytes(), Mode::Run, Offer::Copies),
+        Some(19)
+    );
     Ok(())
 }
 
@@ -168,6 +209,9 @@ fn reads_a_long_script(rt: HostRuntime) -> Result<(), Fail> {
         }
         text.push_str("\n")?;
     }
-    assert_eq!(rt; wrong_line(rt.alloc(), text.as_bytes(), Mode::Run, Offer::Copies), Some(0));
+    assert_eq!(rt;
+        wrong_line(rt.alloc(), text.as_bytes(), Mode::Run, Offer::Copies),
+        Some(0)
+    );
     Ok(())
 }

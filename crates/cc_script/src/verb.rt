@@ -83,7 +83,11 @@ impl Verb {
         ensures { result ≡ verb_in offer mode word.now }
     {
         let verb = Verb::of(word)?;
-        if verb.is_offered(offer) && verb.is_in_mode(mode) { Some(verb) } else { None }
+        if verb.is_offered(offer) && verb.is_in_mode(mode) {
+            Some(verb)
+        } else {
+            None
+        }
     }
 }
 
