@@ -1,6 +1,6 @@
 -- The bytes of a word's items.
-use Rattle.std.proofs.Common.{◌≡◌, ℕ, zero, suc, ◌+◌, ◌-◌, ◌*◌, ◌/◌, ◌%◌, ◌^◌, ◌<◌, ◌≤◌, ◌==◌, Bool, true, false, not, ◌&&◌, cond, Option, Some, None, List, [], ◌∷◌, ◌++◌, length, replicate, map, nat_lt, nat_le, if◌then◌else◌, codes, refl, ap, sym, subst, ◌∙◌, append_assoc, lit<, lit≤, arith, length-append}
-use Rattle.std.specs.List.{slice_split, onto_first, join_with_byte, list_all, flat_map}
+use Rattle.std.proofs.Common.{◌≡◌, ℕ, ◌+◌, ◌-◌, ◌*◌, ◌/◌, ◌%◌, ◌<◌, ◌≤◌, ◌==◌, Bool, true, false, not, ◌&&◌, Some, List, [], ◌∷◌, ◌++◌, length, replicate, map, nat_lt, nat_le, codes, refl, ap, sym, ◌∙◌, append_assoc, arith, length-append}
+use Rattle.std.specs.List.{join_with_byte, list_all, flat_map}
 use Rattle.std.specs.Char.{is_ascii_digit}
 use Rattle.std.specs.Str.{all_ascii_digits, bytes_eq}
 use Rattle.std.specs.Fmt.{decimal, digit_glyph}

@@ -1,9 +1,9 @@
 -- The first part of a list, and lines and words that follow it.
-use Rattle.std.proofs.Common.{◌≡◌, ℕ, zero, suc, ◌+◌, ◌<◌, ◌≤◌, if◌then◌else◌, ◌==◌, Bool, true, false, cond, Option, Some, None, List, [], ◌∷◌, length, take, drop, nat_lt, refl, ap, sym, ◌∙◌, arith, rules}
-use Rattle.std.specs.List.{slice_split, onto_first, position, position_or_len}
+use Rattle.std.proofs.Common.{◌≡◌, ℕ, ◌+◌, ◌<◌, ◌≤◌, if◌then◌else◌, ◌==◌, Bool, true, false, cond, Some, None, List, [], ◌∷◌, length, take, drop, nat_lt, refl, arith}
+use Rattle.std.specs.List.{slice_split, position, position_or_len}
 use Rattle.std.proofs.lemmas.List.Splits.{slice_split_first}
 use Rattle.std.proofs.lemmas.Bool.Decides.{nat_tests}
-use Rattle.cc_script.specs.Text.{parts, without_empty_end, lines, words}
+use Rattle.cc_script.specs.Text.{parts, lines, words}
 
 -- where an element passes, the first part ends there
 pub split_found : {X : Type 0} (p : X → Bool) → (xs : List X) (d : X) (i : ℕ) → position p xs ≡ Some i → slice_split p xs ≡ take i xs ∷ slice_split p (drop (i + 1) xs)

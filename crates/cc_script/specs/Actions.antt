@@ -1,5 +1,5 @@
 -- The actions by cases on their verb: the words behind it, in their order.
-use Rattle.std.specs.Prelude.{ℕ, Bool, true, false, ◌==◌, Option, Some, None, option_map, List, [], ◌∷◌, length, nat_le, if◌then◌else◌}
+use Rattle.std.specs.Prelude.{ℕ, true, ◌==◌, Option, Some, None, option_map, List, [], ◌∷◌, length, nat_le, if◌then◌else◌}
 use Rattle.std.specs.List.{position}
 use Rattle.std.specs.Str.{bytes_eq}
 use Rattle.cc_entry.specs.Place.{File, Range}
@@ -9,7 +9,7 @@ use Rattle.cc_script.specs.declared.script.Action.TheVariants as action
 use Rattle.cc_script.specs.declared.verb.Verb.{Verb}
 use Rattle.cc_script.specs.declared.verb.Verb.TheVariants as verb
 use Rattle.cc_script.specs.Outcome.{◌>>=◌}
-use Rattle.cc_script.specs.Words.{number_of, number_between, name_of, bytes_of}
+use Rattle.cc_script.specs.Words.{number_of, number_between, bytes_of}
 
 -- the next word in a form, and the words behind it
 abbrev pub next : {A : Type 0} → (List ℕ → Option A) → List (List ℕ) → Option (A × List (List ℕ))

@@ -1,5 +1,5 @@
 -- How a reader of the grammar answers: what a definition gives, or a fault where it gives nothing.
-use Rattle.std.specs.Prelude.{◌≡◌, Option, Some, None, Result, Ok, Err, List, option_and_then}
+use Rattle.std.specs.Prelude.{◌≡◌, Option, Some, None, Result, Ok, Err, option_and_then}
 use Rattle.cc_script.specs.declared.fault.LineFault.{LineFault}
 use Rattle.cc_script.specs.declared.fault.LineFault.TheVariants as fault
 

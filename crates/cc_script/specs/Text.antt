@@ -1,5 +1,5 @@
 -- The bytes of a script as lines, and a line as words.
-use Rattle.std.specs.Prelude.{ℕ, ◌==◌, Bool, List, [], ◌∷◌, length, filter, nat_lt, if◌then◌else◌}
+use Rattle.std.specs.Prelude.{ℕ, ◌==◌, List, [], ◌∷◌, length, filter, nat_lt, if◌then◌else◌}
 use Rattle.std.specs.List.{slice_split}
 
 -- the parts of a list of bytes between the bytes `separator`

@@ -1,6 +1,6 @@
 //! The actions, each read from the words behind its verb.
 
-ghost use Rattle.std.specs.Prelude.{◌≡◌, length};
+ghost use Rattle.std.specs.Prelude.{◌≡◌};
 ghost use Rattle.cc_script.specs.Outcome.{Gives};
 ghost use Rattle.cc_script.specs.Actions.{copy_read_of, copy_write_of, zero_of, set_sizes_of, state_of, flush_span_of, flush_of, ended, action_of, bytes_moved};
 ghost use Rattle.cc_script.specs.declared.script.Action.TheVariants as action;

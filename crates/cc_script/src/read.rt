@@ -1,12 +1,10 @@
 //! The reader of scripts: lines, words, and the script that they spell.
 
-ghost use Rattle.std.specs.Prelude.{◌≡◌, ◌==◌, length};
+ghost use Rattle.std.specs.Prelude.{◌≡◌};
 ghost use Rattle.std.specs.List.{list_all};
 ghost use Rattle.std.specs.Str.Lines.{strip_carriage_return};
 ghost use Rattle.cc_script.specs.Outcome.{Becomes};
 ghost use Rattle.cc_script.specs.Answers.{Reads};
-ghost use Rattle.cc_script.specs.Actions.{next};
-ghost use Rattle.cc_script.specs.Verbs.{verb_in};
 ghost use Rattle.cc_script.specs.Grammar.{is_printable, caller_in, called_line, plain_line, words_line, text_line, line_of, script_of};
 
 use crate::fault::LineFault;

@@ -1,6 +1,6 @@
 //! What a script says.
 
-ghost use Rattle.std.specs.Prelude.{◌≡◌, ◌∷◌, ◌++◌, ◌<◌, ◌≤◌, ◌==◌, [], length, OnOk, OnErr};
+ghost use Rattle.std.specs.Prelude.{◌≡◌, ◌∷◌, ◌++◌, ◌<◌, ◌≤◌, ◌==◌, [], length, vec_len, OnOk, OnErr};
 ghost use Rattle.std.specs.List.{position};
 ghost use Rattle.std.specs.Str.{bytes_eq};
 
@@ -61,6 +61,20 @@ impl StreamLines {
         StreamLines {
             items: Vec::new(alloc),
         }
+    }
+
+    pub fn from_vec(items: Vec<StreamLine>) -> StreamLines
+        requires { vec_len items ≤ 16 }
+        ensures { result ≡ items.items }
+    {
+        StreamLines { items }
+    }
+
+    pub fn into_vec(self) -> Vec<StreamLine>
+        ensures { result.items ≡ self }
+    {
+        let StreamLines { items } = self;
+        items
     }
 
     pub fn as_slice(&self) -> &[StreamLine]
@@ -172,6 +186,12 @@ impl ActionLines {
         ActionLines {
             items: Vec::new(alloc),
         }
+    }
+
+    pub fn from_vec(items: Vec<ActionLine>) -> ActionLines
+        ensures { result ≡ items.items }
+    {
+        ActionLines { items }
     }
 
     pub fn as_slice(&self) -> &[ActionLine]

@@ -1,6 +1,6 @@
 //! The words behind a verb, taken one after another in the form that the verb asks.
 
-ghost use Rattle.std.specs.Prelude.{◌≡◌, ◌≤◌, IfSome};
+ghost use Rattle.std.specs.Prelude.{◌≤◌, IfSome};
 ghost use Rattle.cc_script.specs.Outcome.{Takes, TakesIf};
 ghost use Rattle.cc_script.specs.Words.{number_of, number_between, name_of, bytes_of};
 ghost use Rattle.cc_script.specs.Verbs.{verb_in};

@@ -1,5 +1,5 @@
-use Rattle.std.proofs.Common.{rules, ◌≡◌, ◌∷◌, ◌++◌, Some, ◌∙◌}
-use Rattle.cc_script.specs.Words.{pair_onto, pairs_onto}
+use Rattle.std.proofs.Common.{rules, ◌≡◌, ◌∷◌, Some, ◌∙◌}
+use Rattle.cc_script.specs.Words.{pair_onto}
 use Rattle.cc_script.proofs.ByteWords.{pairs_step}
 use Rattle.cc_script.proofs.byte_word.append_pairs.Goals as goal
 

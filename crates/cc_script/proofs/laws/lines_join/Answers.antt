@@ -1,4 +1,3 @@
-use Rattle.std.proofs.Common.{rules}
 use Rattle.cc_script.proofs.Joined.{lines_join, lines_whole}
 use Rattle.cc_script.proofs.laws.lines_join.Goals as goal
 

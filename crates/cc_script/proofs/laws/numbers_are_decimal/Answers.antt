@@ -1,5 +1,3 @@
-use Rattle.std.proofs.Common.{◌≡◌, Some, rules}
-use Rattle.cc_script.specs.Words.{number_of}
 use Rattle.cc_script.proofs.Numbers.{decimal-number_of, number_of-decimal}
 use Rattle.cc_script.proofs.laws.numbers_are_decimal.Goals as goal
 

@@ -1,4 +1,3 @@
-use Rattle.std.proofs.Common.{rules}
 use Rattle.cc_script.proofs.VerbTexts.{verbs_differ, verbs_found, verbs_no_callers}
 use Rattle.cc_script.proofs.laws.verbs_differ.Goals as goal
 
