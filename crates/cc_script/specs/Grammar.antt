@@ -1,0 +1,141 @@
+-- The script that bytes spell: line after line, or the first line that is not in the grammar.
+use Rattle.std.specs.Prelude.{ℕ, ◌+◌, ◌==◌, Bool, true, false, ◌&&◌, not, Option, Some, None, Result, Ok, Err, is_some, List, [], ◌∷◌, ◌++◌, length, nat_lt, nat_le, slice_index, if◌then◌else◌}
+use Rattle.std.specs.List.{list_all}
+use Rattle.std.specs.Str.Lines.{strip_carriage_return}
+use Rattle.cc_script.specs.declared.script.Mode.{Mode}
+use Rattle.cc_script.specs.declared.script.Offer.{Offer}
+use Rattle.cc_script.specs.declared.script.Script.{Script}
+use Rattle.cc_script.specs.declared.script.StreamLine.{StreamLine}
+use Rattle.cc_script.specs.declared.script.Action.{Action}
+use Rattle.cc_script.specs.declared.verb.Verb.{Verb}
+use Rattle.cc_script.specs.declared.verb.Verb.TheVariants as verb
+use Rattle.cc_script.specs.declared.reading.Reading.{Reading}
+use Rattle.cc_script.specs.Outcome.{◌>>=◌}
+use Rattle.cc_script.specs.Text.{lines, words}
+use Rattle.cc_script.specs.Words.{number_of, number_between, name_of, caller_of}
+use Rattle.cc_script.specs.Verbs.{verb_in, has_callers, most_streams, is_valid_offered}
+use Rattle.cc_script.specs.Actions.{next, ended, stream_named, action_of, bytes_moved}
+
+-- before the first line
+abbrev pub nothing_read : Reading
+nothing_read = record {
+  script = record { journal = 1048576; threshold = 1024; ticks = 0; aheads = 0; phases = 1; streams = []; lines = [] };
+  total = 0;
+  has_journal = false;
+}
+
+-- a stream may follow: before the first action, while there are fewer than are offered, by a new name
+unfoldable pub may_add : Offer → StreamLine → Reading → Bool
+may_add offer stream r =
+    (length r.script.lines == 0) && (nat_lt (length r.script.streams) (most_streams offer)
+    && (is_valid_offered offer stream.size stream.valid && not (is_some (stream_named r.script.streams stream.name))))
+
+unfoldable pub with_stream : Offer → StreamLine → Reading → Option Reading
+with_stream offer stream r =
+    if may_add offer stream r then Some (record r { script = record r.script { streams = r.script.streams ++ stream ∷ [] } }) else None
+
+-- stream NAME SIZE VALID
+unfoldable pub stream_of : ℕ → List (List ℕ) → Option StreamLine
+stream_of n ws = do
+  name ← next name_of ws
+  size ← next (number_between 0 4194304) name.1
+  valid ← next number_of size.1
+  ended valid.1 (record { line = n; name = name.0; size = size.0; valid = valid.0; quota = 16; temporary = false; log = None })
+
+-- journal N: at most once, before the first action
+unfoldable pub journal_of : List (List ℕ) → Option ℕ
+journal_of ws = do
+  capacity ← next (number_between 64 1048576) ws
+  ended capacity.1 capacity.0
+
+unfoldable pub with_journal : ℕ → Reading → Option Reading
+with_journal capacity r =
+    if (length r.script.lines == 0) && not r.has_journal then Some (record r { script = record r.script { journal = capacity }; has_journal = true }) else None
+
+-- phase: at most 1000 times
+unfoldable pub with_phase : List (List ℕ) → Reading → Option Reading
+with_phase ws r =
+    if (length ws == 0) && nat_le r.script.phases 1000 then Some (record r { script = record r.script { phases = r.script.phases + 1 } }) else None
+
+-- an action: all together read and write at most 33554432 bytes
+unfoldable pub with_action : ℕ → ℕ → Action → Reading → Option Reading
+with_action n caller action r =
+    if nat_le (r.total + bytes_moved action) 33554432
+    then Some (record r { script = record r.script { lines = r.script.lines ++ record { line = n; phase = r.script.phases; caller = caller; action = action } ∷ [] }; total = r.total + bytes_moved action })
+    else None
+
+unfoldable pub action_line : ℕ → ℕ → Verb → List (List ℕ) → Reading → Option Reading
+action_line n caller v ws r = do
+  action ← action_of r.script.streams v ws
+  with_action n caller action r
+
+-- a line of a verb, without a caller word
+unfoldable pub verb_line : Offer → ℕ → Verb → List (List ℕ) → Reading → Option Reading
+verb_line offer n verb.Stream ws r = do
+  stream ← stream_of n ws
+  with_stream offer stream r
+verb_line offer n verb.Journal ws r = do
+  capacity ← journal_of ws
+  with_journal capacity r
+verb_line offer n verb.Phase ws r = with_phase ws r
+verb_line offer n verb.CopyRead ws r = action_line n 1 verb.CopyRead ws r
+verb_line offer n verb.CopyWrite ws r = action_line n 1 verb.CopyWrite ws r
+verb_line offer n verb.Zero ws r = action_line n 1 verb.Zero ws r
+verb_line offer n verb.SetSizes ws r = action_line n 1 verb.SetSizes ws r
+verb_line offer n verb.State ws r = action_line n 1 verb.State ws r
+verb_line offer n verb.Flush ws r = action_line n 1 verb.Flush ws r
+verb_line offer n verb.IsDirtyData ws r = action_line n 1 verb.IsDirtyData ws r
+
+-- the caller that a word names, where callers are offered
+unfoldable pub caller_in : Offer → List ℕ → Option ℕ
+caller_in offer word = if has_callers offer then caller_of word else None
+
+-- an action behind a caller word
+unfoldable pub called_line : Offer → Mode → ℕ → ℕ → List (List ℕ) → Reading → Option Reading
+called_line offer mode n caller ws r = do
+  v ← next (verb_in offer mode) ws
+  action_line n caller v.0 v.1 r
+
+-- a line that doesn't begin with a caller word
+unfoldable pub plain_line : Offer → Mode → ℕ → List (List ℕ) → Reading → Option Reading
+plain_line offer mode n ws r = do
+  v ← next (verb_in offer mode) ws
+  verb_line offer n v.0 v.1 r
+
+-- a line, by the caller that its first word names, if any
+abbrev pub line_by : Offer → Mode → ℕ → Option ℕ → List ℕ → List (List ℕ) → Reading → Option Reading
+line_by offer mode n (Some caller) word more r = called_line offer mode n caller more r
+line_by offer mode n None word more r = plain_line offer mode n (word ∷ more) r
+
+-- a line of these words; one of no words says nothing
+unfoldable pub words_line : Offer → Mode → ℕ → List (List ℕ) → Reading → Option Reading
+words_line offer mode n [] r = Some r
+words_line offer mode n (word ∷ more) r = line_by offer mode n (caller_in offer word) word more r
+
+-- printable ASCII, or a space
+abbrev pub is_printable : ℕ → Bool
+is_printable b = nat_le 32 b && nat_le b 126
+
+-- a line without the carriage return at its end: one that begins with `#` says nothing
+unfoldable pub text_line : Offer → Mode → ℕ → List ℕ → Reading → Option Reading
+text_line offer mode n text r =
+    if list_all is_printable text
+    then (if slice_index text 0 == 35 then Some r else words_line offer mode n (words text) r)
+    else None
+
+unfoldable pub line_of : Offer → Mode → ℕ → List ℕ → Reading → Option Reading
+line_of offer mode n line r = text_line offer mode n (strip_carriage_return line) r
+
+-- line n is wrong where it gives nothing
+abbrev pub or_wrong : ℕ → Option Reading → (Reading → Result Script ℕ) → Result Script ℕ
+or_wrong n None go = Err n
+or_wrong n (Some next) go = go next
+
+-- the lines after the first n; there are at most 65536
+unfoldable pub lines_of : Offer → Mode → ℕ → List (List ℕ) → Reading → Result Script ℕ
+lines_of offer mode n [] r = Ok r.script
+lines_of offer mode n (line ∷ more) r = if nat_lt n 65536 then or_wrong (n + 1) (line_of offer mode (n + 1) line r) (λ next. lines_of offer mode (n + 1) more next) else Err (n + 1)
+
+-- the script of the bytes, or the first line that is not in the grammar
+unfoldable pub script_of : Offer → Mode → List ℕ → Result Script ℕ
+script_of offer mode bytes = lines_of offer mode 0 (lines bytes) nothing_read

@@ -1,0 +1,164 @@
+//! The actions, each read from the words behind its verb.
+
+ghost use Rattle.std.specs.Prelude.{◌≡◌};
+ghost use Rattle.cc_script.specs.Outcome.{Gives};
+ghost use Rattle.cc_script.specs.Actions.{copy_read_of, copy_write_of, zero_of, set_sizes_of, state_of, flush_span_of, flush_of, ended, action_of, bytes_moved};
+ghost use Rattle.cc_script.specs.declared.script.Action.TheVariants as action;
+
+use crate::byte_word::LONGEST;
+use crate::fault::LineFault;
+use crate::part::Words;
+use crate::script::{Action, StreamLines};
+use crate::verb::Verb;
+use cc_entry::Span;
+use std::alloc::Global;
+
+/// The largest size of a stream.
+pub(crate) const LARGEST: u64 = 4194304;
+
+#[tactic(auto, unfolding(crate::specs::Actions::copy_read_of))]
+fn copy_read(streams: &StreamLines, words: &mut Words) -> Option<Action>
+    ensures { result ≡ copy_read_of streams.now words.old }
+{
+    let file = words.file(streams)?;
+    let at = words.number()?;
+    let len = words.number_between(0, LONGEST)?;
+    if words.is_empty() {
+        Some(Action::CopyRead {
+            file,
+            at,
+            len,
+            wait: true,
+        })
+    } else {
+        None
+    }
+}
+
+#[tactic(auto, unfolding(crate::specs::Actions::copy_write_of))]
+fn copy_write(alloc: Global, streams: &StreamLines, words: &mut Words) -> Result<Action, LineFault>
+    ensures { Gives (copy_write_of streams.now words.old) result }
+{
+    let file = words.file(streams).ok_or(LineFault::Syntax)?;
+    let at = words.number().ok_or(LineFault::Syntax)?;
+    let bytes = words.bytes(alloc)?;
+    if words.is_empty() {
+        Ok(Action::CopyWrite { file, at, bytes })
+    } else {
+        Err(LineFault::Syntax)
+    }
+}
+
+#[tactic(auto, unfolding(crate::specs::Actions::zero_of))]
+fn zero(streams: &StreamLines, words: &mut Words) -> Option<Action>
+    ensures { result ≡ zero_of streams.now words.old }
+{
+    let file = words.file(streams)?;
+    let span = words.span()?;
+    if words.is_empty() {
+        Some(Action::Zero { file, span })
+    } else {
+        None
+    }
+}
+
+#[tactic(auto, unfolding(crate::specs::Actions::set_sizes_of))]
+fn set_sizes(streams: &StreamLines, words: &mut Words) -> Option<Action>
+    ensures { result ≡ set_sizes_of streams.now words.old }
+{
+    let file = words.file(streams)?;
+    let allocation = words.number()?;
+    let size = words.number_between(0, LARGEST)?;
+    if words.is_empty() {
+        Some(Action::SetSizes {
+            file,
+            allocation,
+            size,
+        })
+    } else {
+        None
+    }
+}
+
+#[tactic(auto, unfolding(crate::specs::Actions::state_of))]
+fn state(streams: &StreamLines, words: &mut Words) -> Option<Action>
+    ensures { result ≡ state_of streams.now words.old }
+{
+    let file = words.file(streams)?;
+    if words.is_empty() {
+        Some(Action::State { file })
+    } else {
+        None
+    }
+}
+
+#[tactic(auto, unfolding(crate::specs::Actions::flush_span_of))]
+fn flush_span(words: &mut Words) -> Option<Option<Span>>
+    ensures { result ≡ flush_span_of words.old }
+{
+    if words.is_empty() {
+        return Some(None);
+    }
+    let span = words.span()?;
+    if words.is_empty() {
+        Some(Some(span))
+    } else {
+        None
+    }
+}
+
+#[tactic(auto, unfolding(crate::specs::Actions::flush_of))]
+fn flush(streams: &StreamLines, words: &mut Words) -> Option<Action>
+    ensures { result ≡ flush_of streams.now words.old }
+{
+    let file = words.file(streams)?;
+    let span = flush_span(words)?;
+    Some(Action::Flush { file, span })
+}
+
+fn is_dirty_data(words: &mut Words) -> Option<Action>
+    ensures { result ≡ ended words.old action.IsDirtyData }
+{
+    if words.is_empty() {
+        Some(Action::IsDirtyData)
+    } else {
+        None
+    }
+}
+
+/// The action of a verb, `Syntax` where it has none of these words.
+#[tactic(auto, unfolding(crate::specs::Actions::action_of))]
+pub(crate) fn action(
+    alloc: Global,
+    streams: &StreamLines,
+    verb: Verb,
+    words: &mut Words,
+) -> Result<Action, LineFault>
+    ensures { Gives (action_of streams.now verb words.old) result }
+{
+    match verb {
+        Verb::CopyRead => copy_read(streams, words).ok_or(LineFault::Syntax),
+        Verb::CopyWrite => copy_write(alloc, streams, words),
+        Verb::Zero => zero(streams, words).ok_or(LineFault::Syntax),
+        Verb::SetSizes => set_sizes(streams, words).ok_or(LineFault::Syntax),
+        Verb::State => state(streams, words).ok_or(LineFault::Syntax),
+        Verb::Flush => flush(streams, words).ok_or(LineFault::Syntax),
+        Verb::IsDirtyData => is_dirty_data(words).ok_or(LineFault::Syntax),
+        Verb::Stream | Verb::Journal | Verb::Phase => Err(LineFault::Syntax),
+    }
+}
+
+/// How many bytes an action reads or writes.
+pub(crate) fn bytes_moved(action: &Action) -> u64
+    ensures { result ≡ bytes_moved action.now }
+{
+    match action {
+        Action::CopyRead { len, .. } => *len,
+        Action::CopyWrite { bytes, .. } => bytes.len(),
+        Action::Zero { .. }
+        | Action::SetSizes { .. }
+        | Action::State { .. }
+        | Action::Flush { .. }
+        | Action::IsDirtyData => 0,
+    }
+}

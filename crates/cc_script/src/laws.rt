@@ -1,0 +1,27 @@
+//! Laws of the grammar: functions without a body, whose clauses are proved.
+
+ghost use Rattle.cc_script.specs.Laws.{NumbersAreDecimal, VerbsDiffer, VerbsAreFound, VerbsAreNoCallers, LinesJoin, LinesAreWhole, ItemsSpell};
+
+/// A number's word is exactly its decimal text, and stands for a number below 2^64.
+
+pub fn numbers_are_decimal()
+    ensures { NumbersAreDecimal }
+{}
+
+/// The texts of the verbs differ from one another and from caller words, and each is found.
+pub fn verbs_differ()
+    ensures differ { VerbsDiffer }
+    ensures found { VerbsAreFound }
+    ensures callers { VerbsAreNoCallers }
+{}
+
+/// The lines of a script are its bytes between line feeds.
+pub fn lines_join()
+    ensures join { LinesJoin }
+    ensures whole { LinesAreWhole }
+{}
+
+/// The word that spells bytes gives the bytes of its items.
+pub fn items_spell()
+    ensures { ItemsSpell }
+{}

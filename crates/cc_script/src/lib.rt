@@ -1,0 +1,32 @@
+//! The script: what the program is asked to do, read from the bytes of a file.
+//!
+//! The grammar is a definition in specs/: bytes as lines, a line as words, and a table by cases over the
+//! verbs. `read_script` answers exactly the script that the bytes spell, else the number of the first
+//! line that is not in the grammar, or want of memory. Laws of the grammar in words of their own, as
+//! that a number's word is its decimal text, are clauses of functions without a body.
+//!
+//! It stands on cc_entry, for the values of the words; the program's runs stand on it.
+#![tactic(auto)]
+
+mod action;
+mod byte_word;
+mod fault;
+mod laws;
+mod name;
+mod part;
+mod read;
+mod reading;
+mod script;
+mod slot;
+mod verb;
+mod word;
+
+pub use laws::{items_spell, lines_join, numbers_are_decimal, verbs_differ};
+pub use name::Name;
+pub use read::{OFFERED, read_offered, read_script};
+pub use script::{
+    Action, ActionLine, ActionLines, Mode, Offer, Script, ScriptFault, StreamLine, StreamLines,
+};
+
+#[cfg(test)]
+mod tests;

@@ -1,0 +1,175 @@
+//! The reader of scripts: lines, words, and the script that they spell.
+
+ghost use Rattle.std.specs.Prelude.{◌≡◌};
+ghost use Rattle.std.specs.List.{list_all};
+ghost use Rattle.std.specs.Str.Lines.{strip_carriage_return};
+ghost use Rattle.cc_script.specs.Outcome.{Becomes};
+ghost use Rattle.cc_script.specs.Answers.{Reads};
+ghost use Rattle.cc_script.specs.Grammar.{is_printable, caller_in, called_line, plain_line, words_line, text_line, line_of, script_of};
+
+use crate::fault::LineFault;
+use crate::part::{Words, first_line};
+use crate::reading::Reading;
+use crate::script::{Mode, Offer, Script, ScriptFault};
+use crate::word;
+use std::alloc::Global;
+
+/// What the program offers.
+pub const OFFERED: Offer = Offer::Copies;
+
+/// The most lines of a script.
+const MOST_LINES: u32 = 65536;
+
+/// The script that bytes spell with the verbs that the program offers, or the first line that is not
+/// in the grammar.
+pub fn read_script(alloc: Global, bytes: &[u8], mode: Mode) -> Result<Script, ScriptFault>
+    ensures { Reads (script_of OFFERED mode bytes.now) result }
+{
+    read_offered(alloc, bytes, mode, OFFERED)
+}
+
+/// The same with the verbs of an offer.
+#[tactic(auto, using(crate::proofs::Parts::lines_none), unfolding(crate::specs::Grammar::script_of, crate::specs::Grammar::lines_of))]
+pub fn read_offered(
+    alloc: Global,
+    bytes: &[u8],
+    mode: Mode,
+    offer: Offer,
+) -> Result<Script, ScriptFault>
+    ensures { Reads (script_of offer mode bytes.now) result }
+{
+    let mut reading = Reading::new(alloc);
+    let mut rest = bytes;
+    let mut line = 0;
+    while !rest.is_empty() {
+        let (text, behind) = first_line(rest);
+        if line >= MOST_LINES {
+            return Err(ScriptFault::Syntax { line: line + 1 });
+        }
+        line += 1;
+        match reading.line(alloc, offer, mode, line, text) {
+            Ok(()) => {}
+            Err(LineFault::Syntax) => return Err(ScriptFault::Syntax { line }),
+            Err(LineFault::NoMemory) => return Err(ScriptFault::NoMemory),
+        }
+        rest = behind;
+    }
+    Ok(reading.script)
+}
+
+impl Reading {
+    // One more line, which may end with a carriage return.
+    #[tactic(auto, unfolding(crate::specs::Grammar::line_of))]
+    fn line(
+        &mut self,
+        alloc: Global,
+        offer: Offer,
+        mode: Mode,
+        number: u32,
+        line: &[u8],
+    ) -> Result<(), LineFault>
+        ensures { Becomes (line_of offer mode number line.now self.old) result self.new }
+    {
+        self.text(alloc, offer, mode, number, without_return(line))
+    }
+
+    #[tactic(auto, unfolding(crate::specs::Grammar::text_line))]
+    fn text(
+        &mut self,
+        alloc: Global,
+        offer: Offer,
+        mode: Mode,
+        number: u32,
+        text: &[u8],
+    ) -> Result<(), LineFault>
+        ensures { Becomes (text_line offer mode number text.now self.old) result self.new }
+    {
+        if !is_printable(text) {
+            return Err(LineFault::Syntax);
+        }
+        if !text.is_empty() && text[0] == b'#' {
+            return Ok(());
+        }
+        self.words(alloc, offer, mode, number, &mut Words::new(text))
+    }
+
+    #[tactic(auto, unfolding(crate::specs::Grammar::words_line))]
+    fn words(
+        &mut self,
+        alloc: Global,
+        offer: Offer,
+        mode: Mode,
+        number: u32,
+        words: &mut Words,
+    ) -> Result<(), LineFault>
+        ensures { Becomes (words_line offer mode number words.old self.old) result self.new }
+    {
+        let Some((word, mut behind)) = words.split_first() else {
+            return Ok(());
+        };
+        match caller_in(offer, word) {
+            Some(caller) => self.called(alloc, offer, mode, number, caller, &mut behind),
+            None => self.plain(alloc, offer, mode, number, words),
+        }
+    }
+
+    // The words behind a caller word.
+    #[tactic(auto, unfolding(crate::specs::Grammar::called_line))]
+    fn called(
+        &mut self,
+        alloc: Global,
+        offer: Offer,
+        mode: Mode,
+        number: u32,
+        caller: u32,
+        words: &mut Words,
+    ) -> Result<(), LineFault>
+        ensures { Becomes (called_line offer mode number caller words.old self.old) result self.new }
+    {
+        let verb = words.verb(offer, mode).ok_or(LineFault::Syntax)?;
+        self.action(alloc, number, caller, verb, words)
+    }
+
+    #[tactic(auto, unfolding(crate::specs::Grammar::plain_line))]
+    fn plain(
+        &mut self,
+        alloc: Global,
+        offer: Offer,
+        mode: Mode,
+        number: u32,
+        words: &mut Words,
+    ) -> Result<(), LineFault>
+        ensures { Becomes (plain_line offer mode number words.old self.old) result self.new }
+    {
+        let verb = words.verb(offer, mode).ok_or(LineFault::Syntax)?;
+        self.verb(alloc, offer, number, verb, words)
+    }
+}
+
+#[tactic(auto, unfolding(crate::specs::Grammar::caller_in))]
+fn caller_in(offer: Offer, word: &[u8]) -> Option<u32>
+    ensures { result ≡ caller_in offer word.now }
+{
+    if offer.has_callers() {
+        word::caller(word)
+    } else {
+        None
+    }
+}
+
+fn without_return(line: &[u8]) -> &[u8]
+    ensures { result.now ≡ strip_carriage_return line.now }
+{
+    let last = line.len().saturating_sub(1);
+    if !line.is_empty() && line[last] == b'\r' {
+        &line[..last]
+    } else {
+        line
+    }
+}
+
+fn is_printable(text: &[u8]) -> bool
+    ensures { result ≡ list_all is_printable text.now }
+{
+    text.iter().all(|b| 32 <= *b && *b <= 126)
+}

@@ -1,0 +1,245 @@
+//! What a script says.
+
+ghost use Rattle.std.specs.Prelude.{◌≡◌, ◌∷◌, ◌++◌, ◌<◌, ◌≤◌, ◌==◌, [], length, vec_len, OnOk, OnErr};
+ghost use Rattle.std.specs.List.{position};
+ghost use Rattle.std.specs.Str.{bytes_eq};
+
+use crate::name::Name;
+use cc_entry::{Bytes, FileId, NoMemory, Quota, Span, StreamId};
+use std::alloc::Global;
+use std::marker::Model;
+
+/// What the lines of a script are: calls of callers, or events in their order.
+#[derive(Clone, Copy, Debug, PartialEq, Eq)]
+pub enum Mode {
+    Run,
+    Steps,
+}
+
+/// The verbs and the header lines that are offered.
+#[derive(Clone, Copy, Debug, PartialEq, Eq)]
+pub enum Offer {
+    /// One stream whose valid data ends within its size, and copies of the one caller.
+    Copies,
+    /// Every line of the table.
+    Whole,
+}
+
+/// A stream of the script, numbered by its place in the list.
+#[derive(Debug, Drop)]
+pub struct StreamLine {
+    pub line: u32,
+    pub name: Name,
+    pub size: u64,
+    pub valid: u64,
+    pub quota: Quota,
+    pub temporary: bool,
+    pub log: Option<u8>,
+}
+
+/// The streams of a script, at most 16.
+#[derive(Debug, Drop)]
+pub struct StreamLines {
+    items: Vec<StreamLine>,
+}
+
+impl Model for StreamLines {
+    ghost use Rattle.std.specs.Prelude.{List, length, ◌≤◌};
+    ghost use Rattle.cc_script.specs.declared.script.StreamLine.{StreamLine};
+
+    ghost Value = { List StreamLine };
+
+    ghost view = { λ l. l.items.items };
+
+    ghost invariant = { λ l. length l.items.items ≤ 16 };
+}
+
+impl StreamLines {
+    pub fn new(alloc: Global) -> StreamLines
+        ensures { result ≡ [] }
+    {
+        StreamLines {
+            items: Vec::new(alloc),
+        }
+    }
+
+    pub fn from_vec(items: Vec<StreamLine>) -> StreamLines
+        requires { vec_len items ≤ 16 }
+        ensures { result ≡ items.items }
+    {
+        StreamLines { items }
+    }
+
+    pub fn into_vec(self) -> Vec<StreamLine>
+        ensures { result.items ≡ self }
+    {
+        let StreamLines { items } = self;
+        items
+    }
+
+    pub fn as_slice(&self) -> &[StreamLine]
+        ensures same { result.now ≡ self.now }
+        ensures most { length self.now ≤ 16 }
+    {
+        &self.items
+    }
+
+    pub fn len(&self) -> usize
+        ensures count { result ≡ length self.now }
+        ensures most { result ≤ 16 }
+    {
+        self.items.len()
+    }
+
+    pub fn is_empty(&self) -> bool
+        ensures { result ≡ (length self.now == 0) }
+    {
+        self.items.is_empty()
+    }
+
+    /// The first stream of a name.
+    pub fn find(&self, name: &[u8]) -> Option<StreamId>
+        ensures { result ≡ position (λ s. bytes_eq s.name name.now) self.now }
+    {
+        let place = place_of(&self.items, name)?;
+        StreamId::new(place as u8)
+    }
+
+    pub(crate) fn push(&mut self, stream: StreamLine) -> Result<(), NoMemory>
+        requires { length self.old < 16 }
+        ensures ok { OnOk result (self.new ≡ self.old ++ stream ∷ []) }
+        ensures err { OnErr result (self.new ≡ self.old) }
+    {
+        self.items.reserve(1).map_err(|_| NoMemory)?;
+        self.items.push_reserved(stream);
+        Ok(())
+    }
+}
+
+fn place_of(streams: &[StreamLine], name: &[u8]) -> Option<usize>
+    ensures { result ≡ position (λ s. bytes_eq s.name name.now) streams.now }
+{
+    streams.iter().position(|s| s.name.as_bytes() == name)
+}
+
+/// What a line asks for, with the values of its words.
+#[derive(Debug, Drop)]
+pub enum Action {
+    CopyRead {
+        file: FileId,
+        at: u64,
+        len: u64,
+        wait: bool,
+    },
+    CopyWrite {
+        file: FileId,
+        at: u64,
+        bytes: Bytes,
+    },
+    Zero {
+        file: FileId,
+        span: Span,
+    },
+    SetSizes {
+        file: FileId,
+        allocation: u64,
+        size: u64,
+    },
+    State {
+        file: FileId,
+    },
+    Flush {
+        file: FileId,
+        span: Option<Span>,
+    },
+    IsDirtyData,
+}
+
+/// An action with its line, its phase and its caller, all counted from 1.
+#[derive(Debug, Drop)]
+pub struct ActionLine {
+    pub line: u32,
+    pub phase: u32,
+    pub caller: u32,
+    pub action: Action,
+}
+
+/// The actions of a script, in the order of their lines.
+#[derive(Debug, Drop)]
+pub struct ActionLines {
+    items: Vec<ActionLine>,
+}
+
+impl Model for ActionLines {
+    ghost use Rattle.std.specs.Prelude.{List};
+    ghost use Rattle.cc_script.specs.declared.script.ActionLine.{ActionLine};
+
+    ghost Value = { List ActionLine };
+
+    ghost view = { λ l. l.items.items };
+}
+
+impl ActionLines {
+    pub fn new(alloc: Global) -> ActionLines
+        ensures { result ≡ [] }
+    {
+        ActionLines {
+            items: Vec::new(alloc),
+        }
+    }
+
+    pub fn from_vec(items: Vec<ActionLine>) -> ActionLines
+        ensures { result ≡ items.items }
+    {
+        ActionLines { items }
+    }
+
+    pub fn as_slice(&self) -> &[ActionLine]
+        ensures { result.now ≡ self.now }
+    {
+        &self.items
+    }
+
+    pub fn is_empty(&self) -> bool
+        ensures { result ≡ (length self.now == 0) }
+    {
+        self.items.is_empty()
+    }
+
+    pub fn into_vec(self) -> Vec<ActionLine>
+        ensures { result.items ≡ self }
+    {
+        let ActionLines { items } = self;
+        items
+    }
+
+    pub(crate) fn push(&mut self, line: ActionLine) -> Result<(), NoMemory>
+        ensures ok { OnOk result (self.new ≡ self.old ++ line ∷ []) }
+        ensures err { OnErr result (self.new ≡ self.old) }
+    {
+        self.items.reserve(1).map_err(|_| NoMemory)?;
+        self.items.push_reserved(line);
+        Ok(())
+    }
+}
+
+/// A script: what its header lines set, its streams and its actions. What a script doesn't set is a
+/// journal of 1048576 entries and a cache threshold of 1024 pages.
+#[derive(Debug, Drop)]
+pub struct Script {
+    pub journal: u32,
+    pub threshold: u32,
+    pub ticks: u32,
+    pub aheads: u32,
+    pub phases: u32,
+    pub streams: StreamLines,
+    pub lines: ActionLines,
+}
+
+/// Why a script is not read.
+#[derive(Clone, Copy, Debug, PartialEq, Eq)]
+pub enum ScriptFault {
+    /// The first line that is not in the grammar, counted from 1.
+    Syntax { line: u32 },
+    NoMemory,
+}

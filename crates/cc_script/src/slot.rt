@@ -1,0 +1,68 @@
+//! The words behind a verb, taken one after another in the form that the verb asks.
+
+ghost use Rattle.std.specs.Prelude.{◌≤◌, IfSome};
+ghost use Rattle.cc_script.specs.Outcome.{Takes, TakesIf};
+ghost use Rattle.cc_script.specs.Words.{number_of, number_between, name_of, bytes_of};
+ghost use Rattle.cc_script.specs.Verbs.{verb_in};
+ghost use Rattle.cc_script.specs.Actions.{next, file_of, span_of};
+
+use crate::fault::LineFault;
+use crate::name::Name;
+use crate::part::Words;
+use crate::script::{Mode, Offer, StreamLines};
+use crate::verb::Verb;
+use crate::{byte_word, word};
+use cc_entry::{Bytes, FileId, Span};
+use std::alloc::Global;
+
+impl Words<'_> {
+    pub(crate) fn number(&mut self) -> Option<u64>
+        ensures { Takes (next number_of self.old) result self.new }
+    {
+        word::number(self.next()?)
+    }
+
+    pub(crate) fn number_between(&mut self, low: u64, high: u64) -> Option<u64>
+        ensures value { Takes (next (number_between low high) self.old) result self.new }
+        ensures in_range { IfSome result (λ n. (low ≤ n) × (n ≤ high)) }
+    {
+        word::number_between(low, high, self.next()?)
+    }
+
+    pub(crate) fn verb(&mut self, offer: Offer, mode: Mode) -> Option<Verb>
+        ensures { Takes (next (verb_in offer mode) self.old) result self.new }
+    {
+        Verb::offered(offer, mode, self.next()?)
+    }
+
+    #[tactic(auto, unfolding(crate::specs::Actions::span_of))]
+    pub(crate) fn span(&mut self) -> Option<Span>
+        ensures { Takes (span_of self.old) result self.new }
+    {
+        let from = self.number()?;
+        let to = self.number()?;
+        Span::new(from, to)
+    }
+
+    #[tactic(auto, unfolding(crate::specs::Actions::file_of))]
+    pub(crate) fn file(&mut self, streams: &StreamLines) -> Option<FileId>
+        ensures { Takes (next (file_of streams.now) self.old) result self.new }
+    {
+        let stream = streams.find(self.next()?)?;
+        FileId::new(stream.number(), 0)
+    }
+
+    pub(crate) fn name(&mut self, alloc: Global) -> Result<Name, LineFault>
+        ensures { TakesIf (next name_of self.old) result self.new }
+    {
+        let word = self.next().ok_or(LineFault::Syntax)?;
+        Name::of(alloc, word)
+    }
+
+    pub(crate) fn bytes(&mut self, alloc: Global) -> Result<Bytes, LineFault>
+        ensures { TakesIf (next bytes_of self.old) result self.new }
+    {
+        let word = self.next().ok_or(LineFault::Syntax)?;
+        byte_word::bytes(alloc, word)
+    }
+}

@@ -1,0 +1,118 @@
+//! The table of the verbs.
+
+ghost use Rattle.std.specs.Prelude.{◌≡◌};
+ghost use Rattle.cc_script.specs.Verbs.{verb_text, is_offered, is_in_mode, verb_of, verb_in, has_callers, most_streams, is_valid_offered};
+
+use crate::script::{Mode, Offer};
+
+/// The first word of a line, after a caller word.
+#[derive(Clone, Copy, Debug, PartialEq, Eq)]
+pub(crate) enum Verb {
+    Stream,
+    Journal,
+    Phase,
+    CopyRead,
+    CopyWrite,
+    Zero,
+    SetSizes,
+    State,
+    Flush,
+    IsDirtyData,
+}
+
+pub(crate) const VERBS: [Verb; 10] = [
+    Verb::Stream,
+    Verb::Journal,
+    Verb::Phase,
+    Verb::CopyRead,
+    Verb::CopyWrite,
+    Verb::Zero,
+    Verb::SetSizes,
+    Verb::State,
+    Verb::Flush,
+    Verb::IsDirtyData,
+];
+
+impl Verb {
+    pub(crate) fn text(self) -> &'static [u8]
+        ensures { result.now ≡ verb_text self }
+    {
+        match self {
+            Verb::Stream => b"stream",
+            Verb::Journal => b"journal",
+            Verb::Phase => b"phase",
+            Verb::CopyRead => b"cread",
+            Verb::CopyWrite => b"cwrite",
+            Verb::Zero => b"zero",
+            Verb::SetSizes => b"sizes",
+            Verb::State => b"state",
+            Verb::Flush => b"flush",
+            Verb::IsDirtyData => b"isdirty",
+        }
+    }
+
+    /// The verb that a word is.
+    #[tactic(auto, unfolding(crate::specs::Verbs::verb_of))]
+    fn of(word: &[u8]) -> Option<Verb>
+        ensures { result ≡ verb_of word.now }
+    {
+        VERBS.iter().copied().find(|v| v.text() == word)
+    }
+
+    fn is_offered(self, offer: Offer) -> bool
+        ensures { result ≡ is_offered offer self }
+    {
+        match offer {
+            Offer::Whole => true,
+            Offer::Copies => matches!(self, Verb::Stream | Verb::CopyRead | Verb::CopyWrite),
+        }
+    }
+
+    fn is_in_mode(self, mode: Mode) -> bool
+        ensures { result ≡ is_in_mode mode self }
+    {
+        match mode {
+            Mode::Run => true,
+            Mode::Steps => !matches!(self, Verb::Phase),
+        }
+    }
+
+    /// The verb that a word is in a mode, of those that are offered.
+    #[tactic(auto, unfolding(crate::specs::Verbs::verb_in))]
+    pub(crate) fn offered(offer: Offer, mode: Mode, word: &[u8]) -> Option<Verb>
+        ensures { result ≡ verb_in offer mode word.now }
+    {
+        let verb = Verb::of(word)?;
+        if verb.is_offered(offer) && verb.is_in_mode(mode) {
+            Some(verb)
+        } else {
+            None
+        }
+    }
+}
+
+impl Offer {
+    pub(crate) fn has_callers(self) -> bool
+        ensures { result ≡ has_callers self }
+    {
+        matches!(self, Offer::Whole)
+    }
+
+    pub(crate) fn most_streams(self) -> usize
+        ensures { result ≡ most_streams self }
+    {
+        match self {
+            Offer::Copies => 1,
+            Offer::Whole => 16,
+        }
+    }
+
+    pub(crate) fn is_valid_offered(self, size: u64, valid: u64) -> bool
+        ensures { result ≡ is_valid_offered self size valid }
+    {
+        match self {
+            Offer::Copies => valid <= size,
+            Offer::Whole => true,
+        }
+    }
+}
