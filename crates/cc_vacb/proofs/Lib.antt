@@ -1,0 +1,6 @@
+pub mod Reach
+pub mod Put
+pub mod Walk
+pub mod Count
+pub mod Mark
+pub mod Child

@@ -1,0 +1,37 @@
+use Rattle.std.specs.Prelude.{ℕ, ◌+◌, ◌*◌, ◌%◌, ◌<◌, ◌≤◌, ◌≡◌, ◌≢◌, ◌==◌, suc, if◌then◌else◌, List, length, slice_set, sum_by}
+use Rattle.cc_vacb.specs.declared.slots.Slot.{Slot}
+use Rattle.cc_vacb.specs.declared.slots.Slot.TheVariants.{Empty, Node, View}
+use Rattle.cc_vacb.specs.Block.{Block, used_slots}
+use Rattle.cc_vacb.specs.Index.{block_in, slot_in}
+
+unfoldable pub blocks_at : ℕ → List Block → ℕ
+blocks_at height blocks = sum_by (λ b. if b.height == height then 1 else 0) blocks
+
+unfoldable pub used_at : ℕ → List Block → ℕ
+used_at height blocks = sum_by (λ b. if b.height == height then used_slots b else 0) blocks
+
+-- a slot leads to an index block that knows the same place
+pub record Leads (blocks : List Block) (node i child : ℕ) : Type 0 where
+  pub below : child < length blocks
+  pub not_root : 0 < child
+  pub height : (block_in blocks child).height + 1 ≡ (block_in blocks node).height
+  pub prefix : (block_in blocks child).prefix ≡ 128 * (block_in blocks node).prefix + i
+
+pub record IsTree (top : ℕ) (blocks : List Block) : Type 0 where
+  pub some : 0 < length blocks
+  pub root_height : (block_in blocks 0).height ≡ top
+  pub root_prefix : (block_in blocks 0).prefix ≡ 0
+  pub below_top : (node : ℕ) → 0 < node → node < length blocks → (block_in blocks node).height < top
+  pub leads : (node i child : ℕ) → slot_in blocks node i ≡ Node child → Leads blocks node i child
+  pub has_parent : (child : ℕ) → 0 < child → child < length blocks → (node : ℕ) × (slot_in blocks node ((block_in blocks child).prefix % 128) ≡ Node child)
+  pub views : (node i view : ℕ) → slot_in blocks node i ≡ View view → (block_in blocks node).height ≡ 0
+  pub wide : (node : ℕ) → 0 < node → node < length blocks → length (block_in blocks node).slots ≡ 128
+  pub root_wide : length (block_in blocks 0).slots ≤ 128
+  pub counted : (height : ℕ) → height < top → blocks_at height blocks ≡ used_at (suc height) blocks
+
+-- every index block but the root and one other has a used slot
+abbrev pub FilledBut : ℕ → List Block → Type 0
+FilledBut other blocks = (node : ℕ) → 0 < node → node < length blocks → node ≢ other → 0 < used_slots (block_in blocks node)
+
+abbrev pub put_slot : List Block → ℕ → ℕ → Slot → List Block
+put_slot blocks node i slot = slice_set blocks node (record (block_in blocks node) { slots = slice_set (block_in blocks node).slots i slot })
