@@ -178,6 +178,7 @@ child_tree top bs i k h p b t f blank =
           (a.place x q).width ∙ t.wide x g q
       ];
       root_wide = omega (arith, (a.place 0 zero_in).width, t.root_wide);
+      deep = λ z. (a.place 0 zero_in).width ∙ t.deep z;
       counted = λ g l. child_counted top bs i k h p b t f blank g l
     }
 

@@ -4,3 +4,4 @@ pub mod Walk
 pub mod Count
 pub mod Mark
 pub mod Child
+pub mod Path

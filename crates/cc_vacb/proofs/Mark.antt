@@ -48,6 +48,7 @@ mark_tree top bs i k s t hi hk h0 leaf =
       ];
       wide = λ x a b. (place x).width ∙ t.wide x a (omega (arith, len));
       root_wide = omega (arith, (place 0).width, t.root_wide);
+      deep = λ z. (place 0).width ∙ t.deep z;
       counted = λ h a.
         let n : (block_in bs i).height ≢ suc h = λ q. omega (arith, h0) in
         omega (arith, t.counted h a, blocks_at-put h bs i k s hi, used_at-put (suc h) bs i k s hi hk, only_at_other (suc h) (block_in bs i).height (weight_of s) n, only_at_other (suc h) (block_in bs i).height (weight_of (slot_in bs i k)) n)

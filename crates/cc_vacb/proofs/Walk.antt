@@ -7,7 +7,7 @@ use Rattle.cc_vacb.specs.declared.slots.Slot.TheVariants.{Empty, Node, View}
 use Rattle.cc_vacb.specs.Slots.{child_of, view_of}
 use Rattle.cc_vacb.specs.Block.{Block}
 use Rattle.cc_vacb.specs.Index.{reach, block_in, slot_in, entry_in}
-use Rattle.cc_vacb.specs.Tree.{IsTree, Leads}
+use Rattle.cc_vacb.specs.Tree.{IsTree, Leads, IsAt}
 use Rattle.cc_vacb.proofs.Reach.{entry_some}
 use Rattle.cc_vacb.proofs.Put.{node_in_range, slot_in_width, Node≢Empty, View≢Empty}
 
@@ -36,13 +36,8 @@ root_reached (suc p) x e =
     let f : None ≡ Some x = sym (cond-false (eqb (suc p) 0) (Some 0) None q) ∙ e in
     absurd (None≢Some x f)
 
-pub record At (top : ℕ) (bs : List Block) (d p x : ℕ) : Type 0 where
-  pub inside : x < length bs
-  pub height : (block_in bs x).height + d ≡ top
-  pub prefix : (block_in bs x).prefix ≡ p
-
 -- a walk ends at a block of that place
-pub at_reach : (top : ℕ) (bs : List Block) → IsTree top bs → (d p x : ℕ) → reach bs d p ≡ Some x → At top bs d p x
+pub at_reach : (top : ℕ) (bs : List Block) → IsTree top bs → (d p x : ℕ) → reach bs d p ≡ Some x → IsAt top bs d p x
 unfolding reach
 at_reach top bs t zero p x e =
     let r = root_reached p x e in
@@ -64,7 +59,7 @@ at_reach top bs t (suc d) p x e =
     }
 
 -- a block is reached by its own place
-pub reach_at : (top : ℕ) (bs : List Block) → IsTree top bs → (d p x : ℕ) → At top bs d p x → reach bs d p ≡ Some x
+pub reach_at : (top : ℕ) (bs : List Block) → IsTree top bs → (d p x : ℕ) → IsAt top bs d p x → reach bs d p ≡ Some x
 unfolding reach
 reach_at top bs t zero p x a =
     elim (cases_eq x 0) [
@@ -79,7 +74,7 @@ reach_at top bs t (suc d) p x a =
     | inr n ↦
         let h = t.has_parent x (omega arith) a.inside in
         let l = t.leads h.0 ((block_in bs x).prefix % 128) x h.1 in
-        let b : At top bs d (p / 128) h.0 = record {
+        let b : IsAt top bs d (p / 128) h.0 = record {
           inside = node_in_range bs h.0 _ _ h.1 (Node≢Empty x);
           height = omega (arith, l.height, a.height);
           prefix = omega (arith, l.prefix, a.prefix)

@@ -1,8 +1,8 @@
-use Rattle.std.specs.Prelude.{ℕ, ◌+◌, ◌*◌, ◌%◌, ◌<◌, ◌≤◌, ◌≡◌, ◌≢◌, ◌==◌, suc, if◌then◌else◌, List, length, slice_set, sum_by}
+use Rattle.std.specs.Prelude.{ℕ, ◌+◌, ◌*◌, ◌%◌, ◌<◌, ◌≤◌, ◌≡◌, ◌≢◌, ◌==◌, ◌⊎◌, suc, if◌then◌else◌, List, length, slice_set, sum_by}
 use Rattle.cc_vacb.specs.declared.slots.Slot.{Slot}
 use Rattle.cc_vacb.specs.declared.slots.Slot.TheVariants.{Empty, Node, View}
 use Rattle.cc_vacb.specs.Block.{Block, used_slots}
-use Rattle.cc_vacb.specs.Index.{block_in, slot_in}
+use Rattle.cc_vacb.specs.Index.{block_in, slot_in, entry_in}
 
 unfoldable pub blocks_at : ℕ → List Block → ℕ
 blocks_at height blocks = sum_by (λ b. if b.height == height then 1 else 0) blocks
@@ -27,7 +27,14 @@ pub record IsTree (top : ℕ) (blocks : List Block) : Type 0 where
   pub views : (node i view : ℕ) → slot_in blocks node i ≡ View view → (block_in blocks node).height ≡ 0
   pub wide : (node : ℕ) → 0 < node → node < length blocks → length (block_in blocks node).slots ≡ 128
   pub root_wide : length (block_in blocks 0).slots ≤ 128
+  pub deep : 0 < top → length (block_in blocks 0).slots ≡ 128
   pub counted : (height : ℕ) → height < top → blocks_at height blocks ≡ used_at (suc height) blocks
+
+-- block x is the one so many levels below the root whose digits are those of the number
+pub record IsAt (top : ℕ) (blocks : List Block) (depth number node : ℕ) : Type 0 where
+  pub inside : node < length blocks
+  pub height : (block_in blocks node).height + depth ≡ top
+  pub prefix : (block_in blocks node).prefix ≡ number
 
 -- every index block but the root and one other has a used slot
 abbrev pub FilledBut : ℕ → List Block → Type 0
@@ -35,3 +42,14 @@ FilledBut other blocks = (node : ℕ) → 0 < node → node < length blocks → 
 
 abbrev pub put_slot : List Block → ℕ → ℕ → Slot → List Block
 put_slot blocks node i slot = slice_set blocks node (record (block_in blocks node) { slots = slice_set (block_in blocks node).slots i slot })
+
+-- the blocks with what was missing on the way to a block: no entry is changed by it
+pub record ExtendsTo (top depth prefix : ℕ) (old new : List Block) (node : ℕ) : Type 0 where
+  pub tree : IsTree top new
+  pub place : IsAt top new depth prefix node
+  pub entries : (block : ℕ) → entry_in new top block ≡ entry_in old top block
+  pub count : used_at 0 new ≡ used_at 0 old
+  pub filled : FilledBut node new
+  pub len : length new ≤ length old + depth
+  pub root : length (block_in new 0).slots ≡ length (block_in old 0).slots
+  pub fresh : (new ≡ old) ⊎ ((i : ℕ) → slot_in new node i ≡ Empty)

@@ -1,8 +1,10 @@
-ghost use Rattle.std.specs.Prelude.{◌≡◌, ℕ, ◌+◌, ◌*◌, ◌/◌, ◌%◌, ◌<◌, ◌≤◌, length};
+ghost use Rattle.std.specs.Prelude.{◌≡◌, ℕ, ◌+◌, ◌*◌, ◌/◌, ◌%◌, ◌<◌, ◌≤◌, ◌^◌, length, IfOk, OnOk, OnErr};
 ghost use Rattle.cc_vacb.specs.Block.{used_slots};
 ghost use Rattle.cc_vacb.specs.Index.{reach, slot_in, block_in};
-ghost use Rattle.cc_vacb.specs.Tree.{put_slot};
+ghost use Rattle.cc_vacb.specs.Tree.{put_slot, IsTree, FilledBut, ExtendsTo};
 ghost use Rattle.std.specs.Vec.{vec_len, vec_capacity};
+
+use std::alloc::{AllocError, Global};
 
 use crate::blocks::IndexBlock;
 use crate::slots::Slot;
@@ -36,5 +38,41 @@ pub(crate) fn find(blocks: &[IndexBlock], depth: u8, prefix: u64) -> Option<u32>
     match find(blocks, depth - 1, prefix / 128) {
         Some(node) => slot_in(blocks, node, (prefix % 128) as u8).child(),
         None => None,
+    }
+}
+
+// The index block so many levels below the root, with the blocks on the way there that are missing.
+// All memory is taken before the first block is added.
+pub(crate) fn add_path(
+    alloc: Global,
+    blocks: &mut Vec<IndexBlock>,
+    top: u8,
+    depth: u8,
+    prefix: u64,
+    pending: usize,
+) -> Result<u32, AllocError>
+    requires tree { IsTree top blocks.old.items }
+    requires filled { FilledBut 0 blocks.old.items }
+    requires depth_in { depth ≤ top }
+    requires covered { prefix < 128 ^ depth }
+    requires numbers { length blocks.old.items + depth < 2 ^ 32 }
+    requires few_pending { pending + depth < 2 ^ 32 }
+    ensures extends { IfOk result (ExtendsTo top depth prefix blocks.old.items blocks.new.items) }
+    ensures capacity { OnOk result (vec_len blocks.new + pending ≤ vec_capacity blocks.new) }
+    ensures err { OnErr result (blocks.new.items ≡ blocks.old.items) }
+{
+    match find(blocks, depth, prefix) {
+        Some(node) => {
+            blocks.reserve(pending)?;
+            Ok(node)
+        }
+        None => {
+            let block = IndexBlock::new(alloc, top - depth, prefix, 128)?;
+            let parent = add_path(alloc, blocks, top, depth - 1, prefix / 128, pending + 1)?;
+            let node = blocks.len() as u32;
+            blocks.push_reserved(block);
+            put_slot(blocks, parent, (prefix % 128) as u8, Slot::Node(node));
+            Ok(node)
+        }
     }
 }
