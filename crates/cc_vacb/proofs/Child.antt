@@ -8,8 +8,8 @@ use Rattle.cc_vacb.specs.declared.slots.Slot.TheVariants.{Empty, Node, View}
 use Rattle.cc_vacb.specs.Slots.{child_of, view_of, weight_of}
 use Rattle.cc_vacb.specs.Block.{Block, blank_block, used_slots}
 use Rattle.cc_vacb.specs.Index.{block_in, slot_in, entry_in, count_in}
-use Rattle.cc_vacb.specs.Tree.{IsTree, Leads, put_slot, FilledBut, used_at, blocks_at}
-use Rattle.cc_vacb.proofs.Put.{SamePlace, place-put_slot, length-put_slot, slot-put_same, slot-put_other, slot_cases, node_in_range, slot_in_width, Node≢Empty, Node≢View, View≢Empty, Some≢None, block-put_same, block-put_other, block-push_old, block-push_new}
+use Rattle.cc_vacb.specs.Tree.{SamePlace, IsTree, Leads, put_slot, FilledBut, used_at, blocks_at}
+use Rattle.cc_vacb.proofs.Put.{place-put_slot, length-put_slot, slot-put_same, slot-put_other, slot_cases, node_in_range, slot_in_width, Node≢Empty, Node≢View, View≢Empty, Some≢None, block-put_same, block-put_other, block-push_old, block-push_new}
 use Rattle.cc_vacb.proofs.Count.{blocks_at-put, used_at-put, blocks_at-push, used_at-push, only_at, only_at_other, only_at_same, used-set, only_at_none, used-replicate, used_by}
 use Rattle.cc_vacb.proofs.Walk.{Holds, holder, entry_held, same_options}
 

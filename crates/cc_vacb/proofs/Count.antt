@@ -23,6 +23,10 @@ pub only_at_other : (height h n : ℕ) → h ≢ height → only_at height h n �
 unfolding only_at
 only_at_other height h n e = cond-false (eqb h height) n 0 (ne_eqb h height e)
 
+pub only_at_is : (height h : ℕ) → only_at height h 1 ≡ (if h == height then 1 else 0)
+unfolding only_at
+only_at_is height h = refl
+
 pub only_at_none : (height h n : ℕ) → n ≡ 0 → only_at height h n ≡ 0
 only_at_none height h n e =
     elim (cases_eq h height) [

@@ -5,3 +5,5 @@ pub mod Count
 pub mod Mark
 pub mod Child
 pub mod Path
+pub mod Unlink
+pub mod Removed

@@ -7,8 +7,8 @@ use Rattle.cc_vacb.specs.declared.slots.Slot.TheVariants.{Empty, Node, View}
 use Rattle.cc_vacb.specs.Slots.{child_of, view_of, weight_of}
 use Rattle.cc_vacb.specs.Block.{Block}
 use Rattle.cc_vacb.specs.Index.{block_in, slot_in, entry_in}
-use Rattle.cc_vacb.specs.Tree.{IsTree, Leads, put_slot, FilledBut, used_at}
-use Rattle.cc_vacb.proofs.Put.{SamePlace, place-put_slot, length-put_slot, slot-put_same, slot-put_other, slot_cases, node_in_range, Node≢Empty, Node≢View, Some≢None, block-put_other}
+use Rattle.cc_vacb.specs.Tree.{SamePlace, IsTree, Leads, put_slot, FilledBut, used_at}
+use Rattle.cc_vacb.proofs.Put.{place-put_slot, length-put_slot, slot-put_same, slot-put_other, slot_cases, node_in_range, Node≢Empty, Node≢View, Some≢None, block-put_other}
 use Rattle.cc_vacb.proofs.Count.{blocks_at-put, used_at-put, only_at_other}
 use Rattle.cc_vacb.proofs.Walk.{Holds, holder, entry_held, same_place, same_options, digit_in, entry_of_place}
 

@@ -7,7 +7,7 @@ use Rattle.cc_vacb.specs.declared.slots.Slot.{Slot}
 use Rattle.cc_vacb.specs.declared.slots.Slot.TheVariants.{Empty, Node, View}
 use Rattle.cc_vacb.specs.Block.{Block, no_block}
 use Rattle.cc_vacb.specs.Index.{block_in, slot_in}
-use Rattle.cc_vacb.specs.Tree.{put_slot}
+use Rattle.cc_vacb.specs.Tree.{put_slot, SamePlace}
 
 pub length-put_slot : (bs : List Block) (i k : ℕ) (s : Slot) → length (put_slot bs i k s) ≡ length bs
 length-put_slot bs i k s = length-set bs i _
@@ -17,12 +17,6 @@ block-put_same bs i k s h = get_or-set_same bs i _ _ h
 
 pub block-put_other : (bs : List Block) (i k : ℕ) (s : Slot) (x : ℕ) → x ≢ i → block_in (put_slot bs i k s) x ≡ block_in bs x
 block-put_other bs i k s x n = get_or-set_other bs i x _ _ n
-
--- the place of a block stays
-pub record SamePlace (old new : Block) : Type 0 where
-  pub height : new.height ≡ old.height
-  pub prefix : new.prefix ≡ old.prefix
-  pub width : length new.slots ≡ length old.slots
 
 pub place-put_slot : (bs : List Block) (i k : ℕ) (s : Slot) (x : ℕ) → i < length bs → SamePlace (block_in bs x) (block_in (put_slot bs i k s) x)
 place-put_slot bs i k s x h =

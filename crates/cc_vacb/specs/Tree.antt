@@ -53,3 +53,40 @@ pub record ExtendsTo (top depth prefix : ℕ) (old new : List Block) (node : ℕ
   pub len : length new ≤ length old + depth
   pub root : length (block_in new 0).slots ≡ length (block_in old 0).slots
   pub fresh : (new ≡ old) ⊎ ((i : ℕ) → slot_in new node i ≡ Empty)
+
+-- where a block stands, when the last block is to take the place of another
+unfoldable pub was_at : ℕ → ℕ → ℕ → ℕ
+was_at freed last node = if node == freed then last else node
+
+unfoldable pub now_at : ℕ → ℕ → ℕ → ℕ
+now_at freed last node = if node == last then freed else node
+
+-- a block keeps its place in the tree, and the number of its slots
+pub record SamePlace (old new : Block) : Type 0 where
+  pub height : new.height ≡ old.height
+  pub prefix : new.prefix ≡ old.prefix
+  pub width : length new.slots ≡ length old.slots
+
+abbrev pub LeadsElsewhere : ℕ → ℕ → Slot → Type 0
+LeadsElsewhere freed last slot = (child : ℕ) → slot ≡ Node child → (child ≢ freed) × (child ≢ last)
+
+-- no slot leads to the freed block any more, and the slot that led to the last one leads to the place of the freed one
+pub record Relinked (freed last parent : ℕ) (old new : List Block) : Type 0 where
+  pub len : length new ≡ length old
+  pub place : (node : ℕ) → SamePlace (block_in old node) (block_in new node)
+  pub back : (node i : ℕ) (slot : Slot) → slot_in new node i ≡ slot → slot ≢ Empty → ((last ≢ freed) × (slot ≡ Node freed) × (slot_in old node i ≡ Node last)) ⊎ ((slot_in old node i ≡ slot) × LeadsElsewhere freed last slot)
+  pub forth : (node i : ℕ) (slot : Slot) → slot_in old node i ≡ slot → LeadsElsewhere freed last slot → slot_in new node i ≡ slot
+  pub forth_last : (node i : ℕ) → last ≢ freed → slot_in old node i ≡ Node last → slot_in new node i ≡ Node freed
+  pub used : (node : ℕ) → node ≢ parent → used_slots (block_in new node) ≡ used_slots (block_in old node)
+  pub blocks_sum : (height : ℕ) → blocks_at height new ≡ blocks_at height old
+  pub used_sum : (height : ℕ) → used_at height new + (if (block_in old parent).height == height then 1 else 0) ≡ used_at height old
+  pub parent_in : parent < length old
+  pub parent_height : (block_in old parent).height ≡ (block_in old freed).height + 1
+
+-- the tree without a block that led nowhere
+pub record TreeKept (top : ℕ) (old new : List Block) : Type 0 where
+  pub tree : IsTree top new
+  pub entries : (block : ℕ) → entry_in new top block ≡ entry_in old top block
+  pub count : used_at 0 new ≡ used_at 0 old
+  pub len : length new ≤ length old
+  pub root : length (block_in new 0).slots ≡ length (block_in old 0).slots
