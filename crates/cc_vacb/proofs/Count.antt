@@ -12,7 +12,7 @@ use Rattle.cc_vacb.specs.Index.{block_in, slot_in, count_in}
 use Rattle.cc_vacb.specs.Tree.{put_slot, blocks_at, used_at}
 
 -- what a block adds at its own height alone
-pub only_at : ℕ → ℕ → ℕ → ℕ
+unfoldable pub only_at : ℕ → ℕ → ℕ → ℕ
 only_at height h n = if h == height then n else 0
 
 pub only_at_same : (height h n : ℕ) → h ≡ height → only_at height h n ≡ n

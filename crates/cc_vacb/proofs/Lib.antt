@@ -7,3 +7,4 @@ pub mod Child
 pub mod Path
 pub mod Unlink
 pub mod Removed
+pub mod Prune

@@ -90,3 +90,10 @@ pub record TreeKept (top : ℕ) (old new : List Block) : Type 0 where
   pub count : used_at 0 new ≡ used_at 0 old
   pub len : length new ≤ length old
   pub root : length (block_in new 0).slots ≡ length (block_in old 0).slots
+
+-- the tree without a block that led nowhere, and where the block above it stands now
+pub record RemovesBlock (top : ℕ) (old new : List Block) (parent : ℕ) : Type 0 where
+  pub kept : TreeKept top old new
+  pub parent_in : parent < length new
+  pub filled : FilledBut parent new
+  pub shorter : length new + 1 ≡ length old

@@ -1,7 +1,8 @@
-ghost use Rattle.std.specs.Prelude.{◌≡◌, ℕ, ◌+◌, ◌*◌, ◌/◌, ◌%◌, ◌<◌, ◌≤◌, ◌^◌, length, IfOk, OnOk, OnErr};
+ghost use Rattle.std.specs.Prelude.{◌≡◌, ℕ, ◌+◌, ◌*◌, ◌/◌, ◌%◌, ◌<◌, ◌≤◌, ◌^◌, ◌-◌, ◌≢◌, length, IfOk, OnOk, OnErr};
 ghost use Rattle.cc_vacb.specs.Block.{used_slots};
 ghost use Rattle.cc_vacb.specs.Index.{reach, slot_in, block_in};
-ghost use Rattle.cc_vacb.specs.Tree.{put_slot, IsTree, FilledBut, ExtendsTo};
+ghost use Rattle.cc_vacb.specs.Tree.{put_slot, IsTree, FilledBut, ExtendsTo, Relinked, RemovesBlock, TreeKept};
+ghost use Rattle.cc_vacb.specs.declared.slots.Slot.TheVariants.{Node};
 ghost use Rattle.std.specs.Vec.{vec_len, vec_capacity};
 
 use std::alloc::{AllocError, Global};
@@ -74,5 +75,72 @@ pub(crate) fn add_path(
             put_slot(blocks, parent, (prefix % 128) as u8, Slot::Node(node));
             Ok(node)
         }
+    }
+}
+
+// The index block above one that is not the root.
+fn parent_of(blocks: &[IndexBlock], top: u8, node: u32) -> u32
+    requires tree { IsTree top blocks.now }
+    requires inner { 0 < node }
+    requires node_in { node < length blocks.now }
+    ensures { slot_in blocks.now result ((block_in blocks.now node).prefix % 128) ≡ Node node }
+{
+    let block = &blocks[node as usize];
+    match find(blocks, top - block.height() - 1, block.prefix() / 128) {
+        Some(parent) => parent,
+        None => unreachable!(),
+    }
+}
+
+// Frees the place of an index block for the last one, and answers the block above it.
+fn unlink(blocks: &mut Vec<IndexBlock>, top: u8, node: u32) -> u32
+    requires tree { IsTree top blocks.old.items }
+    requires inner { 0 < node }
+    requires node_in { node < length blocks.old.items }
+    requires numbers { length blocks.old.items ≤ 2 ^ 32 }
+    ensures { Relinked node (length blocks.old.items - 1) result blocks.old.items blocks.new.items }
+{
+    let parent = parent_of(blocks, top, node);
+    let digit = (blocks[node as usize].prefix() % 128) as u8;
+    let last = (blocks.len() - 1) as u32;
+    if node == last {
+        put_slot(blocks, parent, digit, Slot::Empty);
+    } else {
+        let above = parent_of(blocks, top, last);
+        let place = (blocks[last as usize].prefix() % 128) as u8;
+        put_slot(blocks, parent, digit, Slot::Empty);
+        put_slot(blocks, above, place, Slot::Node(node));
+    }
+    parent
+}
+
+// Takes an index block with no used slot out of the tree, and answers the block above it.
+fn remove_block(blocks: &mut Vec<IndexBlock>, top: u8, node: u32) -> u32
+    requires tree { IsTree top blocks.old.items }
+    requires filled { FilledBut node blocks.old.items }
+    requires inner { 0 < node }
+    requires node_in { node < length blocks.old.items }
+    requires empty { used_slots (block_in blocks.old.items node) ≡ 0 }
+    requires numbers { length blocks.old.items ≤ 2 ^ 32 }
+    ensures { RemovesBlock top blocks.old.items blocks.new.items result }
+{
+    let last = (blocks.len() - 1) as u32;
+    let parent = unlink(blocks, top, node);
+    let _removed = blocks.swap_remove(node as usize);
+    if parent == last { node } else { parent }
+}
+
+// Takes the index blocks with no used slot out of the tree, from one up towards the root.
+pub(crate) fn prune(blocks: &mut Vec<IndexBlock>, top: u8, from: u32)
+    requires tree { IsTree top blocks.old.items }
+    requires filled { FilledBut from blocks.old.items }
+    requires from_in { from < length blocks.old.items }
+    requires numbers { length blocks.old.items ≤ 2 ^ 32 }
+    ensures kept { TreeKept top blocks.old.items blocks.new.items }
+    ensures filled { FilledBut 0 blocks.new.items }
+{
+    let mut node = from;
+    while node != 0 && blocks[node as usize].is_empty() {
+        node = remove_block(blocks, top, node);
     }
 }
