@@ -8,3 +8,4 @@ pub mod Path
 pub mod Unlink
 pub mod Removed
 pub mod Prune
+pub mod Views

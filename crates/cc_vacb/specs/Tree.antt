@@ -1,4 +1,4 @@
-use Rattle.std.specs.Prelude.{ℕ, ◌+◌, ◌*◌, ◌%◌, ◌<◌, ◌≤◌, ◌≡◌, ◌≢◌, ◌==◌, ◌⊎◌, suc, if◌then◌else◌, List, length, slice_set, sum_by}
+use Rattle.std.specs.Prelude.{ℕ, ◌+◌, ◌*◌, ◌%◌, ◌<◌, ◌≤◌, ◌≡◌, ◌≢◌, ◌==◌, ◌⊎◌, suc, if◌then◌else◌, Option, Some, None, is_some, List, length, slice_set, sum_by}
 use Rattle.cc_vacb.specs.declared.slots.Slot.{Slot}
 use Rattle.cc_vacb.specs.declared.slots.Slot.TheVariants.{Empty, Node, View}
 use Rattle.cc_vacb.specs.Block.{Block, used_slots}
@@ -97,3 +97,21 @@ pub record RemovesBlock (top : ℕ) (old new : List Block) (parent : ℕ) : Type
   pub parent_in : parent < length new
   pub filled : FilledBut parent new
   pub shorter : length new + 1 ≡ length old
+
+pub record PutsView (top number view : ℕ) (old new : List Block) : Type 0 where
+  pub tree : IsTree top new
+  pub filled : FilledBut 0 new
+  pub here : entry_in new top number ≡ Some view
+  pub others : (other : ℕ) → other ≢ number → entry_in new top other ≡ entry_in old top other
+  pub count : used_at 0 new ≡ used_at 0 old + (if is_some (entry_in old top number) then 0 else 1)
+  pub len : length new ≤ length old + top
+  pub root : length (block_in new 0).slots ≡ length (block_in old 0).slots
+
+pub record TakesView (top number : ℕ) (old new : List Block) : Type 0 where
+  pub tree : IsTree top new
+  pub filled : FilledBut 0 new
+  pub here : entry_in new top number ≡ None
+  pub others : (other : ℕ) → other ≢ number → entry_in new top other ≡ entry_in old top other
+  pub count : used_at 0 new + (if is_some (entry_in old top number) then 1 else 0) ≡ used_at 0 old
+  pub len : length new ≤ length old
+  pub root : length (block_in new 0).slots ≡ length (block_in old 0).slots

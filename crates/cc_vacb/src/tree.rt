@@ -1,7 +1,7 @@
 ghost use Rattle.std.specs.Prelude.{◌≡◌, ℕ, ◌+◌, ◌*◌, ◌/◌, ◌%◌, ◌<◌, ◌≤◌, ◌^◌, ◌-◌, ◌≢◌, length, IfOk, OnOk, OnErr};
 ghost use Rattle.cc_vacb.specs.Block.{used_slots};
-ghost use Rattle.cc_vacb.specs.Index.{reach, slot_in, block_in};
-ghost use Rattle.cc_vacb.specs.Tree.{put_slot, IsTree, FilledBut, ExtendsTo, Relinked, RemovesBlock, TreeKept};
+ghost use Rattle.cc_vacb.specs.Index.{reach, slot_in, block_in, entry_in};
+ghost use Rattle.cc_vacb.specs.Tree.{put_slot, IsTree, FilledBut, ExtendsTo, Relinked, RemovesBlock, TreeKept, PutsView, TakesView};
 ghost use Rattle.cc_vacb.specs.declared.slots.Slot.TheVariants.{Node};
 ghost use Rattle.std.specs.Vec.{vec_len, vec_capacity};
 
@@ -142,5 +142,50 @@ pub(crate) fn prune(blocks: &mut Vec<IndexBlock>, top: u8, from: u32)
     let mut node = from;
     while node != 0 && blocks[node as usize].is_empty() {
         node = remove_block(blocks, top, node);
+    }
+}
+
+// Gives a block of the stream its view. Nothing is changed where memory is wanting.
+pub(crate) fn put_view(
+    alloc: Global,
+    blocks: &mut Vec<IndexBlock>,
+    top: u8,
+    block: u64,
+    view: u16,
+) -> Result<(), AllocError>
+    requires tree { IsTree top blocks.old.items }
+    requires filled { FilledBut 0 blocks.old.items }
+    requires covered { block / 128 < 128 ^ top }
+    requires root_in { top ≡ 0 → block % 128 < length (block_in blocks.old.items 0).slots }
+    requires numbers { length blocks.old.items + top < 2 ^ 32 }
+    ensures ok { OnOk result (PutsView top block view blocks.old.items blocks.new.items) }
+    ensures err { OnErr result (blocks.new.items ≡ blocks.old.items) }
+{
+    let node = add_path(alloc, blocks, top, top, block / 128, 0)?;
+    put_slot(blocks, node, (block % 128) as u8, Slot::View(view));
+    Ok(())
+}
+
+// Takes the view of a block of the stream, and the index blocks that lead nowhere then.
+pub(crate) fn take_view(blocks: &mut Vec<IndexBlock>, top: u8, block: u64) -> Option<u16>
+    requires tree { IsTree top blocks.old.items }
+    requires filled { FilledBut 0 blocks.old.items }
+    requires numbers { length blocks.old.items ≤ 2 ^ 32 }
+    ensures value { result ≡ entry_in blocks.old.items top block }
+    ensures taken { TakesView top block blocks.old.items blocks.new.items }
+{
+    match find(blocks, top, block / 128) {
+        None => None,
+        Some(node) => {
+            let digit = (block % 128) as u8;
+            match slot_in(blocks, node, digit).view() {
+                None => None,
+                Some(view) => {
+                    put_slot(blocks, node, digit, Slot::Empty);
+                    prune(blocks, top, node);
+                    Some(view)
+                }
+            }
+        }
     }
 }
