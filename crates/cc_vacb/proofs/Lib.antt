@@ -9,3 +9,8 @@ pub mod Unlink
 pub mod Removed
 pub mod Prune
 pub mod Views
+pub mod Bound
+pub mod Digits
+pub mod Sizes
+pub mod Alone
+pub mod Kept

@@ -56,8 +56,27 @@ block_count index = length index.blocks
 abbrev pub slot_at : Index → ℕ → ℕ → Slot
 slot_at index node i = slot_in index.blocks node i
 
-abbrev pub slots_at : Index → ℕ → ℕ
-slots_at index node = length (block_in index.blocks node).slots
+-- a number is the least count of levels whose slots cover the size
+pub record IsLeastLevels (size levels : ℕ) : Type 0 where
+  pub some : 1 ≤ levels
+  pub covers : size ≤ 2 ^ (18 + 7 * levels)
+  pub least : (fewer : ℕ) → 1 ≤ fewer → size ≤ 2 ^ (18 + 7 * fewer) → levels ≤ fewer
+
+-- the digits of a number in base 128, the most significant first
+unfoldable pub digits_of : ℕ → ℕ → List ℕ
+digits_of zero number = []
+digits_of (suc count) number = digits_of count (number / 128) ++ (number % 128 ∷ [])
+
+-- the slot of the index block that a slot leads to
+abbrev pub slot_behind : (ℕ → ℕ → Slot) → Slot → ℕ → Slot
+slot_behind slot Empty digit = Empty
+slot_behind slot (Node node) digit = slot node digit
+slot_behind slot (View view) digit = Empty
+
+-- where digits lead to from a slot, one index block a digit
+unfoldable pub led_by : (ℕ → ℕ → Slot) → Slot → List ℕ → Slot
+led_by slot from [] = from
+led_by slot from (digit ∷ digits) = led_by slot (slot_behind slot from digit) digits
 
 abbrev pub StartsBelow : ℕ → ℕ → Type 0
 StartsBelow block size = block * 2 ^ 18 < size

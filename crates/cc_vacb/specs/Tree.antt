@@ -1,8 +1,8 @@
-use Rattle.std.specs.Prelude.{ℕ, ◌+◌, ◌*◌, ◌%◌, ◌<◌, ◌≤◌, ◌≡◌, ◌≢◌, ◌==◌, ◌⊎◌, suc, if◌then◌else◌, Option, Some, None, is_some, List, length, slice_set, sum_by}
+use Rattle.std.specs.Prelude.{ℕ, ◌+◌, ◌-◌, ◌^◌, ◌*◌, ◌%◌, ◌<◌, ◌≤◌, ◌≡◌, ◌≢◌, ◌==◌, ◌⊎◌, suc, if◌then◌else◌, Option, Some, None, is_some, List, length, slice_set, sum_by}
 use Rattle.cc_vacb.specs.declared.slots.Slot.{Slot}
 use Rattle.cc_vacb.specs.declared.slots.Slot.TheVariants.{Empty, Node, View}
 use Rattle.cc_vacb.specs.Block.{Block, used_slots}
-use Rattle.cc_vacb.specs.Index.{block_in, slot_in, entry_in}
+use Rattle.cc_vacb.specs.Index.{block_in, slot_in, entry_in, levels_of, width_of}
 
 unfoldable pub blocks_at : ℕ → List Block → ℕ
 blocks_at height blocks = sum_by (λ b. if b.height == height then 1 else 0) blocks
@@ -115,3 +115,11 @@ pub record TakesView (top number : ℕ) (old new : List Block) : Type 0 where
   pub count : used_at 0 new + (if is_some (entry_in old top number) then 1 else 0) ≡ used_at 0 old
   pub len : length new ≤ length old
   pub root : length (block_in new 0).slots ≡ length (block_in old 0).slots
+
+-- what an index keeps true
+pub record IsIndex (size : ℕ) (blocks : List Block) : Type 0 where
+  pub tree : IsTree (levels_of size - 1) blocks
+  pub filled : FilledBut 0 blocks
+  pub width : length (block_in blocks 0).slots ≡ width_of size
+  pub numbers : length blocks < 2 ^ 32
+  pub fits : size < 2 ^ 64

@@ -8,8 +8,11 @@
 
 mod blocks;
 mod counter;
+mod index;
+mod levels;
 mod slots;
 mod tree;
 
 pub use counter::{Ledger, Steps};
+pub use index::{NoMemory, ViewIndex};
 pub use slots::Slot;

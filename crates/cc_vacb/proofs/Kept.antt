@@ -1,0 +1,71 @@
+-- What the calls of an index keep true, from what they leave of the tree.
+use Rattle.std.proofs.Common.{◌≡◌, ◌≢◌, ℕ, suc, zero, ◌+◌, ◌-◌, ◌*◌, ◌/◌, ◌%◌, ◌^◌, ◌<◌, ◌≤◌, ◌==◌, if◌then◌else◌, List, Option, Some, None, is_some, length, refl, ap, sym, subst, ◌∙◌, arith, inl, inr, mul-le-mul_right}
+use Rattle.cc_vacb.specs.Block.{Block}
+use Rattle.cc_vacb.specs.Slots.{view_of}
+use Rattle.cc_vacb.specs.declared.slots.Slot.TheVariants.{Node}
+use Rattle.cc_vacb.specs.Index.{block_in, slot_in, entry_in, count_in, levels_of, width_of, StartsBelow, digits_of, led_by, IsLeastLevels}
+use Rattle.cc_vacb.specs.Tree.{IsTree, FilledBut, IsIndex, PutsView, TakesView}
+use Rattle.cc_vacb.proofs.Count.{count_in-used}
+use Rattle.cc_vacb.proofs.Bound.{blocks_bound}
+use Rattle.cc_vacb.proofs.Digits.{led_to_entry}
+use Rattle.cc_vacb.proofs.Sizes.{size_in, levels_range, number_covered, prefix_covered, root_slot, least_levels}
+
+pub top_is : (size top : ℕ) → top + 1 ≡ levels_of size → top ≡ levels_of size - 1
+top_is size top e = omega arith
+
+pub tree_at : (size top : ℕ) (bs : List Block) → top + 1 ≡ levels_of size → IsIndex size bs → IsTree top bs
+tree_at size top bs e x = subst (λ n. IsTree n bs) (sym (top_is size top e)) x.tree
+
+pub covered_at : (size top b : ℕ) → size < 2 ^ 64 → top + 1 ≡ levels_of size → StartsBelow b size → b / 128 < 128 ^ top
+covered_at size top b l e s =
+    let c = number_covered size (levels_of size) b l (size_in size) s in
+    let r = levels_range size (levels_of size) (size_in size) in
+    subst (λ n. b / 128 < 128 ^ n) (sym (top_is size top e)) (prefix_covered (levels_of size) b r.0 c)
+
+pub root_at : (size b : ℕ) (bs : List Block) → StartsBelow b size → IsIndex size bs → b % 128 < length (block_in bs 0).slots
+root_at size b bs s x = omega (arith, root_slot size b s, x.width)
+
+pub put_index : (size top b v : ℕ) (old new : List Block) → top + 1 ≡ levels_of size → IsIndex size old → length old + top < 2 ^ 32 → PutsView top b v old new → IsIndex size new
+put_index size top b v old new e x l p = record {
+    tree = subst (λ n. IsTree n new) (top_is size top e) p.tree;
+    filled = p.filled;
+    width = p.root ∙ x.width;
+    numbers = omega (arith, p.len);
+    fits = x.fits
+  }
+
+pub take_index : (size top b : ℕ) (old new : List Block) → top + 1 ≡ levels_of size → IsIndex size old → TakesView top b old new → IsIndex size new
+take_index size top b old new e x p = record {
+    tree = subst (λ n. IsTree n new) (top_is size top e) p.tree;
+    filled = p.filled;
+    width = p.root ∙ x.width;
+    numbers = omega (arith, p.len, x.numbers);
+    fits = x.fits
+  }
+
+pub put_count : (size top b v : ℕ) (old new : List Block) → top + 1 ≡ levels_of size → PutsView top b v old new → count_in new ≡ count_in old + (if is_some (entry_in old (levels_of size - 1) b) then 0 else 1)
+put_count size top b v old new e p =
+    omega (arith, count_in-used new, count_in-used old, p.count, ap {B = ℕ} (λ n. if is_some (entry_in old n b) then 0 else 1) (top_is size top e))
+
+pub take_count : (top b : ℕ) (old new : List Block) (o : Option ℕ) → o ≡ entry_in old top b → TakesView top b old new → count_in new + (if is_some o then 1 else 0) ≡ count_in old
+take_count top b old new o e p =
+    omega (arith, count_in-used new, count_in-used old, p.count, ap {B = ℕ} (λ q. if is_some q then 1 else 0) e)
+
+pub index_bound : (size : ℕ) (bs : List Block) → IsIndex size bs → length bs ≤ levels_of size * count_in bs + 1
+index_bound size bs x =
+    let b = blocks_bound (levels_of size - 1) bs x.tree x.filled in
+    let m = mul-le-mul_right (count_in bs) (fewer (levels_of size)) in
+    omega (arith, b, m, ap (λ n. (levels_of size - 1) * n) (count_in-used bs))
+  where
+    fewer : (n : ℕ) → n - 1 ≤ n
+    fewer n = omega arith
+
+pub digits_at : (size top b : ℕ) (bs : List Block) (o : Option ℕ) → size < 2 ^ 64 → top + 1 ≡ levels_of size → StartsBelow b size → o ≡ entry_in bs top b → o ≡ view_of (led_by (λ node i. slot_in bs node i) (Node 0) (digits_of (levels_of size) b))
+digits_at size top b bs o l e s q =
+    let d = led_to_entry bs top b (covered_at size top b l e s) in
+    let n : suc top ≡ levels_of size = omega arith in
+    q ∙ sym d ∙ ap (λ m. view_of (led_by (λ node i. slot_in bs node i) (Node 0) (digits_of m b))) n
+
+-- the number of levels, as it is counted
+pub levels_least : (size n : ℕ) → size < 2 ^ 64 → n ≡ levels_of size → IsLeastLevels size n
+levels_least size n l e = subst (IsLeastLevels size) (sym e) (least_levels size (levels_of size) l (size_in size))
