@@ -72,7 +72,7 @@ all_below : (h : ℕ) (bs : List Block) → ((x : ℕ) → x < length bs → (bl
 all_below h [] f = omega arith
 all_below h (b ∷ bs) f = omega (arith, all_below h bs (λ x l. f (suc x) (omega arith)), below-cons h b bs (f 0 (omega arith)))
 
-one_root : (top : ℕ) (bs : List Block) → ((x : ℕ) → 0 < x → x < length bs → (block_in bs x).height < top) → blocks_at top bs ≤ 1
+pub one_root : (top : ℕ) (bs : List Block) → ((x : ℕ) → 0 < x → x < length bs → (block_in bs x).height < top) → blocks_at top bs ≤ 1
 one_root top [] f = omega (arith, blocks_at-nil top)
 one_root top (b ∷ bs) f =
     let r = none_at top bs (λ x l e. omega (arith, f (suc x) (omega arith) (omega arith))) in

@@ -14,3 +14,5 @@ pub mod Digits
 pub mod Sizes
 pub mod Alone
 pub mod Kept
+pub mod Raise
+pub mod Lower

@@ -108,14 +108,14 @@ empty_block bs z j e =
       ]
     ]
 
-blocks_removed : (h : ℕ) (xs : List Block) (z : ℕ) (d : Block) → z < length xs → blocks_at h (swap_remove xs z d) + only_at h (block_in xs z).height 1 ≡ blocks_at h xs
+pub blocks_removed : (h : ℕ) (xs : List Block) (z : ℕ) (d : Block) → z < length xs → blocks_at h (swap_remove xs z d) + only_at h (block_in xs z).height 1 ≡ blocks_at h xs
 unfolding blocks_at only_at
 blocks_removed h xs z d hz =
     let f = λ (b : Block). if b.height == h then 1 else 0 in
     let e = sum_by-swap_remove f xs z d hz in
     omega (arith, e, ap f (get_or_default xs z d no_block hz))
 
-used_removed : (h : ℕ) (xs : List Block) (z : ℕ) (d : Block) → z < length xs → used_at h (swap_remove xs z d) + only_at h (block_in xs z).height (used_slots (block_in xs z)) ≡ used_at h xs
+pub used_removed : (h : ℕ) (xs : List Block) (z : ℕ) (d : Block) → z < length xs → used_at h (swap_remove xs z d) + only_at h (block_in xs z).height (used_slots (block_in xs z)) ≡ used_at h xs
 unfolding used_at only_at
 used_removed h xs z d hz =
     let f = λ (b : Block). if b.height == h then used_slots b else 0 in

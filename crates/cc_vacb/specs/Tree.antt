@@ -123,3 +123,12 @@ pub record IsIndex (size : ℕ) (blocks : List Block) : Type 0 where
   pub width : length (block_in blocks 0).slots ≡ width_of size
   pub numbers : length blocks < 2 ^ 32
   pub fits : size < 2 ^ 64
+
+-- the tree with more or fewer levels: no entry is changed by it
+pub record ChangesTop (top to : ℕ) (old new : List Block) : Type 0 where
+  pub tree : IsTree to new
+  pub filled : FilledBut 0 new
+  pub entries : (block : ℕ) → entry_in new to block ≡ entry_in old top block
+  pub count : used_at 0 new ≡ used_at 0 old
+  pub len : length new + top ≤ length old + to
+  pub used : 0 < used_slots (block_in old 0) → 0 < used_slots (block_in new 0)
