@@ -16,3 +16,4 @@ pub mod Alone
 pub mod Kept
 pub mod Raise
 pub mod Lower
+pub mod Root

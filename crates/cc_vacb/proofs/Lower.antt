@@ -10,11 +10,11 @@ use Rattle.std.specs.List.{swap_remove}
 use Rattle.std.specs.Prelude.{◌⊎◌}
 use Rattle.cc_vacb.specs.declared.slots.Slot.{Slot}
 use Rattle.cc_vacb.specs.declared.slots.Slot.TheVariants.{Empty, Node, View}
-use Rattle.cc_vacb.specs.Slots.{is_used, weight_of}
+use Rattle.cc_vacb.specs.Slots.{is_used, weight_of, child_of}
 use Rattle.cc_vacb.specs.Block.{Block, no_block, used_slots}
 use Rattle.cc_vacb.specs.Index.{block_in, slot_in, entry_in}
-use Rattle.cc_vacb.specs.Tree.{SamePlace, IsTree, Leads, FilledBut, used_at, blocks_at, was_at, now_at, ChangesTop, Relinked, LeadsElsewhere}
-use Rattle.cc_vacb.proofs.Put.{slot_in_width, node_in_range, Node≢Empty, Node≢View, View≢Empty}
+use Rattle.cc_vacb.specs.Tree.{SamePlace, IsTree, Leads, FilledBut, used_at, blocks_at, was_at, now_at, ChangesTop, Relinked, LeadsElsewhere, EntriesBelow}
+use Rattle.cc_vacb.proofs.Put.{slot_in_width, node_in_range, Node≢Empty, Node≢View, View≢Empty, Some≢None}
 use Rattle.cc_vacb.proofs.Count.{only_at, only_at_is, only_at_other}
 use Rattle.cc_vacb.proofs.Path.{slot_is}
 use Rattle.cc_vacb.proofs.Removed.{was, was_same, was_other, Was, now, now_same, now_other, Now, block-swap_remove, blocks_removed, used_removed}
@@ -66,9 +66,6 @@ entry_below top bs t f (suc h) x e g l =
   where
     above : (n h : ℕ) → n / 128 ^ suc h ≡ n / 128 ^ h / 128
     above n h = simp unary_clauses (sym (div-div-eq-div-mul n (128 ^ h) 128))
-
-abbrev pub EntriesBelow : ℕ → List Block → ℕ → Type 0
-EntriesBelow top bs bound = (n v : ℕ) → entry_in bs top n ≡ Some v → n < bound
 
 -- where every entry fits below the root, the root uses no slot but its first
 pub root_lone : (t : ℕ) (bs : List Block) → IsTree (suc t) bs → FilledBut 0 bs → EntriesBelow (suc t) bs (128 ^ (suc t)) → (k : ℕ) → k ≢ 0 → slot_in bs 0 k ≡ Empty
@@ -175,3 +172,193 @@ lowered t c i bs ls d b u e lone r be =
       blocks_sum = λ h. omega (arith, blocks_at-set h mid 0 b some, blocks_removed h ls c d hc, ap (λ (z : Block). only_at h z.height 1) be, ap (λ (z : Block). only_at h z.height 1) head);
       used_sum = λ h. omega (arith, used_at-set h mid 0 b some, used_removed h ls c d hc, ap (λ (z : Block). only_at h z.height (used_slots z)) be, ap (λ (z : Block). only_at h z.height (used_slots z)) head)
     }
+
+-- the slot by which a block other than the new root is led to is no slot of the old root
+inner_parent : (t c m i : ℕ) (bs ls new : List Block) → IsTree (suc t) bs → Lowered t c m i bs ls new → (w o k : ℕ) → w ≢ c → slot_in bs o k ≡ Node w → 0 < o
+inner_parent t c m i bs ls new u r w o k n e =
+    elim (cases_eq o 0) [
+      inl z ↦
+        let e0 : slot_in bs 0 k ≡ Node w = ap (λ y. slot_in bs y k) (sym z) ∙ e in
+        elim (cases_eq k 0) [
+          inl q ↦
+            let f : Node w ≡ Node c = sym e0 ∙ ap (λ y. slot_in bs 0 y) q ∙ r.child in
+            let g : w ≡ c = cc in
+            absurd (n g)
+        | inr q ↦ absurd (Node≢Empty w (sym e0 ∙ r.lone k q))
+        ]
+    | inr z ↦ omega arith
+    ]
+
+lowered_tree : (t c m i : ℕ) (bs ls new : List Block) → IsTree (suc t) bs → Lowered t c m i bs ls new → IsTree t new
+lowered_tree t c m i bs ls new u r =
+    let lc = u.leads 0 0 c r.child in
+    let g : 0 < c = lc.not_root in
+    let l : c ≤ m = r.child_in in
+    let m_in : 0 < m = omega arith in
+    let slot : (x j : ℕ) → x < m → slot_in new x j ≡ slot_in ls (from c m x) j = λ x j q. ap (λ (z : Block). get_or z.slots j Empty) (r.same x q) in
+    let place : (x : ℕ) → x < m → SamePlace (block_in bs (from c m x)) (block_in new x) = λ x q.
+      subst (λ (z : Block). SamePlace (block_in bs (from c m x)) z) (sym (r.same x q)) (r.links.place (from c m x)) in
+    let zero : from c m 0 ≡ c = from_root c m 0 refl in
+    let root = place 0 m_in in
+    let at_root = ap (λ y. (block_in bs y).height) zero in
+    let prefix_root = ap (λ y. (block_in bs y).prefix) zero in
+    let below : (x j : ℕ) (s : Slot) → slot_in new x j ≡ s → s ≢ Empty → x < m = λ x j s e n. omega (arith, node_in_range new x j s e n, r.len) in
+    let inner : (x : ℕ) → 0 < x → x < m → (from c m x ≢ c) × (from c m x ≡ was_at c m x) = λ x h q.
+      let e = from_inner c m x (λ z. omega arith) in
+      (λ z. (was c m x g l q).kept (sym e ∙ z), e) in
+    record {
+      some = omega (arith, r.len);
+      root_height = omega (arith, root.height, at_root, lc.height, u.root_height);
+      root_prefix = omega (arith, root.prefix, prefix_root, lc.prefix, u.root_prefix);
+      below_top = λ x h k.
+        let q : x < m = omega (arith, r.len) in
+        let f = from_in c m x g l q in
+        let o = u.has_parent (from c m x) f.0 (omega (arith, r.old_len, f.1)) in
+        let p = inner_parent t c m i bs ls new u r (from c m x) o.0 _ (inner x h q).0 o.1 in
+        let d = u.leads o.0 _ _ o.1 in
+        omega (arith, (place x q).height, d.height, u.below_top o.0 p (node_in_range bs o.0 _ _ o.1 (Node≢Empty (from c m x))));
+      leads = λ x j y e.
+        let q = below x j (Node y) e (Node≢Empty y) in
+        let w = from c m x in
+        elim (r.links.back w j (Node y) (sym (slot x j q) ∙ e) (Node≢Empty y)) [
+          inl b ↦
+            let yc : y ≡ c = cc in
+            let d = u.leads w j m b.2 in
+            let cm : c < m = omega (arith, l, b.0) in
+            let cw : from c m c ≡ m = from_inner c m c (λ z. omega arith) ∙ was_same c m c refl in
+            let p = place c cm in
+            record {
+              below = omega (arith, r.len);
+              not_root = omega (arith, g);
+              height = omega (arith, ap (λ z. (block_in new z).height) yc, p.height, ap (λ z. (block_in bs z).height) cw, d.height, (place x q).height);
+              prefix = omega (arith, ap (λ z. (block_in new z).prefix) yc, p.prefix, ap (λ z. (block_in bs z).prefix) cw, d.prefix, (place x q).prefix)
+            }
+        | inr b ↦
+            let d = u.leads w j y b.0 in
+            let a = b.1 y refl in
+            let ym : y < m = omega (arith, d.below, r.old_len, a.1) in
+            let yw : from c m y ≡ y = from_inner c m y (λ z. omega (arith, d.not_root)) ∙ was_other c m y a.0 in
+            let p = place y ym in
+            record {
+              below = omega (arith, r.len);
+              not_root = d.not_root;
+              height = omega (arith, p.height, ap (λ z. (block_in bs z).height) yw, d.height, (place x q).height);
+              prefix = omega (arith, p.prefix, ap (λ z. (block_in bs z).prefix) yw, d.prefix, (place x q).prefix)
+            }
+        ];
+      has_parent = λ y h k.
+        let q : y < m = omega (arith, r.len) in
+        let f = from_in c m y g l q in
+        let n = inner y h q in
+        let o = u.has_parent (from c m y) f.0 (omega (arith, r.old_len, f.1)) in
+        let p = inner_parent t c m i bs ls new u r (from c m y) o.0 _ n.0 o.1 in
+        let a = to_place c m o.0 g l p (omega (arith, node_in_range bs o.0 _ _ o.1 (Node≢Empty (from c m y)), r.old_len)) in
+        let digit : (block_in new y).prefix % 128 ≡ (block_in bs (from c m y)).prefix % 128 = ap (λ z. z % 128) (place y q).prefix in
+        let j = (block_in new y).prefix % 128 in
+        let stood : slot_in bs o.0 j ≡ Node (from c m y) = ap (λ z. slot_in bs o.0 z) digit ∙ o.1 in
+        let now_slot : slot_in new a.0 j ≡ slot_in ls o.0 j = slot a.0 j a.1 ∙ ap (λ z. slot_in ls z j) a.2 in
+        (a.0, elim (cases_eq y c) [
+          inl e ↦
+            let last : from c m y ≡ m = n.1 ∙ was_same c m y e in
+            now_slot ∙ r.links.forth_last o.0 j (λ z. omega arith) (stood ∙ ap Node last) ∙ ap Node (sym e)
+        | inr e ↦
+            let other : from c m y ≡ y = n.1 ∙ was_other c m y e in
+            now_slot ∙ r.links.forth o.0 j (Node y) (stood ∙ ap Node other) (λ z d. (let zy : y ≡ z = cc in λ w. e (zy ∙ w), let zy : y ≡ z = cc in λ w. omega arith))
+        ]);
+      views = λ x j v e.
+        let q = below x j (View v) e (View≢Empty v) in
+        elim (r.links.back (from c m x) j (View v) (sym (slot x j q) ∙ e) (View≢Empty v)) [
+          inl b ↦ absurd (Node≢View c v (sym b.1))
+        | inr b ↦ (place x q).height ∙ u.views (from c m x) j v b.0
+        ];
+      wide = λ x h k.
+        let q : x < m = omega (arith, r.len) in
+        let f = from_in c m x g l q in
+        (place x q).width ∙ u.wide (from c m x) f.0 (omega (arith, r.old_len, f.1));
+      root_wide = omega (arith, root.width, ap (λ y. length (block_in bs y).slots) zero, u.wide c g lc.below);
+      deep = λ _. root.width ∙ ap (λ y. length (block_in bs y).slots) zero ∙ u.wide c g lc.below;
+      counted = λ h k.
+        let rh : (block_in ls 0).height ≡ suc t = (r.links.place 0).height ∙ u.root_height in
+        let ph : (block_in bs i).height ≡ suc t = omega (arith, r.links.parent_height, lc.height, u.root_height) in
+        let n0 : (block_in ls 0).height ≢ h = λ e. omega (arith, rh) in
+        let n1 : (block_in ls 0).height ≢ suc h = λ e. omega (arith, rh) in
+        let n2 : (block_in bs i).height ≢ suc h = λ e. omega (arith, ph) in
+        omega (arith, r.blocks_sum h, r.used_sum (suc h), r.links.blocks_sum h, r.links.used_sum (suc h), only_at_is (suc h) (block_in bs i).height,
+          only_at_other h (block_in ls 0).height 1 n0, only_at_other (suc h) (block_in ls 0).height (used_slots (block_in ls 0)) n1, only_at_other (suc h) (block_in bs i).height 1 n2, u.counted h (omega arith))
+    }
+
+pub one_down : (t c i : ℕ) (bs ls : List Block) (d b : Block) → IsTree (suc t) bs → FilledBut 0 bs → slot_in bs 0 0 ≡ Node c → ((k : ℕ) → k ≢ 0 → slot_in bs 0 k ≡ Empty) → Relinked c (length bs - 1) i bs ls → b ≡ block_in ls c → ChangesTop (suc t) t bs (set (swap_remove ls c d) 0 b)
+one_down t c i bs ls d b u f e lone links be =
+    let r = lowered t c i bs ls d b u e lone links be in
+    let m = length bs - 1 in
+    let new = set (swap_remove ls c d) 0 b in
+    let v = lowered_tree t c m i bs ls new u r in
+    let lc = u.leads 0 0 c e in
+    let g : 0 < c = lc.not_root in
+    let l : c ≤ m = r.child_in in
+    let m_in : 0 < m = omega arith in
+    let slot : (x j : ℕ) → x < m → slot_in new x j ≡ slot_in ls (from c m x) j = λ x j q. ap (λ (z : Block). get_or z.slots j Empty) (r.same x q) in
+    let place : (x : ℕ) → x < m → SamePlace (block_in bs (from c m x)) (block_in new x) = λ x q.
+      subst (λ (z : Block). SamePlace (block_in bs (from c m x)) z) (sym (r.same x q)) (links.place (from c m x)) in
+    let top_parent : (x : ℕ) → 0 < x → x < length bs → x ≢ i = λ x h q z.
+      omega (arith, u.below_top x h q, ap (λ y. (block_in bs y).height) z, links.parent_height, lc.height, u.root_height) in
+    let used : (x : ℕ) → x < m → 0 < used_slots (block_in new x) = λ x q.
+      let w = from_in c m x g l q in
+      let n : from c m x < length bs = omega (arith, r.old_len, w.1) in
+      omega (arith, ap used_slots (r.same x q), links.used (from c m x) (top_parent _ w.0 n), f (from c m x) w.0 n (λ z. omega (arith, w.0))) in
+    let rh : (block_in ls 0).height ≢ 0 = λ z. omega (arith, (links.place 0).height, u.root_height) in
+    let ph : (block_in bs i).height ≢ 0 = λ z. omega (arith, links.parent_height) in
+    record {
+      tree = v;
+      filled = λ x h q _. used x (omega (arith, r.len));
+      entries = λ n. same_options _ _
+        (λ w k.
+          let h = holder t new v n w k in
+          let q : h.0 < m = omega (arith, h.1.inside, r.len) in
+          let p = place h.0 q in
+          elim (links.back (from c m h.0) (n % 128) (View w) (sym (slot h.0 (n % 128) q) ∙ h.1.slot) (View≢Empty w)) [
+            inl a ↦ absurd (Node≢View c w (sym a.1))
+          | inr a ↦ entry_held (suc t) bs u n w (from c m h.0) (record {
+              inside = omega (arith, r.old_len, (from_in c m h.0 g l q).1);
+              height = sym p.height ∙ h.1.height;
+              prefix = sym p.prefix ∙ h.1.prefix;
+              slot = a.0
+            })
+          ])
+        (λ w k.
+          let h = holder (suc t) bs u n w k in
+          let inner : 0 < h.0 = elim (cases_eq h.0 0) [
+            inl z ↦ absurd (omega (arith, h.1.height, ap (λ y. (block_in bs y).height) z, u.root_height))
+          | inr z ↦ omega arith
+          ] in
+          let a = to_place c m h.0 g l inner (omega (arith, h.1.inside, r.old_len)) in
+          let p = place a.0 a.1 in
+          entry_held t new v n w a.0 (record {
+            inside = omega (arith, a.1, r.len);
+            height = p.height ∙ ap (λ y. (block_in bs y).height) a.2 ∙ h.1.height;
+            prefix = p.prefix ∙ ap (λ y. (block_in bs y).prefix) a.2 ∙ h.1.prefix;
+            slot = slot a.0 (n % 128) a.1 ∙ ap (λ y. slot_in ls y (n % 128)) a.2 ∙ links.forth h.0 (n % 128) (View w) h.1.slot (λ y z. absurd (Node≢View y w (sym z)))
+          }));
+      count = omega (arith, r.used_sum 0, links.used_sum 0, only_at_is 0 (block_in bs i).height, only_at_other 0 (block_in ls 0).height (used_slots (block_in ls 0)) rh, only_at_other 0 (block_in bs i).height 1 ph);
+      len = omega (arith, r.len, r.old_len);
+      used = λ _. used 0 m_in
+    }
+
+-- with no entry past the levels that stay, and nothing in its first slot, the root is empty
+pub root_unused : (t : ℕ) (bs : List Block) → IsTree (suc t) bs → FilledBut 0 bs → EntriesBelow (suc t) bs (128 ^ (suc t)) → child_of (slot_in bs 0 0) ≡ None → used_slots (block_in bs 0) ≡ 0
+root_unused t bs u f s e =
+    elim (cases_eq (used_slots (block_in bs 0)) 0) [
+      inl z ↦ z
+    | inr z ↦
+        let o = some_used (block_in bs 0).slots (omega arith) in
+        elim (cases_eq o.0 0) [
+          inl q ↦ elim (slot_is (slot_in bs 0 0)) [
+            inl r ↦ absurd (o.1 (ap (λ y. slot_in bs 0 y) q ∙ r))
+          | inr r ↦ elim r [
+              inl r ↦ absurd (Some≢None r.0 (sym (ap child_of r.1) ∙ e))
+            | inr r ↦ absurd (omega (arith, u.views 0 0 r.0 r.1, u.root_height))
+            ]
+          ]
+        | inr q ↦ absurd (o.1 (root_lone t bs u f s o.0 q))
+        ]
+    ]

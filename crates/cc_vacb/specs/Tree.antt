@@ -130,5 +130,8 @@ pub record ChangesTop (top to : ℕ) (old new : List Block) : Type 0 where
   pub filled : FilledBut 0 new
   pub entries : (block : ℕ) → entry_in new to block ≡ entry_in old top block
   pub count : used_at 0 new ≡ used_at 0 old
-  pub len : length new + top ≤ length old + to
+  pub len : length new ≤ length old + (to - top)
   pub used : 0 < used_slots (block_in old 0) → 0 < used_slots (block_in new 0)
+
+abbrev pub EntriesBelow : ℕ → List Block → ℕ → Type 0
+EntriesBelow top blocks bound = (number view : ℕ) → entry_in blocks top number ≡ Some view → number < bound
