@@ -1,4 +1,4 @@
-ghost use Rattle.std.specs.Prelude.{◌≡◌, ℕ, ◌==◌, ◌<◌, ◌↔◌, IfOk, IsTrue, length, slice_index_or, slice_set};
+ghost use Rattle.std.specs.Prelude.{◌≡◌, ℕ, ◌==◌, ◌<◌, ◌-◌, ◌++◌, IfOk, OnOk, OnErr, length, take, replicate, slice_index_or, slice_set};
 ghost use Rattle.cc_vacb.specs.declared.slots.Slot.TheVariants.{Empty};
 ghost use Rattle.cc_vacb.specs.Block.{blank_block, used_slots};
 
@@ -69,6 +69,31 @@ impl IndexBlock {
         ensures { self.new ≡ record self.old { slots = slice_set self.old.slots i slot } }
     {
         self.slots[usize::from(i)] = slot;
+    }
+
+    pub(crate) fn set_height(&mut self, height: u8)
+        ensures { self.new ≡ record self.old { height = height } }
+    {
+        self.height = height;
+    }
+
+    // Fills the slots up to 128.
+    pub(crate) fn widen(&mut self) -> Result<(), AllocError>
+        ensures ok { OnOk result
+            (self.new
+                ≡ record self.old {
+                    slots = take 128 self.old.slots ++ replicate (128 - length self.old.slots) Empty
+                }) }
+        ensures err { OnErr result (self.new ≡ self.old) }
+    {
+        self.slots.resize(128, Slot::Empty)
+    }
+
+    // Cuts the slots down to the number that is given.
+    pub(crate) fn narrow(&mut self, width: usize)
+        ensures { self.new ≡ record self.old { slots = take width self.old.slots } }
+    {
+        self.slots.truncate(width);
     }
 
     pub(crate) fn is_empty(&self) -> bool

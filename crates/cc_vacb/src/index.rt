@@ -9,6 +9,7 @@ use std::marker::Model;
 use crate::blocks::IndexBlock;
 use crate::counter::{Ledger, Steps};
 use crate::levels;
+use crate::roots;
 use crate::slots::Slot;
 use crate::tree;
 
@@ -101,6 +102,32 @@ impl ViewIndex {
     {
         let top = levels::top_for(self.size);
         tree::take_view(&mut self.blocks, top, block)
+    }
+
+    /// The index of the same entries for another size. Nothing is changed where memory is wanting.
+    pub fn resize(&mut self, size: u64) -> Result<(), NoMemory>
+        requires { (block : ℕ) → IsSome (entry_at self.old block) → StartsBelow block size }
+        ensures size { OnOk result (self.new.size ≡ size) }
+        ensures entries { (block : ℕ) → entry_at self.new block ≡ entry_at self.old block }
+        ensures count { entry_count self.new ≡ entry_count self.old }
+        ensures err { OnErr result (self.new ≡ self.old) }
+    {
+        let top = levels::top_for(self.size);
+        let to = levels::top_for(size);
+        let width = levels::width_for(size);
+        if to < top {
+            roots::lower(&mut self.blocks, top, to);
+        } else if width == 128 {
+            if self.blocks.len() > MAX_BLOCKS {
+                return Err(NoMemory);
+            }
+            roots::grow(self.alloc, &mut self.blocks, top, to)?;
+        }
+        if width < 128 {
+            self.blocks[0].narrow(width);
+        }
+        self.size = size;
+        Ok(())
     }
 
     pub fn levels(&self) -> u8

@@ -10,6 +10,7 @@ mod blocks;
 mod counter;
 mod index;
 mod levels;
+mod roots;
 mod slots;
 mod tree;
 

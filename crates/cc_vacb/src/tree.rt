@@ -139,7 +139,7 @@ fn parent_of(blocks: &[IndexBlock], top: u8, node: u32) -> u32
 }
 
 // Frees the place of an index block for the last one, and answers the block above it.
-fn unlink(blocks: &mut Vec<IndexBlock>, top: u8, node: u32) -> u32
+pub(crate) fn unlink(blocks: &mut Vec<IndexBlock>, top: u8, node: u32) -> u32
     requires tree { IsTree top blocks.old.items }
     requires inner { 0 < node }
     requires node_in { node < length blocks.old.items }
