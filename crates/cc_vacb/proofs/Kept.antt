@@ -4,11 +4,13 @@ use Rattle.cc_vacb.specs.Block.{Block}
 use Rattle.cc_vacb.specs.Slots.{view_of}
 use Rattle.cc_vacb.specs.declared.slots.Slot.TheVariants.{Node}
 use Rattle.cc_vacb.specs.Index.{block_in, slot_in, entry_in, count_in, levels_of, width_of, StartsBelow, digits_of, led_by, IsLeastLevels}
-use Rattle.cc_vacb.specs.Tree.{IsTree, FilledBut, IsIndex, PutsView, TakesView}
+use Rattle.cc_vacb.specs.Tree.{IsTree, FilledBut, IsIndex, PutsView, TakesView, ChangesTop, EntriesBelow}
 use Rattle.cc_vacb.proofs.Count.{count_in-used}
 use Rattle.cc_vacb.proofs.Bound.{blocks_bound}
 use Rattle.cc_vacb.proofs.Digits.{led_to_entry}
-use Rattle.cc_vacb.proofs.Sizes.{size_in, levels_range, number_covered, prefix_covered, root_slot, least_levels}
+use Rattle.cc_vacb.proofs.Sizes.{size_in, levels_range, number_covered, prefix_covered, root_slot, least_levels, width_large, width_small, width_bound, width_deep, flat_size}
+use Rattle.std.proofs.lemmas.Bool.{cases_lt}
+use Rattle.std.specs.Prelude.{IsSome}
 
 pub top_is : (size top : ℕ) → top + 1 ≡ levels_of size → top ≡ levels_of size - 1
 top_is size top e = omega arith
@@ -69,3 +71,54 @@ digits_at size top b bs o l e s q =
 -- the number of levels, as it is counted
 pub levels_least : (size n : ℕ) → size < 2 ^ 64 → n ≡ levels_of size → IsLeastLevels size n
 levels_least size n l e = subst (IsLeastLevels size) (sym e) (least_levels size (levels_of size) l (size_in size))
+
+pub some_entry : (o : Option ℕ) (v : ℕ) → o ≡ Some v → IsSome o
+some_entry o v e = subst (λ (p : Option ℕ). IsSome p) (sym e) refl
+
+-- the entries that stay have a place below the new root
+pub small_at : (size top new to : ℕ) (bs : List Block) → top + 1 ≡ levels_of size → to + 1 ≡ levels_of new → new < 2 ^ 64 → ((n : ℕ) → IsSome (entry_in bs (levels_of size - 1) n) → StartsBelow n new) → EntriesBelow top bs (128 ^ (to + 1))
+small_at size top new to bs e f l s = λ n v g.
+    let h = s n (some_entry _ v (ap (λ t. entry_in bs t n) (sym (top_is size top e)) ∙ g)) in
+    subst (λ m. n < 128 ^ m) (sym f) (number_covered new (levels_of new) n l (size_in new) h)
+
+pub small_flat : (size top new w : ℕ) (bs : List Block) → top + 1 ≡ levels_of size → w ≡ width_of new → w < 128 → ((n : ℕ) → IsSome (entry_in bs (levels_of size - 1) n) → StartsBelow n new) → EntriesBelow top bs w
+small_flat size top new w bs e f l s = λ n v g.
+    let h = s n (some_entry _ v (ap (λ t. entry_in bs t n) (sym (top_is size top e)) ∙ g)) in
+    elim (cases_lt 1048576 new) [
+      inl k ↦ absurd (omega (arith, width_large new k))
+    | inr k ↦ omega (arith, width_small new k, h)
+    ]
+
+pub flat_top : (new to w : ℕ) → to + 1 ≡ levels_of new → w ≡ width_of new → w < 128 → (to ≡ 0) × (w ≡ 4)
+flat_top new to w e f l =
+    elim (cases_lt 1048576 new) [
+      inl k ↦ absurd (omega (arith, width_large new k))
+    | inr k ↦ (omega (arith, flat_size new (levels_of new) (size_in new) k), omega (arith, width_small new k))
+    ]
+
+pub width_least : (size w : ℕ) (bs : List Block) → IsIndex size bs → w ≡ 4 → w ≤ length (block_in bs 0).slots
+width_least size w bs x e = omega (arith, x.width, (width_bound size).0)
+
+pub resized : (size top new to : ℕ) (bs cs : List Block) → ChangesTop top to bs cs → to + 1 ≡ levels_of new → new < 2 ^ 64 → length cs < 2 ^ 32 → length (block_in cs 0).slots ≡ width_of new → IsIndex new cs
+resized size top new to bs cs c e l n w = record {
+    tree = subst (λ t. IsTree t cs) (top_is new to e) c.tree;
+    filled = c.filled;
+    width = w;
+    numbers = n;
+    fits = l
+  }
+
+pub resized_entry : (size top new to : ℕ) (bs cs : List Block) → ChangesTop top to bs cs → top + 1 ≡ levels_of size → to + 1 ≡ levels_of new → (n : ℕ) → entry_in cs (levels_of new - 1) n ≡ entry_in bs (levels_of size - 1) n
+resized_entry size top new to bs cs c e f n =
+    ap (λ t. entry_in cs t n) (sym (top_is new to f)) ∙ c.entries n ∙ ap (λ t. entry_in bs t n) (top_is size top e)
+
+pub resized_count : (top to : ℕ) (bs cs : List Block) → ChangesTop top to bs cs → count_in cs ≡ count_in bs
+resized_count top to bs cs c = omega (arith, c.count, count_in-used bs, count_in-used cs)
+
+-- the width after the levels were lowered to one at least
+pub lowered_width : (size top new to w : ℕ) (bs cs : List Block) → IsIndex size bs → ChangesTop top to bs cs → top + 1 ≡ levels_of size → to < top → w ≡ width_of new → 128 ≤ w → length (block_in bs 0).slots ≤ length (block_in cs 0).slots → length (block_in cs 0).slots ≡ width_of new
+lowered_width size top new to w bs cs x c e l f g h =
+    omega (arith, x.width, width_deep size (omega (arith, e)), c.tree.root_wide, h, (width_bound new).1)
+
+pub wide_width : (new w n : ℕ) → w ≡ width_of new → 128 ≤ w → n ≡ 128 → n ≡ width_of new
+wide_width new w n e l f = omega (arith, (width_bound new).1)

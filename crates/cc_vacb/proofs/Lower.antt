@@ -1,7 +1,7 @@
 -- The root is taken away, and the one block below it becomes the root.
 use Rattle.std.proofs.Common.{◌≡◌, ◌≢◌, ℕ, suc, zero, ◌+◌, ◌-◌, ◌*◌, ◌/◌, ◌%◌, ◌^◌, ◌<◌, ◌≤◌, ◌==◌, eqb, if◌then◌else◌, List, [], ◌∷◌, ◌++◌, Option, Some, None, length, get_or, set, take, count_by, sum_by, refl, ap, sym, subst, ◌∙◌, arith, inl, inr}
 use Rattle.std.proofs.lemmas.Bool.{cases_eq, cond-true, cond-false, ne_eqb, eq-eqb}
-use Rattle.std.proofs.lemmas.List.{length-set, length-take, get_or-set_same, get_or-set_other}
+use Rattle.std.proofs.lemmas.List.{length-set, length-take, get_or-set_same, get_or-set_other, get_or_read}
 use Rattle.std.proofs.lemmas.List.Sums.{sum_by-cons}
 use Rattle.std.proofs.lemmas.Nat.{div_below}
 use Rattle.std.proofs.Math.Nat.{div-div-eq-div-mul, one-le-pow}
@@ -19,7 +19,7 @@ use Rattle.cc_vacb.proofs.Count.{only_at, only_at_is, only_at_other}
 use Rattle.cc_vacb.proofs.Path.{slot_is}
 use Rattle.cc_vacb.proofs.Removed.{was, was_same, was_other, Was, now, now_same, now_other, Now, block-swap_remove, blocks_removed, used_removed}
 use Rattle.cc_vacb.proofs.Raise.{blocks_at-set, used_at-set, low}
-use Rattle.cc_vacb.proofs.Walk.{Holds, holder, entry_held, same_options, digit_in}
+use Rattle.cc_vacb.proofs.Walk.{Holds, holder, entry_held, same_options, digit_in, child_is}
 
 -- a block with a used slot
 pub some_used : (xs : List Slot) → 0 < count_by is_used xs → (k : ℕ) × (get_or xs k Empty ≢ Empty)
@@ -362,3 +362,26 @@ root_unused t bs u f s e =
         | inr q ↦ absurd (o.1 (root_lone t bs u f s o.0 q))
         ]
     ]
+
+pub first_child : (bs ds : List Block) (s : Slot) (y : ℕ) → ds ≡ bs → s ≡ slot_in ds 0 0 → Some y ≡ child_of s → slot_in bs 0 0 ≡ Node y
+first_child bs ds s y e f g = ap (λ (c : List Block). slot_in c 0 0) (sym e) ∙ sym f ∙ child_is s y (sym g)
+
+pub no_child_first : (bs ds : List Block) (s : Slot) → ds ≡ bs → s ≡ slot_in ds 0 0 → None ≡ child_of s → child_of (slot_in bs 0 0) ≡ None
+no_child_first bs ds s e f g = ap child_of (ap (λ (c : List Block). slot_in c 0 0) (sym e) ∙ sym f) ∙ sym g
+
+-- the root's only child is the root, and has no fewer slots
+pub lower_step : (top c i : ℕ) (bs ls mid : List Block) (b : Block) → 0 < top → IsTree top bs → FilledBut 0 bs → EntriesBelow top bs (128 ^ top) → slot_in bs 0 0 ≡ Node c → Relinked c (length bs - 1) i bs ls → b ≡ get_or ls c b → mid ≡ swap_remove ls c b → ChangesTop top (top - 1) bs (set mid 0 b) × (length (block_in bs 0).slots ≤ length (block_in (set mid 0 b) 0).slots)
+lower_step zero c i bs ls mid b g u f s e r be me = absurd (omega arith)
+lower_step (suc t) c i bs ls mid b g u f s e r be me =
+    let l = u.leads 0 0 c e in
+    let hc : c < length ls = omega (arith, r.len, l.below) in
+    let q : b ≡ block_in ls c = get_or_read ls c b hc be no_block in
+    let d : ChangesTop (suc t) t bs (set mid 0 b) = subst (λ (x : List Block). ChangesTop (suc t) t bs (set x 0 b)) (sym me) (one_down t c i bs ls b b u f e (root_lone t bs u f s) r q) in
+    let p : t ≡ suc t - 1 = omega arith in
+    let some : 0 < length mid = omega (arith, d.tree.some, length-set mid 0 b) in
+    ( subst (λ h. ChangesTop (suc t) h bs (set mid 0 b)) p d
+    , omega (arith, u.root_wide, ap (λ (x : Block). length x.slots) (get_or-set_same mid 0 b no_block some), ap (λ (x : Block). length x.slots) q, (r.place c).width, u.wide c l.not_root l.below) )
+
+pub root_unused_at : (top : ℕ) (bs : List Block) → 0 < top → IsTree top bs → FilledBut 0 bs → EntriesBelow top bs (128 ^ top) → child_of (slot_in bs 0 0) ≡ None → used_slots (block_in bs 0) ≡ 0
+root_unused_at zero bs g u f s e = absurd (omega arith)
+root_unused_at (suc t) bs g u f s e = root_unused t bs u f s e

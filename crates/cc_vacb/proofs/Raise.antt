@@ -204,6 +204,16 @@ raised_tree top bs new t w r =
         ]
     }
 
+pub then_top : (a b c : ℕ) (xs ys zs : List Block) → (b - a) + (c - b) ≤ c - a → ChangesTop a b xs ys → ChangesTop b c ys zs → ChangesTop a c xs zs
+then_top a b c xs ys zs l p q = record {
+    tree = q.tree;
+    filled = q.filled;
+    entries = λ n. q.entries n ∙ p.entries n;
+    count = q.count ∙ p.count;
+    len = omega (arith, p.len, q.len);
+    used = λ g. q.used (p.used g)
+  }
+
 pub one_up : (top : ℕ) (bs : List Block) (b : Block) → IsTree top bs → FilledBut 0 bs → 0 < used_slots (block_in bs 0) → length (block_in bs 0).slots ≡ 128 → IsBlank b (suc top) 0 128 → ChangesTop top (suc top) bs (with_root bs b)
 one_up top bs b t f used w blank =
     let n = length bs in
@@ -250,3 +260,23 @@ one_up top bs b t f used w blank =
       len = omega (arith, r.len);
       used = λ _. omega (arith, used_by (block_in new 0) 0 (omega (arith, r.width)), ap weight_of r.first)
     }
+
+pub raise_step : (top to n : ℕ) (old mid pushed new : List Block) (b r : Block) → top < to → ChangesTop top (to - 1) old mid → length (block_in mid 0).slots ≡ 128 → 0 < used_slots (block_in old 0) → b ≡ blank_block to 0 128 → r ≡ block_in mid 0 → pushed ≡ set mid 0 b ++ r ∷ [] → new ≡ put_slot pushed 0 0 (Node n) → n ≡ length mid → ChangesTop top to old new
+raise_step top to n old mid pushed new b r g c w u be re pe ne le =
+    let t : suc (to - 1) ≡ to = omega arith in
+    let blank : IsBlank b (suc (to - 1)) 0 128 = subst (λ (x : Block). IsBlank x (suc (to - 1)) 0 128) (sym be) (subst (λ h. IsBlank (blank_block to 0 128) h 0 128) (sym t) (blank-is to 0 128)) in
+    let q : new ≡ with_root mid b =
+      ne
+      ∙ ap (λ (x : List Block). put_slot x 0 0 (Node n)) (pe ∙ ap (λ (x : Block). set mid 0 b ++ x ∷ []) re)
+      ∙ ap (λ x. put_slot (set mid 0 b ++ block_in mid 0 ∷ []) 0 0 (Node x)) le in
+    let o = one_up (to - 1) mid b c.tree c.filled (c.used u) w blank in
+    let p : ChangesTop (to - 1) to mid new = subst (λ h. ChangesTop (to - 1) h mid new) t (subst (λ (x : List Block). ChangesTop (to - 1) (suc (to - 1)) mid x) (sym q) o) in
+    then_top top (to - 1) to old mid new (omega arith) c p
+
+pub raise_width : (top to : ℕ) (old mid pushed : List Block) (b r : Block) → ChangesTop top to old mid → b ≡ blank_block (to + 1) 0 128 → pushed ≡ set mid 0 b ++ r ∷ [] → 0 < length (block_in pushed 0).slots
+raise_width top to old mid pushed b r c be pe =
+    let some = c.tree.some in
+    let blank = blank-is (to + 1) 0 128 in
+    let head : block_in pushed 0 ≡ b =
+      ap (λ (x : List Block). block_in x 0) pe ∙ block-push_old (set mid 0 b) r 0 (omega (arith, length-set mid 0 b)) ∙ get_or-set_same mid 0 b no_block some in
+    omega (arith, ap (λ (x : Block). length x.slots) (head ∙ be), blank.width)

@@ -1,20 +1,22 @@
 -- The root alone: its height where nothing is below it, and the number of its slots.
 use Rattle.std.proofs.Common.{◌≡◌, ◌≢◌, ℕ, suc, zero, ◌+◌, ◌-◌, ◌*◌, ◌/◌, ◌%◌, ◌^◌, ◌<◌, ◌≤◌, List, [], ◌∷◌, ◌++◌, Option, Some, None, length, get_or, set, take, replicate, count_by, refl, ap, sym, subst, ◌∙◌, arith, inl, inr}
 use Rattle.std.proofs.lemmas.Bool.{cases_eq, cases_lt}
-use Rattle.std.proofs.lemmas.List.{length-set, length-append, length-replicate, take_all, get_or-set_same, get_or-set_other, get_or_append_left, get_or-append_right, get_or_past, get_or-take, length-take}
+use Rattle.std.proofs.lemmas.List.{length-set, length-append, length-replicate, take_all, get_or-set_same, get_or-set_other, get_or_append_left, get_or-append_right, get_or_past, get_or-take, length-take, length-take-le, get_or_read}
+use Rattle.std.proofs.Math.Nat.{pow-le-pow_right}
 use Rattle.std.proofs.lemmas.List.Sums.{sum_by-cons}
 use Rattle.cc_vacb.specs.declared.slots.Slot.{Slot}
 use Rattle.cc_vacb.specs.declared.slots.Slot.TheVariants.{Empty, Node, View}
 use Rattle.cc_vacb.specs.Slots.{is_used, weight_of}
 use Rattle.cc_vacb.specs.Block.{Block, no_block, used_slots}
 use Rattle.cc_vacb.specs.Index.{block_in, slot_in, entry_in}
-use Rattle.cc_vacb.specs.Tree.{SamePlace, IsTree, Leads, FilledBut, used_at, blocks_at, ChangesTop}
-use Rattle.cc_vacb.proofs.Put.{node_in_range, Node≢Empty}
+use Rattle.cc_vacb.specs.Tree.{SamePlace, IsTree, Leads, FilledBut, used_at, blocks_at, ChangesTop, EntriesBelow}
+use Rattle.cc_vacb.proofs.Put.{node_in_range, Node≢Empty, View≢Empty}
 use Rattle.cc_vacb.proofs.Count.{only_at}
 use Rattle.cc_vacb.proofs.Child.{IsBlank, blank_slot}
 use Rattle.cc_vacb.proofs.Removed.{empty_block}
-use Rattle.cc_vacb.proofs.Raise.{blocks_at-set, used_at-set}
-use Rattle.cc_vacb.proofs.Walk.{Holds, holder, entry_held, same_options}
+use Rattle.cc_vacb.proofs.Raise.{blocks_at-set, used_at-set, then_top}
+use Rattle.cc_vacb.proofs.Walk.{Holds, holder, entry_held, same_options, digit_in}
+use Rattle.cc_vacb.proofs.Path.{slot_is}
 use Rattle.cc_vacb.proofs.Alone.{alone_tree, alone_entry, alone_used}
 
 -- where the root has no used slot there is no other block
@@ -161,12 +163,68 @@ narrowed_slot xs n k f =
 pub same_top : (top : ℕ) (bs : List Block) → IsTree top bs → FilledBut 0 bs → ChangesTop top top bs bs
 same_top top bs t f = record { tree = t; filled = f; entries = λ n. refl; count = refl; len = omega arith; used = λ g. g }
 
-pub then_top : (a b c : ℕ) (xs ys zs : List Block) → (b - a) + (c - b) ≤ c - a → ChangesTop a b xs ys → ChangesTop b c ys zs → ChangesTop a c xs zs
-then_top a b c xs ys zs l p q = record {
-    tree = q.tree;
-    filled = q.filled;
-    entries = λ n. q.entries n ∙ p.entries n;
-    count = q.count ∙ p.count;
-    len = omega (arith, p.len, q.len);
-    used = λ g. q.used (p.used g)
-  }
+-- the root after it was filled up to 128 slots
+pub widened : (top : ℕ) (bs cs : List Block) (r b : Block) → IsTree top bs → FilledBut 0 bs → cs ≡ bs → r ≡ block_in bs 0 → b ≡ record r { slots = take 128 r.slots ++ replicate (128 - length r.slots) Empty } → ChangesTop top top bs (set cs 0 b) × (length (block_in (set cs 0 b) 0).slots ≡ 128)
+widened top bs cs r b t f ce re be =
+    let w : length r.slots ≤ 128 = omega (arith, ap (λ (x : Block). length x.slots) re, t.root_wide) in
+    let width : length b.slots ≡ 128 = ap (λ (x : Block). length x.slots) be ∙ widened_width r.slots 128 w in
+    let slot : (k : ℕ) → get_or b.slots k Empty ≡ slot_in bs 0 k = λ k.
+      ap (λ (x : Block). get_or x.slots k Empty) be ∙ widened_slot r.slots 128 k w ∙ ap (λ (x : Block). get_or x.slots k Empty) re in
+    let q : set bs 0 b ≡ set cs 0 b = ap (λ (x : List Block). set x 0 b) (sym ce) in
+    let c = new_width top bs b t f (ap (λ (x : Block). x.height) be ∙ ap (λ (x : Block). x.height) re) (ap (λ (x : Block). x.prefix) be ∙ ap (λ (x : Block). x.prefix) re) slot (omega arith) (λ _. width) in
+    (subst (λ (x : List Block). ChangesTop top top bs x) q c, ap (λ (x : List Block). length (block_in x 0).slots) (sym q) ∙ ap (λ (x : Block). length x.slots) (get_or-set_same bs 0 b no_block t.some) ∙ width)
+
+-- the root with no used slot after it was filled up and given its height
+pub regrown : (top to : ℕ) (bs : List Block) (r b q d : Block) → IsTree top bs → FilledBut 0 bs → used_slots r ≡ 0 → r ≡ block_in bs 0 → b ≡ record r { slots = take 128 r.slots ++ replicate (128 - length r.slots) Empty } → q ≡ block_in (set bs 0 b) 0 → d ≡ record q { height = to } → top ≤ to → ChangesTop top to bs (set (set bs 0 b) 0 d) × (length (block_in (set (set bs 0 b) 0 d) 0).slots ≡ 128)
+regrown top to bs r b q d t f u re be qe de l =
+    let w = widened top bs bs r b t f refl re be in
+    let c = w.0 in
+    let same : used_slots b ≡ used_slots r =
+      ap used_slots be ∙ used_same (take 128 r.slots ++ replicate (128 - length r.slots) Empty) r.slots (λ k. widened_slot r.slots 128 k (omega (arith, ap (λ (x : Block). length x.slots) re, t.root_wide))) in
+    let head : block_in (set bs 0 b) 0 ≡ b = get_or-set_same bs 0 b no_block t.some in
+    let none : used_slots (block_in (set bs 0 b) 0) ≡ 0 = ap used_slots head ∙ same ∙ u in
+    let slots : d.slots ≡ (block_in (set bs 0 b) 0).slots = ap (λ (x : Block). x.slots) de ∙ ap (λ (x : Block). x.slots) qe in
+    let width : length d.slots ≡ 128 = ap (λ (x : List Slot). length x) slots ∙ w.1 in
+    let n = new_height top to (set bs 0 b) d c.tree none (ap (λ (x : Block). x.height) de) (ap (λ (x : Block). x.prefix) de ∙ ap (λ (x : Block). x.prefix) qe ∙ c.tree.root_prefix) slots (λ _. width) in
+    ( then_top top top to bs (set bs 0 b) _ (omega arith) c n
+    , ap (λ (x : Block). length x.slots) (get_or-set_same (set bs 0 b) 0 d no_block c.tree.some) ∙ width )
+
+-- the root after it was cut off where its slots are empty
+pub narrowed : (bs : List Block) (r b : Block) (w : ℕ) → IsTree 0 bs → FilledBut 0 bs → EntriesBelow 0 bs w → r ≡ block_in bs 0 → b ≡ record r { slots = take w r.slots } → w ≤ length (block_in bs 0).slots → ChangesTop 0 0 bs (set bs 0 b) × (length (block_in (set bs 0 b) 0).slots ≡ w)
+narrowed bs r b w t f s re be l =
+    let past : (k : ℕ) → w ≤ k → get_or r.slots k Empty ≡ Empty = λ k g.
+      ap (λ (x : Block). get_or x.slots k Empty) re ∙ elim (slot_is (slot_in bs 0 k)) [
+        inl q ↦ q
+      | inr q ↦ elim q [
+          inl q ↦ absurd (omega (arith, (t.leads 0 k q.0 q.1).height, t.root_height))
+        | inr q ↦
+            let d = digit_in 0 bs t 0 k _ q.1 (View≢Empty q.0) in
+            let m : k % 128 ≡ k = omega arith in
+            let p : (block_in bs 0).prefix ≡ k / 128 = omega (arith, t.root_prefix) in
+            absurd (omega (arith, s k q.0 (entry_held 0 bs t k q.0 0 (record { inside = t.some; height = t.root_height; prefix = p; slot = ap (λ y. slot_in bs 0 y) m ∙ q.1 }))))
+        ]
+      ] in
+    let width : length b.slots ≡ w = ap (λ (x : Block). length x.slots) be ∙ length-take-le w r.slots (omega (arith, ap (λ (x : Block). length x.slots) re)) in
+    let slot : (k : ℕ) → get_or b.slots k Empty ≡ slot_in bs 0 k = λ k.
+      ap (λ (x : Block). get_or x.slots k Empty) be ∙ narrowed_slot r.slots w k past ∙ ap (λ (x : Block). get_or x.slots k Empty) re in
+    let c = new_width 0 bs b t f (ap (λ (x : Block). x.height) be ∙ ap (λ (x : Block). x.height) re) (ap (λ (x : Block). x.prefix) be ∙ ap (λ (x : Block). x.prefix) re) slot (omega (arith, width, l, t.root_wide)) (λ g. absurd (omega arith)) in
+    (c, ap (λ (x : Block). length x.slots) (get_or-set_same bs 0 b no_block t.some) ∙ width)
+
+-- a root with nothing below it is lowered
+pub lower_empty : (top : ℕ) (bs : List Block) (r b : Block) → 0 < top → IsTree top bs → used_slots (block_in bs 0) ≡ 0 → r ≡ block_in bs 0 → b ≡ record r { height = top - 1 } → ChangesTop top (top - 1) bs (set bs 0 b) × (length (block_in bs 0).slots ≤ length (block_in (set bs 0 b) 0).slots)
+lower_empty top bs r b g t u re be =
+    let s : b.slots ≡ (block_in bs 0).slots = ap (λ (x : Block). x.slots) be ∙ ap (λ (x : Block). x.slots) re in
+    ( new_height top (top - 1) bs b t u (ap (λ (x : Block). x.height) be) (ap (λ (x : Block). x.prefix) be ∙ ap (λ (x : Block). x.prefix) re ∙ t.root_prefix) s (λ _. ap (λ (x : List Slot). length x) s ∙ t.deep g)
+    , omega (arith, ap (λ (x : Block). length x.slots) (get_or-set_same bs 0 b no_block t.some), ap (λ (x : List Slot). length x) s) )
+
+pub small_then : (a b n to : ℕ) (xs ys : List Block) → ChangesTop a b xs ys → EntriesBelow a xs (128 ^ (to + 1)) → to < b → n ≡ b → EntriesBelow n ys (128 ^ n)
+small_then a b n to xs ys c s l e = λ k v f.
+    let g = s k v (sym (c.entries k) ∙ ap (λ h. entry_in ys h k) (sym e) ∙ f) in
+    omega (arith, g, pow-le-pow_right {n = 128} (omega arith) {i = to + 1} {j = n} (omega arith))
+
+pub flattened : (top : ℕ) (bs ls : List Block) (r b : Block) (w : ℕ) → IsTree top bs → EntriesBelow top bs w → w ≤ length (block_in bs 0).slots → ChangesTop top 0 bs ls → length (block_in bs 0).slots ≤ length (block_in ls 0).slots → r ≡ get_or ls 0 r → b ≡ record r { slots = take w r.slots } → ChangesTop top 0 bs (set ls 0 b) × (length (block_in (set ls 0 b) 0).slots ≡ w)
+flattened top bs ls r b w t s l c g re be =
+    let q = get_or_read ls 0 r c.tree.some re no_block in
+    let small : EntriesBelow 0 ls w = λ k v f. s k v (sym (c.entries k) ∙ f) in
+    let n = narrowed ls r b w c.tree c.filled small q be (omega (arith, l, g)) in
+    (then_top top 0 0 bs ls (set ls 0 b) (omega arith) c n.0, n.1)

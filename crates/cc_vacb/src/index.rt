@@ -115,17 +115,20 @@ impl ViewIndex {
         let top = levels::top_for(self.size);
         let to = levels::top_for(size);
         let width = levels::width_for(size);
+        if width < 128 {
+            roots::flatten(&mut self.blocks, top, width);
+            self.size = size;
+            return Ok(());
+        }
         if to < top {
             roots::lower(&mut self.blocks, top, to);
-        } else if width == 128 {
-            if self.blocks.len() > MAX_BLOCKS {
-                return Err(NoMemory);
-            }
-            roots::grow(self.alloc, &mut self.blocks, top, to)?;
+            self.size = size;
+            return Ok(());
         }
-        if width < 128 {
-            self.blocks[0].narrow(width);
+        if self.blocks.len() > MAX_BLOCKS {
+            return Err(NoMemory);
         }
+        roots::grow(self.alloc, &mut self.blocks, top, to)?;
         self.size = size;
         Ok(())
     }

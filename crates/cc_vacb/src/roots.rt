@@ -75,7 +75,9 @@ fn lower_root(blocks: &mut Vec<IndexBlock>, top: u8)
     requires levels { 0 < top }
     requires numbers { length blocks.old.items ≤ 2 ^ 32 }
     requires small { EntriesBelow top blocks.old.items (128 ^ top) }
-    ensures { ChangesTop top (top - 1) blocks.old.items blocks.new.items }
+    ensures changed { ChangesTop top (top - 1) blocks.old.items blocks.new.items }
+    ensures wide { length (block_in blocks.old.items 0).slots
+        ≤ length (block_in blocks.new.items 0).slots }
 {
     match slot_in(blocks, 0, 0).child() {
         Some(child) => {
@@ -94,11 +96,27 @@ pub(crate) fn lower(blocks: &mut Vec<IndexBlock>, top: u8, to: u8)
     requires order { to ≤ top }
     requires numbers { length blocks.old.items ≤ 2 ^ 32 }
     requires small { EntriesBelow top blocks.old.items (128 ^ (to + 1)) }
-    ensures { ChangesTop top to blocks.old.items blocks.new.items }
+    ensures changed { ChangesTop top to blocks.old.items blocks.new.items }
+    ensures wide { length (block_in blocks.old.items 0).slots
+        ≤ length (block_in blocks.new.items 0).slots }
 {
     let mut height = top;
     while height > to {
         lower_root(blocks, height);
         height -= 1;
     }
+}
+
+// Leaves the one block of a small stream, with so many slots.
+pub(crate) fn flatten(blocks: &mut Vec<IndexBlock>, top: u8, width: usize)
+    requires tree { IsTree top blocks.old.items }
+    requires filled { FilledBut 0 blocks.old.items }
+    requires numbers { length blocks.old.items ≤ 2 ^ 32 }
+    requires small { EntriesBelow top blocks.old.items width }
+    requires few { width ≤ length (block_in blocks.old.items 0).slots }
+    ensures changed { ChangesTop top 0 blocks.old.items blocks.new.items }
+    ensures width { length (block_in blocks.new.items 0).slots ≡ width }
+{
+    lower(blocks, top, 0);
+    blocks[0].narrow(width);
 }
