@@ -55,7 +55,8 @@ alone_index size b l blank = record {
     filled = λ x g h n. absurd (omega arith);
     width = blank.width;
     numbers = omega arith;
-    fits = l
+    fits = l;
+    starts = λ n v e. absurd (Some≢None v (sym e ∙ alone_entry (levels_of size - 1) (width_of size) b blank (alone_tree (levels_of size - 1) (width_of size) b blank (width_bound size).1 (width_deep size)) n))
   }
 
 -- an index with one blank root

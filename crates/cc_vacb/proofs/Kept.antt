@@ -5,11 +5,12 @@ use Rattle.cc_vacb.specs.Slots.{view_of}
 use Rattle.cc_vacb.specs.declared.slots.Slot.TheVariants.{Node}
 use Rattle.cc_vacb.specs.Index.{block_in, slot_in, entry_in, count_in, levels_of, width_of, StartsBelow, digits_of, led_by, IsLeastLevels}
 use Rattle.cc_vacb.specs.Tree.{IsTree, FilledBut, IsIndex, PutsView, TakesView, ChangesTop, EntriesBelow}
+use Rattle.cc_vacb.proofs.Put.{Some≢None}
 use Rattle.cc_vacb.proofs.Count.{count_in-used}
 use Rattle.cc_vacb.proofs.Bound.{blocks_bound}
 use Rattle.cc_vacb.proofs.Digits.{led_to_entry}
 use Rattle.cc_vacb.proofs.Sizes.{size_in, levels_range, number_covered, prefix_covered, root_slot, least_levels, width_large, width_small, width_bound, width_deep, flat_size}
-use Rattle.std.proofs.lemmas.Bool.{cases_lt}
+use Rattle.std.proofs.lemmas.Bool.{cases_lt, cases_eq}
 use Rattle.std.specs.Prelude.{IsSome}
 
 pub top_is : (size top : ℕ) → top + 1 ≡ levels_of size → top ≡ levels_of size - 1
@@ -27,13 +28,17 @@ covered_at size top b l e s =
 pub root_at : (size b : ℕ) (bs : List Block) → StartsBelow b size → IsIndex size bs → b % 128 < length (block_in bs 0).slots
 root_at size b bs s x = omega (arith, root_slot size b s, x.width)
 
-pub put_index : (size top b v : ℕ) (old new : List Block) → top + 1 ≡ levels_of size → IsIndex size old → length old + top < 2 ^ 32 → PutsView top b v old new → IsIndex size new
-put_index size top b v old new e x l p = record {
+pub put_index : (size top b v : ℕ) (old new : List Block) → top + 1 ≡ levels_of size → IsIndex size old → length old + top < 2 ^ 32 → StartsBelow b size → PutsView top b v old new → IsIndex size new
+put_index size top b v old new e x l s p = record {
     tree = subst (λ n. IsTree n new) (top_is size top e) p.tree;
     filled = p.filled;
     width = p.root ∙ x.width;
     numbers = omega (arith, p.len);
-    fits = x.fits
+    fits = x.fits;
+    starts = λ n w f. elim (cases_eq n b) [
+      inl q ↦ omega (arith, s)
+    | inr q ↦ x.starts n w (ap (λ t. entry_in old t n) (sym (top_is size top e)) ∙ sym (p.others n q) ∙ ap (λ t. entry_in new t n) (top_is size top e) ∙ f)
+    ]
   }
 
 pub take_index : (size top b : ℕ) (old new : List Block) → top + 1 ≡ levels_of size → IsIndex size old → TakesView top b old new → IsIndex size new
@@ -42,7 +47,11 @@ take_index size top b old new e x p = record {
     filled = p.filled;
     width = p.root ∙ x.width;
     numbers = omega (arith, p.len, x.numbers);
-    fits = x.fits
+    fits = x.fits;
+    starts = λ n w f. elim (cases_eq n b) [
+      inl q ↦ absurd (Some≢None w (sym f ∙ ap (λ t. entry_in new t n) (sym (top_is size top e)) ∙ ap (λ k. entry_in new top k) q ∙ p.here))
+    | inr q ↦ x.starts n w (ap (λ t. entry_in old t n) (sym (top_is size top e)) ∙ sym (p.others n q) ∙ ap (λ t. entry_in new t n) (top_is size top e) ∙ f)
+    ]
   }
 
 pub put_count : (size top b v : ℕ) (old new : List Block) → top + 1 ≡ levels_of size → PutsView top b v old new → count_in new ≡ count_in old + (if is_some (entry_in old (levels_of size - 1) b) then 0 else 1)
@@ -75,15 +84,25 @@ levels_least size n l e = subst (IsLeastLevels size) (sym e) (least_levels size 
 pub some_entry : (o : Option ℕ) (v : ℕ) → o ≡ Some v → IsSome o
 some_entry o v e = subst (λ (p : Option ℕ). IsSome p) (sym e) refl
 
--- the entries that stay have a place below the new root
-pub small_at : (size top new to : ℕ) (bs : List Block) → top + 1 ≡ levels_of size → to + 1 ≡ levels_of new → new < 2 ^ 64 → ((n : ℕ) → IsSome (entry_in bs (levels_of size - 1) n) → StartsBelow n new) → EntriesBelow top bs (128 ^ (to + 1))
-small_at size top new to bs e f l s = λ n v g.
-    let h = s n (some_entry _ v (ap (λ t. entry_in bs t n) (sym (top_is size top e)) ∙ g)) in
+-- the entries stay below the new size, where it is the smaller one because that is asked
+abbrev pub Stays : ℕ → ℕ → List Block → Type 0
+Stays size new bs = new < size → (n : ℕ) → IsSome (entry_in bs (levels_of size - 1) n) → StartsBelow n new
+
+stays : (size new : ℕ) (bs : List Block) → IsIndex size bs → Stays size new bs → (n v : ℕ) → entry_in bs (levels_of size - 1) n ≡ Some v → StartsBelow n new
+stays size new bs x s n v e =
+    elim (cases_lt new size) [
+      inl l ↦ s l n (some_entry _ v e)
+    | inr l ↦ omega (arith, x.starts n v e)
+    ]
+
+pub small_at : (size top new to : ℕ) (bs : List Block) → top + 1 ≡ levels_of size → to + 1 ≡ levels_of new → IsIndex size bs → new < 2 ^ 64 → Stays size new bs → EntriesBelow top bs (128 ^ (to + 1))
+small_at size top new to bs e f x l s = λ n v g.
+    let h = stays size new bs x s n v (ap (λ t. entry_in bs t n) (sym (top_is size top e)) ∙ g) in
     subst (λ m. n < 128 ^ m) (sym f) (number_covered new (levels_of new) n l (size_in new) h)
 
-pub small_flat : (size top new w : ℕ) (bs : List Block) → top + 1 ≡ levels_of size → w ≡ width_of new → w < 128 → ((n : ℕ) → IsSome (entry_in bs (levels_of size - 1) n) → StartsBelow n new) → EntriesBelow top bs w
-small_flat size top new w bs e f l s = λ n v g.
-    let h = s n (some_entry _ v (ap (λ t. entry_in bs t n) (sym (top_is size top e)) ∙ g)) in
+pub small_flat : (size top new w : ℕ) (bs : List Block) → top + 1 ≡ levels_of size → w ≡ width_of new → w < 128 → IsIndex size bs → Stays size new bs → EntriesBelow top bs w
+small_flat size top new w bs e f l x s = λ n v g.
+    let h = stays size new bs x s n v (ap (λ t. entry_in bs t n) (sym (top_is size top e)) ∙ g) in
     elim (cases_lt 1048576 new) [
       inl k ↦ absurd (omega (arith, width_large new k))
     | inr k ↦ omega (arith, width_small new k, h)
@@ -99,18 +118,19 @@ flat_top new to w e f l =
 pub width_least : (size w : ℕ) (bs : List Block) → IsIndex size bs → w ≡ 4 → w ≤ length (block_in bs 0).slots
 width_least size w bs x e = omega (arith, x.width, (width_bound size).0)
 
-pub resized : (size top new to : ℕ) (bs cs : List Block) → ChangesTop top to bs cs → to + 1 ≡ levels_of new → new < 2 ^ 64 → length cs < 2 ^ 32 → length (block_in cs 0).slots ≡ width_of new → IsIndex new cs
-resized size top new to bs cs c e l n w = record {
+pub resized_entry : (size top new to : ℕ) (bs cs : List Block) → ChangesTop top to bs cs → top + 1 ≡ levels_of size → to + 1 ≡ levels_of new → (n : ℕ) → entry_in cs (levels_of new - 1) n ≡ entry_in bs (levels_of size - 1) n
+resized_entry size top new to bs cs c e f n =
+    ap (λ t. entry_in cs t n) (sym (top_is new to f)) ∙ c.entries n ∙ ap (λ t. entry_in bs t n) (top_is size top e)
+
+pub resized : (size top new to : ℕ) (bs cs : List Block) → IsIndex size bs → top + 1 ≡ levels_of size → Stays size new bs → ChangesTop top to bs cs → to + 1 ≡ levels_of new → new < 2 ^ 64 → length cs < 2 ^ 32 → length (block_in cs 0).slots ≡ width_of new → IsIndex new cs
+resized size top new to bs cs x f s c e l n w = record {
     tree = subst (λ t. IsTree t cs) (top_is new to e) c.tree;
     filled = c.filled;
     width = w;
     numbers = n;
-    fits = l
+    fits = l;
+    starts = λ k v g. stays size new bs x s k v (sym (resized_entry size top new to bs cs c f e k) ∙ g)
   }
-
-pub resized_entry : (size top new to : ℕ) (bs cs : List Block) → ChangesTop top to bs cs → top + 1 ≡ levels_of size → to + 1 ≡ levels_of new → (n : ℕ) → entry_in cs (levels_of new - 1) n ≡ entry_in bs (levels_of size - 1) n
-resized_entry size top new to bs cs c e f n =
-    ap (λ t. entry_in cs t n) (sym (top_is new to f)) ∙ c.entries n ∙ ap (λ t. entry_in bs t n) (top_is size top e)
 
 pub resized_count : (top to : ℕ) (bs cs : List Block) → ChangesTop top to bs cs → count_in cs ≡ count_in bs
 resized_count top to bs cs c = omega (arith, c.count, count_in-used bs, count_in-used cs)

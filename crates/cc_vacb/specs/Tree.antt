@@ -2,7 +2,7 @@ use Rattle.std.specs.Prelude.{ℕ, ◌+◌, ◌-◌, ◌^◌, ◌*◌, ◌%◌, 
 use Rattle.cc_vacb.specs.declared.slots.Slot.{Slot}
 use Rattle.cc_vacb.specs.declared.slots.Slot.TheVariants.{Empty, Node, View}
 use Rattle.cc_vacb.specs.Block.{Block, used_slots}
-use Rattle.cc_vacb.specs.Index.{block_in, slot_in, entry_in, levels_of, width_of}
+use Rattle.cc_vacb.specs.Index.{block_in, slot_in, entry_in, levels_of, width_of, StartsBelow}
 
 unfoldable pub blocks_at : ℕ → List Block → ℕ
 blocks_at height blocks = sum_by (λ b. if b.height == height then 1 else 0) blocks
@@ -123,6 +123,7 @@ pub record IsIndex (size : ℕ) (blocks : List Block) : Type 0 where
   pub width : length (block_in blocks 0).slots ≡ width_of size
   pub numbers : length blocks < 2 ^ 32
   pub fits : size < 2 ^ 64
+  pub starts : (number view : ℕ) → entry_in blocks (levels_of size - 1) number ≡ Some view → StartsBelow number size
 
 -- the tree with more or fewer levels: no entry is changed by it
 pub record ChangesTop (top to : ℕ) (old new : List Block) : Type 0 where

@@ -106,7 +106,8 @@ impl ViewIndex {
 
     /// The index of the same entries for another size. Nothing is changed where memory is wanting.
     pub fn resize(&mut self, size: u64) -> Result<(), NoMemory>
-        requires { (block : ℕ) → IsSome (entry_at self.old block) → StartsBelow block size }
+        requires { size < self.old.size
+            → (block : ℕ) → IsSome (entry_at self.old block) → StartsBelow block size }
         ensures size { OnOk result (self.new.size ≡ size) }
         ensures entries { (block : ℕ) → entry_at self.new block ≡ entry_at self.old block }
         ensures count { entry_count self.new ≡ entry_count self.old }

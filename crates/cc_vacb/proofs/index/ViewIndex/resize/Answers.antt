@@ -1,14 +1,14 @@
 use Rattle.std.proofs.Common.{◌≡◌, ◌<◌, ◌-◌, sym, subst, ap, arith, ◌∙◌, ℕ, length}
 use Rattle.std.specs.Prelude.{IsSome}
 use Rattle.cc_vacb.specs.Index.{Index, entry_at, entry_count, entry_in, count_in, levels_of, StartsBelow}
-use Rattle.cc_vacb.proofs.Kept.{small_at, small_flat, flat_top, width_least, resized, resized_entry, resized_count, lowered_width, wide_width}
+use Rattle.cc_vacb.proofs.Kept.{Stays, small_at, small_flat, flat_top, width_least, resized, resized_entry, resized_count, lowered_width, wide_width}
 use Rattle.cc_vacb.proofs.index.ViewIndex.resize.Goals as goal
 
 pub flatten-requires-clause-small : goal.flatten-requires-clause-small
 flatten-requires-clause-small c =
     let x = c.self.inside in
-    let s : (n : ℕ) → IsSome (entry_in x.blocks.items (levels_of x.size - 1) n) → StartsBelow n c.args.size = subst (λ (i : Index). (n : ℕ) → IsSome (entry_at i n) → StartsBelow n c.args.size) (sym c.self.view_is) c.requires in
-    small_flat x.size c.top_for-top.result c.args.size c.width_for-width.result x.blocks.items c.top_for-top.ensures.levels c.width_for-width.ensures c.if-width-lt128.true s
+    let s : Stays x.size c.args.size x.blocks.items = subst (λ (i : Index). c.args.size < i.size → (n : ℕ) → IsSome (entry_at i n) → StartsBelow n c.args.size) (sym c.self.view_is) c.requires in
+    small_flat x.size c.top_for-top.result c.args.size c.width_for-width.result x.blocks.items c.top_for-top.ensures.levels c.width_for-width.ensures c.if-width-lt128.true c.self.invariant s
 
 pub flatten-requires-clause-few : goal.flatten-requires-clause-few
 flatten-requires-clause-few c =
@@ -17,9 +17,10 @@ flatten-requires-clause-few c =
 
 pub invariant_of-self : goal.invariant_of-self
 invariant_of-self c =
+    let s : Stays c.self.inside.size c.args.size c.self.inside.blocks.items = subst (λ (i : Index). c.args.size < i.size → (n : ℕ) → IsSome (entry_at i n) → StartsBelow n c.args.size) (sym c.self.view_is) c.requires in
     let f = flat_top c.args.size c.top_for-to.result c.width_for-width.result c.top_for-to.ensures.levels c.width_for-width.ensures c.if-width-lt128.true in
     let d = c.flatten.ensures.changed in
-    resized c.self.inside.size c.top_for-top.result c.args.size 0 c.self.inside.blocks.items c.flatten.new.blocks.items d (omega (arith, f.0, c.top_for-to.ensures.levels)) c.ranges.size.fits (omega (arith, d.len, c.self.invariant.numbers)) (c.flatten.ensures.width ∙ c.width_for-width.ensures)
+    resized c.self.inside.size c.top_for-top.result c.args.size 0 c.self.inside.blocks.items c.flatten.new.blocks.items c.self.invariant c.top_for-top.ensures.levels s d (omega (arith, f.0, c.top_for-to.ensures.levels)) c.ranges.size.fits (omega (arith, d.len, c.self.invariant.numbers)) (c.flatten.ensures.width ∙ c.width_for-width.ensures)
 
 pub returns-then-width-lt128-clause-entries : goal.returns-then-width-lt128-clause-entries
 returns-then-width-lt128-clause-entries c = λ n.
@@ -34,14 +35,15 @@ returns-then-width-lt128-clause-count c =
 pub lower-requires-clause-small : goal.lower-requires-clause-small
 lower-requires-clause-small c =
     let x = c.self.inside in
-    let s : (n : ℕ) → IsSome (entry_in x.blocks.items (levels_of x.size - 1) n) → StartsBelow n c.args.size = subst (λ (i : Index). (n : ℕ) → IsSome (entry_at i n) → StartsBelow n c.args.size) (sym c.self.view_is) c.requires in
-    small_at x.size c.top_for-top.result c.args.size c.top_for-to.result x.blocks.items c.top_for-top.ensures.levels c.top_for-to.ensures.levels c.ranges.size.fits s
+    let s : Stays x.size c.args.size x.blocks.items = subst (λ (i : Index). c.args.size < i.size → (n : ℕ) → IsSome (entry_at i n) → StartsBelow n c.args.size) (sym c.self.view_is) c.requires in
+    small_at x.size c.top_for-top.result c.args.size c.top_for-to.result x.blocks.items c.top_for-top.ensures.levels c.top_for-to.ensures.levels c.self.invariant c.ranges.size.fits s
 
 pub invariant_of-self-then-to-top : goal.invariant_of-self-then-to-top
 invariant_of-self-then-to-top c =
+    let s : Stays c.self.inside.size c.args.size c.self.inside.blocks.items = subst (λ (i : Index). c.args.size < i.size → (n : ℕ) → IsSome (entry_at i n) → StartsBelow n c.args.size) (sym c.self.view_is) c.requires in
     let d = c.lower.ensures.changed in
     let w = lowered_width c.self.inside.size c.top_for-top.result c.args.size c.top_for-to.result c.width_for-width.result c.self.inside.blocks.items c.lower.new.blocks.items c.self.invariant d c.top_for-top.ensures.levels c.if-to-top.true c.width_for-width.ensures c.if-width-lt128.false c.lower.ensures.wide in
-    resized c.self.inside.size c.top_for-top.result c.args.size c.top_for-to.result c.self.inside.blocks.items c.lower.new.blocks.items d c.top_for-to.ensures.levels c.ranges.size.fits (omega (arith, d.len, c.self.invariant.numbers, c.if-to-top.true)) w
+    resized c.self.inside.size c.top_for-top.result c.args.size c.top_for-to.result c.self.inside.blocks.items c.lower.new.blocks.items c.self.invariant c.top_for-top.ensures.levels s d c.top_for-to.ensures.levels c.ranges.size.fits (omega (arith, d.len, c.self.invariant.numbers, c.if-to-top.true)) w
 
 pub returns-then-to-top-clause-count : goal.returns-then-to-top-clause-count
 returns-then-to-top-clause-count c =
@@ -49,9 +51,10 @@ returns-then-to-top-clause-count c =
 
 pub invariant_of-self-2 : goal.invariant_of-self-2
 invariant_of-self-2 c =
+    let s : Stays c.self.inside.size c.args.size c.self.inside.blocks.items = subst (λ (i : Index). c.args.size < i.size → (n : ℕ) → IsSome (entry_at i n) → StartsBelow n c.args.size) (sym c.self.view_is) c.requires in
     let d = c.in_ok-grow.ensures.ok in
     let w = wide_width c.args.size c.width_for-width.result _ c.width_for-width.ensures c.if-width-lt128.false c.in_ok-grow.ensures.wide in
-    resized c.self.inside.size c.top_for-top.result c.args.size c.top_for-to.result c.self.inside.blocks.items c.grow.new.blocks.items d c.top_for-to.ensures.levels c.ranges.size.fits (omega (arith, d.len, c.self.inside.blocks.ok.0, c.len.ensures, c.if-len-gt-MAX_BLOCKS.false, c.top_for-to.ensures.bound)) w
+    resized c.self.inside.size c.top_for-top.result c.args.size c.top_for-to.result c.self.inside.blocks.items c.grow.new.blocks.items c.self.invariant c.top_for-top.ensures.levels s d c.top_for-to.ensures.levels c.ranges.size.fits (omega (arith, d.len, c.self.inside.blocks.ok.0, c.len.ensures, c.if-len-gt-MAX_BLOCKS.false, c.top_for-to.ensures.bound)) w
 
 pub returns-clause-count : goal.returns-clause-count
 returns-clause-count c =
