@@ -30,9 +30,10 @@ pub none_at : (h : ℕ) (bs : List Block) → ((x : ℕ) → x < length bs → (
 none_at h [] n = (blocks_at-nil h, used_at-nil h)
 none_at h (b ∷ bs) n =
     let e : b.height ≢ h = n 0 (omega arith) in
-    let r = none_at h bs (λ x l. n (suc x) (omega arith)) in
-    ( omega (arith, blocks_at-cons h b bs, only_at_other h b.height 1 e, r.0)
-    , omega (arith, used_at-cons h b bs, only_at_other h b.height (used_slots b) e, r.1) )
+    let r = none_at h bs (λ x l. n (suc x) (omega arith)) in (
+      omega (arith, blocks_at-cons h b bs, only_at_other h b.height 1 e, r.0),
+      omega (arith, used_at-cons h b bs, only_at_other h b.height (used_slots b) e, r.1),
+    )
 
 -- where each block of the height has a used slot
 pub fewer_blocks : (h : ℕ) (bs : List Block) → ((x : ℕ) → x < length bs → (block_in bs x).height ≡ h → 0 < used_slots (block_in bs x)) → blocks_at h bs ≤ used_at h bs
@@ -40,8 +41,8 @@ fewer_blocks h [] f = omega (arith, blocks_at-nil h)
 fewer_blocks h (b ∷ bs) f =
     let r = fewer_blocks h bs (λ x l. f (suc x) (omega arith)) in
     elim (cases_eq b.height h) [
-      inl e ↦ omega (arith, r, blocks_at-cons h b bs, used_at-cons h b bs, only_at_same h b.height 1 e, only_at_same h b.height (used_slots b) e, f 0 (omega arith) e)
-    | inr e ↦ omega (arith, r, blocks_at-cons h b bs, used_at-cons h b bs, only_at_other h b.height 1 e, only_at_other h b.height (used_slots b) e)
+      | inl e ↦ omega (arith, r, blocks_at-cons h b bs, used_at-cons h b bs, only_at_same h b.height 1 e, only_at_same h b.height (used_slots b) e, f 0 (omega arith) e)
+      | inr e ↦ omega (arith, r, blocks_at-cons h b bs, used_at-cons h b bs, only_at_other h b.height 1 e, only_at_other h b.height (used_slots b) e)
     ]
 
 -- how many blocks stand below a height
@@ -64,8 +65,8 @@ unfolding blocks_below
 below-cons zero b bs l = absurd (omega arith)
 below-cons (suc h) b bs l =
     elim (cases_eq b.height h) [
-      inl e ↦ omega (arith, below-cons_under h b bs (omega arith), blocks_at-cons h b bs, only_at_same h b.height 1 e)
-    | inr e ↦ omega (arith, below-cons h b bs (omega arith), blocks_at-cons h b bs, only_at_other h b.height 1 e)
+      | inl e ↦ omega (arith, below-cons_under h b bs (omega arith), blocks_at-cons h b bs, only_at_same h b.height 1 e)
+      | inr e ↦ omega (arith, below-cons h b bs (omega arith), blocks_at-cons h b bs, only_at_other h b.height 1 e)
     ]
 
 all_below : (h : ℕ) (bs : List Block) → ((x : ℕ) → x < length bs → (block_in bs x).height < h) → length bs ≤ blocks_below h bs
@@ -77,8 +78,8 @@ one_root top [] f = omega (arith, blocks_at-nil top)
 one_root top (b ∷ bs) f =
     let r = none_at top bs (λ x l e. omega (arith, f (suc x) (omega arith) (omega arith))) in
     elim (cases_eq b.height top) [
-      inl e ↦ omega (arith, r.0, blocks_at-cons top b bs, only_at_same top b.height 1 e)
-    | inr e ↦ omega (arith, r.0, blocks_at-cons top b bs, only_at_other top b.height 1 e)
+      | inl e ↦ omega (arith, r.0, blocks_at-cons top b bs, only_at_same top b.height 1 e)
+      | inr e ↦ omega (arith, r.0, blocks_at-cons top b bs, only_at_other top b.height 1 e)
     ]
 
 filled_at : (top : ℕ) (bs : List Block) → IsTree top bs → FilledBut 0 bs → (h : ℕ) → h < top → blocks_at h bs ≤ used_at h bs
@@ -99,7 +100,7 @@ pub blocks_bound : (top : ℕ) (bs : List Block) → IsTree top bs → FilledBut
 unfolding blocks_below
 blocks_bound top bs t f =
     let a = all_below (suc top) bs (λ x l. elim (cases_eq x 0) [
-      inl z ↦ omega (arith, ap (λ y. (block_in bs y).height) z, t.root_height)
-    | inr z ↦ omega (arith, t.below_top x (omega arith) l)
+      | inl z ↦ omega (arith, ap (λ y. (block_in bs y).height) z, t.root_height)
+      | inr z ↦ omega (arith, t.below_top x (omega arith) l)
     ]) in
     omega (arith, a, below_bound top bs t f top (omega arith), one_root top bs t.below_top)

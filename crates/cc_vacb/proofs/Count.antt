@@ -30,8 +30,8 @@ only_at_is height h = refl
 pub only_at_none : (height h n : ℕ) → n ≡ 0 → only_at height h n ≡ 0
 only_at_none height h n e =
     elim (cases_eq h height) [
-      inl q ↦ only_at_same height h n q ∙ e
-    | inr q ↦ only_at_other height h n q
+      | inl q ↦ only_at_same height h n q ∙ e
+      | inr q ↦ only_at_other height h n q
     ]
 
 pub used-set : (b : Block) (k : ℕ) (s : Slot) → k < length b.slots → used_slots (record b { slots = set b.slots k s }) + weight_of (get_or b.slots k Empty) ≡ used_slots b + weight_of s
@@ -51,8 +51,8 @@ used_at-put height bs i k s h w =
     let e : sum_by (λ (b : Block). if b.height == height then used_slots b else 0) (put_slot bs i k s) + only_at height hi (used_slots (block_in bs i)) ≡ sum_by (λ (b : Block). if b.height == height then used_slots b else 0) bs + only_at height hi (used_slots new) = sum_by-set (λ (b : Block). if b.height == height then used_slots b else 0) bs i new no_block h in
     let u = used-set (block_in bs i) k s w in
     elim (cases_eq hi height) [
-      inl q ↦ omega (arith, e, u, only_at_same height hi (used_slots (block_in bs i)) q, only_at_same height hi (used_slots new) q, only_at_same height hi (weight_of (slot_in bs i k)) q, only_at_same height hi (weight_of s) q)
-    | inr q ↦ omega (arith, e, only_at_other height hi (used_slots (block_in bs i)) q, only_at_other height hi (used_slots new) q, only_at_other height hi (weight_of (slot_in bs i k)) q, only_at_other height hi (weight_of s) q)
+      | inl q ↦ omega (arith, e, u, only_at_same height hi (used_slots (block_in bs i)) q, only_at_same height hi (used_slots new) q, only_at_same height hi (weight_of (slot_in bs i k)) q, only_at_same height hi (weight_of s) q)
+      | inr q ↦ omega (arith, e, only_at_other height hi (used_slots (block_in bs i)) q, only_at_other height hi (used_slots new) q, only_at_other height hi (weight_of (slot_in bs i k)) q, only_at_other height hi (weight_of s) q)
     ]
 
 pub blocks_at-push : (height : ℕ) (bs : List Block) (b : Block) → blocks_at height (bs ++ b ∷ []) ≡ blocks_at height bs + only_at height b.height 1

@@ -30,29 +30,29 @@ root_at size b bs s x = omega (arith, root_slot size b s, x.width)
 
 pub put_index : (size top b v : ℕ) (old new : List Block) → top + 1 ≡ levels_of size → IsIndex size old → length old + top < 2 ^ 32 → StartsBelow b size → PutsView top b v old new → IsIndex size new
 put_index size top b v old new e x l s p = record {
-    tree = subst (λ n. IsTree n new) (top_is size top e) p.tree;
-    filled = p.filled;
-    width = p.root ∙ x.width;
-    numbers = omega (arith, p.len);
-    fits = x.fits;
-    starts = λ n w f. elim (cases_eq n b) [
-      inl q ↦ omega (arith, s)
+  tree = subst (λ n. IsTree n new) (top_is size top e) p.tree;
+  filled = p.filled;
+  width = p.root ∙ x.width;
+  numbers = omega (arith, p.len);
+  fits = x.fits;
+  starts = λ n w f. elim (cases_eq n b) [
+    | inl q ↦ omega (arith, s)
     | inr q ↦ x.starts n w (ap (λ t. entry_in old t n) (sym (top_is size top e)) ∙ sym (p.others n q) ∙ ap (λ t. entry_in new t n) (top_is size top e) ∙ f)
-    ]
-  }
+  ];
+}
 
 pub take_index : (size top b : ℕ) (old new : List Block) → top + 1 ≡ levels_of size → IsIndex size old → TakesView top b old new → IsIndex size new
 take_index size top b old new e x p = record {
-    tree = subst (λ n. IsTree n new) (top_is size top e) p.tree;
-    filled = p.filled;
-    width = p.root ∙ x.width;
-    numbers = omega (arith, p.len, x.numbers);
-    fits = x.fits;
-    starts = λ n w f. elim (cases_eq n b) [
-      inl q ↦ absurd (Some≢None w (sym f ∙ ap (λ t. entry_in new t n) (sym (top_is size top e)) ∙ ap (λ k. entry_in new top k) q ∙ p.here))
+  tree = subst (λ n. IsTree n new) (top_is size top e) p.tree;
+  filled = p.filled;
+  width = p.root ∙ x.width;
+  numbers = omega (arith, p.len, x.numbers);
+  fits = x.fits;
+  starts = λ n w f. elim (cases_eq n b) [
+    | inl q ↦ absurd (Some≢None w (sym f ∙ ap (λ t. entry_in new t n) (sym (top_is size top e)) ∙ ap (λ k. entry_in new top k) q ∙ p.here))
     | inr q ↦ x.starts n w (ap (λ t. entry_in old t n) (sym (top_is size top e)) ∙ sym (p.others n q) ∙ ap (λ t. entry_in new t n) (top_is size top e) ∙ f)
-    ]
-  }
+  ];
+}
 
 pub put_count : (size top b v : ℕ) (old new : List Block) → top + 1 ≡ levels_of size → PutsView top b v old new → count_in new ≡ count_in old + (if is_some (entry_in old (levels_of size - 1) b) then 0 else 1)
 put_count size top b v old new e p =
@@ -91,8 +91,8 @@ Stays size new bs = new < size → (n : ℕ) → IsSome (entry_in bs (levels_of 
 stays : (size new : ℕ) (bs : List Block) → IsIndex size bs → Stays size new bs → (n v : ℕ) → entry_in bs (levels_of size - 1) n ≡ Some v → StartsBelow n new
 stays size new bs x s n v e =
     elim (cases_lt new size) [
-      inl l ↦ s l n (some_entry _ v e)
-    | inr l ↦ omega (arith, x.starts n v e)
+      | inl l ↦ s l n (some_entry _ v e)
+      | inr l ↦ omega (arith, x.starts n v e)
     ]
 
 pub small_at : (size top new to : ℕ) (bs : List Block) → top + 1 ≡ levels_of size → to + 1 ≡ levels_of new → IsIndex size bs → new < 2 ^ 64 → Stays size new bs → EntriesBelow top bs (128 ^ (to + 1))
@@ -104,15 +104,15 @@ pub small_flat : (size top new w : ℕ) (bs : List Block) → top + 1 ≡ levels
 small_flat size top new w bs e f l x s = λ n v g.
     let h = stays size new bs x s n v (ap (λ t. entry_in bs t n) (sym (top_is size top e)) ∙ g) in
     elim (cases_lt 1048576 new) [
-      inl k ↦ absurd (omega (arith, width_large new k))
-    | inr k ↦ omega (arith, width_small new k, h)
+      | inl k ↦ absurd (omega (arith, width_large new k))
+      | inr k ↦ omega (arith, width_small new k, h)
     ]
 
 pub flat_top : (new to w : ℕ) → to + 1 ≡ levels_of new → w ≡ width_of new → w < 128 → (to ≡ 0) × (w ≡ 4)
 flat_top new to w e f l =
     elim (cases_lt 1048576 new) [
-      inl k ↦ absurd (omega (arith, width_large new k))
-    | inr k ↦ (omega (arith, flat_size new (levels_of new) (size_in new) k), omega (arith, width_small new k))
+      | inl k ↦ absurd (omega (arith, width_large new k))
+      | inr k ↦ (omega (arith, flat_size new (levels_of new) (size_in new) k), omega (arith, width_small new k))
     ]
 
 pub width_least : (size w : ℕ) (bs : List Block) → IsIndex size bs → w ≡ 4 → w ≤ length (block_in bs 0).slots
@@ -124,13 +124,13 @@ resized_entry size top new to bs cs c e f n =
 
 pub resized : (size top new to : ℕ) (bs cs : List Block) → IsIndex size bs → top + 1 ≡ levels_of size → Stays size new bs → ChangesTop top to bs cs → to + 1 ≡ levels_of new → new < 2 ^ 64 → length cs < 2 ^ 32 → length (block_in cs 0).slots ≡ width_of new → IsIndex new cs
 resized size top new to bs cs x f s c e l n w = record {
-    tree = subst (λ t. IsTree t cs) (top_is new to e) c.tree;
-    filled = c.filled;
-    width = w;
-    numbers = n;
-    fits = l;
-    starts = λ k v g. stays size new bs x s k v (sym (resized_entry size top new to bs cs c f e k) ∙ g)
-  }
+  tree = subst (λ t. IsTree t cs) (top_is new to e) c.tree;
+  filled = c.filled;
+  width = w;
+  numbers = n;
+  fits = l;
+  starts = λ k v g. stays size new bs x s k v (sym (resized_entry size top new to bs cs c f e k) ∙ g);
+}
 
 pub resized_count : (top to : ℕ) (bs cs : List Block) → ChangesTop top to bs cs → count_in cs ≡ count_in bs
 resized_count top to bs cs c = omega (arith, c.count, count_in-used bs, count_in-used cs)

@@ -45,14 +45,14 @@ path_found top d p old new x e t f r =
       filled = λ y g l n. f y g l (λ z. omega arith);
       len = omega arith;
       root = refl;
-      fresh = inl refl
+      fresh = inl refl;
     })
 
 parent_wide : (top : ℕ) (bs : List Block) (x : ℕ) → IsTree top bs → x < length bs → 0 < top → length (block_in bs x).slots ≡ 128
 parent_wide top bs x t l g =
     elim (cases_eq x 0) [
-      inl z ↦ ap (λ y. length (block_in bs y).slots) z ∙ t.deep g
-    | inr z ↦ t.wide x (omega arith) l
+      | inl z ↦ ap (λ y. length (block_in bs y).slots) z ∙ t.deep g
+      | inr z ↦ t.wide x (omega arith) l
     ]
 
 pub path_fits : (top d p : ℕ) (old mid : List Block) (x : ℕ) → 0 < d → d ≤ top → reach old d p ≡ None → ExtendsTo top (d - 1) (p / 128) old mid x → Fits top mid x (p % 128) (top - d) p
@@ -64,20 +64,20 @@ path_fits top d p old mid x g l e m =
       digit = omega arith;
       width = omega (arith, w);
       free = elim (slot_is (slot_in mid x (p % 128))) [
-        inl q ↦ q
-      | inr r ↦ elim r [
-          inl q ↦ elim m.fresh [
-            inl s ↦
-              let f = reach_at top mid m.tree (d - 1) (p / 128) x a in
-              let h : reach mid d p ≡ Some q.0 = reach_below_some mid d p x g f ∙ ap child_of q.1 in
-              absurd (Some≢None q.0 (sym h ∙ ap (λ (n : List Block). reach n d p) s ∙ e))
-          | inr s ↦ s (p % 128)
+        | inl q ↦ q
+        | inr r ↦ elim r [
+          | inl q ↦ elim m.fresh [
+            | inl s ↦
+                let f = reach_at top mid m.tree (d - 1) (p / 128) x a in
+                let h : reach mid d p ≡ Some q.0 = reach_below_some mid d p x g f ∙ ap child_of q.1 in
+                absurd (Some≢None q.0 (sym h ∙ ap (λ (n : List Block). reach n d p) s ∙ e))
+            | inr s ↦ s (p % 128)
           ]
-        | inr q ↦ absurd (omega (arith, m.tree.views x (p % 128) q.0 q.1, a.height))
+          | inr q ↦ absurd (omega (arith, m.tree.views x (p % 128) q.0 q.1, a.height))
         ]
       ];
       height = omega (arith, a.height);
-      prefix = omega (arith, a.prefix)
+      prefix = omega (arith, a.prefix);
     }
 
 pub path_added : (top d p : ℕ) (old mid new : List Block) (x : ℕ) (b : Block) → 0 < d → d ≤ top → reach old d p ≡ None → ExtendsTo top (d - 1) (p / 128) old mid x → b ≡ blank_block (top - d) p 128 → new ≡ with_child mid x (p % 128) b → ExtendsTo top d p old new (length mid)
@@ -91,14 +91,14 @@ path_added top d p old mid new x b g l e m be ne =
       place = record {
         inside = omega (arith, a.len);
         height = omega (arith, ap (λ (z : Block). z.height) a.child, blank.height);
-        prefix = ap (λ (z : Block). z.prefix) a.child ∙ blank.prefix
+        prefix = ap (λ (z : Block). z.prefix) a.child ∙ blank.prefix;
       };
       entries = λ n. child_entry top mid x k (top - d) p b m.tree f blank n ∙ m.entries n;
       count = child_count top mid x k (top - d) p b f blank ∙ m.count;
       filled = child_filled top mid x k (top - d) p b f blank m.filled;
       len = omega (arith, a.len, m.len);
       root = (a.place 0 m.tree.some).width ∙ m.root;
-      fresh = inr a.empty
+      fresh = inr a.empty;
     })
 
 pub path_step : (top d p n : ℕ) (old mid pushed new : List Block) (x : ℕ) (b : Block) → 0 < d → d ≤ top → reach old d p ≡ None → ExtendsTo top (d - 1) (p / 128) old mid x → b ≡ blank_block (top - d) p 128 → pushed ≡ mid ++ b ∷ [] → new ≡ put_slot pushed x (p % 128) (Node n) → n ≡ length mid → ExtendsTo top d p old new n

@@ -25,7 +25,7 @@ parent_reached top bs x t g l =
     let a : IsAt top bs (top - (block_in bs x).height - 1) ((block_in bs x).prefix / 128) o.0 = record {
       inside = node_in_range bs o.0 _ _ o.1 (Node≢Empty x);
       height = omega (arith, d.height, t.below_top x g l);
-      prefix = omega (arith, d.prefix)
+      prefix = omega (arith, d.prefix);
     } in
     (o.0, reach_at top bs t _ _ o.0 a, o.1)
 
@@ -45,15 +45,15 @@ parent_leads top bs x y t g l e =
 pub unlink_last : (top : ℕ) (bs ds new : List Block) (z i p m : ℕ) → IsTree top bs → ds ≡ bs → slot_in ds i ((block_in ds z).prefix % 128) ≡ Node z → p ≡ (block_in bs z).prefix → new ≡ put_slot bs i (p % 128) Empty → z ≡ m → Relinked z m i bs new
 unlink_last top bs ds new z i p m t e s ep en em =
     let f : slot_in bs i (p % 128) ≡ Node z =
-      ap (λ x. slot_in bs i (x % 128)) ep ∙ ap (λ (c : List Block). slot_in c i ((block_in c z).prefix % 128)) (sym e) ∙ s in
+    ap (λ x. slot_in bs i (x % 128)) ep ∙ ap (λ (c : List Block). slot_in c i ((block_in c z).prefix % 128)) (sym e) ∙ s in
     subst (λ x. Relinked z x i bs new) em (subst (λ (c : List Block). Relinked z z i bs c) (sym en) (unlinked_last top bs z i (p % 128) t f))
 
 pub unlink_moved : (top : ℕ) (bs ds es cs new : List Block) (z i p m n q r : ℕ) → IsTree top bs → ds ≡ bs → es ≡ bs → slot_in ds i ((block_in ds z).prefix % 128) ≡ Node z → p ≡ (block_in bs z).prefix → slot_in es q ((block_in es m).prefix % 128) ≡ Node m → r ≡ (block_in bs m).prefix → cs ≡ put_slot bs i (p % 128) Empty → new ≡ put_slot cs q (r % 128) (Node z) → z ≢ m → m ≡ n → Relinked z n i bs new
 unlink_moved top bs ds es cs new z i p m n q r t e e' s ep s' er ec en ne em =
     let f : slot_in bs i (p % 128) ≡ Node z =
-      ap (λ x. slot_in bs i (x % 128)) ep ∙ ap (λ (c : List Block). slot_in c i ((block_in c z).prefix % 128)) (sym e) ∙ s in
+    ap (λ x. slot_in bs i (x % 128)) ep ∙ ap (λ (c : List Block). slot_in c i ((block_in c z).prefix % 128)) (sym e) ∙ s in
     let g : slot_in bs q (r % 128) ≡ Node m =
-      ap (λ x. slot_in bs q (x % 128)) er ∙ ap (λ (c : List Block). slot_in c q ((block_in c m).prefix % 128)) (sym e') ∙ s' in
+    ap (λ x. slot_in bs q (x % 128)) er ∙ ap (λ (c : List Block). slot_in c q ((block_in c m).prefix % 128)) (sym e') ∙ s' in
     let w : new ≡ put_slot (put_slot bs i (p % 128) Empty) q (r % 128) (Node z) = en ∙ ap (λ (c : List Block). put_slot c q (r % 128) (Node z)) ec in
     subst (λ x. Relinked z x i bs new) em (subst (λ (c : List Block). Relinked z m i bs c) (sym w) (unlinked_moved top bs z i (p % 128) m q (r % 128) t (λ k. ne (sym k)) f g))
 
@@ -64,5 +64,5 @@ removes top bs ls new z i n d t f g l u r e en =
       kept = moved_kept top z _ i bs _ t v;
       parent_in = moved_parent_in z _ i bs _ v;
       filled = moved_filled z _ i bs _ v f;
-      shorter = omega (arith, v.len, v.old_len)
+      shorter = omega (arith, v.len, v.old_len);
     }))

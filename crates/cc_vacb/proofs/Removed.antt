@@ -42,12 +42,12 @@ pub record Was (z m x w : ℕ) : Type 0 where
 pub was : (z m x : ℕ) → 0 < z → z ≤ m → x < m → Was z m x (was_at z m x)
 was z m x g l h =
     elim (cases_eq x z) [
-      inl e ↦
-        let w = was_same z m x e in
-        record { below = omega (arith, w); kept = λ q. omega (arith, w); root = λ q. absurd (omega arith); inner = λ q. omega (arith, w) }
-    | inr n ↦
-        let w = was_other z m x n in
-        record { below = omega (arith, w); kept = λ q. n (sym w ∙ q); root = λ q. w ∙ q; inner = λ q. omega (arith, w) }
+      | inl e ↦
+          let w = was_same z m x e in
+          record { below = omega (arith, w); kept = λ q. omega (arith, w); root = λ q. absurd (omega arith); inner = λ q. omega (arith, w) }
+      | inr n ↦
+          let w = was_other z m x n in
+          record { below = omega (arith, w); kept = λ q. n (sym w ∙ q); root = λ q. w ∙ q; inner = λ q. omega (arith, w) }
     ]
 
 pub record Now (z m x n : ℕ) : Type 0 where
@@ -57,12 +57,12 @@ pub record Now (z m x n : ℕ) : Type 0 where
 pub now : (z m x : ℕ) → 0 < z → z ≤ m → x < m + 1 → x ≢ z → Now z m x (now_at z m x)
 now z m x g l h n =
     elim (cases_eq x m) [
-      inl e ↦
-        let w = now_same z m x e in
-        record { below = omega (arith, w, n); back = ap (was_at z m) w ∙ was_same z m z refl ∙ sym e }
-    | inr o ↦
-        let w = now_other z m x o in
-        record { below = omega (arith, w); back = ap (was_at z m) w ∙ was_other z m x n }
+      | inl e ↦
+          let w = now_same z m x e in
+          record { below = omega (arith, w, n); back = ap (was_at z m) w ∙ was_same z m z refl ∙ sym e }
+      | inr o ↦
+          let w = now_other z m x o in
+          record { below = omega (arith, w); back = ap (was_at z m) w ∙ was_other z m x n }
     ]
 
 -- what is known after the removal of block z: place x has what stood at was_at z m x
@@ -88,23 +88,23 @@ block-swap_remove xs z x d hz hx =
     let l = get_or xs m d in
     let cut : block_in (take m (set xs z l)) x ≡ block_in (set xs z l) x = get_or-take m (set xs z l) x no_block (omega arith) in
     elim (cases_eq x z) [
-      inl e ↦
-        cut
-        ∙ ap (λ y. block_in (set xs z l) y) e
-        ∙ get_or-set_same xs z l no_block hz
-        ∙ get_or_default xs m d no_block (omega arith)
-        ∙ ap (λ y. block_in xs y) (sym (was_same z m x e))
-    | inr n ↦ cut ∙ get_or-set_other xs z x l no_block n ∙ ap (λ y. block_in xs y) (sym (was_other z m x n))
+      | inl e ↦
+          cut
+          ∙ ap (λ y. block_in (set xs z l) y) e
+          ∙ get_or-set_same xs z l no_block hz
+          ∙ get_or_default xs m d no_block (omega arith)
+          ∙ ap (λ y. block_in xs y) (sym (was_same z m x e))
+      | inr n ↦ cut ∙ get_or-set_other xs z x l no_block n ∙ ap (λ y. block_in xs y) (sym (was_other z m x n))
     ]
 
 -- the block that is removed has no used slot
 pub empty_block : (bs : List Block) (z j : ℕ) → used_slots (block_in bs z) ≡ 0 → slot_in bs z j ≡ Empty
 empty_block bs z j e =
     elim (slot_is (slot_in bs z j)) [
-      inl q ↦ q
-    | inr r ↦ elim r [
-        inl q ↦ absurd (omega (arith, used_by (block_in bs z) j (slot_in_width bs z j _ q.1 (Node≢Empty q.0)), ap weight_of q.1, e))
-      | inr q ↦ absurd (omega (arith, used_by (block_in bs z) j (slot_in_width bs z j _ q.1 (View≢Empty q.0)), ap weight_of q.1, e))
+      | inl q ↦ q
+      | inr r ↦ elim r [
+        | inl q ↦ absurd (omega (arith, used_by (block_in bs z) j (slot_in_width bs z j _ q.1 (Node≢Empty q.0)), ap weight_of q.1, e))
+        | inr q ↦ absurd (omega (arith, used_by (block_in bs z) j (slot_in_width bs z j _ q.1 (View≢Empty q.0)), ap weight_of q.1, e))
       ]
     ]
 
@@ -129,7 +129,7 @@ moved top bs ls z i d g h u r =
     let lm : length ls - 1 ≡ m = omega (arith, len) in
     let hz : z < length ls = omega (arith, len) in
     let same : (x : ℕ) → x < m → block_in (swap_remove ls z d) x ≡ block_in ls (was_at z m x) = λ x q.
-      block-swap_remove ls z x d hz (omega (arith, len)) ∙ ap (λ y. block_in ls (was_at z y x)) lm in
+    block-swap_remove ls z x d hz (omega (arith, len)) ∙ ap (λ y. block_in ls (was_at z y x)) lm in
     let slot : (x j : ℕ) → x < m → slot_in (swap_remove ls z d) x j ≡ slot_in ls (was_at z m x) j = λ x j q. ap (λ (b : Block). get_or b.slots j Empty) (same x q) in
     let zh : (block_in ls z).height ≡ (block_in bs z).height = (r.place z).height in
     record {
@@ -144,12 +144,12 @@ moved top bs ls z i d g h u r =
       used = λ x q n. ap used_slots (same x q) ∙ r.used (was_at z m x) n;
       blocks_sum = λ k. omega (arith, blocks_removed k ls z d hz, ap (λ n. only_at k n 1) zh, r.blocks_sum k);
       used_sum = λ k.
-        let zi : z ≢ i = λ e. omega (arith, r.parent_height, ap (λ y. (block_in bs y).height) e) in
-        let none = only_at_none k (block_in ls z).height (used_slots (block_in ls z)) (r.used z zi ∙ u) in
-        omega (arith, used_removed k ls z d hz, none, only_at_is k (block_in bs i).height, r.used_sum k);
+          let zi : z ≢ i = λ e. omega (arith, r.parent_height, ap (λ y. (block_in bs y).height) e) in
+          let none = only_at_none k (block_in ls z).height (used_slots (block_in ls z)) (r.used z zi ∙ u) in
+          omega (arith, used_removed k ls z d hz, none, only_at_is k (block_in bs i).height, r.used_sum k);
       parent_in = omega (arith, r.parent_in);
       parent_height = r.parent_height;
-      empty = λ j. empty_block bs z j u
+      empty = λ j. empty_block bs z j u;
     }
 
 pub moved_tree : (top z m i : ℕ) (bs new : List Block) → IsTree top bs → Moved z m i bs new → IsTree top new
@@ -164,72 +164,74 @@ moved_tree top z m i bs new t v =
       root_height = root.height ∙ t.root_height;
       root_prefix = root.prefix ∙ t.root_prefix;
       below_top = λ x g l.
-        let q : x < m = omega (arith, v.len) in
-        let w = was_is x q in
-        omega (arith, (v.place x q).height, t.below_top (was_at z m x) (w.inner g) (omega (arith, w.below, v.old_len)));
+          let q : x < m = omega (arith, v.len) in
+          let w = was_is x q in
+          omega (arith, (v.place x q).height, t.below_top (was_at z m x) (w.inner g) (omega (arith, w.below, v.old_len)));
       leads = λ x j y e.
-        let q = below x j (Node y) e (Node≢Empty y) in
-        elim (v.back x j (Node y) q e (Node≢Empty y)) [
-          inl b ↦
-            let yz : y ≡ z = cc in
-            let l = t.leads (was_at z m x) j m b.2 in
-            let zm : z < m = omega (arith, v.freed_in, b.0) in
-            let p = subst (λ c. SamePlace (block_in bs c) (block_in new z)) (was_same z m z refl) (v.place z zm) in
-            record {
-              below = omega (arith, v.len);
-              not_root = omega (arith, v.freed_inner);
-              height = omega (arith, ap (λ c. (block_in new c).height) yz, p.height, l.height, (v.place x q).height);
-              prefix = omega (arith, ap (λ c. (block_in new c).prefix) yz, p.prefix, l.prefix, (v.place x q).prefix)
-            }
-        | inr b ↦
-            let l = t.leads (was_at z m x) j y b.0 in
-            let a = b.1 y refl in
-            let ym : y < m = omega (arith, l.below, v.old_len, a.1) in
-            let p = subst (λ c. SamePlace (block_in bs c) (block_in new y)) (was_other z m y a.0) (v.place y ym) in
-            record {
-              below = omega (arith, v.len);
-              not_root = l.not_root;
-              height = omega (arith, p.height, l.height, (v.place x q).height);
-              prefix = omega (arith, p.prefix, l.prefix, (v.place x q).prefix)
-            }
-        ];
+          let q = below x j (Node y) e (Node≢Empty y) in
+          elim (v.back x j (Node y) q e (Node≢Empty y)) [
+            | inl b ↦
+                let yz : y ≡ z = cc in
+                let l = t.leads (was_at z m x) j m b.2 in
+                let zm : z < m = omega (arith, v.freed_in, b.0) in
+                let p = subst (λ c. SamePlace (block_in bs c) (block_in new z)) (was_same z m z refl) (v.place z zm) in
+                record {
+                  below = omega (arith, v.len);
+                  not_root = omega (arith, v.freed_inner);
+                  height = omega (arith, ap (λ c. (block_in new c).height) yz, p.height, l.height, (v.place x q).height);
+                  prefix = omega (arith, ap (λ c. (block_in new c).prefix) yz, p.prefix, l.prefix, (v.place x q).prefix);
+                }
+            | inr b ↦
+                let l = t.leads (was_at z m x) j y b.0 in
+                let a = b.1 y refl in
+                let ym : y < m = omega (arith, l.below, v.old_len, a.1) in
+                let p = subst (λ c. SamePlace (block_in bs c) (block_in new y)) (was_other z m y a.0) (v.place y ym) in
+                record {
+                  below = omega (arith, v.len);
+                  not_root = l.not_root;
+                  height = omega (arith, p.height, l.height, (v.place x q).height);
+                  prefix = omega (arith, p.prefix, l.prefix, (v.place x q).prefix);
+                }
+          ];
       has_parent = λ y g l.
-        let q : y < m = omega (arith, v.len) in
-        let w = was_is y q in
-        let o = t.has_parent (was_at z m y) (w.inner g) (omega (arith, w.below, v.old_len)) in
-        let oz : o.0 ≢ z = λ e. Node≢Empty (was_at z m y) (sym o.1 ∙ ap (λ c. slot_in bs c ((block_in bs (was_at z m y)).prefix % 128)) e ∙ v.empty _) in
-        let r = node_in_range bs o.0 _ _ o.1 (Node≢Empty (was_at z m y)) in
-        let n = now z m o.0 v.freed_inner v.freed_in (omega (arith, v.old_len)) oz in
-        let parent = now_at z m o.0 in
-        let digit : (block_in new y).prefix % 128 ≡ (block_in bs (was_at z m y)).prefix % 128 = ap (λ c. c % 128) (v.place y q).prefix in
-        let stood : slot_in bs (was_at z m parent) ((block_in new y).prefix % 128) ≡ Node (was_at z m y) = ap (λ c. slot_in bs c ((block_in new y).prefix % 128)) n.back ∙ ap (λ c. slot_in bs o.0 c) digit ∙ o.1 in
-        (parent, elim (cases_eq y z) [
-          inl e ↦
-            let last : was_at z m y ≡ m = was_same z m y e in
-            v.forth_last parent _ n.below (λ c. omega arith) (stood ∙ ap Node last) ∙ ap Node (sym e)
-        | inr e ↦
-            let other : was_at z m y ≡ y = was_other z m y e in
-            v.forth parent _ (Node y) n.below (stood ∙ ap Node other) (λ c d. (let cy : y ≡ c = cc in λ k. e (cy ∙ k), let cy : y ≡ c = cc in λ k. omega arith))
-        ]);
+          let q : y < m = omega (arith, v.len) in
+          let w = was_is y q in
+          let o = t.has_parent (was_at z m y) (w.inner g) (omega (arith, w.below, v.old_len)) in
+          let oz : o.0 ≢ z = λ e. Node≢Empty (was_at z m y) (sym o.1 ∙ ap (λ c. slot_in bs c ((block_in bs (was_at z m y)).prefix % 128)) e ∙ v.empty _) in
+          let r = node_in_range bs o.0 _ _ o.1 (Node≢Empty (was_at z m y)) in
+          let n = now z m o.0 v.freed_inner v.freed_in (omega (arith, v.old_len)) oz in
+          let parent = now_at z m o.0 in
+          let digit : (block_in new y).prefix % 128 ≡ (block_in bs (was_at z m y)).prefix % 128 = ap (λ c. c % 128) (v.place y q).prefix in
+          let stood : slot_in bs (was_at z m parent) ((block_in new y).prefix % 128) ≡ Node (was_at z m y) = ap (λ c. slot_in bs c ((block_in new y).prefix % 128)) n.back ∙ ap (λ c. slot_in bs o.0 c) digit ∙ o.1 in (
+            parent,
+            elim (cases_eq y z) [
+              | inl e ↦
+                  let last : was_at z m y ≡ m = was_same z m y e in
+                  v.forth_last parent _ n.below (λ c. omega arith) (stood ∙ ap Node last) ∙ ap Node (sym e)
+              | inr e ↦
+                  let other : was_at z m y ≡ y = was_other z m y e in
+                  v.forth parent _ (Node y) n.below (stood ∙ ap Node other) (λ c d. (let cy : y ≡ c = cc in λ k. e (cy ∙ k), let cy : y ≡ c = cc in λ k. omega arith))
+            ],
+          );
       views = λ x j w e.
-        let q = below x j (View w) e (View≢Empty w) in
-        elim (v.back x j (View w) q e (View≢Empty w)) [
-          inl b ↦ absurd (Node≢View z w (sym b.1))
-        | inr b ↦ (v.place x q).height ∙ t.views (was_at z m x) j w b.0
-        ];
+          let q = below x j (View w) e (View≢Empty w) in
+          elim (v.back x j (View w) q e (View≢Empty w)) [
+            | inl b ↦ absurd (Node≢View z w (sym b.1))
+            | inr b ↦ (v.place x q).height ∙ t.views (was_at z m x) j w b.0
+          ];
       wide = λ x g l.
-        let q : x < m = omega (arith, v.len) in
-        let w = was_is x q in
-        (v.place x q).width ∙ t.wide (was_at z m x) (w.inner g) (omega (arith, w.below, v.old_len));
+          let q : x < m = omega (arith, v.len) in
+          let w = was_is x q in
+          (v.place x q).width ∙ t.wide (was_at z m x) (w.inner g) (omega (arith, w.below, v.old_len));
       root_wide = omega (arith, root.width, t.root_wide);
       deep = λ d. root.width ∙ t.deep d;
       counted = λ h l.
-        let hz = (block_in bs z).height in
-        let hi = (block_in bs i).height in
-        elim (cases_eq hz h) [
-          inl e ↦ omega (arith, v.blocks_sum h, v.used_sum (suc h), t.counted h l, only_at_same h hz 1 e, only_at_same (suc h) hi 1 (omega (arith, v.parent_height)))
-        | inr e ↦ omega (arith, v.blocks_sum h, v.used_sum (suc h), t.counted h l, only_at_other h hz 1 e, only_at_other (suc h) hi 1 (λ c. e (omega (arith, v.parent_height))))
-        ]
+          let hz = (block_in bs z).height in
+          let hi = (block_in bs i).height in
+          elim (cases_eq hz h) [
+            | inl e ↦ omega (arith, v.blocks_sum h, v.used_sum (suc h), t.counted h l, only_at_same h hz 1 e, only_at_same (suc h) hi 1 (omega (arith, v.parent_height)))
+            | inr e ↦ omega (arith, v.blocks_sum h, v.used_sum (suc h), t.counted h l, only_at_other h hz 1 e, only_at_other (suc h) hi 1 (λ c. e (omega (arith, v.parent_height))))
+          ];
     }
 
 moved_holds : (z m i : ℕ) (bs new : List Block) → Moved z m i bs new → (n w x : ℕ) → Holds new n w x → Holds bs n w (was_at z m x)
@@ -238,8 +240,8 @@ moved_holds z m i bs new v n w x h =
     let p = v.place x q in
     let below = (was z m x v.freed_inner v.freed_in q).below in
     elim (v.back x (n % 128) (View w) q h.slot (View≢Empty w)) [
-      inl b ↦ absurd (Node≢View z w (sym b.1))
-    | inr b ↦ record { inside = omega (arith, v.old_len); height = sym p.height ∙ h.height; prefix = sym p.prefix ∙ h.prefix; slot = b.0 }
+      | inl b ↦ absurd (Node≢View z w (sym b.1))
+      | inr b ↦ record { inside = omega (arith, v.old_len); height = sym p.height ∙ h.height; prefix = sym p.prefix ∙ h.prefix; slot = b.0 }
     ]
 
 held_moved : (z m i : ℕ) (bs new : List Block) → Moved z m i bs new → (n w x : ℕ) → Holds bs n w x → Holds new n w (now_at z m x)
@@ -251,7 +253,7 @@ held_moved z m i bs new v n w x h =
       inside = omega (arith, o.below, v.len);
       height = p.height ∙ ap (λ c. (block_in bs c).height) o.back ∙ h.height;
       prefix = p.prefix ∙ ap (λ c. (block_in bs c).prefix) o.back ∙ h.prefix;
-      slot = v.forth (now_at z m x) (n % 128) (View w) o.below (ap (λ c. slot_in bs c (n % 128)) o.back ∙ h.slot) (λ c e. absurd (Node≢View c w (sym e)))
+      slot = v.forth (now_at z m x) (n % 128) (View w) o.below (ap (λ c. slot_in bs c (n % 128)) o.back ∙ h.slot) (λ c e. absurd (Node≢View c w (sym e)));
     }
 
 pub moved_kept : (top z m i : ℕ) (bs new : List Block) → IsTree top bs → Moved z m i bs new → TreeKept top bs new
@@ -261,11 +263,11 @@ moved_kept top z m i bs new t v =
     record {
       tree = u;
       entries = λ n. same_options _ _
-        (λ w e. let h = holder top new u n w e in entry_held top bs t n w _ (moved_holds z m i bs new v n w h.0 h.1))
-        (λ w e. let h = holder top bs t n w e in entry_held top new u n w _ (held_moved z m i bs new v n w h.0 h.1));
+          (λ w e. let h = holder top new u n w e in entry_held top bs t n w _ (moved_holds z m i bs new v n w h.0 h.1))
+          (λ w e. let h = holder top bs t n w e in entry_held top new u n w _ (held_moved z m i bs new v n w h.0 h.1));
       count = omega (arith, v.used_sum 0, only_at_other 0 (block_in bs i).height 1 (λ e. omega (arith, v.parent_height)));
       len = omega (arith, v.len, v.old_len);
-      root = (subst (λ y. SamePlace (block_in bs y) (block_in new 0)) ((was z m 0 v.freed_inner v.freed_in m_in).root refl) (v.place 0 m_in)).width
+      root = (subst (λ y. SamePlace (block_in bs y) (block_in new 0)) ((was z m 0 v.freed_inner v.freed_in m_in).root refl) (v.place 0 m_in)).width;
     }
 
 -- the parent alone may have lost its last used slot
@@ -281,12 +283,12 @@ moved_filled z m i bs new v f = λ x g l n.
     same_now : (z m x i : ℕ) → 0 < z → z ≤ m → x < m → was_at z m x ≡ i → x ≡ now_at z m i
     same_now z m x i g l q e =
         elim (cases_eq x z) [
-          inl a ↦
-            let im : i ≡ m = sym e ∙ was_same z m x a in
-            a ∙ sym (now_same z m i im)
-        | inr a ↦
-            let ix : i ≡ x = sym e ∙ was_other z m x a in
-            sym ix ∙ sym (now_other z m i (λ c. omega arith))
+          | inl a ↦
+              let im : i ≡ m = sym e ∙ was_same z m x a in
+              a ∙ sym (now_same z m i im)
+          | inr a ↦
+              let ix : i ≡ x = sym e ∙ was_other z m x a in
+              sym ix ∙ sym (now_other z m i (λ c. omega arith))
         ]
 
 pub moved_parent_in : (z m i : ℕ) (bs new : List Block) → Moved z m i bs new → now_at z m i < length new

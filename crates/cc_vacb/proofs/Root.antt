@@ -25,15 +25,15 @@ no_inner top bs t u zero x g l q = omega (arith, t.below_top x g l)
 no_inner top bs t u (suc d) x g l q =
     let o = t.has_parent x g l in
     elim (cases_eq o.0 0) [
-      inl z ↦ Node≢Empty x (sym o.1 ∙ ap (λ y. slot_in bs y ((block_in bs x).prefix % 128)) z ∙ empty_block bs 0 _ u)
-    | inr z ↦ no_inner top bs t u d o.0 (omega arith) (node_in_range bs o.0 _ _ o.1 (Node≢Empty x)) (omega (arith, (t.leads o.0 _ x o.1).height))
+      | inl z ↦ Node≢Empty x (sym o.1 ∙ ap (λ y. slot_in bs y ((block_in bs x).prefix % 128)) z ∙ empty_block bs 0 _ u)
+      | inr z ↦ no_inner top bs t u d o.0 (omega arith) (node_in_range bs o.0 _ _ o.1 (Node≢Empty x)) (omega (arith, (t.leads o.0 _ x o.1).height))
     ]
 
 pub root_alone : (top : ℕ) (bs : List Block) → IsTree top bs → used_slots (block_in bs 0) ≡ 0 → length bs ≡ 1
 root_alone top bs t u =
     elim (cases_lt 1 (length bs)) [
-      inl h ↦ absurd (no_inner top bs t u top 1 (omega arith) h (omega arith))
-    | inr h ↦ omega (arith, t.some)
+      | inl h ↦ absurd (no_inner top bs t u top 1 (omega arith) h (omega arith))
+      | inr h ↦ omega (arith, t.some)
     ]
 
 one_block : (bs : List Block) → length bs ≡ 1 → bs ≡ block_in bs 0 ∷ []
@@ -53,7 +53,7 @@ new_height top to bs b t u h p s d =
       prefix = p;
       width = ap (λ (x : List Slot). length x) s;
       empty = λ k. ap (λ (x : List Slot). get_or x k Empty) s ∙ old.empty k;
-      unused = ap (λ (x : List Slot). count_by is_used x) s ∙ u
+      unused = ap (λ (x : List Slot). count_by is_used x) s ∙ u;
     } in
     let q : set bs 0 b ≡ b ∷ [] = ap (λ (c : List Block). set c 0 b) e in
     let v = alone_tree to w b new t.root_wide (λ g. sym (ap (λ (x : List Slot). length x) s) ∙ d g) in
@@ -64,7 +64,7 @@ new_height top to bs b t u h p s d =
       entries = λ n. alone_entry to w b new v n ∙ sym (ap (λ (c : List Block). entry_in c top n) e ∙ alone_entry top w r old o n);
       count = omega (arith, alone_used 0 to 0 w b new, alone_used 0 top 0 w r old, ap (λ (c : List Block). used_at 0 c) e);
       len = omega (arith, t.some);
-      used = λ g. absurd (omega (arith, u))
+      used = λ g. absurd (omega (arith, u));
     })
 
 -- two lists of slots that agree at each place have as many used slots
@@ -89,16 +89,16 @@ new_width top bs b t f h p s w d =
     let root : block_in new 0 ≡ b = get_or-set_same bs 0 b no_block t.some in
     let other : (x : ℕ) → x ≢ 0 → block_in new x ≡ block_in bs x = λ x n. get_or-set_other bs 0 x b no_block n in
     let slot : (x j : ℕ) → slot_in new x j ≡ slot_in bs x j = λ x j. elim (cases_eq x 0) [
-      inl z ↦ ap (λ y. slot_in new y j) z ∙ ap (λ (c : Block). get_or c.slots j Empty) root ∙ s j ∙ ap (λ y. slot_in bs y j) (sym z)
-    | inr z ↦ ap (λ (c : Block). get_or c.slots j Empty) (other x z)
+      | inl z ↦ ap (λ y. slot_in new y j) z ∙ ap (λ (c : Block). get_or c.slots j Empty) root ∙ s j ∙ ap (λ y. slot_in bs y j) (sym z)
+      | inr z ↦ ap (λ (c : Block). get_or c.slots j Empty) (other x z)
     ] in
     let height : (x : ℕ) → (block_in new x).height ≡ (block_in bs x).height = λ x. elim (cases_eq x 0) [
-      inl z ↦ ap (λ y. (block_in new y).height) z ∙ ap (λ (c : Block). c.height) root ∙ h ∙ ap (λ y. (block_in bs y).height) (sym z)
-    | inr z ↦ ap (λ (c : Block). c.height) (other x z)
+      | inl z ↦ ap (λ y. (block_in new y).height) z ∙ ap (λ (c : Block). c.height) root ∙ h ∙ ap (λ y. (block_in bs y).height) (sym z)
+      | inr z ↦ ap (λ (c : Block). c.height) (other x z)
     ] in
     let prefix : (x : ℕ) → (block_in new x).prefix ≡ (block_in bs x).prefix = λ x. elim (cases_eq x 0) [
-      inl z ↦ ap (λ y. (block_in new y).prefix) z ∙ ap (λ (c : Block). c.prefix) root ∙ p ∙ ap (λ y. (block_in bs y).prefix) (sym z)
-    | inr z ↦ ap (λ (c : Block). c.prefix) (other x z)
+      | inl z ↦ ap (λ y. (block_in new y).prefix) z ∙ ap (λ (c : Block). c.prefix) root ∙ p ∙ ap (λ y. (block_in bs y).prefix) (sym z)
+      | inr z ↦ ap (λ (c : Block). c.prefix) (other x z)
     ] in
     let used_root : used_slots b ≡ used_slots (block_in bs 0) = used_same b.slots (block_in bs 0).slots s in
     let wide : length (block_in new 0).slots ≡ length b.slots = ap (λ (c : Block). length c.slots) root in
@@ -108,36 +108,36 @@ new_width top bs b t f h p s w d =
       root_prefix = prefix 0 ∙ t.root_prefix;
       below_top = λ x g l. omega (arith, height x, t.below_top x g (omega (arith, len)));
       leads = λ x j y e.
-        let l = t.leads x j y (sym (slot x j) ∙ e) in
-        record {
-          below = omega (arith, len, l.below);
-          not_root = l.not_root;
-          height = omega (arith, height x, height y, l.height);
-          prefix = omega (arith, prefix x, prefix y, l.prefix)
-        };
+          let l = t.leads x j y (sym (slot x j) ∙ e) in
+          record {
+            below = omega (arith, len, l.below);
+            not_root = l.not_root;
+            height = omega (arith, height x, height y, l.height);
+            prefix = omega (arith, prefix x, prefix y, l.prefix);
+          };
       has_parent = λ y g l.
-        let o = t.has_parent y g (omega (arith, len)) in
-        (o.0, ap (λ q. slot_in new o.0 (q % 128)) (prefix y) ∙ slot o.0 _ ∙ o.1);
+          let o = t.has_parent y g (omega (arith, len)) in
+          (o.0, ap (λ q. slot_in new o.0 (q % 128)) (prefix y) ∙ slot o.0 _ ∙ o.1);
       views = λ x j v e. height x ∙ t.views x j v (sym (slot x j) ∙ e);
       wide = λ x g l. ap (λ (c : Block). length c.slots) (other x (λ z. omega arith)) ∙ t.wide x g (omega (arith, len));
       root_wide = omega (arith, wide, w);
       deep = λ g. wide ∙ d g;
       counted = λ k g.
-        omega (arith, t.counted k g, blocks_at-set k bs 0 b t.some, used_at-set (suc k) bs 0 b t.some, ap (λ y. only_at k y 1) h, ap (λ y. only_at (suc k) y (used_slots b)) h, ap (λ y. only_at (suc k) (block_in bs 0).height y) used_root)
+          omega (arith, t.counted k g, blocks_at-set k bs 0 b t.some, used_at-set (suc k) bs 0 b t.some, ap (λ y. only_at k y 1) h, ap (λ y. only_at (suc k) y (used_slots b)) h, ap (λ y. only_at (suc k) (block_in bs 0).height y) used_root);
     } in
     record {
       tree = u;
       filled = λ x g l n. omega (arith, f x g (omega (arith, len)) n, ap used_slots (other x n));
       entries = λ n. same_options _ _
-        (λ v e.
+          (λ v e.
           let o = holder top new u n v e in
           entry_held top bs t n v o.0 (record { inside = omega (arith, o.1.inside, len); height = sym (height o.0) ∙ o.1.height; prefix = sym (prefix o.0) ∙ o.1.prefix; slot = sym (slot o.0 (n % 128)) ∙ o.1.slot }))
-        (λ v e.
+          (λ v e.
           let o = holder top bs t n v e in
           entry_held top new u n v o.0 (record { inside = omega (arith, o.1.inside, len); height = height o.0 ∙ o.1.height; prefix = prefix o.0 ∙ o.1.prefix; slot = slot o.0 (n % 128) ∙ o.1.slot }));
       count = omega (arith, used_at-set 0 bs 0 b t.some, ap (λ y. only_at 0 y (used_slots b)) h, ap (λ y. only_at 0 (block_in bs 0).height y) used_root);
       len = omega (arith, len);
-      used = λ g. omega (arith, ap used_slots root, used_root)
+      used = λ g. omega (arith, ap used_slots root, used_root);
     }
 
 -- slots filled up with empty ones
@@ -145,9 +145,9 @@ pub widened_slot : (xs : List Slot) (n k : ℕ) → length xs ≤ n → get_or (
 widened_slot xs n k l =
     ap (λ (ys : List Slot). get_or (ys ++ replicate (n - length xs) Empty) k Empty) (take_all n xs l)
     ∙ elim (cases_lt k (length xs)) [
-        inl h ↦ get_or_append_left xs (replicate (n - length xs) Empty) Empty k h
+      | inl h ↦ get_or_append_left xs (replicate (n - length xs) Empty) Empty k h
       | inr h ↦ get_or-append_right xs (replicate (n - length xs) Empty) (length xs) k Empty refl h ∙ blank_slot (n - length xs) (k - length xs) ∙ sym (get_or_past xs k Empty h)
-      ]
+    ]
 
 pub widened_width : (xs : List Slot) (n : ℕ) → length xs ≤ n → length (take n xs ++ replicate (n - length xs) Empty) ≡ n
 widened_width xs n l = omega (arith, length-append (take n xs) (replicate (n - length xs) Empty), length-replicate (n - length xs) Empty, ap (λ (ys : List Slot). length ys) (take_all n xs l))
@@ -156,8 +156,8 @@ widened_width xs n l = omega (arith, length-append (take n xs) (replicate (n - l
 pub narrowed_slot : (xs : List Slot) (n k : ℕ) → ((i : ℕ) → n ≤ i → get_or xs i Empty ≡ Empty) → get_or (take n xs) k Empty ≡ get_or xs k Empty
 narrowed_slot xs n k f =
     elim (cases_lt k n) [
-      inl h ↦ get_or-take n xs k Empty h
-    | inr h ↦ get_or_past (take n xs) k Empty (omega (arith, length-take n xs)) ∙ sym (f k h)
+      | inl h ↦ get_or-take n xs k Empty h
+      | inr h ↦ get_or_past (take n xs) k Empty (omega (arith, length-take n xs)) ∙ sym (f k h)
     ]
 
 pub same_top : (top : ℕ) (bs : List Block) → IsTree top bs → FilledBut 0 bs → ChangesTop top top bs bs
@@ -169,7 +169,7 @@ widened top bs cs r b t f ce re be =
     let w : length r.slots ≤ 128 = omega (arith, ap (λ (x : Block). length x.slots) re, t.root_wide) in
     let width : length b.slots ≡ 128 = ap (λ (x : Block). length x.slots) be ∙ widened_width r.slots 128 w in
     let slot : (k : ℕ) → get_or b.slots k Empty ≡ slot_in bs 0 k = λ k.
-      ap (λ (x : Block). get_or x.slots k Empty) be ∙ widened_slot r.slots 128 k w ∙ ap (λ (x : Block). get_or x.slots k Empty) re in
+    ap (λ (x : Block). get_or x.slots k Empty) be ∙ widened_slot r.slots 128 k w ∙ ap (λ (x : Block). get_or x.slots k Empty) re in
     let q : set bs 0 b ≡ set cs 0 b = ap (λ (x : List Block). set x 0 b) (sym ce) in
     let c = new_width top bs b t f (ap (λ (x : Block). x.height) be ∙ ap (λ (x : Block). x.height) re) (ap (λ (x : Block). x.prefix) be ∙ ap (λ (x : Block). x.prefix) re) slot (omega arith) (λ _. width) in
     (subst (λ (x : List Block). ChangesTop top top bs x) q c, ap (λ (x : List Block). length (block_in x 0).slots) (sym q) ∙ ap (λ (x : Block). length x.slots) (get_or-set_same bs 0 b no_block t.some) ∙ width)
@@ -180,42 +180,44 @@ regrown top to bs r b q d t f u re be qe de l =
     let w = widened top bs bs r b t f refl re be in
     let c = w.0 in
     let same : used_slots b ≡ used_slots r =
-      ap used_slots be ∙ used_same (take 128 r.slots ++ replicate (128 - length r.slots) Empty) r.slots (λ k. widened_slot r.slots 128 k (omega (arith, ap (λ (x : Block). length x.slots) re, t.root_wide))) in
+    ap used_slots be ∙ used_same (take 128 r.slots ++ replicate (128 - length r.slots) Empty) r.slots (λ k. widened_slot r.slots 128 k (omega (arith, ap (λ (x : Block). length x.slots) re, t.root_wide))) in
     let head : block_in (set bs 0 b) 0 ≡ b = get_or-set_same bs 0 b no_block t.some in
     let none : used_slots (block_in (set bs 0 b) 0) ≡ 0 = ap used_slots head ∙ same ∙ u in
     let slots : d.slots ≡ (block_in (set bs 0 b) 0).slots = ap (λ (x : Block). x.slots) de ∙ ap (λ (x : Block). x.slots) qe in
     let width : length d.slots ≡ 128 = ap (λ (x : List Slot). length x) slots ∙ w.1 in
-    let n = new_height top to (set bs 0 b) d c.tree none (ap (λ (x : Block). x.height) de) (ap (λ (x : Block). x.prefix) de ∙ ap (λ (x : Block). x.prefix) qe ∙ c.tree.root_prefix) slots (λ _. width) in
-    ( then_top top top to bs (set bs 0 b) _ (omega arith) c n
-    , ap (λ (x : Block). length x.slots) (get_or-set_same (set bs 0 b) 0 d no_block c.tree.some) ∙ width )
+    let n = new_height top to (set bs 0 b) d c.tree none (ap (λ (x : Block). x.height) de) (ap (λ (x : Block). x.prefix) de ∙ ap (λ (x : Block). x.prefix) qe ∙ c.tree.root_prefix) slots (λ _. width) in (
+      then_top top top to bs (set bs 0 b) _ (omega arith) c n,
+      ap (λ (x : Block). length x.slots) (get_or-set_same (set bs 0 b) 0 d no_block c.tree.some) ∙ width,
+    )
 
 -- the root after it was cut off where its slots are empty
 pub narrowed : (bs : List Block) (r b : Block) (w : ℕ) → IsTree 0 bs → FilledBut 0 bs → EntriesBelow 0 bs w → r ≡ block_in bs 0 → b ≡ record r { slots = take w r.slots } → w ≤ length (block_in bs 0).slots → ChangesTop 0 0 bs (set bs 0 b) × (length (block_in (set bs 0 b) 0).slots ≡ w)
 narrowed bs r b w t f s re be l =
     let past : (k : ℕ) → w ≤ k → get_or r.slots k Empty ≡ Empty = λ k g.
-      ap (λ (x : Block). get_or x.slots k Empty) re ∙ elim (slot_is (slot_in bs 0 k)) [
-        inl q ↦ q
+    ap (λ (x : Block). get_or x.slots k Empty) re ∙ elim (slot_is (slot_in bs 0 k)) [
+      | inl q ↦ q
       | inr q ↦ elim q [
-          inl q ↦ absurd (omega (arith, (t.leads 0 k q.0 q.1).height, t.root_height))
+        | inl q ↦ absurd (omega (arith, (t.leads 0 k q.0 q.1).height, t.root_height))
         | inr q ↦
             let d = digit_in 0 bs t 0 k _ q.1 (View≢Empty q.0) in
             let m : k % 128 ≡ k = omega arith in
             let p : (block_in bs 0).prefix ≡ k / 128 = omega (arith, t.root_prefix) in
             absurd (omega (arith, s k q.0 (entry_held 0 bs t k q.0 0 (record { inside = t.some; height = t.root_height; prefix = p; slot = ap (λ y. slot_in bs 0 y) m ∙ q.1 }))))
-        ]
-      ] in
+      ]
+    ] in
     let width : length b.slots ≡ w = ap (λ (x : Block). length x.slots) be ∙ length-take-le w r.slots (omega (arith, ap (λ (x : Block). length x.slots) re)) in
     let slot : (k : ℕ) → get_or b.slots k Empty ≡ slot_in bs 0 k = λ k.
-      ap (λ (x : Block). get_or x.slots k Empty) be ∙ narrowed_slot r.slots w k past ∙ ap (λ (x : Block). get_or x.slots k Empty) re in
+    ap (λ (x : Block). get_or x.slots k Empty) be ∙ narrowed_slot r.slots w k past ∙ ap (λ (x : Block). get_or x.slots k Empty) re in
     let c = new_width 0 bs b t f (ap (λ (x : Block). x.height) be ∙ ap (λ (x : Block). x.height) re) (ap (λ (x : Block). x.prefix) be ∙ ap (λ (x : Block). x.prefix) re) slot (omega (arith, width, l, t.root_wide)) (λ g. absurd (omega arith)) in
     (c, ap (λ (x : Block). length x.slots) (get_or-set_same bs 0 b no_block t.some) ∙ width)
 
 -- a root with nothing below it is lowered
 pub lower_empty : (top : ℕ) (bs : List Block) (r b : Block) → 0 < top → IsTree top bs → used_slots (block_in bs 0) ≡ 0 → r ≡ block_in bs 0 → b ≡ record r { height = top - 1 } → ChangesTop top (top - 1) bs (set bs 0 b) × (length (block_in bs 0).slots ≤ length (block_in (set bs 0 b) 0).slots)
 lower_empty top bs r b g t u re be =
-    let s : b.slots ≡ (block_in bs 0).slots = ap (λ (x : Block). x.slots) be ∙ ap (λ (x : Block). x.slots) re in
-    ( new_height top (top - 1) bs b t u (ap (λ (x : Block). x.height) be) (ap (λ (x : Block). x.prefix) be ∙ ap (λ (x : Block). x.prefix) re ∙ t.root_prefix) s (λ _. ap (λ (x : List Slot). length x) s ∙ t.deep g)
-    , omega (arith, ap (λ (x : Block). length x.slots) (get_or-set_same bs 0 b no_block t.some), ap (λ (x : List Slot). length x) s) )
+    let s : b.slots ≡ (block_in bs 0).slots = ap (λ (x : Block). x.slots) be ∙ ap (λ (x : Block). x.slots) re in (
+      new_height top (top - 1) bs b t u (ap (λ (x : Block). x.height) be) (ap (λ (x : Block). x.prefix) be ∙ ap (λ (x : Block). x.prefix) re ∙ t.root_prefix) s (λ _. ap (λ (x : List Slot). length x) s ∙ t.deep g),
+      omega (arith, ap (λ (x : Block). length x.slots) (get_or-set_same bs 0 b no_block t.some), ap (λ (x : List Slot). length x) s),
+    )
 
 pub small_then : (a b n to : ℕ) (xs ys : List Block) → ChangesTop a b xs ys → EntriesBelow a xs (128 ^ (to + 1)) → to < b → n ≡ b → EntriesBelow n ys (128 ^ n)
 small_then a b n to xs ys c s l e = λ k v f.

@@ -20,8 +20,8 @@ pub data SizeIn (size : ℕ) : ℕ → Type 0 where
 in_chain : (size n l rest : ℕ) → (size ≤ n → SizeIn size l) → (n < size → SizeIn size rest) → SizeIn size (if nat_le size n then l else rest)
 in_chain size n l rest f g =
     elim (cases_Bool (nat_le size n)) [
-      inl e ↦ subst (SizeIn size) (sym (cond-true (nat_le size n) l rest e)) (f (leb-true size n e))
-    | inr e ↦ subst (SizeIn size) (sym (cond-false (nat_le size n) l rest e)) (g (leb-false size n e))
+      | inl e ↦ subst (SizeIn size) (sym (cond-true (nat_le size n) l rest e)) (f (leb-true size n e))
+      | inr e ↦ subst (SizeIn size) (sym (cond-false (nat_le size n) l rest e)) (g (leb-false size n e))
     ]
 
 pub size_in : (size : ℕ) → SizeIn size (levels_of size)
@@ -37,8 +37,8 @@ size_in size =
 least_by : (size l m : ℕ) → 2 ^ m < size → 18 + 7 * l ≡ m + 7 → (f : ℕ) → size ≤ 2 ^ (18 + 7 * f) → l ≤ f
 least_by size l m g e f c =
     elim (cases_lt f l) [
-      inl h ↦ absurd (omega (arith, pow-le-pow_right {n = 2} (omega arith) {i = 18 + 7 * f} {j = m} (omega arith), g, c))
-    | inr h ↦ h
+      | inl h ↦ absurd (omega (arith, pow-le-pow_right {n = 2} (omega arith) {i = 18 + 7 * f} {j = m} (omega arith), g, c))
+      | inr h ↦ h
     ]
 
 pub least_levels : (size l : ℕ) → size < 2 ^ 64 → SizeIn size l → IsLeastLevels size l
@@ -104,8 +104,8 @@ width_large size h = cond-false (nat_le size 1048576) 4 128 (lt-leb size 1048576
 pub width_bound : (size : ℕ) → (4 ≤ width_of size) × (width_of size ≤ 128)
 width_bound size =
     elim (cases_lt 1048576 size) [
-      inl h ↦ (omega (arith, width_large size h), omega (arith, width_large size h))
-    | inr h ↦ (omega (arith, width_small size h), omega (arith, width_small size h))
+      | inl h ↦ (omega (arith, width_large size h), omega (arith, width_large size h))
+      | inr h ↦ (omega (arith, width_small size h), omega (arith, width_small size h))
     ]
 
 pub width_deep : (size : ℕ) → 0 < levels_of size - 1 → width_of size ≡ 128
@@ -115,6 +115,6 @@ width_deep size g = width_large size (deep_size size (levels_of size) (size_in s
 pub root_slot : (size b : ℕ) → StartsBelow b size → b % 128 < width_of size
 root_slot size b s =
     elim (cases_lt 1048576 size) [
-      inl h ↦ omega (arith, width_large size h)
-    | inr h ↦ omega (arith, width_small size h, s)
+      | inl h ↦ omega (arith, width_large size h)
+      | inr h ↦ omega (arith, width_small size h, s)
     ]

@@ -32,10 +32,10 @@ one_or_none (Some x) = refl
 pub put_width : (top b : ℕ) (old mid : List Block) (x : ℕ) → ExtendsTo top top (b / 128) old mid x → (top ≡ 0 → b % 128 < length (block_in old 0).slots) → b % 128 < length (block_in mid x).slots
 put_width top b old mid x m r =
     elim (cases_eq x 0) [
-      inl z ↦
-        let h : top ≡ 0 = omega (arith, m.place.height, ap (λ y. (block_in mid y).height) z, m.tree.root_height) in
-        omega (arith, r h, m.root, ap (λ y. length (block_in mid y).slots) z)
-    | inr z ↦ omega (arith, m.tree.wide x (omega arith) m.place.inside)
+      | inl z ↦
+          let h : top ≡ 0 = omega (arith, m.place.height, ap (λ y. (block_in mid y).height) z, m.tree.root_height) in
+          omega (arith, r h, m.root, ap (λ y. length (block_in mid y).slots) z)
+      | inr z ↦ omega (arith, m.tree.wide x (omega arith) m.place.inside)
     ]
 
 pub put_view : (top b v : ℕ) (old mid new : List Block) (x : ℕ) → ExtendsTo top top (b / 128) old mid x → (top ≡ 0 → b % 128 < length (block_in old 0).slots) → new ≡ put_slot mid x (b % 128) (View v) → PutsView top b v old new
@@ -51,32 +51,32 @@ put_view top b v old mid new x m r e =
     subst (λ (c : List Block). PutsView top b v old c) (sym e) (record {
       tree = t;
       filled = λ y g q z. elim (cases_eq y x) [
-        inl c ↦
-          let s = slot-put_same mid x k (View v) l w in
-          let i = slot_in_width (put_slot mid x k (View v)) x k _ s (View≢Empty v) in
-          omega (arith, used_by (block_in (put_slot mid x k (View v)) x) k i, ap weight_of s, ap (λ d. used_slots (block_in (put_slot mid x k (View v)) d)) c)
-      | inr c ↦ omega (arith, m.filled y g (omega (arith, length-put_slot mid x k (View v))) c, ap used_slots (block-put_other mid x k (View v) y c))
+        | inl c ↦
+            let s = slot-put_same mid x k (View v) l w in
+            let i = slot_in_width (put_slot mid x k (View v)) x k _ s (View≢Empty v) in
+            omega (arith, used_by (block_in (put_slot mid x k (View v)) x) k i, ap weight_of s, ap (λ d. used_slots (block_in (put_slot mid x k (View v)) d)) c)
+        | inr c ↦ omega (arith, m.filled y g (omega (arith, length-put_slot mid x k (View v))) c, ap used_slots (block-put_other mid x k (View v) y c))
       ];
       here = mark_here top mid x k (View v) b t l w (omega arith) h n;
       others = λ o c. mark_other top mid x k (View v) o m.tree t l (λ d. c (sym d ∙ n)) ∙ m.entries o;
       count =
-        omega (arith, u, only_at_same 0 (block_in mid x).height (weight_of (slot_in mid x k)) h, only_at_same 0 (block_in mid x).height 1 h, leaf_entry top mid b x m.tree l h m.place.prefix, one, m.count)
-        ∙ ap (λ o. used_at 0 old + (if is_some o then 0 else 1)) (m.entries b);
+          omega (arith, u, only_at_same 0 (block_in mid x).height (weight_of (slot_in mid x k)) h, only_at_same 0 (block_in mid x).height 1 h, leaf_entry top mid b x m.tree l h m.place.prefix, one, m.count)
+          ∙ ap (λ o. used_at 0 old + (if is_some o then 0 else 1)) (m.entries b);
       len = omega (arith, length-put_slot mid x k (View v), m.len);
-      root = (place-put_slot mid x k (View v) 0 l).width ∙ m.root
+      root = (place-put_slot mid x k (View v) 0 l).width ∙ m.root;
     })
 
 -- nothing is taken where there is no entry
 pub take_none : (top b : ℕ) (bs : List Block) → IsTree top bs → FilledBut 0 bs → entry_in bs top b ≡ None → TakesView top b bs bs
 take_none top b bs t f e = record {
-    tree = t;
-    filled = f;
-    here = e;
-    others = λ o c. refl;
-    count = omega (arith, ap {B = ℕ} (λ o. if is_some o then 1 else 0) e);
-    len = omega arith;
-    root = refl
-  }
+  tree = t;
+  filled = f;
+  here = e;
+  others = λ o c. refl;
+  count = omega (arith, ap {B = ℕ} (λ o. if is_some o then 1 else 0) e);
+  len = omega arith;
+  root = refl;
+}
 
 -- the tree once the slot is empty
 pub record Cleared (top b : ℕ) (old mid : List Block) (x : ℕ) : Type 0 where
@@ -108,19 +108,19 @@ cleared top b v bs mid x t f e s m =
       others = λ o c. mark_other top bs x k Empty o t u l (λ d. c (sym d ∙ n));
       count = omega (arith, used_at-put 0 bs x k Empty l w, only_at_same 0 (block_in bs x).height (weight_of (slot_in bs x k)) h, only_at_same 0 (block_in bs x).height 0 h, one);
       len = length-put_slot bs x k Empty;
-      root = (place-put_slot bs x k Empty 0 l).width
+      root = (place-put_slot bs x k Empty 0 l).width;
     })
 
 pub take_some : (top b v : ℕ) (bs mid new : List Block) (x : ℕ) → entry_in bs top b ≡ Some v → Cleared top b bs mid x → TreeKept top mid new → FilledBut 0 new → TakesView top b bs new
 take_some top b v bs mid new x e c k f = record {
-    tree = k.tree;
-    filled = f;
-    here = k.entries b ∙ c.here;
-    others = λ o n. k.entries o ∙ c.others o n;
-    count = omega (arith, ap {B = ℕ} (λ o. if is_some o then 1 else 0) e, k.count, c.count);
-    len = omega (arith, k.len, c.len);
-    root = k.root ∙ c.root
-  }
+  tree = k.tree;
+  filled = f;
+  here = k.entries b ∙ c.here;
+  others = λ o n. k.entries o ∙ c.others o n;
+  count = omega (arith, ap {B = ℕ} (λ o. if is_some o then 1 else 0) e, k.count, c.count);
+  len = omega (arith, k.len, c.len);
+  root = k.root ∙ c.root;
+}
 
 -- the two looks of a take: for the block, and for its slot
 pub look_none : (top b : ℕ) (bs ds : List Block) → ds ≡ bs → None ≡ reach ds top (b / 128) → entry_in bs top b ≡ None

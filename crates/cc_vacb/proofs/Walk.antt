@@ -46,7 +46,7 @@ at_reach top bs t zero p x e =
     record {
       inside = i;
       height = ap (λ n. (block_in bs n).height + 0) z ∙ omega (arith, t.root_height);
-      prefix = ap (λ n. (block_in bs n).prefix) z ∙ t.root_prefix ∙ sym r.0
+      prefix = ap (λ n. (block_in bs n).prefix) z ∙ t.root_prefix ∙ sym r.0;
     }
 at_reach top bs t (suc d) p x e =
     let r = and_then_some (reach bs d (p / 128)) (λ node. child_of (slot_in bs node (p % 128))) x e in
@@ -55,7 +55,7 @@ at_reach top bs t (suc d) p x e =
     record {
       inside = l.below;
       height = omega (arith, l.height, a.height);
-      prefix = omega (arith, l.prefix, a.prefix)
+      prefix = omega (arith, l.prefix, a.prefix);
     }
 
 -- a block is reached by its own place
@@ -63,33 +63,33 @@ pub reach_at : (top : ℕ) (bs : List Block) → IsTree top bs → (d p x : ℕ)
 unfolding reach
 reach_at top bs t zero p x a =
     elim (cases_eq x 0) [
-      inl e ↦
-        let p0 : p ≡ 0 = sym a.prefix ∙ ap (λ n. (block_in bs n).prefix) e ∙ t.root_prefix in
-        ap (λ n. if n == 0 then Some 0 else None) p0 ∙ ap Some (sym e)
-    | inr n ↦ absurd (omega (arith, t.below_top x (omega arith) a.inside, a.height))
+      | inl e ↦
+          let p0 : p ≡ 0 = sym a.prefix ∙ ap (λ n. (block_in bs n).prefix) e ∙ t.root_prefix in
+          ap (λ n. if n == 0 then Some 0 else None) p0 ∙ ap Some (sym e)
+      | inr n ↦ absurd (omega (arith, t.below_top x (omega arith) a.inside, a.height))
     ]
 reach_at top bs t (suc d) p x a =
     elim (cases_eq x 0) [
-      inl e ↦ absurd (omega (arith, a.height, ap (λ n. (block_in bs n).height) e, t.root_height))
-    | inr n ↦
-        let h = t.has_parent x (omega arith) a.inside in
-        let l = t.leads h.0 ((block_in bs x).prefix % 128) x h.1 in
-        let b : IsAt top bs d (p / 128) h.0 = record {
-          inside = node_in_range bs h.0 _ _ h.1 (Node≢Empty x);
-          height = omega (arith, l.height, a.height);
-          prefix = omega (arith, l.prefix, a.prefix)
-        } in
-        let s : slot_in bs h.0 (p % 128) ≡ Node x = ap (λ q. slot_in bs h.0 (q % 128)) (sym a.prefix) ∙ h.1 in
-        ap (λ o. option_and_then (λ node. child_of (slot_in bs node (p % 128))) o) (reach_at top bs t d (p / 128) h.0 b)
-        ∙ ap child_of s
+      | inl e ↦ absurd (omega (arith, a.height, ap (λ n. (block_in bs n).height) e, t.root_height))
+      | inr n ↦
+          let h = t.has_parent x (omega arith) a.inside in
+          let l = t.leads h.0 ((block_in bs x).prefix % 128) x h.1 in
+          let b : IsAt top bs d (p / 128) h.0 = record {
+            inside = node_in_range bs h.0 _ _ h.1 (Node≢Empty x);
+            height = omega (arith, l.height, a.height);
+            prefix = omega (arith, l.prefix, a.prefix);
+          } in
+          let s : slot_in bs h.0 (p % 128) ≡ Node x = ap (λ q. slot_in bs h.0 (q % 128)) (sym a.prefix) ∙ h.1 in
+          ap (λ o. option_and_then (λ node. child_of (slot_in bs node (p % 128))) o) (reach_at top bs t d (p / 128) h.0 b)
+          ∙ ap child_of s
     ]
 
 -- two blocks of one place are one
 pub same_place : (top : ℕ) (bs : List Block) → IsTree top bs → (x y : ℕ) → x < length bs → y < length bs → (block_in bs x).height ≡ (block_in bs y).height → (block_in bs x).prefix ≡ (block_in bs y).prefix → x ≡ y
 same_place top bs t x y hx hy h p =
     let top_x : (block_in bs x).height ≤ top = elim (cases_eq x 0) [
-      inl e ↦ omega (arith, ap (λ n. (block_in bs n).height) e, t.root_height)
-    | inr n ↦ omega (arith, t.below_top x (omega arith) hx)
+      | inl e ↦ omega (arith, ap (λ n. (block_in bs n).height) e, t.root_height)
+      | inr n ↦ omega (arith, t.below_top x (omega arith) hx)
     ] in
     let d = top - (block_in bs x).height in
     let rx = reach_at top bs t d (block_in bs x).prefix x (record { inside = hx; height = omega arith; prefix = refl }) in
@@ -102,16 +102,17 @@ pub same_parent : (top : ℕ) (bs : List Block) → IsTree top bs → (x i y j z
 same_parent top bs t x i y j z e f hi hj =
     let lx = t.leads x i z e in
     let ly = t.leads y j z f in
-    let p : (block_in bs x).prefix ≡ (block_in bs y).prefix = omega (arith, lx.prefix, ly.prefix) in
-    ( same_place top bs t x y (node_in_range bs x i _ e (Node≢Empty z)) (node_in_range bs y j _ f (Node≢Empty z)) (omega (arith, lx.height, ly.height)) p
-    , omega (arith, lx.prefix, ly.prefix) )
+    let p : (block_in bs x).prefix ≡ (block_in bs y).prefix = omega (arith, lx.prefix, ly.prefix) in (
+      same_place top bs t x y (node_in_range bs x i _ e (Node≢Empty z)) (node_in_range bs y j _ f (Node≢Empty z)) (omega (arith, lx.height, ly.height)) p,
+      omega (arith, lx.prefix, ly.prefix),
+    )
 
 pub digit_in : (top : ℕ) (bs : List Block) → IsTree top bs → (x i : ℕ) (s : Slot) → slot_in bs x i ≡ s → s ≢ Empty → i < 128
 digit_in top bs t x i s e n =
     let w = slot_in_width bs x i s e n in
     elim (cases_eq x 0) [
-      inl z ↦ omega (arith, w, t.root_wide, ap (λ m. length (block_in bs m).slots) z)
-    | inr z ↦ omega (arith, w, t.wide x (omega arith) (node_in_range bs x i s e n))
+      | inl z ↦ omega (arith, w, t.root_wide, ap (λ m. length (block_in bs m).slots) z)
+      | inr z ↦ omega (arith, w, t.wide x (omega arith) (node_in_range bs x i s e n))
     ]
 
 -- an entry is a view in the block of height 0 that covers it

@@ -2,10 +2,9 @@ ghost use Rattle.std.specs.Prelude.{◌≡◌, ℕ, ◌==◌, ◌<◌, ◌-◌, 
 ghost use Rattle.cc_vacb.specs.declared.slots.Slot.TheVariants.{Empty};
 ghost use Rattle.cc_vacb.specs.Block.{blank_block, used_slots};
 
+use crate::slots::Slot;
 use std::alloc::{AllocError, Global};
 use std::marker::Model;
-
-use crate::slots::Slot;
 
 /// An index block: its slots, and its own place in the tree. A block of height 0 holds views, and
 /// covers the blocks of the stream whose number divided by 128 is its prefix; a block above covers
@@ -81,9 +80,9 @@ impl IndexBlock {
     pub(crate) fn widen(&mut self) -> Result<(), AllocError>
         ensures ok { OnOk result
             (self.new
-                ≡ record self.old {
-                    slots = take 128 self.old.slots ++ replicate (128 - length self.old.slots) Empty
-                }) }
+            ≡ record self.old {
+              slots = take 128 self.old.slots ++ replicate (128 - length self.old.slots) Empty;
+            }) }
         ensures err { OnErr result (self.new ≡ self.old) }
     {
         self.slots.resize(128, Slot::Empty)

@@ -1,9 +1,8 @@
 ghost use Rattle.std.specs.Prelude.{◌≡◌, ℕ, ◌+◌, ◌<◌};
 
 use std::marker::Model;
-use std::sync::ledger::{Blank, Book, Share};
-
 pub use std::sync::ledger::Ledger;
+use std::sync::ledger::{Blank, Book, Share};
 
 /// How many index blocks were visited. It takes no bytes, and only a look-up changes it.
 #[derive(Drop)]

@@ -3,15 +3,12 @@ ghost use Rattle.cc_vacb.specs.Index.{StartsBelow, entry_at, entry_count, block_
 ghost use Rattle.cc_vacb.specs.Slots.{view_of};
 ghost use Rattle.cc_vacb.specs.declared.slots.Slot.TheVariants.{Node};
 
-use std::alloc::{AllocError, Global};
-use std::marker::Model;
-
 use crate::blocks::IndexBlock;
 use crate::counter::{Ledger, Steps};
-use crate::levels;
-use crate::roots;
 use crate::slots::Slot;
-use crate::tree;
+use crate::{levels, roots, tree};
+use std::alloc::{AllocError, Global};
+use std::marker::Model;
 
 /// Memory was wanting, and nothing was changed.
 #[derive(Clone, Copy, PartialEq, Eq, Debug)]
@@ -79,7 +76,7 @@ impl ViewIndex {
         ensures others { (other : ℕ) → other ≢ block → entry_at self.new other ≡ entry_at self.old other }
         ensures count { OnOk result
             (entry_count self.new
-                ≡ entry_count self.old + (if is_some (entry_at self.old block) then 0 else 1)) }
+            ≡ entry_count self.old + (if is_some (entry_at self.old block) then 0 else 1)) }
         ensures size { self.new.size ≡ self.old.size }
         ensures err { OnErr result (self.new ≡ self.old) }
     {

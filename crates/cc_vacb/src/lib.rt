@@ -17,3 +17,6 @@ mod tree;
 pub use counter::{Ledger, Steps};
 pub use index::{NoMemory, ViewIndex};
 pub use slots::Slot;
+
+#[cfg(test)]
+mod tests;

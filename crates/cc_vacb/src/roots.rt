@@ -4,12 +4,11 @@ ghost use Rattle.cc_vacb.specs.Index.{block_in};
 ghost use Rattle.cc_vacb.specs.Tree.{IsTree, FilledBut, ChangesTop, EntriesBelow};
 ghost use Rattle.std.specs.Vec.{vec_len, vec_capacity};
 
-use std::alloc::{AllocError, Global};
-use std::mem;
-
 use crate::blocks::IndexBlock;
 use crate::slots::Slot;
 use crate::tree::{put_slot, slot_in, unlink};
+use std::alloc::{AllocError, Global};
+use std::mem;
 
 // Puts new roots above the root until it has the height that is asked for. All memory is taken
 // before the first one.

@@ -5,11 +5,10 @@ ghost use Rattle.cc_vacb.specs.Tree.{put_slot, IsTree, FilledBut, ExtendsTo, Rel
 ghost use Rattle.cc_vacb.specs.declared.slots.Slot.TheVariants.{Node};
 ghost use Rattle.std.specs.Vec.{vec_len, vec_capacity};
 
-use std::alloc::{AllocError, Global};
-
 use crate::blocks::IndexBlock;
 use crate::counter::{Ledger, Steps};
 use crate::slots::Slot;
+use std::alloc::{AllocError, Global};
 
 // The slot of an index block, empty where there is no such slot.
 pub(crate) fn slot_in(blocks: &[IndexBlock], node: u32, i: u8) -> Slot
