@@ -1,11 +1,9 @@
 -- A root with no used slot is a tree of any height.
-use Rattle.std.proofs.Common.{◌≡◌, ◌≢◌, ℕ, suc, zero, ◌+◌, ◌-◌, ◌*◌, ◌/◌, ◌%◌, ◌^◌, ◌<◌, ◌≤◌, List, [], ◌∷◌, ◌++◌, Option, Some, None, length, get_or, refl, ap, sym, subst, ◌∙◌, arith, inl, inr}
-use Rattle.std.proofs.lemmas.Bool.{cases_eq}
-use Rattle.cc_vacb.specs.declared.slots.Slot.{Slot}
-use Rattle.cc_vacb.specs.declared.slots.Slot.TheVariants.{Empty, Node, View}
+use Rattle.std.proofs.Common.{◌≡◌, ℕ, suc, zero, ◌+◌, ◌-◌, ◌%◌, ◌^◌, ◌<◌, ◌≤◌, List, [], ◌∷◌, ◌++◌, Option, Some, None, refl, ap, sym, subst, ◌∙◌, arith}
+use Rattle.cc_vacb.specs.declared.slots.Slot.TheVariants.{Empty}
 use Rattle.cc_vacb.specs.Block.{Block, blank_block, used_slots}
 use Rattle.cc_vacb.specs.Index.{block_in, slot_in, entry_in, count_in, levels_of, width_of}
-use Rattle.cc_vacb.specs.Tree.{IsTree, FilledBut, used_at, blocks_at, IsIndex}
+use Rattle.cc_vacb.specs.Tree.{IsTree, used_at, IsIndex}
 use Rattle.cc_vacb.proofs.Put.{Node≢Empty, View≢Empty, Some≢None}
 use Rattle.cc_vacb.proofs.Count.{only_at_none, count_in-used}
 use Rattle.cc_vacb.proofs.Child.{IsBlank, blank-is}

@@ -1,9 +1,7 @@
 -- There are at most as many index blocks as levels times entries, and the root.
-use Rattle.std.proofs.Common.{◌≡◌, ◌≢◌, ℕ, suc, zero, ◌+◌, ◌-◌, ◌*◌, ◌<◌, ◌≤◌, ◌==◌, if◌then◌else◌, List, [], ◌∷◌, length, sum_by, refl, ap, sym, ◌∙◌, arith, inl, inr}
-use Rattle.std.proofs.lemmas.Bool.{cases_eq, cases_lt}
+use Rattle.std.proofs.Common.{◌≡◌, ◌≢◌, ℕ, suc, zero, ◌+◌, ◌*◌, ◌<◌, ◌≤◌, ◌==◌, if◌then◌else◌, List, [], ◌∷◌, length, refl, ap, arith, inl, inr}
+use Rattle.std.proofs.lemmas.Bool.{cases_eq}
 use Rattle.std.proofs.lemmas.List.Sums.{sum_by-cons}
-use Rattle.std.specs.Prelude.{◌⊎◌}
-use native.Mathlib.Numerals.{unary_clauses}
 use Rattle.cc_vacb.specs.Block.{Block, used_slots}
 use Rattle.cc_vacb.specs.Index.{block_in}
 use Rattle.cc_vacb.specs.Tree.{IsTree, FilledBut, used_at, blocks_at}

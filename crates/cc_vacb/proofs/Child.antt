@@ -1,17 +1,17 @@
 -- One more index block, at the end, and the slot that leads to it.
-use Rattle.std.proofs.Common.{◌≡◌, ◌≢◌, ℕ, suc, zero, ◌+◌, ◌-◌, ◌*◌, ◌/◌, ◌%◌, ◌<◌, ◌≤◌, ◌==◌, List, [], ◌∷◌, ◌++◌, Option, Some, None, length, replicate, get_or, refl, ap, sym, ◌∙◌, arith, inl, inr}
+use Rattle.std.proofs.Common.{◌≡◌, ◌≢◌, ℕ, suc, ◌+◌, ◌*◌, ◌%◌, ◌<◌, ◌≤◌, List, [], ◌∷◌, ◌++◌, length, replicate, get_or, refl, ap, sym, ◌∙◌, arith, inl, inr}
 use Rattle.std.proofs.lemmas.Bool.{cases_eq, cases_lt}
 use Rattle.std.proofs.lemmas.List.{length_push, length-replicate, get_or-replicate, get_or_past}
 use Rattle.std.specs.Prelude.{◌⊎◌}
 use Rattle.cc_vacb.specs.declared.slots.Slot.{Slot}
 use Rattle.cc_vacb.specs.declared.slots.Slot.TheVariants.{Empty, Node, View}
-use Rattle.cc_vacb.specs.Slots.{child_of, view_of, weight_of}
+use Rattle.cc_vacb.specs.Slots.{weight_of}
 use Rattle.cc_vacb.specs.Block.{Block, blank_block, used_slots}
-use Rattle.cc_vacb.specs.Index.{block_in, slot_in, entry_in, count_in}
-use Rattle.cc_vacb.specs.Tree.{SamePlace, IsTree, Leads, put_slot, FilledBut, used_at, blocks_at}
-use Rattle.cc_vacb.proofs.Put.{place-put_slot, length-put_slot, slot-put_same, slot-put_other, slot_cases, node_in_range, slot_in_width, Node≢Empty, Node≢View, View≢Empty, Some≢None, block-put_same, block-put_other, block-push_old, block-push_new}
-use Rattle.cc_vacb.proofs.Count.{blocks_at-put, used_at-put, blocks_at-push, used_at-push, only_at, only_at_other, only_at_same, used-set, only_at_none, used-replicate, used_by}
-use Rattle.cc_vacb.proofs.Walk.{Holds, holder, entry_held, same_options}
+use Rattle.cc_vacb.specs.Index.{block_in, slot_in, entry_in}
+use Rattle.cc_vacb.specs.Tree.{SamePlace, IsTree, put_slot, FilledBut, used_at, blocks_at}
+use Rattle.cc_vacb.proofs.Put.{place-put_slot, length-put_slot, slot-put_same, slot-put_other, slot_cases, node_in_range, slot_in_width, Node≢Empty, Node≢View, View≢Empty, block-put_other, block-push_old, block-push_new}
+use Rattle.cc_vacb.proofs.Count.{blocks_at-put, used_at-put, blocks_at-push, used_at-push, only_at_other, only_at_same, only_at_none, used-replicate, used_by}
+use Rattle.cc_vacb.proofs.Walk.{holder, entry_held, same_options}
 
 -- a block with no used slot
 pub record IsBlank (b : Block) (h p w : ℕ) : Type 0 where

@@ -1,11 +1,9 @@
 -- How many blocks a height has, and how many of their slots are used, after a write or one more block.
-use Rattle.std.proofs.Common.{◌≡◌, ◌≢◌, ℕ, suc, zero, ◌+◌, ◌*◌, ◌<◌, ◌≤◌, ◌==◌, if◌then◌else◌, eqb, cond, true, false, List, [], ◌∷◌, ◌++◌, length, get_or, set, replicate, count_by, sum_by, refl, ap, sym, ◌∙◌, arith, inl, inr}
-use Rattle.std.proofs.lemmas.List.{get_or-set_same, length-set}
-use Rattle.std.proofs.lemmas.List.Sums.{sum_by-set, sum_by_push, sum_by-swap_remove, get_or-le-sum_by, sum_by-cons}
-use Rattle.std.proofs.lemmas.Bool.{cases_eq, cases_lt, cond-true, cond-false, ne_eqb, eq-eqb}
-use Rattle.std.specs.Prelude.{◌⊎◌}
+use Rattle.std.proofs.Common.{◌≡◌, ◌≢◌, ℕ, suc, zero, ◌+◌, ◌<◌, ◌≤◌, ◌==◌, if◌then◌else◌, eqb, List, [], ◌∷◌, ◌++◌, length, get_or, set, replicate, count_by, sum_by, refl, ◌∙◌, arith, inl, inr}
+use Rattle.std.proofs.lemmas.List.Sums.{sum_by-set, sum_by_push, get_or-le-sum_by, sum_by-cons}
+use Rattle.std.proofs.lemmas.Bool.{cases_eq, cond-true, cond-false, ne_eqb, eq-eqb}
 use Rattle.cc_vacb.specs.declared.slots.Slot.{Slot}
-use Rattle.cc_vacb.specs.declared.slots.Slot.TheVariants.{Empty, Node, View}
+use Rattle.cc_vacb.specs.declared.slots.Slot.TheVariants.{Empty}
 use Rattle.cc_vacb.specs.Slots.{is_used, weight_of}
 use Rattle.cc_vacb.specs.Block.{Block, no_block, used_slots}
 use Rattle.cc_vacb.specs.Index.{block_in, slot_in, count_in}

@@ -1,10 +1,10 @@
 -- What the calls of an index keep true, from what they leave of the tree.
-use Rattle.std.proofs.Common.{◌≡◌, ◌≢◌, ℕ, suc, zero, ◌+◌, ◌-◌, ◌*◌, ◌/◌, ◌%◌, ◌^◌, ◌<◌, ◌≤◌, ◌==◌, if◌then◌else◌, List, Option, Some, None, is_some, length, refl, ap, sym, subst, ◌∙◌, arith, inl, inr, mul-le-mul_right}
+use Rattle.std.proofs.Common.{◌≡◌, ℕ, suc, ◌+◌, ◌-◌, ◌*◌, ◌/◌, ◌%◌, ◌^◌, ◌<◌, ◌≤◌, if◌then◌else◌, List, Option, Some, is_some, length, refl, ap, sym, subst, ◌∙◌, arith, inl, inr, mul-le-mul_right}
 use Rattle.cc_vacb.specs.Block.{Block}
 use Rattle.cc_vacb.specs.Slots.{view_of}
 use Rattle.cc_vacb.specs.declared.slots.Slot.TheVariants.{Node}
 use Rattle.cc_vacb.specs.Index.{block_in, slot_in, entry_in, count_in, levels_of, width_of, StartsBelow, digits_of, led_by, IsLeastLevels}
-use Rattle.cc_vacb.specs.Tree.{IsTree, FilledBut, IsIndex, PutsView, TakesView, ChangesTop, EntriesBelow}
+use Rattle.cc_vacb.specs.Tree.{IsTree, IsIndex, PutsView, TakesView, ChangesTop, EntriesBelow}
 use Rattle.cc_vacb.proofs.Put.{Some≢None}
 use Rattle.cc_vacb.proofs.Count.{count_in-used}
 use Rattle.cc_vacb.proofs.Bound.{blocks_bound}

@@ -1,5 +1,5 @@
 -- The root is taken away, and the one block below it becomes the root.
-use Rattle.std.proofs.Common.{◌≡◌, ◌≢◌, ℕ, suc, zero, ◌+◌, ◌-◌, ◌*◌, ◌/◌, ◌%◌, ◌^◌, ◌<◌, ◌≤◌, ◌==◌, eqb, if◌then◌else◌, List, [], ◌∷◌, ◌++◌, Option, Some, None, length, get_or, set, take, count_by, sum_by, refl, ap, sym, subst, ◌∙◌, arith, inl, inr}
+use Rattle.std.proofs.Common.{◌≡◌, ◌≢◌, ℕ, suc, zero, ◌+◌, ◌-◌, ◌*◌, ◌/◌, ◌%◌, ◌^◌, ◌<◌, ◌≤◌, ◌==◌, eqb, if◌then◌else◌, List, [], ◌∷◌, Some, None, length, get_or, set, count_by, refl, ap, sym, subst, ◌∙◌, arith, inl, inr}
 use Rattle.std.proofs.lemmas.Bool.{cases_eq, cond-true, cond-false, ne_eqb, eq-eqb}
 use Rattle.std.proofs.lemmas.List.{length-set, length-take, get_or-set_same, get_or-set_other, get_or_read}
 use Rattle.std.proofs.lemmas.List.Sums.{sum_by-cons}
@@ -7,19 +7,18 @@ use Rattle.std.proofs.lemmas.Nat.{div_below}
 use Rattle.std.proofs.Math.Nat.{div-div-eq-div-mul, one-le-pow}
 use native.Mathlib.Numerals.{unary_clauses}
 use Rattle.std.specs.List.{swap_remove}
-use Rattle.std.specs.Prelude.{◌⊎◌}
 use Rattle.cc_vacb.specs.declared.slots.Slot.{Slot}
 use Rattle.cc_vacb.specs.declared.slots.Slot.TheVariants.{Empty, Node, View}
 use Rattle.cc_vacb.specs.Slots.{is_used, weight_of, child_of}
 use Rattle.cc_vacb.specs.Block.{Block, no_block, used_slots}
 use Rattle.cc_vacb.specs.Index.{block_in, slot_in, entry_in}
-use Rattle.cc_vacb.specs.Tree.{SamePlace, IsTree, Leads, FilledBut, used_at, blocks_at, was_at, now_at, ChangesTop, Relinked, LeadsElsewhere, EntriesBelow}
-use Rattle.cc_vacb.proofs.Put.{slot_in_width, node_in_range, Node≢Empty, Node≢View, View≢Empty, Some≢None}
+use Rattle.cc_vacb.specs.Tree.{SamePlace, IsTree, FilledBut, used_at, blocks_at, was_at, now_at, ChangesTop, Relinked, EntriesBelow}
+use Rattle.cc_vacb.proofs.Put.{node_in_range, Node≢Empty, Node≢View, View≢Empty, Some≢None}
 use Rattle.cc_vacb.proofs.Count.{only_at, only_at_is, only_at_other}
 use Rattle.cc_vacb.proofs.Path.{slot_is}
-use Rattle.cc_vacb.proofs.Removed.{was, was_same, was_other, Was, now, now_same, now_other, Now, block-swap_remove, blocks_removed, used_removed}
-use Rattle.cc_vacb.proofs.Raise.{blocks_at-set, used_at-set, low}
-use Rattle.cc_vacb.proofs.Walk.{Holds, holder, entry_held, same_options, digit_in, child_is}
+use Rattle.cc_vacb.proofs.Removed.{was, was_same, was_other, now, now_same, now_other, block-swap_remove, blocks_removed, used_removed}
+use Rattle.cc_vacb.proofs.Raise.{blocks_at-set, used_at-set}
+use Rattle.cc_vacb.proofs.Walk.{holder, entry_held, same_options, digit_in, child_is}
 
 -- a block with a used slot
 pub some_used : (xs : List Slot) → 0 < count_by is_used xs → (k : ℕ) × (get_or xs k Empty ≢ Empty)

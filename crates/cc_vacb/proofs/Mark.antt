@@ -1,16 +1,14 @@
 -- A view put into a slot of a block of height 0, or taken out of it.
-use Rattle.std.proofs.Common.{◌≡◌, ◌≢◌, ℕ, suc, zero, ◌+◌, ◌-◌, ◌*◌, ◌/◌, ◌%◌, ◌<◌, ◌≤◌, ◌==◌, List, Option, Some, None, length, refl, ap, sym, ◌∙◌, arith, inl, inr}
-use Rattle.std.proofs.lemmas.Bool.{cases_eq}
-use Rattle.std.specs.Prelude.{◌⊎◌}
+use Rattle.std.proofs.Common.{◌≡◌, ◌≢◌, ℕ, suc, ◌+◌, ◌*◌, ◌/◌, ◌%◌, ◌<◌, List, Some, None, length, ap, sym, ◌∙◌, arith, inl, inr}
 use Rattle.cc_vacb.specs.declared.slots.Slot.{Slot}
 use Rattle.cc_vacb.specs.declared.slots.Slot.TheVariants.{Empty, Node, View}
 use Rattle.cc_vacb.specs.Slots.{child_of, view_of, weight_of}
 use Rattle.cc_vacb.specs.Block.{Block}
 use Rattle.cc_vacb.specs.Index.{block_in, slot_in, entry_in}
-use Rattle.cc_vacb.specs.Tree.{SamePlace, IsTree, Leads, put_slot, FilledBut, used_at}
-use Rattle.cc_vacb.proofs.Put.{place-put_slot, length-put_slot, slot-put_same, slot-put_other, slot_cases, node_in_range, Node≢Empty, Node≢View, Some≢None, block-put_other}
+use Rattle.cc_vacb.specs.Tree.{IsTree, put_slot}
+use Rattle.cc_vacb.proofs.Put.{place-put_slot, length-put_slot, slot-put_same, slot-put_other, slot_cases, Node≢Empty, Node≢View, Some≢None}
 use Rattle.cc_vacb.proofs.Count.{blocks_at-put, used_at-put, only_at_other}
-use Rattle.cc_vacb.proofs.Walk.{Holds, holder, entry_held, same_place, same_options, digit_in, entry_of_place}
+use Rattle.cc_vacb.proofs.Walk.{holder, entry_held, same_options, entry_of_place}
 
 no_child : (s : Slot) (y : ℕ) → child_of s ≡ None → s ≡ Node y → ⊥
 no_child Empty y e f = absurd (Node≢Empty y (sym f))

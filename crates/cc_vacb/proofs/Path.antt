@@ -1,15 +1,15 @@
 -- The way to a block, with what was missing on it.
-use Rattle.std.proofs.Common.{◌≡◌, ◌≢◌, ℕ, suc, zero, ◌+◌, ◌-◌, ◌*◌, ◌/◌, ◌%◌, ◌<◌, ◌≤◌, ◌^◌, ◌==◌, List, [], ◌∷◌, ◌++◌, Option, Some, None, length, refl, ap, sym, subst, ◌∙◌, arith, inl, inr}
-use Rattle.std.proofs.lemmas.Bool.{cases_eq, cases_lt}
+use Rattle.std.proofs.Common.{◌≡◌, ℕ, suc, zero, ◌-◌, ◌*◌, ◌/◌, ◌%◌, ◌<◌, ◌≤◌, ◌^◌, ◌==◌, List, [], ◌∷◌, ◌++◌, Some, None, length, refl, ap, sym, subst, ◌∙◌, arith, inl, inr}
+use Rattle.std.proofs.lemmas.Bool.{cases_eq}
 use Rattle.std.proofs.lemmas.Nat.{div_below}
 use Rattle.std.specs.Prelude.{◌⊎◌, if◌then◌else◌}
 use native.Mathlib.Numerals.{unary_clauses}
 use Rattle.cc_vacb.specs.declared.slots.Slot.{Slot}
 use Rattle.cc_vacb.specs.declared.slots.Slot.TheVariants.{Empty, Node, View}
-use Rattle.cc_vacb.specs.Slots.{child_of, view_of, weight_of}
-use Rattle.cc_vacb.specs.Block.{Block, blank_block, used_slots}
-use Rattle.cc_vacb.specs.Index.{block_in, slot_in, entry_in, reach}
-use Rattle.cc_vacb.specs.Tree.{IsTree, Leads, IsAt, put_slot, FilledBut, used_at, ExtendsTo}
+use Rattle.cc_vacb.specs.Slots.{child_of}
+use Rattle.cc_vacb.specs.Block.{Block, blank_block}
+use Rattle.cc_vacb.specs.Index.{block_in, slot_in, reach}
+use Rattle.cc_vacb.specs.Tree.{IsTree, put_slot, FilledBut, ExtendsTo}
 use Rattle.cc_vacb.proofs.Put.{Some≢None, block-push_old}
 use Rattle.cc_vacb.proofs.Reach.{reach_below_some, reach-root}
 use Rattle.cc_vacb.proofs.Walk.{at_reach, reach_at}

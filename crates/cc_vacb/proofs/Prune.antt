@@ -1,15 +1,14 @@
 -- What the functions that remove a block find and leave.
-use Rattle.std.proofs.Common.{◌≡◌, ◌≢◌, ℕ, ◌+◌, ◌-◌, ◌*◌, ◌/◌, ◌%◌, ◌<◌, ◌≤◌, List, Option, Some, None, length, get_or, refl, ap, sym, subst, ◌∙◌, arith, inl, inr}
-use Rattle.std.proofs.lemmas.Bool.{cases_eq}
+use Rattle.std.proofs.Common.{◌≡◌, ◌≢◌, ℕ, ◌-◌, ◌/◌, ◌%◌, ◌<◌, List, Option, Some, None, length, ap, sym, subst, ◌∙◌, arith}
 use Rattle.std.specs.List.{swap_remove}
-use Rattle.cc_vacb.specs.declared.slots.Slot.TheVariants.{Empty, Node, View}
+use Rattle.cc_vacb.specs.declared.slots.Slot.TheVariants.{Empty, Node}
 use Rattle.cc_vacb.specs.Block.{Block, used_slots}
 use Rattle.cc_vacb.specs.Index.{block_in, slot_in, reach}
 use Rattle.cc_vacb.specs.Tree.{IsTree, IsAt, put_slot, FilledBut, Relinked, RemovesBlock, now_at}
 use Rattle.cc_vacb.proofs.Put.{node_in_range, Node≢Empty, Some≢None}
 use Rattle.cc_vacb.proofs.Walk.{reach_at}
 use Rattle.cc_vacb.proofs.Unlink.{unlinked_last, unlinked_moved}
-use Rattle.cc_vacb.proofs.Removed.{moved, moved_kept, moved_filled, moved_parent_in, now_same, now_other}
+use Rattle.cc_vacb.proofs.Removed.{moved, moved_kept, moved_filled, moved_parent_in}
 
 -- the walk to the place above a block, as it is made from the block's own height and prefix
 pub looked_above : (bs : List Block) (top : ℕ) (b c : Block) (h p : ℕ) (o : Option ℕ) → o ≡ reach bs (top - h - 1) (p / 128) → h ≡ b.height → p ≡ b.prefix → b ≡ c → reach bs (top - c.height - 1) (c.prefix / 128) ≡ o

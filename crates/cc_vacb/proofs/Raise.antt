@@ -1,20 +1,18 @@
 -- A new root above the old one, which goes to the end.
-use Rattle.std.proofs.Common.{◌≡◌, ◌≢◌, ℕ, suc, zero, ◌+◌, ◌-◌, ◌*◌, ◌/◌, ◌%◌, ◌<◌, ◌≤◌, ◌==◌, if◌then◌else◌, List, [], ◌∷◌, ◌++◌, Option, Some, None, length, get_or, set, sum_by, refl, ap, sym, subst, ◌∙◌, arith, inl, inr}
-use Rattle.std.proofs.lemmas.Bool.{cases_eq, cases_lt}
+use Rattle.std.proofs.Common.{◌≡◌, ◌≢◌, ℕ, suc, ◌+◌, ◌-◌, ◌%◌, ◌<◌, ◌≤◌, ◌==◌, if◌then◌else◌, List, [], ◌∷◌, ◌++◌, length, get_or, set, refl, ap, sym, subst, ◌∙◌, arith, inl, inr}
+use Rattle.std.proofs.lemmas.Bool.{cases_eq}
 use Rattle.std.proofs.lemmas.List.{length_push, length-set, get_or-set_same, get_or-set_other, get_or_push}
 use Rattle.std.proofs.lemmas.List.Sums.{sum_by-set, get_or-le-sum_by}
-use Rattle.std.specs.Prelude.{◌⊎◌}
-use Rattle.cc_vacb.specs.declared.slots.Slot.{Slot}
 use Rattle.cc_vacb.specs.declared.slots.Slot.TheVariants.{Empty, Node, View}
 use Rattle.cc_vacb.specs.Slots.{weight_of}
 use Rattle.cc_vacb.specs.Block.{Block, no_block, blank_block, used_slots}
-use Rattle.cc_vacb.specs.Index.{block_in, slot_in, entry_in}
-use Rattle.cc_vacb.specs.Tree.{SamePlace, IsTree, Leads, put_slot, FilledBut, used_at, blocks_at, was_at, now_at, ChangesTop}
-use Rattle.cc_vacb.proofs.Put.{place-put_slot, length-put_slot, slot-put_same, slot-put_other, slot_in_width, node_in_range, Node≢Empty, Node≢View, View≢Empty, block-put_same, block-put_other, block-push_old}
+use Rattle.cc_vacb.specs.Index.{block_in, slot_in}
+use Rattle.cc_vacb.specs.Tree.{IsTree, put_slot, FilledBut, used_at, blocks_at, was_at, now_at, ChangesTop}
+use Rattle.cc_vacb.proofs.Put.{place-put_slot, length-put_slot, slot-put_same, slot-put_other, node_in_range, Node≢Empty, Node≢View, View≢Empty, block-put_other, block-push_old}
 use Rattle.cc_vacb.proofs.Count.{blocks_at-put, used_at-put, blocks_at-push, used_at-push, only_at, only_at_none, only_at_same, only_at_other, used_by}
 use Rattle.cc_vacb.proofs.Child.{IsBlank, blank-is}
 use Rattle.cc_vacb.proofs.Removed.{was_same, was_other, now_same, now_other}
-use Rattle.cc_vacb.proofs.Walk.{Holds, holder, entry_held, same_options}
+use Rattle.cc_vacb.proofs.Walk.{holder, entry_held, same_options}
 use Rattle.cc_vacb.proofs.Bound.{none_at, one_root}
 
 pub blocks_at-set : (h : ℕ) (bs : List Block) (x : ℕ) (b : Block) → x < length bs → blocks_at h (set bs x b) + only_at h (block_in bs x).height 1 ≡ blocks_at h bs + only_at h b.height 1

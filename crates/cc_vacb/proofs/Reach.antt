@@ -1,4 +1,4 @@
-use Rattle.std.proofs.Common.{◌≡◌, ℕ, suc, zero, ◌+◌, ◌-◌, ◌*◌, ◌/◌, ◌%◌, ◌<◌, ◌≤◌, ◌==◌, if◌then◌else◌, List, Option, Some, None, refl, ap, arith}
+use Rattle.std.proofs.Common.{◌≡◌, ℕ, suc, zero, ◌-◌, ◌/◌, ◌%◌, ◌<◌, ◌==◌, if◌then◌else◌, List, Some, None, refl, ap, arith}
 use Rattle.std.specs.Prelude.{option_and_then}
 use native.Mathlib.Numerals.{unary_clauses}
 use Rattle.cc_vacb.specs.Slots.{child_of, view_of}

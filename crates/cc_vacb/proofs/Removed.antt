@@ -1,16 +1,16 @@
 -- A block that leads nowhere is removed, and the last one takes its place.
-use Rattle.std.proofs.Common.{◌≡◌, ◌≢◌, ℕ, suc, zero, ◌+◌, ◌-◌, ◌*◌, ◌/◌, ◌%◌, ◌<◌, ◌≤◌, ◌==◌, eqb, false, if◌then◌else◌, List, [], ◌∷◌, length, get_or, set, take, refl, ap, sym, subst, ◌∙◌, arith, inl, inr}
-use Rattle.std.proofs.lemmas.Bool.{cases_eq, cases_lt, cond-true, cond-false, ne_eqb, eq-eqb}
+use Rattle.std.proofs.Common.{◌≡◌, ◌≢◌, ℕ, suc, ◌+◌, ◌-◌, ◌%◌, ◌<◌, ◌≤◌, ◌==◌, eqb, if◌then◌else◌, List, length, get_or, set, take, refl, ap, sym, subst, ◌∙◌, arith, inl, inr}
+use Rattle.std.proofs.lemmas.Bool.{cases_eq, cond-true, cond-false, ne_eqb, eq-eqb}
 use Rattle.std.proofs.lemmas.List.{get_or-take, get_or-set_same, get_or-set_other, get_or_default, length-take, length-set}
 use Rattle.std.proofs.lemmas.List.Sums.{sum_by-swap_remove}
 use Rattle.std.specs.List.{swap_remove}
-use Rattle.std.specs.Prelude.{◌⊎◌, slice_set, slice_index_or}
+use Rattle.std.specs.Prelude.{◌⊎◌}
 use Rattle.cc_vacb.specs.declared.slots.Slot.{Slot}
 use Rattle.cc_vacb.specs.declared.slots.Slot.TheVariants.{Empty, Node, View}
 use Rattle.cc_vacb.specs.Slots.{weight_of}
 use Rattle.cc_vacb.specs.Block.{Block, no_block, used_slots}
-use Rattle.cc_vacb.specs.Index.{block_in, slot_in, entry_in}
-use Rattle.cc_vacb.specs.Tree.{SamePlace, IsTree, Leads, FilledBut, used_at, blocks_at, Relinked, LeadsElsewhere, was_at, now_at, TreeKept}
+use Rattle.cc_vacb.specs.Index.{block_in, slot_in}
+use Rattle.cc_vacb.specs.Tree.{SamePlace, IsTree, FilledBut, used_at, blocks_at, Relinked, LeadsElsewhere, was_at, now_at, TreeKept}
 use Rattle.cc_vacb.proofs.Put.{node_in_range, Node≢Empty, View≢Empty, Node≢View, slot_in_width}
 use Rattle.cc_vacb.proofs.Count.{only_at, only_at_is, only_at_none, only_at_same, only_at_other, used_by}
 use Rattle.cc_vacb.proofs.Path.{slot_is}

@@ -1,21 +1,21 @@
 -- The root alone: its height where nothing is below it, and the number of its slots.
-use Rattle.std.proofs.Common.{◌≡◌, ◌≢◌, ℕ, suc, zero, ◌+◌, ◌-◌, ◌*◌, ◌/◌, ◌%◌, ◌^◌, ◌<◌, ◌≤◌, List, [], ◌∷◌, ◌++◌, Option, Some, None, length, get_or, set, take, replicate, count_by, refl, ap, sym, subst, ◌∙◌, arith, inl, inr}
+use Rattle.std.proofs.Common.{◌≡◌, ◌≢◌, ℕ, suc, zero, ◌+◌, ◌-◌, ◌/◌, ◌%◌, ◌^◌, ◌<◌, ◌≤◌, List, [], ◌∷◌, ◌++◌, length, get_or, set, take, replicate, count_by, refl, ap, sym, subst, ◌∙◌, arith, inl, inr}
 use Rattle.std.proofs.lemmas.Bool.{cases_eq, cases_lt}
 use Rattle.std.proofs.lemmas.List.{length-set, length-append, length-replicate, take_all, get_or-set_same, get_or-set_other, get_or_append_left, get_or-append_right, get_or_past, get_or-take, length-take, length-take-le, get_or_read}
 use Rattle.std.proofs.Math.Nat.{pow-le-pow_right}
 use Rattle.std.proofs.lemmas.List.Sums.{sum_by-cons}
 use Rattle.cc_vacb.specs.declared.slots.Slot.{Slot}
-use Rattle.cc_vacb.specs.declared.slots.Slot.TheVariants.{Empty, Node, View}
+use Rattle.cc_vacb.specs.declared.slots.Slot.TheVariants.{Empty}
 use Rattle.cc_vacb.specs.Slots.{is_used, weight_of}
 use Rattle.cc_vacb.specs.Block.{Block, no_block, used_slots}
 use Rattle.cc_vacb.specs.Index.{block_in, slot_in, entry_in}
-use Rattle.cc_vacb.specs.Tree.{SamePlace, IsTree, Leads, FilledBut, used_at, blocks_at, ChangesTop, EntriesBelow}
+use Rattle.cc_vacb.specs.Tree.{IsTree, FilledBut, used_at, ChangesTop, EntriesBelow}
 use Rattle.cc_vacb.proofs.Put.{node_in_range, Node≢Empty, View≢Empty}
 use Rattle.cc_vacb.proofs.Count.{only_at}
 use Rattle.cc_vacb.proofs.Child.{IsBlank, blank_slot}
 use Rattle.cc_vacb.proofs.Removed.{empty_block}
 use Rattle.cc_vacb.proofs.Raise.{blocks_at-set, used_at-set, then_top}
-use Rattle.cc_vacb.proofs.Walk.{Holds, holder, entry_held, same_options, digit_in}
+use Rattle.cc_vacb.proofs.Walk.{holder, entry_held, same_options, digit_in}
 use Rattle.cc_vacb.proofs.Path.{slot_is}
 use Rattle.cc_vacb.proofs.Alone.{alone_tree, alone_entry, alone_used}
 

@@ -1,10 +1,10 @@
 -- The number of levels of a size.
-use Rattle.std.proofs.Common.{◌≡◌, ◌≢◌, ℕ, suc, zero, ◌+◌, ◌-◌, ◌*◌, ◌/◌, ◌%◌, ◌^◌, ◌<◌, ◌≤◌, if◌then◌else◌, cond, leb, true, false, refl, ap, sym, subst, ◌∙◌, arith, inl, inr}
+use Rattle.std.proofs.Common.{◌≡◌, ℕ, suc, zero, ◌+◌, ◌-◌, ◌*◌, ◌/◌, ◌%◌, ◌^◌, ◌<◌, ◌≤◌, if◌then◌else◌, refl, sym, subst, arith, inl, inr}
 use Rattle.std.proofs.lemmas.Bool.{cases_Bool, cases_lt, leb-true, leb-false, le-leb, lt-leb, cond-true, cond-false}
 use Rattle.std.proofs.lemmas.Nat.{div_below}
 use Rattle.std.proofs.Math.Nat.{pow-le-pow_right}
 use native.Mathlib.Numerals.{unary_clauses}
-use Rattle.std.specs.Prelude.{◌⊎◌, nat_le}
+use Rattle.std.specs.Prelude.{nat_le}
 use Rattle.cc_vacb.specs.Index.{levels_of, width_of, IsLeastLevels, StartsBelow}
 
 -- which range a size is in, by its levels

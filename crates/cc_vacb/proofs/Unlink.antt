@@ -1,13 +1,12 @@
 -- The slots around a block that is to be removed.
-use Rattle.std.proofs.Common.{◌≡◌, ◌≢◌, ℕ, suc, zero, ◌+◌, ◌-◌, ◌*◌, ◌/◌, ◌%◌, ◌<◌, ◌≤◌, ◌==◌, if◌then◌else◌, List, [], ◌∷◌, length, get_or, refl, ap, sym, ◌∙◌, arith, inl, inr}
-use Rattle.std.proofs.lemmas.Bool.{cases_eq, cases_lt}
-use Rattle.std.specs.Prelude.{◌⊎◌}
+use Rattle.std.proofs.Common.{◌≡◌, ◌≢◌, ℕ, ◌<◌, List, length, refl, ap, sym, ◌∙◌, arith, inl, inr}
+use Rattle.std.proofs.lemmas.Bool.{cases_eq}
 use Rattle.cc_vacb.specs.declared.slots.Slot.{Slot}
-use Rattle.cc_vacb.specs.declared.slots.Slot.TheVariants.{Empty, Node, View}
+use Rattle.cc_vacb.specs.declared.slots.Slot.TheVariants.{Empty, Node}
 use Rattle.cc_vacb.specs.Slots.{weight_of}
 use Rattle.cc_vacb.specs.Block.{Block, used_slots}
 use Rattle.cc_vacb.specs.Index.{block_in, slot_in}
-use Rattle.cc_vacb.specs.Tree.{SamePlace, IsTree, Leads, put_slot, used_at, blocks_at, Relinked, LeadsElsewhere}
+use Rattle.cc_vacb.specs.Tree.{SamePlace, IsTree, put_slot, Relinked}
 use Rattle.cc_vacb.proofs.Put.{place-put_slot, length-put_slot, slot-put_same, slot-put_other, slot_cases, node_in_range, slot_in_width, Node≢Empty, block-put_same, block-put_other}
 use Rattle.cc_vacb.proofs.Count.{blocks_at-put, used_at-put, only_at, only_at_none, only_at_is, used-set}
 use Rattle.cc_vacb.proofs.Walk.{same_parent, digit_in}

@@ -1,14 +1,13 @@
 -- A view is put or taken, and what its entry was.
-use Rattle.std.proofs.Common.{◌≡◌, ◌≢◌, ℕ, suc, zero, ◌+◌, ◌-◌, ◌*◌, ◌/◌, ◌%◌, ◌<◌, ◌≤◌, ◌==◌, if◌then◌else◌, List, Option, Some, None, is_some, length, refl, ap, sym, subst, ◌∙◌, arith, inl, inr}
+use Rattle.std.proofs.Common.{◌≡◌, ◌≢◌, ℕ, ◌+◌, ◌*◌, ◌/◌, ◌%◌, ◌<◌, if◌then◌else◌, List, Option, Some, None, is_some, length, refl, ap, sym, subst, ◌∙◌, arith, inl, inr}
 use Rattle.std.proofs.lemmas.Bool.{cases_eq}
-use Rattle.std.specs.Prelude.{◌⊎◌}
 use Rattle.cc_vacb.specs.declared.slots.Slot.{Slot}
 use Rattle.cc_vacb.specs.declared.slots.Slot.TheVariants.{Empty, Node, View}
 use Rattle.cc_vacb.specs.Slots.{view_of, weight_of}
 use Rattle.cc_vacb.specs.Block.{Block, used_slots}
 use Rattle.cc_vacb.specs.Index.{block_in, slot_in, entry_in, reach}
-use Rattle.cc_vacb.specs.Tree.{IsTree, IsAt, put_slot, FilledBut, used_at, ExtendsTo, TreeKept, PutsView, TakesView}
-use Rattle.cc_vacb.proofs.Put.{slot-put_same, slot_in_width, length-put_slot, place-put_slot, View≢Empty, Some≢None, Node≢Empty, block-put_other}
+use Rattle.cc_vacb.specs.Tree.{IsTree, put_slot, FilledBut, used_at, ExtendsTo, TreeKept, PutsView, TakesView}
+use Rattle.cc_vacb.proofs.Put.{slot-put_same, slot_in_width, length-put_slot, place-put_slot, View≢Empty, block-put_other}
 use Rattle.cc_vacb.proofs.Count.{used_at-put, only_at_same, used_by}
 use Rattle.cc_vacb.proofs.Reach.{entry_none, entry_some}
 use Rattle.cc_vacb.proofs.Walk.{at_reach, entry_of_place, view_is}

@@ -1,15 +1,15 @@
 -- What a walk along digits reaches in a tree: the block of that place, and no other.
-use Rattle.std.proofs.Common.{◌≡◌, ◌≢◌, ℕ, suc, zero, ◌+◌, ◌-◌, ◌*◌, ◌/◌, ◌%◌, ◌<◌, ◌≤◌, ◌==◌, if◌then◌else◌, eqb, false, List, Option, Some, None, length, refl, ap, sym, subst, ◌∙◌, arith, inl, inr}
+use Rattle.std.proofs.Common.{◌≡◌, ◌≢◌, ℕ, suc, zero, ◌+◌, ◌-◌, ◌/◌, ◌%◌, ◌<◌, ◌≤◌, ◌==◌, if◌then◌else◌, eqb, false, List, Option, Some, None, length, refl, ap, sym, ◌∙◌, arith, inl, inr}
 use Rattle.std.proofs.lemmas.Bool.{cases_eq, cond-false, ne_eqb}
-use Rattle.std.specs.Prelude.{◌⊎◌, option_and_then}
+use Rattle.std.specs.Prelude.{option_and_then}
 use Rattle.cc_vacb.specs.declared.slots.Slot.{Slot}
 use Rattle.cc_vacb.specs.declared.slots.Slot.TheVariants.{Empty, Node, View}
 use Rattle.cc_vacb.specs.Slots.{child_of, view_of}
 use Rattle.cc_vacb.specs.Block.{Block}
 use Rattle.cc_vacb.specs.Index.{reach, block_in, slot_in, entry_in}
-use Rattle.cc_vacb.specs.Tree.{IsTree, Leads, IsAt}
+use Rattle.cc_vacb.specs.Tree.{IsTree, IsAt}
 use Rattle.cc_vacb.proofs.Reach.{entry_some}
-use Rattle.cc_vacb.proofs.Put.{node_in_range, slot_in_width, Node≢Empty, View≢Empty}
+use Rattle.cc_vacb.proofs.Put.{node_in_range, slot_in_width, Node≢Empty}
 
 pub child_is : (s : Slot) (y : ℕ) → child_of s ≡ Some y → s ≡ Node y
 child_is Empty y e = cc

@@ -1,4 +1,4 @@
-use Rattle.std.specs.Prelude.{ℕ, ◌+◌, ◌-◌, ◌*◌, ◌/◌, ◌%◌, ◌^◌, ◌<◌, ◌≤◌, ◌≡◌, ◌==◌, zero, suc, if◌then◌else◌, nat_le, List, [], ◌∷◌, ◌++◌, length, slice_index_or, Option, Some, None, option_and_then, sum_by, IsSome}
+use Rattle.std.specs.Prelude.{ℕ, ◌+◌, ◌-◌, ◌*◌, ◌/◌, ◌%◌, ◌^◌, ◌<◌, ◌≤◌, ◌==◌, zero, suc, if◌then◌else◌, nat_le, List, [], ◌∷◌, ◌++◌, length, slice_index_or, Option, Some, None, option_and_then, sum_by}
 use Rattle.cc_vacb.specs.declared.slots.Slot.{Slot}
 use Rattle.cc_vacb.specs.declared.slots.Slot.TheVariants.{Empty, Node, View}
 use Rattle.cc_vacb.specs.Slots.{child_of, view_of}

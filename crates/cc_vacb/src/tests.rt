@@ -1,13 +1,12 @@
 ghost use Rattle.std.specs.Prelude.{◌≡◌, ℕ, ◌+◌, ◌*◌, ◌^◌, ◌<◌};
 ghost use Rattle.cc_vacb.specs.Index.{StartsBelow, entry_at};
 
+use crate::{Ledger, NoMemory, Slot, Steps, ViewIndex};
 use std::alloc::{AllocError, Global};
 use std::marker::Brand;
 use std::process::Abort;
 use std::sync::ledger::Blank;
 use std::test::Fail;
-
-use crate::{Ledger, NoMemory, Slot, Steps, ViewIndex};
 
 // The view of a block, by a count of the index blocks that are visited from here on.
 fn counted<L: Ledger>(index: &ViewIndex, block: u64, blank: Blank) -> Option<u16>

@@ -1,4 +1,4 @@
-use Rattle.std.proofs.Common.{◌≡◌, ◌<◌, ◌+◌, ◌-◌, sym, subst, ap, arith, ◌∙◌, ℕ, List, length, set}
+use Rattle.std.proofs.Common.{◌≡◌, ◌<◌, ◌+◌, ◌-◌, sym, subst, ap, arith, ◌∙◌, List, length, set}
 use Rattle.std.proofs.lemmas.List.{get_or_read}
 use Rattle.cc_vacb.specs.Block.{Block, no_block, blank_block}
 use Rattle.cc_vacb.specs.Index.{block_in}

@@ -1,6 +1,6 @@
-use Rattle.std.proofs.Common.{◌≡◌, ◌<◌, sym, ap, arith, ◌∙◌, ℕ, length, set, eqb-true}
+use Rattle.std.proofs.Common.{◌≡◌, sym, ap, arith, ◌∙◌, set, eqb-true}
 use Rattle.std.proofs.lemmas.List.{get_or_read, length-set}
-use Rattle.cc_vacb.specs.Block.{Block, no_block, used_slots}
+use Rattle.cc_vacb.specs.Block.{no_block, used_slots}
 use Rattle.cc_vacb.proofs.Root.{regrown}
 use Rattle.cc_vacb.proofs.roots.grow.Goals as goal
 

@@ -1,4 +1,3 @@
-use Rattle.std.proofs.Common.{sym, ap, arith, ◌∙◌, ℕ}
 use Rattle.std.proofs.lemmas.List.{get_or_read}
 use Rattle.cc_vacb.specs.Block.{no_block}
 use Rattle.cc_vacb.proofs.Lower.{first_child, no_child_first, lower_step, root_unused_at}

@@ -1,4 +1,3 @@
-use Rattle.std.proofs.Common.{◌≡◌, sym}
 use Rattle.std.proofs.lemmas.List.{get_or_read}
 use Rattle.cc_vacb.specs.Block.{no_block}
 use Rattle.cc_vacb.proofs.Prune.{looked_above, parent_some, parent_leads}

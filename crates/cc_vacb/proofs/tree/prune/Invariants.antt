@@ -1,4 +1,4 @@
-use Rattle.std.proofs.Common.{◌≡◌, ◌<◌, ◌≤◌, length, vec_len}
+use Rattle.std.proofs.Common.{◌<◌, length, vec_len}
 use Rattle.cc_vacb.specs.Tree.{TreeKept, FilledBut}
 use Rattle.cc_vacb.proofs.tree.prune.Given as goal
 

@@ -1,4 +1,4 @@
-use Rattle.std.proofs.Common.{sym, ap, ◌∙◌, arith}
+use Rattle.std.proofs.Common.{sym, arith}
 use Rattle.cc_vacb.proofs.Prune.{removes}
 use Rattle.cc_vacb.proofs.Removed.{now_same, now_other}
 use Rattle.cc_vacb.proofs.tree.remove_block.Goals as goal

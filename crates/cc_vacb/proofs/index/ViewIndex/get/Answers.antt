@@ -1,4 +1,4 @@
-use Rattle.std.proofs.Common.{◌≡◌, ◌*◌, ◌<◌, ◌^◌, ◌∙◌, ap, arith, subst, List, ℕ}
+use Rattle.std.proofs.Common.{◌≡◌, ◌∙◌, ap, arith, subst, List}
 use Rattle.cc_vacb.specs.declared.slots.Slot.TheVariants.{Node}
 use Rattle.cc_vacb.specs.Block.{Block}
 use Rattle.cc_vacb.specs.Slots.{view_of}

@@ -1,4 +1,4 @@
-use Rattle.std.proofs.Common.{◌≡◌, ◌+◌, ◌*◌, ◌<◌, ◌^◌, ap, arith, subst, if◌then◌else◌, is_some, ℕ}
+use Rattle.std.proofs.Common.{◌≡◌, ◌+◌, ap, arith, subst, if◌then◌else◌, is_some}
 use Rattle.cc_vacb.specs.Index.{Index, StartsBelow, entry_count, entry_at, count_in}
 use Rattle.cc_vacb.proofs.Kept.{covered_at, root_at, put_count}
 use Rattle.cc_vacb.proofs.index.ViewIndex.put.Goals as goal

@@ -1,6 +1,6 @@
-use Rattle.std.proofs.Common.{◌≡◌, ◌<◌, ◌-◌, sym, subst, ap, arith, ◌∙◌, ℕ, length}
+use Rattle.std.proofs.Common.{◌<◌, sym, subst, ap, arith, ◌∙◌, ℕ}
 use Rattle.std.specs.Prelude.{IsSome}
-use Rattle.cc_vacb.specs.Index.{Index, entry_at, entry_count, entry_in, count_in, levels_of, StartsBelow}
+use Rattle.cc_vacb.specs.Index.{Index, entry_at, entry_count, StartsBelow}
 use Rattle.cc_vacb.proofs.Kept.{Stays, small_at, small_flat, flat_top, width_least, resized, resized_entry, resized_count, lowered_width, wide_width}
 use Rattle.cc_vacb.proofs.index.ViewIndex.resize.Goals as goal
 

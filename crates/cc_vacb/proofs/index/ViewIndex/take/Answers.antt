@@ -1,4 +1,4 @@
-use Rattle.std.proofs.Common.{◌≡◌, ◌+◌, subst, if◌then◌else◌, is_some, ℕ}
+use Rattle.std.proofs.Common.{◌≡◌, ◌+◌, subst, if◌then◌else◌, is_some}
 use Rattle.cc_vacb.specs.Index.{Index, entry_count, count_in}
 use Rattle.cc_vacb.proofs.Kept.{take_count}
 use Rattle.cc_vacb.proofs.index.ViewIndex.take.Goals as goal
