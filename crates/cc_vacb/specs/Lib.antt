@@ -1,0 +1,4 @@
+pub mod Slots
+pub mod Block
+pub mod Index
+pub mod Tree

@@ -1,0 +1,160 @@
+ghost use Rattle.std.specs.Prelude.{◌≡◌, ◌≢◌, ℕ, ◌+◌, ◌*◌, ◌-◌, ◌^◌, ◌<◌, ◌≤◌, IfOk, OnOk, OnErr, OnSome, IsSome, is_some, if◌then◌else◌, None, Some};
+ghost use Rattle.cc_vacb.specs.Index.{StartsBelow, entry_at, entry_count, block_count, slot_at, levels_of, width_of, IsLeastLevels, digits_of, led_by};
+ghost use Rattle.cc_vacb.specs.Slots.{view_of};
+ghost use Rattle.cc_vacb.specs.declared.slots.Slot.TheVariants.{Node};
+
+use crate::blocks::IndexBlock;
+use crate::counter::{Ledger, Steps};
+use crate::slots::Slot;
+use crate::{levels, roots, tree};
+use std::alloc::{AllocError, Global};
+use std::marker::Model;
+
+/// Memory was wanting, and nothing was changed.
+#[derive(Clone, Copy, PartialEq, Eq, Debug)]
+pub struct NoMemory;
+
+impl From<AllocError> for NoMemory {
+    fn from(_error: AllocError) -> NoMemory {
+        NoMemory
+    }
+}
+
+/// Which view holds which block of a stream.
+#[derive(Drop)]
+pub struct ViewIndex {
+    alloc: Global,
+    size: u64,
+    blocks: Vec<IndexBlock>,
+}
+
+impl Model for ViewIndex {
+    ghost use Rattle.cc_vacb.specs.Index.{Index};
+    ghost use Rattle.cc_vacb.specs.Tree.{IsIndex};
+
+    ghost Value = { Index };
+
+    ghost view = { λ x. record { size = x.size; blocks = x.blocks.items } };
+
+    ghost invariant = { λ x. IsIndex x.size x.blocks.items };
+}
+
+impl ViewIndex {
+    /// The index of a stream of that many bytes, which keeps the allocator.
+    pub fn new(alloc: Global, size: u64) -> Result<ViewIndex, NoMemory>
+        ensures size { IfOk result (λ index. index.size ≡ size) }
+        ensures empty { IfOk result (λ index. (block : ℕ) → entry_at index block ≡ None) }
+        ensures count { IfOk result (λ index. entry_count index ≡ 0) }
+    {
+        let top = levels::top_for(size);
+        let root = IndexBlock::new(alloc, top, 0, levels::width_for(size))?;
+        let mut blocks = Vec::with_capacity(alloc, 1)?;
+        blocks.push_reserved(root);
+        Ok(ViewIndex {
+            alloc,
+            size,
+            blocks,
+        })
+    }
+
+    /// The view of a block. An index block that is visited is a step.
+    pub fn get<L: Ledger>(&self, block: u64, steps: &mut Steps<L>) -> Option<u16>
+        requires { StartsBelow block self.now.size }
+        ensures value { result ≡ entry_at self.now block }
+        ensures at_most { steps.new ≤ steps.old + levels_of self.now.size }
+        ensures where_found { OnSome result (steps.new ≡ steps.old + levels_of self.now.size) }
+        ensures by_digits { result ≡ view_of
+            (led_by (slot_at self.now) (Node 0) (digits_of (levels_of self.now.size) block)) }
+    {
+        let top = levels::top_for(self.size);
+        tree::get_view(&self.blocks, top, block, steps)
+    }
+
+    pub fn put(&mut self, block: u64, view: u16) -> Result<(), NoMemory>
+        requires { StartsBelow block self.old.size }
+        ensures here { OnOk result (entry_at self.new block ≡ Some view) }
+        ensures others { (other : ℕ) → other ≢ block → entry_at self.new other ≡ entry_at self.old other }
+        ensures count { OnOk result
+            (entry_count self.new
+            ≡ entry_count self.old + (if is_some (entry_at self.old block) then 0 else 1)) }
+        ensures size { self.new.size ≡ self.old.size }
+        ensures err { OnErr result (self.new ≡ self.old) }
+    {
+        if self.blocks.len() > MAX_BLOCKS {
+            return Err(NoMemory);
+        }
+        let top = levels::top_for(self.size);
+        tree::put_view(self.alloc, &mut self.blocks, top, block, view)?;
+        Ok(())
+    }
+
+    pub fn take(&mut self, block: u64) -> Option<u16>
+        requires { StartsBelow block self.old.size }
+        ensures value { result ≡ entry_at self.old block }
+        ensures here { entry_at self.new block ≡ None }
+        ensures others { (other : ℕ) → other ≢ block → entry_at self.new other ≡ entry_at self.old other }
+        ensures count { entry_count self.new + (if is_some result then 1 else 0)
+            ≡ entry_count self.old }
+        ensures size { self.new.size ≡ self.old.size }
+    {
+        let top = levels::top_for(self.size);
+        tree::take_view(&mut self.blocks, top, block)
+    }
+
+    /// The index of the same entries for another size. Nothing is changed where memory is wanting.
+    pub fn resize(&mut self, size: u64) -> Result<(), NoMemory>
+        requires { size < self.old.size
+            → (block : ℕ) → IsSome (entry_at self.old block) → StartsBelow block size }
+        ensures size { OnOk result (self.new.size ≡ size) }
+        ensures entries { (block : ℕ) → entry_at self.new block ≡ entry_at self.old block }
+        ensures count { entry_count self.new ≡ entry_count self.old }
+        ensures err { OnErr result (self.new ≡ self.old) }
+    {
+        let top = levels::top_for(self.size);
+        let to = levels::top_for(size);
+        let width = levels::width_for(size);
+        if width < 128 {
+            roots::flatten(&mut self.blocks, top, width);
+            self.size = size;
+            return Ok(());
+        }
+        if to < top {
+            roots::lower(&mut self.blocks, top, to);
+            self.size = size;
+            return Ok(());
+        }
+        if self.blocks.len() > MAX_BLOCKS {
+            return Err(NoMemory);
+        }
+        roots::grow(self.alloc, &mut self.blocks, top, to)?;
+        self.size = size;
+        Ok(())
+    }
+
+    pub fn levels(&self) -> u8
+        ensures count { result ≡ levels_of self.now.size }
+        ensures least { IsLeastLevels self.now.size result }
+    {
+        levels::levels_for(self.size)
+    }
+
+    /// How many index blocks there are.
+    pub fn blocks(&self) -> u32
+        ensures count { result ≡ block_count self.now }
+        ensures bound { result ≤ levels_of self.now.size * entry_count self.now + 1 }
+    {
+        self.blocks.len() as u32
+    }
+
+    /// A slot of an index block. The root has the number 0.
+    pub fn slot(&self, node: u32, i: u8) -> Slot
+        requires node_in { node < block_count self.now }
+        requires slot_in { i < width_of self.now.size }
+        ensures { result ≡ slot_at self.now node i }
+    {
+        tree::slot_in(&self.blocks, node, i)
+    }
+}
+
+// With no more index blocks than this, one more path keeps their numbers in range.
+const MAX_BLOCKS: usize = 0xffff_fff0;
