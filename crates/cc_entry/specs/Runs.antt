@@ -1,0 +1,24 @@
+-- Bytes as runs of equal bytes, always the longest.
+use Rattle.std.specs.Prelude.{ℕ, ◌+◌, ◌==◌, List, [], ◌∷◌, ◌++◌, replicate, if◌then◌else◌}
+use Rattle.cc_entry.specs.declared.bytes.Run.{Run}
+
+-- the bytes that runs spell
+abbrev pub spelled : List Run → List ℕ
+spelled [] = []
+spelled (run ∷ runs) = replicate run.count run.byte ++ spelled runs
+
+-- one byte more before runs, which joins the first run where that repeats the byte
+abbrev pub joined : ℕ → List Run → List Run
+joined byte [] = record { byte = byte; count = 1 } ∷ []
+joined byte (run ∷ runs) = if run.byte == byte then record run { count = run.count + 1 } ∷ runs else record { byte = byte; count = 1 } ∷ run ∷ runs
+
+-- the longest runs of equal bytes in a list of bytes
+abbrev pub runs_of : List ℕ → List Run
+runs_of [] = []
+runs_of (byte ∷ bytes) = joined byte (runs_of bytes)
+
+-- more bytes of one value after runs, which join the last run where that repeats the byte
+abbrev pub extended : List Run → ℕ → ℕ → List Run
+extended [] byte count = record { byte = byte; count = count } ∷ []
+extended (run ∷ []) byte count = if run.byte == byte then record run { count = run.count + count } ∷ [] else run ∷ record { byte = byte; count = count } ∷ []
+extended (run ∷ next ∷ runs) byte count = run ∷ extended (next ∷ runs) byte count

@@ -1,0 +1,60 @@
+//! What a line of a script is answered.
+
+use crate::error::CcError;
+use crate::lists::{Ids, Pages};
+use crate::place::{Lsn, Request};
+use crate::reply::Reply;
+
+/// What one tick of the lazy writer did: the pages that it picked, and how many of them were written,
+/// skipped, and not written because the disk or the log failed.
+#[derive(Debug, Drop)]
+pub struct Tick {
+    pub picked: Pages,
+    pub written: u32,
+    pub skipped: u32,
+    pub failed: u32,
+}
+
+/// A read-ahead request that was served, and whether every page of it is resident.
+#[derive(Clone, Copy, Debug, PartialEq, Eq, Hash)]
+pub struct AheadDone {
+    pub request: Request,
+    pub whole: bool,
+}
+
+/// The answer of a line.
+#[derive(Debug, Drop)]
+pub enum Answer {
+    /// The call was done.
+    Given(Reply),
+    /// The call was refused.
+    Refused(CcError),
+    /// A noncached call was refused after `done` pages.
+    NcRefused { done: u32, cause: CcError },
+    /// The bytes that a noncached write changed.
+    Count(u64),
+    /// The LSN of a log entry.
+    NewLsn(Lsn),
+    Ticked(Tick),
+    /// The deferred writes that were posted, in order.
+    Posts(Ids),
+    /// The number of a deferred write.
+    Deferred(u64),
+    /// The levels of a stream's view index.
+    Levels(u8),
+    /// The read-ahead request that was served, where there was one.
+    Stepped(Option<AheadDone>),
+    /// The hold that the line names was never made, or not of the kind needed.
+    NoHold,
+    /// The event may not happen now.
+    NotNow,
+    /// The event's device or log failed.
+    Faulted,
+}
+
+/// The answer of the script's line of this number, counted from 1.
+#[derive(Debug, Drop)]
+pub struct LineReply {
+    pub line: u32,
+    pub answer: Answer,
+}

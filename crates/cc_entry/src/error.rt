@@ -1,0 +1,131 @@
+//! Why a call of the cache is refused.
+
+ghost use Rattle.std.specs.Prelude.{◌≡◌};
+ghost use Rattle.cc_entry.specs.Errors.{number_of, name_of};
+
+use std::error::Error;
+use std::fmt;
+
+/// Memory ran out. What the call was to change is as it was.
+#[derive(Clone, Copy, Debug, PartialEq, Eq, Hash)]
+pub struct NoMemory;
+
+impl fmt::Display for NoMemory {
+    fn fmt<W: fmt::Write>(&self, f: &mut fmt::Formatter<W>) -> fmt::Result {
+        write!(f, "out of memory")
+    }
+}
+
+impl Error for NoMemory {}
+
+/// The refusals of the calls. Sizes, places and lengths are in bytes; a page is the page's number in
+/// its stream; an id is that of a hold.
+#[derive(Clone, Copy, Debug, PartialEq, Eq, Hash)]
+pub enum CcError {
+    /// The file object has no private cache map.
+    NotCached,
+    /// The range ends past the stream's size; of a noncached write, the page starts at or past it.
+    BeyondSize { size: u64 },
+    /// A change starts past the valid data length.
+    BeyondValid { valid: u64 },
+    /// The length exceeds the call's limit.
+    TooLong { limit: u64 },
+    /// A map or pin range has bytes in two view blocks.
+    ViewBoundary,
+    /// A noncached place or length is no multiple of 4096.
+    Unaligned,
+    /// The sizes break the rule of the call.
+    BadSizes,
+    /// An open hold forbids the call; the least such id.
+    Held { id: u64 },
+    /// An open pin forbids the pin, or owes a stamp to the page that would be written; the least such id.
+    Busy { id: u64 },
+    /// The blocks of open holds and of the range exceed the quota; `active` counts those of open holds.
+    NoViews { active: u64, quota: u64 },
+    /// A read that may not wait needs a page that is not resident; the least one.
+    NotResident { page: u64 },
+    /// The pool has fewer free views than the quota asked.
+    NoVacbs { free: u64 },
+    /// The journal, with what is reserved in it, has no room for the entry.
+    JournalFull { entries: u64 },
+    /// The disk failed to read the page in this call.
+    ReadFault { page: u64 },
+    /// The disk failed to write the page, or to sync, in this call.
+    WriteFault { page: u64 },
+    /// The log failed in this call.
+    LogFault { handle: u64 },
+    /// The log has used every LSN.
+    LogFull { handle: u64 },
+    /// 64 deferred writes, or 64 read-ahead requests, are queued.
+    QueueFull,
+    /// Memory ran out: the one refusal without a cause in the journal.
+    NoMemory,
+    /// The granularity is no power of two from 4096 to 1048576.
+    BadGranularity,
+    /// There is no log of this handle; 255 where the stream has none.
+    NoLog { handle: u64 },
+    /// A write starts further past the valid data length than the limit.
+    GapTooLong { limit: u64 },
+}
+
+impl CcError {
+    /// The number that is printed.
+    pub fn number(&self) -> u8
+        ensures { result ≡ number_of self.now }
+    {
+        match self {
+            CcError::NotCached => 1,
+            CcError::BeyondSize { .. } => 2,
+            CcError::BeyondValid { .. } => 3,
+            CcError::TooLong { .. } => 4,
+            CcError::ViewBoundary => 5,
+            CcError::Unaligned => 6,
+            CcError::BadSizes => 7,
+            CcError::Held { .. } => 8,
+            CcError::Busy { .. } => 9,
+            CcError::NoViews { .. } => 10,
+            CcError::NotResident { .. } => 11,
+            CcError::NoVacbs { .. } => 12,
+            CcError::JournalFull { .. } => 13,
+            CcError::ReadFault { .. } => 14,
+            CcError::WriteFault { .. } => 15,
+            CcError::LogFault { .. } => 16,
+            CcError::LogFull { .. } => 17,
+            CcError::QueueFull => 18,
+            CcError::NoMemory => 19,
+            CcError::BadGranularity => 20,
+            CcError::NoLog { .. } => 21,
+            CcError::GapTooLong { .. } => 24,
+        }
+    }
+
+    /// The name that is printed.
+    pub fn name(&self) -> &'static str
+        ensures { result.now ≡ name_of self.now }
+    {
+        match self {
+            CcError::NotCached => "NotCached",
+            CcError::BeyondSize { .. } => "BeyondSize",
+            CcError::BeyondValid { .. } => "BeyondValid",
+            CcError::TooLong { .. } => "TooLong",
+            CcError::ViewBoundary => "ViewBoundary",
+            CcError::Unaligned => "Unaligned",
+            CcError::BadSizes => "BadSizes",
+            CcError::Held { .. } => "Held",
+            CcError::Busy { .. } => "Busy",
+            CcError::NoViews { .. } => "NoViews",
+            CcError::NotResident { .. } => "NotResident",
+            CcError::NoVacbs { .. } => "NoVacbs",
+            CcError::JournalFull { .. } => "JournalFull",
+            CcError::ReadFault { .. } => "ReadFault",
+            CcError::WriteFault { .. } => "WriteFault",
+            CcError::LogFault { .. } => "LogFault",
+            CcError::LogFull { .. } => "LogFull",
+            CcError::QueueFull => "QueueFull",
+            CcError::NoMemory => "NoMemory",
+            CcError::BadGranularity => "BadGranularity",
+            CcError::NoLog { .. } => "NoLog",
+            CcError::GapTooLong { .. } => "GapTooLong",
+        }
+    }
+}

@@ -1,0 +1,33 @@
+//! What a call answers.
+
+use crate::bytes::Bytes;
+use crate::error::CcError;
+use crate::lists::Rows;
+use crate::place::{FileState, Lsn, Request};
+
+/// What a call that is done answers.
+#[derive(Debug, Drop)]
+pub enum Reply {
+    Unit,
+    /// The bytes that were read.
+    Read(Bytes),
+    /// The id of the hold.
+    Hold(u64),
+    Flag(bool),
+    /// The dirty page table of a log.
+    Rows(Rows),
+    /// The least and the greatest LSN that is not yet written, where there is one.
+    Lsns(Option<(Lsn, Lsn)>),
+    State(FileState),
+    /// The read-ahead that was asked for, where there is one.
+    Ahead(Option<Request>),
+    /// Whether every page of the request is resident.
+    Whole(bool),
+}
+
+/// How a call ended.
+#[derive(Debug, Drop)]
+pub enum Outcome {
+    Done(Reply),
+    Failed(CcError),
+}
