@@ -1,1 +1,5 @@
 pub mod Pages
+pub mod Places
+pub mod Changes
+mod Order
+mod Overlap

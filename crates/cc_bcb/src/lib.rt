@@ -7,6 +7,11 @@
 //! The book of a stream stands above; below are the values of `cc_entry`.
 #![tactic(auto)]
 
+mod holds;
+mod lookup;
+mod ranges;
 mod touched;
 
+pub use holds::{Hold, Holds};
+pub use ranges::overlaps;
 pub use touched::TouchedPages;
