@@ -3,3 +3,4 @@ pub mod Places
 pub mod Changes
 mod Order
 mod Overlap
+mod BlockCounts

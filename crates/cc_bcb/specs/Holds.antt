@@ -1,12 +1,13 @@
 -- Open holds by id.
-use Rattle.std.specs.Prelude.{◌≡◌, ℕ, ◌+◌, ◌==◌, ◌≤◌, Bool, true, false, ◌&&◌, ◌||◌, nat_lt, List, [], Option, None, Some, length, All, IfSome, insert, remove, slice_set, find, if◌then◌else◌}
-use Rattle.std.specs.List.{position_or_len}
+use Rattle.std.specs.Prelude.{◌≡◌, ℕ, ◌+◌, ◌==◌, ◌≤◌, Bool, true, false, ◌&&◌, ◌||◌, nat_lt, nat_eq, List, [], Option, None, Some, length, All, IfSome, insert, remove, slice_set, find, if◌then◌else◌}
+use Rattle.std.specs.List.{position_or_len, flat_map}
 use Rattle.std.specs.Option.{option_map}
+use Rattle.std.specs.Set.{distinct_count, is_member}
 use Rattle.cc_entry.specs.Place.{Range}
 use Rattle.cc_entry.specs.declared.hold.HoldKind.{HoldKind}
 use Rattle.cc_entry.specs.declared.hold.HoldKind.TheVariants as kind
 use Rattle.cc_entry.specs.declared.hold.HoldRow.{HoldRow}
-use Rattle.cc_bcb.specs.Ranges.{share_page, pages_of}
+use Rattle.cc_bcb.specs.Ranges.{share_page, pages_of, blocks_of}
 use Rattle.cc_bcb.specs.Touched.{has_page, with_pages, widened}
 use Rattle.cc_bcb.specs.declared.holds.Hold.{Hold}
 
@@ -84,3 +85,15 @@ first_id passes holds = option_map (λ h. h.row.id) (find passes holds)
 -- no hold that passes has a lesser id
 abbrev pub IsLeast : (Hold → Bool) → List Hold → Option ℕ → Type 0
 IsLeast passes holds least = IfSome least (λ id. All (λ h. passes h ≡ true → id ≤ h.row.id) holds)
+
+-- whether a hold has a byte in the block
+abbrev pub has_block : ℕ → Hold → Bool
+has_block block h = is_member nat_eq (blocks_of h.row.at (h.row.at + h.row.len)) block
+
+-- the blocks of each hold in turn
+abbrev pub held_blocks : List Hold → List ℕ
+held_blocks holds = flat_map (λ h. blocks_of h.row.at (h.row.at + h.row.len)) holds
+
+-- how many blocks the holds have, each counted once
+abbrev pub active_blocks : List Hold → ℕ
+active_blocks holds = distinct_count nat_eq (held_blocks holds)

@@ -1,11 +1,12 @@
 //! The holds.
 
-ghost use Rattle.std.specs.Prelude.{◌≡◌, ◌+◌, ◌<◌, [], ◌∷◌, ◌++◌, All, OnOk, OnErr, IsSome, IsTrue};
+ghost use Rattle.std.specs.Prelude.{◌≡◌, ◌+◌, ◌<◌, [], ◌∷◌, ◌++◌, All, OnOk, OnErr, IsSome, IsTrue, true, min};
 ghost use Rattle.std.specs.Option.{option_copied, option_map};
-ghost use Rattle.cc_bcb.specs.Holds.{hold_of, without, inserted, Changes, opened, written, cleaned, pinned, overlaps, conflicts, is_unstamped, ends_past, first_id, IsLeast};
+ghost use Rattle.cc_bcb.specs.Holds.{hold_of, without, inserted, Changes, opened, written, cleaned, pinned, overlaps, conflicts, is_unstamped, ends_past, first_id, IsLeast, active_blocks};
 
+use crate::blocks::count_blocks;
 use crate::lookup::{
-    first_conflict, first_overlapping, first_past, first_unstamped, place_after, place_of,
+    first_of, first_conflict, first_overlapping, first_past, first_unstamped, place_after, place_of,
 };
 use crate::ranges::widened;
 use crate::touched::TouchedPages;
@@ -172,5 +173,20 @@ impl Holds {
         ensures least { IsLeast (ends_past size) self.now result }
     {
         first_past(&self.holds, size)
+    }
+
+    /// The least id of a hold.
+    pub fn first(&self) -> Option<u64>
+        ensures first { result ≡ first_id (λ _. true) self.now }
+        ensures least { IsLeast (λ _. true) self.now result }
+    {
+        first_of(&self.holds)
+    }
+
+    /// How many view blocks have a byte of a hold, at most `u32::MAX`.
+    pub fn active_blocks(&self) -> u32
+        ensures { result ≡ min (active_blocks self.now) u32.MAX }
+    {
+        count_blocks(&self.holds)
     }
 }

@@ -7,6 +7,7 @@
 //! The book of a stream stands above; below are the values of `cc_entry`.
 #![tactic(auto)]
 
+mod blocks;
 mod holds;
 mod lookup;
 mod ranges;

@@ -1,6 +1,6 @@
 //! Where the first hold stands that passes a test.
 
-ghost use Rattle.std.specs.Prelude.{◌≡◌, ◌≤◌, nat_lt, length};
+ghost use Rattle.std.specs.Prelude.{◌≡◌, ◌≤◌, nat_lt, length, true};
 ghost use Rattle.std.specs.List.{position_or_len};
 ghost use Rattle.cc_bcb.specs.Holds.{overlaps, conflicts, is_unstamped, ends_past, first_id, has_id, is_pin};
 
@@ -32,6 +32,12 @@ pub(crate) fn place_after(holds: &[Hold], id: u64) -> usize
         }
     }
     holds.len()
+}
+
+pub(crate) fn first_of(holds: &[Hold]) -> Option<u64>
+    ensures { result ≡ first_id (λ _. true) holds.now }
+{
+    holds.iter().next().map(|hold| hold.row.id)
 }
 
 pub(crate) fn first_overlapping(holds: &[Hold], span: Span) -> Option<u64>
