@@ -1,12 +1,12 @@
 -- Blocks of ranges, and how many of them differ.
-use Rattle.std.proofs.Common.{◌≡◌, ℕ, zero, suc, ◌+◌, ◌-◌, ◌/◌, ◌<◌, ◌≤◌, Bool, true, false, not, ◌&&◌, ◌||◌, cond, min, nat_eq, nat_lt, nat_le, List, [], ◌∷◌, ◌++◌, length, get_or, drop, refl, ap, ◌∙◌, sym, subst, drop-cons, arith}
+use Rattle.std.proofs.Common.{◌≡◌, ℕ, zero, suc, ◌+◌, ◌-◌, ◌/◌, ◌<◌, ◌≤◌, Bool, true, false, not, ◌&&◌, ◌||◌, cond, min, nat_eq, nat_lt, nat_le, List, [], ◌∷◌, ◌++◌, length, get_or, drop, refl, ap, ◌∙◌, sym, drop-cons, arith}
 use Rattle.std.proofs.lemmas.Bool.Decides.{nat_tests}
 use Rattle.std.proofs.lemmas.Grind.{common_steps}
 use Rattle.std.proofs.lemmas.List.Folds.{list_any-append}
 use Rattle.std.proofs.lemmas.List.Sums.{sum_by-cons}
-use Rattle.std.specs.List.{range_with_len, list_any, flat_map, count_by}
+use Rattle.std.specs.List.{range_with_len, list_any, count_by}
 use Rattle.std.specs.Set.{is_member, distinct_count, unique_keys}
-use Rattle.cc_bcb.specs.Ranges.{units_of, blocks_of}
+use Rattle.cc_bcb.specs.Ranges.{blocks_of}
 use Rattle.cc_bcb.specs.Holds.{has_block, held_blocks, active_blocks}
 use Rattle.cc_bcb.specs.declared.holds.Hold.{Hold}
 
@@ -46,9 +46,9 @@ is_member-later first n =
 distinct_count-cons : (x : ℕ) (xs : List ℕ) → distinct_count nat_eq (x ∷ xs) ≡ cond (not (is_member nat_eq xs x)) 1 0 + distinct_count nat_eq xs
 distinct_count-cons x xs = go (is_member nat_eq xs x)
   where
-  go : (b : Bool) → length (cond b (unique_keys nat_eq xs) (x ∷ unique_keys nat_eq xs)) ≡ cond (not b) 1 0 + length (unique_keys nat_eq xs)
-  go true = omega arith
-  go false = omega arith
+    go : (b : Bool) → length (cond b (unique_keys nat_eq xs) (x ∷ unique_keys nat_eq xs)) ≡ cond (not b) 1 0 + length (unique_keys nat_eq xs)
+    go true = omega arith
+    go false = omega arith
 
 -- the blocks of a hold are counted where no other list has them
 distinct_count-range : (first n : ℕ) (others : List ℕ)
@@ -81,7 +81,7 @@ count_by-same p q same (x ∷ xs) = rw (count_by-cons p x xs, count_by-cons q x 
 -- the blocks of a hold and of those after it
 pub active_blocks-cons : (h : Hold) (later : List Hold)
     → active_blocks (h ∷ later) ≡ count_by (λ b. not (list_any (has_block b) later)) (blocks_of h.row.at (h.row.at + h.row.len)) + active_blocks later
-active_blocks-cons h later = 
+active_blocks-cons h later =
     let from : ℕ = h.row.at in
     let to : ℕ = h.row.at + h.row.len in
     distinct_count-units (nat_lt from to) (from / 262144) ((to - 1) / 262144 + 1 - from / 262144) (held_blocks later)

@@ -1,5 +1,5 @@
 -- Holds in the order of their ids.
-use Rattle.std.proofs.Common.{◌≡◌, ℕ, ◌<◌, ◌≤◌, Bool, true, false, List, Option, None, Some, length, get_or, inl, inr, refl, ap, ◌∙◌, sym, subst, nat_lt, insert, if◌then◌else◌, arith}
+use Rattle.std.proofs.Common.{◌≡◌, ℕ, ◌<◌, ◌≤◌, Bool, true, false, List, Option, None, Some, length, get_or, inl, inr, refl, ◌∙◌, sym, subst, nat_lt, insert, if◌then◌else◌, arith}
 use Rattle.std.proofs.lemmas.Bool.{cases_lt}
 use Rattle.std.proofs.lemmas.Option.{slice_get_within, slice_get-get_or}
 use Rattle.std.proofs.lemmas.List.Folds.{find_at}
@@ -44,10 +44,10 @@ InOrder-insert holds h place at le order =
     IsNonDecreasingBy-insert (λ x. x.row.id) holds place h order le
     (λ k d before. let fails : greater (get_or holds k d) ≡ false = fails_before_first greater holds k d (omega arith) in grind (arith, nat_tests))
     (λ k d after lt.
-      let passes : greater (get_or holds (position_or_len greater holds) d) ≡ true = passes_at_first greater holds d (omega arith) in
-      let first : h.row.id < (get_or holds (position_or_len greater holds) d).row.id = grind (arith, nat_tests) in
-      let later = order (position_or_len greater holds) k d (omega arith) lt in
-      omega (arith, later))
+    let passes : greater (get_or holds (position_or_len greater holds) d) ≡ true = passes_at_first greater holds d (omega arith) in
+    let first : h.row.id < (get_or holds (position_or_len greater holds) d).row.id = grind (arith, nat_tests) in
+    let later = order (position_or_len greater holds) k d (omega arith) lt in
+    omega (arith, later))
 
 -- the holds after an `insert` that may have found no memory
 pub InOrder-tried : (holds new : List Hold) (h : Hold) (place : ℕ) (done : Bool) → new ≡ (if done then insert holds place h else holds)

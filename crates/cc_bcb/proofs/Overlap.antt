@@ -1,5 +1,5 @@
 -- Ranges that share a page have bytes in it.
-use Rattle.std.proofs.Common.{◌≡◌, ℕ, ◌+◌, ◌-◌, ◌*◌, ◌/◌, ◌<◌, ◌≤◌, Bool, true, false, ◌&&◌, ◌↔◌, IsTrue, nat_lt, nat_le, inl, inr, sym, ◌∙◌, arith}
+use Rattle.std.proofs.Common.{◌≡◌, ℕ, ◌-◌, ◌*◌, ◌/◌, ◌<◌, ◌≤◌, Bool, true, ◌↔◌, IsTrue, inl, inr, sym, ◌∙◌, arith}
 use Rattle.std.proofs.lemmas.Bool.{cases_lt}
 use Rattle.std.proofs.lemmas.Bool.Decides.{nat_tests}
 use Rattle.cc_bcb.specs.Ranges.{share_page, HaveBytesInOnePage}
@@ -31,6 +31,6 @@ test_of_pages from to start end a b c d = grind (arith, nat_tests)
 -- a test that answers as `share_page` says that the ranges have bytes in one page
 pub share_page-bytes : (from to start end : ℕ) (r : Bool) → r ≡ share_page from to start end → IsTrue r ↔ HaveBytesInOnePage from to start end
 share_page-bytes from to start end r e = (
-    (λ t. let h = pages_of_test from to start end (sym e ∙ t) in bytes_of_pages from to start end h.0 h.1 h.2 h.3),
-    (λ h. let p = pages_of_bytes from to start end h in e ∙ test_of_pages from to start end p.0 p.1 p.2 p.3)
-  )
+  (λ t. let h = pages_of_test from to start end (sym e ∙ t) in bytes_of_pages from to start end h.0 h.1 h.2 h.3),
+  (λ h. let p = pages_of_bytes from to start end h in e ∙ test_of_pages from to start end p.0 p.1 p.2 p.3),
+)

@@ -1,7 +1,7 @@
 -- Pages that are added one after another.
-use Rattle.std.proofs.Common.{◌≡◌, ℕ, zero, suc, ◌+◌, ◌-◌, ◌≤◌, List, Bool, refl, ap, ◌∙◌, sym, arith}
+use Rattle.std.proofs.Common.{◌≡◌, ℕ, zero, suc, ◌+◌, ◌-◌, ◌≤◌, List, ap, ◌∙◌, sym, arith}
 use Rattle.std.specs.List.{range_with_len}
-use Rattle.cc_bcb.specs.Touched.{has_page, with_page, with_pages}
+use Rattle.cc_bcb.specs.Touched.{with_page, with_pages}
 
 -- the next page of a range goes to what the pages before it left
 with_pages-suc : (touched : List ℕ) (first n page : ℕ) → page ≡ first + n

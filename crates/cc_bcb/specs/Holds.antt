@@ -1,5 +1,5 @@
 -- Open holds by id.
-use Rattle.std.specs.Prelude.{◌≡◌, ℕ, ◌+◌, ◌==◌, ◌≤◌, Bool, true, false, ◌&&◌, ◌||◌, nat_lt, nat_eq, List, [], Option, None, Some, length, All, IfSome, insert, remove, slice_set, find, if◌then◌else◌}
+use Rattle.std.specs.Prelude.{◌≡◌, ℕ, ◌+◌, ◌==◌, ◌≤◌, Bool, true, false, ◌&&◌, ◌||◌, nat_lt, nat_eq, List, [], Option, None, Some, All, IfSome, insert, remove, slice_set, find}
 use Rattle.std.specs.List.{position_or_len, flat_map}
 use Rattle.std.specs.Option.{option_map}
 use Rattle.std.specs.Set.{distinct_count, is_member}
@@ -43,8 +43,8 @@ opened row = record { row = row; touched = touched_at row.written }
 -- a hold after a write through it
 abbrev pub written : Range → Hold → Hold
 written span h = record {
-    row = record (h.row) { written = widened h.row.written span };
-    touched = with_pages h.touched (pages_of span.from span.to);
+  row = record (h.row) { written = widened h.row.written span };
+  touched = with_pages h.touched (pages_of span.from span.to);
 }
 
 -- a hold after a set-dirty

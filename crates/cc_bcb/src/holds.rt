@@ -6,7 +6,7 @@ ghost use Rattle.cc_bcb.specs.Holds.{hold_of, without, inserted, Changes, opened
 
 use crate::blocks::count_blocks;
 use crate::lookup::{
-    first_of, first_conflict, first_overlapping, first_past, first_unstamped, place_after, place_of,
+    first_conflict, first_of, first_overlapping, first_past, first_unstamped, place_after, place_of,
 };
 use crate::ranges::widened;
 use crate::touched::TouchedPages;

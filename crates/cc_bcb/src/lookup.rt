@@ -55,9 +55,7 @@ pub(crate) fn first_conflict(holds: &[Hold], span: Span, exclusive: bool) -> Opt
     holds
         .iter()
         .find(|hold| {
-            is_pin(hold.row.kind)
-                && (exclusive || hold.row.exclusive)
-                && overlaps(&hold.row, span)
+            is_pin(hold.row.kind) && (exclusive || hold.row.exclusive) && overlaps(&hold.row, span)
         })
         .map(|hold| hold.row.id)
 }

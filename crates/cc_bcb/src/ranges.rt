@@ -42,8 +42,5 @@ pub(crate) fn widened(written: Option<Span>, span: Span) -> Option<Span>
     let Some(before) = written else {
         return Some(span);
     };
-    Span::new(
-        before.from().min(span.from()),
-        before.to().max(span.to()),
-    )
+    Span::new(before.from().min(span.from()), before.to().max(span.to()))
 }

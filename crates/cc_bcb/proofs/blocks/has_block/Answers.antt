@@ -1,4 +1,4 @@
-use Rattle.std.proofs.Common.{rules, nat_eq, ap, ◌∙◌, arith}
+use Rattle.std.proofs.Common.{nat_eq, ap, ◌∙◌, arith}
 use Rattle.std.specs.Set.{is_member}
 use Rattle.cc_bcb.proofs.BlockCounts.{within-from, within-before}
 use Rattle.cc_bcb.proofs.blocks.has_block.Goals as goal

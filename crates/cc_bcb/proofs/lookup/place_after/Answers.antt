@@ -1,6 +1,5 @@
-use Rattle.std.proofs.Common.{rules, nat_lt, arith}
+use Rattle.std.proofs.Common.{nat_lt, arith}
 use Rattle.std.proofs.lemmas.Bool.Decides.{nat_tests}
-use Rattle.cc_bcb.specs.Holds.{has_id}
 use Rattle.cc_bcb.proofs.Places.{place-found, place-end}
 use Rattle.cc_bcb.proofs.lookup.place_after.Goals as goal
 

@@ -1,5 +1,4 @@
 use Rattle.std.proofs.Common.{nat_lt}
-use Rattle.cc_bcb.specs.Holds.{has_id}
 use Rattle.cc_bcb.proofs.Places.{FailBelow}
 use Rattle.cc_bcb.proofs.lookup.place_after.Given as goal
 

@@ -1,4 +1,4 @@
-use Rattle.std.proofs.Common.{rules, nat_lt, arith}
+use Rattle.std.proofs.Common.{arith}
 use Rattle.std.proofs.lemmas.Bool.Decides.{nat_tests}
 use Rattle.cc_bcb.specs.Holds.{has_id}
 use Rattle.cc_bcb.proofs.Places.{place-found, place-end}

@@ -1,6 +1,5 @@
 use Rattle.cc_bcb.proofs.Overlap.{share_page-bytes}
-use Rattle.std.proofs.Common.{rules, ◌≡◌, ◌+◌}
-use Rattle.cc_bcb.specs.Ranges.{share_page}
+use Rattle.std.proofs.Common.{rules, ◌+◌}
 use Rattle.cc_bcb.proofs.ranges.overlaps.Goals as goal
 
 pub returns-clause-bytes : goal.returns-clause-bytes

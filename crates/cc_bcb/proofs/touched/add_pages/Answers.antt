@@ -1,5 +1,4 @@
-use Rattle.std.proofs.Common.{rules, ◌≡◌, ℕ, ◌≤◌, arith, true, false, ◌∷◌, [], ◌++◌, ap, vec_len, vec_capacity}
-use Rattle.cc_bcb.specs.Touched.{has_page, with_page}
+use Rattle.std.proofs.Common.{rules, arith, ap, vec_len, vec_capacity}
 use Rattle.cc_bcb.proofs.Pages.{with_pages-more}
 use Rattle.cc_bcb.proofs.touched.add_pages.Goals as goal
 use Rattle.cc_bcb.proofs.touched.add_pages.Goals.{then-not-contains, else-not-contains}

@@ -1,4 +1,4 @@
-use Rattle.std.proofs.Common.{rules, ◌≡◌, ◌≤◌, length, ap, ◌∙◌, nat_lt, arith}
+use Rattle.std.proofs.Common.{length, ap, ◌∙◌, nat_lt, arith}
 use Rattle.std.specs.List.{position_or_len}
 use Rattle.cc_bcb.proofs.Order.{InOrder-tried}
 use Rattle.cc_bcb.proofs.holds.Holds.add.Goals as goal

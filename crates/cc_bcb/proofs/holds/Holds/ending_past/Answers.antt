@@ -1,5 +1,5 @@
-use Rattle.std.proofs.Common.{rules, ◌≡◌, ◌∙◌}
-use Rattle.cc_bcb.specs.Holds.{ends_past, first_id}
+use Rattle.std.proofs.Common.{rules}
+use Rattle.cc_bcb.specs.Holds.{ends_past}
 use Rattle.cc_bcb.proofs.Order.{IsLeast-first}
 use Rattle.cc_bcb.proofs.holds.Holds.ending_past.Goals as goal
 

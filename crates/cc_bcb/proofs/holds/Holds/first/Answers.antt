@@ -1,5 +1,4 @@
-use Rattle.std.proofs.Common.{rules, true, ◌≡◌, ◌∙◌}
-use Rattle.cc_bcb.specs.Holds.{first_id}
+use Rattle.std.proofs.Common.{rules, true}
 use Rattle.cc_bcb.proofs.Order.{IsLeast-first}
 use Rattle.cc_bcb.proofs.holds.Holds.first.Goals as goal
 

@@ -1,5 +1,5 @@
-use Rattle.std.proofs.Common.{rules, ◌≡◌, ◌∙◌}
-use Rattle.cc_bcb.specs.Holds.{conflicts, first_id}
+use Rattle.std.proofs.Common.{rules}
+use Rattle.cc_bcb.specs.Holds.{conflicts}
 use Rattle.cc_bcb.proofs.Order.{IsLeast-first}
 use Rattle.cc_bcb.proofs.holds.Holds.pin_conflict.Goals as goal
 

@@ -1,5 +1,5 @@
-use Rattle.std.proofs.Common.{rules, ◌≡◌, ◌∙◌}
-use Rattle.cc_bcb.specs.Holds.{is_unstamped, first_id}
+use Rattle.std.proofs.Common.{rules}
+use Rattle.cc_bcb.specs.Holds.{is_unstamped}
 use Rattle.cc_bcb.proofs.Order.{IsLeast-first}
 use Rattle.cc_bcb.proofs.holds.Holds.unstamped.Goals as goal
 
