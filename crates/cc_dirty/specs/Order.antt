@@ -1,5 +1,5 @@
 -- Pages by stream, and in a stream by number.
-use Rattle.std.specs.Prelude.{◌≡◌, ℕ, ◌==◌, Bool, true, ◌&&◌, ◌||◌, nat_lt, nat_le, List, AllPairs}
+use Rattle.std.specs.Prelude.{◌≡◌, ℕ, ◌==◌, ◌<◌, ◌≤◌, Bool, true, false, ◌&&◌, ◌||◌, nat_lt, List, AllPairs, length, slice_index_or}
 use Rattle.cc_entry.specs.Place.{Page}
 use Rattle.cc_dirty.specs.declared.row.Row.{Row}
 
@@ -12,3 +12,8 @@ precedes a b = nat_lt a.stream b.stream || (a.stream == b.stream && nat_lt a.pag
 -- rows stand in the order of their pages, one for each page
 abbrev pub IsAscending : List Row → Type 0
 IsAscending rows = AllPairs (λ a b. precedes a.page b.page ≡ true) rows
+
+-- the rows before this place precede the page, and the others don't
+pub record SplitsAt (rows : List Row) (page : Page) (place : ℕ) : Type 0 where
+  pub before : (k : ℕ) (d : Row) → k < place → precedes (slice_index_or rows k d).page page ≡ true
+  pub after : (k : ℕ) (d : Row) → place ≤ k → k < length rows → precedes (slice_index_or rows k d).page page ≡ false

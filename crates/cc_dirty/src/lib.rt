@@ -8,6 +8,9 @@
 //! The journal stands above; below are the values of `cc_entry`.
 #![tactic(auto)]
 
+mod find;
 mod row;
+mod table;
 
 pub use row::{Row, Unwritten};
+pub use table::DirtyTable;
