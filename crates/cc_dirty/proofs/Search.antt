@@ -18,7 +18,7 @@ precedes-after : (a b c : Page) → precedes a b ≡ true → precedes a c ≡ f
 precedes-after a b c ab ac = grind (arith, nat_tests)
 
 -- a row that was read, at any default
-read-at : (rows : List Row) (k place : ℕ) (r d : Row) → r ≡ get_or rows place r → place < length rows → k ≡ place → get_or rows k d ≡ r
+pub read-at : (rows : List Row) (k place : ℕ) (r d : Row) → r ≡ get_or rows place r → place < length rows → k ≡ place → get_or rows k d ≡ r
 read-at rows k place r d at lt e = ap (λ i. get_or rows i d) e ∙ get_or_default rows place d r lt ∙ sym at
 
 pub record Between (rows : List Row) (page : Page) (low high : ℕ) : Type 0 where

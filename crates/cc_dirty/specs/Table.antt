@@ -1,7 +1,8 @@
 -- The dirty page table.
-use Rattle.std.specs.Prelude.{◌≡◌, ℕ, ◌==◌, Bool, ◌&&◌, not, nat_le, false, List, Option, filter, find}
+use Rattle.std.specs.Prelude.{◌≡◌, ℕ, ◌==◌, Bool, ◌&&◌, not, nat_le, true, false, All, List, Option, filter, find}
 use Rattle.cc_entry.specs.Place.{Page}
-use Rattle.cc_dirty.specs.Order.{same_page}
+use Rattle.cc_dirty.specs.Order.{same_page, IsAscending}
+use Rattle.cc_dirty.specs.Unwritten.{is_touched}
 use Rattle.cc_dirty.specs.declared.row.Row.{Row}
 
 -- rows by page, and how many there is room for
@@ -23,3 +24,8 @@ is_from stream number q = q.stream == stream && nat_le number q.page
 
 abbrev pub is_of : ℕ → Row → Bool
 is_of stream r = r.page.stream == stream
+
+-- rows in the order of their pages, each touched
+pub record Sound (rows : List Row) : Type 0 where
+  pub ascending : IsAscending rows
+  pub touched : All (λ r. is_touched r ≡ true) rows

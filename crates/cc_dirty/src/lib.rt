@@ -8,6 +8,7 @@
 //! The journal stands above; below are the values of `cc_entry`.
 #![tactic(auto)]
 
+mod edit;
 mod find;
 mod row;
 mod table;

@@ -20,16 +20,14 @@ pub struct DirtyTable {
 }
 
 impl Model for DirtyTable {
-    ghost use Rattle.std.specs.Prelude.{◌≡◌, ◌≤◌, true, All, vec_len, vec_capacity, min};
-    ghost use Rattle.cc_dirty.specs.Order.{IsAscending};
-    ghost use Rattle.cc_dirty.specs.Unwritten.{is_touched};
-    ghost use Rattle.cc_dirty.specs.Table.{Table};
+    ghost use Rattle.std.specs.Prelude.{◌≤◌, vec_len, vec_capacity, min};
+    ghost use Rattle.cc_dirty.specs.Table.{Table, Sound};
 
     ghost Value = { Table };
 
     ghost view = { λ t. record { rows = t.rows.items; capacity = min (vec_capacity t.rows) 4294967295 } };
 
-    ghost invariant = { λ t. IsAscending t.rows.items × All (λ r. is_touched r ≡ true) t.rows.items × (vec_len t.rows ≤ 4294967295) };
+    ghost invariant = { λ t. Sound t.rows.items × (vec_len t.rows ≤ 4294967295) };
 }
 
 impl DirtyTable {
