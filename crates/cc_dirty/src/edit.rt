@@ -58,6 +58,7 @@ pub(crate) fn insert(rows: &mut Vec<Row>, place: usize, row: Row)
     ensures len { vec_len rows.new ≡ vec_len rows.old + 1 }
     ensures capacity { vec_capacity rows.new ≡ vec_capacity rows.old }
 {
+    // Taken apart and put together again, so that the check finds the fields' types here.
     let Row { page, begun, later } = row;
     let Unwritten { touched, lsns } = later;
     let later = Unwritten { touched, lsns };
