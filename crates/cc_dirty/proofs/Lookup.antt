@@ -1,6 +1,6 @@
 -- A look-up after an element went in or out.
 use Rattle.std.proofs.Common.{◌≡◌, ◌≢◌, ℕ, zero, suc, ◌+◌, ◌<◌, ◌≤◌, Bool, true, false, cond, List, [], ◌∷◌, ◌++◌, Option, None, Some, length, get_or, set, insert, remove, refl, ap, ◌∙◌, sym, subst, arith}
-use Rattle.std.specs.List.{find, slice_get}
+use Rattle.std.specs.List.{find, filter, slice_get}
 
 module _ {X : Type 0} (p : X → Bool) where
   pub find-none : (xs : List X) → ((k : ℕ) (d : X) → k < length xs → p (get_or xs k d) ≡ false) → find p xs ≡ None
@@ -53,3 +53,24 @@ module _ {X : Type 0} (p : X → Bool) where
   fails-from_none [] none k d lt = absurd (omega arith)
   fails-from_none (x ∷ xs) none zero d lt = (none-head x xs (p x) refl none).0
   fails-from_none (x ∷ xs) none (suc k) d lt = fails-from_none xs ((none-head x xs (p x) refl none).1) k d (omega arith)
+
+  -- a filter that lets each element through that passes, or none
+  pub find-filter_kept : (keep : X → Bool) → ((x : X) → p x ≡ true → keep x ≡ true) → (xs : List X) → find p (filter keep xs) ≡ find p xs
+  find-filter_kept keep same [] = refl
+  find-filter_kept keep same (x ∷ xs) = go (p x) (keep x) refl refl (find-filter_kept keep same xs)
+    where
+    go : (b k : Bool) → p x ≡ b → keep x ≡ k → find p (filter keep xs) ≡ find p xs → find p (filter keep (x ∷ xs)) ≡ find p (x ∷ xs)
+    go true true e f rest = rw (f, e) refl
+    go true false e f rest = absurd (cc (same x e))
+    go false true e f rest = rw (f, e) rest
+    go false false e f rest = rw (f, e) rest
+
+  pub find-filter_cut : (keep : X → Bool) → ((x : X) → p x ≡ true → keep x ≡ false) → (xs : List X) → find p (filter keep xs) ≡ None
+  find-filter_cut keep same [] = refl
+  find-filter_cut keep same (x ∷ xs) = go (p x) (keep x) refl refl (find-filter_cut keep same xs)
+    where
+    go : (b k : Bool) → p x ≡ b → keep x ≡ k → find p (filter keep xs) ≡ None → find p (filter keep (x ∷ xs)) ≡ None
+    go true true e f rest = absurd (cc (same x e))
+    go true false e f rest = rw f rest
+    go false true e f rest = rw (f, e) rest
+    go false false e f rest = rw f rest

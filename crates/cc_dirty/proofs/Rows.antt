@@ -1,19 +1,21 @@
 -- The row of a page, and what the edits leave.
-use Rattle.std.proofs.Common.{◌≡◌, ◌≢◌, ℕ, ◌+◌, ◌<◌, ◌≤◌, Bool, true, false, ◌&&◌, ◌||◌, List, Option, None, Some, length, get_or, set, insert, remove, inl, inr, refl, ap, ◌∙◌, sym, subst, arith}
+use Rattle.std.proofs.Common.{◌≡◌, ◌≢◌, ℕ, ◌+◌, ◌<◌, ◌≤◌, Bool, true, false, ◌&&◌, ◌||◌, not, List, Option, None, Some, length, get_or, set, insert, remove, inl, inr, refl, ap, ◌∙◌, sym, subst, arith}
 use Rattle.std.proofs.lemmas.Bool.{cases_lt}
 use Rattle.std.proofs.lemmas.Bool.Decides.{nat_tests}
 use Rattle.std.proofs.lemmas.List.Elements.{All-set}
 use Rattle.std.proofs.lemmas.List.Quantifiers.{all_pairs_remove}
 use Rattle.std.proofs.lemmas.Option.{slice_get_read, slice_get_within, slice_get-get_or}
-use Rattle.std.specs.List.{slice_get}
+use Rattle.std.proofs.lemmas.List.Elements.{All-filter}
+use Rattle.std.proofs.lemmas.List.Kept.{AllPairs-filter}
+use Rattle.std.specs.List.{slice_get, filter}
 use Rattle.std.specs.Option.{IsSomeAnd}
 use Rattle.cc_entry.specs.Place.{Page}
-use Rattle.cc_dirty.specs.Order.{precedes, same_page, IsAscending, SplitsAt}
+use Rattle.cc_dirty.specs.Order.{precedes, same_page, IsAscending, SplitsAt, is_from}
 use Rattle.cc_dirty.specs.Unwritten.{is_touched}
 use Rattle.cc_dirty.specs.Table.{row_of, KeepsOthers, Sound}
 use Rattle.cc_dirty.specs.declared.row.Row.{Row}
 use Rattle.cc_dirty.proofs.Search.{read-at, precedes-trans}
-use Rattle.cc_dirty.proofs.Lookup.{find-none, find-at, find-insert, find-insert-other, find-remove, find-remove-other, find-set, find-set-other, fails-from_none}
+use Rattle.cc_dirty.proofs.Lookup.{find-none, find-at, find-insert, find-insert-other, find-remove, find-remove-other, find-set, find-set-other, fails-from_none, find-filter_kept, find-filter_cut}
 use Rattle.cc_dirty.proofs.Edits.{All-at, All-insert, All-remove, AllPairs-insert, AllPairs-set}
 
 is_row : Page → Row → Bool
@@ -143,3 +145,21 @@ module _ (rows : List Row) (place : ℕ) (sound : Sound rows) where
           ascending = all_pairs_remove (λ a b. precedes a.page b.page ≡ true) rows place (slice_get_within rows place r.0 r.1) sound.ascending;
           touched = All-remove (λ x. is_touched x ≡ true) rows place sound.touched;
         }
+
+-- the rows that a filter keeps
+pub Sound-filter : (keep : Row → Bool) (rows : List Row) → Sound rows → Sound (filter keep rows)
+Sound-filter keep rows sound = record {
+  ascending = AllPairs-filter (λ a b. precedes a.page b.page ≡ true) keep rows sound.ascending;
+  touched = All-filter keep (λ x. is_touched x ≡ true) rows sound.touched;
+}
+
+from-same : (stream page : ℕ) (a b : Page) → same_page a b ≡ true → is_from stream page a ≡ is_from stream page b
+from-same stream page a b e = grind (arith, nat_tests)
+
+pub row_of-cut : (stream page : ℕ) (rows : List Row) (q : Page) → is_from stream page q ≡ true → row_of (filter (λ r. not (is_from stream page r.page)) rows) q ≡ None
+row_of-cut stream page rows q from =
+    find-filter_cut (λ x. same_page x.page q) (λ r. not (is_from stream page r.page)) (λ x same. ap not (from-same stream page x.page q same ∙ from)) rows
+
+pub row_of-kept : (stream page : ℕ) (rows : List Row) (q : Page) → is_from stream page q ≡ false → row_of (filter (λ r. not (is_from stream page r.page)) rows) q ≡ row_of rows q
+row_of-kept stream page rows q from =
+    find-filter_kept (λ x. same_page x.page q) (λ r. not (is_from stream page r.page)) (λ x same. ap not (from-same stream page x.page q same ∙ from)) rows

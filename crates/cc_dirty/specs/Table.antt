@@ -18,10 +18,7 @@ row_of rows page = find (λ r. same_page r.page page) rows
 abbrev pub KeepsOthers : List Row → List Row → Page → Type 0
 KeepsOthers old new page = (q : Page) → same_page q page ≡ false → row_of new q ≡ row_of old q
 
--- whether a page is of this stream and not below this number
-abbrev pub is_from : ℕ → ℕ → Page → Bool
-is_from stream number q = q.stream == stream && nat_le number q.page
-
+-- whether a row is of this stream
 abbrev pub is_of : ℕ → Row → Bool
 is_of stream r = r.page.stream == stream
 

@@ -2,9 +2,9 @@
 
 ghost use Rattle.std.specs.Prelude.{◌≡◌, min, max};
 ghost use Rattle.cc_dirty.specs.Unwritten.{joined_lsns};
-ghost use Rattle.cc_dirty.specs.Order.{precedes, same_page};
+ghost use Rattle.cc_dirty.specs.Order.{precedes, same_page, is_from};
 
-use cc_entry::{Lsn, PageId};
+use cc_entry::{Lsn, PageId, StreamId};
 
 /// What is unwritten of a page: whether it was touched, and the least and greatest LSN of its stamps.
 #[derive(Clone, Copy, Debug, PartialEq, Eq, Hash)]
@@ -146,4 +146,11 @@ pub(crate) fn precedes(a: PageId, b: PageId) -> bool
 {
     let (stream, other) = (a.stream().number(), b.stream().number());
     stream < other || (stream == other && a.page() < b.page())
+}
+
+/// Whether a page is of this stream and not below this number.
+pub(crate) fn is_from(page: PageId, stream: StreamId, number: u64) -> bool
+    ensures { result ≡ is_from stream number page }
+{
+    page.stream().number() == stream.number() && number <= page.page()
 }

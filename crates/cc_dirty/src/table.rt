@@ -3,11 +3,11 @@
 ghost use Rattle.std.specs.Prelude.{◌≡◌, ℕ, ◌+◌, ◌<◌, ◌≤◌, ◌⊎◌, [], All, true, false, length, None, Some, IsSome, OnOk, OnErr, count_by, filter, not};
 ghost use Rattle.std.specs.Option.{option_map, option_and_then};
 ghost use Rattle.cc_entry.specs.Place.{Page};
-ghost use Rattle.cc_dirty.specs.Order.{IsAscending};
+ghost use Rattle.cc_dirty.specs.Order.{IsAscending, is_from};
 ghost use Rattle.cc_dirty.specs.Unwritten.{touched_row, begun_row, ended_row, kept_row, is_touched};
-ghost use Rattle.cc_dirty.specs.Table.{row_of, KeepsOthers, is_from, is_of};
+ghost use Rattle.cc_dirty.specs.Table.{row_of, KeepsOthers, is_of};
 
-use crate::edit::{find, insert, remove, replace};
+use crate::edit::{drop_rows, find, insert, remove, replace};
 use crate::row::Row;
 use cc_entry::{Lsn, NoMemory, PageId, StreamId};
 use std::alloc::Global;
@@ -112,9 +112,10 @@ impl DirtyTable {
     /// Forgets the pages of a stream from this number on, as their size is cut.
     pub fn drop_from(&mut self, stream: StreamId, page: u64)
         ensures rows { self.new.rows ≡ filter (λ r. not (is_from stream page r.page)) self.old.rows }
+        ensures cut { (q : Page) → is_from stream page q ≡ true → row_of self.new.rows q ≡ None }
+        ensures others { (q : Page) → is_from stream page q ≡ false → row_of self.new.rows q ≡ row_of self.old.rows q }
         ensures capacity { self.new.capacity ≡ self.old.capacity }
     {
-        self.rows
-            .retain(|row| row.page.stream().number() != stream.number() || row.page.page() < page);
+        drop_rows(&mut self.rows, stream, page);
     }
 }
