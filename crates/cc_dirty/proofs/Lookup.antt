@@ -59,18 +59,18 @@ module _ {X : Type 0} (p : X → Bool) where
   find-filter_kept keep same [] = refl
   find-filter_kept keep same (x ∷ xs) = go (p x) (keep x) refl refl (find-filter_kept keep same xs)
     where
-    go : (b k : Bool) → p x ≡ b → keep x ≡ k → find p (filter keep xs) ≡ find p xs → find p (filter keep (x ∷ xs)) ≡ find p (x ∷ xs)
-    go true true e f rest = rw (f, e) refl
-    go true false e f rest = absurd (cc (same x e))
-    go false true e f rest = rw (f, e) rest
-    go false false e f rest = rw (f, e) rest
+      go : (b k : Bool) → p x ≡ b → keep x ≡ k → find p (filter keep xs) ≡ find p xs → find p (filter keep (x ∷ xs)) ≡ find p (x ∷ xs)
+      go true true e f rest = rw (f, e) refl
+      go true false e f rest = absurd (cc (same x e))
+      go false true e f rest = rw (f, e) rest
+      go false false e f rest = rw (f, e) rest
 
   pub find-filter_cut : (keep : X → Bool) → ((x : X) → p x ≡ true → keep x ≡ false) → (xs : List X) → find p (filter keep xs) ≡ None
   find-filter_cut keep same [] = refl
   find-filter_cut keep same (x ∷ xs) = go (p x) (keep x) refl refl (find-filter_cut keep same xs)
     where
-    go : (b k : Bool) → p x ≡ b → keep x ≡ k → find p (filter keep xs) ≡ None → find p (filter keep (x ∷ xs)) ≡ None
-    go true true e f rest = absurd (cc (same x e))
-    go true false e f rest = rw f rest
-    go false true e f rest = rw (f, e) rest
-    go false false e f rest = rw f rest
+      go : (b k : Bool) → p x ≡ b → keep x ≡ k → find p (filter keep xs) ≡ None → find p (filter keep (x ∷ xs)) ≡ None
+      go true true e f rest = absurd (cc (same x e))
+      go true false e f rest = rw f rest
+      go false true e f rest = rw (f, e) rest
+      go false false e f rest = rw f rest

@@ -52,16 +52,17 @@ pub row-absent : (rows : List Row) (page : Page) (place : ℕ) (r : Row) → IsA
     → same_page r.page page ≡ false → row_of rows page ≡ None
 row-absent rows page place r up split at within other = find-none (λ x. same_page x.page page) rows differs
   where
-  here : (k : ℕ) (d : Row) → k ≡ place → same_page (get_or rows k d).page page ≡ false
-  here k d e = subst (λ (x : Row). same_page x.page page ≡ false) (sym (read-at rows k place r d at within e)) other
-  differs : (k : ℕ) (d : Row) → k < length rows → same_page (get_or rows k d).page page ≡ false
-  differs k d lt = elim (cases_lt k place) [
-    | inl less ↦ differs-before (get_or rows k d).page page (split.before k d less)
-    | inr from ↦ elim (cases_lt place k) [
-      | inl more ↦ differs-after (get_or rows place d).page page (get_or rows k d).page (up place k d more lt) (split.after place d (omega arith) within)
-      | inr same ↦ here k d (omega arith)
+    here : (k : ℕ) (d : Row) → k ≡ place → same_page (get_or rows k d).page page ≡ false
+    here k d e = subst (λ (x : Row). same_page x.page page ≡ false) (sym (read-at rows k place r d at within e)) other
+
+    differs : (k : ℕ) (d : Row) → k < length rows → same_page (get_or rows k d).page page ≡ false
+    differs k d lt = elim (cases_lt k place) [
+      | inl less ↦ differs-before (get_or rows k d).page page (split.before k d less)
+      | inr from ↦ elim (cases_lt place k) [
+        | inl more ↦ differs-after (get_or rows place d).page page (get_or rows k d).page (up place k d more lt) (split.after place d (omega arith) within)
+        | inr same ↦ here k d (omega arith)
+      ]
     ]
-  ]
 
 some-of : {X : Type 0} (o : Option X) (P : X → Type 0) → IsSomeAnd o P → (x : X) × (o ≡ Some x) × P x
 some-of None P h = absurd h
@@ -99,7 +100,7 @@ module _ (rows : List Row) (place : ℕ) (sound : Sound rows) where
         let r = some-of (slice_get rows place) (λ x. same_page x.page row.page ≡ true) at in
         record {
           ascending = AllPairs-set (λ a b. precedes a.page b.page ≡ true) rows place r.0 row r.1
-            (λ a h. before-same a.page r.0.page row.page r.2 h) (λ a h. same-before r.0.page row.page a.page r.2 h) sound.ascending;
+              (λ a h. before-same a.page r.0.page row.page r.2 h) (λ a h. same-before r.0.page row.page a.page r.2 h) sound.ascending;
           touched = All-set (λ x. is_touched x ≡ true) rows place row dirty sound.touched;
         }
 
@@ -112,7 +113,7 @@ module _ (rows : List Row) (place : ℕ) (sound : Sound rows) where
     pub Sound-insert : row_of rows row.page ≡ None → is_touched row ≡ true → Sound (insert rows place row)
     Sound-insert absent dirty = record {
       ascending = AllPairs-insert (λ a b. precedes a.page b.page ≡ true) rows place row sound.ascending (λ k d lt within. split.before k d lt)
-        (λ k d le lt. precedes-total (get_or rows k d).page row.page (split.after k d le lt) (fails-from_none (λ x. same_page x.page row.page) rows absent k d lt));
+          (λ k d le lt. precedes-total (get_or rows k d).page row.page (split.after k d le lt) (fails-from_none (λ x. same_page x.page row.page) rows absent k d lt));
       touched = All-insert (λ x. is_touched x ≡ true) rows place row dirty sound.touched;
     }
 
@@ -120,18 +121,20 @@ module _ (rows : List Row) (place : ℕ) (sound : Sound rows) where
     pub row_of-remove : row_of (remove rows place) page ≡ None
     row_of-remove = find-remove (λ x. same_page x.page page) rows place differs
       where
-      r : (x : Row) × (slice_get rows place ≡ Some x) × (same_page x.page page ≡ true)
-      r = some-of (slice_get rows place) (λ x. same_page x.page page ≡ true) at
-      later : (k : ℕ) (d : Row) → place < k → k < length rows → same_page (get_or rows k d).page page ≡ false
-      later k d lt within =
-          let some : Some (get_or rows place d) ≡ Some r.0 = sym (slice_get-get_or rows place d (omega arith)) ∙ r.1 in
-          let is : get_or rows place d ≡ r.0 = cc in
-          after-same r.0.page page (get_or rows k d).page r.2 (subst (λ (x : Row). precedes x.page (get_or rows k d).page ≡ true) is (sound.ascending place k d lt within))
-      differs : (k : ℕ) (d : Row) → k < length rows → k ≢ place → same_page (get_or rows k d).page page ≡ false
-      differs k d lt ne = elim (cases_lt k place) [
-        | inl less ↦ differs-before (get_or rows k d).page page (split.before k d less)
-        | inr from ↦ later k d (omega arith) lt
-      ]
+        r : (x : Row) × (slice_get rows place ≡ Some x) × (same_page x.page page ≡ true)
+        r = some-of (slice_get rows place) (λ x. same_page x.page page ≡ true) at
+
+        later : (k : ℕ) (d : Row) → place < k → k < length rows → same_page (get_or rows k d).page page ≡ false
+        later k d lt within =
+            let some : Some (get_or rows place d) ≡ Some r.0 = sym (slice_get-get_or rows place d (omega arith)) ∙ r.1 in
+            let is : get_or rows place d ≡ r.0 = cc in
+            after-same r.0.page page (get_or rows k d).page r.2 (subst (λ (x : Row). precedes x.page (get_or rows k d).page ≡ true) is (sound.ascending place k d lt within))
+
+        differs : (k : ℕ) (d : Row) → k < length rows → k ≢ place → same_page (get_or rows k d).page page ≡ false
+        differs k d lt ne = elim (cases_lt k place) [
+          | inl less ↦ differs-before (get_or rows k d).page page (split.before k d less)
+          | inr from ↦ later k d (omega arith) lt
+        ]
 
     pub KeepsOthers-remove : KeepsOthers rows (remove rows place) page
     KeepsOthers-remove q other =

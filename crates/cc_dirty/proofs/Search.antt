@@ -42,8 +42,8 @@ Between-upper rows page low high middle r up b lo hi at pass = record {
   within = b.within;
 }
   where
-  passes : (k : ℕ) (d : Row) → k ≡ middle → precedes (get_or rows k d).page page ≡ true
-  passes k d e = subst (λ (x : Row). precedes x.page page ≡ true) (sym (read-at rows k middle r d at (omega (arith, b.within)) e)) pass
+    passes : (k : ℕ) (d : Row) → k ≡ middle → precedes (get_or rows k d).page page ≡ true
+    passes k d e = subst (λ (x : Row). precedes x.page page ≡ true) (sym (read-at rows k middle r d at (omega (arith, b.within)) e)) pass
 
 pub Between-lower : (rows : List Row) (page : Page) (low high middle : ℕ) (r : Row) → IsAscending rows → Between rows page low high → low ≤ middle → middle < high
     → r ≡ get_or rows middle r → precedes r.page page ≡ false → Between rows page low middle
@@ -57,5 +57,5 @@ Between-lower rows page low high middle r up b lo hi at fail = record {
   within = omega (arith, b.within);
 }
   where
-  fails : (k : ℕ) (d : Row) → k ≡ middle → precedes (get_or rows k d).page page ≡ false
-  fails k d e = subst (λ (x : Row). precedes x.page page ≡ false) (sym (read-at rows k middle r d at (omega (arith, b.within)) e)) fail
+    fails : (k : ℕ) (d : Row) → k ≡ middle → precedes (get_or rows k d).page page ≡ false
+    fails k d e = subst (λ (x : Row). precedes x.page page ≡ false) (sym (read-at rows k middle r d at (omega (arith, b.within)) e)) fail

@@ -15,3 +15,6 @@ mod table;
 
 pub use row::{Row, Unwritten};
 pub use table::DirtyTable;
+
+#[cfg(test)]
+mod tests;

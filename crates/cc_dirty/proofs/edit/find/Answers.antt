@@ -13,20 +13,21 @@ pub returns-then-same_page-clause-row : goal.returns-then-same_page-clause-row
 returns-then-same_page-clause-row c =
     let within : c.place_of-place.result < length c.args.rows.now = omega (arith, c.place_of-place.ensures.within) in
     sym (row-present c.args.rows.now c.args.page c.place_of-place.result c.index-rows-place.result c.place_of-place.ensures.split
-      (slice_get_read c.args.rows.now (length c.args.rows.now) c.place_of-place.result c.index-rows-place.result refl within c.index-rows-place.is)
-      (sym c.same_page.ensures ∙ c.if-same_page.true))
+    (slice_get_read c.args.rows.now (length c.args.rows.now) c.place_of-place.result c.index-rows-place.result refl within c.index-rows-place.is)
+    (sym c.same_page.ensures ∙ c.if-same_page.true))
 
 pub returns-then-same_page-clause-at : goal.returns-then-same_page-clause-at
 returns-then-same_page-clause-at c =
-    let within : c.place_of-place.result < length c.args.rows.now = omega (arith, c.place_of-place.ensures.within) in
-    (slice_get_read c.args.rows.now (length c.args.rows.now) c.place_of-place.result c.index-rows-place.result refl within c.index-rows-place.is,
-      sym c.same_page.ensures ∙ c.if-same_page.true)
+    let within : c.place_of-place.result < length c.args.rows.now = omega (arith, c.place_of-place.ensures.within) in (
+      slice_get_read c.args.rows.now (length c.args.rows.now) c.place_of-place.result c.index-rows-place.result refl within c.index-rows-place.is,
+      sym c.same_page.ensures ∙ c.if-same_page.true,
+    )
 
 pub returns-else-same_page-clause-row : goal.returns-else-same_page-clause-row
 returns-else-same_page-clause-row c =
     let within : c.place_of-place.result < length c.args.rows.now = omega (arith, c.place_of-place.ensures.within) in
     sym (row-absent c.args.rows.now c.args.page c.place_of-place.result c.index-rows-place.result c.requires.ascending c.place_of-place.ensures.split
-      c.index-rows-place.is within (sym c.same_page.ensures ∙ c.if-same_page.false))
+    c.index-rows-place.is within (sym c.same_page.ensures ∙ c.if-same_page.false))
 
 pub returns-then-same_page-clause-touched : goal.returns-then-same_page-clause-touched
 returns-then-same_page-clause-touched c =
