@@ -1,0 +1,4 @@
+mod Search
+mod Lookup
+mod Edits
+mod Rows

@@ -1,0 +1,28 @@
+-- The dirty page table.
+use Rattle.std.specs.Prelude.{◌≡◌, ℕ, ◌==◌, Bool, ◌&&◌, not, nat_le, true, false, All, List, Option, filter, find}
+use Rattle.cc_entry.specs.Place.{Page}
+use Rattle.cc_dirty.specs.Order.{same_page, IsAscending}
+use Rattle.cc_dirty.specs.Unwritten.{is_touched}
+use Rattle.cc_dirty.specs.declared.row.Row.{Row}
+
+-- rows by page, and how many there is room for
+pub record Table : Type 0 where
+  pub rows : List Row
+  pub capacity : ℕ
+
+-- the row of a page
+abbrev pub row_of : List Row → Page → Option Row
+row_of rows page = find (λ r. same_page r.page page) rows
+
+-- every other page has the row that it had
+abbrev pub KeepsOthers : List Row → List Row → Page → Type 0
+KeepsOthers old new page = (q : Page) → same_page q page ≡ false → row_of new q ≡ row_of old q
+
+-- whether a row is of this stream
+abbrev pub is_of : ℕ → Row → Bool
+is_of stream r = r.page.stream == stream
+
+-- rows in the order of their pages, each touched
+pub record Sound (rows : List Row) : Type 0 where
+  pub ascending : IsAscending rows
+  pub touched : All (λ r. is_touched r ≡ true) rows

@@ -1,0 +1,20 @@
+//! The dirty page table: which pages have changes that no write has reached yet, and the least and
+//! greatest LSN of those that were stamped.
+//!
+//! What a write in progress took stands apart from what was touched since, so that a good end leaves
+//! the later touches and a failed one joins both again. Rows stand by stream and page. Room is made
+//! beforehand: only `reserve` takes memory.
+//!
+//! The journal stands above; below are the values of `cc_entry`.
+#![tactic(auto)]
+
+mod edit;
+mod find;
+mod row;
+mod table;
+
+pub use row::{Row, Unwritten};
+pub use table::DirtyTable;
+
+#[cfg(test)]
+mod tests;

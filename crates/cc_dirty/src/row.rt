@@ -1,0 +1,156 @@
+//! A row of the table.
+
+ghost use Rattle.std.specs.Prelude.{◌≡◌, min, max};
+ghost use Rattle.cc_dirty.specs.Unwritten.{joined_lsns};
+ghost use Rattle.cc_dirty.specs.Order.{precedes, same_page, is_from};
+
+use cc_entry::{Lsn, PageId, StreamId};
+
+/// What is unwritten of a page: whether it was touched, and the least and greatest LSN of its stamps.
+#[derive(Clone, Copy, Debug, PartialEq, Eq, Hash)]
+pub struct Unwritten {
+    pub touched: bool,
+    pub lsns: Option<(Lsn, Lsn)>,
+}
+
+/// A page that is dirty: what an open WriteBegin took of it, and what was touched since.
+#[derive(Clone, Copy, Debug, PartialEq, Eq, Hash)]
+pub struct Row {
+    pub page: PageId,
+    pub begun: Unwritten,
+    pub later: Unwritten,
+}
+
+impl Unwritten {
+    ghost use Rattle.std.specs.Prelude.{◌≡◌};
+    ghost use Rattle.cc_dirty.specs.Unwritten.{nothing, joined, with_touch};
+
+    fn nothing() -> Unwritten
+        ensures { result ≡ nothing }
+    {
+        Unwritten {
+            touched: false,
+            lsns: None,
+        }
+    }
+
+    fn joined(self, other: Unwritten) -> Unwritten
+        ensures { result ≡ joined self other }
+    {
+        Unwritten {
+            touched: self.touched || other.touched,
+            lsns: joined_lsns(self.lsns, other.lsns),
+        }
+    }
+
+    fn with_touch(self, lsn: Option<Lsn>) -> Unwritten
+        ensures { result ≡ with_touch self lsn }
+    {
+        Unwritten {
+            touched: true,
+            lsns: joined_lsns(self.lsns, lsn.map(|lsn| (lsn, lsn))),
+        }
+    }
+}
+
+impl Row {
+    ghost use Rattle.std.specs.Prelude.{◌≡◌, None, Some};
+    ghost use Rattle.cc_dirty.specs.Unwritten.{touched_row, begun_row, ended_row, is_touched};
+
+    pub(crate) fn new(page: PageId, lsn: Option<Lsn>) -> Row
+        ensures { result ≡ touched_row page lsn None }
+    {
+        Row {
+            page,
+            begun: Unwritten::nothing(),
+            later: Unwritten::nothing().with_touch(lsn),
+        }
+    }
+
+    pub(crate) fn touched(self, lsn: Option<Lsn>) -> Row
+        ensures { result ≡ touched_row self.page lsn (Some self) }
+    {
+        Row {
+            later: self.later.with_touch(lsn),
+            ..self
+        }
+    }
+
+    pub(crate) fn begun(self) -> Row
+        ensures { result ≡ begun_row self }
+    {
+        Row {
+            page: self.page,
+            begun: self.begun.joined(self.later),
+            later: Unwritten::nothing(),
+        }
+    }
+
+    pub(crate) fn ended(self, ok: bool) -> Row
+        ensures { result ≡ ended_row ok self }
+    {
+        let later = if ok {
+            self.later
+        } else {
+            self.begun.joined(self.later)
+        };
+        Row {
+            page: self.page,
+            begun: Unwritten::nothing(),
+            later,
+        }
+    }
+
+    pub fn is_touched(&self) -> bool
+        ensures { result ≡ is_touched self.now }
+    {
+        self.begun.touched || self.later.touched
+    }
+}
+
+// The least and the greatest LSN of both.
+fn joined_lsns(a: Option<(Lsn, Lsn)>, b: Option<(Lsn, Lsn)>) -> Option<(Lsn, Lsn)>
+    ensures { result ≡ joined_lsns a b }
+{
+    match (a, b) {
+        (None, others) => others,
+        (Some(lsns), None) => Some(lsns),
+        (Some((oldest, newest)), Some((older, newer))) => {
+            Some((least(oldest, older), greatest(newest, newer)))
+        }
+    }
+}
+
+fn least(a: Lsn, b: Lsn) -> Lsn
+    ensures { result ≡ min a b }
+{
+    if a.number() <= b.number() { a } else { b }
+}
+
+fn greatest(a: Lsn, b: Lsn) -> Lsn
+    ensures { result ≡ max a b }
+{
+    if a.number() <= b.number() { b } else { a }
+}
+
+/// Whether two pages are the same.
+pub(crate) fn same_page(a: PageId, b: PageId) -> bool
+    ensures { result ≡ same_page a b }
+{
+    a.stream().number() == b.stream().number() && a.page() == b.page()
+}
+
+/// Whether a page stands before another one.
+pub(crate) fn precedes(a: PageId, b: PageId) -> bool
+    ensures { result ≡ precedes a b }
+{
+    let (stream, other) = (a.stream().number(), b.stream().number());
+    stream < other || (stream == other && a.page() < b.page())
+}
+
+/// Whether a page is of this stream and not below this number.
+pub(crate) fn is_from(page: PageId, stream: StreamId, number: u64) -> bool
+    ensures { result ≡ is_from stream number page }
+{
+    page.stream().number() == stream.number() && number <= page.page()
+}

@@ -1,0 +1,121 @@
+//! The table.
+
+ghost use Rattle.std.specs.Prelude.{◌≡◌, ℕ, ◌+◌, ◌<◌, ◌≤◌, ◌⊎◌, [], All, true, false, length, None, Some, IsSome, OnOk, OnErr, count_by, filter, not};
+ghost use Rattle.std.specs.Option.{option_map, option_and_then};
+ghost use Rattle.cc_entry.specs.Place.{Page};
+ghost use Rattle.cc_dirty.specs.Order.{IsAscending, is_from};
+ghost use Rattle.cc_dirty.specs.Unwritten.{touched_row, begun_row, ended_row, kept_row, is_touched};
+ghost use Rattle.cc_dirty.specs.Table.{row_of, KeepsOthers, is_of};
+
+use crate::edit::{drop_rows, find, insert, remove, replace};
+use crate::row::Row;
+use cc_entry::{Lsn, NoMemory, PageId, StreamId};
+use std::alloc::Global;
+use std::marker::Model;
+
+/// The dirty page table.
+#[derive(Drop)]
+pub struct DirtyTable {
+    rows: Vec<Row>,
+}
+
+impl Model for DirtyTable {
+    ghost use Rattle.std.specs.Prelude.{◌≤◌, vec_len, vec_capacity, min};
+    ghost use Rattle.cc_dirty.specs.Table.{Table, Sound};
+
+    ghost Value = { Table };
+
+    ghost view = { λ t. record { rows = t.rows.items; capacity = min (vec_capacity t.rows) 4294967295 } };
+
+    ghost invariant = { λ t. Sound t.rows.items × (vec_len t.rows ≤ 4294967295) };
+}
+
+impl DirtyTable {
+    pub fn new(alloc: Global) -> DirtyTable
+        ensures { result.rows ≡ [] }
+    {
+        DirtyTable {
+            rows: Vec::new(alloc),
+        }
+    }
+
+    /// Makes room for so many rows in all.
+    pub fn reserve(&mut self, rows: u32) -> Result<(), NoMemory>
+        ensures room { OnOk result (rows ≤ self.new.capacity) }
+        ensures rows { self.new.rows ≡ self.old.rows }
+        ensures capacity { self.old.capacity ≤ self.new.capacity }
+        ensures err { OnErr result (self.new ≡ self.old) }
+    {
+        let further = (rows as usize).saturating_sub(self.rows.len());
+        self.rows.reserve(further).map_err(|_| NoMemory)
+    }
+
+    /// The rows by stream and page.
+    pub fn rows(&self) -> &[Row]
+        ensures rows { result.now ≡ self.now.rows }
+        ensures ascending { IsAscending result.now }
+        ensures touched { All (λ r. is_touched r ≡ true) result.now }
+    {
+        &self.rows
+    }
+
+    /// How many pages of a stream are dirty.
+    pub fn total(&self, stream: StreamId) -> u32
+        ensures { result ≡ count_by (is_of stream) self.now.rows }
+    {
+        self.rows
+            .iter()
+            .filter(|row| row.page.stream().number() == stream.number())
+            .count() as u32
+    }
+
+    /// Notes a touch of a page, with the LSN of its stamp where it has one.
+    pub fn touch(&mut self, page: PageId, lsn: Option<Lsn>)
+        requires { IsSome (row_of self.old.rows page) ⊎ (length self.old.rows < self.old.capacity) }
+        ensures row { row_of self.new.rows page ≡ Some (touched_row page lsn (row_of self.old.rows page)) }
+        ensures others { KeepsOthers self.old.rows self.new.rows page }
+        ensures capacity { self.new.capacity ≡ self.old.capacity }
+    {
+        match find(&self.rows, page) {
+            (place, Some(row)) => replace(&mut self.rows, place, row.touched(lsn)),
+            (place, None) => insert(&mut self.rows, place, Row::new(page, lsn)),
+        }
+    }
+
+    /// Notes a WriteBegin of a page: it takes what is unwritten so far.
+    pub fn begin(&mut self, page: PageId)
+        ensures row { row_of self.new.rows page ≡ option_map begun_row (row_of self.old.rows page) }
+        ensures others { KeepsOthers self.old.rows self.new.rows page }
+        ensures capacity { self.new.capacity ≡ self.old.capacity }
+    {
+        if let (place, Some(row)) = find(&self.rows, page) {
+            replace(&mut self.rows, place, row.begun());
+        }
+    }
+
+    /// Notes the WriteEnd of a page.
+    pub fn end(&mut self, page: PageId, ok: bool)
+        ensures row { row_of self.new.rows page ≡ option_and_then (λ r. kept_row (ended_row ok r)) (row_of self.old.rows page) }
+        ensures others { KeepsOthers self.old.rows self.new.rows page }
+        ensures capacity { self.new.capacity ≡ self.old.capacity }
+    {
+        if let (place, Some(row)) = find(&self.rows, page) {
+            let row = row.ended(ok);
+            if row.is_touched() {
+                replace(&mut self.rows, place, row);
+            } else {
+                remove(&mut self.rows, place, page);
+            }
+        }
+    }
+
+    /// Forgets the pages of a stream from this number on, as their size is cut.
+    pub fn drop_from(&mut self, stream: StreamId, page: u64)
+        ensures rows { self.new.rows ≡ filter (λ r. not (is_from stream page r.page)) self.old.rows }
+        ensures cut { (q : Page) → is_from stream page q ≡ true → row_of self.new.rows q ≡ None }
+        ensures others { (q : Page) → is_from stream page q ≡ false → row_of self.new.rows q ≡ row_of self.old.rows q }
+        ensures capacity { self.new.capacity ≡ self.old.capacity }
+    {
+        drop_rows(&mut self.rows, stream, page);
+    }
+}
