@@ -129,14 +129,14 @@ impl Content {
         }
     }
 
-    pub(crate) fn may(&self, alloc: Global, page: u64) -> Result<Vec<[u8; 4096]>, AllocError>
+    pub(crate) fn may(&self, page: u64) -> Result<Vec<[u8; 4096]>, AllocError>
         ensures { IfOk result (λ contents. contents.items ≡ may_of self.now page) }
     {
         match self.written.get(&page) {
-            Some(written) => Vec::from_slice(alloc, written.may()),
+            Some(written) => Vec::from_slice(self.alloc, written.may()),
             None => {
                 let alone = last_listed(&self.opening, page, self.fill);
-                Vec::from_slice(alloc, slice::from_ref(&alone))
+                Vec::from_slice(self.alloc, slice::from_ref(&alone))
             }
         }
     }
