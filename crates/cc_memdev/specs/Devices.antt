@@ -1,5 +1,7 @@
 -- What clauses see of each memory device.
-use Rattle.std.specs.Prelude.{ℕ, max, List, [], ◌∷◌}
+use Rattle.std.specs.Prelude.{ℕ, max, map, List, [], ◌∷◌}
+use Rattle.std.specs.declared.vec.Vec.{Vec}
+use Rattle.std.specs.Global.{Global}
 use Rattle.cc_traits.specs.Disk.{Disk}
 use Rattle.cc_traits.specs.Log.{Log, LogEntry}
 use Rattle.cc_memdev.specs.Calls.{CallPlan, StopPlan}
@@ -35,3 +37,7 @@ pub record SinkState : Type 0 where
 abbrev pub greatest_lsn : ℕ → List LogEntry → ℕ
 greatest_lsn n [] = n
 greatest_lsn n (entry ∷ rest) = greatest_lsn (max n entry.lsn) rest
+
+-- the entries of a log as it keeps them
+abbrev pub entries_of : List (ℕ × Vec ℕ Global) → List LogEntry
+entries_of entries = map (λ entry. record { lsn = entry.0; bytes = entry.1.items }) entries

@@ -11,9 +11,9 @@
 mod calls;
 mod content;
 mod disk;
-
-
+mod log;
+mod stream;
 
 pub use disk::{DiskFails, MemDisk};
-
-
+pub use log::{LogFails, MemLog};
+pub use stream::{MemSink, MemSource};
