@@ -108,6 +108,13 @@ impl MemDisk {
     {
         self.content.may(page)
     }
+
+    /// How many calls failed.
+    pub fn faults(&self) -> u64
+        ensures { result ≡ self.now.faults }
+    {
+        self.faults.count()
+    }
 }
 
 impl PageDisk for MemDisk {

@@ -104,6 +104,13 @@ impl MemLog {
     {
         &self.entries
     }
+
+    /// How many calls failed.
+    pub fn faults(&self) -> u64
+        ensures { result ≡ self.now.faults }
+    {
+        self.faults.count()
+    }
 }
 
 impl LogFile for MemLog {

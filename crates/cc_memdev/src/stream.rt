@@ -49,6 +49,13 @@ impl MemSource {
             faults: Faults::new(),
         }
     }
+
+    /// How many calls failed.
+    pub fn faults(&self) -> u64
+        ensures { result ≡ self.now.faults }
+    {
+        self.faults.count()
+    }
 }
 
 impl Source for MemSource {
@@ -113,6 +120,13 @@ impl MemSink {
         ensures { result.now ≡ self.now.taken }
     {
         &self.taken
+    }
+
+    /// How many calls failed.
+    pub fn faults(&self) -> u64
+        ensures { result ≡ self.now.faults }
+    {
+        self.faults.count()
     }
 }
 
