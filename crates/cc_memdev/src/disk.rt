@@ -34,12 +34,12 @@ impl Model for MemDisk {
     ghost Value = { DiskState };
 
     ghost view = { λ d. record {
-        disk = d.content;
-        reads = d.reads;
-        writes = d.writes;
-        syncs = d.syncs;
-        stop = d.all;
-        faults = d.faults;
+      disk = d.content;
+      reads = d.reads;
+      writes = d.writes;
+      syncs = d.syncs;
+      stop = d.all;
+      faults = d.faults;
     } };
 }
 
@@ -121,9 +121,10 @@ impl PageDisk for MemDisk {
     fn read_page(&mut self, page: u64, out: &mut [u8; 4096]) -> Result<(), Stop>
         ensures found { OnOk result (Found page out.new self.old.disk) }
         ensures state { self.new ≡ record self.old {
-            reads = after_call self.old.reads;
-            stop = after_any_call self.old.stop;
-            faults = self.old.faults + faults_in result } }
+          reads = after_call self.old.reads;
+          stop = after_any_call self.old.stop;
+          faults = self.old.faults + faults_in result;
+        } }
         ensures planned { IsOk result ↔ (fails_next self.old.reads self.old.stop ≡ false) }
         ensures full { OnNoMemory result (self.old.faults ≡ 2 ^ 64 - 1) }
     {
@@ -141,10 +142,11 @@ impl PageDisk for MemDisk {
         ensures tore { OnFailed result (ToreInPlace page bytes.now self.old.disk self.new.disk) }
         ensures no_memory { OnNoMemory result (self.new.disk ≡ self.old.disk) }
         ensures state { self.new ≡ record self.old {
-            disk = self.new.disk;
-            writes = after_call self.old.writes;
-            stop = after_any_call self.old.stop;
-            faults = self.old.faults + faults_in result } }
+          disk = self.new.disk;
+          writes = after_call self.old.writes;
+          stop = after_any_call self.old.stop;
+          faults = self.old.faults + faults_in result;
+        } }
         ensures ok_unplanned { OnOk result (fails_next self.old.writes self.old.stop ≡ false) }
         ensures failed_planned { OnFailed result (fails_next self.old.writes self.old.stop ≡ true) }
     {
@@ -165,10 +167,11 @@ impl PageDisk for MemDisk {
         ensures settled { OnOk result (Settled self.old.disk self.new.disk) }
         ensures err { OnErr result (self.new.disk ≡ self.old.disk) }
         ensures state { self.new ≡ record self.old {
-            disk = self.new.disk;
-            syncs = after_call self.old.syncs;
-            stop = after_any_call self.old.stop;
-            faults = self.old.faults + faults_in result } }
+          disk = self.new.disk;
+          syncs = after_call self.old.syncs;
+          stop = after_any_call self.old.stop;
+          faults = self.old.faults + faults_in result;
+        } }
         ensures planned { IsOk result ↔ (fails_next self.old.syncs self.old.stop ≡ false) }
         ensures full { OnNoMemory result (self.old.faults ≡ 2 ^ 64 - 1) }
     {

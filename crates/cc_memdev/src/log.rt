@@ -31,11 +31,11 @@ impl Model for MemLog {
     ghost Value = { LogState };
 
     ghost view = { λ l. record {
-        log = record { entries = entries_of l.entries.items; durable = l.durable };
-        appends = l.appends;
-        flushes = l.flushes;
-        stop = l.all;
-        faults = l.faults;
+      log = record { entries = entries_of l.entries.items; durable = l.durable };
+      appends = l.appends;
+      flushes = l.flushes;
+      stop = l.all;
+      faults = l.faults;
     } };
 }
 
@@ -121,13 +121,15 @@ impl LogFile for MemLog {
     fn append(&mut self, lsn: u64, piece: &[u8]) -> Result<(), Stop>
         ensures appended { OnOk result
             (self.new.log ≡ record self.old.log {
-                entries = self.old.log.entries ++ record { lsn = lsn; bytes = piece.now } ∷ [] }) }
+              entries = self.old.log.entries ++ record { lsn = lsn; bytes = piece.now } ∷ [];
+            }) }
         ensures err { OnErr result (self.new.log ≡ self.old.log) }
         ensures state { self.new ≡ record self.old {
-            log = self.new.log;
-            appends = after_call self.old.appends;
-            stop = after_any_call self.old.stop;
-            faults = self.old.faults + faults_in result } }
+          log = self.new.log;
+          appends = after_call self.old.appends;
+          stop = after_any_call self.old.stop;
+          faults = self.old.faults + faults_in result;
+        } }
         ensures ok_unplanned { OnOk result (fails_next self.old.appends self.old.stop ≡ false) }
         ensures failed_planned { OnFailed result (fails_next self.old.appends self.old.stop ≡ true) }
     {
@@ -146,10 +148,11 @@ impl LogFile for MemLog {
             (self.new.log ≡ record self.old.log { durable = max self.old.log.durable lsn }) }
         ensures err { OnErr result (self.new.log ≡ self.old.log) }
         ensures state { self.new ≡ record self.old {
-            log = self.new.log;
-            flushes = after_call self.old.flushes;
-            stop = after_any_call self.old.stop;
-            faults = self.old.faults + faults_in result } }
+          log = self.new.log;
+          flushes = after_call self.old.flushes;
+          stop = after_any_call self.old.stop;
+          faults = self.old.faults + faults_in result;
+        } }
         ensures planned { IsOk result ↔ (fails_next self.old.flushes self.old.stop ≡ false) }
         ensures full { OnNoMemory result (self.old.faults ≡ 2 ^ 64 - 1) }
     {

@@ -22,10 +22,10 @@ impl Model for MemSource {
     ghost Value = { SourceState };
 
     ghost view = { λ s. record {
-        left = drop s.at s.bytes.items;
-        piece = s.piece;
-        takes = s.takes;
-        faults = s.faults;
+      left = drop s.at s.bytes.items;
+      piece = s.piece;
+      takes = s.takes;
+      faults = s.faults;
     } };
 
     ghost invariant = { λ s. (s.at ≤ vec_len s.bytes) × (0 < s.piece) };
@@ -70,9 +70,10 @@ impl Source for MemSource {
         ensures end { IfOk result (λ n. n ≡ 0 → 0 < length buf.old → self.old.left ≡ []) }
         ensures err { OnErr result (self.new.left ≡ self.old.left) }
         ensures state { self.new ≡ record self.old {
-            left = self.new.left;
-            takes = after_call self.old.takes;
-            faults = self.old.faults + faults_in result } }
+          left = self.new.left;
+          takes = after_call self.old.takes;
+          faults = self.old.faults + faults_in result;
+        } }
         ensures planned { IsOk result ↔ (is_listed self.old.takes ≡ false) }
         ensures full { OnNoMemory result (self.old.faults ≡ 2 ^ 64 - 1) }
     {
@@ -140,9 +141,10 @@ impl Sink for MemSink {
         ensures taken { OnOk result (self.new.taken ≡ self.old.taken ++ piece.now) }
         ensures err { OnErr result (self.new.taken ≡ self.old.taken) }
         ensures state { self.new ≡ record self.old {
-            taken = self.new.taken;
-            puts = after_call self.old.puts;
-            faults = self.old.faults + faults_in result } }
+          taken = self.new.taken;
+          puts = after_call self.old.puts;
+          faults = self.old.faults + faults_in result;
+        } }
         ensures ok_unplanned { OnOk result (is_listed self.old.puts ≡ false) }
         ensures failed_planned { OnFailed result (is_listed self.old.puts ≡ true) }
     {

@@ -8,7 +8,7 @@ loop-listed-preserved c =
     let pages = c.args.pages.now in
     let i = c.loop-listed.listed-index in
     elim c.if-listed-page.branch [
-      then-listed-page w ↦ last_content-taken pages i c.args.page c.loop-listed.found c.if-listed-page.found c.loop-listed-test.true w.if-listed-page.true w.found-is ∙ c.loop-listed.invariant
+      | then-listed-page w ↦ last_content-taken pages i c.args.page c.loop-listed.found c.if-listed-page.found c.loop-listed-test.true w.if-listed-page.true w.found-is ∙ c.loop-listed.invariant
       | else-listed-page w ↦ last_content-passed pages i c.args.page c.loop-listed.found c.if-listed-page.found c.loop-listed-test.true w.if-listed-page.false w.found-is ∙ c.loop-listed.invariant
     ]
 
