@@ -188,8 +188,10 @@ fn boxed(alloc: Global) -> Result<u8, Stop> {
 }
 
 #[test]
-fn want_of_memory(rt: HostRuntime) {
+fn want_of_memory(rt: HostRuntime) -> Result<(), Fail> {
     assert_eq!(rt; without_memory(), Err(Stop::NoMemory));
     assert_eq!(rt; boxed(rt.alloc()), Ok(5));
-    assert_eq!(rt; format!(in rt.alloc(); "{}", Stop::Failed).is_ok(), true);
+    let text = format!(in rt.alloc(); "{}, {}", Stop::Failed, Stop::NoMemory)?;
+    assert_eq!(rt; text.as_str(), "the device failed, out of memory");
+    Ok(())
 }

@@ -1,0 +1,21 @@
+use Rattle.std.proofs.Common.{◌≡◌, ◌≤◌, ◌∙◌, ℕ, ◌+◌, ◌-◌, List, ◌++◌, length, take, drop, sym, ap, arith}
+use Rattle.std.proofs.lemmas.List.{take-append-drop, take_at, drop-drop, length-take-le}
+use Rattle.cc_memdev.proofs.stream.MemSourceSource.take.Goals as goal
+
+-- the bytes from a place on are the piece that was copied from there, whatever else the buffer has, and
+-- those after it
+given : (bytes piece rest : List ℕ) (at n : ℕ) → piece ≡ take (at + n - at) (drop at bytes) → length piece ≡ n → drop at bytes ≡ take n (piece ++ rest) ++ drop (at + n) bytes
+given bytes piece rest at n e len =
+    let more : at + n - at ≡ n = omega arith in
+    let p : piece ≡ take n (drop at bytes) = e ∙ ap (λ k. take k (drop at bytes)) more in
+    let front : take n (piece ++ rest) ≡ take n (drop at bytes) = take_at piece rest n len ∙ p in
+    sym (take-append-drop n (drop at bytes)) ∙ ap (λ xs. xs ++ drop n (drop at bytes)) (sym front) ∙ ap (λ xs. take n (piece ++ rest) ++ xs) (drop-drop n at bytes)
+
+pub returns-clause-given : goal.returns-clause-given
+returns-clause-given c =
+    let i = c.self.inside in
+    let n = c.min-n.result in
+    let e = c.copy_from_slice.ensures.after ∙ ap (λ xs. take (i.at + n - i.at) (drop i.at xs)) c.deref.ensures.value in
+    let fits : n ≤ length c.args.buf.now = omega arith in
+    let len = c.copy_from_slice.ensures.len ∙ length-take-le n c.args.buf.now fits in
+    ap (λ s. s.left) (sym c.self.view_is) ∙ given i.bytes.items c.copy_from_slice.new.self (drop n c.args.buf.now) i.at n e len
