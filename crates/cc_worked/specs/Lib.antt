@@ -12,4 +12,8 @@ pub mod LazyWriter
 pub mod ReadAhead
 pub mod Throttle
 pub mod Callers
+pub mod Flushes
+pub mod Pins
+pub mod Reopening
+pub mod Refusals
 pub mod Views
