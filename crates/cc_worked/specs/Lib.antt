@@ -1,6 +1,8 @@
 pub mod Values
 pub mod Copies
+pub mod Pages
 pub mod Noncached
+pub mod Stores
 pub mod Holds
 pub mod Chains
 pub mod Logs
