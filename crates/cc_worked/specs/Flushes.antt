@@ -14,12 +14,12 @@ use Rattle.cc_worked.specs.Values.{a, opened, done, answers, refused, dirty_is, 
 abbrev pub changed_before_sync : List Entry
 changed_before_sync =
     opened 8192 8192
-  ∷ read_in 1 0
-  ∷ done 1 1 (call.CopyWrite a 0 (171 ∷ []))
-  ∷ written 1 0
-  ++ done 2 1 (call.CopyWrite a 0 (205 ∷ []))
-  ∷ synced 1
-  ∷ []
+    ∷ read_in 1 0
+    ∷ done 1 1 (call.CopyWrite a 0 (171 ∷ []))
+    ∷ written 1 0
+    ++ done 2 1 (call.CopyWrite a 0 (205 ∷ []))
+    ∷ synced 1
+    ∷ []
 
 -- the flush is done: the later change came after the caller's last call
 abbrev pub later_change_left : List Entry
@@ -36,16 +36,27 @@ synced_after_call = reverse change_seen
 abbrev pub seen_change_left : List Entry
 seen_change_left = reverse (change_seen ++ done 1 3 (call.Flush a None) ∷ [])
 
+-- a page is written, and the disk synced by another caller, or the disk of another stream
+abbrev pub written_unsynced : List Entry
+written_unsynced = opened 8192 8192 ∷ read_in 1 0 ∷ done 1 1 (call.CopyWrite a 0 (171 ∷ [])) ∷ written 1 0
+
+abbrev pub other_syncs : List Entry
+other_syncs = reverse (written_unsynced ++ synced 2 ∷ entry.Sync 1 1 how.Good ∷ [])
+
+-- wrong: the flush is done by these
+abbrev pub flush_by_other_syncs : List Entry
+flush_by_other_syncs = done 1 2 (call.Flush a None) ∷ other_syncs
+
 -- a change over the boundary of two pages, of which the second is written
 abbrev pub half_written : List Entry
 half_written =
     opened 8192 8192
-  ∷ read_in 1 0
-  ∷ read_in 1 1
-  ∷ done 1 1 (call.CopyWrite a 4095 (171 ∷ 205 ∷ []))
-  ∷ written 1 1
-  ++ synced 1
-  ∷ []
+    ∷ read_in 1 0
+    ∷ read_in 1 1
+    ∷ done 1 1 (call.CopyWrite a 4095 (171 ∷ 205 ∷ []))
+    ∷ written 1 1
+    ++ synced 1
+    ∷ []
 
 abbrev pub second_page : Range
 second_page = record { from = 4096; to = 8192 }
@@ -62,11 +73,11 @@ half_flushed = reverse (half_written ++ done 1 2 (call.Flush a None) ∷ [])
 abbrev pub pinned : List Entry
 pinned =
     opened 8192 8192
-  ∷ done 0 2 (call.SetLog a 0)
-  ∷ read_in 1 0
-  ∷ answers 1 1 (call.PinRead a 0 16 false) (reply.Hold 1)
-  ∷ done 1 2 (call.PinnedWrite 1 0 (171 ∷ []))
-  ∷ []
+    ∷ done 0 2 (call.SetLog a 0)
+    ∷ read_in 1 0
+    ∷ answers 1 1 (call.PinRead a 0 16 false) (reply.Hold 1)
+    ∷ done 1 2 (call.PinnedWrite 1 0 (171 ∷ []))
+    ∷ []
 
 -- while the pin owes its stamp, a flush of another page is done
 abbrev pub flushed_beside_pin : List Entry
@@ -84,7 +95,7 @@ unstamped_written = reverse (pinned ++ done 1 3 (call.EndHold 1) ∷ written 1 0
 abbrev pub sync_fault_of : ℕ → List Entry
 sync_fault_of p =
     reverse (
-      opened 16384 16384
-      ∷ entry.Sync 1 0 how.Failed
-      ∷ refused 1 1 (call.Flush a (Some (record { from = 8192; to = 8192 }))) (error.WriteFault p)
-      ∷ [])
+    opened 16384 16384
+    ∷ entry.Sync 1 0 how.Failed
+    ∷ refused 1 1 (call.Flush a (Some (record { from = 8192; to = 8192 }))) (error.WriteFault p)
+    ∷ [])

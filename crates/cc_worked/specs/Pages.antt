@@ -10,22 +10,22 @@ use Rattle.cc_worked.specs.Values.{a, page, opened, done, answers, read_in, goes
 abbrev pub under_way : List Entry
 under_way =
     opened 8192 8192
-  ∷ read_in 1 0
-  ∷ done 1 1 (call.CopyWrite a 0 (171 ∷ []))
-  ∷ begins 1 0
-  ∷ []
+    ∷ read_in 1 0
+    ∷ done 1 1 (call.CopyWrite a 0 (171 ∷ []))
+    ∷ begins 1 0
+    ∷ []
 
 -- it is read meanwhile, and goes out afterwards
 abbrev pub out_and_in : List Entry
 out_and_in =
     reverse (
-      under_way
-      ++ answers 2 1 (call.CopyRead a 0 1 false) (reply.Read (171 ∷ []))
-      ∷ ends 1 0
-      ∷ goes_out 1 0
-      ∷ read_in 1 0
-      ∷ read_in 1 1
-      ∷ [])
+    under_way
+    ++ answers 2 1 (call.CopyRead a 0 1 false) (reply.Read (171 ∷ []))
+    ∷ ends 1 0
+    ∷ goes_out 1 0
+    ∷ read_in 1 0
+    ∷ read_in 1 1
+    ∷ [])
 
 -- wrong: another page comes in meanwhile, or this one goes out
 abbrev pub in_under_way : List Entry
@@ -68,12 +68,12 @@ in_without_map = reverse (opened 8192 8192 ∷ entry.PageIn 1 (record { stream =
 abbrev pub read_beside : List Entry
 read_beside =
     reverse (
-      opened 4100 4100
-      ∷ answers 2 1 (call.NcRead a 1) (reply.Read (90 ∷ 90 ∷ 90 ∷ 90 ∷ []))
-      ∷ read_in 1 0
-      ∷ done 1 1 (call.CopyWrite a 0 (171 ∷ []))
-      ∷ begins 1 0
-      ∷ [])
+    opened 4100 4100
+    ∷ answers 2 1 (call.NcRead a 1) (reply.Read (90 ∷ 90 ∷ 90 ∷ 90 ∷ []))
+    ∷ read_in 1 0
+    ∷ done 1 1 (call.CopyWrite a 0 (171 ∷ []))
+    ∷ begins 1 0
+    ∷ [])
 
 -- wrong: it is read from the disk during the transfer
 abbrev pub read_under_way : List Entry

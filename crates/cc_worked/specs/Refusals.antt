@@ -15,16 +15,16 @@ use Rattle.cc_worked.specs.Values.{a, second, opened, done, answers, refused, di
 abbrev pub first_reasons : List Entry
 first_reasons =
     reverse (
-      opened 8192 5000
-      ∷ refused 1 1 (call.CopyRead second 0 1048577 true) error.NotCached
-      ∷ refused 1 2 (call.Zero a (record { from = 8192; to = 2097152 })) (error.TooLong 1048576)
-      ∷ refused 1 3 (call.Map a 262143 2) error.ViewBoundary
-      ∷ refused 1 4 (call.PreparePin a 8192 1 true true) (error.BeyondSize 8192)
-      ∷ refused 1 5 (call.PreparePin a 6000 1 true true) (error.BeyondValid 5000)
-      ∷ refused 1 6 (call.SetSizes a 8 9) error.BadSizes
-      ∷ refused 1 7 (call.SetLog a 4) (error.NoLog 4)
-      ∷ entry.Call 1 8 None (call.DirtyPages 4) (outcome.Failed (error.NoLog 4))
-      ∷ [])
+    opened 8192 5000
+    ∷ refused 1 1 (call.CopyRead second 0 1048577 true) error.NotCached
+    ∷ refused 1 2 (call.Zero a (record { from = 8192; to = 2097152 })) (error.TooLong 1048576)
+    ∷ refused 1 3 (call.Map a 262143 2) error.ViewBoundary
+    ∷ refused 1 4 (call.PreparePin a 8192 1 true true) (error.BeyondSize 8192)
+    ∷ refused 1 5 (call.PreparePin a 6000 1 true true) (error.BeyondValid 5000)
+    ∷ refused 1 6 (call.SetSizes a 8 9) error.BadSizes
+    ∷ refused 1 7 (call.SetLog a 4) (error.NoLog 4)
+    ∷ entry.Call 1 8 None (call.DirtyPages 4) (outcome.Failed (error.NoLog 4))
+    ∷ [])
 
 -- wrong: a later reason is told
 abbrev pub later_reason : Call → CcError → List Entry
@@ -34,24 +34,24 @@ later_reason it cause = reverse (opened 8192 5000 ∷ refused 1 1 it cause ∷ [
 abbrev pub no_page_needed : List Entry
 no_page_needed =
     reverse (
-      opened 8192 8192
-      ∷ answers 1 1 (call.CopyRead a 0 0 false) (reply.Read [])
-      ∷ answers 1 2 (call.CopyRead a 8192 1 false) (reply.Read [])
-      ∷ answers 1 3 (call.NcRead a 2) (reply.Read [])
-      ∷ done 1 4 (call.CopyWrite a 8192 [])
-      ∷ done 1 5 (call.Zero a (record { from = 100; to = 100 }))
-      ∷ dirty_is 1 6 false
-      ∷ [])
+    opened 8192 8192
+    ∷ answers 1 1 (call.CopyRead a 0 0 false) (reply.Read [])
+    ∷ answers 1 2 (call.CopyRead a 8192 1 false) (reply.Read [])
+    ∷ answers 1 3 (call.NcRead a 2) (reply.Read [])
+    ∷ done 1 4 (call.CopyWrite a 8192 [])
+    ∷ done 1 5 (call.Zero a (record { from = 100; to = 100 }))
+    ∷ dirty_is 1 6 false
+    ∷ [])
 
 -- a noncached call of a wrong shape is told so where its object is cached, and else that it is not
 abbrev pub shapes : List Entry
 shapes =
     reverse (
-      opened 8192 8192
-      ∷ refused 1 1 (call.NcRead a 0) (error.TooLong 65536)
-      ∷ refused 1 2 (call.NcWrite a 1) error.Unaligned
-      ∷ refused 1 3 (call.NcRead second 0) error.NotCached
-      ∷ [])
+    opened 8192 8192
+    ∷ refused 1 1 (call.NcRead a 0) (error.TooLong 65536)
+    ∷ refused 1 2 (call.NcWrite a 1) error.Unaligned
+    ∷ refused 1 3 (call.NcRead second 0) error.NotCached
+    ∷ [])
 
 -- wrong: the limit is that of copies, or the object is not cached
 abbrev pub wrong_limit : List Entry

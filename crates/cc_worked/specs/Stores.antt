@@ -20,11 +20,11 @@ stored = opened 4100 4096 ∷ done 1 1 (call.NcStore a 1 whole) ∷ written 1 1
 abbrev pub store_cut_at_size : List Entry
 store_cut_at_size =
     reverse (
-      stored
-      ++ done 1 2 (call.NcWrite a 1)
-      ∷ answers 1 3 (call.State a) (reply.State (record { sizes = record { allocation = 4100; size = 4100; valid = 4100 }; log = None }))
-      ∷ answers 1 4 (call.CopyRead a 4096 9 false) (reply.Read (205 ∷ 205 ∷ 205 ∷ 205 ∷ []))
-      ∷ [])
+    stored
+    ++ done 1 2 (call.NcWrite a 1)
+    ∷ answers 1 3 (call.State a) (reply.State (record { sizes = record { allocation = 4100; size = 4100; valid = 4100 }; log = None }))
+    ∷ answers 1 4 (call.CopyRead a 4096 9 false) (reply.Read (205 ∷ 205 ∷ 205 ∷ 205 ∷ []))
+    ∷ [])
 
 -- wrong: the write is ended by another caller, or for another page
 abbrev pub ended_by_another : List Entry
@@ -50,23 +50,23 @@ stored_under_way =
 abbrev pub owed : List Entry
 owed =
     opened 8192 8192
-  ∷ done 0 2 (call.SetLog a 0)
-  ∷ read_in 1 0
-  ∷ answers 1 1 (call.PinRead a 0 16 false) (reply.Hold 1)
-  ∷ done 1 2 (call.PinnedWrite 1 0 (171 ∷ []))
-  ∷ []
+    ∷ done 0 2 (call.SetLog a 0)
+    ∷ read_in 1 0
+    ∷ answers 1 1 (call.PinRead a 0 16 false) (reply.Hold 1)
+    ∷ done 1 2 (call.PinnedWrite 1 0 (171 ∷ []))
+    ∷ []
 
 -- a store of it is refused; once it is stamped, the log is flushed first
 abbrev pub stored_after_log : List Entry
 stored_after_log =
     reverse (
-      owed
-      ++ refused 2 1 (call.NcWrite a 0) (error.Busy 1)
-      ∷ done 1 3 (call.SetDirty 1 (Some 3))
-      ∷ entry.Flushed 2 0 3
-      ∷ done 2 2 (call.NcStore a 0 whole)
-      ∷ begins 2 0
-      ∷ [])
+    owed
+    ++ refused 2 1 (call.NcWrite a 0) (error.Busy 1)
+    ∷ done 1 3 (call.SetDirty 1 (Some 3))
+    ∷ entry.Flushed 2 0 3
+    ∷ done 2 2 (call.NcStore a 0 whole)
+    ∷ begins 2 0
+    ∷ [])
 
 -- wrong: the store is done before the stamp, or before the log
 abbrev pub stored_before_stamp : List Entry
@@ -79,7 +79,7 @@ stored_before_log = reverse (owed ++ done 1 3 (call.SetDirty 1 (Some 3)) ∷ don
 abbrev pub store_refused : List Entry
 store_refused =
     reverse (
-      opened 8192 100
-      ∷ refused 1 1 (call.NcWrite a 1) (error.BeyondValid 100)
-      ∷ refused 1 2 (call.NcWrite a 2) (error.BeyondSize 8192)
-      ∷ [])
+    opened 8192 100
+    ∷ refused 1 1 (call.NcWrite a 1) (error.BeyondValid 100)
+    ∷ refused 1 2 (call.NcWrite a 2) (error.BeyondSize 8192)
+    ∷ [])
