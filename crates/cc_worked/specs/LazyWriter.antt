@@ -52,6 +52,16 @@ cursor_moved = reverse (nine_changes ++ scan 0 1 ∷ scan 1 1 ∷ [])
 abbrev pub cursor_lost : List Entry
 cursor_lost = reverse (nine_changes ++ scan 0 1 ∷ scan 0 1 ∷ [])
 
+-- Under a threshold of sixteen: of nine pages one is picked at once, and five more, since the eight left
+-- and the nine that came since the last scan exceed twelve by five. The next scan finds none that came,
+-- and picks one.
+abbrev pub six_picked : List Entry
+six_picked = reverse (nine_changes ++ scan 0 6 ∷ scan 6 1 ∷ [])
+
+-- wrong: five are picked
+abbrev pub five_picked : List Entry
+five_picked = reverse (nine_changes ++ scan 0 5 ∷ [])
+
 -- wrong: the lazy writer begins a page that is clean
 abbrev pub clean_page_begun : List Entry
 clean_page_begun = begins 1 0 ∷ three_scans
