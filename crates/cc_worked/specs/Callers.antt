@@ -6,7 +6,7 @@ use Rattle.cc_entry.specs.declared.reply.Reply.TheVariants as reply
 use Rattle.cc_entry.specs.declared.reply.Outcome.TheVariants as outcome
 use Rattle.cc_entry.specs.declared.entry.Entry.{Entry}
 use Rattle.cc_entry.specs.declared.entry.Entry.TheVariants as entry
-use Rattle.cc_worked.specs.Values.{a, b, page, sized, opened, done, answers, read_in}
+use Rattle.cc_worked.specs.Values.{a, b, sized, opened, done, answers, read_in}
 
 -- stream 1 is initialised beside stream 0, and a page of each is in the cache
 abbrev pub two_streams : List Entry

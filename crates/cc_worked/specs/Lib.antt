@@ -1,6 +1,8 @@
 pub mod Values
 pub mod Copies
+pub mod Pages
 pub mod Noncached
+pub mod Stores
 pub mod Holds
 pub mod Chains
 pub mod Logs
@@ -12,4 +14,8 @@ pub mod LazyWriter
 pub mod ReadAhead
 pub mod Throttle
 pub mod Callers
+pub mod Flushes
+pub mod Pins
+pub mod Reopening
+pub mod Refusals
 pub mod Views

@@ -5,7 +5,7 @@ use Rattle.cc_entry.specs.declared.call.Call.TheVariants as call
 use Rattle.cc_entry.specs.declared.reply.Reply.TheVariants as reply
 use Rattle.cc_entry.specs.declared.entry.Entry.{Entry}
 use Rattle.cc_entry.specs.declared.entry.Entry.TheVariants as entry
-use Rattle.cc_worked.specs.Values.{a, opened, done, answers, read_in, written, synced}
+use Rattle.cc_worked.specs.Values.{a, second, opened, done, answers, read_in, written, synced}
 
 -- two writes of a page are deferred
 abbrev pub two_deferred : List Entry
@@ -37,6 +37,10 @@ retry_posted_last = reverse (retried ++ entry.Posted 1 ∷ [])
 -- wrong: a number of a deferral comes twice
 abbrev pub number_deferred_twice : List Entry
 number_deferred_twice = reverse (two_deferred ++ entry.Defer 1 2 a 1 false ∷ [])
+
+-- wrong: a write is deferred of an object that is not open
+abbrev pub uncached_deferred : List Entry
+uncached_deferred = reverse (two_deferred ++ entry.Defer 1 3 second 1 false ∷ [])
 
 -- The cache may have fewer than four dirty pages: with three, a write of one more is held back.
 abbrev pub held_back : List Entry

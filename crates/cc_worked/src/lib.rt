@@ -1,17 +1,30 @@
-//! Worked journals.
+//! Worked journals: runs of the cache written out entry by entry, each held against the definitions of
+//! `cc_model` by computation.
+//!
+//! A right journal is legal, allowed and covered. A wrong one is the beginning of a right one and what
+//! may not follow, mostly a single entry, and a law refuses it. So the definitions are seen to tell both
+//! apart, in each subject. The functions do nothing; their contracts are the statements. The journals
+//! stand in `specs`, oldest entry first, and `proofs/Opened` names all that has to be unfolded to compute
+//! them. Nothing stands above this crate.
 #![tactic(auto, unfolding(crate::proofs::Opened::opened))]
 
 pub mod callers;
 pub mod chains;
 pub mod copies;
 pub mod faults;
+pub mod flushes;
 pub mod holds;
 pub mod lazy_writer;
 pub mod logs;
 pub mod maps;
 pub mod noncached;
+pub mod pages;
+pub mod pins;
 pub mod read_ahead;
+pub mod refusals;
+pub mod reopening;
 pub mod sizes;
+pub mod stores;
 pub mod throttle;
 pub mod transfers;
 pub mod views;

@@ -4,7 +4,7 @@ ghost use Rattle.cc_model.specs.Legal.{IsLegal};
 ghost use Rattle.cc_model.specs.Allowed.{IsAllowed};
 ghost use Rattle.cc_model.specs.Covered.{IsCovered};
 ghost use Rattle.cc_worked.specs.Values.{setup, with_threshold};
-ghost use Rattle.cc_worked.specs.Throttle.{posted_in_order, posted_out_of_order, posted_twice, number_deferred_twice, retry_posted_first, retry_posted_last, let_go, posted_while_held};
+ghost use Rattle.cc_worked.specs.Throttle.{posted_in_order, posted_out_of_order, posted_twice, number_deferred_twice, uncached_deferred, retry_posted_first, retry_posted_last, let_go, posted_while_held};
 
 /// Deferred writes are posted in order, each once.
 pub fn deferred_writes_are_posted_in_order()
@@ -14,6 +14,7 @@ pub fn deferred_writes_are_posted_in_order()
     ensures not_out_of_order { IsAllowed setup posted_out_of_order → ⊥ }
     ensures not_twice { IsAllowed setup posted_twice → ⊥ }
     ensures no_number_again { IsAllowed setup number_deferred_twice → ⊥ }
+    ensures not_uncached { IsAllowed setup uncached_deferred → ⊥ }
 {}
 
 /// A deferred write that is tried again goes to the head of the queue.

@@ -1,0 +1,85 @@
+-- Noncached stores and the ends of their writes.
+use Rattle.std.specs.Prelude.{ℕ, List, [], ◌∷◌, ◌++◌, false, reverse, replicate}
+use Rattle.std.specs.declared.option.Option.TheVariants.{Some, None}
+use Rattle.cc_entry.specs.declared.call.Call.TheVariants as call
+use Rattle.cc_entry.specs.declared.reply.Reply.TheVariants as reply
+use Rattle.cc_entry.specs.declared.error.CcError.TheVariants as error
+use Rattle.cc_entry.specs.declared.entry.Entry.{Entry}
+use Rattle.cc_entry.specs.declared.entry.Entry.TheVariants as entry
+use Rattle.cc_worked.specs.Values.{a, opened, done, answers, refused, read_in, begins, written}
+
+-- the bytes of a whole page
+abbrev pub whole : List ℕ
+whole = replicate 4096 205
+
+-- a store that is cut at the size, its transfer and its end
+abbrev pub stored : List Entry
+stored = opened 4100 4096 ∷ done 1 1 (call.NcStore a 1 whole) ∷ written 1 1
+
+-- the valid data length rises to the size, and the page stays
+abbrev pub store_cut_at_size : List Entry
+store_cut_at_size =
+    reverse (
+    stored
+    ++ done 1 2 (call.NcWrite a 1)
+    ∷ answers 1 3 (call.State a) (reply.State (record { sizes = record { allocation = 4100; size = 4100; valid = 4100 }; log = None }))
+    ∷ answers 1 4 (call.CopyRead a 4096 9 false) (reply.Read (205 ∷ 205 ∷ 205 ∷ 205 ∷ []))
+    ∷ [])
+
+-- wrong: the write is ended by another caller, or for another page
+abbrev pub ended_by_another : List Entry
+ended_by_another = reverse (stored ++ done 2 1 (call.NcWrite a 1) ∷ [])
+
+abbrev pub another_page_ended : List Entry
+another_page_ended = reverse (stored ++ done 1 2 (call.NcWrite a 0) ∷ [])
+
+-- wrong: it is ended twice
+abbrev pub ended_again : List Entry
+ended_again = done 1 5 (call.NcWrite a 1) ∷ store_cut_at_size
+
+-- wrong: it is ended before its transfer is
+abbrev pub ended_under_way : List Entry
+ended_under_way = reverse (opened 4100 4096 ∷ done 1 1 (call.NcStore a 1 whole) ∷ begins 1 1 ∷ done 1 2 (call.NcWrite a 1) ∷ [])
+
+-- wrong: a store begins during a transfer
+abbrev pub stored_under_way : List Entry
+stored_under_way =
+    reverse (opened 8192 8192 ∷ done 1 1 (call.NcStore a 1 whole) ∷ begins 1 1 ∷ done 2 1 (call.NcStore a 0 whole) ∷ begins 2 0 ∷ [])
+
+-- a page with a pin that owes its stamp
+abbrev pub owed : List Entry
+owed =
+    opened 8192 8192
+    ∷ done 0 2 (call.SetLog a 0)
+    ∷ read_in 1 0
+    ∷ answers 1 1 (call.PinRead a 0 16 false) (reply.Hold 1)
+    ∷ done 1 2 (call.PinnedWrite 1 0 (171 ∷ []))
+    ∷ []
+
+-- a store of it is refused; once it is stamped, the log is flushed first
+abbrev pub stored_after_log : List Entry
+stored_after_log =
+    reverse (
+    owed
+    ++ refused 2 1 (call.NcWrite a 0) (error.Busy 1)
+    ∷ done 1 3 (call.SetDirty 1 (Some 3))
+    ∷ entry.Flushed 2 0 3
+    ∷ done 2 2 (call.NcStore a 0 whole)
+    ∷ begins 2 0
+    ∷ [])
+
+-- wrong: the store is done before the stamp, or before the log
+abbrev pub stored_before_stamp : List Entry
+stored_before_stamp = reverse (owed ++ done 2 1 (call.NcStore a 0 whole) ∷ begins 2 0 ∷ [])
+
+abbrev pub stored_before_log : List Entry
+stored_before_log = reverse (owed ++ done 1 3 (call.SetDirty 1 (Some 3)) ∷ done 2 1 (call.NcStore a 0 whole) ∷ begins 2 0 ∷ [])
+
+-- a store past the valid data length, or past the size, is refused
+abbrev pub store_refused : List Entry
+store_refused =
+    reverse (
+    opened 8192 100
+    ∷ refused 1 1 (call.NcWrite a 1) (error.BeyondValid 100)
+    ∷ refused 1 2 (call.NcWrite a 2) (error.BeyondSize 8192)
+    ∷ [])
