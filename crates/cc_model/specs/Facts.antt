@@ -36,7 +36,7 @@ pub record IsWithinLimits (past : List Entry) : Type 0 where
   pub views : views_taken past ≤ 256
   pub dirty : dirty_total past ≤ 16384
 
--- the order of use has each mapped block once, and no other, at every place of any journal
+-- the order of use has each mapped block once, and no other, at every place of any legal journal
 pub record IsOrderOfMapped (h : List Effect) : Type 0 where
   pub distinct : IsDistinct nat_eq (order_of_use h)
   pub mapped : (b : ℕ) → is_among b (order_of_use h) ≡ block_is_mapped h b
