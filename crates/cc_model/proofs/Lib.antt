@@ -50,3 +50,5 @@ pub mod KeptBytes
 pub mod OpenTransfers
 pub mod CleanPages
 pub mod WholeFacts
+pub mod PlacesSteps
+pub mod PlacesDirty

@@ -37,3 +37,5 @@ pub mod Room
 pub mod Turns
 pub mod Laws
 pub mod Facts
+pub mod ByPlaces
+pub mod ByPlacesDirty
