@@ -52,3 +52,7 @@ pub mod CleanPages
 pub mod WholeFacts
 pub mod PlacesSteps
 pub mod PlacesDirty
+pub mod PlacesLast
+pub mod PlacesBytes
+pub mod PlacesResident
+pub mod PlacesImage

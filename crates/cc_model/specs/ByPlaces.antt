@@ -101,3 +101,12 @@ pub record LastPlace (test : Effect → List Effect → Bool) (h : List Effect) 
   pub places : h ≡ later ++ effect ∷ before
   pub passes : test effect before ≡ true
   pub last : some_effect test later (effect ∷ before) ≡ false
+
+-- A place of the history whose effect brings something about, with no later effect that takes it away.
+pub record SincePlace (brings takes : Effect → List Effect → Bool) (h : List Effect) : Type 0 where
+  pub later : List Effect
+  pub effect : Effect
+  pub before : List Effect
+  pub places : h ≡ later ++ effect ∷ before
+  pub brings_it : brings effect before ≡ true
+  pub kept : some_effect takes later (effect ∷ before) ≡ false

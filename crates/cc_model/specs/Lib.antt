@@ -39,3 +39,5 @@ pub mod Laws
 pub mod Facts
 pub mod ByPlaces
 pub mod ByPlacesDirty
+pub mod ByPlacesResident
+pub mod ByPlacesImage
