@@ -56,3 +56,4 @@ pub mod PlacesLast
 pub mod PlacesBytes
 pub mod PlacesResident
 pub mod PlacesImage
+pub mod PlacesSizes

@@ -1,12 +1,9 @@
--- Resident pages and the two sizes, said of places of a history.
-use Rattle.std.specs.Prelude.{◌≡◌, ℕ, ◌+◌, Bool, true, false, not, ◌==◌, ◌&&◌, ◌||◌, nat_lt, nat_le, List, ◌∷◌, length}
-use Rattle.std.specs.declared.option.Option.{Option}
-use Rattle.std.specs.declared.option.Option.TheVariants.{Some, None}
-use Rattle.cc_model.specs.History.{Effect, Did, CameIn, WentOut, Began, Ended, Synced}
-use Rattle.cc_model.specs.Acts.{Act, act_of, Opens, Closes, Resizes, Writes, Zeroes, Stores, Stamps, Looks}
-use Rattle.cc_model.specs.Sizes.{stored_range}
-use Rattle.cc_model.specs.Touches.{size_of, is_mapped}
-use Rattle.cc_model.specs.ByPlaces.{act_size, size_step, cuts_page}
+-- Resident pages, said of places of a history: since when a page is resident.
+use Rattle.std.specs.Prelude.{ℕ, Bool, true, false, not, ◌==◌, ◌&&◌, ◌||◌, List, ◌∷◌}
+use Rattle.cc_model.specs.History.{Effect, Did, CameIn, WentOut}
+use Rattle.cc_model.specs.Acts.{Act, act_of, Stores}
+use Rattle.cc_model.specs.Touches.{is_mapped}
+use Rattle.cc_model.specs.ByPlaces.{cuts_page}
 
 -- whether an effect brings the page in: a page-in, or a noncached store of it
 abbrev pub act_stores : ℕ → Act → Bool
@@ -30,45 +27,3 @@ comes_in p e h = is_mapped (e ∷ h) && brings_in p e
 -- the page goes out, or a size step takes it away, or the map goes
 abbrev pub goes_away : ℕ → Effect → List Effect → Bool
 goes_away p e h = takes_out p e || (cuts_page p e h || not (is_mapped (e ∷ h)))
-
--- the size that an effect sets: that of an initialise that makes the map, or of a size step
-abbrev pub act_sets : Act → List Effect → Option ℕ
-act_sets (Opens file given quota temporary) h = elim (is_mapped h) [ true ↦ None | false ↦ Some given.size ]
-act_sets other h = act_size other h
-
-abbrev pub size_set : Effect → List Effect → Option ℕ
-size_set (Did pass call reply) h = act_sets (act_of call) h
-size_set other h = None
-
-abbrev pub is_set : Option ℕ → Bool
-is_set None = false
-is_set (Some size) = true
-
-abbrev pub sets_size : Effect → List Effect → Bool
-sets_size e h = is_set (size_set e h)
-
--- whether an effect makes the byte at i valid: it ends past it, as a change does, or makes the map so
-abbrev pub act_validates : ℕ → Act → List Effect → Bool
-act_validates i (Opens file given quota temporary) h = not (is_mapped h) && nat_lt i given.valid
-act_validates i (Writes at bytes) h = nat_lt i (at + length bytes)
-act_validates i (Zeroes from to) h = nat_lt i to
-act_validates i (Stores page bytes) h = nat_lt i (stored_range page (size_of h)).to
-act_validates i other h = false
-
-abbrev pub validates : ℕ → Effect → List Effect → Bool
-validates i (Did pass call reply) h = act_validates i (act_of call) h
-validates i other h = false
-
--- whether an effect takes the byte at i from the valid ones: it makes the map anew with fewer, or sets
--- a size at the byte or below
-abbrev pub sets_below : Option ℕ → ℕ → Bool
-sets_below None i = false
-sets_below (Some to) i = nat_le to i
-
-abbrev pub act_invalidates : ℕ → Act → List Effect → Bool
-act_invalidates i (Opens file given quota temporary) h = not (is_mapped h)
-act_invalidates i other h = sets_below (act_size other h) i
-
-abbrev pub invalidates : ℕ → Effect → List Effect → Bool
-invalidates i (Did pass call reply) h = act_invalidates i (act_of call) h
-invalidates i other h = false

@@ -40,4 +40,5 @@ pub mod Facts
 pub mod ByPlaces
 pub mod ByPlacesDirty
 pub mod ByPlacesResident
+pub mod ByPlacesSizes
 pub mod ByPlacesImage

@@ -4,13 +4,14 @@
 ghost use Rattle.std.specs.Prelude.{◌≡◌, ◌↔◌, ◌⊎◌, ℕ, ◌/◌, ◌%◌, ◌<◌, ◌≤◌, true, false, Some, List, [], slice_index};
 ghost use Rattle.cc_model.specs.History.{Effect};
 ghost use Rattle.cc_model.specs.Sizes.{Touch};
-ghost use Rattle.cc_model.specs.Touches.{valid_of, unwritten, is_dirty};
+ghost use Rattle.cc_model.specs.Touches.{size_of, valid_of, unwritten, is_dirty};
 ghost use Rattle.cc_model.specs.Bytes.{byte_of};
 ghost use Rattle.cc_model.specs.Residency.{is_resident};
 ghost use Rattle.cc_model.specs.Images.{image};
 ghost use Rattle.cc_model.specs.ByPlaces.{some_effect, changes_byte, byte_given, ends_well, LastPlace, SincePlace};
 ghost use Rattle.cc_model.specs.ByPlacesDirty.{IsTouch, Has, is_newest_first};
 ghost use Rattle.cc_model.specs.ByPlacesResident.{comes_in, goes_away};
+ghost use Rattle.cc_model.specs.ByPlacesSizes.{size_set, sets_size, validates, invalidates};
 ghost use Rattle.cc_model.specs.ByPlacesImage.{LastTransfer, ends_begun, left_by};
 
 /// A page is dirty exactly where some touch of it is neither written nor cut. The touches that are
@@ -48,4 +49,14 @@ pub fn images_by_places()
         some_effect (ends_begun p) h [] ≡ false → image pages h p ≡ Some (pages p) }
     ensures one_of_both { (h : List Effect) (p : ℕ) →
         LastTransfer h p ⊎ (some_effect (ends_begun p) h [] ≡ false) }
+{}
+
+/// The size is what the last of the initialises that made the map and the size steps set, or 0 before
+/// the first. A byte is below the valid data length exactly where a change ended past it, or an
+/// initialise made the map so, and since then no map was made anew and no size step went to it or below.
+pub fn sizes_by_places()
+    ensures set { (h : List Effect) (k : LastPlace sets_size h) → Some (size_of h) ≡ size_set k.effect k.before }
+    ensures opening { (h : List Effect) → some_effect sets_size h [] ≡ false → size_of h ≡ 0 }
+    ensures one_of_both { (h : List Effect) → LastPlace sets_size h ⊎ (some_effect sets_size h [] ≡ false) }
+    ensures valid { (h : List Effect) (i : ℕ) → (i < valid_of h) ↔ SincePlace (validates i) (invalidates i) h }
 {}
