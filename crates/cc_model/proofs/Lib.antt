@@ -57,3 +57,4 @@ pub mod PlacesBytes
 pub mod PlacesResident
 pub mod PlacesImage
 pub mod PlacesSizes
+pub mod PlacesTouches

@@ -1,9 +1,27 @@
 -- Dirty, said of places of a history: some touch of the page is neither written nor cut.
-use Rattle.std.specs.Prelude.{◌≡◌, ℕ, suc, Bool, true, false, ◌&&◌, nat_lt, List, [], ◌∷◌, ◌++◌, length}
+use Rattle.std.specs.Prelude.{◌≡◌, ℕ, suc, ◌+◌, ◌*◌, ◌<◌, ◌≤◌, Bool, true, false, ◌&&◌, nat_lt, List, [], ◌∷◌, ◌++◌, length}
 use Rattle.std.specs.List.{list_all}
-use Rattle.cc_model.specs.History.{Effect}
-use Rattle.cc_model.specs.Sizes.{Touch}
-use Rattle.cc_model.specs.ByPlaces.{some_effect, touches_page, lsn_of_touch, cuts_page, begins, ends_well}
+use Rattle.cc_model.specs.History.{Effect, Did}
+use Rattle.cc_model.specs.Acts.{Act, act_of, Stamps}
+use Rattle.cc_model.specs.Holds.{holds_of, hold_at}
+use Rattle.cc_model.specs.Sizes.{Touch, hold_has}
+use Rattle.cc_model.specs.ByPlaces.{some_effect, touches_page, changes_byte, lsn_of_touch, cuts_page, begins, ends_well}
+
+-- a byte of the page that an effect changes
+pub record ChangedByte (p : ℕ) (e : Effect) (h : List Effect) : Type 0 where
+  pub byte : ℕ
+  pub low : 4096 * p ≤ byte
+  pub high : byte < 4096 * p + 4096
+  pub changes_it : changes_byte byte e h ≡ true
+
+-- whether an effect is a set-dirty whose hold has the page
+abbrev pub act_stamps : ℕ → Act → List Effect → Bool
+act_stamps p (Stamps hold lsn) h = hold_has (hold_at (holds_of h) hold) p
+act_stamps p other h = false
+
+abbrev pub stamps_page : ℕ → Effect → List Effect → Bool
+stamps_page p (Did pass call reply) h = act_stamps p (act_of call) h
+stamps_page p other h = false
 
 -- A transfer of the page that began after a place and ended well: its begin, and after it a good end,
 -- with no other begin of the page between.

@@ -8,11 +8,17 @@ ghost use Rattle.cc_model.specs.Touches.{size_of, valid_of, unwritten, is_dirty}
 ghost use Rattle.cc_model.specs.Bytes.{byte_of};
 ghost use Rattle.cc_model.specs.Residency.{is_resident};
 ghost use Rattle.cc_model.specs.Images.{image};
-ghost use Rattle.cc_model.specs.ByPlaces.{some_effect, changes_byte, byte_given, ends_well, LastPlace, SincePlace};
-ghost use Rattle.cc_model.specs.ByPlacesDirty.{IsTouch, Has, is_newest_first};
+ghost use Rattle.cc_model.specs.ByPlaces.{some_effect, touches_page, changes_byte, byte_given, ends_well, LastPlace, SincePlace};
+ghost use Rattle.cc_model.specs.ByPlacesDirty.{ChangedByte, stamps_page, IsTouch, Has, is_newest_first};
 ghost use Rattle.cc_model.specs.ByPlacesResident.{comes_in, goes_away};
 ghost use Rattle.cc_model.specs.ByPlacesSizes.{size_set, sets_size, validates, invalidates};
 ghost use Rattle.cc_model.specs.ByPlacesImage.{LastTransfer, ends_begun, left_by};
+
+/// An effect touches a page exactly where it changes a byte of it or is a set-dirty whose hold has it.
+pub fn touches_by_bytes()
+    ensures { (e : Effect) (h : List Effect) (p : ℕ) →
+        (touches_page p e h ≡ true) ↔ (ChangedByte p e h ⊎ (stamps_page p e h ≡ true)) }
+{}
 
 /// A page is dirty exactly where some touch of it is neither written nor cut. The touches that are
 /// left are exactly these, newest first.
