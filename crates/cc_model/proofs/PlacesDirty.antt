@@ -1,5 +1,5 @@
 -- Dirty by places.
-use Rattle.std.specs.Prelude.{◌≡◌, ℕ, suc, ◌<◌, ◌≤◌, Bool, true, false, not, ◌&&◌, ◌||◌, ◌⊎◌, ◌↔◌, cond, nat_lt, List, [], ◌∷◌, ◌++◌, length, refl}
+use Rattle.std.specs.Prelude.{◌≡◌, ℕ, suc, ◌<◌, ◌≤◌, Bool, true, false, not, ◌&&◌, ◌||◌, ◌↔◌, cond, nat_lt, List, [], ◌∷◌, ◌++◌, length, refl}
 use Rattle.std.specs.List.{list_all}
 use Rattle.std.specs.declared.option.Option.{Option}
 use Rattle.std.proofs.Common.{ap, sym, subst, ◌∙◌, arith}
@@ -144,7 +144,13 @@ unwritten-places h p t = (there_is, has)
     there_is it =
         let k = IsLeft-has false h p t it in
         record {
-          later = k.later; effect = k.effect; before = k.before; places = k.places; touches_it = k.touches_it; is = k.is; uncut = k.uncut;
+          later = k.later;
+          effect = k.effect;
+          before = k.before;
+          places = k.places;
+          touches_it = k.touches_it;
+          is = k.is;
+          uncut = k.uncut;
           unwritten = λ w. absurd (cc (k.unwritten, writes-IsWritten k.later p w));
         }
 

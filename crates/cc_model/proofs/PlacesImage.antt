@@ -3,16 +3,14 @@ use Rattle.std.specs.Prelude.{◌≡◌, ℕ, Bool, true, false, ◌==◌, ◌&&
 use Rattle.std.specs.declared.option.Option.{Option}
 use Rattle.std.specs.declared.option.Option.TheVariants.{Some, None}
 use Rattle.std.proofs.Common.{ap, sym, ◌∙◌, inl, inr}
-use Rattle.std.proofs.lemmas.Bool.{and_parts, or_parts, or_from, or_left, or_right, cond-true, cond-false}
-use Rattle.cc_entry.specs.declared.entry.End.{End}
+use Rattle.std.proofs.lemmas.Bool.{or_parts, or_from, or_left, or_right, cond-true, cond-false}
 use Rattle.cc_model.specs.History.{Effect, Did, CameIn, WentOut, Began, Ended, Synced}
 use Rattle.cc_model.specs.Sizes.{is_good}
-use Rattle.cc_model.specs.Bytes.{page_bytes}
 use Rattle.cc_model.specs.Images.{begun, image_after, image}
 use Rattle.cc_model.specs.ByPlaces.{some_effect, begins, ends, ends_well, LastPlace}
 use Rattle.cc_model.specs.ByPlacesImage.{LastTransfer, ends_begun, left_by}
 use Rattle.cc_model.proofs.ImageSteps.{image-ended_page, image-ended_other, begun-began_page, begun-began_other}
-use Rattle.cc_model.proofs.PlacesLast.{some-first, last-place, last-or-none}
+use Rattle.cc_model.proofs.PlacesLast.{some-first, last-place}
 
 begun-effect : (e : Effect) (h : List Effect) (p : ℕ) → begun (e ∷ h) p ≡ cond (begins p e) (Some h) (begun h p)
 unfolding begun
@@ -104,17 +102,31 @@ LastTransfer-has (e ∷ h) p is = go (ends p e) (some_effect (λ b before. begin
     later : ends p e ≡ false → LastTransfer h p → LastTransfer (e ∷ h) p
     later other k =
         record {
-          after = e ∷ k.after; its_end = k.its_end; between = k.between; begin = k.begin; front = k.front;
-          places = ap (λ (g : List Effect). e ∷ g) k.places; begins_it = k.begins_it; ends_it = k.ends_it;
-          last = or_from _ _ other k.last; same_transfer = k.same_transfer;
+          after = e ∷ k.after;
+          its_end = k.its_end;
+          between = k.between;
+          begin = k.begin;
+          front = k.front;
+          places = ap (λ (g : List Effect). e ∷ g) k.places;
+          begins_it = k.begins_it;
+          ends_it = k.ends_it;
+          last = or_from _ _ other k.last;
+          same_transfer = k.same_transfer;
         }
 
     here : ends p e ≡ true → LastPlace (λ b before. begins p b) h → LastTransfer (e ∷ h) p
     here ends_it k =
         record {
-          after = []; its_end = e; between = k.later; begin = k.effect; front = k.before;
-          places = ap (λ (g : List Effect). e ∷ g) k.places; begins_it = k.passes; ends_it = ends_it;
-          last = refl; same_transfer = k.last;
+          after = [];
+          its_end = e;
+          between = k.later;
+          begin = k.effect;
+          front = k.before;
+          places = ap (λ (g : List Effect). e ∷ g) k.places;
+          begins_it = k.passes;
+          ends_it = ends_it;
+          last = refl;
+          same_transfer = k.last;
         }
 
     go : (a b : Bool) → ends p e ≡ a → some_effect (λ x before. begins p x) h [] ≡ b → (ends_begun p e h || some_effect (ends_begun p) h []) ≡ true → (some_effect (ends_begun p) h [] ≡ true → LastTransfer h p) → LastTransfer (e ∷ h) p

@@ -1,5 +1,5 @@
 -- Last places, and places since which something holds.
-use Rattle.std.specs.Prelude.{◌≡◌, ℕ, Bool, true, false, not, ◌&&◌, ◌||◌, ◌⊎◌, ◌↔◌, List, [], ◌∷◌, ◌++◌, refl}
+use Rattle.std.specs.Prelude.{◌≡◌, Bool, true, false, not, ◌&&◌, ◌||◌, ◌⊎◌, ◌↔◌, List, [], ◌∷◌, ◌++◌, refl}
 use Rattle.std.proofs.Common.{ap, sym, subst, ◌∙◌, append-nil, inl, inr}
 use Rattle.std.proofs.lemmas.Bool.{or_parts, or_from, or_left, or_right}
 use Rattle.cc_model.specs.History.{Effect}
@@ -13,7 +13,10 @@ module _ (test : Effect → List Effect → Bool) where
   last-later : (e : Effect) (h : List Effect) → test e h ≡ false → LastPlace test h → LastPlace test (e ∷ h)
   last-later e h past k =
       record {
-        later = e ∷ k.later; effect = k.effect; before = k.before; passes = k.passes;
+        later = e ∷ k.later;
+        effect = k.effect;
+        before = k.before;
+        passes = k.passes;
         places = ap (λ (g : List Effect). e ∷ g) k.places;
         last = or_from _ _ (subst (λ (g : List Effect). test e g ≡ false) k.places past) k.last;
       }
@@ -42,7 +45,10 @@ module _ (holds : List Effect → Bool) (brings takes : Effect → List Effect �
   since-later : (e : Effect) (h : List Effect) → takes e h ≡ false → SincePlace brings takes h → SincePlace brings takes (e ∷ h)
   since-later e h kept k =
       record {
-        later = e ∷ k.later; effect = k.effect; before = k.before; brings_it = k.brings_it;
+        later = e ∷ k.later;
+        effect = k.effect;
+        before = k.before;
+        brings_it = k.brings_it;
         places = ap (λ (g : List Effect). e ∷ g) k.places;
         kept = or_from _ _ (subst (λ (g : List Effect). takes e g ≡ false) k.places kept) k.kept;
       }

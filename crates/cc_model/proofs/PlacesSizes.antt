@@ -8,7 +8,7 @@ use Rattle.cc_entry.specs.declared.place.FileSizes.{FileSizes}
 use Rattle.cc_model.specs.History.{Effect, Did, CameIn, WentOut, Began, Ended, Synced}
 use Rattle.cc_model.specs.Acts.{Act, act_of, Opens, Closes, Resizes, Writes, Zeroes, Stores, Stamps, Looks}
 use Rattle.cc_model.specs.Objects.{objects, truncation}
-use Rattle.cc_model.specs.Sizes.{Sizes, resized, resized_by, stored_range}
+use Rattle.cc_model.specs.Sizes.{Sizes, resized_by, stored_range}
 use Rattle.cc_model.specs.Touches.{sizes, size_of, valid_of, is_mapped}
 use Rattle.cc_model.specs.ByPlaces.{some_effect, LastPlace, SincePlace}
 use Rattle.cc_model.specs.ByPlacesSizes.{act_sets, size_set, is_set, sets_size, sets_below, act_validates, validates, act_invalidates, invalidates}

@@ -1,18 +1,16 @@
 -- How the definitions of a stream step at an effect, in the words for places.
-use Rattle.std.specs.Prelude.{◌≡◌, ℕ, suc, ◌+◌, ◌-◌, ◌*◌, Bool, true, false, ◌==◌, ◌&&◌, ◌||◌, cond, nat_le, List, [], ◌∷◌, ◌++◌, length, slice_index, refl}
-use Rattle.std.proofs.Common.{ap, sym, ◌∙◌}
+use Rattle.std.specs.Prelude.{◌≡◌, ℕ, suc, ◌+◌, ◌-◌, ◌*◌, Bool, true, false, ◌==◌, ◌&&◌, ◌||◌, cond, List, [], ◌∷◌, length, slice_index, refl}
+use Rattle.std.proofs.Common.{ap, ◌∙◌}
 use Rattle.std.specs.declared.option.Option.{Option}
 use Rattle.std.specs.declared.option.Option.TheVariants.{Some, None}
-use Rattle.cc_entry.specs.declared.call.Call.{Call}
-use Rattle.cc_entry.specs.declared.reply.Reply.{Reply}
-use Rattle.cc_model.specs.Places.{has_byte, has_page}
+use Rattle.cc_model.specs.Places.{has_byte}
 use Rattle.cc_model.specs.History.{Effect, Did, CameIn, WentOut, Began, Ended, Synced}
 use Rattle.cc_model.specs.Acts.{Act, act_of, Opens, Closes, Resizes, Writes, Zeroes, Stores, Stamps, Looks}
 use Rattle.cc_model.specs.Objects.{objects, truncation}
-use Rattle.cc_model.specs.Sizes.{Touch, touched_if, cut_if, stored_range, is_good}
+use Rattle.cc_model.specs.Sizes.{Touch, touched_if, cut_if, stored_range}
 use Rattle.cc_model.specs.Touches.{touches, size_of}
 use Rattle.cc_model.specs.Bytes.{content}
-use Rattle.cc_model.specs.ByPlaces.{act_touches, act_lsn, act_size, act_changes, act_gives, touches_page, lsn_of_touch, size_step, changes_byte, byte_given, is_past, cuts_page, begins, ends, ends_well}
+use Rattle.cc_model.specs.ByPlaces.{act_touches, act_lsn, act_size, act_changes, act_gives, touches_page, lsn_of_touch, changes_byte, byte_given, is_past, cuts_page, begins, ends_well}
 use Rattle.cc_model.proofs.ActSteps.{touches_by, touches-done, content_by, content-done}
 
 cut-past : (o : Option ℕ) (p : ℕ) (ts : List Touch) → cut_if o p ts ≡ cond (is_past o p) [] ts
@@ -33,7 +31,7 @@ act-step ended Looks h p = refl
 abbrev pub touches_after : Bool → Effect → List Effect → ℕ → List Touch
 touches_after ended e h p =
     touched_if (touches_page p e h) (suc (length h)) (lsn_of_touch e)
-        (cond (cuts_page p e h) [] (cond (ended && begins p e) [] (touches (ended || ends_well p e) h p)))
+    (cond (cuts_page p e h) [] (cond (ended && begins p e) [] (touches (ended || ends_well p e) h p)))
 
 -- an `elim` of a test, as `cond` has it
 abbrev chosen : {A : Type 0} → Bool → A → A → A

@@ -1,16 +1,14 @@
 -- A touch of a page is a change of a byte of it, or a set-dirty whose hold has it.
-use Rattle.std.specs.Prelude.{◌≡◌, ℕ, ◌+◌, ◌*◌, ◌<◌, ◌≤◌, Bool, true, false, ◌&&◌, ◌⊎◌, ◌↔◌, nat_lt, nat_le, max, List, length, refl}
+use Rattle.std.specs.Prelude.{◌≡◌, ℕ, ◌+◌, ◌*◌, ◌<◌, ◌≤◌, true, ◌⊎◌, ◌↔◌, nat_lt, nat_le, max, List, length}
 use Rattle.std.proofs.Common.{arith, inl, inr}
 use Rattle.std.proofs.lemmas.Bool.{and_parts, and_from, ltb-true, lt-ltb, leb-true, le-leb}
 use Rattle.cc_entry.specs.Place.{Range}
-use Rattle.cc_entry.specs.declared.call.Call.{Call}
-use Rattle.cc_entry.specs.declared.reply.Reply.{Reply}
 use Rattle.cc_model.specs.Places.{has_byte, has_page}
 use Rattle.cc_model.specs.History.{Effect, Did, CameIn, WentOut, Began, Ended, Synced}
 use Rattle.cc_model.specs.Acts.{Act, act_of, Opens, Closes, Resizes, Writes, Zeroes, Stores, Stamps, Looks}
 use Rattle.cc_model.specs.Sizes.{stored_range}
 use Rattle.cc_model.specs.Touches.{size_of}
-use Rattle.cc_model.specs.ByPlaces.{act_touches, act_changes, touches_page, changes_byte}
+use Rattle.cc_model.specs.ByPlaces.{act_touches, act_changes, touches_page}
 use Rattle.cc_model.specs.ByPlacesDirty.{ChangedByte, act_stamps, stamps_page}
 
 -- a byte of the page that the range has

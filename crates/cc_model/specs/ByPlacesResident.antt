@@ -1,5 +1,5 @@
 -- Resident pages, said of places of a history: since when a page is resident.
-use Rattle.std.specs.Prelude.{ℕ, Bool, true, false, not, ◌==◌, ◌&&◌, ◌||◌, List, ◌∷◌}
+use Rattle.std.specs.Prelude.{ℕ, Bool, false, not, ◌==◌, ◌&&◌, ◌||◌, List, ◌∷◌}
 use Rattle.cc_model.specs.History.{Effect, Did, CameIn, WentOut}
 use Rattle.cc_model.specs.Acts.{Act, act_of, Stores}
 use Rattle.cc_model.specs.Touches.{is_mapped}
