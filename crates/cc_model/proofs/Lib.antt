@@ -61,3 +61,11 @@ pub mod ViewsTaken
 pub mod BlockPages
 pub mod DirtyPages
 pub mod WholeFacts
+pub mod PlacesSteps
+pub mod PlacesDirty
+pub mod PlacesLast
+pub mod PlacesBytes
+pub mod PlacesResident
+pub mod PlacesImage
+pub mod PlacesSizes
+pub mod PlacesTouches

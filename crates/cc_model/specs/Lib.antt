@@ -37,3 +37,8 @@ pub mod Room
 pub mod Turns
 pub mod Laws
 pub mod Facts
+pub mod ByPlaces
+pub mod ByPlacesDirty
+pub mod ByPlacesResident
+pub mod ByPlacesSizes
+pub mod ByPlacesImage

@@ -1,6 +1,7 @@
 //! What a journal means.
 #![tactic(auto)]
 
+pub mod by_places;
 pub mod durability;
 pub mod laws;
 pub mod limits;
