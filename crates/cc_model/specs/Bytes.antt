@@ -14,15 +14,15 @@ unfoldable pub content : (ℕ → List ℕ) → List Effect → ℕ → ℕ
 content pages [] i = slice_index (pages (i / 4096)) (i % 4096)
 content pages (Did pass call reply ∷ h) i =
     elim (act_of call) [
-      Writes at bytes ↦
-        elim (has_byte (record { from = at; to = at + length bytes }) i) [ true ↦ slice_index bytes (i - at) | false ↦ content pages h i ]
-    | Zeroes from to ↦ elim (has_byte (record { from = from; to = to }) i) [ true ↦ 0 | false ↦ content pages h i ]
-    | Stores page bytes ↦
-        elim (has_byte (stored_range page (size_of h)) i) [
-          true ↦ slice_index bytes (i - 4096 * page)
-        | false ↦ content pages h i
-        ]
-    | _ ↦ content pages h i
+      | Writes at bytes ↦
+          elim (has_byte (record { from = at; to = at + length bytes }) i) [ true ↦ slice_index bytes (i - at) | false ↦ content pages h i ]
+      | Zeroes from to ↦ elim (has_byte (record { from = from; to = to }) i) [ true ↦ 0 | false ↦ content pages h i ]
+      | Stores page bytes ↦
+          elim (has_byte (stored_range page (size_of h)) i) [
+            | true ↦ slice_index bytes (i - 4096 * page)
+            | false ↦ content pages h i
+          ]
+      | _ ↦ content pages h i
     ]
 content pages (other ∷ h) i = content pages h i
 

@@ -27,8 +27,8 @@ unfoldable pub synced_after : ℕ → List Entry → ℕ → ℕ → Option Rang
 synced_after seen [] me s span = false
 synced_after seen (e ∷ past) me s span =
     elim (is_call_of me e) [
-      true ↦ false
-    | false ↦ (is_good_sync_of me s e && settled_since seen (history past s) span) || synced_after seen past me s span
+      | true ↦ false
+      | false ↦ (is_good_sync_of me s e && settled_since seen (history past s) span) || synced_after seen past me s span
     ]
 
 -- Whether a flush by the pass may be done: after its last call there is a good sync of its stream at

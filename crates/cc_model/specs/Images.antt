@@ -39,8 +39,8 @@ unfoldable pub image : (ℕ → List ℕ) → List Effect → ℕ → Option (Li
 image pages [] p = Some (pages p)
 image pages (Ended pass page how ∷ h) p =
     elim (page == p) [
-      true ↦ image_after pages p (begun h p) (is_good how) (image pages h p)
-    | false ↦ image pages h p
+      | true ↦ image_after pages p (begun h p) (is_good how) (image pages h p)
+      | false ↦ image pages h p
     ]
 image pages (other ∷ h) p = image pages h p
 
@@ -56,8 +56,8 @@ unfoldable pub crash_pages : (ℕ → List ℕ) → List Effect → ℕ → List
 crash_pages pages [] p = pages p ∷ []
 crash_pages pages (Began pass page ∷ h) p =
     elim (page == p) [
-      true ↦ crash_pages pages h p ++ page_bytes pages h p ∷ []
-    | false ↦ crash_pages pages h p
+      | true ↦ crash_pages pages h p ++ page_bytes pages h p ∷ []
+      | false ↦ crash_pages pages h p
     ]
 crash_pages pages (Synced pass how ∷ h) p = settled (is_good how) (image pages h p) (crash_pages pages h p)
 crash_pages pages (other ∷ h) p = crash_pages pages h p

@@ -13,9 +13,9 @@ unfoldable pub objects : List Effect → List ℕ
 objects [] = []
 objects (Did pass call reply ∷ h) =
     elim (act_of call) [
-      Opens file sizes quota temporary ↦ file.object ∷ without file.object (objects h)
-    | Closes file truncate ↦ without file.object (objects h)
-    | _ ↦ objects h
+      | Opens file sizes quota temporary ↦ file.object ∷ without file.object (objects h)
+      | Closes file truncate ↦ without file.object (objects h)
+      | _ ↦ objects h
     ]
 objects (other ∷ h) = objects h
 
@@ -24,8 +24,8 @@ unfoldable pub had_map : List Effect → Bool
 had_map [] = false
 had_map (Did pass call reply ∷ h) =
     elim (act_of call) [
-      Opens file sizes quota temporary ↦ true
-    | _ ↦ had_map h
+      | Opens file sizes quota temporary ↦ true
+      | _ ↦ had_map h
     ]
 had_map (other ∷ h) = had_map h
 

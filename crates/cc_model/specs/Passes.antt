@@ -111,6 +111,6 @@ unfoldable pub is_written_since : List Entry → ℕ → Page → Bool
 is_written_since [] me page = false
 is_written_since (e ∷ past) me page =
     elim (is_call_of me e) [
-      true ↦ false
-    | false ↦ is_good_end_of me page e || is_written_since past me page
+      | true ↦ false
+      | false ↦ is_good_end_of me page e || is_written_since past me page
     ]

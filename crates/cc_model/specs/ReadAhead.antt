@@ -56,8 +56,8 @@ ahead_of h file at len =
     let granule = granularity_of file.object h in
     let start = rounded_up (at + len) granule in
     if nat_lt 0 len
-        && (is_sequential at (reads_of file.object h)
-        && (not (has_no_read_ahead h)
-        && nat_lt start (size_of h)))
+    && (is_sequential at (reads_of file.object h)
+    && (not (has_no_read_ahead h)
+    && nat_lt start (size_of h)))
     then Some (record { file = file; at = start; len = min (start + granule) (size_of h) - start })
     else None

@@ -21,14 +21,14 @@ below (Some to) pages = filter (λ p. nat_lt (4096 * p) to) pages
 abbrev pub moved_by : Effect → List Effect → List ℕ → List ℕ
 moved_by (Did pass call reply) h pages =
     elim (act_of call) [
-      Closes file truncate ↦ below (truncation (objects h) (size_of h) file truncate) pages
-    | Resizes allocation size ↦ below (Some size) pages
-    | Stores page bytes ↦ page ∷ without page pages
-    | Opens file sizes quota temporary ↦ pages
-    | Writes at bytes ↦ pages
-    | Zeroes from to ↦ pages
-    | Stamps hold lsn ↦ pages
-    | Looks ↦ pages
+      | Closes file truncate ↦ below (truncation (objects h) (size_of h) file truncate) pages
+      | Resizes allocation size ↦ below (Some size) pages
+      | Stores page bytes ↦ page ∷ without page pages
+      | Opens file sizes quota temporary ↦ pages
+      | Writes at bytes ↦ pages
+      | Zeroes from to ↦ pages
+      | Stamps hold lsn ↦ pages
+      | Looks ↦ pages
     ]
 moved_by (CameIn pass page from_disk) h pages = page ∷ without page pages
 moved_by (WentOut pass page) h pages = without page pages

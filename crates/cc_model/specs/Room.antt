@@ -1,7 +1,7 @@
 -- Room in the journal: what is owed to entries that have to find a place later.
 use Rattle.std.specs.Prelude.{Option, Bool, ℕ, suc, ◌+◌, ◌-◌, true, false, not, ◌&&◌, List, [], ◌∷◌, length, is_some, if◌then◌else◌}
 use Rattle.std.specs.List.{sum_by}
-use Rattle.std.specs.Prelude.{Some, None}
+use Rattle.std.specs.Prelude.{Some}
 use Rattle.cc_entry.specs.declared.call.Call.{Call}
 use Rattle.cc_entry.specs.declared.call.Call.TheVariants as call
 use Rattle.cc_entry.specs.declared.entry.Entry.{Entry}
@@ -29,8 +29,8 @@ unfoldable pub stores_unfinished : List ℕ → List Entry → ℕ
 stores_unfinished seen [] = 0
 stores_unfinished seen (entry.Call pass nth stream call ended ∷ past) =
     elim (is_among pass seen) [
-      true ↦ stores_unfinished seen past
-    | false ↦ (if is_store call ended then 1 else 0) + stores_unfinished (pass ∷ seen) past
+      | true ↦ stores_unfinished seen past
+      | false ↦ (if is_store call ended then 1 else 0) + stores_unfinished (pass ∷ seen) past
     ]
 stores_unfinished seen (other ∷ past) = stores_unfinished seen past
 

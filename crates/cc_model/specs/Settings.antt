@@ -13,8 +13,8 @@ unfoldable pub quota_of : List Effect → ℕ
 quota_of [] = 0
 quota_of (Did pass call reply ∷ h) =
     elim (act_of call) [
-      Opens file sizes quota temporary ↦ elim (is_mapped h) [ true ↦ quota_of h | false ↦ quota ]
-    | _ ↦ quota_of h
+      | Opens file sizes quota temporary ↦ elim (is_mapped h) [ true ↦ quota_of h | false ↦ quota ]
+      | _ ↦ quota_of h
     ]
 quota_of (other ∷ h) = quota_of h
 
@@ -23,8 +23,8 @@ unfoldable pub is_temporary : List Effect → Bool
 is_temporary [] = false
 is_temporary (Did pass call reply ∷ h) =
     elim (act_of call) [
-      Opens file sizes quota temporary ↦ elim (is_mapped h) [ true ↦ is_temporary h | false ↦ temporary ]
-    | _ ↦ is_temporary h
+      | Opens file sizes quota temporary ↦ elim (is_mapped h) [ true ↦ is_temporary h | false ↦ temporary ]
+      | _ ↦ is_temporary h
     ]
 is_temporary (other ∷ h) = is_temporary h
 
@@ -33,9 +33,9 @@ unfoldable pub allocation_of : List Effect → ℕ
 allocation_of [] = 0
 allocation_of (Did pass call reply ∷ h) =
     elim (act_of call) [
-      Opens file sizes quota temporary ↦ elim (is_mapped h) [ true ↦ allocation_of h | false ↦ sizes.allocation ]
-    | Resizes allocation size ↦ allocation
-    | _ ↦ allocation_of h
+      | Opens file sizes quota temporary ↦ elim (is_mapped h) [ true ↦ allocation_of h | false ↦ sizes.allocation ]
+      | Resizes allocation size ↦ allocation
+      | _ ↦ allocation_of h
     ]
 allocation_of (other ∷ h) = allocation_of h
 

@@ -79,8 +79,8 @@ owed_pages holds = ascending (flat_map (λ hold. if is_pin hold.kind then flat_m
 abbrev pub row_of : ℕ → List Effect → ℕ → Option DirtyRow
 row_of s h p =
     elim (lsn_pair (oldest_of h p) (newest_of h p)) [
-      None ↦ None
-    | Some lsns ↦ Some (record { page = record { stream = s; page = p }; oldest = lsns.0; newest = lsns.1 })
+      | None ↦ None
+      | Some lsns ↦ Some (record { page = record { stream = s; page = p }; oldest = lsns.0; newest = lsns.1 })
     ]
 
 -- whether the log is the stream's

@@ -17,11 +17,11 @@ unfoldable pub touched : List Effect → List ℕ
 touched [] = []
 touched (Did pass call reply ∷ h) =
     elim (act_of call) [
-      Writes at bytes ↦ pages_of (record { from = at; to = at + length bytes }) ++ touched h
-    | Zeroes from to ↦ pages_of (record { from = from; to = to }) ++ touched h
-    | Stores page bytes ↦ page ∷ touched h
-    | Stamps hold lsn ↦ hold_pages (hold_at (holds_of h) hold) ++ touched h
-    | _ ↦ touched h
+      | Writes at bytes ↦ pages_of (record { from = at; to = at + length bytes }) ++ touched h
+      | Zeroes from to ↦ pages_of (record { from = from; to = to }) ++ touched h
+      | Stores page bytes ↦ page ∷ touched h
+      | Stamps hold lsn ↦ hold_pages (hold_at (holds_of h) hold) ++ touched h
+      | _ ↦ touched h
     ]
 touched (other ∷ h) = touched h
 
@@ -35,18 +35,18 @@ unfoldable mutual
   sizes [] = record { size = 0; valid = 0 }
   sizes (Did pass call reply ∷ h) =
       elim (act_of call) [
-        Opens file given quota temporary ↦
-          elim (maps_by (objects h) (touched h) (touches false h)) [
-            true ↦ sizes h
-          | false ↦ record { size = given.size; valid = given.valid }
-          ]
-      | Closes file truncate ↦ let before = sizes h in resized_by (truncation (objects h) before.size file truncate) before
-      | Resizes allocation size ↦ resized size (sizes h)
-      | Writes at bytes ↦ raised (at + length bytes) (sizes h)
-      | Zeroes from to ↦ raised to (sizes h)
-      | Stores page bytes ↦ let before = sizes h in raised (stored_range page before.size).to before
-      | Stamps hold lsn ↦ sizes h
-      | Looks ↦ sizes h
+        | Opens file given quota temporary ↦
+            elim (maps_by (objects h) (touched h) (touches false h)) [
+              | true ↦ sizes h
+              | false ↦ record { size = given.size; valid = given.valid }
+            ]
+        | Closes file truncate ↦ let before = sizes h in resized_by (truncation (objects h) before.size file truncate) before
+        | Resizes allocation size ↦ resized size (sizes h)
+        | Writes at bytes ↦ raised (at + length bytes) (sizes h)
+        | Zeroes from to ↦ raised to (sizes h)
+        | Stores page bytes ↦ let before = sizes h in raised (stored_range page before.size).to before
+        | Stamps hold lsn ↦ sizes h
+        | Looks ↦ sizes h
       ]
   sizes (CameIn pass page from_disk ∷ h) = sizes h
   sizes (WentOut pass page ∷ h) = sizes h
@@ -60,17 +60,17 @@ unfoldable mutual
   touches ended [] p = []
   touches ended (Did pass call reply ∷ h) p =
       elim (act_of call) [
-        Opens file given quota temporary ↦ touches ended h p
-      | Closes file truncate ↦ cut_if (truncation (objects h) (sizes h).size file truncate) p (touches ended h p)
-      | Resizes allocation size ↦ cut_if (Some size) p (touches ended h p)
-      | Writes at bytes ↦
-          touched_if (has_page (record { from = at; to = at + length bytes }) p) (suc (length h)) None (touches ended h p)
-      | Zeroes from to ↦
-          touched_if (has_page (record { from = from; to = to }) p) (suc (length h)) None (touches ended h p)
-      | Stores page bytes ↦
-          touched_if (has_page (stored_range page (sizes h).size) p) (suc (length h)) None (touches ended h p)
-      | Stamps hold lsn ↦ touched_if (hold_has (hold_at (holds_of h) hold) p) (suc (length h)) lsn (touches ended h p)
-      | Looks ↦ touches ended h p
+        | Opens file given quota temporary ↦ touches ended h p
+        | Closes file truncate ↦ cut_if (truncation (objects h) (sizes h).size file truncate) p (touches ended h p)
+        | Resizes allocation size ↦ cut_if (Some size) p (touches ended h p)
+        | Writes at bytes ↦
+            touched_if (has_page (record { from = at; to = at + length bytes }) p) (suc (length h)) None (touches ended h p)
+        | Zeroes from to ↦
+            touched_if (has_page (record { from = from; to = to }) p) (suc (length h)) None (touches ended h p)
+        | Stores page bytes ↦
+            touched_if (has_page (stored_range page (sizes h).size) p) (suc (length h)) None (touches ended h p)
+        | Stamps hold lsn ↦ touched_if (hold_has (hold_at (holds_of h) hold) p) (suc (length h)) lsn (touches ended h p)
+        | Looks ↦ touches ended h p
       ]
   touches ended (CameIn pass page from_disk ∷ h) p = touches ended h p
   touches ended (WentOut pass page ∷ h) p = touches ended h p
