@@ -1,6 +1,6 @@
 -- What holds of each element, and of each pair of elements, after one went in or out.
-use Rattle.std.proofs.Common.{◌≡◌, ℕ, zero, suc, ◌+◌, ◌<◌, ◌≤◌, List, [], ◌∷◌, ◌++◌, Option, None, Some, length, get_or, set, insert, remove, refl, ap, ◌∙◌, sym, subst, arith}
-use Rattle.std.proofs.lemmas.List.Elements.{All-cons, All-tail, All-set}
+use Rattle.std.proofs.Common.{◌≡◌, ℕ, zero, suc, ◌<◌, ◌≤◌, List, [], ◌∷◌, Some, length, get_or, set, insert, remove, subst, arith}
+use Rattle.std.proofs.lemmas.List.Elements.{All-cons, All-set}
 use Rattle.std.proofs.lemmas.List.Kept.{AllPairs-cons}
 use Rattle.std.specs.List.{slice_get, All, AllPairs}
 

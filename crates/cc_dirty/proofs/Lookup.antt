@@ -1,5 +1,5 @@
 -- A look-up after an element went in or out.
-use Rattle.std.proofs.Common.{◌≡◌, ◌≢◌, ℕ, zero, suc, ◌+◌, ◌<◌, ◌≤◌, Bool, true, false, cond, List, [], ◌∷◌, ◌++◌, Option, None, Some, length, get_or, set, insert, remove, refl, ap, ◌∙◌, sym, subst, arith}
+use Rattle.std.proofs.Common.{◌≡◌, ◌≢◌, ℕ, zero, suc, ◌<◌, ◌≤◌, Bool, true, false, cond, List, [], ◌∷◌, None, Some, length, get_or, set, insert, remove, refl, ap, subst, arith}
 use Rattle.std.specs.List.{find, filter, slice_get}
 
 module _ {X : Type 0} (p : X → Bool) where

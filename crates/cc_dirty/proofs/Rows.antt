@@ -1,10 +1,10 @@
 -- The row of a page, and what the edits leave.
-use Rattle.std.proofs.Common.{◌≡◌, ◌≢◌, ℕ, ◌+◌, ◌<◌, ◌≤◌, Bool, true, false, ◌&&◌, ◌||◌, not, List, Option, None, Some, length, get_or, set, insert, remove, inl, inr, refl, ap, ◌∙◌, sym, subst, arith}
+use Rattle.std.proofs.Common.{◌≡◌, ◌≢◌, ℕ, ◌<◌, ◌≤◌, Bool, true, false, not, List, Option, None, Some, length, get_or, set, insert, remove, inl, inr, refl, ap, ◌∙◌, sym, subst, arith}
 use Rattle.std.proofs.lemmas.Bool.{cases_lt}
 use Rattle.std.proofs.lemmas.Bool.Decides.{nat_tests}
 use Rattle.std.proofs.lemmas.List.Elements.{All-set}
 use Rattle.std.proofs.lemmas.List.Quantifiers.{all_pairs_remove}
-use Rattle.std.proofs.lemmas.Option.{slice_get_read, slice_get_within, slice_get-get_or}
+use Rattle.std.proofs.lemmas.Option.{slice_get_within, slice_get-get_or}
 use Rattle.std.proofs.lemmas.List.Elements.{All-filter}
 use Rattle.std.proofs.lemmas.List.Kept.{AllPairs-filter}
 use Rattle.std.specs.List.{slice_get, filter}
@@ -14,9 +14,9 @@ use Rattle.cc_dirty.specs.Order.{precedes, same_page, IsAscending, SplitsAt, is_
 use Rattle.cc_dirty.specs.Unwritten.{is_touched}
 use Rattle.cc_dirty.specs.Table.{row_of, KeepsOthers, Sound}
 use Rattle.cc_dirty.specs.declared.row.Row.{Row}
-use Rattle.cc_dirty.proofs.Search.{read-at, precedes-trans}
+use Rattle.cc_dirty.proofs.Search.{read-at}
 use Rattle.cc_dirty.proofs.Lookup.{find-none, find-at, find-insert, find-insert-other, find-remove, find-remove-other, find-set, find-set-other, fails-from_none, find-filter_kept, find-filter_cut}
-use Rattle.cc_dirty.proofs.Edits.{All-at, All-insert, All-remove, AllPairs-insert, AllPairs-set}
+use Rattle.cc_dirty.proofs.Edits.{All-insert, All-remove, AllPairs-insert, AllPairs-set}
 
 is_row : Page → Row → Bool
 is_row page r = same_page r.page page

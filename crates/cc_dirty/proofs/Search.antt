@@ -1,10 +1,10 @@
 -- A binary search: the rows below precede the page, and those from `high` on don't.
-use Rattle.std.proofs.Common.{◌≡◌, ℕ, ◌+◌, ◌<◌, ◌≤◌, Bool, true, false, ◌&&◌, ◌||◌, List, length, get_or, inl, inr, ap, ◌∙◌, sym, subst, arith}
+use Rattle.std.proofs.Common.{◌≡◌, ℕ, ◌+◌, ◌<◌, ◌≤◌, true, false, List, length, get_or, inl, inr, ap, ◌∙◌, sym, subst, arith}
 use Rattle.std.proofs.lemmas.Bool.{cases_lt}
 use Rattle.std.proofs.lemmas.Bool.Decides.{nat_tests}
 use Rattle.std.proofs.lemmas.List.{get_or_default}
 use Rattle.cc_entry.specs.Place.{Page}
-use Rattle.cc_dirty.specs.Order.{precedes, same_page, IsAscending, SplitsAt}
+use Rattle.cc_dirty.specs.Order.{precedes, same_page, IsAscending}
 use Rattle.cc_dirty.specs.declared.row.Row.{Row}
 
 pub precedes-trans : (a b c : Page) → precedes a b ≡ true → precedes b c ≡ true → precedes a c ≡ true

@@ -1,5 +1,5 @@
 -- The dirty page table.
-use Rattle.std.specs.Prelude.{◌≡◌, ℕ, ◌==◌, Bool, ◌&&◌, not, nat_le, true, false, All, List, Option, filter, find}
+use Rattle.std.specs.Prelude.{◌≡◌, ℕ, ◌==◌, Bool, true, false, All, List, Option, find}
 use Rattle.cc_entry.specs.Place.{Page}
 use Rattle.cc_dirty.specs.Order.{same_page, IsAscending}
 use Rattle.cc_dirty.specs.Unwritten.{is_touched}

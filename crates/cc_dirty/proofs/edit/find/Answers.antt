@@ -1,5 +1,4 @@
 use Rattle.std.proofs.Common.{◌≡◌, ◌<◌, ◌∙◌, true, subst, length, refl, sym, arith}
-use Rattle.std.specs.List.{slice_get}
 use Rattle.std.proofs.lemmas.Option.{slice_get_read}
 use Rattle.cc_dirty.specs.Unwritten.{is_touched}
 use Rattle.cc_dirty.specs.declared.row.Row.{Row}

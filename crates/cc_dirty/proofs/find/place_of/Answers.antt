@@ -1,4 +1,4 @@
-use Rattle.std.proofs.Common.{rules, ◌∙◌, sym, arith}
+use Rattle.std.proofs.Common.{rules, arith}
 use Rattle.cc_dirty.proofs.Search.{Between-upper, Between-lower}
 use Rattle.cc_dirty.proofs.find.place_of.Goals as goal
 

@@ -1,4 +1,4 @@
-use Rattle.std.proofs.Common.{◌≡◌, ◌≤◌, ◌-◌, length}
+use Rattle.std.proofs.Common.{◌-◌}
 use Rattle.cc_dirty.proofs.Search.{Between}
 use Rattle.cc_dirty.proofs.find.place_of.Given as goal
 

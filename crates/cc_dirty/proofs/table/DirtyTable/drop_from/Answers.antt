@@ -1,4 +1,4 @@
-use Rattle.std.proofs.Common.{rules, not, arith}
+use Rattle.std.proofs.Common.{not, arith}
 use Rattle.cc_dirty.specs.Order.{is_from}
 use Rattle.cc_dirty.proofs.Rows.{Sound-filter, row_of-cut, row_of-kept}
 use Rattle.cc_dirty.proofs.table.DirtyTable.drop_from.Goals as goal
