@@ -73,7 +73,7 @@ fn leaves(disk: &MemDisk, firsts: &[u8]) -> Result<bool, AllocError> {
             && may
                 .iter()
                 .zip(firsts)
-                .all(|(page, first)| page[0] == *first),
+                .all(|(page, first)| page.first() == Some(first)),
     )
 }
 
@@ -119,7 +119,7 @@ fn a_disk_with_pages_stops(rt: HostRuntime) -> Result<(), Fail> {
     assert_eq!(rt; (read(&mut disk, 1), read(&mut disk, 2)), (Ok(3), Ok(2)));
     assert_eq!(rt; calls(&mut disk, 5), (false, true, true));
     assert_eq!(rt; calls(&mut disk, 6), (true, true, true));
-    assert_eq!(rt; disk.page(3)[0], 5);
+    assert_eq!(rt; disk.page(3).first().copied(), Some(5));
     Ok(())
 }
 
