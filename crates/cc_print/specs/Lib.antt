@@ -1,0 +1,6 @@
+pub mod Pieces
+pub mod Answers
+pub mod Calls
+pub mod Entries
+pub mod Trace
+pub mod Text

@@ -1,0 +1,23 @@
+//! The text of a run: what a script's lines were answered, the journal, the dirty page table at the
+//! end, and the trace of what the disks and logs did.
+//!
+//! The text is a definition in specs/, by cases over answers, calls and entries, and every function
+//! here answers exactly its part of it, or want of memory. A stream that the script doesn't have is
+//! written without a name.
+//!
+//! It stands on cc_entry and cc_script; the program's runs stand on it.
+#![tactic(auto)]
+
+mod answer;
+mod call;
+mod entry;
+mod piece;
+mod table;
+mod text;
+mod trace;
+
+pub use table::TableRow;
+pub use text::text_of;
+
+#[cfg(test)]
+mod tests;
