@@ -37,3 +37,4 @@ pub mod Room
 pub mod Turns
 pub mod Laws
 pub mod Facts
+pub mod Events

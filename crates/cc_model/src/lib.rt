@@ -3,6 +3,7 @@
 
 pub mod durability;
 pub mod laws;
+pub mod readers;
 pub mod soundness;
 
 ghost use Rattle.std.specs.Prelude.{◌≡◌};
