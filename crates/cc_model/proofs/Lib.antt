@@ -50,3 +50,8 @@ pub mod KeptBytes
 pub mod OpenTransfers
 pub mod CleanPages
 pub mod WholeFacts
+pub mod ReaderSteps
+pub mod HoldPlaces
+pub mod TouchReads
+pub mod DirtyReads
+pub mod SizeReads
