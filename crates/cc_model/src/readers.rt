@@ -7,4 +7,5 @@ pub mod dirty;
 pub mod events;
 pub mod maps;
 pub mod sizes;
+pub mod stamps;
 pub mod touches;
