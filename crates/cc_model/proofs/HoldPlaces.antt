@@ -1,14 +1,12 @@
 -- The place of an open hold after what happened to the holds of a stream.
-use Rattle.std.specs.Prelude.{◌≡◌, ℕ, ◌+◌, Bool, true, false, ◌==◌, not, List, [], ◌∷◌, ◌++◌, if◌then◌else◌, refl}
+use Rattle.std.specs.Prelude.{◌≡◌, ℕ, Bool, true, false, ◌==◌, not, List, [], ◌∷◌, ◌++◌, if◌then◌else◌, refl}
 use Rattle.std.specs.declared.option.Option.{Option}
 use Rattle.std.specs.declared.option.Option.TheVariants.{Some, None}
 use Rattle.std.specs.List.{cons_option, filter}
 use Rattle.std.proofs.Common.{ap, sym, ◌∙◌, arith}
 use Rattle.std.proofs.lemmas.Bool.{eq-eqb, eqb-true, ne_eqb}
 use Rattle.std.proofs.lemmas.Bool.Decides.{nat_tests}
-use Rattle.cc_entry.specs.declared.call.Call.{Call}
 use Rattle.cc_entry.specs.declared.call.Call.TheVariants as call
-use Rattle.cc_entry.specs.declared.reply.Reply.{Reply}
 use Rattle.cc_entry.specs.declared.entry.Entry.{Entry}
 use Rattle.cc_model.specs.declared.readers.events.Holding.{Holding}
 use Rattle.cc_model.specs.declared.readers.events.Holding.TheVariants as holding
@@ -57,9 +55,11 @@ place_in-ended ended id (hold ∷ holds) = go (place_in-ended ended id holds) (h
     gone : (b : Bool) → (ended == id) ≡ b → hold.id ≡ ended → (if ended == id then None else place_in holds id) ≡ (if ended == id then None else place_in (hold ∷ holds) id)
     gone true is same = rw is refl
     gone false is same = ap (λ (place : Option (ℕ × ℕ)). if ended == id then None else place) (sym (place_in-cons hold holds id ∙ rw (same, is) refl))
+
     kept : (b : Bool) → (hold.id == id) ≡ b → (hold.id == ended) ≡ false → (if hold.id == id then Some (place_of hold) else (if ended == id then None else place_in holds id)) ≡ (if ended == id then None else place_in (hold ∷ holds) id)
     kept true is other = rw (is, tests_other hold.id ended id is other) refl
     kept false is other = rw is refl
+
     go : place_in (filter (λ it. not (it.id == ended)) holds) id ≡ (if ended == id then None else place_in holds id) → (b : Bool) → (hold.id == ended) ≡ b → place_in (filter (λ it. not (it.id == ended)) (hold ∷ holds)) id ≡ (if ended == id then None else place_in (hold ∷ holds) id)
     go before true is = rw is (before ∙ gone (ended == id) refl (eqb-true hold.id ended is))
     go before false is = rw is (place_in-cons hold (filter (λ it. not (it.id == ended)) holds) id ∙ (rw before refl ∙ kept (hold.id == id) refl is))

@@ -1,28 +1,24 @@
 -- What an entry does to the touches of a page, and to the pages that were ever touched.
-use Rattle.std.specs.Prelude.{◌≡◌, ℕ, suc, ◌+◌, ◌*◌, ◌<◌, ◌≤◌, Bool, true, false, ◌==◌, ◌&&◌, ◌||◌, not, nat_le, List, [], ◌∷◌, ◌++◌, length, take, slice_index, if◌then◌else◌, refl}
+use Rattle.std.specs.Prelude.{◌≡◌, ℕ, suc, ◌+◌, ◌*◌, ◌<◌, Bool, true, false, ◌==◌, ◌&&◌, nat_le, List, [], ◌∷◌, ◌++◌, length, take, slice_index, if◌then◌else◌, refl}
 use Rattle.std.specs.declared.option.Option.{Option}
 use Rattle.std.specs.declared.option.Option.TheVariants.{Some, None}
-use Rattle.std.specs.List.{cons_option, list_any}
+use Rattle.std.specs.List.{cons_option}
 use Rattle.std.proofs.Common.{ap, sym, ◌∙◌, arith}
 use Rattle.std.proofs.lemmas.List.{take-append-le, length-append, take_all, nil_from_length}
 use Rattle.std.proofs.lemmas.Bool.{lt-ltb}
-use Rattle.cc_entry.specs.declared.call.Call.{Call}
-use Rattle.cc_entry.specs.declared.reply.Reply.{Reply}
 use Rattle.cc_entry.specs.declared.entry.End.{End}
 use Rattle.cc_entry.specs.declared.entry.Entry.{Entry}
-use Rattle.cc_model.specs.declared.readers.events.Event.{Event}
-use Rattle.cc_model.specs.declared.readers.events.Event.TheVariants as event
 use Rattle.cc_model.specs.declared.readers.touches.Touching.{Touching}
 use Rattle.cc_model.specs.declared.readers.touches.Touching.TheVariants as touching
-use Rattle.cc_model.specs.Places.{is_among, without, is_empty, has_page, pages_of}
+use Rattle.cc_model.specs.Places.{is_among, without, has_page}
 use Rattle.cc_model.specs.History.{Effect, Did, CameIn, WentOut, Began, Ended, Synced, effect_of, history}
 use Rattle.cc_model.specs.Acts.{Act, act_of, Opens, Closes, Resizes, Writes, Zeroes, Stores, Stamps, Looks}
 use Rattle.cc_model.specs.Objects.{objects, truncation}
 use Rattle.cc_model.specs.Holds.{holds_of, hold_at}
-use Rattle.cc_model.specs.Sizes.{Touch, cut_if, touched_if, stored_range, hold_has, hold_pages, is_good}
-use Rattle.cc_model.specs.Touches.{touches, touched, size_of}
+use Rattle.cc_model.specs.Sizes.{cut_if, touched_if, stored_range, hold_has, is_good}
+use Rattle.cc_model.specs.Touches.{touches, size_of}
 use Rattle.cc_model.specs.Events.{event_of, event_of_act, effects, cut_by, touch_if, touching_of, touches_after, AreSizes}
-use Rattle.cc_model.proofs.ActSteps.{touches_by, touches-done, touched_by, touched-done}
+use Rattle.cc_model.proofs.ActSteps.{touches_by, touches-done}
 use Rattle.cc_model.proofs.ReaderSteps.{effects_back}
 
 cuts : (o : Option ℕ) (ended : Bool) (h : List Effect) (p : ℕ) → cut_if o p (touches ended h p) ≡ touches_after (cut_by o p) ended h p

@@ -15,51 +15,25 @@ pub enum Event {
     /// Nothing.
     Rests,
     /// A private cache map is made, and the shared one with these sizes where there is none.
-    Opens {
-        object: u8,
-        size: u64,
-        valid: u64,
-    },
+    Opens { object: u8, size: u64, valid: u64 },
     /// A private cache map goes.
-    Closes {
-        object: u8,
-        truncate: Option<u64>,
-    },
+    Closes { object: u8, truncate: Option<u64> },
     /// The size is set.
-    Resizes {
-        size: u64,
-    },
+    Resizes { size: u64 },
     /// The bytes from `from` up to, and without, `to` change.
-    Changes {
-        from: u128,
-        to: u128,
-    },
+    Changes { from: u128, to: u128 },
     /// A noncached page comes into the cache.
-    Stores {
-        page: u64,
-    },
+    Stores { page: u64 },
     /// The pages of a pin are made dirty.
-    Stamps {
-        hold: u64,
-        lsn: Option<Lsn>,
-    },
+    Stamps { hold: u64, lsn: Option<Lsn> },
     /// A page becomes resident.
-    CameIn {
-        page: u64,
-    },
+    CameIn { page: u64 },
     /// A page stops being resident.
-    WentOut {
-        page: u64,
-    },
+    WentOut { page: u64 },
     /// A page's transfer to the disk begins.
-    Began {
-        page: u64,
-    },
+    Began { page: u64 },
     /// That transfer ended, well or not.
-    Ended {
-        page: u64,
-        good: bool,
-    },
+    Ended { page: u64, good: bool },
 }
 
 /// What a call does once it is done.
@@ -211,20 +185,11 @@ pub enum Holding {
     /// Nothing.
     Rests,
     /// A hold of this place is made.
-    Makes {
-        id: u64,
-        at: u64,
-        len: u64,
-    },
+    Makes { id: u64, at: u64, len: u64 },
     /// A hold of another one's place is made.
-    Repins {
-        id: u64,
-        of: u64,
-    },
+    Repins { id: u64, of: u64 },
     /// A hold ends.
-    Ends {
-        id: u64,
-    },
+    Ends { id: u64 },
 }
 
 // The id in a reply.

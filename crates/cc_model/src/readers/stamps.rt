@@ -78,7 +78,11 @@ fn least(a: Option<Lsn>, b: Option<Lsn>) -> Option<Lsn>
     let Some(y) = b else {
         return a;
     };
-    if x.number() <= y.number() { Some(x) } else { Some(y) }
+    if x.number() <= y.number() {
+        Some(x)
+    } else {
+        Some(y)
+    }
 }
 
 // The greatest LSN of the touches that are neither written nor cut.
@@ -123,5 +127,9 @@ fn greatest(a: Option<Lsn>, b: Option<Lsn>) -> Option<Lsn>
     let Some(y) = b else {
         return a;
     };
-    if y.number() <= x.number() { Some(x) } else { Some(y) }
+    if y.number() <= x.number() {
+        Some(x)
+    } else {
+        Some(y)
+    }
 }

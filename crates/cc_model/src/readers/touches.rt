@@ -49,10 +49,7 @@ pub fn touching_by(
         Event::Changes { from, to } => Ok(touch(range_has(from, to, page), None)),
         Event::Stores { page: stored } => {
             let from = 4096 * u128::from(stored);
-            Ok(touch(
-                range_has(from, stored_end(stored, size), page),
-                None,
-            ))
+            Ok(touch(range_has(from, stored_end(stored, size), page), None))
         }
         Event::Stamps { hold, lsn } => Ok(stamp(rest, stream, hold, lsn, page)),
         Event::Began { page: begun } => {

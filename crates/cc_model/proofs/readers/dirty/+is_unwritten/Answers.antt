@@ -1,9 +1,8 @@
-use Rattle.std.proofs.Common.{◌≡◌, Bool, true, false, not, List, [], IfOk, sym, ◌∙◌, ap, subst, refl}
+use Rattle.std.proofs.Common.{◌≡◌, not, List, IfOk, sym, ◌∙◌, ap, subst}
 use Rattle.std.proofs.lemmas.List.{nil_from_length}
 use Rattle.cc_model.specs.declared.readers.touches.Touching.TheVariants as touching
 use Rattle.cc_model.specs.Places.{is_empty}
 use Rattle.cc_model.specs.Sizes.{Touch}
-use Rattle.cc_model.specs.Events.{effects}
 use Rattle.cc_model.proofs.TouchReads.{touches_back, touches_none, begins_ended, begins_open}
 use Rattle.cc_model.proofs.readers.dirty.+is_unwritten.Goals as goal
 

@@ -1,4 +1,4 @@
-use Rattle.std.proofs.Common.{◌≡◌, ◌-◌, ◌≤◌}
+use Rattle.std.proofs.Common.{◌≡◌, ◌-◌}
 use Rattle.std.specs.List.{list_any, range_with_len}
 use Rattle.cc_model.specs.Places.{pages_of}
 use Rattle.cc_model.specs.Touches.{is_dirty}

@@ -3,7 +3,6 @@ use Rattle.std.proofs.lemmas.List.{nil_from_length}
 use Rattle.cc_model.specs.declared.readers.touches.Touching.TheVariants as touching
 use Rattle.cc_model.specs.Stamps.{greatest_of, greatest_lsn}
 use Rattle.cc_model.specs.Sizes.{Touch}
-use Rattle.cc_model.specs.Events.{effects}
 use Rattle.cc_model.proofs.TouchReads.{touches_back, touches_none, begins_ended, begins_open}
 use Rattle.cc_model.proofs.readers.stamps.+greatest_unwritten.Goals as goal
 
