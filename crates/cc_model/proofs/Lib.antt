@@ -69,3 +69,8 @@ pub mod PlacesResident
 pub mod PlacesImage
 pub mod PlacesSizes
 pub mod PlacesTouches
+pub mod ReaderSteps
+pub mod HoldPlaces
+pub mod TouchReads
+pub mod DirtyReads
+pub mod SizeReads

@@ -42,3 +42,4 @@ pub mod ByPlacesDirty
 pub mod ByPlacesResident
 pub mod ByPlacesSizes
 pub mod ByPlacesImage
+pub mod Events

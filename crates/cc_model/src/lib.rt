@@ -17,4 +17,5 @@ pub mod by_places;
 pub mod durability;
 pub mod laws;
 pub mod limits;
+pub mod readers;
 pub mod soundness;

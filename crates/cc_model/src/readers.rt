@@ -1,0 +1,11 @@
+//! Readers: what the definitions say of a journal, computed.
+//!
+//! Each goes over the entries, oldest first, and answers what its definition gives. They are slow and
+//! plain on purpose: tests of the cache's parts compare with them.
+
+pub mod dirty;
+pub mod events;
+pub mod maps;
+pub mod sizes;
+pub mod stamps;
+pub mod touches;
