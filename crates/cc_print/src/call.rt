@@ -158,30 +158,61 @@ pub(crate) fn call_text(
     ensures { IfOk result (λ text. string_bytes text ≡ call_text streams.now call.now) }
 {
     match call {
-        Call::Initialise { file, sizes, quota, temporary } => {
-            initialise_text(alloc, streams, *file, *sizes, *quota, *temporary)
-        }
+        Call::Initialise {
+            file,
+            sizes,
+            quota,
+            temporary,
+        } => { initialise_text(alloc, streams, *file, *sizes, *quota, *temporary) }
         Call::Uninitialise { file, truncate } => {
             let size = number_if(alloc, *truncate)?;
             of_file(alloc, "uninit", streams, *file, size.as_str())
         }
-        Call::CopyRead { file, at, len, wait } => {
+        Call::CopyRead {
+            file,
+            at,
+            len,
+            wait,
+        } => {
             let nowait = word_if(!*wait, " nowait");
             of_file_numbers(alloc, "cread", streams, *file, (*at, *len), nowait)
         }
-        Call::CopyWrite { file, at, bytes } => of_file_bytes(alloc, "cwrite", streams, *file, *at, bytes),
+        Call::CopyWrite { file, at, bytes } => of_file_bytes(
+            alloc, "cwrite", streams, *file, *at, bytes,
+        ),
         Call::Zero { file, span } => {
             of_file_numbers(alloc, "zero", streams, *file, (span.from(), span.to()), "")
         }
-        Call::Map { file, at, len } => of_file_numbers(alloc, "map", streams, *file, (*at, *len), ""),
-        Call::PinRead { file, at, len, exclusive } => {
+        Call::Map { file, at, len } => of_file_numbers(
+            alloc,
+            "map",
+            streams,
+            *file,
+            (*at, *len),
+            "",
+        ),
+        Call::PinRead {
+            file,
+            at,
+            len,
+            exclusive,
+        } => {
             let exclusive = word_if(*exclusive, " excl");
             of_file_numbers(alloc, "pin", streams, *file, (*at, *len), exclusive)
         }
-        Call::PinMapped { hold, exclusive } => of_hold(alloc, "pinmapped", *hold, word_if(*exclusive, " excl")),
-        Call::PreparePin { file, at, len, zero, exclusive } => {
-            prepare_text(alloc, streams, *file, (*at, *len), *zero, *exclusive)
-        }
+        Call::PinMapped { hold, exclusive } => of_hold(
+            alloc,
+            "pinmapped",
+            *hold,
+            word_if(*exclusive, " excl"),
+        ),
+        Call::PreparePin {
+            file,
+            at,
+            len,
+            zero,
+            exclusive,
+        } => { prepare_text(alloc, streams, *file, (*at, *len), *zero, *exclusive) }
         Call::MappedRead { hold, at, len } => of_hold_numbers(alloc, "hread", *hold, *at, *len),
         Call::PinnedRead { hold, at, len } => of_hold_numbers(alloc, "hread", *hold, *at, *len),
         Call::PinnedWrite { hold, at, bytes } => of_hold_bytes(alloc, "pwrite", *hold, *at, bytes),
@@ -191,16 +222,34 @@ pub(crate) fn call_text(
         }
         Call::EndHold { hold } => of_hold(alloc, "unpin", *hold, ""),
         Call::Repin { hold } => of_hold(alloc, "repin", *hold, ""),
-        Call::MdlRead { file, at, len } => of_file_numbers(alloc, "mdlread", streams, *file, (*at, *len), ""),
-        Call::MdlWrite { file, at, len } => of_file_numbers(alloc, "mdlwrite", streams, *file, (*at, *len), ""),
+        Call::MdlRead { file, at, len } => of_file_numbers(
+            alloc,
+            "mdlread",
+            streams,
+            *file,
+            (*at, *len),
+            "",
+        ),
+        Call::MdlWrite { file, at, len } => of_file_numbers(
+            alloc,
+            "mdlwrite",
+            streams,
+            *file,
+            (*at, *len),
+            "",
+        ),
         Call::MdlBytes { hold, at, len } => of_hold_numbers(alloc, "mdlget", *hold, *at, *len),
         Call::MdlStore { hold, at, bytes } => of_hold_bytes(alloc, "mdlput", *hold, *at, bytes),
         Call::NcRead { file, page } => of_file_number(alloc, "ncread", streams, *file, *page),
-        Call::NcStore { file, page, bytes } => of_file_bytes(alloc, "ncstore", streams, *file, *page, bytes),
+        Call::NcStore { file, page, bytes } => of_file_bytes(
+            alloc, "ncstore", streams, *file, *page, bytes,
+        ),
         Call::NcWrite { file, page } => of_file_number(alloc, "ncwrite", streams, *file, *page),
-        Call::SetSizes { file, allocation, size } => {
-            of_file_numbers(alloc, "sizes", streams, *file, (*allocation, *size), "")
-        }
+        Call::SetSizes {
+            file,
+            allocation,
+            size,
+        } => { of_file_numbers(alloc, "sizes", streams, *file, (*allocation, *size), "") }
         Call::State { file } => of_file(alloc, "state", streams, *file, ""),
         Call::Flush { file, span } => {
             let span = span_if(alloc, *span)?;
@@ -210,17 +259,46 @@ pub(crate) fn call_text(
             let span = span_if(alloc, *span)?;
             of_file(alloc, "purge", streams, *file, span.as_str())
         }
-        Call::SetLog { file, handle } => of_file_number(alloc, "setlog", streams, *file, u64::from(*handle)),
+        Call::SetLog { file, handle } => of_file_number(
+            alloc,
+            "setlog",
+            streams,
+            *file,
+            u64::from(*handle),
+        ),
         Call::DirtyPages { handle } => format!(in alloc; "dirty {handle}"),
         Call::LsnForFile { file } => of_file(alloc, "lsns", streams, *file, ""),
         Call::IsDirtyData => String::from_str(alloc, "isdirty"),
-        Call::SetGranularity { file, bytes } => of_file_number(alloc, "granularity", streams, *file, *bytes),
-        Call::SetAttributes { file, no_read_ahead, no_write_behind } => {
+        Call::SetGranularity { file, bytes } => of_file_number(
+            alloc,
+            "granularity",
+            streams,
+            *file,
+            *bytes,
+        ),
+        Call::SetAttributes {
+            file,
+            no_read_ahead,
+            no_write_behind,
+        } => {
             let flags = (digit_of(*no_read_ahead), digit_of(*no_write_behind));
             of_file_numbers(alloc, "attributes", streams, *file, flags, "")
         }
-        Call::SetThreshold { file, pages } => of_file_number(alloc, "fthreshold", streams, *file, u64::from(*pages)),
-        Call::AskAhead { file, at, len } => of_file_numbers(alloc, "ask", streams, *file, (*at, *len), ""),
+        Call::SetThreshold { file, pages } => of_file_number(
+            alloc,
+            "fthreshold",
+            streams,
+            *file,
+            u64::from(*pages),
+        ),
+        Call::AskAhead { file, at, len } => of_file_numbers(
+            alloc,
+            "ask",
+            streams,
+            *file,
+            (*at, *len),
+            "",
+        ),
         Call::AheadStep { request } => request_text(alloc, streams, *request),
         Call::CanWrite { file, bytes } => of_file_number(alloc, "canwrite", streams, *file, *bytes),
     }

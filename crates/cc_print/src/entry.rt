@@ -119,10 +119,18 @@ pub(crate) fn entry_text(
     ensures { IfOk result (λ text. string_bytes text ≡ entry_text streams.now entry.now) }
 {
     match entry {
-        Entry::Call { pass, nth, call, outcome, .. } => {
-            called_text(alloc, streams, (*pass, *nth), call, outcome)
-        }
-        Entry::PageIn { page, from_disk, .. } => {
+        Entry::Call {
+            pass,
+            nth,
+            call,
+            outcome,
+            ..
+        } => { called_text(alloc, streams, (*pass, *nth), call, outcome) }
+        Entry::PageIn {
+            page,
+            from_disk,
+            ..
+        } => {
             let page = page_text(alloc, streams, *page)?;
             let source = if *from_disk { "disk" } else { "zero" };
             format!(in alloc; "in {page} {source}")
@@ -149,15 +157,24 @@ pub(crate) fn entry_text(
             let how = end_text(*how);
             format!(in alloc; "sync {pass} {name} {how}")
         }
-        Entry::Append { pass, handle, lsn, bytes } => appended_text(alloc, *pass, *handle, *lsn, bytes),
+        Entry::Append {
+            pass,
+            handle,
+            lsn,
+            bytes,
+        } => appended_text(alloc, *pass, *handle, *lsn, bytes),
         Entry::Flushed { handle, to, .. } => {
             let to = to.number();
             format!(in alloc; "flushed {handle} {to}")
         }
         Entry::LogFailed { pass, handle } => format!(in alloc; "logfailed {pass} {handle}"),
-        Entry::Defer { pass, id, file, pages, retrying } => {
-            deferred_text(alloc, streams, (*pass, *id), *file, *pages, *retrying)
-        }
+        Entry::Defer {
+            pass,
+            id,
+            file,
+            pages,
+            retrying,
+        } => { deferred_text(alloc, streams, (*pass, *id), *file, *pages, *retrying) }
         Entry::Posted { id } => format!(in alloc; "posted {id}"),
         Entry::Scan { pass, picked } => scan_text(alloc, streams, *pass, picked.as_slice()),
     }

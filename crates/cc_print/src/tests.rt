@@ -1,5 +1,7 @@
 //! Whole texts of runs that are written by hand.
 
+mod each;
+
 use super::*;
 use cc_entry::{
     Answer, Bytes, Call, CcError, DirtyRow, End, Entry, FileId, FileSizes, LineReply, Lsn, Outcome,
@@ -10,9 +12,11 @@ use std::alloc::Global;
 use std::test::Fail;
 
 fn script(alloc: Global, text: &str) -> Result<Script, Fail> {
-    Ok(read_offered(alloc, text.as_bytes(), Mode::Run, Offer::Whole)
-        .ok()
-        .ok_or("script")?)
+    Ok(
+        read_offered(alloc, text.as_bytes(), Mode::Run, Offer::Whole)
+            .ok()
+            .ok_or("script")?,
+    )
 }
 
 fn page(number: u64) -> Result<PageId, Fail> {
@@ -84,9 +88,11 @@ fn printed(
     journal: &[Entry],
     table: &[TableRow],
 ) -> Result<Vec<u8>, Fail> {
-    Ok(text_of(alloc, script, replies, journal, table)
-        .ok()
-        .ok_or("text")?)
+    Ok(
+        text_of(alloc, script, replies, journal, table)
+            .ok()
+            .ok_or("text")?,
+    )
 }
 
 const COPIES: &str = "setup

@@ -40,7 +40,12 @@ fn trace_call(
     ensures { IfOk result (λ text. string_bytes text ≡ trace_call streams.now call.now outcome.now) }
 {
     match call {
-        Call::NcRead { file, page } if has_read(outcome) => read_line(alloc, streams, file.stream(), *page),
+        Call::NcRead { file, page } if has_read(outcome) => read_line(
+            alloc,
+            streams,
+            file.stream(),
+            *page,
+        ),
         _ => Ok(String::new(alloc)),
     }
 }
@@ -55,9 +60,11 @@ pub(crate) fn trace_line(
 {
     match entry {
         Entry::Call { call, outcome, .. } => trace_call(alloc, streams, call, outcome),
-        Entry::PageIn { page, from_disk: true, .. } => {
-            read_line(alloc, streams, page.stream(), page.page())
-        }
+        Entry::PageIn {
+            page,
+            from_disk: true,
+            ..
+        } => { read_line(alloc, streams, page.stream(), page.page()) }
         Entry::FillFailed { page, .. } => {
             let page = page_text(alloc, streams, *page)?;
             format!(in alloc; "read {page} failed\n")
@@ -85,7 +92,10 @@ pub(crate) fn trace_line(
             format!(in alloc; "log {handle} flush {to}\n")
         }
         Entry::LogFailed { handle, .. } => format!(in alloc; "log {handle} failed\n"),
-        Entry::PageIn { from_disk: false, .. }
+        Entry::PageIn {
+            from_disk: false,
+            ..
+        }
         | Entry::PageOut { .. }
         | Entry::Defer { .. }
         | Entry::Posted { .. }
