@@ -1,12 +1,13 @@
 use Rattle.std.proofs.Common.{◌≡◌, ℕ, ◌+◌, ◌-◌, ◌<◌, ◌≤◌, zero, suc, Bool, true, false, cond, nat_eq, if◌then◌else◌, List, [], ◌∷◌, ◌++◌, length, drop, slice_get, position, Option, None, Some, is_some, unwrap_or, refl, sym, ap, subst, ◌∙◌, true≢false, arith, drop-cons}
 use Rattle.std.proofs.lemmas.Bool.{eqb-true}
 use Rattle.std.proofs.lemmas.Option.{slice_get_within, get_or_from_slice_get}
+use Rattle.std.specs.Cmp.{nat_eq_equiv}
 use Rattle.std.specs.List.{list_any, IsDistinct}
 use Rattle.std.specs.Map.{keys_of, values_of, lookup, lookup_key}
 use Rattle.std.specs.Option.{option_map_or}
 use Rattle.indexmap.specs.IndexMap.{move_index, set_value_at, insert_entry}
-use Rattle.indexmap.proofs.MapLemmas.{Found-position, Missing-position, remove_entry-first, insert_entry-first, some_index}
-use Rattle.indexmap.proofs.RemoveLemmas.{moved_last}
+use Rattle.indexmap.proofs.MapLemmas.{Found-position, Missing-position, remove_entry-first, insert_entry-first, index-first, some_index}
+use Rattle.indexmap.proofs.RemoveLemmas.{moved_last, own_first}
 use Rattle.cc_vacb.specs.Index.{Index}
 use Rattle.cc_views.specs.Views.{Pages, Mapped, blocks_of, frames_at, without, used, with_frames, first_not_in}
 use Rattle.cc_views.specs.Indexed.{IsIndexed}
@@ -46,6 +47,10 @@ key_is (x ∷ es) block k e = by (nat_eq block x.0) refl (key_is es block k) e
     by true p rest h = eqb-true block x.0 p ∙ same_some x.0 k h
     by false p rest h = rest h
 
+length-keys : (es : List (ℕ × Pages)) → length (keys_of es) ≡ length es
+length-keys [] = refl
+length-keys (e ∷ es) = ap suc (length-keys es)
+
 -- an entry, its key and its value at one place
 record At (es : List (ℕ × Pages)) (i : ℕ) : Type 0 where
   key : ℕ
@@ -60,6 +65,19 @@ at_entry (x ∷ es) zero h = record { key = x.0; value = x.1; entry = refl; at_k
 at_entry (x ∷ es) (suc i) h =
     let a = at_entry es i (omega arith) in
     record { key = a.key; value = a.value; entry = a.entry; at_key = a.at_key; at_value = a.at_value }
+
+-- a block stands at one place only
+pub place_is : (es : List (ℕ × Pages)) (i block : ℕ) → IsDistinct nat_eq (keys_of es) → slice_get (keys_of es) i ≡ Some block → position (nat_eq block) (keys_of es) ≡ Some i
+place_is es i block distinct at =
+    let within : i < length es = omega (arith, slice_get_within (keys_of es) i block at, length-keys es) in
+    let a = at_entry es i within in
+    let same : a.key ≡ block = same_some a.key block (sym a.at_key ∙ at) in
+    let first = own_first nat_eq nat_eq_equiv es i a.key a.value distinct a.entry in
+    subst (λ b. position (nat_eq b) (keys_of es) ≡ Some i) same (index-first (nat_eq a.key) es i first)
+
+-- the frames of a block stand at its place
+pub frames_there : (es : List (ℕ × Pages)) (block i : ℕ) → position (nat_eq block) (keys_of es) ≡ Some i → slice_get (values_of es) i ≡ lookup (nat_eq block) es
+frames_there es block i p = sym (Found-position (nat_eq block) es i p).value
 
 -- the entry of a mapped block, moved to the end
 pub moved : (es : List (ℕ × Pages)) (block i : ℕ) → position (nat_eq block) (keys_of es) ≡ Some i → move_index es i (length es - 1) ≡ used es block
@@ -101,10 +119,6 @@ pub keys-set : (es : List (ℕ × Pages)) (i : ℕ) (w : Pages) → keys_of (set
 keys-set [] i w = refl
 keys-set (e ∷ es) zero w = refl
 keys-set (e ∷ es) (suc i) w = ap (λ l. e.0 ∷ l) (keys-set es i w)
-
-length-keys : (es : List (ℕ × Pages)) → length (keys_of es) ≡ length es
-length-keys [] = refl
-length-keys (e ∷ es) = ap suc (length-keys es)
 
 -- so the index fits as before
 pub IsIndexed-set : (es : List (ℕ × Pages)) (quota size : ℕ) (index : Index) (i : ℕ) (w : Pages) → IsIndexed es quota size index → IsIndexed (set_value_at es i w) quota size index

@@ -8,3 +8,6 @@
 mod views;
 
 pub use views::Views;
+
+#[cfg(test)]
+mod tests;

@@ -1,6 +1,6 @@
 //! The views.
 
-ghost use Rattle.std.specs.Prelude.{◌≡◌, ℕ, ◌+◌, ◌<◌, ◌≤◌, [], length, IsSome, position, slice_get, nat_eq, IfOk, OnOk, OnErr, None, Some, is_some};
+ghost use Rattle.std.specs.Prelude.{◌≡◌, ℕ, ◌+◌, ◌<◌, ◌≤◌, [], length, IsSome, IsTrue, position, slice_get, nat_eq, IfOk, OnOk, OnErr, None, Some, is_some};
 ghost use Rattle.std.specs.Option.{option_copied, option_copied_mut};
 ghost use Rattle.std.specs.Borrow.{sem};
 ghost use Rattle.cc_vacb.specs.Index.{StartsBelow, Index, entry_at, levels_of, IsLeastLevels};
@@ -61,10 +61,9 @@ impl Views {
         ensures frames { option_copied result ≡ frames_at self.now block }
         ensures sound { IsSound self.now }
     {
-        if self.is_mapped(block) {
-            self.order.get(&block)
-        } else {
-            None
+        match self.place_of(block) {
+            Some(place) => Some(&self.order[place]),
+            None => None,
         }
     }
 
@@ -89,7 +88,7 @@ impl Views {
         ensures size { self.new.size ≡ self.old.size }
         ensures err { OnErr result (self.new ≡ self.old) }
     {
-        self.order.reserve(1).map_err(|_| NoMemory)?;
+        self.order.reserve(1)?;
         let place = self.order.len() as u16;
         self.index.put(block, place).map_err(|_| NoMemory)?;
         let _old = self.order.insert(block, Frames::new(self.alloc)).unwrap();
@@ -101,11 +100,13 @@ impl Views {
         ensures frames { result ≡ frames_at self.old block }
         ensures rest { self.new ≡ record self.old { views = without self.old.views block } }
     {
-        if !self.is_mapped(block) {
-            return None;
+        match self.view_of(block) {
+            Some(_) => {
+                self.index.take(block);
+                self.order.shift_remove(&block)
+            }
+            None => None,
         }
-        self.index.take(block);
-        self.order.shift_remove(&block)
     }
 
     /// The same blocks for another size of the stream.
@@ -168,34 +169,51 @@ impl Views {
         }
     }
 
-    // Where a mapped block stands in the order.
+    // Where a mapped block stands in the order. The index has the place that it had as it was mapped,
+    // and only if another block stands there now is it looked up by its hash.
     fn place_of(&self, block: u64) -> Option<usize>
         ensures { result ≡ position (nat_eq block) (blocks_of self.now) }
     {
-        if !self.is_mapped(block) {
-            return None;
+        match self.view_of(block) {
+            Some(view) => {
+                if self.is_at(view as usize, block) {
+                    Some(view as usize)
+                } else {
+                    self.order.get_index_of(&block)
+                }
+            }
+            None => None,
         }
-        self.order.get_index_of(&block)
     }
 
-    fn is_mapped(&self, block: u64) -> bool
-        ensures { result ≡ is_some (frames_at self.now block) }
+    fn is_at(&self, place: usize, block: u64) -> bool
+        ensures { IsTrue result → slice_get (blocks_of self.now) place ≡ Some block }
+    {
+        match self.order.get_index(place) {
+            Some((there, _)) => *there == block,
+            None => false,
+        }
+    }
+
+    // The view number of a block, if it is mapped.
+    fn view_of(&self, block: u64) -> Option<u16>
+        ensures { is_some result ≡ is_some (frames_at self.now block) }
     {
         if block as u128 * 262144 >= self.size as u128 {
-            return false;
+            return None;
         }
-        has_view::<Brand>(&self.index, block, Blank::new(1))
+        view_in::<Brand>(&self.index, block, Blank::new(1))
     }
 }
 
-// Whether the index has a view of a block. The visited index blocks are counted and the count is let go.
-fn has_view<L: Ledger>(index: &ViewIndex, block: u64, blank: Blank) -> bool
+// The view that the index has of a block. The count of the index blocks visited is let go.
+fn view_in<L: Ledger>(index: &ViewIndex, block: u64, blank: Blank) -> Option<u16>
     requires name { blank.name ≡ L.name }
     requires parts { blank.parts ≡ L.parts }
     requires some { 0 < blank.parts }
     requires starts { StartsBelow block index.now.size }
-    ensures { result ≡ is_some (entry_at index.now block) }
+    ensures { result ≡ entry_at index.now block }
 {
     let mut steps = Steps::<L>::new(blank);
-    index.get(block, &mut steps).is_some()
+    index.get(block, &mut steps)
 }

@@ -1,6 +1,6 @@
-use Rattle.std.proofs.Common.{sym, ◌∙◌}
+use Rattle.std.proofs.Common.{is_some, ap, sym, ◌∙◌}
 use Rattle.cc_views.proofs.Orders.{unremoved}
 use Rattle.cc_views.proofs.views.Views.remove.Goals as goal
 
-pub returns-then-not-is_mapped-clause-rest : goal.returns-then-not-is_mapped-clause-rest
-returns-then-not-is_mapped-clause-rest c = unremoved c.args.self.now c.args.block (sym c.is_mapped.ensures ∙ c.if-not-is_mapped.true)
+pub returns-in-None-clause-rest : goal.returns-in-None-clause-rest
+returns-in-None-clause-rest c = unremoved c.args.self.now c.args.block (sym c.view_of.ensures ∙ ap is_some c.in-None.is)
