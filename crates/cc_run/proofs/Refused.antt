@@ -1,0 +1,76 @@
+-- What refuses a copied read or write of the first object, over a list of pages that stands for the past.
+use Rattle.std.proofs.Common.{◌≡◌, ℕ, suc, ◌+◌, ◌-◌, ◌*◌, ◌/◌, ◌<◌, ◌≤◌, Bool, true, false, nat_lt, cond, List, [], ◌∷◌, ◌++◌, length, refl, sym, ◌∙◌, ap, arith, eqb, Option, Some, None, min}
+use Rattle.std.specs.List.{range_with_len}
+use Rattle.std.specs.Set.{distinct_count, is_member}
+use Rattle.std.proofs.lemmas.Bool.{ltb-true, ltb-false, lt-ltb, le-ltb}
+use Rattle.cc_entry.specs.Place.{File, Range}
+use Rattle.cc_entry.specs.declared.call.Call.{Call}
+use Rattle.cc_entry.specs.declared.call.Call.TheVariants as call
+use Rattle.cc_entry.specs.declared.error.CcError.{CcError}
+use Rattle.cc_entry.specs.declared.error.CcError.TheVariants as error
+use Rattle.cc_entry.specs.declared.entry.Entry.{Entry}
+use Rattle.cc_traits.specs.Disk.{Disk}
+use Rattle.cc_model.specs.Setup.{Setup}
+use Rattle.cc_model.specs.Places.{blocks_of}
+use Rattle.cc_model.specs.History.{history}
+use Rattle.cc_model.specs.Touches.{sizes, size_of, valid_of}
+use Rattle.cc_model.specs.Ranges.{cut_range, whole_range}
+use Rattle.cc_model.specs.Refusals.{refusal}
+use Rattle.cc_run.specs.Stands.{Stands, first_object}
+use Rattle.cc_run.proofs.Lists.{distinct_count-below, is_member-range}
+
+-- a range that ends by 4 MiB has bytes in at most 16 blocks
+blocks_of-within : (r : Range) → r.to ≤ 4194304 → distinct_count eqb (blocks_of r) ≤ 16
+blocks_of-within r small = distinct_count-below (blocks_of r) 16 (λ q m. by (nat_lt r.from r.to) refl q m)
+  where
+    by : (b : Bool) → nat_lt r.from r.to ≡ b → (q : ℕ) → is_member eqb (cond b (range_with_len (r.from / 262144) (((r.to - 1) / 262144 + 1) - r.from / 262144)) []) q ≡ true → q < 16
+    by true some q m = let low : r.from < r.to = ltb-true r.from r.to some in omega (arith, is_member-range _ _ q m)
+    by false none q m = absurd (cc)
+
+module _ {u : Setup} {told : Option Disk} {size valid calls : ℕ} {bytes : List ℕ} {resident : List Bool} {past : List Entry} (s : Stands u told size valid calls bytes resident past) (small : size ≤ 4194304) where
+  -- the blocks of a range within the stream fit its quota
+  fits_quota : (r : Range) → r.to ≤ 4194304 → nat_lt 16 (distinct_count eqb (blocks_of r)) ≡ false
+  fits_quota r ends = le-ltb 16 _ (blocks_of-within r ends)
+
+  pub read_admitted : (at len : ℕ) → len ≤ 1048576 → refusal u past (history past 0) (call.CopyRead first_object at len true) ≡ None
+  unfolding refusal
+  read_admitted at len short =
+      let not_long : nat_lt 1048576 len ≡ false = le-ltb 1048576 len short in
+      let fits = fits_quota (cut_range size at len) (omega arith) in
+      rw (s.objects_are, not_long, s.quota_is, s.no_hold, size_of, s.sizes_are, fits) refl
+
+  pub read_too_long : (at len : ℕ) → 1048576 < len → refusal u past (history past 0) (call.CopyRead first_object at len true) ≡ Some (error.TooLong 1048576)
+  unfolding refusal
+  read_too_long at len long =
+      let too_long : nat_lt 1048576 len ≡ true = lt-ltb 1048576 len long in
+      rw (s.objects_are, too_long) refl
+
+  pub write_admitted : (at : ℕ) (piece : List ℕ) → length piece ≤ 1048576 → at + length piece ≤ size → at ≤ valid → refusal u past (history past 0) (call.CopyWrite first_object at piece) ≡ None
+  unfolding refusal
+  write_admitted at piece short within below =
+      let not_long : nat_lt 1048576 (length piece) ≡ false = le-ltb 1048576 _ short in
+      let not_past : nat_lt size (at + length piece) ≡ false = le-ltb size _ within in
+      let not_above : nat_lt valid at ≡ false = le-ltb valid at below in
+      let fits = fits_quota (whole_range at (length piece)) (omega arith) in
+      rw (s.objects_are, not_long, size_of, valid_of, s.sizes_are, not_past, not_above, s.quota_is, s.no_hold, fits) refl
+
+  pub write_too_long : (at : ℕ) (piece : List ℕ) → 1048576 < length piece → refusal u past (history past 0) (call.CopyWrite first_object at piece) ≡ Some (error.TooLong 1048576)
+  unfolding refusal
+  write_too_long at piece long =
+      let too_long : nat_lt 1048576 (length piece) ≡ true = lt-ltb 1048576 _ long in
+      rw (s.objects_are, too_long) refl
+
+  pub write_past_size : (at : ℕ) (piece : List ℕ) → length piece ≤ 1048576 → size < at + length piece → refusal u past (history past 0) (call.CopyWrite first_object at piece) ≡ Some (error.BeyondSize size)
+  unfolding refusal
+  write_past_size at piece short past_end =
+      let not_long : nat_lt 1048576 (length piece) ≡ false = le-ltb 1048576 _ short in
+      let ends_past : nat_lt size (at + length piece) ≡ true = lt-ltb size _ past_end in
+      rw (s.objects_are, not_long, size_of, s.sizes_are, ends_past) refl
+
+  pub write_past_valid : (at : ℕ) (piece : List ℕ) → length piece ≤ 1048576 → at + length piece ≤ size → valid < at → refusal u past (history past 0) (call.CopyWrite first_object at piece) ≡ Some (error.BeyondValid valid)
+  unfolding refusal
+  write_past_valid at piece short within above =
+      let not_long : nat_lt 1048576 (length piece) ≡ false = le-ltb 1048576 _ short in
+      let not_past : nat_lt size (at + length piece) ≡ false = le-ltb size _ within in
+      let starts_past : nat_lt valid at ≡ true = lt-ltb valid at above in
+      rw (s.objects_are, not_long, size_of, valid_of, s.sizes_are, not_past, starts_past) refl

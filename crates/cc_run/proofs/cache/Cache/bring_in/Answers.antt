@@ -1,0 +1,43 @@
+use Rattle.std.proofs.Common.{◌≡◌, ℕ, ◌+◌, ◌*◌, ◌<◌, arith, sym, ◌∙◌, refl, true, false, length, nat_lt, ◌∷◌}
+use Rattle.std.proofs.lemmas.List.{get_or_default}
+use Rattle.cc_entry.specs.declared.entry.Entry.TheVariants as entry
+use Rattle.cc_run.specs.Stands.{flag_at}
+use Rattle.cc_run.proofs.Fills.{filled-one, faulted}
+use Rattle.cc_run.proofs.StandsSteps.{stands-fill_failed, stands-page_in, IsFound, IsPut}
+use Rattle.cc_run.proofs.cache.Cache.bring_in.Goals as goal
+use Rattle.cc_run.proofs.cache.Cache.bring_in.Goals.{then-from_disk+in-Ok, else-from_disk}
+
+pub returns-in-Err-Failed-clause-stands : goal.returns-in-Err-Failed-clause-stands
+returns-in-Err-Failed-clause-stands g c =
+    λ u s. rw (c.push.ensures.entries, c.reserve.ensures.entries, c.read_page.ensures.stays) (stands-fill_failed _ s)
+
+pub returns-in-Err-Failed-clause-filled : goal.returns-in-Err-Failed-clause-filled
+returns-in-Err-Failed-clause-filled g c =
+    let same = c.page_of_stream-place.ensures in
+    filled-one (entry.FillFailed 1 c.page_of_stream-place.result) _ _ (refl, rw same refl) (c.push.ensures.entries ∙ rw c.reserve.ensures.entries refl)
+
+pub returns-in-Err-Failed-clause-stopped : goal.returns-in-Err-Failed-clause-stopped
+returns-in-Err-Failed-clause-stopped g c =
+    let grew : c.push.new.self.entries ≡ entry.FillFailed 1 (record { stream = 0; page = c.args.page }) ∷ c.reserve.new.self.entries =
+    c.push.ensures.entries ∙ rw c.page_of_stream-place.ensures refl in
+    (faulted (record { stream = 0; page = c.args.page }) c.reserve.new.self.entries c.push.new.self.entries grew, omega (arith, c.in_ok-reserve.ensures.room))
+
+pub returns-clause-stands : goal.returns-clause-stands
+returns-clause-stands g c = λ u s.
+    let both : (g.D.Told.told c.if-from_disk.disk ≡ g.D.Told.told c.args.disk.now) × IsFound c.if-from_disk.frame (g.D.Told.told c.args.disk.now) c.args.page c.args.self.now.valid =
+    elim c.if-from_disk.branch [
+      | then-from_disk+in-Ok w ↦ (rw w.disk-is w.in-Ok.ensures.stays, λ low. rw w.frame-is w.in-Ok.ensures.found)
+      | else-from_disk w ↦ (rw w.disk-is refl, λ low. absurd (omega (arith, w.if-from_disk.false)))
+    ] in
+    let put : IsPut c.if-from_disk.frame c.args.self.now.bytes.items c.put_frame.new.bytes.items (4096 * c.args.page) c.args.self.now.valid =
+    record { inside = c.put_frame.ensures.inside; below = c.put_frame.ensures.below; above = c.put_frame.ensures.above } in
+    let inside : c.args.page < length c.args.self.now.resident.items = omega arith in
+    let absent : flag_at c.args.self.now.resident.items c.args.page ≡ false =
+    get_or_default c.args.self.now.resident.items c.args.page false c.index.result.now inside ∙ (sym c.index.ensures ∙ c.if-index.false) in
+    rw (both.0, c.push-2.ensures.entries, c.reserve.ensures.entries, c.page_of_stream-place.ensures)
+    (stands-page_in c.args.page c.if-from_disk.frame c.put_frame.new.bytes.items s (omega arith) inside absent c.requires both.1 put)
+
+pub returns-clause-filled : goal.returns-clause-filled
+returns-clause-filled g c =
+    let same = c.page_of_stream-place.ensures in
+    filled-one (entry.PageIn 1 c.page_of_stream-place.result (nat_lt (4096 * c.args.page) c.args.self.now.valid)) _ _ (refl, rw same refl) (c.push-2.ensures.entries ∙ rw c.reserve.ensures.entries refl)

@@ -1,0 +1,34 @@
+//! Bytes in and out of the plain list of pages.
+
+ghost use Rattle.std.specs.Prelude.{◌≡◌, ℕ, ◌≤◌, ◌<◌, ◌+◌, ◌-◌, length, slice_index, nat_lt, if◌then◌else◌, vec_len};
+
+/// Puts the frame of a page at its place; from the valid data length on its bytes are zero.
+pub fn put_frame(bytes: &mut Vec<u8>, frame: &[u8; 4096], at: usize, valid: u64)
+    requires { at + 4096 ≤ vec_len bytes.old }
+    ensures len { vec_len bytes.new ≡ vec_len bytes.old }
+    ensures inside { (i : ℕ) → at ≤ i → i < at + 4096 →
+        slice_index bytes.new.items i ≡ (if nat_lt i valid then slice_index frame.now (i - at) else 0) }
+    ensures below { (i : ℕ) → i < at → slice_index bytes.new.items i ≡ slice_index bytes.old.items i }
+    ensures above { (i : ℕ) → at + 4096 ≤ i → slice_index bytes.new.items i ≡ slice_index bytes.old.items i }
+{
+    for i in 0..4096 {
+        bytes[at + i] = if ((at + i) as u64) < valid {
+            frame[i]
+        } else {
+            0
+        };
+    }
+}
+
+/// Writes a piece over the bytes from `at` on.
+pub fn put_piece(bytes: &mut Vec<u8>, at: usize, piece: &[u8])
+    requires { at + length piece.now ≤ vec_len bytes.old }
+    ensures len { vec_len bytes.new ≡ vec_len bytes.old }
+    ensures inside { (i : ℕ) → at ≤ i → i < at + length piece.now → slice_index bytes.new.items i ≡ slice_index piece.now (i - at) }
+    ensures below { (i : ℕ) → i < at → slice_index bytes.new.items i ≡ slice_index bytes.old.items i }
+    ensures above { (i : ℕ) → at + length piece.now ≤ i → slice_index bytes.new.items i ≡ slice_index bytes.old.items i }
+{
+    for i in 0..piece.len() {
+        bytes[at + i] = piece[i];
+    }
+}
