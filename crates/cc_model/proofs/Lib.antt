@@ -75,3 +75,4 @@ pub mod TouchReads
 pub mod DirtyReads
 pub mod SizeReads
 pub mod ByteReads
+pub mod ResidentReads

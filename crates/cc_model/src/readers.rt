@@ -7,6 +7,7 @@ pub mod bytes;
 pub mod dirty;
 pub mod events;
 pub mod maps;
+pub mod residents;
 pub mod sizes;
 pub mod stamps;
 pub mod touches;
