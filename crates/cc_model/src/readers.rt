@@ -10,4 +10,6 @@ pub mod maps;
 pub mod residents;
 pub mod sizes;
 pub mod stamps;
+#[cfg(test)]
+mod tests;
 pub mod touches;
