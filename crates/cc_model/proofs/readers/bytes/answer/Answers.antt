@@ -1,4 +1,4 @@
-use Rattle.std.proofs.Common.{◌-◌, ◌^◌, arith, sym, ◌∙◌}
+use Rattle.std.proofs.Common.{◌-◌, ◌^◌, arith}
 use Rattle.cc_model.specs.Bytes.{byte_of}
 use Rattle.cc_model.specs.Changes.{filled}
 use Rattle.cc_model.specs.Events.{effects}
