@@ -74,3 +74,5 @@ pub mod HoldPlaces
 pub mod TouchReads
 pub mod DirtyReads
 pub mod SizeReads
+pub mod ByteReads
+pub mod ResidentReads

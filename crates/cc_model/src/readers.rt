@@ -3,9 +3,13 @@
 //! Each goes over the entries, oldest first, and answers what its definition gives. They are slow and
 //! plain on purpose: tests of the cache's parts compare with them.
 
+pub mod bytes;
 pub mod dirty;
 pub mod events;
 pub mod maps;
+pub mod residents;
 pub mod sizes;
 pub mod stamps;
+#[cfg(test)]
+mod tests;
 pub mod touches;
