@@ -69,6 +69,7 @@ pub mod PlacesResident
 pub mod PlacesImage
 pub mod PlacesSizes
 pub mod PlacesTouches
+pub mod RefusalReads
 pub mod ReaderSteps
 pub mod HoldPlaces
 pub mod TouchReads

@@ -43,3 +43,4 @@ pub mod ByPlacesResident
 pub mod ByPlacesSizes
 pub mod ByPlacesImage
 pub mod Events
+pub mod MapReads

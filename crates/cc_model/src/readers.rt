@@ -6,6 +6,7 @@
 pub mod dirty;
 pub mod events;
 pub mod maps;
+pub mod reasons;
 pub mod sizes;
 pub mod stamps;
 pub mod touches;
