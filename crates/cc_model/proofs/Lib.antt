@@ -70,6 +70,7 @@ pub mod PlacesImage
 pub mod PlacesSizes
 pub mod PlacesTouches
 pub mod RefusalReads
+pub mod HoldReads
 pub mod ReaderSteps
 pub mod HoldPlaces
 pub mod TouchReads

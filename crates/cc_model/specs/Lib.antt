@@ -44,3 +44,4 @@ pub mod ByPlacesSizes
 pub mod ByPlacesImage
 pub mod Events
 pub mod MapReads
+pub mod HoldReads

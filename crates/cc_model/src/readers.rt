@@ -5,6 +5,7 @@
 
 pub mod dirty;
 pub mod events;
+pub mod holds;
 pub mod maps;
 pub mod reasons;
 pub mod sizes;
