@@ -71,6 +71,7 @@ pub mod PlacesSizes
 pub mod PlacesTouches
 pub mod RefusalReads
 pub mod HoldReads
+pub mod BarReads
 pub mod ReaderSteps
 pub mod HoldPlaces
 pub mod TouchReads

@@ -45,3 +45,4 @@ pub mod ByPlacesImage
 pub mod Events
 pub mod MapReads
 pub mod HoldReads
+pub mod BarReads
