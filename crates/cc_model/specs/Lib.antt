@@ -46,3 +46,4 @@ pub mod Events
 pub mod MapReads
 pub mod HoldReads
 pub mod BarReads
+pub mod QuotaReads

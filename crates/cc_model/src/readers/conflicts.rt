@@ -51,8 +51,8 @@ pub fn shares_page(span: Option<Reach>, range: Reach) -> bool
     false
 }
 
-// Whether a page is of a span, where none is the whole stream.
-fn has(span: Option<Reach>, page: u128) -> bool
+/// Whether a page is of a span, where none is the whole stream.
+pub fn has(span: Option<Reach>, page: u128) -> bool
     ensures { result ≡ span_has (option_map range_of_reach span) page }
 {
     match span {
@@ -74,7 +74,8 @@ fn have_page(ranges: &[Reach], page: u128) -> bool
     have_page(rest, page)
 }
 
-fn pins(kind: HoldKind) -> bool
+/// Whether a hold is a pin.
+pub fn pins(kind: HoldKind) -> bool
     ensures { result ≡ is_pin kind }
 {
     match kind {
@@ -137,8 +138,8 @@ fn held_at(id: Option<u64>) -> Option<CcError>
     }
 }
 
-// The span of a purge.
-fn reach_of(span: Option<Span>) -> Option<Reach>
+/// The span of a call.
+pub fn reach_of(span: Option<Span>) -> Option<Reach>
     ensures { option_map range_of_reach result ≡ span }
 {
     match span {
