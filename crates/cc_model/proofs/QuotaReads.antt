@@ -10,7 +10,7 @@ use Rattle.cc_model.specs.History.{Effect, Did, CameIn, WentOut, Began, Ended, S
 use Rattle.cc_model.specs.Touches.{is_mapped}
 use Rattle.cc_model.specs.Settings.{quota_of}
 use Rattle.cc_model.specs.Events.{effects}
-use Rattle.cc_model.specs.QuotaReads.{quota_asked, quota_given}
+use Rattle.cc_model.specs.QuotaReads.{quota_given}
 use Rattle.cc_model.proofs.ReaderSteps.{effects_back}
 
 abbrev pub quota_after : Option ℕ → List Effect → ℕ

@@ -146,11 +146,25 @@ fn holds_after(
         ),
         Call::MdlRead { file, at, len } => with(
             before,
-            plain(alloc, id, pass, (*file, *at, *len), HoldKind::ReadChain, false),
+            plain(
+                alloc,
+                id,
+                pass,
+                (*file, *at, *len),
+                HoldKind::ReadChain,
+                false,
+            ),
         ),
         Call::MdlWrite { file, at, len } => with(
             before,
-            plain(alloc, id, pass, (*file, *at, *len), HoldKind::WriteChain, false),
+            plain(
+                alloc,
+                id,
+                pass,
+                (*file, *at, *len),
+                HoldKind::WriteChain,
+                false,
+            ),
         ),
         Call::PinRead {
             file,
@@ -159,7 +173,14 @@ fn holds_after(
             exclusive,
         } => with(
             before,
-            plain(alloc, id, pass, (*file, *at, *len), HoldKind::Pin, *exclusive),
+            plain(
+                alloc,
+                id,
+                pass,
+                (*file, *at, *len),
+                HoldKind::Pin,
+                *exclusive,
+            ),
         ),
         Call::PreparePin {
             file,
@@ -168,7 +189,14 @@ fn holds_after(
             zero,
             exclusive,
         } => {
-            let mut made = plain(alloc, id, pass, (*file, *at, *len), HoldKind::Pin, *exclusive);
+            let mut made = plain(
+                alloc,
+                id,
+                pass,
+                (*file, *at, *len),
+                HoldKind::Pin,
+                *exclusive,
+            );
             if *zero {
                 let from = u128::from(*at);
                 let to = from + u128::from(*len);
@@ -207,7 +235,10 @@ fn repin(
     let Some(place) = place_at(&before, of) else {
         return Ok(before);
     };
-    with(before, plain(alloc, id, pass, place, HoldKind::Repin, false))
+    with(
+        before,
+        plain(alloc, id, pass, place, HoldKind::Repin, false),
+    )
 }
 
 /// The file object, the place and the length of the first hold of this id.

@@ -59,9 +59,9 @@ pub fn by_view(call: &Call) -> Option<CcError>
     ensures { result ≡ view_boundary call.now }
 {
     match call {
-        Call::Map { at, len, .. } | Call::PinRead { at, len, .. } | Call::PreparePin { at, len, .. } => {
-            refuse(crosses(*at, *len), CcError::ViewBoundary)
-        }
+        Call::Map { at, len, .. }
+        | Call::PinRead { at, len, .. }
+        | Call::PreparePin { at, len, .. } => { refuse(crosses(*at, *len), CcError::ViewBoundary) }
         _ => None,
     }
 }
@@ -116,7 +116,10 @@ fn by_end(size: u64, end: u128) -> Option<CcError>
 fn by_page(size: u64, page: u64) -> Option<CcError>
     ensures { result ≡ refuse_if (nat_le size (4096 * page)) (CcError.BeyondSize size) }
 {
-    refuse(u128::from(size) <= 4096 * u128::from(page), CcError::BeyondSize { size })
+    refuse(
+        u128::from(size) <= 4096 * u128::from(page),
+        CcError::BeyondSize { size },
+    )
 }
 
 /// The refusal of a call past the size.
@@ -124,7 +127,10 @@ pub fn by_size(size: u64, call: &Call) -> Option<CcError>
     ensures { result ≡ beyond_size size call.now }
 {
     match call {
-        Call::CopyWrite { at, bytes, .. } => by_end(size, u128::from(*at) + u128::from(bytes.len())),
+        Call::CopyWrite { at, bytes, .. } => by_end(
+            size,
+            u128::from(*at) + u128::from(bytes.len()),
+        ),
         Call::Zero { span, .. } => by_end(size, u128::from(span.to())),
         Call::Map { at, len, .. }
         | Call::PinRead { at, len, .. }
@@ -278,7 +284,9 @@ pub fn by_sizes(
             Ok(refuse(breaks, CcError::BadSizes))
         }
         Call::SetSizes {
-            allocation, size, ..
+            allocation,
+            size,
+            ..
         } => {
             let ordered = size <= allocation && *allocation < 1 << 63;
             Ok(refuse(!ordered, CcError::BadSizes))

@@ -3,7 +3,6 @@ use Rattle.std.specs.declared.option.Option.{Option}
 use Rattle.cc_entry.specs.Place.{File}
 use Rattle.cc_entry.specs.declared.error.CcError.TheVariants as error
 use Rattle.cc_model.specs.Places.{is_among}
-use Rattle.cc_model.specs.Objects.{objects}
 use Rattle.cc_model.specs.Events.{effects}
 use Rattle.cc_model.specs.Reasons.{not_cached, refuse_if}
 use Rattle.cc_model.proofs.readers.reasons.by_map.Goals as goal

@@ -1,4 +1,4 @@
-use Rattle.std.proofs.Common.{◌≡◌, ℕ, Option, IfOk, sym, ◌∙◌, subst}
+use Rattle.std.proofs.Common.{◌≡◌, ℕ, IfOk, sym, ◌∙◌, subst}
 use Rattle.std.specs.declared.option.Option.TheVariants.{Some, None}
 use Rattle.std.proofs.lemmas.List.{nil_from_length}
 use Rattle.cc_model.specs.Events.{effects}
