@@ -78,3 +78,5 @@ pub mod HoldPlaces
 pub mod TouchReads
 pub mod DirtyReads
 pub mod SizeReads
+pub mod ByteReads
+pub mod ResidentReads

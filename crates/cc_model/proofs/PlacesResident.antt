@@ -16,7 +16,7 @@ use Rattle.cc_model.specs.ByPlacesResident.{act_stores, brings_in, takes_out, co
 use Rattle.cc_model.proofs.ResidencySteps.{residents-mapped, residents-unmapped}
 use Rattle.cc_model.proofs.PlacesLast.{since-place}
 
-among-filtered : (test : ℕ → Bool) (p : ℕ) (ns : List ℕ) → is_among p (filter test ns) ≡ (test p && is_among p ns)
+pub among-filtered : (test : ℕ → Bool) (p : ℕ) (ns : List ℕ) → is_among p (filter test ns) ≡ (test p && is_among p ns)
 among-filtered test p [] = none (test p)
   where
     none : (b : Bool) → false ≡ (b && false)
@@ -59,10 +59,10 @@ same-other a b = go (a == b) refl
     go true is = is ∙ sym (eq-eqb b a (sym (eqb-true a b is)))
     go false is = is ∙ sym (ne_eqb b a (λ e. eqb-false a b is (sym e)))
 
-among-without : (page p : ℕ) (pages : List ℕ) → is_among p (without page pages) ≡ (not (page == p) && is_among p pages)
+pub among-without : (page p : ℕ) (pages : List ℕ) → is_among p (without page pages) ≡ (not (page == p) && is_among p pages)
 among-without page p pages = among-filtered (λ m. not (m == page)) p pages ∙ ap (λ b. not b && is_among p pages) (same-other p page)
 
-among-in : (page p : ℕ) (pages : List ℕ) → is_among p (page ∷ without page pages) ≡ ((page == p) || is_among p pages)
+pub among-in : (page p : ℕ) (pages : List ℕ) → is_among p (page ∷ without page pages) ≡ ((page == p) || is_among p pages)
 among-in page p pages = ap (λ b. (page == p) || b) (among-without page p pages) ∙ go (page == p) (is_among p pages)
   where
     go : (a b : Bool) → (a || (not a && b)) ≡ (a || b)

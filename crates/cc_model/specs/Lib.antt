@@ -47,3 +47,4 @@ pub mod MapReads
 pub mod HoldReads
 pub mod BarReads
 pub mod QuotaReads
+pub mod Changes

@@ -4,13 +4,17 @@
 //! plain on purpose: tests of the cache's parts compare with them.
 
 pub mod conflicts;
+pub mod bytes;
 pub mod dirty;
 pub mod events;
 pub mod holds;
 pub mod maps;
 pub mod pins;
 pub mod reasons;
+pub mod residents;
 pub mod sizes;
 pub mod stamps;
+#[cfg(test)]
+mod tests;
 pub mod touches;
 pub mod views;

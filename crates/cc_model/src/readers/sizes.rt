@@ -94,7 +94,8 @@ pub fn valid(alloc: Global, journal: &[Entry], stream: StreamId) -> Result<u128,
     valid_with(alloc, journal, &found, stream)
 }
 
-fn valid_with(
+/// The same, given the sizes.
+pub fn valid_with(
     alloc: Global,
     journal: &[Entry],
     sizes: &[u64],

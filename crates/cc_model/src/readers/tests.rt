@@ -1,0 +1,153 @@
+//! Two short runs, with what their reads and tables are to answer.
+
+use crate::readers::bytes::{answer, byte};
+use crate::readers::dirty::has_map;
+use crate::readers::maps::{hold_place, open_objects};
+use crate::readers::residents::is_page_resident;
+use crate::readers::sizes::{is_page_dirty, size, sizes, valid};
+use crate::readers::stamps::{newest, oldest};
+use cc_entry::{
+    Bytes, Call, End, Entry, FileId, FileSizes, Lsn, Outcome, PageId, Quota, Reply, StreamId,
+};
+use std::alloc::Global;
+use std::test::Fail;
+
+fn stream() -> Result<StreamId, Fail> {
+    Ok(StreamId::new(0).ok_or("stream")?)
+}
+
+fn file() -> Result<FileId, Fail> {
+    Ok(FileId::new(0, 0).ok_or("file")?)
+}
+
+fn page(number: u64) -> Result<PageId, Fail> {
+    Ok(PageId::new(stream()?, number).ok_or("page")?)
+}
+
+fn done(call: Call, reply: Reply) -> Entry {
+    Entry::Call {
+        pass: 1,
+        nth: 1,
+        stream: StreamId::new(0),
+        call,
+        outcome: Outcome::Done(reply),
+    }
+}
+
+fn opened(valid: u64) -> Result<Entry, Fail> {
+    let call = Call::Initialise {
+        file: file()?,
+        sizes: FileSizes {
+            allocation: 8192,
+            size: 8192,
+            valid,
+        },
+        quota: Quota::new(16).ok_or("quota")?,
+        temporary: false,
+    };
+    Ok(done(call, Reply::Unit))
+}
+
+fn came_in(number: u64) -> Result<Entry, Fail> {
+    Ok(Entry::PageIn {
+        pass: 1,
+        page: page(number)?,
+        from_disk: true,
+    })
+}
+
+fn written(alloc: Global) -> Result<[Entry; 3], Fail> {
+    let write = Call::CopyWrite {
+        file: file()?,
+        at: 5000,
+        bytes: Bytes::of(alloc, &[0xAB])?,
+    };
+    Ok([opened(5000)?, came_in(1)?, done(write, Reply::Unit)])
+}
+
+// The disk holds 5A. Past the valid data length every byte is zero; a write of one byte there raises it.
+#[test]
+fn reads_a_written_byte(rt: HostRuntime) -> Result<(), Fail> {
+    let alloc = rt.alloc();
+    let a = stream()?;
+    let written = written(alloc)?;
+    let opened = &written[..1];
+    let read = answer(alloc, opened, a, 0x5A, 4998, 4)?;
+    assert_eq!(rt; read.as_slice(), [0x5A, 0x5A, 0, 0].as_slice());
+    let read = answer(alloc, &written, a, 0x5A, 4999, 3)?;
+    assert_eq!(rt; read.as_slice(), [0x5A, 0xAB, 0].as_slice());
+    assert_eq!(rt; answer(alloc, &written, a, 0x5A, 9000, 4)?.len(), 0);
+    assert_eq!(rt; byte(alloc, &written, a, 0x5A, 5000)?, 0xAB);
+    assert_eq!(rt; size(alloc, &written, a)?, 8192);
+    assert_eq!(rt; valid(alloc, &written, a)?, 5001);
+    Ok(())
+}
+
+#[test]
+fn reads_the_pages_of_a_write(rt: HostRuntime) -> Result<(), Fail> {
+    let alloc = rt.alloc();
+    let a = stream()?;
+    let written = written(alloc)?;
+    for (page, want) in [(0, false), (1, true)] {
+        assert_eq!(rt;
+            is_page_dirty(alloc, &written, a, page)?,
+            want,
+            "page {page} dirty"
+        );
+        assert_eq!(rt;
+            is_page_resident(alloc, &written, a, page)?,
+            want,
+            "page {page} resident"
+        );
+    }
+    let sizes = sizes(alloc, &written, a)?;
+    assert_eq!(rt; sizes.as_slice(), [0, 8192, 8192, 8192].as_slice());
+    assert!(rt; has_map(alloc, &written, &sizes, a)?);
+    assert_eq!(rt;
+        open_objects(alloc, &written, a)?.as_slice(),
+        [0].as_slice()
+    );
+    Ok(())
+}
+
+fn stamped(lsn: u64) -> Result<Entry, Fail> {
+    let lsn = Lsn::new(lsn).ok_or("lsn")?;
+    let call = Call::SetDirty {
+        hold: 1,
+        lsn: Some(lsn),
+    };
+    Ok(done(call, Reply::Unit))
+}
+
+// A pin is stamped, its page's transfer begins, the pin is stamped again, and the transfer ends.
+fn stamped_twice(how: End) -> Result<[Entry; 7], Fail> {
+    let page = page(0)?;
+    let pin = Call::PinRead {
+        file: file()?,
+        at: 0,
+        len: 16,
+        exclusive: false,
+    };
+    Ok([
+        opened(8192)?,
+        came_in(0)?,
+        done(pin, Reply::Hold(1)),
+        stamped(1)?,
+        Entry::WriteBegin { pass: 2, page },
+        stamped(2)?,
+        Entry::WriteEnd { pass: 2, page, how },
+    ])
+}
+
+#[test]
+fn reads_stamps_across_a_transfer(rt: HostRuntime) -> Result<(), Fail> {
+    let alloc = rt.alloc();
+    let a = stream()?;
+    for (how, least) in [(End::Good, 2), (End::Failed, 1)] {
+        let journal = stamped_twice(how)?;
+        assert_eq!(rt; hold_place(&journal, a, 1), Some((0, 16)));
+        assert!(rt; oldest(alloc, &journal, a, 0)? == Lsn::new(least));
+        assert!(rt; newest(alloc, &journal, a, 0)? == Lsn::new(2));
+    }
+    Ok(())
+}
