@@ -72,6 +72,7 @@ pub mod PlacesTouches
 pub mod RefusalReads
 pub mod HoldReads
 pub mod BarReads
+pub mod AbsentReads
 pub mod QuotaReads
 pub mod ReaderSteps
 pub mod HoldPlaces
