@@ -3,6 +3,7 @@
 //! Each goes over the entries, oldest first, and answers what its definition gives. They are slow and
 //! plain on purpose: tests of the cache's parts compare with them.
 
+pub mod blocks;
 pub mod bytes;
 pub mod conflicts;
 pub mod dirty;
