@@ -1,6 +1,5 @@
 -- The first number of a range that passes a test, number by number.
 use Rattle.std.specs.Prelude.{◌≡◌, ℕ, suc, ◌+◌, ◌-◌, ◌<◌, Bool, true, false, if◌then◌else◌}
-use Rattle.std.specs.declared.option.Option.{Option}
 use Rattle.std.specs.declared.option.Option.TheVariants.{Some}
 use Rattle.std.specs.List.{find, range_with_len}
 use Rattle.std.proofs.Common.{ap, ◌∙◌, arith}
