@@ -47,4 +47,5 @@ pub mod MapReads
 pub mod HoldReads
 pub mod BarReads
 pub mod QuotaReads
+pub mod ViewReads
 pub mod Changes

@@ -10,6 +10,7 @@ pub mod dirty;
 pub mod events;
 pub mod holds;
 pub mod maps;
+pub mod needs;
 pub mod pins;
 pub mod reasons;
 pub mod residents;

@@ -173,8 +173,8 @@ pub fn first_absent(
     Ok(None)
 }
 
-// The end of a range as far as it lies below the size.
-fn end_within(size: u64, at: u64, len: u64) -> u64
+/// The end of a range as far as it lies below the size.
+pub fn end_within(size: u64, at: u64, len: u64) -> u64
     ensures { result ≡ (cut_range size at len).to }
 {
     if u128::from(at) + u128::from(len) < u128::from(size) {
