@@ -69,6 +69,11 @@ pub mod PlacesResident
 pub mod PlacesImage
 pub mod PlacesSizes
 pub mod PlacesTouches
+pub mod RefusalReads
+pub mod HoldReads
+pub mod BarReads
+pub mod AbsentReads
+pub mod QuotaReads
 pub mod ReaderSteps
 pub mod HoldPlaces
 pub mod TouchReads

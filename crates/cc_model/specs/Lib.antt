@@ -43,4 +43,9 @@ pub mod ByPlacesResident
 pub mod ByPlacesSizes
 pub mod ByPlacesImage
 pub mod Events
+pub mod MapReads
+pub mod HoldReads
+pub mod BarReads
+pub mod QuotaReads
+pub mod ViewReads
 pub mod Changes

@@ -192,8 +192,8 @@ pub enum Holding {
     Ends { id: u64 },
 }
 
-// The id in a reply.
-fn id_in(reply: &Reply) -> u64
+/// The id in a reply, 0 where it has none.
+pub fn id_in(reply: &Reply) -> u64
     ensures { result ≡ id_of reply.now }
 {
     match reply {

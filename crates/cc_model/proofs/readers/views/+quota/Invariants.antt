@@ -1,0 +1,5 @@
+use Rattle.std.proofs.Common.{length}
+use Rattle.cc_model.proofs.readers.views.+quota.Given as goal
+
+abbrev pub decreases-quota : goal.decreases-quota
+decreases-quota l = length l.journal.now
