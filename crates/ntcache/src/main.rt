@@ -45,28 +45,13 @@ fn disks(alloc: Global) -> Result<Vec<MemDisk>, AllocError> {
     Ok(disks)
 }
 
-/// The logs that a script can name.
-fn logs(alloc: Global) -> Result<Vec<Box<dyn LogFile + Send>>, AllocError> {
-    let mut logs = Vec::new(alloc);
-    for _ in 0..4 {
-        let fails = LogFails {
-            appends: Vec::new(alloc),
-            flushes: Vec::new(alloc),
-        };
-        let log: Box<dyn LogFile + Send> = Box::new(alloc, MemLog::new(alloc, fails))?;
-        logs.push(log).map_err(|_| AllocError)?;
-    }
-    Ok(logs)
-}
-
-/// A routine for each write that can wait.
-fn posts(alloc: Global) -> Result<Vec<Box<dyn PostRoutine + Send>>, AllocError> {
-    let mut posts = Vec::new(alloc);
-    for _ in 0..64 {
-        let routine: Box<dyn PostRoutine + Send> = Box::new(alloc, Routine::new())?;
-        posts.push(routine).map_err(|_| AllocError)?;
-    }
-    Ok(posts)
+/// A log that a script can name.
+fn log(alloc: Global) -> MemLog {
+    let fails = LogFails {
+        appends: Vec::new(alloc),
+        flushes: Vec::new(alloc),
+    };
+    MemLog::new(alloc, fails)
 }
 
 /// Runs the program, and answers its status.
@@ -77,6 +62,17 @@ fn run(rt: HostRuntime) -> Result<u8, AllocError> {
         Some(path) => path.as_str(),
         None => "",
     };
+    // The boxes are made here, since a function must not give a `dyn` that it made.
+    let mut logs = Vec::new(alloc);
+    for _ in 0..4 {
+        let boxed: Box<dyn LogFile + Send> = Box::new(alloc, log(alloc))?;
+        logs.push(boxed).map_err(|_| AllocError)?;
+    }
+    let mut posts = Vec::new(alloc);
+    for _ in 0..64 {
+        let boxed: Box<dyn PostRoutine + Send> = Box::new(alloc, Routine::new())?;
+        posts.push(boxed).map_err(|_| AllocError)?;
+    }
     let mut script = ScriptFile::new(&rt, path);
     let mut out = Output::new(&rt);
     let Ended {
@@ -95,8 +91,8 @@ fn run(rt: HostRuntime) -> Result<u8, AllocError> {
         &mut script,
         &mut out,
         disks(alloc)?,
-        logs(alloc)?,
-        posts(alloc)?,
+        logs,
+        posts,
         &Free,
     );
     Ok(status)
