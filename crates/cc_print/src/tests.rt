@@ -1,7 +1,5 @@
 //! Whole texts of runs that are written by hand.
 
-mod each;
-
 use super::*;
 use cc_entry::{
     Answer, Bytes, Call, CcError, DirtyRow, End, Entry, FileId, FileSizes, LineReply, Lsn, Outcome,
