@@ -1,0 +1,4 @@
+pub mod Calls
+pub mod Pieces
+pub mod Runs
+pub mod Table
