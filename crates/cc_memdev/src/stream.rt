@@ -136,6 +136,9 @@ impl Sink for MemSink {
 
     ghost faults = { λ s. s.faults };
 
+    // It takes each piece whole.
+    ghost stalls = { λ _. 0 };
+
     fn put(&mut self, piece: &[u8]) -> Result<usize, Stop>
         ensures whole { IfOk result (λ n. n ≡ length piece.now) }
         ensures taken { OnOk result (self.new.taken ≡ self.old.taken ++ piece.now) }

@@ -1,5 +1,5 @@
 -- How a call on an object outside ends, and what the object's count of faults makes of it.
-use Rattle.std.specs.Prelude.{ℕ, Result, Ok, Err}
+use Rattle.std.specs.Prelude.{ℕ, zero, List, [], ◌∷◌, Result, Ok, Err}
 use Rattle.cc_traits.specs.declared.stop.Stop.{Stop}
 use Rattle.cc_traits.specs.declared.stop.Stop.TheVariants.{Failed, NoMemory}
 
@@ -23,3 +23,9 @@ abbrev pub OnNoMemory : {T : Type 0} → Result T Stop → Type 0 → Type 0
 OnNoMemory (Ok _) P = Unit {0}
 OnNoMemory (Err Failed) P = Unit {0}
 OnNoMemory (Err NoMemory) P = P
+
+-- by how much a call that puts a piece out raises its sink's count of stalls: by one exactly where the
+-- piece is not empty and nothing of it was taken
+abbrev pub stalls_in : List ℕ → Result ℕ Stop → ℕ
+stalls_in (byte ∷ piece) (Ok zero) = 1
+stalls_in piece taken = 0

@@ -1,5 +1,5 @@
 ghost use Rattle.std.specs.Prelude.{◌≡◌, ℕ, ◌+◌, ◌<◌, ◌≤◌, Option, List, [], length, take, IfOk, OnErr};
-ghost use Rattle.cc_traits.specs.Stop.{faults_in};
+ghost use Rattle.cc_traits.specs.Stop.{faults_in, stalls_in};
 ghost use Rattle.cc_traits.specs.Told.{Both, IfTold, Gave, Took};
 
 use crate::Stop;
@@ -32,11 +32,15 @@ pub trait Sink {
     // How many calls failed, a number below 2 ^ 64.
     ghost faults: { Self → ℕ };
 
+    // How many calls took nothing of a piece that is not empty.
+    ghost stalls: { Self → ℕ };
+
     /// Puts the front of `piece` out and answers how many bytes that was.
     fn put(&mut self, piece: &[u8]) -> Result<usize, Stop>
         ensures within { IfOk result (λ n. n ≤ length piece.now) }
         ensures taken { IfOk result
             (λ n. Both (told self.old) (told self.new) (Took (take n piece.now))) }
         ensures err { OnErr result (told self.new ≡ told self.old) }
-        ensures counted { faults self.new ≡ faults self.old + faults_in result };
+        ensures counted { faults self.new ≡ faults self.old + faults_in result }
+        ensures stalled { stalls self.new ≡ stalls self.old + stalls_in piece.now result };
 }

@@ -70,8 +70,12 @@ impl<'a, R: Print> Sink for Output<'a, R> {
 
     ghost faults = { λ sink. sink.faults };
 
+    // A call that wrote nothing counts as a fault.
+    ghost stalls = { λ _. 0 };
+
     fn put(&mut self, piece: &[u8]) -> Result<usize, Stop> {
         match self.out.write_some(piece) {
+            Ok(0) if !piece.is_empty() => Err(self.faults.raise()),
             Ok(taken) => Ok(taken),
             Err(_) => Err(self.faults.raise()),
         }
