@@ -6,3 +6,9 @@ pub mod CallSteps
 pub mod Opening
 pub mod Fills
 pub mod Stops
+pub mod PlainSteps
+pub mod Ascending
+pub mod Rows
+pub mod Told
+pub mod LineSteps
+pub mod FailureSteps

@@ -13,25 +13,25 @@ use Rattle.cc_model.specs.Setup.{Setup}
 use Rattle.cc_model.specs.Faults.{faults_since, is_unread}
 use Rattle.cc_run.specs.Past.{Past}
 use Rattle.cc_run.specs.Stands.{Stands, flag_at, first_object}
+use Rattle.cc_run.specs.Plain.{IsPlain}
 use Rattle.cc_run.specs.declared.cache.Cache.{Cache}
 
 -- the cache, over a disk that tells this, stands for the past that its journal has
 abbrev pub CacheStands : Setup → Option Disk → Cache → Type 0
 CacheStands u told c = Stands u told c.size c.valid c.calls c.bytes.items c.resident.items c.journal.entries
 
+-- the cache has the size and the dirty pages that its journal says
+abbrev pub IsPlainCache : Cache → Type 0
+IsPlainCache c = IsPlain c.size c.dirty.items c.journal.entries
+
 -- a step that only brings pages in keeps the rest
 pub record Keeps (old new : Cache) : Type 0 where
   pub size : new.size ≡ old.size
   pub valid : new.valid ≡ old.valid
   pub calls : new.calls ≡ old.calls
+  pub dirty : new.dirty.items ≡ old.dirty.items
   pub flags : length new.resident.items ≡ length old.resident.items
   pub resident : (p : ℕ) → flag_at old.resident.items p ≡ true → flag_at new.resident.items p ≡ true
-
--- by how much a call that answers so raised the disk's count of faults
-abbrev pub faults_by : {T : Type 0} → Result T CcError → ℕ
-faults_by (Ok answer) = 0
-faults_by (Err (error.ReadFault page)) = 1
-faults_by (Err e) = 0
 
 -- the disk failed to read the page in this call, and there is room for the call's entry
 abbrev pub FaultedAt : ℕ → Past → Type 0

@@ -1,7 +1,12 @@
 pub mod Past
 pub mod Stands
+pub mod Plain
+pub mod Rows
 pub mod Pieces
 pub mod Caches
+pub mod Served
 pub mod Lines
 pub mod Words
 pub mod Opens
+pub mod Disks
+pub mod Ends

@@ -6,14 +6,17 @@
 
 ghost use Rattle.cc_entry.specs.declared.call.Call.TheVariants as call;
 ghost use Rattle.cc_run.specs.Stands.{first_object as the_first_object, opening_entry};
-ghost use Rattle.std.specs.Prelude.{◌≢◌, ◌≡◌, ℕ, suc, ◌≤◌, ◌<◌, ◌+◌, ◌-◌, ◌*◌, ◌^◌, List, ◌∷◌, [], length, vec_len, OnOk, OnErr, IfOk, IfErr, Option, Some, None, min, max, true, false, slice_index};
+ghost use Rattle.std.specs.Prelude.{◌≢◌, ◌||◌, ◌≡◌, ℕ, suc, ◌≤◌, ◌<◌, ◌+◌, ◌-◌, ◌*◌, ◌^◌, List, ◌∷◌, [], length, vec_len, OnOk, OnErr, IfOk, IfErr, Option, Some, None, min, max, true, false, slice_index};
 
-use crate::frames::{put_frame, put_piece};
+use crate::frames::{mark, put_frame, put_piece};
 use crate::journal::Journal;
+use crate::places::{first_object, page_of_stream};
+use crate::table::rows_of;
 use cc_entry::{
     Bytes, Call, CcError, Entry, FileId, FileSizes, NoMemory, Outcome, PageId, Quota, Reply,
     StreamId,
 };
+use cc_print::TableRow;
 use cc_traits::{PageDisk, Stop};
 use std::alloc::Global;
 
@@ -34,6 +37,8 @@ pub struct Cache {
     bytes: Vec<u8>,
     /// Whether each page is resident.
     resident: Vec<bool>,
+    /// Whether each page is dirty.
+    dirty: Vec<bool>,
     journal: Journal,
     /// How many calls of the caller have ended.
     calls: u32,
@@ -41,21 +46,7 @@ pub struct Cache {
     ghost few_pages: { vec_len resident ≤ 1024 },
     ghost whole_pages: { vec_len bytes ≡ 4096 * vec_len resident },
     ghost has_pages: { size ≤ vec_len bytes },
-}
-
-/// The first object of the first stream.
-fn first_object() -> FileId
-    ensures { result ≡ record { stream = 0; object = 0 } }
-{
-    FileId::new(0, 0).unwrap()
-}
-
-/// A page of the first stream.
-fn page_of_stream(page: u64) -> PageId
-    requires { page < 2 ^ 51 }
-    ensures { result ≡ record { stream = 0; page = page } }
-{
-    PageId::new(StreamId::new(0).unwrap(), page).unwrap()
+    ghost flags: { vec_len dirty ≡ vec_len resident },
 }
 
 /// The entry of the first object's initialise.
@@ -123,18 +114,21 @@ impl Cache {
         ensures stands { IfOk result (λ cache. (u : Setup) → (told : Option Disk) → u.opening 0 ≡ opening_of told → CacheStands u told cache) }
         ensures calls { IfOk result (λ cache. cache.calls ≡ 0) }
         ensures placed { IfOk result (λ cache. cache.journal.entries ≡ opening_entry size valid ∷ []) }
+        ensures plain { IfOk result IsPlainCache }
     {
         let pages = size.div_ceil(PAGE) as usize;
         let mut journal = Journal::new(alloc);
         journal.reserve(1)?;
         let bytes = vec![in alloc; 0; 4096 * pages]?;
         let resident = vec![in alloc; false; pages]?;
+        let dirty = vec![in alloc; false; pages]?;
         journal.push(initialise_entry(size, valid));
         Ok(Cache {
             size,
             valid,
             bytes,
             resident,
+            dirty,
             journal,
             calls: 0,
         })
@@ -146,6 +140,13 @@ impl Cache {
     {
         let Cache { journal, .. } = self;
         journal
+    }
+
+    /// The rows of the dirty pages.
+    pub fn table(&self, alloc: Global) -> Result<Vec<TableRow>, NoMemory>
+        ensures { IfOk result (λ rows. IsPlainCache self.now → rows.items ≡ table_of self.now.journal.entries) }
+    {
+        rows_of(alloc, &self.dirty)
     }
 
     /// How many calls of the caller have ended.
@@ -160,17 +161,21 @@ impl Cache {
     ghost use Rattle.cc_traits.specs.Stop.{faults_in};
     ghost use Rattle.cc_traits.specs.Disk.{Disk};
     ghost use Rattle.cc_model.specs.Setup.{Setup};
+    ghost use Rattle.cc_model.specs.Places.{has_page};
     ghost use Rattle.cc_run.specs.Stands.{flag_at, opening_of, AllFlagged, IsPiece};
-    ghost use Rattle.cc_run.specs.Pieces.{Filled, Answered, calls_after};
-    ghost use Rattle.cc_run.specs.Caches.{CacheStands, Keeps, faults_by, FillStopped, ReadStopped, WriteStopped, IsChanged};
+    ghost use Rattle.cc_pieces.specs.Table.{table_of};
+    ghost use Rattle.cc_pieces.specs.Failures.{failures};
+    ghost use Rattle.cc_run.specs.Pieces.{IsWithin, Went, Answered, calls_after};
+    ghost use Rattle.cc_run.specs.Caches.{CacheStands, IsPlainCache, Keeps, FillStopped, ReadStopped, WriteStopped, IsChanged};
 
     /// Brings a page of the stream in, where it is not resident.
     fn bring_in<D: PageDisk>(&mut self, disk: &mut D, page: u64) -> Result<(), CcError>
         requires { 4096 * page < self.old.size }
         ensures stands { (u : Setup) → CacheStands u (D.told disk.old) self.old → CacheStands u (D.told disk.new) self.new }
         ensures told { D.told disk.new ≡ D.told disk.old }
-        ensures counted { D.faults disk.new ≡ D.faults disk.old + faults_by result }
-        ensures filled { Filled self.old.journal.entries self.new.journal.entries }
+        ensures counted { D.faults disk.new + failures 0 self.old.journal.entries ≡ D.faults disk.old + failures 0 self.new.journal.entries }
+        ensures plain { IsPlainCache self.old → IsPlainCache self.new }
+        ensures filled { (from to : ℕ) → IsWithin from to page → Went from to result self.old.journal.entries self.new.journal.entries }
         ensures keeps { Keeps self.old self.new }
         ensures resident { OnOk result (flag_at self.new.resident.items page ≡ true) }
         ensures stopped { IfErr result (FillStopped self.new.journal) }
@@ -211,8 +216,9 @@ impl Cache {
         requires { end ≤ self.old.size }
         ensures stands { (u : Setup) → CacheStands u (D.told disk.old) self.old → CacheStands u (D.told disk.new) self.new }
         ensures told { D.told disk.new ≡ D.told disk.old }
-        ensures counted { D.faults disk.new ≡ D.faults disk.old + faults_by result }
-        ensures filled { Filled self.old.journal.entries self.new.journal.entries }
+        ensures counted { D.faults disk.new + failures 0 self.old.journal.entries ≡ D.faults disk.old + failures 0 self.new.journal.entries }
+        ensures plain { IsPlainCache self.old → IsPlainCache self.new }
+        ensures filled { Went at end result self.old.journal.entries self.new.journal.entries }
         ensures keeps { Keeps self.old self.new }
         ensures resident { OnOk result (AllFlagged self.new.resident.items at end) }
         ensures stopped { IfErr result (FillStopped self.new.journal) }
@@ -221,7 +227,10 @@ impl Cache {
             return Ok(());
         }
         for page in at / PAGE..(end - 1) / PAGE + 1 {
-            self.bring_in(disk, page)?;
+            match self.bring_in(disk, page) {
+                Ok(()) => {}
+                Err(error) => return Err(error),
+            }
         }
         Ok(())
     }
@@ -236,6 +245,7 @@ impl Cache {
         ensures valid { self.new.valid ≡ self.old.valid }
         ensures bytes { self.new.bytes.items ≡ self.old.bytes.items }
         ensures resident { self.new.resident.items ≡ self.old.resident.items }
+        ensures dirty { self.new.dirty.items ≡ self.old.dirty.items }
     {
         self.calls += 1;
         self.journal.push(Entry::Call {
@@ -274,8 +284,9 @@ impl Cache {
     ) -> Result<(Bytes, Bytes), CcError>
         ensures stands { (u : Setup) → CacheStands u (D.told disk.old) self.old → CacheStands u (D.told disk.new) self.new }
         ensures told { D.told disk.new ≡ D.told disk.old }
-        ensures counted { D.faults disk.new ≡ D.faults disk.old + faults_by result }
-        ensures filled { Filled self.old.journal.entries self.new.journal.entries }
+        ensures counted { D.faults disk.new + failures 0 self.old.journal.entries ≡ D.faults disk.old + failures 0 self.new.journal.entries }
+        ensures plain { IsPlainCache self.old → IsPlainCache self.new }
+        ensures filled { Went at (min (at + len) self.old.size) result self.old.journal.entries self.new.journal.entries }
         ensures keeps { Keeps self.old self.new }
         ensures short { OnOk result (len ≤ 1048576) }
         ensures resident { OnOk result (AllFlagged self.new.resident.items at (min (at + len) self.new.size)) }
@@ -306,8 +317,9 @@ impl Cache {
         requires { self.old.calls < 2 ^ 32 - 1 }
         ensures stands { (u : Setup) → CacheStands u (D.told disk.old) self.old → CacheStands u (D.told disk.new) self.new }
         ensures told { D.told disk.new ≡ D.told disk.old }
-        ensures counted { D.faults disk.new ≡ D.faults disk.old + faults_by result }
-        ensures answered { Answered (λ bytes. reply.Read bytes) (call.CopyRead the_first_object at len true) (suc self.old.calls) self.old.journal.entries self.new.journal.entries result }
+        ensures plain { IsPlainCache self.old → IsPlainCache self.new }
+        ensures counted { D.faults disk.new + failures 0 self.old.journal.entries ≡ D.faults disk.old + failures 0 self.new.journal.entries }
+        ensures answered { Answered at (min (at + len) self.old.size) (λ bytes. reply.Read bytes) (call.CopyRead the_first_object at len true) (suc self.old.calls) self.old.journal.entries self.new.journal.entries result }
         ensures calls { self.new.calls ≡ calls_after self.old.calls result }
         ensures size { self.new.size ≡ self.old.size }
     {
@@ -330,8 +342,10 @@ impl Cache {
     fn write<D: PageDisk>(&mut self, disk: &mut D, at: u64, piece: &[u8]) -> Result<(), CcError>
         ensures stands { OnErr result ((u : Setup) → CacheStands u (D.told disk.old) self.old → CacheStands u (D.told disk.new) self.new) }
         ensures told { D.told disk.new ≡ D.told disk.old }
-        ensures counted { D.faults disk.new ≡ D.faults disk.old + faults_by result }
-        ensures filled { Filled self.old.journal.entries self.new.journal.entries }
+        ensures counted { D.faults disk.new + failures 0 self.old.journal.entries ≡ D.faults disk.old + failures 0 self.new.journal.entries }
+        ensures plain { IsPlainCache self.old → IsPlainCache self.new }
+        ensures filled { Went at (at + length piece.now) result self.old.journal.entries self.new.journal.entries }
+        ensures within { OnOk result (at + length piece.now ≤ self.old.size) }
         ensures same { self.new.calls ≡ self.old.calls }
         ensures size { self.new.size ≡ self.old.size }
         ensures written { OnOk result ((u : Setup) → CacheStands u (D.told disk.old) self.old → IsChanged u (D.told disk.new) self.old self.new at piece.now) }
@@ -356,6 +370,24 @@ impl Cache {
         Ok(())
     }
 
+    /// Marks every page with a byte from a place on as dirty.
+    fn mark_written(&mut self, at: u64, len: u64)
+        requires { at + len ≤ self.old.size }
+        ensures marked { (p : ℕ) → flag_at self.new.dirty.items p ≡ (has_page (record { from = at; to = at + len }) p || flag_at self.old.dirty.items p) }
+        ensures size { self.new.size ≡ self.old.size }
+        ensures valid { self.new.valid ≡ self.old.valid }
+        ensures calls { self.new.calls ≡ self.old.calls }
+        ensures bytes { self.new.bytes.items ≡ self.old.bytes.items }
+        ensures resident { self.new.resident.items ≡ self.old.resident.items }
+        ensures journal { self.new.journal ≡ self.old.journal }
+    {
+        if len > 0 {
+            let first = at / PAGE;
+            let last = (at + len - 1) / PAGE;
+            mark(&mut self.dirty, first as usize, last as usize + 1);
+        }
+    }
+
     /// `CcCopyWrite` of bytes at a place at or below the valid data length and within the size.
     pub fn copy_write<D: PageDisk>(
         &mut self,
@@ -367,8 +399,9 @@ impl Cache {
         requires { self.old.calls < 2 ^ 32 - 1 }
         ensures stands { (u : Setup) → CacheStands u (D.told disk.old) self.old → CacheStands u (D.told disk.new) self.new }
         ensures told { D.told disk.new ≡ D.told disk.old }
-        ensures counted { D.faults disk.new ≡ D.faults disk.old + faults_by result }
-        ensures answered { Answered (λ done. reply.Unit) (call.CopyWrite the_first_object at bytes.now) (suc self.old.calls) self.old.journal.entries self.new.journal.entries result }
+        ensures plain { IsPlainCache self.old → IsPlainCache self.new }
+        ensures counted { D.faults disk.new + failures 0 self.old.journal.entries ≡ D.faults disk.old + failures 0 self.new.journal.entries }
+        ensures answered { Answered at (at + length bytes.now) (λ done. reply.Unit) (call.CopyWrite the_first_object at bytes.now) (suc self.old.calls) self.old.journal.entries self.new.journal.entries result }
         ensures calls { self.new.calls ≡ calls_after self.old.calls result }
         ensures size { self.new.size ≡ self.old.size }
     {
@@ -376,6 +409,7 @@ impl Cache {
         let kept = Bytes::of(alloc, &piece)?;
         match self.write(disk, at, &piece) {
             Ok(()) => {
+                self.mark_written(at, piece.len() as u64);
                 self.place(write_call(at, kept), Outcome::Done(Reply::Unit));
                 Ok(())
             }

@@ -1,6 +1,7 @@
 //! Bytes in and out of the plain list of pages.
 
-ghost use Rattle.std.specs.Prelude.{◌≡◌, ℕ, ◌≤◌, ◌<◌, ◌+◌, ◌-◌, length, slice_index, nat_lt, if◌then◌else◌, vec_len};
+ghost use Rattle.std.specs.Prelude.{◌≡◌, ℕ, ◌≤◌, ◌<◌, ◌+◌, ◌-◌, true, length, slice_index, nat_lt, if◌then◌else◌, vec_len};
+ghost use Rattle.cc_run.specs.Stands.{flag_at};
 
 /// Puts the frame of a page at its place; from the valid data length on its bytes are zero.
 pub fn put_frame(bytes: &mut Vec<u8>, frame: &[u8; 4096], at: usize, valid: u64)
@@ -30,5 +31,18 @@ pub fn put_piece(bytes: &mut Vec<u8>, at: usize, piece: &[u8])
 {
     for i in 0..piece.len() {
         bytes[at + i] = piece[i];
+    }
+}
+
+/// Sets the flags from one place up to another.
+pub fn mark(flags: &mut Vec<bool>, from: usize, to: usize)
+    requires { to ≤ vec_len flags.old }
+    ensures len { vec_len flags.new ≡ vec_len flags.old }
+    ensures inside { (p : ℕ) → from ≤ p → p < to → flag_at flags.new.items p ≡ true }
+    ensures below { (p : ℕ) → p < from → flag_at flags.new.items p ≡ flag_at flags.old.items p }
+    ensures above { (p : ℕ) → from ≤ to → to ≤ p → flag_at flags.new.items p ≡ flag_at flags.old.items p }
+{
+    for i in from..to {
+        flags[i] = true;
     }
 }

@@ -1,6 +1,8 @@
 //! The bytes of the script, from the source.
 
-ghost use Rattle.std.specs.Prelude.{◌≡◌, ◌<◌, ◌≤◌, ◌+◌, IfOk, IsErrOf, vec_len};
+ghost use Rattle.std.specs.Prelude.{◌≡◌, ◌<◌, ◌≤◌, ◌+◌, IfOk, OnOk, IsErrOf, vec_len};
+ghost use Rattle.cc_traits.specs.Told.{IfTold};
+ghost use Rattle.cc_run.specs.Ends.{IsTooLong, IsShort};
 ghost use Rattle.cc_run.specs.declared.intake.Unread.TheVariants as unread;
 
 use cc_traits::{Source, Stop};
@@ -21,8 +23,11 @@ pub enum Unread {
 
 /// All the bytes up to the source's end.
 pub fn take_all<S: Source>(alloc: Global, source: &mut S) -> Result<Vec<u8>, Unread>
-    ensures few { IfOk result (λ bytes. vec_len bytes ≤ 16777216) }
+    ensures all { IfOk result (λ bytes. IfTold (S.told source.old) (λ left. bytes.items ≡ left)) }
+    ensures short { OnOk result (IsShort (S.told source.old) (S.told source.new)) }
+    ensures calm { OnOk result (S.faults source.new ≡ S.faults source.old) }
     ensures failed { IsErrOf result Unread.Failed → S.faults source.old < S.faults source.new }
+    ensures long { IsErrOf result Unread.TooLong → IsTooLong (S.told source.old) (S.told source.new) }
 {
     let mut bytes = Vec::new(alloc);
     let mut buffer = [0; 4096];

@@ -13,12 +13,16 @@ mod cache;
 mod frames;
 mod intake;
 mod journal;
+mod no_run;
 mod output;
+mod places;
 mod run;
+mod served;
 mod table;
 mod top;
 mod words;
 
+pub use no_run::NoRun;
 pub use run::{Ran, run_stream};
 pub use top::{Ended, cache_main};
 

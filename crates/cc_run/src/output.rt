@@ -1,6 +1,9 @@
 //! The text, to the sink.
 
-ghost use Rattle.std.specs.Prelude.{◌≡◌, OnOk};
+ghost use Rattle.std.specs.Prelude.{◌≡◌, ◌<◌, ◌⊎◌, OnOk, IsErrOf};
+ghost use Rattle.cc_traits.specs.Told.{Both, Took};
+ghost use Rattle.cc_run.specs.Ends.{TookPart};
+ghost use Rattle.cc_run.specs.declared.output.Unput.TheVariants as unput;
 
 use cc_traits::{Sink, Stop};
 
@@ -14,7 +17,10 @@ pub enum Unput {
 
 /// Puts the whole text out.
 pub fn put_all<K: Sink>(sink: &mut K, text: &[u8]) -> Result<(), Unput>
-    ensures { OnOk result (K.faults sink.new ≡ K.faults sink.old) }
+    ensures whole { OnOk result (Both (K.told sink.old) (K.told sink.new) (Took text.now)) }
+    ensures part { Both (K.told sink.old) (K.told sink.new) (TookPart text.now) }
+    ensures failed { IsErrOf result Unput.Failed → (K.faults sink.old < K.faults sink.new) ⊎ (K.stalls sink.old < K.stalls sink.new) }
+    ensures calm { OnOk result (K.faults sink.new ≡ K.faults sink.old) }
 {
     let mut rest = text;
     while !rest.is_empty() {

@@ -1,13 +1,20 @@
 //! The run of a script's lines: one caller's copied reads and writes of one stream, in their order.
 
-ghost use Rattle.std.specs.Prelude.{◌≡◌, ◌∷◌, ◌++◌, ◌<◌, ◌≤◌, ◌+◌, ◌-◌, ◌^◌, [], length, reverse, IfOk, OnOk};
+ghost use Rattle.std.specs.Prelude.{◌≡◌, ◌≢◌, ℕ, ◌∷◌, ◌++◌, ◌<◌, ◌≤◌, ◌+◌, ◌-◌, ◌^◌, [], length, reverse, IfOk, OnOk};
+ghost use Rattle.std.specs.List.{AllByRecursion};
 ghost use Rattle.cc_model.specs.Setup.{Setup};
 ghost use Rattle.cc_model.specs.Good.{IsGood};
+ghost use Rattle.cc_pieces.specs.Calls.{call_of};
+ghost use Rattle.cc_pieces.specs.Runs.{IsExplained};
+ghost use Rattle.cc_pieces.specs.Table.{table_of};
+ghost use Rattle.cc_pieces.specs.Failures.{failures};
 ghost use Rattle.cc_run.specs.Stands.{opening_of};
-ghost use Rattle.cc_run.specs.Lines.{answered_lines, lines_of};
+ghost use Rattle.cc_run.specs.Served.{IsServedStream, IsServedLine, IsCopy};
+ghost use Rattle.cc_run.specs.Lines.{Serves, ServedLines};
 
 use crate::cache::Cache;
-use cc_entry::{Answer, Entry, FileId, LineReply, NoMemory, Reply};
+use cc_entry::{Answer, Entry, LineReply, NoMemory, Reply};
+use cc_print::TableRow;
 use cc_script::{Action, ActionLine, StreamLine};
 use cc_traits::PageDisk;
 use std::alloc::Global;
@@ -15,11 +22,13 @@ use std::alloc::Global;
 /// The most lines of a script.
 const MOST_LINES: usize = 65536;
 
-/// What a run left: the answer of each line, the stream's own first, and the journal, oldest entry first.
+/// What a run left: the answer of each line, the stream's own first, the journal, oldest entry first,
+/// and the rows of the pages that are dirty at the end.
 #[derive(Debug, Drop)]
 pub struct Ran {
     pub replies: Vec<LineReply>,
     pub journal: Vec<Entry>,
+    pub table: Vec<TableRow>,
 }
 
 /// Runs the lines on the stream, over a disk of its own. Where the disk tells its pages, every read
@@ -30,11 +39,15 @@ pub fn run_stream<D: PageDisk>(
     disk: &mut D,
     lines: &[ActionLine],
 ) -> Result<Ran, NoMemory>
-    requires in_order { stream.now.valid ≤ stream.now.size }
-    requires small { stream.now.size ≤ 4194304 }
+    requires stream { IsServedStream stream.now }
+    requires lines { AllByRecursion IsServedLine lines.now }
     ensures good { IfOk result (λ ran. (u : Setup) → u.opening 0 ≡ opening_of (D.told disk.old) → IsGood u (reverse ran.journal.items)) }
-    ensures answered { IfOk result (λ ran. answered_lines ran.replies.items ≡ stream.now.line ∷ lines_of lines.now) }
+    ensures explained { IfOk result (λ ran. IsExplained (stream.now ∷ []) lines.now ran.replies.items (reverse ran.journal.items)) }
+    ensures table { IfOk result (λ ran. ran.table.items ≡ table_of (reverse ran.journal.items)) }
     ensures told { D.told disk.new ≡ D.told disk.old }
+    ensures counted { IfOk result (λ ran. D.faults disk.new ≡ D.faults disk.old + failures 0 (reverse ran.journal.items)) }
+    ensures risen { D.faults disk.old ≤ D.faults disk.new }
+    ensures others { IfOk result (λ ran. (s : ℕ) → s ≢ 0 → failures s (reverse ran.journal.items) ≡ 0) }
 {
     let mut replies = Vec::new(alloc);
     replies.reserve(1)?;
@@ -44,11 +57,16 @@ pub fn run_stream<D: PageDisk>(
     });
     let mut cache = Cache::open(alloc, stream.size, stream.valid)?;
     serve_lines(alloc, &mut cache, disk, lines, &mut replies)?;
+    let table = cache.table(alloc)?;
     let journal = cache.into_journal().into_entries();
-    Ok(Ran { replies, journal })
+    Ok(Ran {
+        replies,
+        journal,
+        table,
+    })
 }
 
-ghost use Rattle.cc_run.specs.Caches.{CacheStands};
+ghost use Rattle.cc_run.specs.Caches.{CacheStands, IsPlainCache};
 
 /// Serves the lines, and puts the answer of each behind the replies.
 fn serve_lines<D: PageDisk>(
@@ -58,10 +76,13 @@ fn serve_lines<D: PageDisk>(
     lines: &[ActionLine],
     replies: &mut Vec<LineReply>,
 ) -> Result<(), NoMemory>
-    requires { cache.old.calls ≡ 0 }
+    requires lines { AllByRecursion IsServedLine lines.now }
+    requires calls { cache.old.calls ≡ 0 }
     ensures stands { (u : Setup) → CacheStands u (D.told disk.old) cache.old → CacheStands u (D.told disk.new) cache.new }
+    ensures plain { IsPlainCache cache.old → IsPlainCache cache.new }
     ensures told { D.told disk.new ≡ D.told disk.old }
-    ensures answered { OnOk result (answered_lines replies.new.items ≡ answered_lines replies.old.items ++ lines_of lines.now) }
+    ensures counted { D.faults disk.new + failures 0 cache.old.journal.entries ≡ D.faults disk.old + failures 0 cache.new.journal.entries }
+    ensures served { OnOk result (IsPlainCache cache.old → ServedLines lines.now replies.old.items replies.new.items cache.old.journal.entries cache.new.journal.entries) }
 {
     if lines.len() > MOST_LINES {
         return Err(NoMemory);
@@ -77,35 +98,26 @@ fn serve_lines<D: PageDisk>(
     Ok(())
 }
 
-/// The answer of one line. A line of another file, or of a call that is not served, is not now: the
-/// reader lets no such line through.
+/// The answer of one line.
 fn serve<D: PageDisk>(alloc: Global, cache: &mut Cache, disk: &mut D, action: &Action) -> Answer
-    requires { cache.old.calls < 2 ^ 32 - 1 }
+    requires copy { IsCopy action.now }
+    requires calls { cache.old.calls < 2 ^ 32 - 1 }
     ensures stands { (u : Setup) → CacheStands u (D.told disk.old) cache.old → CacheStands u (D.told disk.new) cache.new }
+    ensures plain { IsPlainCache cache.old → IsPlainCache cache.new }
     ensures told { D.told disk.new ≡ D.told disk.old }
+    ensures counted { D.faults disk.new + failures 0 cache.old.journal.entries ≡ D.faults disk.old + failures 0 cache.new.journal.entries }
+    ensures explained { IsPlainCache cache.old → Serves (call_of action.now) result cache.old.journal.entries cache.new.journal.entries }
     ensures calls { cache.new.calls ≤ cache.old.calls + 1 }
 {
     match action {
-        Action::CopyRead {
-            file,
-            at,
-            len,
-            wait: true,
-        } if is_first(*file) => match cache.copy_read(alloc, disk, *at, *len) {
+        Action::CopyRead { at, len, .. } => match cache.copy_read(alloc, disk, *at, *len) {
             Ok(bytes) => Answer::Given(Reply::Read(bytes)),
             Err(error) => Answer::Refused(error),
         },
-        Action::CopyWrite { file, at, bytes } if is_first(*file) => {
-            match cache.copy_write(alloc, disk, *at, bytes) {
-                Ok(()) => Answer::Given(Reply::Unit),
-                Err(error) => Answer::Refused(error),
-            }
-        }
-        _ => Answer::NotNow,
+        Action::CopyWrite { at, bytes, .. } => match cache.copy_write(alloc, disk, *at, bytes) {
+            Ok(()) => Answer::Given(Reply::Unit),
+            Err(error) => Answer::Refused(error),
+        },
+        _ => unreachable!(),
     }
-}
-
-/// Whether the file is the first object of the first stream.
-fn is_first(file: FileId) -> bool {
-    file.stream().number() == 0 && file.object() == 0
 }

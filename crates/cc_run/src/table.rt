@@ -1,50 +1,25 @@
-//! The pages that are dirty at the end of a run.
+//! The rows of the pages that are dirty at the end of a run.
 
-ghost use Rattle.std.specs.Prelude.{◌≡◌, ◌≤◌, IfOk, vec_len};
+ghost use Rattle.std.specs.Prelude.{◌≡◌, ℕ, ◌<◌, ◌≤◌, IfOk, None, map, length, vec_len};
+ghost use Rattle.std.specs.List.{filter, range_with_len};
+ghost use Rattle.cc_run.specs.Stands.{flag_at};
+ghost use Rattle.cc_run.specs.Rows.{plain_row};
 
-use cc_entry::{Call, Entry, NoMemory, Outcome, PageId, StreamId};
+use crate::places::page_of_stream;
+use cc_entry::NoMemory;
 use cc_print::TableRow;
 use std::alloc::Global;
 
-/// The pages of a stream of at most 4 MiB.
-const PAGES: usize = 1024;
-
-/// The dirty pages of the first stream: those that a copied write changed, since nothing is written back.
-pub fn table_of(alloc: Global, journal: &[Entry]) -> Result<Vec<TableRow>, NoMemory>
-    ensures { IfOk result (λ rows. vec_len rows ≤ 1024) }
+/// A row for each page of the first stream whose flag is set.
+pub fn rows_of(alloc: Global, dirty: &[bool]) -> Result<Vec<TableRow>, NoMemory>
+    requires { length dirty.now ≤ 1024 }
+    ensures { IfOk result (λ rows. rows.items ≡ map plain_row (filter (flag_at dirty.now) (range_with_len 0 (length dirty.now)))) }
 {
-    let mut dirty = [false; PAGES];
-    for entry in journal {
-        if let Entry::Call {
-            call: Call::CopyWrite { at, bytes, .. },
-            outcome: Outcome::Done(_),
-            ..
-        } = entry
-        {
-            mark(&mut dirty, *at, bytes.len());
-        }
-    }
-    rows_of(alloc, &dirty)
-}
-
-/// Marks the pages with a byte from a place on.
-fn mark(dirty: &mut [bool; PAGES], at: u64, len: u64) {
-    for page in 0..PAGES as u64 {
-        if len > 0 && at < 4096 * page + 4096 && 4096 * page < at.saturating_add(len) {
-            dirty[page as usize] = true;
-        }
-    }
-}
-
-/// The rows of the marked pages.
-fn rows_of(alloc: Global, dirty: &[bool; PAGES]) -> Result<Vec<TableRow>, NoMemory>
-    ensures { IfOk result (λ rows. vec_len rows ≤ 1024) }
-{
-    let mut rows = Vec::with_capacity(alloc, PAGES)?;
-    for page in 0..PAGES as u64 {
-        if dirty[page as usize] {
+    let mut rows = Vec::with_capacity(alloc, dirty.len())?;
+    for page in 0..dirty.len() {
+        if dirty[page] {
             rows.push_reserved(TableRow {
-                page: PageId::new(StreamId::new(0).unwrap(), page).unwrap(),
+                page: page_of_stream(page as u64),
                 oldest: None,
                 newest: None,
             });

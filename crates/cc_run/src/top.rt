@@ -1,25 +1,30 @@
 //! The top call: words, script, run, text, status, in this order.
 
-ghost use Rattle.std.specs.Prelude.{◌≡◌, ◌≤◌, [], reverse, IfOk};
+ghost use Rattle.std.specs.Prelude.{◌≡◌, ◌<◌, ◌≤◌, ◌+◌, ℕ, [], Some, None, true, reverse, map, drop, length, string_bytes, vec_len, IfOk, IfErr, OnOk, OnErr};
 ghost use Rattle.cc_model.specs.Setup.{Setup};
 ghost use Rattle.cc_model.specs.Good.{IsGood};
+ghost use Rattle.cc_script.specs.declared.script.Script.{Script as TheScript};
+ghost use Rattle.cc_pieces.specs.Runs.{IsExplained};
+ghost use Rattle.cc_pieces.specs.Table.{table_of};
+ghost use Rattle.cc_print.specs.Text.{text_of as the_text_of};
+ghost use Rattle.cc_traits.specs.Told.{Both};
 ghost use Rattle.cc_run.specs.Opens.{OpensWith};
+ghost use Rattle.cc_run.specs.Served.{IsServed};
+ghost use Rattle.cc_run.specs.Ends.{called, sunk, IsCause, IsEnded, Spells, IsShort, IsPrinted, TookPart, status_of, fault_text};
+ghost use Rattle.cc_run.specs.Disks.{DisksAre};
+ghost use Rattle.cc_run.specs.Words.{is_run};
 
 use crate::intake::{Unread, take_all};
+use crate::no_run::{NoRun, syntax_text};
 use crate::output::{Unput, put_all};
 use crate::run::{Ran, run_stream};
-use crate::table::table_of;
+use crate::served::is_served;
 use crate::words::command_of;
-use cc_entry::{Entry, LineReply};
+use cc_entry::{Entry, LineReply, NoMemory};
 use cc_print::text_of;
 use cc_script::{Mode, Script, ScriptFault, read_script};
 use cc_traits::{Gate, LogFile, PageDisk, PostRoutine, Sink, Source};
 use std::alloc::Global;
-
-const USAGE: &str = "usage: ntcache run FILE [DIR] | steps FILE | gen N\n";
-
-/// The largest size of a stream.
-const LARGEST: u64 = 4194304;
 
 /// What a run of the program leaves. Disks, logs and posts come back in the order handed in.
 pub struct Ended<D, L = Box<dyn LogFile + Send>, Q = Box<dyn PostRoutine + Send>> {
@@ -48,38 +53,97 @@ struct Report {
 }
 
 /// A report without a run, whose text is put out as far as the sink takes it.
-fn refused<K: Sink>(alloc: Global, out: &mut K, status: u8, text: &str) -> Report
-    ensures status { result.status ≡ status }
-    ensures empty { result.journal.items ≡ [] }
+fn refused<K: Sink>(alloc: Global, out: &mut K, why: NoRun) -> Report
+    ensures status { result.status ≡ status_of why }
+    ensures printed { Both (K.told out.old) (K.told out.new) (TookPart (fault_text why)) }
+    ensures script { result.script ≡ None }
+    ensures replies { result.replies.items ≡ [] }
+    ensures journal { result.journal.items ≡ [] }
 {
-    let _ = put_all(out, text.as_bytes());
+    match why {
+        NoRun::Syntax { line } => {
+            if let Ok(text) = syntax_text(alloc, line) {
+                let _ = put_all(out, text.as_bytes());
+            }
+        }
+        _ => {
+            let _ = put_all(out, why.fixed_text().as_bytes());
+        }
+    }
     Report {
-        status,
+        status: why.status(),
         script: None,
         replies: Vec::new(alloc),
         journal: Vec::new(alloc),
     }
 }
 
-/// The text of the first line that is not in the grammar.
-fn syntax_fault<K: Sink>(alloc: Global, out: &mut K, line: u32) -> Report
-    ensures empty { result.journal.items ≡ [] }
+/// The script that the words ask for, from the source.
+fn prepare<S: Source>(
+    alloc: Global,
+    words: &[String],
+    source: &mut S,
+    disks: usize,
+) -> Result<Script, NoRun>
+    ensures words { OnOk result (is_run (map string_bytes words.now) ≡ true) }
+    ensures spelled { IfOk result (Spells (S.told source.old)) }
+    ensures short { OnOk result (IsShort (S.told source.old) (S.told source.new)) }
+    ensures calm { OnOk result (S.faults source.new ≡ S.faults source.old) }
+    ensures enough { IfOk result (λ script. length script.streams ≤ disks) }
+    ensures cause { IfErr result (IsCause (called (map string_bytes words.now) (S.told source.old) (S.told source.new) (S.faults source.old) (S.faults source.new) disks)) }
 {
-    match format!(in alloc; "syntax at line {line}\n") {
-        Ok(text) => refused(alloc, out, 2, text.as_str()),
-        Err(_) => refused(alloc, out, 2, ""),
+    if command_of(words).is_none() {
+        return Err(NoRun::Usage);
     }
+    let bytes = match take_all(alloc, source) {
+        Ok(bytes) => bytes,
+        Err(Unread::Failed) => return Err(NoRun::ReadFault),
+        Err(Unread::TooLong) => return Err(NoRun::TooLong),
+        Err(Unread::NoMemory) => return Err(NoRun::NoMemory),
+    };
+    let script = match read_script(alloc, &bytes, Mode::Run) {
+        Ok(script) => script,
+        Err(ScriptFault::Syntax { line }) => return Err(NoRun::Syntax { line }),
+        Err(ScriptFault::NoMemory) => return Err(NoRun::NoMemory),
+    };
+    if script.streams.len() > disks {
+        return Err(NoRun::TooFewDevices);
+    }
+    Ok(script)
+}
+
+/// Runs a script. A script that is not served is want of memory: the reader lets none through.
+fn run_script<D: PageDisk>(
+    alloc: Global,
+    script: &Script,
+    disks: &mut Vec<D>,
+) -> Result<Ran, NoMemory>
+    requires { length script.now.streams ≤ vec_len disks.old }
+    ensures good { IfOk result (λ ran. (u : Setup) → OpensWith u D.told disks.old.items → IsGood u (reverse ran.journal.items)) }
+    ensures explained { IfOk result (λ ran. IsExplained script.now.streams script.now.lines ran.replies.items (reverse ran.journal.items)) }
+    ensures table { IfOk result (λ ran. ran.table.items ≡ table_of (reverse ran.journal.items)) }
+    ensures disks { IfOk result (λ ran. DisksAre D.told D.faults (reverse ran.journal.items) disks.old.items disks.new.items) }
+    ensures kept { OnErr result (DisksAre D.told D.faults [] disks.old.items disks.new.items) }
+{
+    if !is_served(script) {
+        return Err(NoMemory);
+    }
+    let Some(stream) = script.streams.as_slice().first() else {
+        return Ok(Ran {
+            replies: Vec::new(alloc),
+            journal: Vec::new(alloc),
+            table: Vec::new(alloc),
+        });
+    };
+    run_stream(alloc, stream, &mut disks[0], script.lines.as_slice())
 }
 
 /// Prints a run, and answers the status.
 fn print<K: Sink>(alloc: Global, out: &mut K, script: &Script, ran: &Ran) -> u8
-    ensures { result ≤ 6 }
+    requires { ran.now.table.items ≡ table_of (reverse ran.now.journal.items) }
+    ensures { IsPrinted (sunk (K.told out.old) (K.told out.new) (K.faults out.old) (K.faults out.new) (K.stalls out.old) (K.stalls out.new)) (the_text_of script.now ran.now.replies.items ran.now.journal.items (table_of (reverse ran.now.journal.items))) result }
 {
-    let text = match table_of(alloc, &ran.journal) {
-        Ok(table) => text_of(alloc, script, &ran.replies, &ran.journal, &table),
-        Err(error) => Err(error),
-    };
-    match text {
+    match text_of(alloc, script, &ran.replies, &ran.journal, &ran.table) {
         Ok(text) => match put_all(out, &text) {
             Ok(()) => 0,
             Err(Unput::Failed) => 4,
@@ -88,36 +152,6 @@ fn print<K: Sink>(alloc: Global, out: &mut K, script: &Script, ran: &Ran) -> u8
         Err(_) => 6,
     }
 }
-
-/// Why a script was not run.
-enum Unrun {
-    TooFewDevices,
-    NoMemory,
-}
-
-/// Runs a script. The reader lets at most one stream through, no larger than a list of pages serves.
-fn run_script<D: PageDisk>(alloc: Global, script: &Script, disks: &mut Vec<D>) -> Result<Ran, Unrun>
-    ensures { IfOk result (λ ran. (u : Setup) → OpensWith u D.told disks.old.items → IsGood u (reverse ran.journal.items)) }
-{
-    let Some(stream) = script.streams.as_slice().first() else {
-        return Ok(Ran {
-            replies: Vec::new(alloc),
-            journal: Vec::new(alloc),
-        });
-    };
-    if stream.valid > stream.size || stream.size > LARGEST {
-        return Err(Unrun::NoMemory);
-    }
-    if disks.is_empty() {
-        return Err(Unrun::TooFewDevices);
-    }
-    let disk = &mut disks[0];
-    match run_stream(alloc, stream, disk, script.lines.as_slice()) {
-        Ok(ran) => Ok(ran),
-        Err(_) => Err(Unrun::NoMemory),
-    }
-}
-
 /// Reads the script and runs it.
 fn conduct<S: Source, K: Sink, D: PageDisk>(
     alloc: Global,
@@ -126,35 +160,27 @@ fn conduct<S: Source, K: Sink, D: PageDisk>(
     out: &mut K,
     disks: &mut Vec<D>,
 ) -> Report
-    ensures { (u : Setup) → OpensWith u D.told disks.old.items → IsGood u (reverse result.journal.items) }
+    ensures good { (u : Setup) → OpensWith u D.told disks.old.items → IsGood u (reverse result.journal.items) }
+    ensures ended { IsEnded (called (map string_bytes words.now) (S.told source.old) (S.told source.new) (S.faults source.old) (S.faults source.new) (length disks.old.items)) (sunk (K.told out.old) (K.told out.new) (K.faults out.old) (K.faults out.new) (K.stalls out.old) (K.stalls out.new)) result.script result.replies.items result.journal.items result.status }
+    ensures disks { DisksAre D.told D.faults (reverse result.journal.items) disks.old.items disks.new.items }
 {
-    if command_of(words).is_none() {
-        return refused(alloc, out, 1, USAGE);
-    }
-    let bytes = match take_all(alloc, source) {
-        Ok(bytes) => bytes,
-        Err(Unread::Failed) => return refused(alloc, out, 3, "script read fault\n"),
-        Err(Unread::TooLong) => return refused(alloc, out, 5, "script too long\n"),
-        Err(Unread::NoMemory) => return refused(alloc, out, 6, ""),
-    };
-    let script = match read_script(alloc, &bytes, Mode::Run) {
+    let script = match prepare(alloc, words, source, disks.len()) {
         Ok(script) => script,
-        Err(ScriptFault::Syntax { line }) => return syntax_fault(alloc, out, line),
-        Err(ScriptFault::NoMemory) => return refused(alloc, out, 6, ""),
+        Err(why) => return refused(alloc, out, why),
     };
-    match run_script(alloc, &script, disks) {
-        Ok(ran) => {
-            let status = print(alloc, out, &script, &ran);
-            let Ran { replies, journal } = ran;
-            Report {
-                status,
-                script: Some(script),
-                replies,
-                journal,
-            }
-        }
-        Err(Unrun::TooFewDevices) => refused(alloc, out, 7, "too few devices\n"),
-        Err(Unrun::NoMemory) => refused(alloc, out, 6, ""),
+    let ran = match run_script(alloc, &script, disks) {
+        Ok(ran) => ran,
+        Err(_) => return refused(alloc, out, NoRun::NoMemory),
+    };
+    let status = print(alloc, out, &script, &ran);
+    let Ran {
+        replies, journal, ..
+    } = ran;
+    Report {
+        status,
+        script: Some(script),
+        replies,
+        journal,
     }
 }
 
@@ -173,6 +199,10 @@ pub fn cache_main<S: Source, K: Sink, D: PageDisk, P: Gate>(
     _gate: &P,
 ) -> Ended<D>
     ensures good { (u : Setup) → OpensWith u D.told disks.items → IsGood u (reverse result.journal.items) }
+    ensures ended { IsEnded (called (map string_bytes words.now) (S.told script.old) (S.told script.new) (S.faults script.old) (S.faults script.new) (length disks.items)) (sunk (K.told out.old) (K.told out.new) (K.faults out.old) (K.faults out.new) (K.stalls out.old) (K.stalls out.new)) result.script result.replies.items result.journal.items result.status }
+    ensures disks { DisksAre D.told D.faults (reverse result.journal.items) disks.items result.disks.items }
+    ensures logs { result.logs ≡ logs }
+    ensures posts { result.posts ≡ posts }
 {
     let mut disks = disks;
     let Report {

@@ -1,13 +1,16 @@
-use Rattle.std.proofs.Common.{◌≡◌, ◌++◌, ℕ, ◌≤◌, take}
+use Rattle.std.proofs.Common.{◌≡◌, ◌++◌, ℕ, ◌+◌, ◌≤◌, take}
 use Rattle.cc_model.specs.Setup.{Setup}
-use Rattle.cc_run.specs.Caches.{CacheStands}
-use Rattle.cc_run.specs.Lines.{answered_lines, lines_of}
+use Rattle.cc_pieces.specs.Failures.{failures}
+use Rattle.cc_run.specs.Caches.{CacheStands, IsPlainCache}
+use Rattle.cc_run.specs.Lines.{ServedLines}
 use Rattle.cc_run.proofs.run.serve_lines.Given as goal
 
 abbrev pub invariant-loop-line : goal.invariant-loop-line
 invariant-loop-line g l = record {
   stands : (u : Setup) → CacheStands u (g.D.Told.told l.initial.disk) l.initial.cache → CacheStands u (g.D.Told.told l.disk) l.cache;
+  plain : IsPlainCache l.initial.cache → IsPlainCache l.cache;
   told : g.D.Told.told l.disk ≡ g.D.Told.told l.initial.disk;
+  counted : g.D.Told.faults l.disk + failures 0 l.initial.cache.journal.entries ≡ g.D.Told.faults l.initial.disk + failures 0 l.cache.journal.entries;
   calls : l.cache.calls ≤ l.line-index;
-  answered : answered_lines l.replies.items ≡ answered_lines l.initial.replies.items ++ lines_of (take l.line-index l.lines);
+  served : IsPlainCache l.initial.cache → ServedLines (take l.line-index l.lines) l.initial.replies.items l.replies.items l.initial.cache.journal.entries l.cache.journal.entries;
 }

@@ -1,8 +1,11 @@
-use Rattle.std.proofs.Common.{◌≡◌, ℕ, ◌+◌, ◌*◌, ◌<◌, arith, sym, ◌∙◌, refl, true, false, length, nat_lt, ◌∷◌}
+use Rattle.std.proofs.Common.{◌≡◌, ℕ, ◌+◌, ◌*◌, ◌<◌, arith, add-zero, ap, sym, ◌∙◌, refl, true, false, length, nat_lt, ◌∷◌}
 use Rattle.std.proofs.lemmas.List.{get_or_default}
 use Rattle.cc_entry.specs.declared.entry.Entry.TheVariants as entry
 use Rattle.cc_run.specs.Stands.{flag_at}
-use Rattle.cc_run.proofs.Fills.{filled-one, faulted}
+use Rattle.cc_run.proofs.Fills.{filled-none, filled-one, faulted}
+use Rattle.cc_traits.specs.Stop.{faults_of}
+use Rattle.cc_run.proofs.FailureSteps.{failures-page_in, failures-fill_failed}
+use Rattle.cc_run.proofs.PlainSteps.{plain-page_in, plain-fill_failed}
 use Rattle.cc_run.proofs.StandsSteps.{stands-fill_failed, stands-page_in, IsFound, IsPut}
 use Rattle.cc_run.proofs.cache.Cache.bring_in.Goals as goal
 use Rattle.cc_run.proofs.cache.Cache.bring_in.Goals.{then-from_disk+in-Ok, else-from_disk}
@@ -12,9 +15,13 @@ returns-in-Err-Failed-clause-stands g c =
     λ u s. rw (c.push.ensures.entries, c.reserve.ensures.entries, c.read_page.ensures.stays) (stands-fill_failed _ s)
 
 pub returns-in-Err-Failed-clause-filled : goal.returns-in-Err-Failed-clause-filled
-returns-in-Err-Failed-clause-filled g c =
-    let same = c.page_of_stream-place.ensures in
-    filled-one (entry.FillFailed 1 c.page_of_stream-place.result) _ _ (refl, rw same refl) (c.push.ensures.entries ∙ rw c.reserve.ensures.entries refl)
+returns-in-Err-Failed-clause-filled g c = λ from to within.
+    record {
+      before = c.args.self.now.journal.entries;
+      filled = filled-none from to c.args.self.now.journal.entries;
+      within = within;
+      failed = c.push.ensures.entries ∙ rw (c.reserve.ensures.entries, c.page_of_stream-place.ensures) refl;
+    }
 
 pub returns-in-Err-Failed-clause-stopped : goal.returns-in-Err-Failed-clause-stopped
 returns-in-Err-Failed-clause-stopped g c =
@@ -38,6 +45,28 @@ returns-clause-stands g c = λ u s.
     (stands-page_in c.args.page c.if-from_disk.frame c.put_frame.new.bytes.items s (omega arith) inside absent c.requires both.1 put)
 
 pub returns-clause-filled : goal.returns-clause-filled
-returns-clause-filled g c =
-    let same = c.page_of_stream-place.ensures in
-    filled-one (entry.PageIn 1 c.page_of_stream-place.result (nat_lt (4096 * c.args.page) c.args.self.now.valid)) _ _ (refl, rw same refl) (c.push-2.ensures.entries ∙ rw c.reserve.ensures.entries refl)
+returns-clause-filled g c = λ from to within.
+    filled-one from to (entry.PageIn 1 (record { stream = 0; page = c.args.page }) (nat_lt (4096 * c.args.page) c.args.self.now.valid)) _ _ (refl, refl, within) (c.push-2.ensures.entries ∙ rw (c.reserve.ensures.entries, c.page_of_stream-place.ensures) refl)
+
+pub returns-clause-plain : goal.returns-clause-plain
+returns-clause-plain g c = λ plain.
+    rw (c.push-2.ensures.entries, c.reserve.ensures.entries, c.page_of_stream-place.ensures) (plain-page_in c.args.page (nat_lt (4096 * c.args.page) c.args.self.now.valid) plain)
+
+pub returns-in-Err-Failed-clause-plain : goal.returns-in-Err-Failed-clause-plain
+returns-in-Err-Failed-clause-plain g c = λ plain.
+    rw (c.push.ensures.entries, c.reserve.ensures.entries, c.page_of_stream-place.ensures) (plain-fill_failed c.args.page plain)
+
+pub returns-clause-counted : goal.returns-clause-counted
+returns-clause-counted g c =
+    let same : g.D.Told.faults c.if-from_disk.disk ≡ g.D.Told.faults c.args.disk.now =
+    elim c.if-from_disk.branch [
+      | then-from_disk+in-Ok w ↦ rw w.disk-is (w.in-Ok.ensures.counted ∙ add-zero (g.D.Told.faults c.args.disk.now))
+      | else-from_disk w ↦ rw w.disk-is refl
+    ] in
+    rw (same, c.push-2.ensures.entries, c.reserve.ensures.entries, failures-page_in) refl
+
+pub returns-in-Err-Failed-clause-counted : goal.returns-in-Err-Failed-clause-counted
+returns-in-Err-Failed-clause-counted g c =
+    let risen : g.D.Told.faults c.read_page.new.self ≡ g.D.Told.faults c.args.disk.now + 1 =
+    c.in-Err-Failed.ensures.counted ∙ ap (λ stop. g.D.Told.faults c.args.disk.now + faults_of stop) c.in-Err-Failed.field-0-is in
+    rw (c.push.ensures.entries, c.reserve.ensures.entries, c.page_of_stream-place.ensures, failures-fill_failed) (omega (arith, risen))
