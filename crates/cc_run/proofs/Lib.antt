@@ -12,3 +12,4 @@ pub mod Rows
 pub mod Told
 pub mod LineSteps
 pub mod FailureSteps
+pub mod Explained

@@ -1,5 +1,5 @@
 -- What the calls of the first caller left explains their answers.
-use Rattle.std.proofs.Common.{◌≡◌, ◌≢◌, ℕ, zero, suc, ◌+◌, ◌*◌, ◌<◌, Bool, true, false, ◌&&◌, ◌==◌, nat_lt, List, [], ◌∷◌, ◌++◌, length, map, refl, sym, ◌∙◌, ap, arith, append_assoc, append-nil, Option, Some, None, Result, Ok, Err}
+use Rattle.std.proofs.Common.{◌≡◌, ◌≢◌, ℕ, zero, suc, ◌+◌, ◌*◌, ◌<◌, Bool, true, false, ◌&&◌, ◌==◌, nat_lt, List, [], ◌∷◌, ◌++◌, length, map, refl, sym, ◌∙◌, ap, arith, get_or, append_assoc, append-nil, Option, Some, None, Result, Ok, Err}
 use Rattle.std.specs.List.{AllByRecursion}
 use Rattle.std.proofs.lemmas.Bool.{lt-ltb, eq-eqb, ne_eqb}
 use Rattle.std.proofs.lemmas.List.{map-append, length-map}
@@ -106,7 +106,7 @@ idle-answered from to call reply_of nth old new (Err error.NoMemory) a caller ot
 idle-answered from to call reply_of nth old new (Err (error.ReadFault page)) a caller other = record {
   during = entry.Call 1 nth (Some 0) call (outcome.Failed (error.ReadFault page)) ∷ entry.FillFailed 1 (record { stream = 0; page = page }) ∷ a.faulted.filled.fills;
   grew = a.placed ∙ ap (λ l. entry.Call 1 nth (Some 0) call (outcome.Failed (error.ReadFault page)) ∷ l) (a.faulted.failed ∙ ap (λ l. entry.FillFailed 1 (record { stream = 0; page = page }) ∷ l) a.faulted.filled.grew);
-  others = (ne_eqb 1 caller (λ e. other (sym e)), ne_eqb 1 caller (λ e. other (sym e)), others-fills from to caller a.faulted.filled.fills other a.faulted.filled.all);
+  others = (ne_eqb 1 caller (λ e. other (sym e)), (ne_eqb 1 caller (λ e. other (sym e)), others-fills from to caller a.faulted.filled.fills other a.faulted.filled.all));
 }
 idle-answered from to call reply_of nth old new (Err e) a caller other = record {
   during = entry.Call 1 nth (Some 0) call (outcome.Failed e) ∷ a.filled.fills;
@@ -142,3 +142,9 @@ served-more lines line before after answer old between new served own serves = r
   where
     same : length lines ≡ length served.answers
     same = sym (length-map lines (λ l. l.line)) ∙ (ap length (sym served.lines_are) ∙ length-map served.answers (λ r. r.line))
+
+-- a fact of each element, of one
+pub all-at : {X : Type 0} (P : X → Type 0) (xs : List X) (i : ℕ) (d : X) → i < length xs → AllByRecursion P xs → P (get_or xs i d)
+all-at P [] i d low all = absurd (omega (arith, low))
+all-at P (x ∷ xs) zero d low all = all.0
+all-at P (x ∷ xs) (suc i) d low all = all-at P xs i d (omega (arith, low)) all.1

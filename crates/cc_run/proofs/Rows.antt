@@ -1,5 +1,5 @@
 -- The rows of flagged pages are the table.
-use Rattle.std.proofs.Common.{◌≡◌, ◌≢◌, ℕ, zero, suc, ◌+◌, ◌<◌, Bool, true, false, not, cond, List, [], ◌∷◌, ◌++◌, length, map, refl, sym, ◌∙◌, ap, arith, add-one, slice_index_or, None}
+use Rattle.std.proofs.Common.{◌≡◌, ◌≢◌, ℕ, zero, suc, ◌+◌, ◌<◌, Bool, true, false, not, cond, List, [], ◌∷◌, ◌++◌, length, map, refl, sym, ◌∙◌, ap, arith, add-one, slice_index_or, None, Result, Ok, Err, IfOk}
 use Rattle.std.specs.List.{filter, flat_map, range_with_len}
 use Rattle.std.proofs.lemmas.List.{map-append}
 use Rattle.std.proofs.lemmas.List.Elements.{filter-append}
@@ -76,3 +76,8 @@ pub rows-table : {size : ℕ} {dirty : List Bool} {past : List Entry} → IsPlai
 unfolding table_of
 rows-table {past = past} plain =
     sym (ap (λ l. rows_of past 0 ++ l) (no_rows plain 1 15 (λ e. absurd (omega (arith, e)))) ∙ (append-none (rows_of past 0) ∙ first_rows plain))
+
+-- a fact of an answer gives another
+pub if_ok-more : {T E : Type 0} {P Q : T → Type 0} (r : Result T E) → ((t : T) → P t → Q t) → IfOk r P → IfOk r Q
+if_ok-more (Ok t) more fact = more t fact
+if_ok-more (Err e) more fact = tt
