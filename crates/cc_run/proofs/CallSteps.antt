@@ -1,5 +1,5 @@
 -- The list of pages goes on standing for its past, over the entry of a call that ended.
-use Rattle.std.proofs.Common.{◌≡◌, ◌≢◌, ℕ, zero, suc, ◌+◌, ◌-◌, ◌*◌, ◌/◌, ◌%◌, ◌<◌, ◌≤◌, Bool, true, false, ◌||◌, ◌&&◌, not, ◌==◌, eqb, nat_lt, nat_le, cond, if◌then◌else◌, List, [], ◌∷◌, length, map, refl, sym, ◌∙◌, ap, arith, slice_index, Option, Some, None, min, max, ◌⊎◌, inl, inr}
+use Rattle.std.proofs.Common.{◌≡◌, ℕ, suc, ◌+◌, ◌-◌, ◌/◌, ◌%◌, ◌<◌, ◌≤◌, Bool, true, false, ◌&&◌, nat_lt, nat_le, cond, List, [], ◌∷◌, length, map, refl, sym, ◌∙◌, ap, arith, slice_index, Option, Some, None, min, max, ◌⊎◌, inl, inr}
 use Rattle.std.specs.Bool.{OnTrue}
 use Rattle.std.specs.List.{list_all, range_with_len}
 use Rattle.std.proofs.lemmas.Bool.{ltb-true, ltb-false, lt-ltb, le-ltb, leb-true, leb-false}
@@ -13,8 +13,8 @@ use Rattle.cc_entry.specs.declared.entry.Entry.{Entry}
 use Rattle.cc_entry.specs.declared.entry.Entry.TheVariants as entry
 use Rattle.cc_traits.specs.Disk.{Disk, page_of}
 use Rattle.cc_model.specs.Setup.{Setup}
-use Rattle.cc_model.specs.Places.{pages_of, has_byte}
-use Rattle.cc_model.specs.History.{Effect, Did, history}
+use Rattle.cc_model.specs.Places.{has_byte}
+use Rattle.cc_model.specs.History.{Did, history}
 use Rattle.cc_model.specs.Objects.{objects}
 use Rattle.cc_model.specs.Sizes.{raised}
 use Rattle.cc_model.specs.Touches.{sizes, size_of, valid_of, is_mapped}

@@ -1,5 +1,5 @@
 -- The run of one stream explains the answers of all its lines.
-use Rattle.std.proofs.Common.{◌≡◌, ◌≢◌, ℕ, ◌==◌, Bool, true, false, List, [], ◌∷◌, ◌++◌, refl, sym, ap, Some}
+use Rattle.std.proofs.Common.{◌≡◌, ◌≢◌, ℕ, ◌==◌, Bool, true, false, List, [], ◌∷◌, refl, sym, ap, Some}
 use Rattle.std.specs.List.{AllByRecursion}
 use Rattle.std.proofs.lemmas.Bool.{eqb-true, eqb-false, ne_eqb}
 use Rattle.cc_entry.specs.declared.answer.Answer.TheVariants as answer
@@ -11,7 +11,6 @@ use Rattle.cc_entry.specs.declared.entry.Entry.TheVariants as entry
 use Rattle.cc_script.specs.declared.script.ActionLine.{ActionLine}
 use Rattle.cc_script.specs.declared.script.StreamLine.{StreamLine}
 use Rattle.cc_pieces.specs.Calls.{opening_call, calls_of_lines}
-use Rattle.cc_pieces.specs.Pieces.{IsIdle}
 use Rattle.cc_pieces.specs.Runs.{Ran, IsExplained}
 use Rattle.cc_pieces.proofs.Pieces.{idle-none}
 use Rattle.cc_run.specs.Stands.{opening_entry}
@@ -41,14 +40,15 @@ explained-one stream lines replies past first all served = record {
   replies_are = served.grew;
   setup_lines = refl;
   answer_lines = served.lines_are;
-  opened =
-      (opening_entry stream.size stream.valid ∷ [],
-      record {
-        during = opening_entry stream.size stream.valid ∷ [];
-        grew = refl;
-        left = record { nth = 1; rest = []; filled = tt; placed = ap (λ e. e ∷ []) (opening-is stream first) };
-      },
-      idle-none 0 (opening_entry stream.size stream.valid ∷ []));
+  opened = (
+    opening_entry stream.size stream.valid ∷ [],
+    record {
+      during = opening_entry stream.size stream.valid ∷ [];
+      grew = refl;
+      left = record { nth = 1; rest = []; filled = tt; placed = ap (λ e. e ∷ []) (opening-is stream first) };
+    },
+    idle-none 0 (opening_entry stream.size stream.valid ∷ []),
+  );
   alone = λ caller other. record {
     during = opening_entry stream.size stream.valid ∷ [];
     grew = refl;

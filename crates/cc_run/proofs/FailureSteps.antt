@@ -1,5 +1,5 @@
 -- The failures of the first disk that a past shows, over the entries that are placed.
-use Rattle.std.proofs.Common.{◌≡◌, ℕ, suc, ◌+◌, Bool, List, [], ◌∷◌, refl, sym, add-one, Some}
+use Rattle.std.proofs.Common.{◌≡◌, ℕ, ◌+◌, Bool, List, [], ◌∷◌, refl, sym, add-one, Some}
 use Rattle.std.proofs.lemmas.Bool.{eq-eqb}
 use Rattle.cc_entry.specs.Place.{Page}
 use Rattle.cc_entry.specs.declared.call.Call.{Call}

@@ -1,5 +1,5 @@
 -- Pages that were brought in, one step after another.
-use Rattle.std.proofs.Common.{◌≡◌, ℕ, Bool, true, false, ◌||◌, List, [], ◌∷◌, ◌++◌, refl, sym, ◌∙◌, ap, append_assoc, Result, Ok, Err}
+use Rattle.std.proofs.Common.{◌≡◌, ℕ, true, List, [], ◌∷◌, ◌++◌, refl, sym, ◌∙◌, ap, append_assoc, Result, Ok, Err}
 use Rattle.std.specs.List.{AllByRecursion, list_any}
 use Rattle.std.proofs.lemmas.Bool.{eq-eqb}
 use Rattle.cc_entry.specs.Place.{Page}
@@ -9,7 +9,7 @@ use Rattle.cc_entry.specs.declared.entry.Entry.{Entry}
 use Rattle.cc_entry.specs.declared.entry.Entry.TheVariants as entry
 use Rattle.cc_model.specs.Faults.{faults_since, is_unread, Unread}
 use Rattle.cc_model.proofs.PassSteps.{faults_since-fault}
-use Rattle.cc_run.specs.Pieces.{IsFill, IsWithin, Filled, Faulted, Went}
+use Rattle.cc_run.specs.Pieces.{IsFill, Filled, Went}
 use Rattle.cc_run.specs.Caches.{Keeps}
 use Rattle.cc_run.specs.declared.cache.Cache.{Cache}
 

@@ -1,6 +1,6 @@
 -- A good journal stays good with one entry more, for the entries that a copied read or write places.
-use Rattle.std.proofs.Common.{◌≡◌, ℕ, suc, ◌<◌, ◌≤◌, ◌*◌, Bool, true, false, nat_lt, List, [], ◌∷◌, refl, sym, ◌∙◌, arith, Option, Some, None}
-use Rattle.cc_entry.specs.Place.{Page, File}
+use Rattle.std.proofs.Common.{◌≡◌, ℕ, Bool, List, ◌∷◌, refl, Option, None}
+use Rattle.cc_entry.specs.Place.{Page}
 use Rattle.cc_entry.specs.declared.call.Call.{Call}
 use Rattle.cc_entry.specs.declared.reply.Outcome.{Outcome}
 use Rattle.cc_entry.specs.declared.entry.Entry.{Entry}
@@ -10,7 +10,7 @@ use Rattle.cc_model.specs.History.{history}
 use Rattle.cc_model.specs.Legal.{IsLegal, IsLegalEntry, IsOutcome}
 use Rattle.cc_model.specs.Covered.{IsCovered, IsCoveredEntry}
 use Rattle.cc_model.specs.Conditions.{MayComeIn}
-use Rattle.cc_model.specs.Allowed.{IsAllowed, IsAllowedSoFar, IsOwed, MayCall, MayStand, owed_begin, begin_after}
+use Rattle.cc_model.specs.Allowed.{IsAllowed, IsAllowedSoFar, IsOwed, MayCall, owed_begin, begin_after}
 use Rattle.cc_model.specs.Good.{IsGood}
 
 -- where nothing is owed, any entry may follow

@@ -13,3 +13,4 @@ pub mod Told
 pub mod LineSteps
 pub mod FailureSteps
 pub mod Explained
+pub mod DiskSteps

@@ -1,5 +1,5 @@
 -- What the calls of the first caller left explains their answers.
-use Rattle.std.proofs.Common.{◌≡◌, ◌≢◌, ℕ, zero, suc, ◌+◌, ◌*◌, ◌<◌, Bool, true, false, ◌&&◌, ◌==◌, nat_lt, List, [], ◌∷◌, ◌++◌, length, map, refl, sym, ◌∙◌, ap, arith, get_or, append_assoc, append-nil, Option, Some, None, Result, Ok, Err}
+use Rattle.std.proofs.Common.{◌≡◌, ◌≢◌, ℕ, zero, suc, ◌+◌, ◌*◌, ◌<◌, true, List, [], ◌∷◌, ◌++◌, length, refl, sym, ◌∙◌, ap, arith, get_or, append_assoc, append-nil, Some, Result, Ok, Err}
 use Rattle.std.specs.List.{AllByRecursion}
 use Rattle.std.proofs.lemmas.Bool.{lt-ltb, eq-eqb, ne_eqb}
 use Rattle.std.proofs.lemmas.List.{map-append, length-map}
@@ -7,7 +7,6 @@ use Rattle.cc_entry.specs.declared.call.Call.{Call}
 use Rattle.cc_entry.specs.declared.error.CcError.{CcError}
 use Rattle.cc_entry.specs.declared.error.CcError.TheVariants as error
 use Rattle.cc_entry.specs.declared.reply.Reply.{Reply}
-use Rattle.cc_entry.specs.declared.reply.Outcome.{Outcome}
 use Rattle.cc_entry.specs.declared.reply.Outcome.TheVariants as outcome
 use Rattle.cc_entry.specs.declared.answer.Answer.{Answer}
 use Rattle.cc_entry.specs.declared.answer.LineReply.{LineReply}
@@ -16,7 +15,6 @@ use Rattle.cc_entry.specs.declared.entry.Entry.TheVariants as entry
 use Rattle.cc_script.specs.declared.script.ActionLine.{ActionLine}
 use Rattle.cc_model.specs.Acts.{file_of}
 use Rattle.cc_model.specs.History.{history}
-use Rattle.cc_model.specs.Passes.{is_mine}
 use Rattle.cc_model.specs.Places.{has_page}
 use Rattle.cc_model.specs.Ranges.{range_of}
 use Rattle.cc_model.specs.Touches.{size_of}
@@ -24,12 +22,10 @@ use Rattle.cc_model.proofs.HistorySteps.{history-page_in}
 use Rattle.cc_model.proofs.SizeSteps.{sizes-came_in}
 use Rattle.cc_pieces.specs.Calls.{call_of, calls_of_lines}
 use Rattle.cc_pieces.specs.Pieces.{reaches, Fills, Others, Explains, IsIdle}
-use Rattle.cc_pieces.specs.Runs.{Ran, answered_lines}
-use Rattle.cc_pieces.specs.Failures.{failures}
 use Rattle.cc_pieces.proofs.Pieces.{idle-none, idle-more, ran-more}
 use Rattle.cc_pieces.proofs.Lines.{calls_of_lines-own}
 use Rattle.cc_run.specs.Stands.{first_object}
-use Rattle.cc_run.specs.Pieces.{IsFill, IsWithin, Filled, Faulted, Placed, PlacedFault, Answered, answer_of}
+use Rattle.cc_run.specs.Pieces.{IsFill, IsWithin, Answered, answer_of}
 use Rattle.cc_run.specs.Lines.{Serves, ServedLines}
 
 -- the size stays while pages come in

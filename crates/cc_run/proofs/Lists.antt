@@ -1,7 +1,7 @@
 -- Lists of numbers and of flags.
-use Rattle.std.proofs.Common.{◌≡◌, ℕ, zero, suc, ◌+◌, ◌-◌, ◌<◌, ◌≤◌, Bool, true, false, ◌||◌, cond, ◌==◌, List, [], ◌∷◌, length, map, refl, sym, ◌∙◌, ap, arith, eqb, get_or, slice_index, slice_range, take, drop, add-one, add-zero}
+use Rattle.std.proofs.Common.{◌≡◌, ℕ, zero, suc, ◌+◌, ◌<◌, ◌≤◌, Bool, true, false, ◌||◌, cond, List, [], ◌∷◌, length, map, refl, sym, ◌∙◌, ap, arith, eqb, get_or, slice_index, take, drop, add-one, add-zero}
 use Rattle.std.proofs.lemmas.Bool.{eqb-true}
-use Rattle.std.specs.List.{list_any, list_all, range_with_len, IsDistinct, AllByRecursion}
+use Rattle.std.specs.List.{list_all, range_with_len, IsDistinct, AllByRecursion}
 use Rattle.std.specs.Set.{unique_keys, distinct_count, is_member}
 use Rattle.std.proofs.lemmas.Map.Steps.{length-le_from_distinct_below}
 use Rattle.std.proofs.Math.Seq.{drop-cons}

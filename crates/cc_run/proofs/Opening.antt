@@ -1,19 +1,18 @@
 -- The list of pages stands for its past once the first object was initialised.
-use Rattle.std.proofs.Common.{◌≡◌, ℕ, zero, suc, replicate, ◌+◌, ◌*◌, ◌/◌, ◌%◌, ◌^◌, ◌<◌, ◌≤◌, Bool, true, false, nat_lt, nat_le, List, [], ◌∷◌, length, reverse, refl, sym, ◌∙◌, ap, arith, slice_index, Option, Some, None}
+use Rattle.std.proofs.Common.{◌≡◌, ℕ, zero, suc, replicate, ◌/◌, ◌^◌, ◌≤◌, Bool, true, false, nat_lt, nat_le, List, [], ◌∷◌, reverse, refl, sym, arith, Option, Some, None}
 use Rattle.std.proofs.lemmas.Bool.{lt-ltb, le-leb}
-use Rattle.cc_entry.specs.declared.call.Call.{Call}
 use Rattle.cc_entry.specs.declared.call.Call.TheVariants as call
 use Rattle.cc_entry.specs.declared.reply.Reply.TheVariants as reply
 use Rattle.cc_entry.specs.declared.reply.Outcome.TheVariants as outcome
 use Rattle.cc_entry.specs.declared.entry.Entry.{Entry}
 use Rattle.cc_entry.specs.declared.entry.Entry.TheVariants as entry
-use Rattle.cc_traits.specs.Disk.{Disk, page_of}
+use Rattle.cc_traits.specs.Disk.{Disk}
 use Rattle.cc_model.specs.Setup.{Setup}
-use Rattle.cc_model.specs.History.{Effect, Did, history}
+use Rattle.cc_model.specs.History.{history}
 use Rattle.cc_model.specs.Objects.{objects, had_map}
 use Rattle.cc_model.specs.Holds.{holds_of}
-use Rattle.cc_model.specs.Touches.{touched, sizes, touches}
-use Rattle.cc_model.specs.Bytes.{content, byte_of}
+use Rattle.cc_model.specs.Touches.{touched, sizes}
+use Rattle.cc_model.specs.Bytes.{content}
 use Rattle.cc_model.specs.Settings.{quota_of}
 use Rattle.cc_model.specs.Residency.{residents}
 use Rattle.cc_model.specs.Images.{open_of}

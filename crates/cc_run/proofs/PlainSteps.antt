@@ -1,5 +1,5 @@
 -- What a past says of its stream without the disk, over the entries that are placed.
-use Rattle.std.proofs.Common.{◌≡◌, ◌≢◌, ℕ, suc, ◌+◌, Bool, true, false, not, ◌||◌, ◌==◌, List, [], ◌∷◌, length, refl, sym, ◌∙◌, ap, Option, Some, None}
+use Rattle.std.proofs.Common.{◌≡◌, ◌≢◌, ℕ, ◌+◌, Bool, true, false, ◌||◌, ◌==◌, List, [], ◌∷◌, length, refl, sym, ◌∙◌, Some, None}
 use Rattle.std.proofs.lemmas.Bool.{ne_eqb}
 use Rattle.cc_entry.specs.declared.call.Call.{Call}
 use Rattle.cc_entry.specs.declared.call.Call.TheVariants as call
@@ -11,11 +11,10 @@ use Rattle.cc_entry.specs.declared.entry.Entry.{Entry}
 use Rattle.cc_entry.specs.declared.entry.Entry.TheVariants as entry
 use Rattle.cc_model.specs.Acts.{act_of, Looks}
 use Rattle.cc_model.specs.History.{Effect, Did, CameIn, history}
-use Rattle.cc_model.specs.Places.{is_empty, has_page}
-use Rattle.cc_model.specs.Sizes.{Touch}
+use Rattle.cc_model.specs.Places.{has_page}
 use Rattle.cc_model.specs.Objects.{objects, had_map}
-use Rattle.cc_model.specs.Touches.{touches, touched, sizes, size_of, is_dirty, unwritten}
-use Rattle.cc_model.specs.Stamps.{oldest_of, newest_of, least_lsn, greatest_lsn}
+use Rattle.cc_model.specs.Touches.{touches, touched, sizes, size_of, is_dirty}
+use Rattle.cc_model.specs.Stamps.{oldest_of, newest_of}
 use Rattle.cc_model.specs.Images.{image}
 use Rattle.cc_model.proofs.HistorySteps.{history-done, history-done_other, history-failed, history-page_in, history-page_in_other, history-fill_failed}
 use Rattle.cc_model.proofs.SizeSteps.{sizes-came_in, sizes-looks, sizes-writes}

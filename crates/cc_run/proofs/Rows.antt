@@ -1,5 +1,5 @@
 -- The rows of flagged pages are the table.
-use Rattle.std.proofs.Common.{◌≡◌, ◌≢◌, ℕ, zero, suc, ◌+◌, ◌<◌, Bool, true, false, not, cond, List, [], ◌∷◌, ◌++◌, length, map, refl, sym, ◌∙◌, ap, arith, add-one, slice_index_or, None, Result, Ok, Err, IfOk}
+use Rattle.std.proofs.Common.{◌≡◌, ◌≢◌, ℕ, zero, suc, ◌+◌, ◌<◌, Bool, true, false, not, cond, List, [], ◌∷◌, ◌++◌, length, map, refl, sym, ◌∙◌, ap, arith, add-one, Result, Ok, Err, IfOk}
 use Rattle.std.specs.List.{filter, flat_map, range_with_len}
 use Rattle.std.proofs.lemmas.List.{map-append}
 use Rattle.std.proofs.lemmas.List.Elements.{filter-append}
@@ -81,3 +81,8 @@ rows-table {past = past} plain =
 pub if_ok-more : {T E : Type 0} {P Q : T → Type 0} (r : Result T E) → ((t : T) → P t → Q t) → IfOk r P → IfOk r Q
 if_ok-more (Ok t) more fact = more t fact
 if_ok-more (Err e) more fact = tt
+
+-- an empty journal has no dirty page
+pub table-none : [] ≡ table_of []
+unfolding table_of history touched
+table-none = refl

@@ -1,7 +1,6 @@
 -- The list of pages goes on standing for its past, over the entries that bring a page in.
-use Rattle.std.proofs.Common.{◌≡◌, ◌≢◌, ℕ, zero, suc, ◌+◌, ◌-◌, ◌*◌, ◌/◌, ◌%◌, ◌<◌, ◌≤◌, Bool, true, false, ◌||◌, ◌&&◌, not, ◌==◌, eqb, nat_lt, nat_le, cond, if◌then◌else◌, List, [], ◌∷◌, length, map, refl, sym, ◌∙◌, ap, arith, get_or, set, slice_index, slice_index_or, slice_set, Option, Some, None}
-use Rattle.std.specs.List.{list_any, filter}
-use Rattle.std.specs.Set.{distinct_count, is_member}
+use Rattle.std.proofs.Common.{◌≡◌, ◌≢◌, ℕ, zero, suc, ◌+◌, ◌-◌, ◌*◌, ◌/◌, ◌%◌, ◌<◌, ◌≤◌, Bool, true, false, ◌||◌, not, ◌==◌, eqb, nat_lt, cond, if◌then◌else◌, List, [], ◌∷◌, length, map, refl, sym, ◌∙◌, ap, arith, set, slice_index, Option, Some}
+use Rattle.std.specs.Set.{is_member}
 use Rattle.std.proofs.lemmas.List.{get_or-set_same, get_or-set_other}
 use Rattle.std.proofs.lemmas.Bool.{eqb-true, eq-eqb, ltb-true, ltb-false}
 use Rattle.cc_entry.specs.Place.{Page}
@@ -12,12 +11,10 @@ use Rattle.cc_traits.specs.Told.{IfTold}
 use Rattle.cc_model.specs.Setup.{Setup}
 use Rattle.cc_model.specs.Places.{is_among, without, block_of}
 use Rattle.cc_model.specs.History.{Effect, CameIn, history}
-use Rattle.cc_model.specs.Touches.{sizes, size_of, valid_of, is_mapped}
+use Rattle.cc_model.specs.Touches.{size_of, valid_of, is_mapped}
 use Rattle.cc_model.specs.Bytes.{byte_of, content}
-use Rattle.cc_model.specs.Settings.{quota_of}
-use Rattle.cc_model.specs.Residency.{residents, is_resident, mapped_blocks_with}
+use Rattle.cc_model.specs.Residency.{residents, mapped_blocks_with}
 use Rattle.cc_model.specs.Passes.{calls_of}
-use Rattle.cc_model.specs.Conditions.{MayComeIn}
 use Rattle.cc_model.proofs.HistorySteps.{history-fill_failed, history-page_in}
 use Rattle.cc_model.proofs.ObjectSteps.{objects-came_in}
 use Rattle.cc_model.proofs.SizeSteps.{sizes-came_in}

@@ -1,5 +1,5 @@
 -- What sources and sinks tell, over several calls.
-use Rattle.std.proofs.Common.{◌≡◌, ℕ, ◌+◌, ◌<◌, ◌≤◌, List, [], ◌∷◌, ◌++◌, length, length-append, append-nil, append_assoc, refl, sym, ◌∙◌, ap, arith, Option, Some, None}
+use Rattle.std.proofs.Common.{◌≡◌, ℕ, ◌+◌, ◌<◌, ◌≤◌, List, [], ◌++◌, length, length-append, append-nil, append_assoc, refl, sym, ◌∙◌, ap, arith, Option, Some, None}
 use Rattle.cc_traits.specs.Told.{Both, IfTold, Gave, Took}
 use Rattle.cc_run.specs.Ends.{IsTooLong, IsShort, TookPart}
 
@@ -56,10 +56,11 @@ taken-more text rest piece more None None (Some c) first second is = absurd seco
 taken-more text rest piece more None (Some b) c first second is = absurd first
 taken-more text rest piece more (Some a) None c first second is = absurd first
 taken-more text rest piece more (Some a) (Some b) None first second is = absurd second
-taken-more text rest piece more (Some a) (Some b) (Some c) first second is =
-    (first.0 ++ piece,
-    first.1 ∙ (ap (λ l. first.0 ++ l) is ∙ sym (append_assoc first.0 piece more)),
-    second ∙ (ap (λ l. l ++ piece) first.2 ∙ append_assoc a first.0 piece))
+taken-more text rest piece more (Some a) (Some b) (Some c) first second is = (
+  first.0 ++ piece,
+  first.1 ∙ (ap (λ l. first.0 ++ l) is ∙ sym (append_assoc first.0 piece more)),
+  second ∙ (ap (λ l. l ++ piece) first.2 ∙ append_assoc a first.0 piece),
+)
 
 pub taken-part : (text rest : List ℕ) (a b : Option (List ℕ)) → HasTaken text rest a b → Both a b (TookPart text)
 taken-part text rest None None taken = tt

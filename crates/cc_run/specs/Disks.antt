@@ -6,6 +6,10 @@ use Rattle.cc_model.specs.History.{history}
 use Rattle.cc_model.specs.Images.{image}
 use Rattle.cc_pieces.specs.Failures.{failures}
 
+-- nothing was written back, so the image of each page is the opening page
+abbrev pub IsUnwritten : List Entry → Type 0
+IsUnwritten past = (pages : ℕ → List ℕ) (s p : ℕ) → image pages (history past s) p ≡ Some (pages p)
+
 -- As many disks come back, in their order. Each tells what it told, and its count of faults rose at least
 -- by the failures of its stream's disk that the past shows. Where it tells its pages, it holds the image of
 -- each page whose image is known.

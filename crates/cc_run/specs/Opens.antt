@@ -1,5 +1,5 @@
 -- How a setup stands for the disks that are handed in.
-use Rattle.std.specs.Prelude.{◌≡◌, ℕ, List, [], ◌∷◌, Option, slice_get, Some}
+use Rattle.std.specs.Prelude.{◌≡◌, List, Option, slice_get, Some}
 use Rattle.cc_traits.specs.Disk.{Disk}
 use Rattle.cc_model.specs.Setup.{Setup}
 use Rattle.cc_run.specs.Stands.{opening_of}

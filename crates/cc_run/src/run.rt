@@ -10,6 +10,7 @@ ghost use Rattle.cc_pieces.specs.Table.{table_of};
 ghost use Rattle.cc_pieces.specs.Failures.{failures};
 ghost use Rattle.cc_run.specs.Stands.{opening_of};
 ghost use Rattle.cc_run.specs.Served.{IsServedStream, IsServedLine, IsCopy};
+ghost use Rattle.cc_run.specs.Disks.{IsUnwritten};
 ghost use Rattle.cc_run.specs.Lines.{Serves, ServedLines};
 
 use crate::cache::Cache;
@@ -47,6 +48,7 @@ pub fn run_stream<D: PageDisk>(
     ensures told { D.told disk.new ≡ D.told disk.old }
     ensures counted { IfOk result (λ ran. D.faults disk.new ≡ D.faults disk.old + failures 0 (reverse ran.journal.items)) }
     ensures risen { D.faults disk.old ≤ D.faults disk.new }
+    ensures unwritten { IfOk result (λ ran. IsUnwritten (reverse ran.journal.items)) }
     ensures others { IfOk result (λ ran. (s : ℕ) → s ≢ 0 → failures s (reverse ran.journal.items) ≡ 0) }
 {
     let mut replies = Vec::new(alloc);

@@ -135,7 +135,8 @@ fn run_script<D: PageDisk>(
             table: Vec::new(alloc),
         });
     };
-    run_stream(alloc, stream, &mut disks[0], script.lines.as_slice())
+    let ran = run_stream(alloc, stream, &mut disks[0], script.lines.as_slice())?;
+    Ok(ran)
 }
 
 /// Prints a run, and answers the status.
@@ -174,7 +175,9 @@ fn conduct<S: Source, K: Sink, D: PageDisk>(
     };
     let status = print(alloc, out, &script, &ran);
     let Ran {
-        replies, journal, ..
+        replies,
+        journal,
+        ..
     } = ran;
     Report {
         status,

@@ -1,7 +1,8 @@
-use Rattle.std.proofs.Common.{◌≡◌, ℕ, ◌+◌, ◌≤◌, ◌∷◌, ◌++◌, [], sym, ◌∙◌, ap, refl, arith}
+use Rattle.std.proofs.Common.{◌≡◌, ◌∷◌, ◌++◌, [], ◌∙◌, ap, arith}
 use Rattle.cc_pieces.specs.Failures.{failures}
 use Rattle.cc_run.specs.Stands.{opening_entry}
 use Rattle.cc_run.specs.Lines.{ServedLines}
+use Rattle.cc_run.proofs.DiskSteps.{unwritten-plain}
 use Rattle.cc_run.proofs.Explained.{opened_reply, explained-one}
 use Rattle.cc_run.proofs.FailureSteps.{failures-none, failures-call}
 use Rattle.cc_run.proofs.run.run_stream.Goals as goal
@@ -38,3 +39,7 @@ pub returns-in_err-table-clause-risen : goal.returns-in_err-table-clause-risen
 returns-in_err-table-clause-risen g c =
     let begun : failures 0 c.in_ok-cache.cache.journal.entries ≡ 0 = ap (failures 0) c.in_ok-cache.ensures.placed ∙ (failures-call 0 0 1 0 _ _ [] ∙ failures-none 0) in
     omega (arith, c.in_ok-serve_lines.ensures.counted, begun)
+
+pub returns-clause-unwritten : goal.returns-clause-unwritten
+returns-clause-unwritten g c =
+    rw (c.into_entries-journal.ensures, c.into_journal.ensures) (unwritten-plain (c.in_ok-serve_lines.ensures.plain c.in_ok-cache.ensures.plain))

@@ -1,4 +1,4 @@
-use Rattle.std.proofs.Common.{◌≡◌, ℕ, ◌+◌, true, refl, min, suc, length, Ok, Err}
+use Rattle.std.proofs.Common.{◌≡◌, ◌+◌, true, refl, min, suc, length, Ok, Err}
 use Rattle.cc_entry.specs.declared.bytes.Bytes.{Bytes}
 use Rattle.cc_entry.specs.declared.call.Call.TheVariants as call
 use Rattle.cc_entry.specs.declared.reply.Reply.TheVariants as reply

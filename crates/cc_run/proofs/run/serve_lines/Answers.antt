@@ -1,8 +1,7 @@
-use Rattle.std.proofs.Common.{◌≡◌, ℕ, ◌+◌, ◌≤◌, ◌<◌, ◌++◌, ◌∷◌, [], take, length, sym, ◌∙◌, refl, arith, ap, List}
+use Rattle.std.proofs.Common.{◌≡◌, ◌+◌, ◌++◌, ◌∷◌, [], take, sym, ◌∙◌, arith, ap}
 use Rattle.std.proofs.lemmas.List.{take_more}
-use Rattle.cc_run.specs.Caches.{IsPlainCache}
 use Rattle.cc_run.specs.Served.{IsServedLine}
-use Rattle.cc_run.proofs.LineSteps.{served-none, served-more, all-at}
+use Rattle.cc_run.proofs.LineSteps.{served-more, all-at}
 use Rattle.cc_run.proofs.run.serve_lines.Goals as goal
 
 pub loop-line-preserved : goal.loop-line-preserved

@@ -1,4 +1,4 @@
-use Rattle.std.proofs.Common.{◌≡◌, ◌++◌, ℕ, ◌+◌, ◌≤◌, take}
+use Rattle.std.proofs.Common.{◌≡◌, ◌+◌, ◌≤◌, take}
 use Rattle.cc_model.specs.Setup.{Setup}
 use Rattle.cc_pieces.specs.Failures.{failures}
 use Rattle.cc_run.specs.Caches.{CacheStands, IsPlainCache}

@@ -1,4 +1,4 @@
-use Rattle.std.proofs.Common.{◌≡◌, ◌≤◌, vec_len, vec_capacity, map, length, ◌+◌}
+use Rattle.std.proofs.Common.{◌≡◌, ◌≤◌, vec_len, vec_capacity, map, length}
 use Rattle.std.specs.List.{filter, range_with_len}
 use Rattle.cc_run.specs.Stands.{flag_at}
 use Rattle.cc_run.specs.Rows.{plain_row}

@@ -1,6 +1,5 @@
-use Rattle.std.proofs.Common.{◌≡◌, ℕ, ◌+◌, ◌/◌, ◌<◌, ◌≤◌, sym, ◌∙◌, refl, arith, true, false, Bool, nat_lt, Err, ◌⊎◌, inl, inr}
+use Rattle.std.proofs.Common.{◌≡◌, ℕ, ◌+◌, ◌<◌, ◌≤◌, ◌∙◌, refl, arith, true, false, Bool, nat_lt, Err, ◌⊎◌, inl, inr}
 use Rattle.std.proofs.lemmas.Bool.{ltb-true, ltb-false}
-use Rattle.cc_run.specs.Stands.{flag_at}
 use Rattle.cc_run.proofs.Fills.{filled-more, went-more, keeps-more}
 use Rattle.cc_run.proofs.cache.Cache.bring_range.Goals as goal
 

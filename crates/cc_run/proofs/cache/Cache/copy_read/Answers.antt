@@ -1,9 +1,8 @@
-use Rattle.std.proofs.Common.{◌≡◌, ℕ, ◌≤◌, arith, sym, ◌∙◌, refl, suc, true}
+use Rattle.std.proofs.Common.{◌≡◌, refl, true}
 use Rattle.cc_entry.specs.declared.call.Call.TheVariants as call
 use Rattle.cc_run.specs.Stands.{first_object}
-use Rattle.cc_run.specs.Caches.{CacheStands}
 use Rattle.cc_run.proofs.CallSteps.{stands-read, stands-failed}
-use Rattle.cc_run.proofs.PlainSteps.{plain-looks, plain-failed, plain-write}
+use Rattle.cc_run.proofs.PlainSteps.{plain-looks, plain-failed}
 use Rattle.cc_run.proofs.FailureSteps.{failures-call}
 use Rattle.cc_run.proofs.Stops.{read_fails}
 use Rattle.cc_run.proofs.cache.Cache.copy_read.Goals as goal

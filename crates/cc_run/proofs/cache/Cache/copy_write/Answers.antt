@@ -1,9 +1,8 @@
-use Rattle.std.proofs.Common.{◌≡◌, ℕ, arith, sym, ◌∙◌, refl, ap, length}
+use Rattle.std.proofs.Common.{◌≡◌, arith, ◌∙◌, refl, ap, length}
 use Rattle.cc_entry.specs.declared.call.Call.TheVariants as call
 use Rattle.cc_run.specs.Stands.{first_object}
-use Rattle.cc_run.specs.Caches.{CacheStands, WriteStopped}
 use Rattle.cc_run.proofs.CallSteps.{stands-failed}
-use Rattle.cc_run.proofs.PlainSteps.{plain-looks, plain-failed, plain-write}
+use Rattle.cc_run.proofs.PlainSteps.{plain-failed, plain-write}
 use Rattle.cc_run.proofs.FailureSteps.{failures-call}
 use Rattle.cc_run.proofs.Stops.{write_fails}
 use Rattle.cc_run.proofs.cache.Cache.copy_write.Goals as goal

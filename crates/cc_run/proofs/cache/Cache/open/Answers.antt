@@ -1,4 +1,4 @@
-use Rattle.std.proofs.Common.{◌≡◌, ℕ, ◌∙◌, sym, refl, arith, false, replicate}
+use Rattle.std.proofs.Common.{◌≡◌, ℕ, false}
 use Rattle.cc_run.specs.Stands.{flag_at}
 use Rattle.cc_run.proofs.PlainSteps.{plain-opened}
 use Rattle.cc_run.proofs.Opening.{stands-opened, flag-clear}

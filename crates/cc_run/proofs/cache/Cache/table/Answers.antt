@@ -1,4 +1,4 @@
-use Rattle.std.proofs.Common.{◌≡◌, ◌∙◌}
+use Rattle.std.proofs.Common.{◌∙◌}
 use Rattle.cc_run.proofs.Rows.{rows-table, if_ok-more}
 use Rattle.cc_run.proofs.cache.Cache.table.Goals as goal
 

@@ -1,5 +1,4 @@
-use Rattle.std.proofs.Common.{◌≡◌, ℕ, ◌+◌, ◌≤◌, arith, sym, ◌∙◌, refl, suc, max, length}
-use Rattle.cc_run.specs.Caches.{CacheStands}
+use Rattle.std.proofs.Common.{◌+◌, ◌≤◌, arith, length}
 use Rattle.cc_run.proofs.CallSteps.{stands-write, IsWritten}
 use Rattle.cc_run.proofs.cache.Cache.write.Goals as goal
 
