@@ -30,7 +30,8 @@ fn failing_source(alloc: Global) -> Result<MemSource, AllocError> {
     Ok(MemSource::new(bytes, 4096, vec![in alloc; 1]?))
 }
 
-// The words come first: the source that would fail is not asked.
+// The words come first: the source that would fail is not asked. The last three lists are of commands
+// that the usage names and that are not served yet.
 #[test]
 fn wrong_words(rt: HostRuntime) -> Result<(), Fail> {
     let alloc = rt.alloc();
