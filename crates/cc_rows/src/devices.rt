@@ -1,32 +1,28 @@
-//! Devices of the tests, beside those in memory.
-
-ghost use Rattle.std.specs.Prelude.{None};
+ghost use Rattle.std.specs.Prelude.{◌≡◌, ◌+◌, ◌++◌, min, length, take, All, None, Some, IsOk, IfOk, OnErr};
+ghost use Rattle.cc_traits.specs.Stop.{faults_in};
 
 use cc_memdev::MemSink;
-use cc_traits::{Gate, Sink, Source, Stop};
-
-/// A gate that holds nobody back.
-pub(crate) struct Free;
-
-impl Gate for Free {
-    fn before(&self, _caller: u32, _call: u32) {}
-
-    fn after(&self, _caller: u32, _call: u32) {}
-}
+use cc_traits::{Sink, Source, Stop};
 
 /// A sink that takes at most `most` bytes a call.
 #[derive(Drop)]
-pub(crate) struct NarrowSink {
-    pub(crate) most: usize,
-    pub(crate) inner: MemSink,
+pub struct NarrowSink {
+    pub most: usize,
+    pub inner: MemSink,
 }
 
 impl Sink for NarrowSink {
-    ghost told = { λ _. None };
+    ghost told = { λ sink. Some sink.inner.taken };
 
     ghost faults = { λ sink. sink.inner.faults };
 
-    fn put(&mut self, piece: &[u8]) -> Result<usize, Stop> {
+    fn put(&mut self, piece: &[u8]) -> Result<usize, Stop>
+        ensures amount { IfOk result (λ n. n ≡ min (length piece.now) self.old.most) }
+        ensures taken { IfOk result (λ n. self.new.inner.taken ≡ self.old.inner.taken ++ take n piece.now) }
+        ensures err { OnErr result (self.new.inner.taken ≡ self.old.inner.taken) }
+        ensures counted { self.new.inner.faults ≡ self.old.inner.faults + faults_in result }
+        ensures most { self.new.most ≡ self.old.most }
+    {
         let front = piece.len().min(self.most);
         self.inner.put(&piece[..front])
     }
@@ -34,8 +30,8 @@ impl Sink for NarrowSink {
 
 /// A source of line feeds, which keeps only how many are left.
 #[derive(Drop)]
-pub(crate) struct LineFeeds {
-    pub(crate) left: usize,
+pub struct LineFeeds {
+    pub left: usize,
 }
 
 impl Source for LineFeeds {
@@ -43,7 +39,13 @@ impl Source for LineFeeds {
 
     ghost faults = { λ _. 0 };
 
-    fn take(&mut self, buf: &mut [u8]) -> Result<usize, Stop> {
+    fn take(&mut self, buf: &mut [u8]) -> Result<usize, Stop>
+        ensures never_fails { IsOk result }
+        ensures len { length buf.new ≡ length buf.old }
+        ensures amount { IfOk result (λ n. n ≡ min (length buf.old) self.old.left) }
+        ensures feeds { IfOk result (λ n. All (λ b. b ≡ 10) (take n buf.new)) }
+        ensures left { IfOk result (λ n. self.old.left ≡ n + self.new.left) }
+    {
         let given = buf.len().min(self.left);
         buf[..given].fill(b'\n');
         self.left -= given;

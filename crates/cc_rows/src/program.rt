@@ -1,10 +1,18 @@
 //! The program over devices in memory: its status and its text.
 
-use crate::devices::Free;
 use cc_memdev::{DiskFails, MemDisk, MemSink, MemSource};
 use cc_run::{Ended, cache_main};
-use cc_traits::{Sink, Source};
+use cc_traits::{Gate, Sink, Source};
 use std::alloc::{AllocError, Global};
+
+/// A gate that holds nobody back.
+struct Free;
+
+impl Gate for Free {
+    fn before(&self, _caller: u32, _call: u32) {}
+
+    fn after(&self, _caller: u32, _call: u32) {}
+}
 
 /// A script, and the whole text of its run.
 #[derive(Clone, Copy)]

@@ -1,7 +1,7 @@
 //! The exit statuses, and what of the text goes out.
 
-use crate::devices::{LineFeeds, NarrowSink};
 use crate::program::{disk, sink, source, status_of, text_of};
+use crate::{LineFeeds, NarrowSink};
 use cc_memdev::{MemSink, MemSource};
 use cc_traits::Source;
 use std::alloc::{AllocError, Global};
