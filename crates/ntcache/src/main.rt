@@ -13,6 +13,7 @@ use cc_traits::{LogFile, PostRoutine};
 use outside::{Free, Output, Routine, ScriptFile};
 use std::alloc::{AllocError, Global};
 use std::env;
+use std::io::ErrorKind;
 use std::process::ExitCode;
 
 /// The words of the command line without the program's name; none where one is not text.
@@ -25,7 +26,10 @@ fn words_of(rt: HostRuntime) -> Result<Vec<String>, AllocError> {
             }
             Ok(words)
         }
-        Err(_) => Ok(words),
+        Err(error) => match error.kind() {
+            ErrorKind::OutOfMemory => Err(AllocError),
+            _ => Ok(words),
+        },
     }
 }
 

@@ -17,7 +17,9 @@ pub struct ScriptFile<'a, R: Files> {
 }
 
 impl<'a, R: Files> ScriptFile<'a, R> {
-    pub fn new(files: &'a R, path: &'a str) -> ScriptFile<'a, R> {
+    pub fn new(files: &'a R, path: &'a str) -> ScriptFile<'a, R>
+        ensures { result.faults ≡ 0 }
+    {
         ScriptFile {
             files,
             path,
@@ -57,7 +59,9 @@ pub struct Output<'a, R: Print> {
 }
 
 impl<'a, R: Print> Output<'a, R> {
-    pub fn new(out: &'a R) -> Output<'a, R> {
+    pub fn new(out: &'a R) -> Output<'a, R>
+        ensures { result.faults ≡ 0 }
+    {
         Output {
             out,
             faults: Faults::new(),
@@ -89,7 +93,9 @@ pub struct Routine {
 }
 
 impl Routine {
-    pub fn new() -> Routine {
+    pub fn new() -> Routine
+        ensures { result.posted ≡ false }
+    {
         Routine { posted: false }
     }
 }

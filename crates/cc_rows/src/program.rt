@@ -1,0 +1,108 @@
+//! The program over devices in memory: its status and its text.
+
+use cc_memdev::{DiskFails, MemDisk, MemSink, MemSource};
+use cc_run::{Ended, cache_main};
+use cc_traits::{Gate, Sink, Source};
+use std::alloc::{AllocError, Global};
+
+/// A gate that holds nobody back.
+struct Free;
+
+impl Gate for Free {
+    fn before(&self, _caller: u32, _call: u32) {}
+
+    fn after(&self, _caller: u32, _call: u32) {}
+}
+
+/// A script, and the whole text of its run.
+#[derive(Clone, Copy)]
+pub(crate) struct Row {
+    pub(crate) script: &'static str,
+    pub(crate) text: &'static str,
+}
+
+/// What is seen of a run.
+#[derive(Drop)]
+pub(crate) struct Seen {
+    pub(crate) status: u8,
+    pub(crate) text: String,
+}
+
+/// A disk of 5A whose reads with these numbers fail.
+pub(crate) fn disk(alloc: Global, reads: &[u64]) -> Result<MemDisk, AllocError> {
+    let fails = DiskFails {
+        reads: reads.to_vec(alloc)?,
+        writes: Vec::new(alloc),
+        syncs: Vec::new(alloc),
+    };
+    Ok(MemDisk::new(alloc, 0x5A, fails))
+}
+
+/// A sink that takes all.
+pub(crate) fn sink(alloc: Global) -> MemSink {
+    MemSink::new(alloc, Vec::new(alloc))
+}
+
+/// The script in one piece.
+pub(crate) fn source(alloc: Global, script: &str) -> Result<MemSource, AllocError> {
+    let bytes = script.as_bytes().to_vec(alloc)?;
+    Ok(MemSource::new(bytes, 4096, Vec::new(alloc)))
+}
+
+/// The text that a sink took.
+pub(crate) fn text_of(alloc: Global, sink: &MemSink) -> Result<String, AllocError> {
+    String::from_utf8_lossy(alloc, sink.taken())
+}
+
+/// Runs the program, and answers its status.
+pub(crate) fn status_of<S: Source, K: Sink>(
+    alloc: Global,
+    words: &[&str],
+    source: &mut S,
+    sink: &mut K,
+    disk: Option<MemDisk>,
+) -> Result<u8, AllocError> {
+    let mut own = Vec::new(alloc);
+    for word in words {
+        own.push(String::from_str(alloc, word)?)?;
+    }
+    let mut disks = Vec::new(alloc);
+    if let Some(disk) = disk {
+        disks.push(disk)?;
+    }
+    let Ended {
+        status,
+        script: _script,
+        replies: _replies,
+        ticks: _ticks,
+        aheads: _aheads,
+        journal: _journal,
+        disks: _disks,
+        logs: _logs,
+        posts: _posts,
+    } = cache_main(
+        alloc,
+        &own,
+        source,
+        sink,
+        disks,
+        Vec::new(alloc),
+        Vec::new(alloc),
+        &Free,
+    );
+    Ok(status)
+}
+
+/// Runs a script over a disk.
+pub(crate) fn run_over(alloc: Global, script: &str, disk: MemDisk) -> Result<Seen, AllocError> {
+    let mut source = source(alloc, script)?;
+    let mut sink = sink(alloc);
+    let status = status_of(alloc, &["run", "s"], &mut source, &mut sink, Some(disk))?;
+    let text = text_of(alloc, &sink)?;
+    Ok(Seen { status, text })
+}
+
+/// Runs a script over a disk that never fails.
+pub(crate) fn run(alloc: Global, script: &str) -> Result<Seen, AllocError> {
+    run_over(alloc, script, disk(alloc, &[])?)
+}
