@@ -126,7 +126,11 @@ fn line_feeds(rt: HostRuntime) -> Result<(), Fail> {
 /// A sink that takes at most `most` bytes a call, and fails at this call.
 fn narrow_sink(alloc: Global, most: usize, call: u64) -> Result<NarrowSink, AllocError> {
     let inner = MemSink::new(alloc, vec![in alloc; call]?);
-    Ok(NarrowSink { most, inner })
+    Ok(NarrowSink {
+        most,
+        inner,
+        stalls: 0,
+    })
 }
 
 // What went out before a sink fails, or takes nothing, is the front of the text.
