@@ -14,3 +14,4 @@ pub mod LineSteps
 pub mod FailureSteps
 pub mod Explained
 pub mod DiskSteps
+pub mod Statuses

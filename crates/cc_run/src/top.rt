@@ -1,16 +1,16 @@
 //! The top call: words, script, run, text, status, in this order.
 
-ghost use Rattle.std.specs.Prelude.{◌≡◌, ◌<◌, ◌≤◌, ◌+◌, ℕ, [], Some, None, true, reverse, map, drop, length, string_bytes, vec_len, IfOk, IfErr, OnOk, OnErr};
+ghost use Rattle.std.specs.Prelude.{◌≡◌, ◌⊎◌, ◌<◌, ◌≤◌, ◌+◌, ℕ, [], Some, None, true, false, is_some, reverse, map, length, string_bytes, vec_len, IfSome, IfOk, IfErr, OnOk, OnErr};
 ghost use Rattle.cc_model.specs.Setup.{Setup};
 ghost use Rattle.cc_model.specs.Good.{IsGood};
 ghost use Rattle.cc_script.specs.declared.script.Script.{Script as TheScript};
 ghost use Rattle.cc_pieces.specs.Runs.{IsExplained};
 ghost use Rattle.cc_pieces.specs.Table.{table_of};
 ghost use Rattle.cc_print.specs.Text.{text_of as the_text_of};
-ghost use Rattle.cc_traits.specs.Told.{Both};
+ghost use Rattle.cc_traits.specs.Told.{Both, Took};
 ghost use Rattle.cc_run.specs.Opens.{OpensWith};
 ghost use Rattle.cc_run.specs.Served.{IsServed};
-ghost use Rattle.cc_run.specs.Ends.{called, sunk, IsCause, IsEnded, Spells, IsShort, IsPrinted, TookPart, status_of, fault_text};
+ghost use Rattle.cc_run.specs.Ends.{called, sunk, IsCause, IsEnded, Spells, IsWrong, IsTooLong, IsShort, IsPrinted, TookPart, status_of, fault_text};
 ghost use Rattle.cc_run.specs.Disks.{DisksAre};
 ghost use Rattle.cc_run.specs.Words.{is_run};
 
@@ -203,6 +203,18 @@ pub fn cache_main<S: Source, K: Sink, D: PageDisk, P: Gate>(
 ) -> Ended<D>
     ensures good { (u : Setup) → OpensWith u D.told disks.items → IsGood u (reverse result.journal.items) }
     ensures ended { IsEnded (called (map string_bytes words.now) (S.told script.old) (S.told script.new) (S.faults script.old) (S.faults script.new) (length disks.items)) (sunk (K.told out.old) (K.told out.new) (K.faults out.old) (K.faults out.new) (K.stalls out.old) (K.stalls out.new)) result.script result.replies.items result.journal.items result.status }
+    ensures usage { result.status ≡ 1 → is_run (map string_bytes words.now) ≡ false }
+    ensures usage_always { is_run (map string_bytes words.now) ≡ false → result.status ≡ 1 }
+    ensures syntax { result.status ≡ 2 → (line : ℕ) × IsWrong (S.told script.old) line }
+    ensures read_fault { result.status ≡ 3 → S.faults script.old < S.faults script.new }
+    ensures unwritten { result.status ≡ 4 → (K.faults out.old < K.faults out.new) ⊎ (K.stalls out.old < K.stalls out.new) }
+    ensures too_long { result.status ≡ 5 → IsTooLong (S.told script.old) (S.told script.new) }
+    ensures too_few { result.status ≡ 7 → (spelled : TheScript) × Spells (S.told script.old) spelled × (length disks.items < length spelled.streams) }
+    ensures made { (result.status ≡ 0) ⊎ (result.status ≡ 4) → is_some result.script ≡ true }
+    ensures spelled { IfSome result.script (Spells (S.told script.old)) }
+    ensures explained { IfSome result.script (λ made. IsExplained made.streams made.lines result.replies.items (reverse result.journal.items)) }
+    ensures empty { result.script ≡ None → result.journal.items ≡ [] }
+    ensures printed { result.status ≡ 0 → IfSome result.script (λ made. Both (K.told out.old) (K.told out.new) (Took (the_text_of made result.replies.items result.journal.items (table_of (reverse result.journal.items))))) }
     ensures disks { DisksAre D.told D.faults (reverse result.journal.items) disks.items result.disks.items }
     ensures logs { result.logs ≡ logs }
     ensures posts { result.posts ≡ posts }

@@ -1,0 +1,39 @@
+use Rattle.std.proofs.Common.{◌≡◌}
+use Rattle.cc_run.proofs.Statuses.{usage-at, words-always, syntax-at, read_fault-at, unwritten-at, too_long-at, too_few-at, made-at, spelled-at, explained-at, empty-at, printed-at}
+use Rattle.cc_run.proofs.top.cache_main.Goals as goal
+
+pub returns-clause-usage : goal.returns-clause-usage
+returns-clause-usage g c = usage-at _ _ _ _ _ _ c.conduct-status.ensures.ended
+
+pub returns-clause-usage_always : goal.returns-clause-usage_always
+returns-clause-usage_always g c = words-always _ _ _ _ _ _ c.conduct-status.ensures.ended
+
+pub returns-clause-syntax : goal.returns-clause-syntax
+returns-clause-syntax g c = syntax-at _ _ _ _ _ _ c.conduct-status.ensures.ended
+
+pub returns-clause-read_fault : goal.returns-clause-read_fault
+returns-clause-read_fault g c = read_fault-at _ _ _ _ _ _ c.conduct-status.ensures.ended
+
+pub returns-clause-unwritten : goal.returns-clause-unwritten
+returns-clause-unwritten g c = unwritten-at _ _ _ _ _ _ c.conduct-status.ensures.ended
+
+pub returns-clause-too_long : goal.returns-clause-too_long
+returns-clause-too_long g c = too_long-at _ _ _ _ _ _ c.conduct-status.ensures.ended
+
+pub returns-clause-too_few : goal.returns-clause-too_few
+returns-clause-too_few g c = too_few-at _ _ _ _ _ _ c.conduct-status.ensures.ended
+
+pub returns-clause-made : goal.returns-clause-made
+returns-clause-made g c = made-at _ _ _ _ _ _ c.conduct-status.ensures.ended
+
+pub returns-clause-spelled : goal.returns-clause-spelled
+returns-clause-spelled g c = spelled-at _ _ _ _ _ _ c.conduct-status.ensures.ended
+
+pub returns-clause-explained : goal.returns-clause-explained
+returns-clause-explained g c = explained-at _ _ _ _ _ _ c.conduct-status.ensures.ended
+
+pub returns-clause-empty : goal.returns-clause-empty
+returns-clause-empty g c = empty-at _ _ _ _ _ _ c.conduct-status.ensures.ended
+
+pub returns-clause-printed : goal.returns-clause-printed
+returns-clause-printed g c = printed-at _ _ _ _ _ _ c.conduct-status.ensures.ended
