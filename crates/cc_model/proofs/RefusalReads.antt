@@ -1,9 +1,10 @@
--- Whether a stream ever had a map, after an entry.
+-- Whether a stream ever had a map, after an entry, and lists of reasons for a refusal.
 use Rattle.std.specs.Prelude.{◌≡◌, ℕ, Bool, true, false, ◌||◌, List, [], ◌∷◌, ◌++◌, refl}
 use Rattle.std.specs.declared.option.Option.{Option}
 use Rattle.std.specs.declared.option.Option.TheVariants.{Some, None}
 use Rattle.std.specs.List.{cons_option}
 use Rattle.std.proofs.Common.{ap, sym, ◌∙◌}
+use Rattle.cc_entry.specs.declared.error.CcError.{CcError}
 use Rattle.cc_entry.specs.declared.entry.Entry.{Entry}
 use Rattle.cc_model.specs.History.{Effect, Did, CameIn, WentOut, Began, Ended, Synced, effect_of, history}
 use Rattle.cc_model.specs.Acts.{Act, act_of, Opens, Closes, Resizes, Writes, Zeroes, Stores, Stamps, Looks}
@@ -46,3 +47,7 @@ first_holds a b is = rw is refl
 
 pub first_fails : (a b : Bool) → a ≡ false → (a || b) ≡ b
 first_fails a b is = rw is refl
+
+-- two lists with the same first reason and the same others are the same
+pub same_reasons : {a b : Option CcError} {xs ys : List (Option CcError)} → a ≡ b → xs ≡ ys → a ∷ xs ≡ b ∷ ys
+same_reasons first rest = rw (first, rest) refl
