@@ -7,6 +7,7 @@ ghost use Rattle.cc_model.specs.Ranges.{range_of};
 ghost use Rattle.cc_model.specs.Views.{viewed, no_views};
 ghost use Rattle.cc_model.specs.Refusals.{first_of, refusal};
 ghost use Rattle.cc_model.specs.Events.{effects};
+ghost use Rattle.cc_model.specs.RefusalReads.{argument_reasons, use_reasons};
 
 use crate::readers::blocks::by_quota;
 use crate::readers::conflicts::by_holds;
@@ -53,19 +54,18 @@ pub fn by_views(
     by_quota(alloc, &holds, quota, range)
 }
 
-/// The refusal of a call on a stream, where there are so many logs: the first reason that holds.
-pub fn refusal(
+// The first reason that lies in the arguments, or in the sizes, maps and logs that the call meets.
+fn by_arguments(
     alloc: Global,
     journal: &[Entry],
     stream: StreamId,
     logs: u8,
     call: &Call,
 ) -> Result<Option<CcError>, NoMemory>
-    ensures { IfOk result (λ refused. (u : Setup) → u.logs ≡ logs → valid_of (effects journal.now stream) < 2 ^ 64 → refused ≡ refusal u (reverse journal.now) (effects journal.now stream) call.now) }
+    ensures { IfOk result (λ refused. (u : Setup) → u.logs ≡ logs → valid_of (effects journal.now stream) < 2 ^ 64 → refused ≡ first_of (argument_reasons u (effects journal.now stream) call.now)) }
 {
     let size = size(alloc, journal, stream)?;
     let valid = valid(alloc, journal, stream)?;
-    let holds = open_holds(alloc, journal, stream)?;
     let reasons = [
         by_map(alloc, journal, stream, call)?,
         by_length(call),
@@ -75,6 +75,22 @@ pub fn refusal(
         by_log(logs, call),
         by_size(size, call),
         by_valid(valid, call),
+    ];
+    Ok(first_in(&reasons))
+}
+
+// The first reason that lies in open holds, view blocks, the pool of views or resident pages. It goes
+// over the pages of the range, which is short where no reason before these holds.
+fn by_use(
+    alloc: Global,
+    journal: &[Entry],
+    stream: StreamId,
+    call: &Call,
+) -> Result<Option<CcError>, NoMemory>
+    ensures { IfOk result (λ refused. refused ≡ first_of (use_reasons (reverse journal.now) (effects journal.now stream) call.now)) }
+{
+    let holds = open_holds(alloc, journal, stream)?;
+    let reasons = [
         by_holds(alloc, journal, stream, call)?,
         by_pins(alloc, &holds, call)?,
         by_views(alloc, journal, stream, call)?,
@@ -82,4 +98,21 @@ pub fn refusal(
         by_residents(alloc, journal, stream, call)?,
     ];
     Ok(first_in(&reasons))
+}
+
+/// The refusal of a call on a stream, where there are so many logs: the first reason that holds, in
+/// their order. It is exact where the valid data length is below 2^64.
+pub fn refusal(
+    alloc: Global,
+    journal: &[Entry],
+    stream: StreamId,
+    logs: u8,
+    call: &Call,
+) -> Result<Option<CcError>, NoMemory>
+    ensures { IfOk result (λ refused. (u : Setup) → u.logs ≡ logs → valid_of (effects journal.now stream) < 2 ^ 64 → refused ≡ refusal u (reverse journal.now) (effects journal.now stream) call.now) }
+{
+    match by_arguments(alloc, journal, stream, logs, call)? {
+        Some(refused) => Ok(Some(refused)),
+        None => by_use(alloc, journal, stream, call),
+    }
 }
