@@ -48,4 +48,5 @@ pub mod HoldReads
 pub mod BarReads
 pub mod QuotaReads
 pub mod ViewReads
+pub mod RefusalReads
 pub mod Changes

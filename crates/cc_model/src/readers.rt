@@ -13,6 +13,7 @@ pub mod maps;
 pub mod needs;
 pub mod pins;
 pub mod reasons;
+pub mod refusals;
 pub mod residents;
 pub mod sizes;
 pub mod stamps;

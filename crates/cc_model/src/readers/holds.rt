@@ -5,7 +5,7 @@ ghost use Rattle.std.specs.Option.{option_map};
 ghost use Rattle.cc_model.specs.History.{effect_of};
 ghost use Rattle.cc_model.specs.Holds.{holds_of, held_after, hold_at, repinned};
 ghost use Rattle.cc_model.specs.Events.{effects};
-ghost use Rattle.cc_model.specs.HoldReads.{hold_of, spot_of, kept_hold, changed_by, held_by_effect};
+ghost use Rattle.cc_model.specs.HoldReads.{hold_of, spot_of, kept_hold, pin_by, made_by, changed_by, changed_after, held_by_effect};
 
 use crate::readers::events::id_in;
 use cc_entry::{Call, Entry, FileId, HoldKind, NoMemory, Outcome, StreamId};
@@ -139,49 +139,49 @@ fn holds_after(
 ) -> Result<Vec<OpenHold>, NoMemory>
     ensures { IfOk result (λ then. map hold_of then.items ≡ held_after pass call.now id (map hold_of before.items)) }
 {
+    let then = holds_changed(alloc, before, pass, call, id)?;
+    match hold_made(alloc, pass, call, id)? {
+        Some(hold) => with(then, hold),
+        None => Ok(then),
+    }
+}
+
+// The hold that a call makes of a range that it names.
+fn hold_made(alloc: Global, pass: u32, call: &Call, id: u64) -> Result<Option<OpenHold>, NoMemory>
+    ensures { IfOk result (λ made. kept_hold made ≡ made_by pass call.now id) }
+{
     match call {
-        Call::Map { file, at, len } => with(
-            before,
-            plain(alloc, id, pass, (*file, *at, *len), HoldKind::Map, false),
-        ),
-        Call::MdlRead { file, at, len } => with(
-            before,
-            plain(
-                alloc,
-                id,
-                pass,
-                (*file, *at, *len),
-                HoldKind::ReadChain,
-                false,
-            ),
-        ),
-        Call::MdlWrite { file, at, len } => with(
-            before,
-            plain(
-                alloc,
-                id,
-                pass,
-                (*file, *at, *len),
-                HoldKind::WriteChain,
-                false,
-            ),
-        ),
+        Call::Map { file, at, len } => {
+            let place = (*file, *at, *len);
+            Ok(Some(plain(alloc, id, pass, place, HoldKind::Map, false)))
+        }
+        Call::MdlRead { file, at, len } => {
+            let place = (*file, *at, *len);
+            Ok(Some(plain(alloc, id, pass, place, HoldKind::ReadChain, false)))
+        }
+        Call::MdlWrite { file, at, len } => {
+            let place = (*file, *at, *len);
+            Ok(Some(plain(alloc, id, pass, place, HoldKind::WriteChain, false)))
+        }
+        Call::PinRead { .. } | Call::PreparePin { .. } => pin_made(alloc, pass, call, id),
+        _ => Ok(None),
+    }
+}
+
+// The pin that a call makes.
+fn pin_made(alloc: Global, pass: u32, call: &Call, id: u64) -> Result<Option<OpenHold>, NoMemory>
+    ensures { IfOk result (λ made. kept_hold made ≡ pin_by pass call.now id) }
+{
+    match call {
         Call::PinRead {
             file,
             at,
             len,
             exclusive,
-        } => with(
-            before,
-            plain(
-                alloc,
-                id,
-                pass,
-                (*file, *at, *len),
-                HoldKind::Pin,
-                *exclusive,
-            ),
-        ),
+        } => {
+            let place = (*file, *at, *len);
+            Ok(Some(plain(alloc, id, pass, place, HoldKind::Pin, *exclusive)))
+        }
         Call::PreparePin {
             file,
             at,
@@ -189,26 +189,33 @@ fn holds_after(
             zero,
             exclusive,
         } => {
-            let mut made = plain(
-                alloc,
-                id,
-                pass,
-                (*file, *at, *len),
-                HoldKind::Pin,
-                *exclusive,
-            );
+            let place = (*file, *at, *len);
+            let mut made = plain(alloc, id, pass, place, HoldKind::Pin, *exclusive);
             if *zero {
                 let from = u128::from(*at);
                 let to = from + u128::from(*len);
                 made.owed.push(Reach { from, to })?;
             }
-            with(before, made)
+            Ok(Some(made))
         }
+        _ => Ok(None),
+    }
+}
+
+// The open holds with those changed that a call names, and with a repin of one.
+fn holds_changed(
+    alloc: Global,
+    before: Vec<OpenHold>,
+    pass: u32,
+    call: &Call,
+    id: u64,
+) -> Result<Vec<OpenHold>, NoMemory>
+    ensures { IfOk result (λ then. map hold_of then.items ≡ changed_after pass call.now id (map hold_of before.items)) }
+{
+    match call {
         Call::PinMapped { hold, exclusive } => {
-            let change = Change::Pins {
-                exclusive: *exclusive,
-            };
-            changed(alloc, before, *hold, change)
+            let exclusive = *exclusive;
+            changed(alloc, before, *hold, Change::Pins { exclusive })
         }
         Call::PinnedWrite { hold, at, bytes } => {
             let from = u128::from(*at);
