@@ -1,5 +1,5 @@
 -- What each exit status says.
-use Rattle.std.proofs.Common.{◌≡◌, ◌≢◌, ℕ, ◌<◌, ◌≤◌, Bool, true, false, List, [], length, reverse, map, is_some, IfSome, Option, Some, None, ◌⊎◌, inl, inr, refl, sym, ◌∙◌}
+use Rattle.std.proofs.Common.{◌≡◌, ◌≢◌, ℕ, ◌<◌, true, false, List, [], length, reverse, is_some, IfSome, Option, Some, None, ◌⊎◌, inl, inr, refl, sym, ◌∙◌}
 use Rattle.cc_entry.specs.declared.answer.LineReply.{LineReply}
 use Rattle.cc_entry.specs.declared.entry.Entry.{Entry}
 use Rattle.cc_script.specs.declared.script.Script.{Script}
@@ -7,7 +7,7 @@ use Rattle.cc_print.specs.Text.{text_of}
 use Rattle.cc_pieces.specs.Runs.{IsExplained}
 use Rattle.cc_pieces.specs.Table.{table_of}
 use Rattle.cc_run.specs.Words.{is_run}
-use Rattle.cc_run.specs.Ends.{Called, Sunk, status_of, IsCause, IsWrong, IsTooLong, IsShortOfDisks, HasFailed, Spells, IsPut, IsRefused, IsRun, IsEnded}
+use Rattle.cc_run.specs.Ends.{Called, Sunk, status_of, IsCause, IsWrong, IsTooLong, HasFailed, Spells, IsPut, IsEnded}
 use Rattle.cc_run.specs.declared.no_run.NoRun.{NoRun}
 use Rattle.cc_run.specs.declared.no_run.NoRun.TheVariants as no_run
 
@@ -90,6 +90,8 @@ module _ (c : Called) (s : Sunk) (script : Option Script) (replies : List LineRe
   made-at at = go script ended at
     where
       none : (why : NoRun) → status ≡ status_of why → (status ≡ 0) ⊎ (status ≡ 4) → is_some {T = Script} None ≡ true
+      none no_run.Usage is (inl zero) = absurd (cc (is, zero))
+      none no_run.Usage is (inr four) = absurd (cc (is, four))
       none other is (inl zero) = absurd (cc (is, zero))
       none other is (inr four) = absurd (cc (is, four))
 

@@ -1,4 +1,3 @@
-use Rattle.std.proofs.Common.{◌≡◌}
 use Rattle.cc_run.proofs.Statuses.{usage-at, words-always, syntax-at, read_fault-at, unwritten-at, too_long-at, too_few-at, made-at, spelled-at, explained-at, empty-at, printed-at}
 use Rattle.cc_run.proofs.top.cache_main.Goals as goal
 
