@@ -1,12 +1,13 @@
-//! The run of a script.
+//! The run of a script: the top call `cache_main`.
 //!
-//! What is here is the first path: one caller's copied reads and writes of one stream, served on a plain
-//! list of pages over any disk (`run_stream`). Whatever the lines are, the journal that it leaves is good,
-//! and where the disk tells its pages every read answers the plain file's bytes. How the pages are kept
-//! is not said above this crate.
+//! One direction: the words of the command line, the script's bytes from a source, the script, the run,
+//! the text, the exit status. What is here is the first path: one caller's copied reads and writes of one
+//! stream, served on a plain list of pages over any disk. Whatever is handed in, the journal that comes
+//! back is good, it explains the answer of every line, and the text is that of both; each exit status has
+//! its cause. How the pages are kept is said in `cache` alone.
 //!
-//! It stands on the script's types, on the traits of the outside and on what a journal means. The words
-//! of the command line, the printed text and the exit status come above it.
+//! It stands on the script, on the text, on the traits of the outside, on what a journal means and on how
+//! it explains answers. The program stands on it.
 #![tactic(auto)]
 
 mod cache;
@@ -23,7 +24,6 @@ mod top;
 mod words;
 
 pub use no_run::NoRun;
-pub use run::{Ran, run_stream};
 pub use top::{Ended, cache_main};
 
 #[cfg(test)]

@@ -1,6 +1,9 @@
+//! The run over a disk that tells nothing. Scripts over disks in memory are run by a crate above.
+
 ghost use Rattle.std.specs.Prelude.{None};
 
-use super::*;
+use crate::run::run_stream;
+use crate::served::is_served;
 use cc_entry::{Answer, Bytes, CcError, LineReply, Reply};
 use cc_script::{Mode, read_script};
 use cc_traits::{Faults, PageDisk, Stop, Told};
@@ -43,10 +46,10 @@ impl PageDisk for FillDisk {
 /// The answers of a script whose first line is its stream, over a disk of 5A whose first reads fail.
 fn answers(alloc: Global, script: &[u8], fails: u32) -> Option<Vec<LineReply>> {
     let script = read_script(alloc, script, Mode::Run).ok()?;
-    let stream = script.streams.as_slice().first()?;
-    if stream.valid > stream.size || stream.size > 4194304 {
+    if !is_served(&script) {
         return None;
     }
+    let stream = script.streams.as_slice().first()?;
     let mut disk = FillDisk {
         fill: 0x5A,
         fails,
@@ -72,7 +75,7 @@ fn read(alloc: Global, bytes: &[u8]) -> Result<Answer, Fail> {
 }
 
 #[test]
-fn copies(rt: HostRuntime) -> Result<(), Fail> {
+fn a_disk_that_tells_nothing(rt: HostRuntime) -> Result<(), Fail> {
     let alloc = rt.alloc();
     let written = answers(
         alloc,
@@ -80,54 +83,7 @@ fn copies(rt: HostRuntime) -> Result<(), Fail> {
         0,
     );
     assert!(rt; ends_with(written, 3, read(alloc, &[0x5A, 0xAB, 0])?));
-    let at_end = answers(alloc, b"stream a 8192 8192\ncread a 8190 10\n", 0);
-    assert!(rt; ends_with(at_end, 2, read(alloc, &[0x5A, 0x5A])?));
-    let past_end = answers(alloc, b"stream a 8192 8192\ncread a 9000 4\n", 0);
-    assert!(rt; ends_with(past_end, 2, read(alloc, &[])?));
-    let past_valid = answers(alloc, b"stream a 8192 5000\ncread a 4998 4\n", 0);
-    assert!(rt; ends_with(past_valid, 2, read(alloc, &[0x5A, 0x5A, 0, 0])?));
-    Ok(())
-}
-
-#[test]
-fn refusals(rt: HostRuntime) {
-    let alloc = rt.alloc();
-    let past_size = answers(alloc, b"stream a 8192 8192\ncwrite a 8191 ABCD\n", 0);
-    assert!(rt;
-        ends_with(
-            past_size,
-            2,
-            Answer::Refused(CcError::BeyondSize { size: 8192 })
-        )
-    );
-    let past_valid = answers(alloc, b"stream a 8192 5000\ncwrite a 5001 AB\n", 0);
-    assert!(rt;
-        ends_with(
-            past_valid,
-            2,
-            Answer::Refused(CcError::BeyondValid { valid: 5000 })
-        )
-    );
-    let too_long = answers(alloc, b"stream a 2097152 2097152\ncread a 0 1048577\n", 0);
-    assert!(rt;
-        ends_with(
-            too_long,
-            2,
-            Answer::Refused(CcError::TooLong { limit: 1048576 })
-        )
-    );
     let failed = answers(alloc, b"stream a 8192 8192\ncread a 4095 2\n", 1);
     assert!(rt; ends_with(failed, 2, Answer::Refused(CcError::ReadFault { page: 0 })));
-}
-
-#[test]
-fn a_read_after_a_fault(rt: HostRuntime) -> Result<(), Fail> {
-    let alloc = rt.alloc();
-    let again = answers(
-        alloc,
-        b"stream a 8192 8192\ncread a 4095 2\ncread a 4095 2\n",
-        1,
-    );
-    assert!(rt; ends_with(again, 3, read(alloc, &[0x5A, 0x5A])?));
     Ok(())
 }
