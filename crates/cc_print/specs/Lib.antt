@@ -3,4 +3,5 @@ pub mod Answers
 pub mod Calls
 pub mod Entries
 pub mod Trace
+pub mod Replies
 pub mod Text

@@ -12,6 +12,7 @@ mod answer;
 mod call;
 mod entry;
 mod piece;
+mod replies;
 mod table;
 mod text;
 mod trace;

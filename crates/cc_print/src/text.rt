@@ -5,6 +5,7 @@ ghost use Rattle.cc_print.specs.Text.{numbered, section, reply_line, setup_lines
 
 use crate::answer::answer_text;
 use crate::entry::entry_text;
+use crate::replies::Replies;
 use crate::table::{TableRow, table_line};
 use crate::trace::trace_line;
 use cc_entry::{Entry, LineReply, NoMemory};
@@ -34,24 +35,24 @@ fn push_section(text: &mut String, heading: &str, lines: &str) -> Result<(), All
 fn reply_line(
     alloc: Global,
     streams: &[StreamLine],
-    replies: &[LineReply],
+    replies: &Replies,
     line: u32,
 ) -> Result<String, AllocError>
     ensures { IfOk result (λ text. string_bytes text ≡ reply_line streams.now replies.now line) }
 {
-    for reply in replies {
-        if reply.line == line {
+    match replies.of_line(line) {
+        Some(reply) => {
             let answer = answer_text(alloc, streams, &reply.answer)?;
-            return numbered(alloc, u64::from(line), answer.as_str());
+            numbered(alloc, u64::from(reply.line), answer.as_str())
         }
+        None => Ok(String::new(alloc)),
     }
-    Ok(String::new(alloc))
 }
 
 fn setup_lines(
     alloc: Global,
     streams: &[StreamLine],
-    replies: &[LineReply],
+    replies: &Replies,
 ) -> Result<String, AllocError>
     ensures { IfOk result (λ text. string_bytes text ≡ setup_lines streams.now replies.now) }
 {
@@ -67,7 +68,7 @@ fn caller_lines(
     alloc: Global,
     streams: &[StreamLine],
     lines: &[ActionLine],
-    replies: &[LineReply],
+    replies: &Replies,
     caller: u32,
 ) -> Result<String, AllocError>
     ensures { IfOk result (λ text. string_bytes text ≡ caller_lines streams.now lines.now replies.now caller) }
@@ -93,7 +94,7 @@ fn push_each_caller(
     text: &mut String,
     streams: &[StreamLine],
     lines: &[ActionLine],
-    replies: &[LineReply],
+    replies: &Replies,
     callers: &[u32],
 ) -> Result<(), AllocError>
     ensures { OnOk result (string_bytes text.new ≡ string_bytes text.old ++ each_caller streams.now lines.now replies.now callers.now) }
@@ -112,7 +113,7 @@ fn push_callers(
     text: &mut String,
     streams: &[StreamLine],
     lines: &[ActionLine],
-    replies: &[LineReply],
+    replies: &Replies,
 ) -> Result<(), AllocError>
     ensures { OnOk result (string_bytes text.new ≡ string_bytes text.old ++ callers_text streams.now lines.now replies.now) }
 {
@@ -176,13 +177,14 @@ fn whole_text(
     ensures { IfOk result (λ text. string_bytes text ≡ text_of script.now replies.now journal.now table.now) }
 {
     let streams = script.streams.as_slice();
-    let setup = setup_lines(alloc, streams, replies)?;
+    let replies = Replies::new(alloc, replies)?;
+    let setup = setup_lines(alloc, streams, &replies)?;
     let entries = journal_lines(alloc, streams, journal)?;
     let rows = table_lines(alloc, streams, table)?;
     let trace = trace_lines(alloc, streams, journal)?;
     let mut text = String::new(alloc);
     push_section(&mut text, "setup", setup.as_str())?;
-    push_callers(alloc, &mut text, streams, script.lines.as_slice(), replies)?;
+    push_callers(alloc, &mut text, streams, script.lines.as_slice(), &replies)?;
     push_section(&mut text, "journal", entries.as_str())?;
     push_section(&mut text, "table", rows.as_str())?;
     push_section(&mut text, "trace", trace.as_str())?;
