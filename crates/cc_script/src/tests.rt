@@ -1,12 +1,11 @@
 //! Lines of the grammar and lines outside it, with the values of their words.
 
 use super::*;
-use std::alloc::Global;
 use std::test::Fail;
 
 // The line that is wrong, 0 where none is; none at all where memory ran out.
-fn wrong_line(alloc: Global, bytes: &[u8], mode: Mode, offer: Offer) -> Option<u32> {
-    match read_offered(alloc, bytes, mode, offer) {
+fn wrong_line(answer: Result<Script, ScriptFault>) -> Option<u32> {
+    match answer {
         Ok(_) => Some(0),
         Err(ScriptFault::Syntax { line }) => Some(line),
         Err(ScriptFault::NoMemory) => None,
@@ -105,7 +104,7 @@ fn accepts_and_refuses_whole(rt: HostRuntime) {
     for (text, line) in WHOLE {
         for mode in MODES {
             assert_eq!(rt;
-                wrong_line(rt.alloc(), text.as_bytes(), mode, Offer::Whole),
+                wrong_line(read_offered(rt.alloc(), text.as_bytes(), mode, Offer::Whole)),
                 Some(line),
                 "{text}"
             );
@@ -118,7 +117,7 @@ fn accepts_and_refuses_copies(rt: HostRuntime) {
     for (text, line) in COPIES {
         for mode in MODES {
             assert_eq!(rt;
-                wrong_line(rt.alloc(), text.as_bytes(), mode, Offer::Copies),
+                wrong_line(read_script(rt.alloc(), text.as_bytes(), mode)),
                 Some(line),
                 "{text}"
             );
@@ -130,11 +129,11 @@ fn accepts_and_refuses_copies(rt: HostRuntime) {
 fn takes_phases_in_a_run(rt: HostRuntime) {
     let text = b"stream a 1 1\nphase\nphase\nstream b 1 1\nstate b";
     assert_eq!(rt;
-        wrong_line(rt.alloc(), text, Mode::Run, Offer::Whole),
+        wrong_line(read_offered(rt.alloc(), text, Mode::Run, Offer::Whole)),
         Some(0)
     );
     assert_eq!(rt;
-        wrong_line(rt.alloc(), text, Mode::Steps, Offer::Whole),
+        wrong_line(read_offered(rt.alloc(), text, Mode::Steps, Offer::Whole)),
         Some(2)
     );
 }
@@ -143,11 +142,11 @@ fn takes_phases_in_a_run(rt: HostRuntime) {
 fn refuses_bytes_beyond_ascii(rt: HostRuntime) {
     for mode in MODES {
         assert_eq!(rt;
-            wrong_line(rt.alloc(), b"\x80", mode, Offer::Whole),
+            wrong_line(read_offered(rt.alloc(), b"\x80", mode, Offer::Whole)),
             Some(1)
         );
         assert_eq!(rt;
-            wrong_line(rt.alloc(), b"stream a 1 1\n# \x80\n", mode, Offer::Copies),
+            wrong_line(read_script(rt.alloc(), b"stream a 1 1\n# \x80\n", mode)),
             Some(2)
         );
     }
@@ -193,9 +192,9 @@ fn counts_lines(rt: HostRuntime) -> Result<(), Fail> {
     let most = vec![in rt.alloc(); b'\n'; 65536]?;
     let more = vec![in rt.alloc(); b'\n'; 65537]?;
     for mode in MODES {
-        assert_eq!(rt; wrong_line(rt.alloc(), &most, mode, Offer::Copies), Some(0));
+        assert_eq!(rt; wrong_line(read_script(rt.alloc(), &most, mode)), Some(0));
         assert_eq!(rt;
-            wrong_line(rt.alloc(), &more, mode, Offer::Copies),
+            wrong_line(read_script(rt.alloc(), &more, mode)),
             Some(65537)
         );
     }
@@ -211,14 +210,14 @@ fn counts_bytes(rt: HostRuntime) -> Result<(), Fail> {
     text.push_str("cread a 0 0\n")?;
     for mode in MODES {
         assert_eq!(rt;
-            wrong_line(rt.alloc(), text.as_bytes(), mode, Offer::Copies),
+            wrong_line(read_script(rt.alloc(), text.as_bytes(), mode)),
             Some(0)
         );
     }
     text.push_str("cread a 0 1\n")?;
     for mode in MODES {
         assert_eq!(rt;
-            wrong_line(rt.alloc(), text.as_bytes(), mode, Offer::Copies),
+            wrong_line(read_script(rt.alloc(), text.as_bytes(), mode)),
             Some(19)
         );
     }
