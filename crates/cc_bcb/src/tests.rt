@@ -58,5 +58,23 @@ fn pins_conflict_and_wait_for_a_stamp(rt: HostRuntime) -> Result<(), Fail> {
     assert!(rt; holds.get(1).is_some());
     holds.stamp(1);
     assert_eq!(rt; holds.unstamped(1), None);
+    let mut opened = row(2, file, 0, PAGE, HoldKind::Pin);
+    opened.written = Some(Span::new(0, 1).ok_or("span")?);
+    holds.add(opened)?;
+    assert_eq!(rt; holds.unstamped(0), Some(2));
+    Ok(())
+}
+
+#[test]
+fn pages_are_touched_by_their_bytes(rt: HostRuntime) -> Result<(), Fail> {
+    let two_pages = Span::new(PAGE - 1, PAGE + 1).ok_or("span")?;
+    let one_page = Span::new(3 * PAGE, 4 * PAGE).ok_or("span")?;
+    let mut touched = TouchedPages::new(rt.alloc());
+    touched.touch(two_pages)?;
+    touched.touch(one_page)?;
+    assert!(rt; touched.contains(0) && touched.contains(1) && touched.contains(3));
+    assert!(rt; !touched.contains(2) && !touched.contains(4));
+    touched.clear();
+    assert!(rt; !touched.contains(0));
     Ok(())
 }

@@ -45,7 +45,7 @@ unfolding words
 words_more bytes word rest e = rw e refl
 
 -- parts are never none
-some_part : {X : Type 0} (p : X → Bool) (xs : List X) → (front : List X) × (more : List (List X)) × (slice_split p xs ≡ front ∷ more)
+pub some_part : {X : Type 0} (p : X → Bool) (xs : List X) → (front : List X) × (more : List (List X)) × (slice_split p xs ≡ front ∷ more)
 some_part p [] = ([], [], refl)
 some_part {X} p (x ∷ xs) = either (p x) refl (some_part p xs)
   where

@@ -1,5 +1,5 @@
 -- What the definitions of the grammar come to, in words of their own.
-use Rattle.std.specs.Prelude.{ℕ, ◌≡◌, ◌==◌, ◌<◌, ◌^◌, ◌↔◌, not, IsTrue, Some, None, List, [], ◌∷◌, ◌++◌, ◌⊎◌, true, ◌≤◌, ◌/◌, ◌%◌, length, map, replicate, nat_lt}
+use Rattle.std.specs.Prelude.{ℕ, ◌≡◌, ◌==◌, ◌<◌, ◌^◌, ◌↔◌, not, IsTrue, Some, None, List, [], ◌∷◌, ◌++◌, ◌⊎◌, true, ◌≤◌, ◌/◌, ◌%◌, length, map, replicate, nat_lt, codes}
 use Rattle.std.specs.List.{join_with_byte, list_all, flat_map}
 use Rattle.std.specs.Fmt.{decimal, digit_glyph}
 use Rattle.cc_script.specs.declared.verb.Verb.{Verb}
@@ -59,6 +59,18 @@ abbrev pub AreItems : List Item → Type 0
 AreItems [] = Unit {0}
 AreItems (item ∷ more) = IsItem item × AreItems more
 
--- what items give, parted by commas, is the bytes that they spell, in their order
-abbrev pub ItemsSpell : Type 0
-ItemsSpell = (items : List Item) → 0 < length items → AreItems items → length (items_bytes items) ≤ 2097152 → bytes_of (join_with_byte 44 (map item_text items)) ≡ Some (items_bytes items)
+-- items that are written as this word, parted by commas, and what they give, at most 2097152 bytes
+pub record IsSpelling (items : List Item) (word bytes : List ℕ) : Type 0 where
+  pub some : 0 < length items
+  pub are_items : AreItems items
+  pub text : join_with_byte 44 (map item_text items) ≡ word
+  pub gives : items_bytes items ≡ bytes
+  pub most : length bytes ≤ 2097152
+
+-- a word spells bytes: `-` spells none, and items spell theirs in their order
+abbrev pub Spells : List ℕ → List ℕ → Type 0
+Spells word bytes = ((word ≡ codes "-") × (bytes ≡ [])) ⊎ ((items : List Item) × IsSpelling items word bytes)
+
+-- the words that are read as bytes are those that spell them
+abbrev pub WordsSpell : Type 0
+WordsSpell = (word bytes : List ℕ) → (bytes_of word ≡ Some bytes) ↔ Spells word bytes

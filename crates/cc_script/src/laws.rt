@@ -1,6 +1,6 @@
 //! Laws of the grammar: functions without a body, whose clauses are proved.
 
-ghost use Rattle.cc_script.specs.Laws.{NumbersAreDecimal, VerbsDiffer, VerbsAreFound, VerbsAreNoCallers, LinesJoin, LinesAreWhole, ItemsSpell};
+ghost use Rattle.cc_script.specs.Laws.{NumbersAreDecimal, VerbsDiffer, VerbsAreFound, VerbsAreNoCallers, LinesJoin, LinesAreWhole, WordsSpell};
 
 /// A number's word is exactly its decimal text, and stands for a number below 2^64.
 
@@ -21,7 +21,7 @@ pub fn lines_join()
     ensures whole { LinesAreWhole }
 {}
 
-/// The word that spells bytes gives the bytes of its items.
-pub fn items_spell()
-    ensures { ItemsSpell }
+/// A word is read as bytes exactly where it spells them: `-` spells none, items spell theirs.
+pub fn words_spell()
+    ensures { WordsSpell }
 {}

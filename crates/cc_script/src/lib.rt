@@ -21,7 +21,7 @@ mod slot;
 mod verb;
 mod word;
 
-pub use laws::{items_spell, lines_join, numbers_are_decimal, verbs_differ};
+pub use laws::{lines_join, numbers_are_decimal, verbs_differ, words_spell};
 pub use name::Name;
 pub use read::{OFFERED, read_offered, read_script};
 pub use script::{

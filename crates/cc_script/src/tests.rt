@@ -1,20 +1,21 @@
 //! Lines of the grammar and lines outside it, with the values of their words.
 
 use super::*;
-use std::alloc::Global;
 use std::test::Fail;
 
 // The line that is wrong, 0 where none is; none at all where memory ran out.
-fn wrong_line(alloc: Global, bytes: &[u8], mode: Mode, offer: Offer) -> Option<u32> {
-    match read_offered(alloc, bytes, mode, offer) {
+fn wrong_line(answer: Result<Script, ScriptFault>) -> Option<u32> {
+    match answer {
         Ok(_) => Some(0),
         Err(ScriptFault::Syntax { line }) => Some(line),
         Err(ScriptFault::NoMemory) => None,
     }
 }
 
+const MODES: [Mode; 2] = [Mode::Run, Mode::Steps];
+
 // Every form of a line and of a word, and how it misses its form.
-const WHOLE: [(&str, u32); 60] = [
+const WHOLE: [(&str, u32); 63] = [
     ("", 0),
     ("\n\n", 0),
     ("# a comment\n", 0),
@@ -41,10 +42,7 @@ const WHOLE: [(&str, u32); 60] = [
     ("stream A 1 1", 1),
     ("stream a 1 1\nstream b 1 1\nstream a 1 1", 3),
     ("stream a 1 1\nstate a\nstream b 1 1", 3),
-    (
-        "journal 64\nstream a 1 1\nphase\nphase\nstream b 1 1\nstate b",
-        0,
-    ),
+    ("journal 64\nstream a 1 1\nstream b 1 1\nstate b", 0),
     ("journal 63", 1),
     ("journal 1048577", 1),
     ("journal 64\njournal 64", 2),
@@ -68,6 +66,9 @@ const WHOLE: [(&str, u32); 60] = [
         "stream a 1 1\ncwrite a 0 AB\ncwrite a 0 ABx3\ncwrite a 0 ABCD,00x2\ncwrite a 0 -",
         0,
     ),
+    ("stream a 1 1\ncwrite a 0 A-", 2),
+    ("stream a 1 1\ncwrite a 0 --", 2),
+    ("stream a 1 1\ncwrite a 0", 2),
     ("stream a 1 1\ncwrite a 0 ABx2097152", 0),
     ("stream a 1 1\ncwrite a 0 ABx2097153", 2),
     ("stream a 1 1\ncwrite a 0 ABx2097152,00", 2),
@@ -101,37 +102,54 @@ const COPIES: [(&str, u32); 8] = [
 #[test]
 fn accepts_and_refuses_whole(rt: HostRuntime) {
     for (text, line) in WHOLE {
-        assert_eq!(rt;
-            wrong_line(rt.alloc(), text.as_bytes(), Mode::Run, Offer::Whole),
-            Some(line),
-            "{text}"
-        );
+        for mode in MODES {
+            assert_eq!(rt;
+                wrong_line(read_offered(rt.alloc(), text.as_bytes(), mode, Offer::Whole)),
+                Some(line),
+                "{text}"
+            );
+        }
     }
 }
 
 #[test]
 fn accepts_and_refuses_copies(rt: HostRuntime) {
     for (text, line) in COPIES {
-        assert_eq!(rt;
-            wrong_line(rt.alloc(), text.as_bytes(), Mode::Run, Offer::Copies),
-            Some(line),
-            "{text}"
-        );
-        assert_eq!(rt;
-            wrong_line(rt.alloc(), text.as_bytes(), Mode::Steps, Offer::Copies),
-            Some(line),
-            "{text}"
-        );
+        for mode in MODES {
+            assert_eq!(rt;
+                wrong_line(read_script(rt.alloc(), text.as_bytes(), mode)),
+                Some(line),
+                "{text}"
+            );
+        }
     }
-    let phase = b"stream a 1 1\nphase";
+}
+
+#[test]
+fn takes_phases_in_a_run(rt: HostRuntime) {
+    let text = b"stream a 1 1\nphase\nphase\nstream b 1 1\nstate b";
     assert_eq!(rt;
-        wrong_line(rt.alloc(), phase, Mode::Steps, Offer::Whole),
+        wrong_line(read_offered(rt.alloc(), text, Mode::Run, Offer::Whole)),
+        Some(0)
+    );
+    assert_eq!(rt;
+        wrong_line(read_offered(rt.alloc(), text, Mode::Steps, Offer::Whole)),
         Some(2)
     );
-    assert_eq!(rt;
-        wrong_line(rt.alloc(), b"\x80", Mode::Run, Offer::Whole),
-        Some(1)
-    );
+}
+
+#[test]
+fn refuses_bytes_beyond_ascii(rt: HostRuntime) {
+    for mode in MODES {
+        assert_eq!(rt;
+            wrong_line(read_offered(rt.alloc(), b"\x80", mode, Offer::Whole)),
+            Some(1)
+        );
+        assert_eq!(rt;
+            wrong_line(read_script(rt.alloc(), b"stream a 1 1\n# \x80\n", mode)),
+            Some(2)
+        );
+    }
 }
 
 #[test]
@@ -170,31 +188,39 @@ fn keeps_values(rt: HostRuntime) -> Result<(), Fail> {
 }
 
 #[test]
-fn counts_lines_and_bytes(rt: HostRuntime) -> Result<(), Fail> {
+fn counts_lines(rt: HostRuntime) -> Result<(), Fail> {
     let most = vec![in rt.alloc(); b'\n'; 65536]?;
-    assert_eq!(rt;
-        wrong_line(rt.alloc(), &most, Mode::Run, Offer::Copies),
-        Some(0)
-    );
     let more = vec![in rt.alloc(); b'\n'; 65537]?;
-    assert_eq!(rt;
-        wrong_line(rt.alloc(), &more, Mode::Run, Offer::Copies),
-        Some(65537)
-    );
+    for mode in MODES {
+        assert_eq!(rt; wrong_line(read_script(rt.alloc(), &most, mode)), Some(0));
+        assert_eq!(rt;
+            wrong_line(read_script(rt.alloc(), &more, mode)),
+            Some(65537)
+        );
+    }
+    Ok(())
+}
+
+#[test]
+fn counts_bytes(rt: HostRuntime) -> Result<(), Fail> {
     let mut text = String::from_str(rt.alloc(), "stream a 1 1\n")?;
     for _ in 0..16 {
         text.push_str("cwrite a 0 00x2097152\n")?;
     }
     text.push_str("cread a 0 0\n")?;
-    assert_eq!(rt;
-        wrong_line(rt.alloc(), text.as_bytes(), Mode::Run, Offer::Copies),
-        Some(0)
-    );
+    for mode in MODES {
+        assert_eq!(rt;
+            wrong_line(read_script(rt.alloc(), text.as_bytes(), mode)),
+            Some(0)
+        );
+    }
     text.push_str("cread a 0 1\n")?;
-    assert_eq!(rt;
-        wrong_line(rt.alloc(), text.as_bytes(), Mode::Run, Offer::Copies),
-        Some(19)
-    );
+    for mode in MODES {
+        assert_eq!(rt;
+            wrong_line(read_script(rt.alloc(), text.as_bytes(), mode)),
+            Some(19)
+        );
+    }
     Ok(())
 }
 
