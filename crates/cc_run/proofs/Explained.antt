@@ -30,7 +30,7 @@ opened_reply stream = record { line = stream.line; answer = answer.Given reply.U
 
 -- the first entry is that of the stream's line
 opening-is : (stream : StreamLine) → IsServedStream stream → opening_entry stream.size stream.valid ≡ entry.Call 0 1 (Some 0) (opening_call 0 stream) (outcome.Done reply.Unit)
-opening-is stream served = rw (served.quota, served.lasting) refl
+opening-is stream served = rw (served.quota, served.not_temporary) refl
 
 pub explained-one : (stream : StreamLine) (lines : List ActionLine) (replies : List LineReply) (past : List Entry) → IsServedStream stream → AllByRecursion IsServedLine lines → ServedLines lines (opened_reply stream ∷ []) replies (opening_entry stream.size stream.valid ∷ []) past → IsExplained (stream ∷ []) lines replies past
 explained-one stream lines replies past first all served = record {

@@ -1,19 +1,57 @@
--- What each exit status says.
-use Rattle.std.proofs.Common.{◌≡◌, ◌≢◌, ℕ, ◌<◌, true, false, List, [], length, reverse, is_some, IfSome, Option, Some, None, ◌⊎◌, inl, inr, refl, sym, ◌∙◌}
+-- What each exit status says, and when it comes.
+use Rattle.std.proofs.Common.{◌≡◌, ◌≢◌, ℕ, ◌<◌, ◌≤◌, true, false, List, [], length, reverse, is_some, IfSome, Option, Some, None, Result, Ok, Err, ◌⊎◌, inl, inr, refl, sym, ◌∙◌, ap, arith}
 use Rattle.cc_entry.specs.declared.answer.LineReply.{LineReply}
 use Rattle.cc_entry.specs.declared.entry.Entry.{Entry}
+use Rattle.cc_traits.specs.Told.{IfTold}
 use Rattle.cc_script.specs.declared.script.Script.{Script}
+use Rattle.cc_script.specs.declared.script.Mode.TheVariants as mode
+use Rattle.cc_script.specs.declared.script.Offer.TheVariants as offer
+use Rattle.cc_script.specs.Grammar.{script_of}
 use Rattle.cc_print.specs.Text.{text_of}
 use Rattle.cc_pieces.specs.Runs.{IsExplained}
 use Rattle.cc_pieces.specs.Table.{table_of}
 use Rattle.cc_run.specs.Words.{is_run}
-use Rattle.cc_run.specs.Ends.{Called, Sunk, status_of, IsCause, IsWrong, IsTooLong, HasFailed, Spells, IsPut, IsEnded}
+use Rattle.cc_run.specs.Ends.{Input, Output, status_of, IsCause, IsTaken, IsWrong, IsTooLong, HasTooFewDisks, HasFailed, Spells, IsPut, IsRun, IsEnded}
+use Rattle.cc_run.specs.Complete.{Comes}
 use Rattle.cc_run.specs.declared.no_run.NoRun.{NoRun}
 use Rattle.cc_run.specs.declared.no_run.NoRun.TheVariants as no_run
 
-module _ (c : Called) (s : Sunk) (script : Option Script) (replies : List LineReply) (journal : List Entry) (status : ℕ) (ended : IsEnded c s script replies journal status) where
+-- what the source told is what was read
+told-same : (left : Option (List ℕ)) (told bytes : List ℕ) → left ≡ Some told → IfTold left (λ l. bytes ≡ l) → bytes ≡ told
+told-same None told bytes is all = absurd (cc is)
+told-same (Some l) told bytes is all = all ∙ (cc is)
+
+taken-few : (left after : Option (List ℕ)) (told : List ℕ) → left ≡ Some told → IsTaken left after → length told ≤ 16777216
+taken-few None after told is taken = absurd (cc is)
+taken-few (Some l) None told is taken = absurd taken
+taken-few (Some l) (Some a) told is taken = let same : l ≡ told = cc is in rw same at taken.1
+
+long-many : (left after : Option (List ℕ)) (told : List ℕ) → left ≡ Some told → IsTooLong left after → 16777216 < length told
+long-many None after told is long = absurd (cc is)
+long-many (Some l) None told is long = absurd long
+long-many (Some l) (Some a) told is long = let same : l ≡ told = cc is in omega (arith, long, ap length same)
+
+wrong-is : (left : Option (List ℕ)) (told : List ℕ) (line : ℕ) → left ≡ Some told → IsWrong left line → script_of offer.Copies mode.Run told ≡ Err line
+wrong-is left told line is w = rw (told-same left told w.bytes is w.all) at w.wrong
+
+spells-is : (left : Option (List ℕ)) (told : List ℕ) (script : Script) → left ≡ Some told → Spells left script → script_of offer.Copies mode.Run told ≡ Ok script
+spells-is left told script is w = rw (told-same left told w.bytes is w.all) at w.spelled
+
+not-both : (r : Result Script ℕ) (script : Script) (line : ℕ) → r ≡ Ok script → r ≡ Err line → ⊥
+not-both r script line ok err = absurd (cc (ok, err))
+
+one-script : (r : Result Script ℕ) (a b : Script) → r ≡ Ok a → r ≡ Ok b → a ≡ b
+one-script r a b first second = cc (first, second)
+
+-- a sink that did not fail
+module _ (o : Output) (calm : o.faults_after ≡ o.faults) (steady : o.stalls_after ≡ o.stalls) where
+  not-failed : HasFailed o → ⊥
+  not-failed (inl risen) = absurd (omega (arith, risen, calm))
+  not-failed (inr risen) = absurd (omega (arith, risen, steady))
+
+module _ (i : Input) (o : Output) (script : Option Script) (replies : List LineReply) (journal : List Entry) (status : ℕ) (ended : IsEnded i o script replies journal status) where
   -- a status that no run has, by its cause
-  cause-at : (n : ℕ) (P : Type 0) → ((why : NoRun) → n ≡ status_of why → IsCause c why → P) → n ≢ 0 → n ≢ 4 → n ≢ 6 → status ≡ n → P
+  cause-at : (n : ℕ) (P : Type 0) → ((why : NoRun) → n ≡ status_of why → IsCause i why → P) → n ≢ 0 → n ≢ 4 → n ≢ 6 → status ≡ n → P
   cause-at n P by not0 not4 not6 is = go script ended
     where
       run : (status ≡ 0) ⊎ ((status ≡ 4) ⊎ (status ≡ 6)) → P
@@ -21,69 +59,76 @@ module _ (c : Called) (s : Sunk) (script : Option Script) (replies : List LineRe
       run (inr (inl at)) = absurd (not4 (sym is ∙ at))
       run (inr (inr at)) = absurd (not6 (sym is ∙ at))
 
-      go : (o : Option Script) → IsEnded c s o replies journal status → P
+      go : (s : Option Script) → IsEnded i o s replies journal status → P
       go None e = by e.2.why (sym is ∙ e.2.status_is) e.2.cause
       go (Some one) e = run e.printed.status_is
 
-  pub usage-at : status ≡ 1 → is_run c.words ≡ false
-  usage-at = cause-at 1 (is_run c.words ≡ false) by (λ e. absurd (cc e)) (λ e. absurd (cc e)) (λ e. absurd (cc e))
+  pub usage-at : status ≡ 1 → is_run i.words ≡ false
+  usage-at = cause-at 1 (is_run i.words ≡ false) by (λ e. absurd (cc e)) (λ e. absurd (cc e)) (λ e. absurd (cc e))
     where
-      by : (why : NoRun) → 1 ≡ status_of why → IsCause c why → is_run c.words ≡ false
+      by : (why : NoRun) → 1 ≡ status_of why → IsCause i why → is_run i.words ≡ false
       by no_run.Usage is cause = cause
       by other is cause = absurd (cc is)
 
-  pub syntax-at : status ≡ 2 → (line : ℕ) × IsWrong c.left line
-  syntax-at = cause-at 2 ((line : ℕ) × IsWrong c.left line) by (λ e. absurd (cc e)) (λ e. absurd (cc e)) (λ e. absurd (cc e))
+  pub syntax-at : status ≡ 2 → (line : ℕ) × IsWrong i.left line
+  syntax-at = cause-at 2 ((line : ℕ) × IsWrong i.left line) by (λ e. absurd (cc e)) (λ e. absurd (cc e)) (λ e. absurd (cc e))
     where
-      by : (why : NoRun) → 2 ≡ status_of why → IsCause c why → (line : ℕ) × IsWrong c.left line
+      by : (why : NoRun) → 2 ≡ status_of why → IsCause i why → (line : ℕ) × IsWrong i.left line
       by (no_run.Syntax line) is cause = (line, cause.1)
       by other is cause = absurd (cc is)
 
-  pub read_fault-at : status ≡ 3 → c.faults < c.faults_after
-  read_fault-at = cause-at 3 (c.faults < c.faults_after) by (λ e. absurd (cc e)) (λ e. absurd (cc e)) (λ e. absurd (cc e))
+  pub read_fault-at : status ≡ 3 → i.faults < i.faults_after
+  read_fault-at = cause-at 3 (i.faults < i.faults_after) by (λ e. absurd (cc e)) (λ e. absurd (cc e)) (λ e. absurd (cc e))
     where
-      by : (why : NoRun) → 3 ≡ status_of why → IsCause c why → c.faults < c.faults_after
+      by : (why : NoRun) → 3 ≡ status_of why → IsCause i why → i.faults < i.faults_after
       by no_run.ReadFault is cause = cause.1
       by other is cause = absurd (cc is)
 
-  pub too_long-at : status ≡ 5 → IsTooLong c.left c.rest
-  too_long-at = cause-at 5 (IsTooLong c.left c.rest) by (λ e. absurd (cc e)) (λ e. absurd (cc e)) (λ e. absurd (cc e))
+  pub too_long-at : status ≡ 5 → IsTooLong i.left i.left_after
+  too_long-at = cause-at 5 (IsTooLong i.left i.left_after) by (λ e. absurd (cc e)) (λ e. absurd (cc e)) (λ e. absurd (cc e))
     where
-      by : (why : NoRun) → 5 ≡ status_of why → IsCause c why → IsTooLong c.left c.rest
+      by : (why : NoRun) → 5 ≡ status_of why → IsCause i why → IsTooLong i.left i.left_after
       by no_run.TooLong is cause = cause.1
       by other is cause = absurd (cc is)
 
-  pub too_few-at : status ≡ 7 → (made : Script) × Spells c.left made × (c.disks < length made.streams)
-  too_few-at = cause-at 7 ((made : Script) × Spells c.left made × (c.disks < length made.streams)) by (λ e. absurd (cc e)) (λ e. absurd (cc e)) (λ e. absurd (cc e))
+  pub too_few-at : status ≡ 7 → HasTooFewDisks i
+  too_few-at = cause-at 7 (HasTooFewDisks i) by (λ e. absurd (cc e)) (λ e. absurd (cc e)) (λ e. absurd (cc e))
     where
-      by : (why : NoRun) → 7 ≡ status_of why → IsCause c why → (made : Script) × Spells c.left made × (c.disks < length made.streams)
-      by no_run.TooFewDevices is cause = (cause.1.script, cause.1.spelled, cause.1.few)
+      by : (why : NoRun) → 7 ≡ status_of why → IsCause i why → HasTooFewDisks i
+      by no_run.TooFewDevices is cause = cause.1
       by other is cause = absurd (cc is)
 
   -- only a failed sink leaves a text unprinted at status 4
-  pub unwritten-at : status ≡ 4 → HasFailed s
+  pub unwritten-at : status ≡ 4 → HasFailed o
   unwritten-at is = go script ended
     where
-      none : (why : NoRun) → 4 ≡ status_of why → HasFailed s
+      none : (why : NoRun) → 4 ≡ status_of why → HasFailed o
       none no_run.Usage at = absurd (cc at)
       none other at = absurd (cc at)
 
-      go : (o : Option Script) → IsEnded c s o replies journal status → HasFailed s
+      go : (s : Option Script) → IsEnded i o s replies journal status → HasFailed o
       go None e = none e.2.why (sym is ∙ e.2.status_is)
       go (Some one) e = e.printed.failed is
 
-  -- wrong words are always status 1
-  pub words-always : is_run c.words ≡ false → status ≡ 1
+  -- wrong words are always status 1, or memory was wanting
+  pub words-always : is_run i.words ≡ false → (status ≡ 1) ⊎ (status ≡ 6)
   words-always wrong = go script ended
     where
-      by : (why : NoRun) → IsCause c why → status_of why ≡ 1
-      by no_run.Usage cause = refl
-      by no_run.NoMemory cause = absurd (cc (cause, wrong))
-      by other cause = absurd (cc (cause.0, wrong))
+      by : (why : NoRun) → IsCause i why → (status_of why ≡ 1) ⊎ (status_of why ≡ 6)
+      by no_run.Usage cause = inl refl
+      by no_run.NoMemory cause = inr refl
+      by (no_run.Syntax line) cause = absurd (cc (cause.0.words, wrong))
+      by no_run.TooFewDevices cause = absurd (cc (cause.0.words, wrong))
+      by no_run.ReadFault cause = absurd (cc (cause.0, wrong))
+      by no_run.TooLong cause = absurd (cc (cause.0, wrong))
 
-      go : (o : Option Script) → IsEnded c s o replies journal status → status ≡ 1
-      go None e = e.2.status_is ∙ by e.2.why e.2.cause
-      go (Some one) e = absurd (cc (e.words, wrong))
+      at : (why : NoRun) → status ≡ status_of why → (status_of why ≡ 1) ⊎ (status_of why ≡ 6) → (status ≡ 1) ⊎ (status ≡ 6)
+      at why is (inl one) = inl (is ∙ one)
+      at why is (inr six) = inr (is ∙ six)
+
+      go : (s : Option Script) → IsEnded i o s replies journal status → (status ≡ 1) ⊎ (status ≡ 6)
+      go None e = at e.2.why e.2.status_is (by e.2.why e.2.cause)
+      go (Some one) e = absurd (cc (e.read.words, wrong))
 
   -- a run was made at statuses 0 and 4
   pub made-at : (status ≡ 0) ⊎ (status ≡ 4) → is_some script ≡ true
@@ -95,34 +140,111 @@ module _ (c : Called) (s : Sunk) (script : Option Script) (replies : List LineRe
       none other is (inl zero) = absurd (cc (is, zero))
       none other is (inr four) = absurd (cc (is, four))
 
-      go : (o : Option Script) → IsEnded c s o replies journal status → (status ≡ 0) ⊎ (status ≡ 4) → is_some o ≡ true
+      go : (s : Option Script) → IsEnded i o s replies journal status → (status ≡ 0) ⊎ (status ≡ 4) → is_some s ≡ true
       go None e at' = none e.2.why e.2.status_is at'
       go (Some one) e at' = refl
 
-  pub spelled-at : IfSome script (Spells c.left)
+  pub spelled-at : IfSome script (Spells i.left)
   spelled-at = go script ended
     where
-      go : (o : Option Script) → IsEnded c s o replies journal status → IfSome o (Spells c.left)
+      go : (s : Option Script) → IsEnded i o s replies journal status → IfSome s (Spells i.left)
       go None e = tt
       go (Some one) e = e.spelled
 
   pub explained-at : IfSome script (λ made. IsExplained made.streams made.lines replies (reverse journal))
   explained-at = go script ended
     where
-      go : (o : Option Script) → IsEnded c s o replies journal status → IfSome o (λ made. IsExplained made.streams made.lines replies (reverse journal))
+      go : (s : Option Script) → IsEnded i o s replies journal status → IfSome s (λ made. IsExplained made.streams made.lines replies (reverse journal))
       go None e = tt
       go (Some one) e = e.explained
 
   pub empty-at : script ≡ None → journal ≡ []
   empty-at is = go script ended is
     where
-      go : (o : Option Script) → IsEnded c s o replies journal status → o ≡ None → journal ≡ []
+      go : (s : Option Script) → IsEnded i o s replies journal status → s ≡ None → journal ≡ []
       go None e is' = e.1
       go (Some one) e is' = absurd (cc is')
 
-  pub printed-at : status ≡ 0 → IfSome script (λ made. IsPut s (text_of made replies journal (table_of (reverse journal))))
+  pub printed-at : status ≡ 0 → IfSome script (λ made. IsPut o (text_of made replies journal (table_of (reverse journal))))
   printed-at is = go script ended
     where
-      go : (o : Option Script) → IsEnded c s o replies journal status → IfSome o (λ made. IsPut s (text_of made replies journal (table_of (reverse journal))))
+      go : (s : Option Script) → IsEnded i o s replies journal status → IfSome s (λ made. IsPut o (text_of made replies journal (table_of (reverse journal))))
       go None e = tt
       go (Some one) e = e.printed.whole is
+
+  -- the status of a cause, where no run was made
+  refused-at : (n : ℕ) → ((why : NoRun) → IsCause i why → (status_of why ≡ n) ⊎ (status_of why ≡ 6)) → ((made : Script) → IsRun i o made replies journal status → (status ≡ n) ⊎ (status ≡ 6)) → (status ≡ n) ⊎ (status ≡ 6)
+  refused-at n by run = go script ended
+    where
+      at : (why : NoRun) → status ≡ status_of why → (status_of why ≡ n) ⊎ (status_of why ≡ 6) → (status ≡ n) ⊎ (status ≡ 6)
+      at why is (inl one) = inl (is ∙ one)
+      at why is (inr six) = inr (is ∙ six)
+
+      go : (s : Option Script) → IsEnded i o s replies journal status → (status ≡ n) ⊎ (status ≡ 6)
+      go None e = at e.2.why e.2.status_is (by e.2.why e.2.cause)
+      go (Some one) e = run one e
+
+  pub syntax-always : (bytes : List ℕ) (line : ℕ) → Comes i bytes → script_of offer.Copies mode.Run bytes ≡ Err line → (status ≡ 2) ⊎ (status ≡ 6)
+  syntax-always bytes line comes wrong = refused-at 2 by run
+    where
+      by : (why : NoRun) → IsCause i why → (status_of why ≡ 2) ⊎ (status_of why ≡ 6)
+      by no_run.Usage cause = absurd (cc (cause, comes.words))
+      by (no_run.Syntax l) cause = inl refl
+      by no_run.ReadFault cause = absurd (omega (arith, cause.1, comes.no_fault))
+      by no_run.TooLong cause = absurd (omega (arith, long-many i.left i.left_after bytes comes.told cause.1, comes.short))
+      by no_run.NoMemory cause = inr refl
+      by no_run.TooFewDevices cause = absurd (not-both _ cause.1.script line (spells-is i.left bytes cause.1.script comes.told cause.1.spelled) wrong)
+
+      run : (made : Script) → IsRun i o made replies journal status → (status ≡ 2) ⊎ (status ≡ 6)
+      run made e = absurd (not-both _ made line (spells-is i.left bytes made comes.told e.spelled) wrong)
+
+  pub too_long-always : (bytes : List ℕ) → is_run i.words ≡ true → i.left ≡ Some bytes → i.faults_after ≡ i.faults → 16777216 < length bytes → (status ≡ 5) ⊎ (status ≡ 6)
+  too_long-always bytes words told no_fault many = refused-at 5 by run
+    where
+      by : (why : NoRun) → IsCause i why → (status_of why ≡ 5) ⊎ (status_of why ≡ 6)
+      by no_run.Usage cause = absurd (cc (cause, words))
+      by (no_run.Syntax l) cause = absurd (omega (arith, taken-few i.left i.left_after bytes told cause.0.taken, many))
+      by no_run.ReadFault cause = absurd (omega (arith, cause.1, no_fault))
+      by no_run.TooLong cause = inl refl
+      by no_run.NoMemory cause = inr refl
+      by no_run.TooFewDevices cause = absurd (omega (arith, taken-few i.left i.left_after bytes told cause.0.taken, many))
+
+      run : (made : Script) → IsRun i o made replies journal status → (status ≡ 5) ⊎ (status ≡ 6)
+      run made e = absurd (omega (arith, taken-few i.left i.left_after bytes told e.read.taken, many))
+
+  pub too_few-always : (bytes : List ℕ) (made : Script) → Comes i bytes → script_of offer.Copies mode.Run bytes ≡ Ok made → i.disks < length made.streams → (status ≡ 7) ⊎ (status ≡ 6)
+  too_few-always bytes made comes spelled few = refused-at 7 by run
+    where
+      by : (why : NoRun) → IsCause i why → (status_of why ≡ 7) ⊎ (status_of why ≡ 6)
+      by no_run.Usage cause = absurd (cc (cause, comes.words))
+      by (no_run.Syntax l) cause = absurd (not-both _ made l spelled (wrong-is i.left bytes l comes.told cause.1))
+      by no_run.ReadFault cause = absurd (omega (arith, cause.1, comes.no_fault))
+      by no_run.TooLong cause = absurd (omega (arith, long-many i.left i.left_after bytes comes.told cause.1, comes.short))
+      by no_run.NoMemory cause = inr refl
+      by no_run.TooFewDevices cause = inl refl
+
+      run : (one : Script) → IsRun i o one replies journal status → (status ≡ 7) ⊎ (status ≡ 6)
+      run one e =
+          let same : one ≡ made = one-script _ one made (spells-is i.left bytes one comes.told e.spelled) spelled in
+          absurd (omega (arith, few, e.enough, ap (λ s. length s.streams) same))
+
+  pub complete : (bytes : List ℕ) (made : Script) → Comes i bytes → script_of offer.Copies mode.Run bytes ≡ Ok made → length made.streams ≤ i.disks → o.faults_after ≡ o.faults → o.stalls_after ≡ o.stalls → (status ≡ 0) ⊎ (status ≡ 6)
+  complete bytes made comes spelled enough calm steady = refused-at 0 by run
+    where
+      by : (why : NoRun) → IsCause i why → (status_of why ≡ 0) ⊎ (status_of why ≡ 6)
+      by no_run.Usage cause = absurd (cc (cause, comes.words))
+      by (no_run.Syntax l) cause = absurd (not-both _ made l spelled (wrong-is i.left bytes l comes.told cause.1))
+      by no_run.ReadFault cause = absurd (omega (arith, cause.1, comes.no_fault))
+      by no_run.TooLong cause = absurd (omega (arith, long-many i.left i.left_after bytes comes.told cause.1, comes.short))
+      by no_run.NoMemory cause = inr refl
+      by no_run.TooFewDevices cause =
+          let same : cause.1.script ≡ made = one-script _ cause.1.script made (spells-is i.left bytes cause.1.script comes.told cause.1.spelled) spelled in
+          absurd (omega (arith, enough, cause.1.few, ap (λ s. length s.streams) same))
+
+      at : (status ≡ 0) ⊎ ((status ≡ 4) ⊎ (status ≡ 6)) → (status ≡ 4 → HasFailed o) → (status ≡ 0) ⊎ (status ≡ 6)
+      at (inl zero) failed = inl zero
+      at (inr (inl four)) failed = absurd (not-failed o calm steady (failed four))
+      at (inr (inr six)) failed = inr six
+
+      run : (one : Script) → IsRun i o one replies journal status → (status ≡ 0) ⊎ (status ≡ 6)
+      run one e = at e.printed.status_is e.printed.failed

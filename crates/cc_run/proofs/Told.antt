@@ -1,7 +1,7 @@
 -- What sources and sinks tell, over several calls.
 use Rattle.std.proofs.Common.{◌≡◌, ℕ, ◌+◌, ◌<◌, ◌≤◌, List, [], ◌++◌, length, length-append, append-nil, append_assoc, refl, sym, ◌∙◌, ap, arith, Option, Some, None}
 use Rattle.cc_traits.specs.Told.{Both, IfTold, Gave, Took}
-use Rattle.cc_run.specs.Ends.{IsTooLong, IsShort, TookPart}
+use Rattle.cc_run.specs.Ends.{IsTaken, IsWithin, IsTooLong, IsBounded, TookPart}
 
 -- some bytes were given, and a piece after them
 abbrev pub HasGiven : List ℕ → Option (List ℕ) → Option (List ℕ) → Type 0
@@ -26,13 +26,31 @@ given-all bytes None b given end = tt
 given-all bytes (Some a) None given end = absurd given
 given-all bytes (Some a) (Some b) given end = sym (given ∙ (ap (λ l. bytes ++ l) end ∙ append-nil bytes))
 
-pub given-short : (bytes : List ℕ) (a b : Option (List ℕ)) → HasGiven bytes a b → length bytes ≤ 16777216 → IsShort a b
-given-short bytes None None given few = tt
-given-short bytes None (Some b) given few = absurd given
-given-short bytes (Some a) None given few = absurd given
-given-short bytes (Some a) (Some b) given few =
+-- how many were taken
+pub given-within : (bytes : List ℕ) (a b : Option (List ℕ)) → HasGiven bytes a b → length bytes ≤ 16777216 → IsWithin a b
+given-within bytes None None given few = tt
+given-within bytes None (Some b) given few = absurd given
+given-within bytes (Some a) None given few = absurd given
+given-within bytes (Some a) (Some b) given few =
     let long : length a ≡ length bytes + length b = ap length given ∙ length-append bytes b in
     omega (arith, long, few)
+
+pub given-bounded : (bytes : List ℕ) (a b : Option (List ℕ)) → HasGiven bytes a b → length bytes ≤ 16777217 → IsBounded a b
+given-bounded bytes None None given few = tt
+given-bounded bytes None (Some b) given few = absurd given
+given-bounded bytes (Some a) None given few = absurd given
+given-bounded bytes (Some a) (Some b) given few =
+    let long : length a ≡ length bytes + length b = ap length given ∙ length-append bytes b in
+    omega (arith, long, few)
+
+pub given-taken : (bytes : List ℕ) (a b : Option (List ℕ)) → HasGiven bytes a b → IfTold b (λ rest. rest ≡ []) → length bytes ≤ 16777216 → IsTaken a b
+given-taken bytes None None given end few = tt
+given-taken bytes None (Some b) given end few = absurd given
+given-taken bytes (Some a) None given end few = absurd given
+given-taken bytes (Some a) (Some b) given end few =
+    let long : length a ≡ length bytes + length b = ap length given ∙ length-append bytes b in
+    let none : length b ≡ 0 = ap length end in
+    (end, omega (arith, long, none, few))
 
 pub given-long : (bytes : List ℕ) (a b : Option (List ℕ)) → HasGiven bytes a b → 16777216 < length bytes → IsTooLong a b
 given-long bytes None None given many = tt

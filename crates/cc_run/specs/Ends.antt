@@ -14,6 +14,7 @@ use Rattle.cc_run.specs.Words.{is_run}
 use Rattle.cc_run.specs.declared.no_run.NoRun.{NoRun}
 use Rattle.cc_run.specs.declared.no_run.NoRun.TheVariants as no_run
 
+-- the exit status of a run that was not made
 abbrev pub status_of : NoRun → ℕ
 status_of no_run.Usage = 1
 status_of (no_run.Syntax line) = 2
@@ -22,6 +23,7 @@ status_of no_run.TooLong = 5
 status_of no_run.NoMemory = 6
 status_of no_run.TooFewDevices = 7
 
+-- whether what is printed names a line
 abbrev pub is_syntax : NoRun → Bool
 is_syntax (no_run.Syntax line) = true
 is_syntax other = false
@@ -41,49 +43,82 @@ fault_text no_run.TooLong = codes "script too long" ++ line_feed
 fault_text no_run.NoMemory = []
 fault_text no_run.TooFewDevices = codes "too few devices" ++ line_feed
 
--- What the program was called with: its words; what the source told of its bytes before and after, and
--- its count of faults; and the number of disks.
-pub record Called : Type 0 where
+-- What went into the program: its words; what the source told of the bytes that were left, before and
+-- after, and its count of faults; and the number of disks.
+pub record Input : Type 0 where
   pub words : List (List ℕ)
   pub left : Option (List ℕ)
-  pub rest : Option (List ℕ)
+  pub left_after : Option (List ℕ)
   pub faults : ℕ
   pub faults_after : ℕ
   pub disks : ℕ
 
-abbrev pub called : List (List ℕ) → Option (List ℕ) → Option (List ℕ) → ℕ → ℕ → ℕ → Called
-called words left rest faults faults_after disks =
-    record { words = words; left = left; rest = rest; faults = faults; faults_after = faults_after; disks = disks }
+abbrev pub input : List (List ℕ) → Option (List ℕ) → Option (List ℕ) → ℕ → ℕ → ℕ → Input
+input words left left_after faults faults_after disks =
+    record { words = words; left = left; left_after = left_after; faults = faults; faults_after = faults_after; disks = disks }
 
--- the bytes spell the script, where the source tells them
-abbrev pub Spells : Option (List ℕ) → Script → Type 0
-Spells left script = IfTold left (λ bytes. script_of offer.Copies mode.Run bytes ≡ Ok script)
+-- What came out of it: what the sink told of the bytes that it took, before and after, and its counts of
+-- faults and of calls that took nothing of a piece that is not empty.
+pub record Output : Type 0 where
+  pub taken : Option (List ℕ)
+  pub taken_after : Option (List ℕ)
+  pub faults : ℕ
+  pub faults_after : ℕ
+  pub stalls : ℕ
+  pub stalls_after : ℕ
 
--- the bytes have this line as their first wrong one
-abbrev pub IsWrong : Option (List ℕ) → ℕ → Type 0
-IsWrong left line = IfTold left (λ bytes. script_of offer.Copies mode.Run bytes ≡ Err line)
+abbrev pub output : Option (List ℕ) → Option (List ℕ) → ℕ → ℕ → ℕ → ℕ → Output
+output taken taken_after faults faults_after stalls stalls_after =
+    record { taken = taken; taken_after = taken_after; faults = faults; faults_after = faults_after; stalls = stalls; stalls_after = stalls_after }
 
--- more bytes were taken than a script may have
+-- some bytes, all that were left where the source told them, spell the script
+pub record Spells (left : Option (List ℕ)) (script : Script) : Type 0 where
+  pub bytes : List ℕ
+  pub all : IfTold left (λ told. bytes ≡ told)
+  pub spelled : script_of offer.Copies mode.Run bytes ≡ Ok script
+
+-- some bytes, all that were left where the source told them, have this line as their first wrong one
+pub record IsWrong (left : Option (List ℕ)) (line : ℕ) : Type 0 where
+  pub bytes : List ℕ
+  pub all : IfTold left (λ told. bytes ≡ told)
+  pub wrong : script_of offer.Copies mode.Run bytes ≡ Err line
+
+-- the source was taken to its end, and had no more bytes than a script may have
+abbrev pub IsTaken : Option (List ℕ) → Option (List ℕ) → Type 0
+IsTaken left left_after = Both left left_after (λ before after. (after ≡ []) × (length before ≤ 16777216))
+
+-- no more bytes were taken than a script may have
+abbrev pub IsWithin : Option (List ℕ) → Option (List ℕ) → Type 0
+IsWithin left left_after = Both left left_after (λ before after. length before ≤ 16777216 + length after)
+
+-- more were taken
 abbrev pub IsTooLong : Option (List ℕ) → Option (List ℕ) → Type 0
-IsTooLong left rest = Both left rest (λ before after. 16777216 + length after < length before)
+IsTooLong left left_after = Both left left_after (λ before after. 16777216 + length after < length before)
 
-abbrev pub IsShort : Option (List ℕ) → Option (List ℕ) → Type 0
-IsShort left rest = Both left rest (λ before after. length before ≤ 16777216 + length after)
+-- never more than one byte more is taken
+abbrev pub IsBounded : Option (List ℕ) → Option (List ℕ) → Type 0
+IsBounded left left_after = Both left left_after (λ before after. length before ≤ 16777217 + length after)
 
 -- a script of the bytes has more streams than there are disks
-pub record IsShortOfDisks (c : Called) : Type 0 where
+pub record HasTooFewDisks (i : Input) : Type 0 where
   pub script : Script
-  pub spelled : Spells c.left script
-  pub few : c.disks < length script.streams
+  pub spelled : Spells i.left script
+  pub few : i.disks < length script.streams
+
+-- the words were right, and the source was taken to its end without a fault
+pub record IsRead (i : Input) : Type 0 where
+  pub words : is_run i.words ≡ true
+  pub taken : IsTaken i.left i.left_after
+  pub no_fault : i.faults_after ≡ i.faults
 
 -- why no run was made; want of memory may come at any point
-abbrev pub IsCause : Called → NoRun → Type 0
-IsCause c no_run.Usage = is_run c.words ≡ false
-IsCause c (no_run.Syntax line) = (is_run c.words ≡ true) × IsWrong c.left line
-IsCause c no_run.ReadFault = (is_run c.words ≡ true) × (c.faults < c.faults_after)
-IsCause c no_run.TooLong = (is_run c.words ≡ true) × IsTooLong c.left c.rest
-IsCause c no_run.NoMemory = is_run c.words ≡ true
-IsCause c no_run.TooFewDevices = (is_run c.words ≡ true) × IsShortOfDisks c
+abbrev pub IsCause : Input → NoRun → Type 0
+IsCause i no_run.Usage = is_run i.words ≡ false
+IsCause i (no_run.Syntax line) = IsRead i × IsWrong i.left line
+IsCause i no_run.ReadFault = (is_run i.words ≡ true) × (i.faults < i.faults_after) × IsWithin i.left i.left_after
+IsCause i no_run.TooLong = (is_run i.words ≡ true) × IsTooLong i.left i.left_after
+IsCause i no_run.NoMemory = Unit {0}
+IsCause i no_run.TooFewDevices = IsRead i × HasTooFewDisks i
 
 -- the front of a text was taken
 pub record TookPart (text old new : List ℕ) : Type 0 where
@@ -92,57 +127,49 @@ pub record TookPart (text old new : List ℕ) : Type 0 where
   pub text_is : text ≡ part ++ rest
   pub taken : new ≡ old ++ part
 
--- What the sink told of the bytes that it took before and after, and its counts of faults and of calls
--- that took nothing.
-pub record Sunk : Type 0 where
-  pub old : Option (List ℕ)
-  pub new : Option (List ℕ)
-  pub faults : ℕ
-  pub faults_after : ℕ
-  pub stalls : ℕ
-  pub stalls_after : ℕ
+-- the sink failed, or took nothing of a piece that is not empty
+abbrev pub HasFailed : Output → Type 0
+HasFailed o = (o.faults < o.faults_after) ⊎ (o.stalls < o.stalls_after)
 
-abbrev pub sunk : Option (List ℕ) → Option (List ℕ) → ℕ → ℕ → ℕ → ℕ → Sunk
-sunk old new faults faults_after stalls stalls_after =
-    record { old = old; new = new; faults = faults; faults_after = faults_after; stalls = stalls; stalls_after = stalls_after }
+-- the sink took a text whole
+abbrev pub IsPut : Output → List ℕ → Type 0
+IsPut o text = Both o.taken o.taken_after (Took text)
 
--- a sink failed, or took nothing of a piece that is not empty
-abbrev pub HasFailed : Sunk → Type 0
-HasFailed s = (s.faults < s.faults_after) ⊎ (s.stalls < s.stalls_after)
+-- the sink took the front of a text
+abbrev pub IsPartPut : Output → List ℕ → Type 0
+IsPartPut o text = Both o.taken o.taken_after (TookPart text)
 
-abbrev pub IsPut : Sunk → List ℕ → Type 0
-IsPut s text = Both s.old s.new (Took text)
-
-abbrev pub IsPartPut : Sunk → List ℕ → Type 0
-IsPartPut s text = Both s.old s.new (TookPart text)
+-- The text of the fault was taken whole, or its front where the sink failed. Where memory was wanting,
+-- the front of some text was.
+abbrev pub IsFaultPut : Output → NoRun → Type 0
+IsFaultPut o no_run.NoMemory = (other : NoRun) × IsPartPut o (fault_text other)
+IsFaultPut o why = IsPut o (fault_text why) ⊎ (HasFailed o × IsPartPut o (fault_text why))
 
 -- no run was made
-pub record IsRefused (c : Called) (s : Sunk) (status : ℕ) : Type 0 where
+pub record IsRefused (i : Input) (o : Output) (status : ℕ) : Type 0 where
   pub why : NoRun
   pub status_is : status ≡ status_of why
-  pub cause : IsCause c why
-  pub printed : IsPartPut s (fault_text why)
+  pub cause : IsCause i why
+  pub printed : IsFaultPut o why
 
 -- A run was made, and its text printed: whole at status 0; at 4 a part of it, as the sink failed; at 6 a
 -- part of it, for want of memory.
-pub record IsPrinted (s : Sunk) (text : List ℕ) (status : ℕ) : Type 0 where
+pub record IsPrinted (o : Output) (text : List ℕ) (status : ℕ) : Type 0 where
   pub status_is : (status ≡ 0) ⊎ ((status ≡ 4) ⊎ (status ≡ 6))
-  pub whole : status ≡ 0 → IsPut s text
-  pub part : IsPartPut s text
-  pub failed : status ≡ 4 → HasFailed s
+  pub whole : status ≡ 0 → IsPut o text
+  pub part : IsPartPut o text
+  pub failed : status ≡ 4 → HasFailed o
 
 -- a run was made of the script that the bytes spell
-pub record IsRun (c : Called) (s : Sunk) (script : Script) (replies : List LineReply) (journal : List Entry) (status : ℕ) : Type 0 where
-  pub words : is_run c.words ≡ true
-  pub spelled : Spells c.left script
-  pub short : IsShort c.left c.rest
-  pub calm : c.faults_after ≡ c.faults
-  pub enough : length script.streams ≤ c.disks
+pub record IsRun (i : Input) (o : Output) (script : Script) (replies : List LineReply) (journal : List Entry) (status : ℕ) : Type 0 where
+  pub read : IsRead i
+  pub spelled : Spells i.left script
+  pub enough : length script.streams ≤ i.disks
   pub explained : IsExplained script.streams script.lines replies (reverse journal)
-  pub printed : IsPrinted s (text_of script replies journal (table_of (reverse journal))) status
+  pub printed : IsPrinted o (text_of script replies journal (table_of (reverse journal))) status
 
 -- How the program ended: without a run it gives back no script, reply or entry; with one, it gives back the
 -- script, and replies that the journal explains.
-abbrev pub IsEnded : Called → Sunk → Option Script → List LineReply → List Entry → ℕ → Type 0
-IsEnded c s None replies journal status = (replies ≡ []) × (journal ≡ []) × IsRefused c s status
-IsEnded c s (Some script) replies journal status = IsRun c s script replies journal status
+abbrev pub IsEnded : Input → Output → Option Script → List LineReply → List Entry → ℕ → Type 0
+IsEnded i o None replies journal status = (replies ≡ []) × (journal ≡ []) × IsRefused i o status
+IsEnded i o (Some script) replies journal status = IsRun i o script replies journal status

@@ -10,3 +10,4 @@ pub mod Words
 pub mod Opens
 pub mod Disks
 pub mod Ends
+pub mod Complete

@@ -2,8 +2,8 @@
 
 ghost use Rattle.std.specs.Prelude.{◌≡◌, ◌<◌, ◌≤◌, ◌+◌, IfOk, OnOk, IsErrOf, vec_len};
 ghost use Rattle.cc_traits.specs.Told.{IfTold};
-ghost use Rattle.cc_run.specs.Ends.{IsTooLong, IsShort};
-ghost use Rattle.cc_run.specs.declared.intake.Unread.TheVariants as unread;
+ghost use Rattle.cc_run.specs.Ends.{IsTaken, IsWithin, IsTooLong, IsBounded};
+ghost use Rattle.cc_run.specs.declared.intake.IntakeError.TheVariants as unread;
 
 use cc_traits::{Source, Stop};
 use std::alloc::Global;
@@ -13,21 +13,24 @@ const MOST: usize = 16777216;
 
 /// Why the bytes were not taken.
 #[derive(Clone, Copy, Debug, PartialEq, Eq)]
-pub enum Unread {
+pub enum IntakeError {
     /// The source failed.
     Failed,
     /// The script has more bytes than a script may have.
     TooLong,
+    /// No memory was found; the bytes that were taken are lost.
     NoMemory,
 }
 
 /// All the bytes up to the source's end.
-pub fn take_all<S: Source>(alloc: Global, source: &mut S) -> Result<Vec<u8>, Unread>
+pub fn take_all<S: Source>(alloc: Global, source: &mut S) -> Result<Vec<u8>, IntakeError>
     ensures all { IfOk result (λ bytes. IfTold (S.told source.old) (λ left. bytes.items ≡ left)) }
-    ensures short { OnOk result (IsShort (S.told source.old) (S.told source.new)) }
-    ensures calm { OnOk result (S.faults source.new ≡ S.faults source.old) }
-    ensures failed { IsErrOf result Unread.Failed → S.faults source.old < S.faults source.new }
-    ensures long { IsErrOf result Unread.TooLong → IsTooLong (S.told source.old) (S.told source.new) }
+    ensures taken { OnOk result (IsTaken (S.told source.old) (S.told source.new)) }
+    ensures no_fault { OnOk result (S.faults source.new ≡ S.faults source.old) }
+    ensures failed { IsErrOf result IntakeError.Failed → S.faults source.old < S.faults source.new }
+    ensures within { IsErrOf result IntakeError.Failed → IsWithin (S.told source.old) (S.told source.new) }
+    ensures long { IsErrOf result IntakeError.TooLong → IsTooLong (S.told source.old) (S.told source.new) }
+    ensures bounded { IsBounded (S.told source.old) (S.told source.new) }
 {
     let mut bytes = Vec::new(alloc);
     let mut buffer = [0; 4096];
@@ -35,18 +38,18 @@ pub fn take_all<S: Source>(alloc: Global, source: &mut S) -> Result<Vec<u8>, Unr
         let room = (MOST + 1 - bytes.len()).min(buffer.len());
         let taken = match source.take(&mut buffer[..room]) {
             Ok(taken) => taken,
-            Err(Stop::Failed) => return Err(Unread::Failed),
-            Err(Stop::NoMemory) => return Err(Unread::NoMemory),
+            Err(Stop::Failed) => return Err(IntakeError::Failed),
+            Err(Stop::NoMemory) => return Err(IntakeError::NoMemory),
         };
         if taken == 0 {
             return Ok(bytes);
         }
         if bytes.extend_from_slice(&buffer[..taken]).is_err() {
-            return Err(Unread::NoMemory);
+            return Err(IntakeError::NoMemory);
         }
         if bytes.len() > MOST {
-            return Err(Unread::TooLong);
+            return Err(IntakeError::TooLong);
         }
     }
-    Err(Unread::NoMemory)
+    Err(IntakeError::NoMemory)
 }

@@ -16,6 +16,7 @@ pub enum NoRun {
     ReadFault,
     /// The script has more bytes than a script may have.
     TooLong,
+    /// No memory was found.
     NoMemory,
     /// The script has more streams than there are disks.
     TooFewDevices,

@@ -3,32 +3,33 @@
 ghost use Rattle.std.specs.Prelude.{◌≡◌, ◌<◌, ◌⊎◌, OnOk, IsErrOf};
 ghost use Rattle.cc_traits.specs.Told.{Both, Took};
 ghost use Rattle.cc_run.specs.Ends.{TookPart};
-ghost use Rattle.cc_run.specs.declared.output.Unput.TheVariants as unput;
+ghost use Rattle.cc_run.specs.declared.output.OutputError.TheVariants as unput;
 
 use cc_traits::{Sink, Stop};
 
 /// Why a text was not put out whole.
 #[derive(Clone, Copy, Debug, PartialEq, Eq)]
-pub enum Unput {
+pub enum OutputError {
     /// The sink failed, or took nothing of a piece that is not empty.
     Failed,
+    /// No memory was found; what was put before is out.
     NoMemory,
 }
 
 /// Puts the whole text out.
-pub fn put_all<K: Sink>(sink: &mut K, text: &[u8]) -> Result<(), Unput>
+pub fn put_all<K: Sink>(sink: &mut K, text: &[u8]) -> Result<(), OutputError>
     ensures whole { OnOk result (Both (K.told sink.old) (K.told sink.new) (Took text.now)) }
     ensures part { Both (K.told sink.old) (K.told sink.new) (TookPart text.now) }
-    ensures failed { IsErrOf result Unput.Failed → (K.faults sink.old < K.faults sink.new) ⊎ (K.stalls sink.old < K.stalls sink.new) }
+    ensures failed { IsErrOf result OutputError.Failed → (K.faults sink.old < K.faults sink.new) ⊎ (K.stalls sink.old < K.stalls sink.new) }
     ensures calm { OnOk result (K.faults sink.new ≡ K.faults sink.old) }
 {
     let mut rest = text;
     while !rest.is_empty() {
         match sink.put(rest) {
-            Ok(0) => return Err(Unput::Failed),
+            Ok(0) => return Err(OutputError::Failed),
             Ok(taken) => rest = &rest[taken..],
-            Err(Stop::Failed) => return Err(Unput::Failed),
-            Err(Stop::NoMemory) => return Err(Unput::NoMemory),
+            Err(Stop::Failed) => return Err(OutputError::Failed),
+            Err(Stop::NoMemory) => return Err(OutputError::NoMemory),
         }
     }
     Ok(())

@@ -26,7 +26,7 @@ const MOST_LINES: usize = 65536;
 /// What a run left: the answer of each line, the stream's own first, the journal, oldest entry first,
 /// and the rows of the pages that are dirty at the end.
 #[derive(Debug, Drop)]
-pub struct Ran {
+pub struct RunResult {
     pub replies: Vec<LineReply>,
     pub journal: Vec<Entry>,
     pub table: Vec<TableRow>,
@@ -39,7 +39,7 @@ pub fn run_stream<D: PageDisk>(
     stream: &StreamLine,
     disk: &mut D,
     lines: &[ActionLine],
-) -> Result<Ran, NoMemory>
+) -> Result<RunResult, NoMemory>
     requires stream { IsServedStream stream.now }
     requires lines { AllByRecursion IsServedLine lines.now }
     ensures good { IfOk result (λ ran. (u : Setup) → u.opening 0 ≡ opening_of (D.told disk.old) → IsGood u (reverse ran.journal.items)) }
@@ -61,7 +61,7 @@ pub fn run_stream<D: PageDisk>(
     serve_lines(alloc, &mut cache, disk, lines, &mut replies)?;
     let table = cache.table(alloc)?;
     let journal = cache.into_journal().into_entries();
-    Ok(Ran {
+    Ok(RunResult {
         replies,
         journal,
         table,

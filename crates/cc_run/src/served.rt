@@ -1,24 +1,32 @@
 //! Which scripts a run serves.
 
 ghost use Rattle.std.specs.Prelude.{◌≡◌, true};
-ghost use Rattle.cc_run.specs.Served.{IsServed, IsServedStream, IsServedLine, IsCopy};
+ghost use Rattle.cc_run.specs.Served.{HasNoHeader, IsServed, IsServedStream, IsServedLine, IsCopy};
 ghost use Rattle.std.specs.List.{AllByRecursion};
 
 use cc_entry::FileId;
 use cc_script::{Action, ActionLine, Script, StreamLine};
 
-/// The largest size of a stream.
+/// The largest size of a stream, in bytes.
 const LARGEST: u64 = 4194304;
 
 /// Whether the script has copied reads and writes of one stream by the first caller alone.
 pub fn is_served(script: &Script) -> bool
-    ensures { result ≡ true → IsServed script.now.streams script.now.lines }
+    ensures header { result ≡ true → HasNoHeader script.now }
+    ensures lines { result ≡ true → IsServed script.now.streams script.now.lines }
 {
-    match script.streams.as_slice() {
-        [] => script.lines.as_slice().is_empty(),
-        [stream] => is_served_stream(stream) && are_served(script.lines.as_slice()),
-        _ => false,
-    }
+    has_no_header(script)
+        && match script.streams.as_slice() {
+            [] => script.lines.as_slice().is_empty(),
+            [stream] => is_served_stream(stream) && are_served(script.lines.as_slice()),
+            _ => false,
+        }
+}
+
+fn has_no_header(script: &Script) -> bool
+    ensures { result ≡ true → HasNoHeader script.now }
+{
+    script.journal == 1048576 && script.ticks == 0 && script.aheads == 0 && script.phases == 1
 }
 
 fn is_served_stream(stream: &StreamLine) -> bool
@@ -28,6 +36,7 @@ fn is_served_stream(stream: &StreamLine) -> bool
         && stream.size <= LARGEST
         && stream.quota.blocks() == 16
         && !stream.temporary
+        && stream.log.is_none()
 }
 
 fn are_served(lines: &[ActionLine]) -> bool

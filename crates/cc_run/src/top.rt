@@ -1,6 +1,6 @@
 //! The top call: words, script, run, text, status, in this order.
 
-ghost use Rattle.std.specs.Prelude.{◌≡◌, ◌⊎◌, ◌<◌, ◌≤◌, ◌+◌, ℕ, [], Some, None, true, false, is_some, reverse, map, length, string_bytes, vec_len, IfSome, IfOk, IfErr, OnOk, OnErr};
+ghost use Rattle.std.specs.Prelude.{◌≡◌, ◌⊎◌, ◌<◌, List, slice_get, ◌≤◌, ◌+◌, ℕ, [], Some, None, true, false, is_some, reverse, map, length, string_bytes, vec_len, IfSome, IfOk, IfErr, OnOk, OnErr};
 ghost use Rattle.cc_model.specs.Setup.{Setup};
 ghost use Rattle.cc_model.specs.Good.{IsGood};
 ghost use Rattle.cc_script.specs.declared.script.Script.{Script as TheScript};
@@ -10,14 +10,17 @@ ghost use Rattle.cc_print.specs.Text.{text_of as the_text_of};
 ghost use Rattle.cc_traits.specs.Told.{Both, Took};
 ghost use Rattle.cc_run.specs.Opens.{OpensWith};
 ghost use Rattle.cc_run.specs.Served.{IsServed};
-ghost use Rattle.cc_run.specs.Ends.{called, sunk, IsCause, IsEnded, Spells, IsWrong, IsTooLong, IsShort, IsPrinted, TookPart, status_of, fault_text};
+ghost use Rattle.cc_run.specs.Ends.{Input, input, output, IsCause, IsRefused, IsEnded, IsRead, Spells, IsWrong, IsTooLong, IsBounded, HasTooFewDisks, IsFaultPut, IsPrinted};
+ghost use Rattle.cc_run.specs.Complete.{EndsWith, SyntaxAlways, TooLongAlways, TooFewAlways, Completes};
+ghost use Rattle.cc_run.specs.declared.no_run.NoRun.TheVariants as no_run;
+ghost use Rattle.cc_pieces.specs.Failures.{failures};
 ghost use Rattle.cc_run.specs.Disks.{DisksAre};
 ghost use Rattle.cc_run.specs.Words.{is_run};
 
-use crate::intake::{Unread, take_all};
+use crate::intake::{IntakeError, take_all};
 use crate::no_run::{NoRun, syntax_text};
-use crate::output::{Unput, put_all};
-use crate::run::{Ran, run_stream};
+use crate::output::{OutputError, put_all};
+use crate::run::{RunResult, run_stream};
 use crate::served::is_served;
 use crate::words::command_of;
 use cc_entry::{Entry, LineReply, NoMemory};
@@ -28,14 +31,18 @@ use std::alloc::Global;
 
 /// What a run of the program leaves. Disks, logs and posts come back in the order handed in.
 pub struct Ended<D, L = Box<dyn LogFile + Send>, Q = Box<dyn PostRoutine + Send>> {
-    /// The exit status, 0 to 7.
+    /// The exit status: 0 the text was written whole, 1 the words are no run, 2 a line is not in the
+    /// grammar, 3 the source failed, 4 the sink failed, 5 the script is too long, 6 memory was wanting,
+    /// 7 there are too few disks.
     pub status: u8,
-    /// The script that was run, where one was.
+    /// The script that was run, where one was: at the statuses 0 and 4, and at 6 where memory was wanting
+    /// after the run.
     pub script: Option<Script>,
     /// The answer of each line.
     pub replies: Vec<LineReply>,
-    /// The answers of the lazy writer and of the read-ahead worker.
+    /// The answers of the lazy writer, with the number of the phase, from 1, as line. There is none yet.
     pub ticks: Vec<LineReply>,
+    /// The answers of the read-ahead worker, likewise.
     pub aheads: Vec<LineReply>,
     /// The journal, oldest entry first; empty where no run was made.
     pub journal: Vec<Entry>,
@@ -52,24 +59,33 @@ struct Report {
     journal: Vec<Entry>,
 }
 
-/// A report without a run, whose text is put out as far as the sink takes it.
+/// Puts out why no run was made, as far as the sink takes it. What ends the program is answered: where
+/// memory is wanting, that.
+fn put_fault<K: Sink>(alloc: Global, out: &mut K, why: NoRun) -> NoRun
+    ensures kept { (result ≡ why) ⊎ (result ≡ NoRun.NoMemory) }
+    ensures put { IsFaultPut (output (K.told out.old) (K.told out.new) (K.faults out.old) (K.faults out.new) (K.stalls out.old) (K.stalls out.new)) result }
+{
+    let put = match why {
+        NoRun::Syntax { line } => match syntax_text(alloc, line) {
+            Ok(text) => put_all(out, text.as_bytes()),
+            Err(_) => Err(OutputError::NoMemory),
+        },
+        _ => put_all(out, why.fixed_text().as_bytes()),
+    };
+    match put {
+        Err(OutputError::NoMemory) => NoRun::NoMemory,
+        _ => why,
+    }
+}
+
+/// A report without a run.
 fn refused<K: Sink>(alloc: Global, out: &mut K, why: NoRun) -> Report
-    ensures status { result.status ≡ status_of why }
-    ensures printed { Both (K.told out.old) (K.told out.new) (TookPart (fault_text why)) }
     ensures script { result.script ≡ None }
     ensures replies { result.replies.items ≡ [] }
     ensures journal { result.journal.items ≡ [] }
+    ensures refused { (i : Input) → IsCause i why → IsRefused i (output (K.told out.old) (K.told out.new) (K.faults out.old) (K.faults out.new) (K.stalls out.old) (K.stalls out.new)) result.status }
 {
-    match why {
-        NoRun::Syntax { line } => {
-            if let Ok(text) = syntax_text(alloc, line) {
-                let _ = put_all(out, text.as_bytes());
-            }
-        }
-        _ => {
-            let _ = put_all(out, why.fixed_text().as_bytes());
-        }
-    }
+    let why = put_fault(alloc, out, why);
     Report {
         status: why.status(),
         script: None,
@@ -78,28 +94,27 @@ fn refused<K: Sink>(alloc: Global, out: &mut K, why: NoRun) -> Report
     }
 }
 
-/// The script that the words ask for, from the source.
+/// The script that the words ask for, from the source, or why it is not run.
 fn prepare<S: Source>(
     alloc: Global,
     words: &[String],
     source: &mut S,
     disks: usize,
 ) -> Result<Script, NoRun>
-    ensures words { OnOk result (is_run (map string_bytes words.now) ≡ true) }
+    ensures read { OnOk result (IsRead (input (map string_bytes words.now) (S.told source.old) (S.told source.new) (S.faults source.old) (S.faults source.new) disks)) }
     ensures spelled { IfOk result (Spells (S.told source.old)) }
-    ensures short { OnOk result (IsShort (S.told source.old) (S.told source.new)) }
-    ensures calm { OnOk result (S.faults source.new ≡ S.faults source.old) }
+    ensures bounded { IsBounded (S.told source.old) (S.told source.new) }
     ensures enough { IfOk result (λ script. length script.streams ≤ disks) }
-    ensures cause { IfErr result (IsCause (called (map string_bytes words.now) (S.told source.old) (S.told source.new) (S.faults source.old) (S.faults source.new) disks)) }
+    ensures cause { IfErr result (IsCause (input (map string_bytes words.now) (S.told source.old) (S.told source.new) (S.faults source.old) (S.faults source.new) disks)) }
 {
     if command_of(words).is_none() {
         return Err(NoRun::Usage);
     }
     let bytes = match take_all(alloc, source) {
         Ok(bytes) => bytes,
-        Err(Unread::Failed) => return Err(NoRun::ReadFault),
-        Err(Unread::TooLong) => return Err(NoRun::TooLong),
-        Err(Unread::NoMemory) => return Err(NoRun::NoMemory),
+        Err(IntakeError::Failed) => return Err(NoRun::ReadFault),
+        Err(IntakeError::TooLong) => return Err(NoRun::TooLong),
+        Err(IntakeError::NoMemory) => return Err(NoRun::NoMemory),
     };
     let script = match read_script(alloc, &bytes, Mode::Run) {
         Ok(script) => script,
@@ -117,7 +132,7 @@ fn run_script<D: PageDisk>(
     alloc: Global,
     script: &Script,
     disks: &mut Vec<D>,
-) -> Result<Ran, NoMemory>
+) -> Result<RunResult, NoMemory>
     requires { length script.now.streams ≤ vec_len disks.old }
     ensures good { IfOk result (λ ran. (u : Setup) → OpensWith u D.told disks.old.items → IsGood u (reverse ran.journal.items)) }
     ensures explained { IfOk result (λ ran. IsExplained script.now.streams script.now.lines ran.replies.items (reverse ran.journal.items)) }
@@ -129,7 +144,7 @@ fn run_script<D: PageDisk>(
         return Err(NoMemory);
     }
     let Some(stream) = script.streams.as_slice().first() else {
-        return Ok(Ran {
+        return Ok(RunResult {
             replies: Vec::new(alloc),
             journal: Vec::new(alloc),
             table: Vec::new(alloc),
@@ -139,16 +154,17 @@ fn run_script<D: PageDisk>(
     Ok(ran)
 }
 
-/// Prints a run, and answers the status.
-fn print<K: Sink>(alloc: Global, out: &mut K, script: &Script, ran: &Ran) -> u8
+/// Prints a run, and answers the status: 0 where all of the text went out, 4 where the sink failed, 6
+/// where memory was wanting.
+fn print<K: Sink>(alloc: Global, out: &mut K, script: &Script, ran: &RunResult) -> u8
     requires { ran.now.table.items ≡ table_of (reverse ran.now.journal.items) }
-    ensures { IsPrinted (sunk (K.told out.old) (K.told out.new) (K.faults out.old) (K.faults out.new) (K.stalls out.old) (K.stalls out.new)) (the_text_of script.now ran.now.replies.items ran.now.journal.items (table_of (reverse ran.now.journal.items))) result }
+    ensures { IsPrinted (output (K.told out.old) (K.told out.new) (K.faults out.old) (K.faults out.new) (K.stalls out.old) (K.stalls out.new)) (the_text_of script.now ran.now.replies.items ran.now.journal.items (table_of (reverse ran.now.journal.items))) result }
 {
     match text_of(alloc, script, &ran.replies, &ran.journal, &ran.table) {
         Ok(text) => match put_all(out, &text) {
             Ok(()) => 0,
-            Err(Unput::Failed) => 4,
-            Err(Unput::NoMemory) => 6,
+            Err(OutputError::Failed) => 4,
+            Err(OutputError::NoMemory) => 6,
         },
         Err(_) => 6,
     }
@@ -162,11 +178,12 @@ fn conduct<S: Source, K: Sink, D: PageDisk>(
     disks: &mut Vec<D>,
 ) -> Report
     ensures good { (u : Setup) → OpensWith u D.told disks.old.items → IsGood u (reverse result.journal.items) }
-    ensures ended { IsEnded (called (map string_bytes words.now) (S.told source.old) (S.told source.new) (S.faults source.old) (S.faults source.new) (length disks.old.items)) (sunk (K.told out.old) (K.told out.new) (K.faults out.old) (K.faults out.new) (K.stalls out.old) (K.stalls out.new)) result.script result.replies.items result.journal.items result.status }
+    ensures ended { IsEnded (input (map string_bytes words.now) (S.told source.old) (S.told source.new) (S.faults source.old) (S.faults source.new) (length disks.old.items)) (output (K.told out.old) (K.told out.new) (K.faults out.old) (K.faults out.new) (K.stalls out.old) (K.stalls out.new)) result.script result.replies.items result.journal.items result.status }
+    ensures bounded { IsBounded (S.told source.old) (S.told source.new) }
     ensures disks { DisksAre D.told D.faults (reverse result.journal.items) disks.old.items disks.new.items }
 {
     let script = match prepare(alloc, words, source, disks.len()) {
-        Ok(script) => script,
+        Ok(prepared) => prepared,
         Err(why) => return refused(alloc, out, why),
     };
     let ran = match run_script(alloc, &script, disks) {
@@ -174,7 +191,7 @@ fn conduct<S: Source, K: Sink, D: PageDisk>(
         Err(_) => return refused(alloc, out, NoRun::NoMemory),
     };
     let status = print(alloc, out, &script, &ran);
-    let Ran {
+    let RunResult {
         replies,
         journal,
         ..
@@ -202,20 +219,28 @@ pub fn cache_main<S: Source, K: Sink, D: PageDisk, P: Gate>(
     _gate: &P,
 ) -> Ended<D>
     ensures good { (u : Setup) → OpensWith u D.told disks.items → IsGood u (reverse result.journal.items) }
-    ensures ended { IsEnded (called (map string_bytes words.now) (S.told script.old) (S.told script.new) (S.faults script.old) (S.faults script.new) (length disks.items)) (sunk (K.told out.old) (K.told out.new) (K.faults out.old) (K.faults out.new) (K.stalls out.old) (K.stalls out.new)) result.script result.replies.items result.journal.items result.status }
+    ensures ended { IsEnded (input (map string_bytes words.now) (S.told script.old) (S.told script.new) (S.faults script.old) (S.faults script.new) (length disks.items)) (output (K.told out.old) (K.told out.new) (K.faults out.old) (K.faults out.new) (K.stalls out.old) (K.stalls out.new)) result.script result.replies.items result.journal.items result.status }
     ensures usage { result.status ≡ 1 → is_run (map string_bytes words.now) ≡ false }
-    ensures usage_always { is_run (map string_bytes words.now) ≡ false → result.status ≡ 1 }
+    ensures usage_always { is_run (map string_bytes words.now) ≡ false → EndsWith result.status 1 }
     ensures syntax { result.status ≡ 2 → (line : ℕ) × IsWrong (S.told script.old) line }
     ensures read_fault { result.status ≡ 3 → S.faults script.old < S.faults script.new }
     ensures unwritten { result.status ≡ 4 → (K.faults out.old < K.faults out.new) ⊎ (K.stalls out.old < K.stalls out.new) }
     ensures too_long { result.status ≡ 5 → IsTooLong (S.told script.old) (S.told script.new) }
-    ensures too_few { result.status ≡ 7 → (spelled : TheScript) × Spells (S.told script.old) spelled × (length disks.items < length spelled.streams) }
+    ensures too_few { result.status ≡ 7 → HasTooFewDisks (input (map string_bytes words.now) (S.told script.old) (S.told script.new) (S.faults script.old) (S.faults script.new) (length disks.items)) }
+    ensures syntax_always { SyntaxAlways (input (map string_bytes words.now) (S.told script.old) (S.told script.new) (S.faults script.old) (S.faults script.new) (length disks.items)) result.status }
+    ensures too_long_always { TooLongAlways (input (map string_bytes words.now) (S.told script.old) (S.told script.new) (S.faults script.old) (S.faults script.new) (length disks.items)) result.status }
+    ensures too_few_always { TooFewAlways (input (map string_bytes words.now) (S.told script.old) (S.told script.new) (S.faults script.old) (S.faults script.new) (length disks.items)) result.status }
+    ensures complete { Completes (input (map string_bytes words.now) (S.told script.old) (S.told script.new) (S.faults script.old) (S.faults script.new) (length disks.items)) (output (K.told out.old) (K.told out.new) (K.faults out.old) (K.faults out.new) (K.stalls out.old) (K.stalls out.new)) result.status }
     ensures made { (result.status ≡ 0) ⊎ (result.status ≡ 4) → is_some result.script ≡ true }
     ensures spelled { IfSome result.script (Spells (S.told script.old)) }
     ensures explained { IfSome result.script (λ made. IsExplained made.streams made.lines result.replies.items (reverse result.journal.items)) }
     ensures empty { result.script ≡ None → result.journal.items ≡ [] }
     ensures printed { result.status ≡ 0 → IfSome result.script (λ made. Both (K.told out.old) (K.told out.new) (Took (the_text_of made result.replies.items result.journal.items (table_of (reverse result.journal.items))))) }
+    ensures bounded { IsBounded (S.told script.old) (S.told script.new) }
+    ensures ticks { result.ticks.items ≡ [] }
+    ensures aheads { result.aheads.items ≡ [] }
     ensures disks { DisksAre D.told D.faults (reverse result.journal.items) disks.items result.disks.items }
+    ensures no_fault { (s : ℕ) (before after : D) → slice_get disks.items s ≡ Some before → slice_get result.disks.items s ≡ Some after → D.faults after ≡ D.faults before → failures s (reverse result.journal.items) ≡ 0 }
     ensures logs { result.logs ≡ logs }
     ensures posts { result.posts ≡ posts }
 {
