@@ -11,4 +11,4 @@
 
 mod laws;
 
-pub use laws::{one_more_piece, others_go_on};
+pub use laws::{one_more_piece, others_go_on, reads_answer_the_plain_file};
