@@ -30,6 +30,8 @@ number_of error.QueueFull = 18
 number_of error.NoMemory = 19
 number_of error.BadGranularity = 20
 number_of (error.NoLog _) = 21
+number_of (error.Unsettled _) = 22
+number_of (error.Grown _) = 23
 number_of (error.GapTooLong _) = 24
 
 -- the name of a refusal
@@ -55,4 +57,6 @@ name_of error.QueueFull = codes "QueueFull"
 name_of error.NoMemory = codes "NoMemory"
 name_of error.BadGranularity = codes "BadGranularity"
 name_of (error.NoLog _) = codes "NoLog"
+name_of (error.Unsettled _) = codes "Unsettled"
+name_of (error.Grown _) = codes "Grown"
 name_of (error.GapTooLong _) = codes "GapTooLong"

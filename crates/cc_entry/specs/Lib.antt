@@ -1,4 +1,6 @@
 pub mod Place
+pub mod Pages
+pub mod Kinds
 pub mod Runs
 pub mod Errors
 pub mod Same

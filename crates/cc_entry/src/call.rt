@@ -150,8 +150,14 @@ pub enum Call {
         file: FileId,
         span: Option<Span>,
     },
-    /// `CcPurgeCacheSection`; no span is the whole stream.
+    /// `CcPurgeCacheSection`, but that dirty pages are written first; no span is the whole stream.
     Purge {
+        file: FileId,
+        span: Option<Span>,
+    },
+    /// `CcPurgeCacheSection` as the routine itself does it: the pages go, dirty or not, and nothing of
+    /// them is written. No span is the whole stream.
+    Discard {
         file: FileId,
         span: Option<Span>,
     },

@@ -77,6 +77,12 @@ pub enum CcError {
     BadGranularity,
     /// There is no log of this handle; 255 where the stream has none.
     NoLog { handle: u64 },
+    /// A dirty page that a discard would drop has an image that is not known, since its last transfer
+    /// failed; the least such page.
+    Unsettled { page: u64 },
+    /// A dirty page that a discard would drop has bytes that became valid since the disk last took it,
+    /// which the disk never held; the least such page.
+    Grown { page: u64 },
     /// A write starts further past the valid data length than the limit.
     GapTooLong { limit: u64 },
 }
@@ -108,6 +114,8 @@ impl CcError {
             CcError::NoMemory => 19,
             CcError::BadGranularity => 20,
             CcError::NoLog { .. } => 21,
+            CcError::Unsettled { .. } => 22,
+            CcError::Grown { .. } => 23,
             CcError::GapTooLong { .. } => 24,
         }
     }
@@ -138,6 +146,8 @@ impl CcError {
             CcError::NoMemory => "NoMemory",
             CcError::BadGranularity => "BadGranularity",
             CcError::NoLog { .. } => "NoLog",
+            CcError::Unsettled { .. } => "Unsettled",
+            CcError::Grown { .. } => "Grown",
             CcError::GapTooLong { .. } => "GapTooLong",
         }
     }

@@ -7,7 +7,7 @@ use Rattle.std.proofs.lemmas.List.Kept.{AllPairs-filter}
 use Rattle.std.proofs.lemmas.Map.Keys.{IsDistinct-push, apart_from_distinct, IsDistinct-from_apart}
 use Rattle.std.specs.Cmp.{nat_eq_equiv}
 use Rattle.std.specs.List.{filter, list_any, IsDistinct}
-use Rattle.cc_model.specs.Places.{is_among, without}
+use Rattle.cc_model.specs.Numbers.{is_among, without}
 use Rattle.cc_model.specs.Residency.{used}
 
 -- a number is among those that pass a test where it is among all and passes

@@ -8,7 +8,8 @@ use Rattle.std.proofs.lemmas.Map.Made.{length-le_from_is_member}
 use Rattle.std.specs.Cmp.{nat_eq_equiv}
 use Rattle.std.specs.List.{range_with_len, IsDistinct, AllByRecursion}
 use Rattle.std.specs.Set.{distinct_count, is_member, unique_keys}
-use Rattle.cc_model.specs.Places.{is_among, block_of, placed, ascending}
+use Rattle.cc_entry.specs.Pages.{block_of}
+use Rattle.cc_model.specs.Numbers.{is_among, placed, ascending}
 use Rattle.cc_model.proofs.BlockLists.{same-flip}
 
 -- ascending lists keep each number once

@@ -6,7 +6,7 @@ use Rattle.std.proofs.lemmas.Bool.{lt-ltb, le-leb, le-ltb, and_from}
 use Rattle.cc_entry.specs.Place.{Range}
 use Rattle.cc_entry.specs.declared.call.Call.{Call}
 use Rattle.cc_entry.specs.declared.reply.Reply.{Reply}
-use Rattle.cc_model.specs.Places.{has_byte}
+use Rattle.cc_entry.specs.Pages.{has_byte}
 use Rattle.cc_model.specs.History.{Effect, Did}
 use Rattle.cc_model.specs.Acts.{act_of, Resizes, Writes, Zeroes, Stamps, Looks}
 use Rattle.cc_model.specs.Touches.{valid_of}

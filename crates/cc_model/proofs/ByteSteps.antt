@@ -8,7 +8,7 @@ use Rattle.cc_entry.specs.declared.reply.Reply.{Reply}
 use Rattle.cc_entry.specs.declared.entry.End.{End}
 use Rattle.cc_model.specs.History.{Effect, Did, CameIn, WentOut, Began, Ended, Synced}
 use Rattle.cc_model.specs.Acts.{act_of, Opens, Closes, Resizes, Writes, Zeroes, Stores, Stamps, Looks}
-use Rattle.cc_model.specs.Places.{has_byte}
+use Rattle.cc_entry.specs.Pages.{has_byte}
 use Rattle.cc_model.specs.Sizes.{stored_range}
 use Rattle.cc_model.specs.Touches.{sizes, size_of, valid_of}
 use Rattle.cc_model.specs.Bytes.{content, byte_of}

@@ -9,7 +9,7 @@ use Rattle.cc_entry.specs.declared.entry.Entry.{Entry}
 use Rattle.cc_model.specs.Setup.{Setup}
 use Rattle.cc_model.specs.History.{Effect, Did, CameIn, WentOut, Began, Ended, Synced, history}
 use Rattle.cc_model.specs.Objects.{had_map}
-use Rattle.cc_model.specs.Sizes.{is_good}
+use Rattle.cc_model.specs.Sizes.{ended_ok}
 use Rattle.cc_model.specs.Touches.{sizes, touches, valid_of, is_dirty}
 use Rattle.cc_model.specs.Bytes.{content, byte_of, page_size, page_bytes}
 use Rattle.cc_model.specs.Images.{image}
@@ -45,9 +45,9 @@ IsStored-first pages h p i first low high =
 
 IsStored-ended : (pages : ℕ → List ℕ) (pass page : ℕ) (how : End) (h : List Effect) (p i : ℕ) → IsSteady (Ended pass page how ∷ h) → 4096 * p ≤ i → i < 4096 * p + 4096 → touches false (Ended pass page how ∷ h) p ≡ [] → i < valid_of h → (touches false h p ≡ [] → IsStored pages h p i) → IsStored pages (Ended pass page how ∷ h) p i
 unfolding content
-IsStored-ended pages pass page how h p i steady low high clean below before = go (page == p) refl (is_good how) refl
+IsStored-ended pages pass page how h p i steady low high clean below before = go (page == p) refl (ended_ok how) refl
   where
-    go : (b : Bool) → (page == p) ≡ b → (good : Bool) → is_good how ≡ good → IsStored pages (Ended pass page how ∷ h) p i
+    go : (b : Bool) → (page == p) ≡ b → (good : Bool) → ended_ok how ≡ good → IsStored pages (Ended pass page how ∷ h) p i
     go false other good is =
         let k = before (sym (touches-ended_other false pass page how h p other) ∙ clean) in
         record { bytes = k.bytes; known = image-ended_other pages pass page how h p other ∙ k.known; same = k.same }

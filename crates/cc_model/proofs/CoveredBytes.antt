@@ -4,7 +4,7 @@ use Rattle.std.proofs.Common.{arith}
 use Rattle.std.proofs.lemmas.Bool.{ltb-true, ltb-false, leb-true, lt-ltb, le-leb, and_parts, and_from}
 use Rattle.std.specs.declared.option.Option.{Option}
 use Rattle.cc_entry.specs.Place.{Range}
-use Rattle.cc_model.specs.Places.{has_byte, has_page}
+use Rattle.cc_entry.specs.Pages.{has_byte, has_page}
 use Rattle.cc_model.specs.Sizes.{Touch, touched_if}
 
 -- a range that has a byte of the page has the page

@@ -7,12 +7,13 @@ use Rattle.std.proofs.lemmas.Bool.{and_parts, or_left, or_right, not-true, eq-eq
 use Rattle.cc_entry.specs.declared.call.Call.{Call}
 use Rattle.cc_entry.specs.declared.reply.Reply.{Reply}
 use Rattle.cc_entry.specs.declared.entry.End.{End}
-use Rattle.cc_model.specs.Places.{is_empty, is_among, has_page, pages_of}
+use Rattle.cc_entry.specs.Pages.{has_page, pages_of}
+use Rattle.cc_model.specs.Numbers.{is_empty, is_among}
 use Rattle.cc_model.specs.History.{Effect, Did, CameIn, WentOut, Began, Ended, Synced}
 use Rattle.cc_model.specs.Acts.{Act, act_of, Opens, Closes, Resizes, Writes, Zeroes, Stores, Stamps, Looks}
 use Rattle.cc_model.specs.Objects.{objects, truncation}
 use Rattle.cc_model.specs.Holds.{Hold, range_held, hold_at, holds_of}
-use Rattle.cc_model.specs.Sizes.{Touch, touched_if, cut_if, hold_has, hold_pages, stored_range, is_good}
+use Rattle.cc_model.specs.Sizes.{Touch, touched_if, cut_if, hold_has, hold_pages, stored_range, ended_ok}
 use Rattle.cc_model.specs.Touches.{touched, touches, unwritten, is_dirty, size_of, is_mapped}
 use Rattle.cc_model.specs.Residency.{is_resident}
 use Rattle.cc_model.proofs.ActSteps.{touched_by, touched-done, touches_by, touches-done}
@@ -87,7 +88,7 @@ touched-left ended (Began pass page ∷ h) p left = go (ended && page == p) left
     go : (t : Bool) → is_empty (elim t as (λ x. List Touch) [ true ↦ [] | false ↦ touches ended h p ]) ≡ false → (is_empty (touches ended h p) ≡ false → is_among p (touched h) ≡ true) → is_among p (touched h) ≡ true
     go true it rest = absurd (cc)
     go false it rest = rest it
-touched-left ended (Ended pass page how ∷ h) p left = touched-left (ended || (page == p && is_good how)) h p left
+touched-left ended (Ended pass page how ∷ h) p left = touched-left (ended || (page == p && ended_ok how)) h p left
 touched-left ended (Synced pass how ∷ h) p left = touched-left ended h p left
 
 -- a stream with a dirty page has a map
@@ -134,7 +135,7 @@ touches-fewer (Began pass page ∷ h) p left = go (page == p) left (touches-fewe
     go : (t : Bool) → is_empty (elim t as (λ x. List Touch) [ true ↦ [] | false ↦ touches true h p ]) ≡ false → (is_empty (touches true h p) ≡ false → is_empty (touches false h p) ≡ false) → is_empty (touches false h p) ≡ false
     go true it rest = absurd (cc)
     go false it rest = rest it
-touches-fewer (Ended pass page how ∷ h) p left = go (page == p && is_good how) (touches-fewer h p left)
+touches-fewer (Ended pass page how ∷ h) p left = go (page == p && ended_ok how) (touches-fewer h p left)
   where
     go : (t : Bool) → is_empty (touches false h p) ≡ false → is_empty (touches t h p) ≡ false
     go true rest = left
@@ -143,7 +144,7 @@ touches-fewer (Synced pass how ∷ h) p left = touches-fewer h p left
 
 ended-dirty : (pass page : ℕ) (how : End) (h : List Effect) (p : ℕ) → is_dirty (Ended pass page how ∷ h) p ≡ true → is_dirty h p ≡ true
 unfolding touches
-ended-dirty pass page how h p dirty = go (page == p && is_good how) dirty
+ended-dirty pass page how h p dirty = go (page == p && ended_ok how) dirty
   where
     go : (t : Bool) → not (is_empty (touches t h p)) ≡ true → not (is_empty (touches false h p)) ≡ true
     go true it = ap not (touches-fewer h p (not-true _ it))

@@ -4,7 +4,8 @@ use Rattle.std.specs.declared.option.Option.{Option}
 use Rattle.std.specs.declared.option.Option.TheVariants.{Some}
 use Rattle.cc_entry.specs.declared.call.Call.{Call}
 use Rattle.cc_entry.specs.declared.reply.Reply.{Reply}
-use Rattle.cc_model.specs.Places.{is_empty, has_page}
+use Rattle.cc_entry.specs.Pages.{has_page}
+use Rattle.cc_model.specs.Numbers.{is_empty}
 use Rattle.cc_model.specs.History.{Effect, Did}
 use Rattle.cc_model.specs.Acts.{act_of, Resizes, Writes, Zeroes, Stores, Stamps}
 use Rattle.cc_model.specs.Holds.{holds_of, hold_at}

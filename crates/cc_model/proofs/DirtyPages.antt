@@ -6,7 +6,7 @@ use Rattle.std.proofs.lemmas.List.Sums.{sum_by-cons}
 use Rattle.std.specs.List.{sum_by, range_with_len}
 use Rattle.std.specs.Set.{is_member}
 use Rattle.cc_entry.specs.declared.entry.Entry.{Entry}
-use Rattle.cc_model.specs.Places.{is_among, ascending}
+use Rattle.cc_model.specs.Numbers.{is_among, ascending}
 use Rattle.cc_model.specs.Setup.{Setup}
 use Rattle.cc_model.specs.History.{Effect, history}
 use Rattle.cc_model.specs.Touches.{touched, is_dirty, dirty_pages, is_mapped}

@@ -9,10 +9,10 @@ use Rattle.cc_entry.specs.declared.reply.Reply.{Reply}
 use Rattle.cc_entry.specs.declared.entry.End.{End}
 use Rattle.cc_model.specs.History.{Effect, Did, CameIn, WentOut, Began, Ended, Synced}
 use Rattle.cc_model.specs.Acts.{act_of, Opens, Closes, Resizes, Writes, Zeroes, Stores, Stamps, Looks}
-use Rattle.cc_model.specs.Places.{has_page}
+use Rattle.cc_entry.specs.Pages.{has_page}
 use Rattle.cc_model.specs.Holds.{holds_of, hold_at}
 use Rattle.cc_model.specs.Objects.{objects, truncation}
-use Rattle.cc_model.specs.Sizes.{hold_has, stored_range, is_good}
+use Rattle.cc_model.specs.Sizes.{hold_has, stored_range, ended_ok}
 use Rattle.cc_model.specs.Touches.{size_of, is_dirty}
 use Rattle.cc_model.proofs.TouchSteps.{touches-opens, touches-closes, touches-resizes, touches-writes, touches-zeroes, touches-stores, touches-stamps, touches-looks, touches-came_in, touches-went_out, touches-began_open, touches-ended_bad, touches-ended_other, touches-synced}
 
@@ -70,7 +70,7 @@ is_dirty-went_out pass page h p = rw (touches-went_out false pass page h p, is_d
 pub is_dirty-began : (pass page : ℕ) (h : List Effect) (p : ℕ) → is_dirty (Began pass page ∷ h) p ≡ is_dirty h p
 is_dirty-began pass page h p = rw (touches-began_open pass page h p, is_dirty) refl
 
-pub is_dirty-ended_bad : (pass page : ℕ) (how : End) (h : List Effect) (p : ℕ) → is_good how ≡ false → is_dirty (Ended pass page how ∷ h) p ≡ is_dirty h p
+pub is_dirty-ended_bad : (pass page : ℕ) (how : End) (h : List Effect) (p : ℕ) → ended_ok how ≡ false → is_dirty (Ended pass page how ∷ h) p ≡ is_dirty h p
 is_dirty-ended_bad pass page how h p p0 = rw (touches-ended_bad false pass page how h p p0, is_dirty) refl
 
 pub is_dirty-ended_other : (pass page : ℕ) (how : End) (h : List Effect) (p : ℕ) → (page == p) ≡ false → is_dirty (Ended pass page how ∷ h) p ≡ is_dirty h p

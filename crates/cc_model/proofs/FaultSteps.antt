@@ -15,9 +15,9 @@ use Rattle.cc_entry.specs.declared.entry.Entry.{Entry}
 use Rattle.cc_entry.specs.declared.entry.Entry.TheVariants as entry
 use Rattle.cc_entry.specs.declared.entry.End.{End}
 use Rattle.cc_entry.specs.declared.entry.End.TheVariants as how
-use Rattle.cc_model.specs.Sizes.{is_good}
+use Rattle.cc_model.specs.Sizes.{ended_ok}
 use Rattle.cc_model.specs.Passes.{is_store, is_same_page, is_written_since, up_to_call, store_of}
-use Rattle.cc_model.specs.Faults.{Unread, Unwritten, Unsynced, Unlogged, is_failed, faults_since}
+use Rattle.cc_model.specs.Faults.{ReadFailed, WriteFailed, SyncFailed, LogFailed, is_failed, faults_since}
 use Rattle.cc_model.proofs.PassSteps.{up_to_call-not_mine}
 use Rattle.cc_model.specs.Passes.{is_mine}
 
@@ -39,11 +39,11 @@ faults_since-store pass nth stream file page bytes reply past me = go (pass == m
     go true = refl
     go false = refl
 
-pub faults_since-fill_failed : (pass : ℕ) (page : Page) (past : List Entry) (me : ℕ) → (pass == me) ≡ true → faults_since (entry.FillFailed pass page ∷ past) me ≡ Unread page.page ∷ faults_since past me
+pub faults_since-fill_failed : (pass : ℕ) (page : Page) (past : List Entry) (me : ℕ) → (pass == me) ≡ true → faults_since (entry.FillFailed pass page ∷ past) me ≡ ReadFailed page.page ∷ faults_since past me
 unfolding faults_since
 faults_since-fill_failed pass page past me same = rw (same, faults_since) refl
 
-pub faults_since-write_failed : (pass : ℕ) (page : Page) (how : End) (past : List Entry) (me : ℕ) → (pass == me) ≡ true → is_failed how ≡ true → faults_since (entry.WriteEnd pass page how ∷ past) me ≡ Unwritten page.page ∷ faults_since past me
+pub faults_since-write_failed : (pass : ℕ) (page : Page) (how : End) (past : List Entry) (me : ℕ) → (pass == me) ≡ true → is_failed how ≡ true → faults_since (entry.WriteEnd pass page how ∷ past) me ≡ WriteFailed page.page ∷ faults_since past me
 unfolding faults_since
 faults_since-write_failed pass page how past me same failed = rw (same, failed, faults_since) refl
 
@@ -51,17 +51,17 @@ pub faults_since-write_ended : (pass : ℕ) (page : Page) (how : End) (past : Li
 unfolding faults_since
 faults_since-write_ended pass page how.Good past me ended = go (pass == me)
   where
-    go : (t : Bool) → cons_option (if t && false then Some (Unwritten page.page) else None) (faults_since past me) ≡ faults_since past me
+    go : (t : Bool) → cons_option (if t && false then Some (WriteFailed page.page) else None) (faults_since past me) ≡ faults_since past me
     go true = refl
     go false = refl
 faults_since-write_ended pass page how.Failed past me ended = cc
 faults_since-write_ended pass page how.NoMemory past me ended = go (pass == me)
   where
-    go : (t : Bool) → cons_option (if t && false then Some (Unwritten page.page) else None) (faults_since past me) ≡ faults_since past me
+    go : (t : Bool) → cons_option (if t && false then Some (WriteFailed page.page) else None) (faults_since past me) ≡ faults_since past me
     go true = refl
     go false = refl
 
-pub faults_since-sync_failed : (pass stream : ℕ) (how : End) (past : List Entry) (me : ℕ) → (pass == me) ≡ true → is_failed how ≡ true → faults_since (entry.Sync pass stream how ∷ past) me ≡ Unsynced ∷ faults_since past me
+pub faults_since-sync_failed : (pass stream : ℕ) (how : End) (past : List Entry) (me : ℕ) → (pass == me) ≡ true → is_failed how ≡ true → faults_since (entry.Sync pass stream how ∷ past) me ≡ SyncFailed ∷ faults_since past me
 unfolding faults_since
 faults_since-sync_failed pass stream how past me same failed = rw (same, failed, faults_since) refl
 
@@ -69,17 +69,17 @@ pub faults_since-sync_ended : (pass stream : ℕ) (how : End) (past : List Entry
 unfolding faults_since
 faults_since-sync_ended pass stream how.Good past me ended = go (pass == me)
   where
-    go : (t : Bool) → cons_option (if t && false then Some Unsynced else None) (faults_since past me) ≡ faults_since past me
+    go : (t : Bool) → cons_option (if t && false then Some SyncFailed else None) (faults_since past me) ≡ faults_since past me
     go true = refl
     go false = refl
 faults_since-sync_ended pass stream how.Failed past me ended = cc
 faults_since-sync_ended pass stream how.NoMemory past me ended = go (pass == me)
   where
-    go : (t : Bool) → cons_option (if t && false then Some Unsynced else None) (faults_since past me) ≡ faults_since past me
+    go : (t : Bool) → cons_option (if t && false then Some SyncFailed else None) (faults_since past me) ≡ faults_since past me
     go true = refl
     go false = refl
 
-pub faults_since-log_failed : (pass handle : ℕ) (past : List Entry) (me : ℕ) → (pass == me) ≡ true → faults_since (entry.LogFailed pass handle ∷ past) me ≡ Unlogged handle ∷ faults_since past me
+pub faults_since-log_failed : (pass handle : ℕ) (past : List Entry) (me : ℕ) → (pass == me) ≡ true → faults_since (entry.LogFailed pass handle ∷ past) me ≡ LogFailed handle ∷ faults_since past me
 unfolding faults_since
 faults_since-log_failed pass handle past me same = rw (same, faults_since) refl
 
@@ -97,7 +97,7 @@ unfolding faults_since
 faults_since-write_begin pass page past me = refl
 
 -- a good end of the pass's own transfer of the page
-pub is_written_since-write_end : (pass : ℕ) (page other : Page) (how : End) (past : List Entry) (me : ℕ) → (pass == me) ≡ true → is_same_page page other ≡ true → is_good how ≡ true → is_written_since (entry.WriteEnd pass other how ∷ past) me page ≡ true
+pub is_written_since-write_end : (pass : ℕ) (page other : Page) (how : End) (past : List Entry) (me : ℕ) → (pass == me) ≡ true → is_same_page page other ≡ true → ended_ok how ≡ true → is_written_since (entry.WriteEnd pass other how ∷ past) me page ≡ true
 unfolding is_written_since
 is_written_since-write_end pass page other how past me same same_page good = rw (same, same_page, good, is_written_since) refl
 

@@ -8,7 +8,8 @@ use Rattle.std.proofs.lemmas.Bool.{or_from, or_parts}
 use Rattle.cc_entry.specs.declared.call.Call.{Call}
 use Rattle.cc_entry.specs.declared.call.Call.TheVariants as call
 use Rattle.cc_entry.specs.declared.reply.Reply.{Reply}
-use Rattle.cc_model.specs.Places.{is_empty, has_page}
+use Rattle.cc_entry.specs.Pages.{has_page}
+use Rattle.cc_model.specs.Numbers.{is_empty}
 use Rattle.cc_model.specs.History.{Effect, Did, CameIn, WentOut, Began, Ended, Synced}
 use Rattle.cc_model.specs.Acts.{Act, act_of, Opens, Closes, Resizes, Writes, Zeroes, Stores, Stamps, Looks}
 use Rattle.cc_model.specs.Objects.{objects}

@@ -5,7 +5,7 @@ use Rattle.cc_entry.specs.declared.call.Call.{Call}
 use Rattle.cc_entry.specs.declared.reply.Reply.{Reply}
 use Rattle.cc_entry.specs.declared.entry.End.{End}
 use Rattle.cc_model.specs.History.{Effect, Did, CameIn, WentOut, Began, Ended, Synced}
-use Rattle.cc_model.specs.Sizes.{is_good}
+use Rattle.cc_model.specs.Sizes.{ended_ok}
 use Rattle.cc_model.specs.Bytes.{page_bytes}
 use Rattle.cc_model.specs.Images.{open_of, begun, image_after, image, settled, crash_pages}
 
@@ -77,7 +77,7 @@ pub image-began : (pages : ℕ → List ℕ) (pass page : ℕ) (h : List Effect)
 unfolding image
 image-began pages pass page h p = refl
 
-pub image-ended_page : (pages : ℕ → List ℕ) (pass page : ℕ) (how : End) (h : List Effect) (p : ℕ) → (page == p) ≡ true → image pages (Ended pass page how ∷ h) p ≡ image_after pages p (begun h p) (is_good how) (image pages h p)
+pub image-ended_page : (pages : ℕ → List ℕ) (pass page : ℕ) (how : End) (h : List Effect) (p : ℕ) → (page == p) ≡ true → image pages (Ended pass page how ∷ h) p ≡ image_after pages p (begun h p) (ended_ok how) (image pages h p)
 unfolding image
 image-ended_page pages pass page how h p p0 = rw (p0, image) refl
 
@@ -113,28 +113,28 @@ pub crash_pages-ended : (pages : ℕ → List ℕ) (pass page : ℕ) (how : End)
 unfolding crash_pages
 crash_pages-ended pages pass page how h p = refl
 
-pub crash_pages-synced : (pages : ℕ → List ℕ) (pass : ℕ) (how : End) (h : List Effect) (p : ℕ) → crash_pages pages (Synced pass how ∷ h) p ≡ settled (is_good how) (image pages h p) (crash_pages pages h p)
+pub crash_pages-synced : (pages : ℕ → List ℕ) (pass : ℕ) (how : End) (h : List Effect) (p : ℕ) → crash_pages pages (Synced pass how ∷ h) p ≡ settled (ended_ok how) (image pages h p) (crash_pages pages h p)
 unfolding crash_pages
 crash_pages-synced pages pass how h p = refl
 
 -- the image that an end leaves where the front of its begin is known, and what a sync leaves
 
-pub image-ended_good : (pages : ℕ → List ℕ) (pass page : ℕ) (how : End) (h front : List Effect) (p : ℕ) → (page == p) ≡ true → is_good how ≡ true → begun h p ≡ Some front → image pages (Ended pass page how ∷ h) p ≡ Some (page_bytes pages front p)
+pub image-ended_good : (pages : ℕ → List ℕ) (pass page : ℕ) (how : End) (h front : List Effect) (p : ℕ) → (page == p) ≡ true → ended_ok how ≡ true → begun h p ≡ Some front → image pages (Ended pass page how ∷ h) p ≡ Some (page_bytes pages front p)
 unfolding image
 image-ended_good pages pass page how h front p same good began = rw (same, good, began, image) refl
 
-pub image-ended_bad : (pages : ℕ → List ℕ) (pass page : ℕ) (how : End) (h front : List Effect) (p : ℕ) → (page == p) ≡ true → is_good how ≡ false → begun h p ≡ Some front → image pages (Ended pass page how ∷ h) p ≡ None
+pub image-ended_bad : (pages : ℕ → List ℕ) (pass page : ℕ) (how : End) (h front : List Effect) (p : ℕ) → (page == p) ≡ true → ended_ok how ≡ false → begun h p ≡ Some front → image pages (Ended pass page how ∷ h) p ≡ None
 unfolding image
 image-ended_bad pages pass page how h front p same bad began = rw (same, bad, began, image) refl
 
-pub crash_pages-synced_known : (pages : ℕ → List ℕ) (pass : ℕ) (how : End) (h : List Effect) (p : ℕ) (bytes : List ℕ) → is_good how ≡ true → image pages h p ≡ Some bytes → crash_pages pages (Synced pass how ∷ h) p ≡ bytes ∷ []
+pub crash_pages-synced_known : (pages : ℕ → List ℕ) (pass : ℕ) (how : End) (h : List Effect) (p : ℕ) (bytes : List ℕ) → ended_ok how ≡ true → image pages h p ≡ Some bytes → crash_pages pages (Synced pass how ∷ h) p ≡ bytes ∷ []
 unfolding crash_pages
 crash_pages-synced_known pages pass how h p bytes good known = rw (good, known, crash_pages) refl
 
-pub crash_pages-synced_unknown : (pages : ℕ → List ℕ) (pass : ℕ) (how : End) (h : List Effect) (p : ℕ) → is_good how ≡ true → image pages h p ≡ None → crash_pages pages (Synced pass how ∷ h) p ≡ crash_pages pages h p
+pub crash_pages-synced_unknown : (pages : ℕ → List ℕ) (pass : ℕ) (how : End) (h : List Effect) (p : ℕ) → ended_ok how ≡ true → image pages h p ≡ None → crash_pages pages (Synced pass how ∷ h) p ≡ crash_pages pages h p
 unfolding crash_pages
 crash_pages-synced_unknown pages pass how h p good unknown = rw (good, unknown, crash_pages) refl
 
-pub crash_pages-synced_bad : (pages : ℕ → List ℕ) (pass : ℕ) (how : End) (h : List Effect) (p : ℕ) → is_good how ≡ false → crash_pages pages (Synced pass how ∷ h) p ≡ crash_pages pages h p
+pub crash_pages-synced_bad : (pages : ℕ → List ℕ) (pass : ℕ) (how : End) (h : List Effect) (p : ℕ) → ended_ok how ≡ false → crash_pages pages (Synced pass how ∷ h) p ≡ crash_pages pages h p
 unfolding crash_pages
 crash_pages-synced_bad pages pass how h p bad = rw (bad, crash_pages) refl

@@ -11,7 +11,7 @@ use Rattle.cc_entry.specs.declared.call.Call.{Call}
 use Rattle.cc_entry.specs.declared.reply.Reply.{Reply}
 use Rattle.cc_model.specs.History.{Effect, Did}
 use Rattle.cc_model.specs.Acts.{Act, act_of, Opens, Closes, Resizes, Writes, Zeroes, Stores, Stamps, Looks}
-use Rattle.cc_model.specs.Places.{has_byte, has_page}
+use Rattle.cc_entry.specs.Pages.{has_byte, has_page}
 use Rattle.cc_model.specs.Objects.{objects, had_map, truncation}
 use Rattle.cc_model.specs.Holds.{holds_of, hold_at}
 use Rattle.cc_model.specs.Sizes.{Sizes, resized_by, stored_range, touched_if, cut_if, hold_has}

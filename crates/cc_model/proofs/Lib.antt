@@ -69,15 +69,3 @@ pub mod PlacesResident
 pub mod PlacesImage
 pub mod PlacesSizes
 pub mod PlacesTouches
-pub mod RefusalReads
-pub mod HoldReads
-pub mod BarReads
-pub mod AbsentReads
-pub mod QuotaReads
-pub mod ReaderSteps
-pub mod HoldPlaces
-pub mod TouchReads
-pub mod DirtyReads
-pub mod SizeReads
-pub mod ByteReads
-pub mod ResidentReads

@@ -8,7 +8,8 @@ use Rattle.std.proofs.Common.{ap, sym, ◌∙◌, arith}
 use Rattle.std.proofs.lemmas.Bool.{and_parts, or_parts, or_left, or_right, eqb-true, ltb-true, eq-eqb, ne_eqb}
 use Rattle.std.proofs.lemmas.Map.Made.{length-le_from_is_member}
 use Rattle.cc_entry.specs.Place.{Range}
-use Rattle.cc_model.specs.Places.{is_empty, is_among, without, has_page, pages_of, block_of}
+use Rattle.cc_entry.specs.Pages.{has_page, pages_of, block_of}
+use Rattle.cc_model.specs.Numbers.{is_empty, is_among, without}
 
 pub among-append_left : (n : ℕ) (ns ms : List ℕ) → is_among n ns ≡ true → is_among n (ns ++ ms) ≡ true
 among-append_left n [] ms is = absurd (cc)

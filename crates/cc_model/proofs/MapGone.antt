@@ -8,12 +8,13 @@ use Rattle.std.specs.List.{list_any}
 use Rattle.cc_entry.specs.declared.entry.End.{End}
 use Rattle.cc_entry.specs.declared.call.Call.{Call}
 use Rattle.cc_entry.specs.declared.reply.Reply.{Reply}
-use Rattle.cc_model.specs.Places.{is_empty, has_page}
+use Rattle.cc_entry.specs.Pages.{has_page}
+use Rattle.cc_model.specs.Numbers.{is_empty}
 use Rattle.cc_model.specs.History.{Effect, Did, CameIn, WentOut, Began, Ended, Synced}
 use Rattle.cc_model.specs.Acts.{Act, act_of, Opens, Closes, Resizes, Writes, Zeroes, Stores, Stamps, Looks}
 use Rattle.cc_model.specs.Objects.{objects, truncation}
 use Rattle.cc_model.specs.Holds.{holds_of, hold_at}
-use Rattle.cc_model.specs.Sizes.{Touch, touched_if, cut_if, hold_has, stored_range, is_good}
+use Rattle.cc_model.specs.Sizes.{Touch, touched_if, cut_if, hold_has, stored_range, ended_ok}
 use Rattle.cc_model.specs.Touches.{size_of, touched, touches, is_dirty, is_mapped}
 use Rattle.cc_model.proofs.ActSteps.{touches_by, touches-done}
 use Rattle.cc_model.proofs.MapSteps.{is_mapped-looks, is_mapped-came_in, is_mapped-went_out, is_mapped-began, is_mapped-synced}
@@ -54,7 +55,7 @@ touches-since (Began pass page ∷ h) p clean = go (page == p) (touches-since h 
     go : (b : Bool) → touches true h p ≡ [] → elim b as (λ x. List Touch) [ true ↦ [] | false ↦ touches true h p ] ≡ []
     go true rest = refl
     go false rest = rest
-touches-since (Ended pass page how ∷ h) p clean = go (page == p && is_good how) clean (touches-since h p)
+touches-since (Ended pass page how ∷ h) p clean = go (page == p && ended_ok how) clean (touches-since h p)
   where
     go : (b : Bool) → touches b h p ≡ [] → (touches false h p ≡ [] → touches true h p ≡ []) → touches true h p ≡ []
     go true none rest = none
@@ -69,7 +70,7 @@ list_any-stronger test stronger fails (n ∷ ns) none =
 
 is_dirty-ended : (pass page : ℕ) (how : End) (h : List Effect) (p : ℕ) → is_dirty h p ≡ false → is_dirty (Ended pass page how ∷ h) p ≡ false
 unfolding touches
-is_dirty-ended pass page how h p clean = go (touches false h p) refl clean (page == p && is_good how)
+is_dirty-ended pass page how h p clean = go (touches false h p) refl clean (page == p && ended_ok how)
   where
     go : (ts : List Touch) → touches false h p ≡ ts → not (is_empty ts) ≡ false → (b : Bool) → not (is_empty (touches b h p)) ≡ false
     go [] is clean true = rw (touches-since h p is) refl

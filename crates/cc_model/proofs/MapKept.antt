@@ -6,7 +6,8 @@ use Rattle.std.proofs.lemmas.Bool.{or_right}
 use Rattle.std.specs.List.{list_any}
 use Rattle.cc_entry.specs.declared.call.Call.{Call}
 use Rattle.cc_entry.specs.declared.reply.Reply.{Reply}
-use Rattle.cc_model.specs.Places.{is_empty, pages_of}
+use Rattle.cc_entry.specs.Pages.{pages_of}
+use Rattle.cc_model.specs.Numbers.{is_empty}
 use Rattle.cc_model.specs.History.{Effect, Did}
 use Rattle.cc_model.specs.Acts.{act_of, Writes, Zeroes, Stores, Stamps}
 use Rattle.cc_model.specs.Objects.{objects}

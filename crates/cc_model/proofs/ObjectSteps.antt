@@ -8,7 +8,7 @@ use Rattle.cc_entry.specs.declared.reply.Reply.{Reply}
 use Rattle.cc_entry.specs.declared.entry.End.{End}
 use Rattle.cc_model.specs.History.{Effect, Did, CameIn, WentOut, Began, Ended, Synced}
 use Rattle.cc_model.specs.Acts.{act_of, Opens, Closes, Resizes, Writes, Zeroes, Stores, Stamps, Looks}
-use Rattle.cc_model.specs.Places.{without}
+use Rattle.cc_model.specs.Numbers.{without}
 use Rattle.cc_model.specs.Objects.{objects, had_map}
 
 pub objects-opens : {file : File} {given : FileSizes} {quota : ℕ} {temporary : Bool} (pass : ℕ) (call : Call) (reply : Reply) (h : List Effect) → act_of call ≡ Opens file given quota temporary → objects (Did pass call reply ∷ h) ≡ file.object ∷ without file.object (objects h)

@@ -6,7 +6,8 @@ use Rattle.std.specs.declared.option.Option.{Option}
 use Rattle.std.specs.declared.option.Option.TheVariants.{Some, None}
 use Rattle.std.specs.List.{list_any, range_with_len, IsDistinct}
 use Rattle.cc_entry.specs.declared.call.Call.TheVariants as call
-use Rattle.cc_model.specs.Places.{is_among, without, block_of, blocks_of}
+use Rattle.cc_entry.specs.Pages.{block_of, blocks_of}
+use Rattle.cc_model.specs.Numbers.{is_among, without}
 use Rattle.cc_model.specs.History.{Effect, Did, CameIn, WentOut, Began, Ended, Synced}
 use Rattle.cc_model.specs.Objects.{objects, truncation}
 use Rattle.cc_model.specs.Sizes.{stored_range}

@@ -11,7 +11,7 @@ use Rattle.cc_entry.specs.declared.reply.Outcome.TheVariants as outcome
 use Rattle.cc_entry.specs.declared.entry.Entry.{Entry}
 use Rattle.cc_entry.specs.declared.entry.Entry.TheVariants as entry
 use Rattle.cc_model.specs.Cache.{makes_hold, holds_made_by, holds_made}
-use Rattle.cc_model.specs.Passes.{is_mine, mine_of, is_call_of, calls_of, up_to_call, ends_call_of, is_good_end_of, is_written_since}
+use Rattle.cc_model.specs.Passes.{is_mine, mine_of, is_call_of, calls_of, up_to_call, ends_call_of, is_ok_end_of, is_written_since}
 use Rattle.cc_model.specs.Faults.{Fault, fault_of, faults_since}
 
 -- the entries of a pass
@@ -59,11 +59,11 @@ pub is_written_since-call : (pass nth : ℕ) (stream : Option ℕ) (call : Call)
 unfolding is_written_since
 is_written_since-call pass nth stream call ended past me page same = rw (same, is_written_since) refl
 
-pub is_written_since-good_end : (e : Entry) (past : List Entry) (me : ℕ) (page : Page) → is_call_of me e ≡ false → is_good_end_of me page e ≡ true → is_written_since (e ∷ past) me page ≡ true
+pub is_written_since-ok_end : (e : Entry) (past : List Entry) (me : ℕ) (page : Page) → is_call_of me e ≡ false → is_ok_end_of me page e ≡ true → is_written_since (e ∷ past) me page ≡ true
 unfolding is_written_since
-is_written_since-good_end e past me page other good = rw (other, good, is_written_since) refl
+is_written_since-ok_end e past me page other good = rw (other, good, is_written_since) refl
 
-pub is_written_since-other : (e : Entry) (past : List Entry) (me : ℕ) (page : Page) → is_call_of me e ≡ false → is_good_end_of me page e ≡ false → is_written_since (e ∷ past) me page ≡ is_written_since past me page
+pub is_written_since-other : (e : Entry) (past : List Entry) (me : ℕ) (page : Page) → is_call_of me e ≡ false → is_ok_end_of me page e ≡ false → is_written_since (e ∷ past) me page ≡ is_written_since past me page
 unfolding is_written_since
 is_written_since-other e past me page other not_good = rw (other, not_good, is_written_since) refl
 
@@ -92,12 +92,12 @@ fault_of-other me e other = refl
 pub faults_since-not_mine : (e : Entry) (past : List Entry) (me : ℕ) → is_mine me e ≡ false → faults_since (e ∷ past) me ≡ faults_since past me
 faults_since-not_mine e past me other = faults_since-none e past me (ends_call_of-other me e other) (fault_of-other me e other)
 
-is_good_end_of-other : (me : ℕ) (page : Page) (e : Entry) → is_mine me e ≡ false → is_good_end_of me page e ≡ false
-is_good_end_of-other me page (entry.WriteEnd pass other how) apart = rw apart refl
-is_good_end_of-other me page e apart = refl
+is_ok_end_of-other : (me : ℕ) (page : Page) (e : Entry) → is_mine me e ≡ false → is_ok_end_of me page e ≡ false
+is_ok_end_of-other me page (entry.WriteEnd pass other how) apart = rw apart refl
+is_ok_end_of-other me page e apart = refl
 
 pub is_written_since-not_mine : (e : Entry) (past : List Entry) (me : ℕ) (page : Page) → is_mine me e ≡ false → is_written_since (e ∷ past) me page ≡ is_written_since past me page
-is_written_since-not_mine e past me page other = is_written_since-other e past me page (is_call_of-other me e other) (is_good_end_of-other me page e other)
+is_written_since-not_mine e past me page other = is_written_since-other e past me page (is_call_of-other me e other) (is_ok_end_of-other me page e other)
 
 -- how many holds were ever made
 pub holds_made-entry : (e : Entry) (past : List Entry) → holds_made (e ∷ past) ≡ holds_made_by e + holds_made past

@@ -4,7 +4,7 @@ use Rattle.std.specs.List.{list_all}
 use Rattle.std.specs.declared.option.Option.{Option}
 use Rattle.std.proofs.Common.{ap, sym, subst, ◌∙◌, arith}
 use Rattle.std.proofs.lemmas.Bool.{and_parts, and_from, or_parts, or_from, or_left, or_right, ltb-true, lt-ltb}
-use Rattle.cc_model.specs.Places.{is_empty}
+use Rattle.cc_model.specs.Numbers.{is_empty}
 use Rattle.cc_model.specs.History.{Effect}
 use Rattle.cc_model.specs.Sizes.{Touch, touched_if}
 use Rattle.cc_model.specs.Touches.{touches, unwritten, is_dirty}
@@ -110,10 +110,10 @@ IsWritten-writes (e ∷ later) p is = go (ends_well p e) refl is (IsWritten-writ
     go : (b : Bool) → ends_well p e ≡ b → writes_it b later p ≡ true → (writes_it false later p ≡ true → IsWritten later p) → IsWritten (e ∷ later) p
     go true ends_it it rest =
         let k = IsBegun-writes later p it in
-        record { after = []; good_end = e; between = k.between; begin = k.begin; front = k.front; places = ap (λ (l : List Effect). e ∷ l) k.places; begins_it = k.begins_it; ends_it = ends_it; same_transfer = k.first }
+        record { after = []; ok_end = e; between = k.between; begin = k.begin; front = k.front; places = ap (λ (l : List Effect). e ∷ l) k.places; begins_it = k.begins_it; ends_it = ends_it; same_transfer = k.first }
     go false other it rest =
         let k = rest it in
-        record { after = e ∷ k.after; good_end = k.good_end; between = k.between; begin = k.begin; front = k.front; places = ap (λ (l : List Effect). e ∷ l) k.places; begins_it = k.begins_it; ends_it = k.ends_it; same_transfer = k.same_transfer }
+        record { after = e ∷ k.after; ok_end = k.ok_end; between = k.between; begin = k.begin; front = k.front; places = ap (λ (l : List Effect). e ∷ l) k.places; begins_it = k.begins_it; ends_it = k.ends_it; same_transfer = k.same_transfer }
 
 begin-writes : (between : List Effect) (e : Effect) (front : List Effect) (p : ℕ) → begins p e ≡ true → writes_it true (between ++ e ∷ front) p ≡ true
 begin-writes [] e front p is = or_left (begins p e) _ is
@@ -127,7 +127,7 @@ end-writes ended (x ∷ after) e rest p is writes = or_right (ended && begins p 
 writes-IsWritten : (later : List Effect) (p : ℕ) → IsWritten later p → writes_it false later p ≡ true
 writes-IsWritten later p k =
     ap (λ (l : List Effect). writes_it false l p) k.places
-    ∙ end-writes false k.after k.good_end (k.between ++ k.begin ∷ k.front) p k.ends_it (begin-writes k.between k.begin k.front p k.begins_it)
+    ∙ end-writes false k.after k.ok_end (k.between ++ k.begin ∷ k.front) p k.ends_it (begin-writes k.between k.begin k.front p k.begins_it)
 
 unwritten-writes : (later : List Effect) (p : ℕ) → (IsWritten later p → ⊥) → writes_it false later p ≡ false
 unwritten-writes later p never = go (writes_it false later p) refl

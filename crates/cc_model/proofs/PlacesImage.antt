@@ -5,7 +5,7 @@ use Rattle.std.specs.declared.option.Option.TheVariants.{Some, None}
 use Rattle.std.proofs.Common.{ap, sym, ◌∙◌, inl, inr}
 use Rattle.std.proofs.lemmas.Bool.{or_parts, or_from, or_left, or_right, cond-true, cond-false}
 use Rattle.cc_model.specs.History.{Effect, Did, CameIn, WentOut, Began, Ended, Synced}
-use Rattle.cc_model.specs.Sizes.{is_good}
+use Rattle.cc_model.specs.Sizes.{ended_ok}
 use Rattle.cc_model.specs.Images.{begun, image_after, image}
 use Rattle.cc_model.specs.ByPlaces.{some_effect, begins, ends, ends_well, LastPlace}
 use Rattle.cc_model.specs.ByPlacesImage.{LastTransfer, ends_begun, left_by}
@@ -33,7 +33,7 @@ image-effect pages (WentOut pass page) h p = refl
 image-effect pages (Began pass page) h p = refl
 image-effect pages (Ended pass page how) h p = go (page == p) refl
   where
-    go : (b : Bool) → (page == p) ≡ b → image pages (Ended pass page how ∷ h) p ≡ cond b (image_after pages p (begun h p) (b && is_good how) (image pages h p)) (image pages h p)
+    go : (b : Bool) → (page == p) ≡ b → image pages (Ended pass page how ∷ h) p ≡ cond b (image_after pages p (begun h p) (b && ended_ok how) (image pages h p)) (image pages h p)
     go true is = image-ended_page pages pass page how h p is
     go false is = image-ended_other pages pass page how h p is
 image-effect pages (Synced pass how) h p = refl

@@ -9,7 +9,7 @@ use Rattle.cc_entry.specs.declared.call.Call.{Call}
 use Rattle.cc_entry.specs.declared.call.Call.TheVariants as call
 use Rattle.cc_entry.specs.declared.reply.Reply.{Reply}
 use Rattle.cc_entry.specs.declared.reply.Reply.TheVariants as reply
-use Rattle.cc_model.specs.Places.{is_empty, is_among}
+use Rattle.cc_model.specs.Numbers.{is_empty, is_among}
 use Rattle.cc_model.specs.History.{Effect, Did}
 use Rattle.cc_model.specs.Objects.{objects}
 use Rattle.cc_model.specs.ReadAhead.{read_of, kept_with, forgets_reads, reads_of}

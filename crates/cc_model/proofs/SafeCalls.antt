@@ -14,7 +14,8 @@ use Rattle.cc_entry.specs.declared.reply.Reply.{Reply}
 use Rattle.cc_entry.specs.declared.hold.HoldKind.{HoldKind}
 use Rattle.cc_entry.specs.declared.entry.Entry.{Entry}
 use Rattle.cc_model.specs.Setup.{Setup}
-use Rattle.cc_model.specs.Places.{is_empty, pages_of, has_page}
+use Rattle.cc_entry.specs.Pages.{pages_of, has_page}
+use Rattle.cc_model.specs.Numbers.{is_empty}
 use Rattle.cc_model.specs.History.{Effect, history}
 use Rattle.cc_model.specs.Acts.{act_of, file_of}
 use Rattle.cc_model.specs.Objects.{objects}

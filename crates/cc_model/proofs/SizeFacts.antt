@@ -9,7 +9,7 @@ use Rattle.cc_entry.specs.Place.{File}
 use Rattle.cc_entry.specs.declared.place.FileSizes.{FileSizes}
 use Rattle.cc_entry.specs.declared.call.Call.{Call}
 use Rattle.cc_entry.specs.declared.reply.Reply.{Reply}
-use Rattle.cc_model.specs.Places.{is_empty, is_among, without}
+use Rattle.cc_model.specs.Numbers.{is_empty, is_among, without}
 use Rattle.cc_model.specs.History.{Effect, Did, CameIn, WentOut, Began, Ended, Synced}
 use Rattle.cc_model.specs.Acts.{Act, act_of, Opens, Closes, Resizes, Writes, Zeroes, Stores, Stamps, Looks}
 use Rattle.cc_model.specs.Objects.{objects, truncation}

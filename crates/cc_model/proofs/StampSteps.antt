@@ -12,7 +12,7 @@ use Rattle.cc_model.specs.History.{Effect, Did, CameIn, WentOut, Began, Ended, S
 use Rattle.cc_model.specs.Acts.{act_of, Opens, Closes, Resizes, Writes, Zeroes, Stores, Stamps, Looks}
 use Rattle.cc_model.specs.Holds.{holds_of, hold_at}
 use Rattle.cc_model.specs.Objects.{objects, truncation}
-use Rattle.cc_model.specs.Sizes.{Touch, touched_if, hold_has, is_good}
+use Rattle.cc_model.specs.Sizes.{Touch, touched_if, hold_has, ended_ok}
 use Rattle.cc_model.specs.Touches.{touches, size_of}
 use Rattle.cc_model.specs.Stamps.{least_of, greatest_of, least_lsn, greatest_lsn, oldest_of, newest_of, is_unstamped}
 use Rattle.cc_model.proofs.HoldSteps.{holds_of-came_in, holds_of-went_out, holds_of-began, holds_of-ended, holds_of-synced, changes_holds, holds_of-other}
@@ -67,7 +67,7 @@ oldest_of-went_out pass page h p = rw (touches-went_out false pass page h p, old
 pub oldest_of-began : (pass page : ℕ) (h : List Effect) (p : ℕ) → oldest_of (Began pass page ∷ h) p ≡ oldest_of h p
 oldest_of-began pass page h p = rw (touches-began_open pass page h p, oldest_of) refl
 
-pub oldest_of-ended_bad : (pass page : ℕ) (how : End) (h : List Effect) (p : ℕ) → is_good how ≡ false → oldest_of (Ended pass page how ∷ h) p ≡ oldest_of h p
+pub oldest_of-ended_bad : (pass page : ℕ) (how : End) (h : List Effect) (p : ℕ) → ended_ok how ≡ false → oldest_of (Ended pass page how ∷ h) p ≡ oldest_of h p
 oldest_of-ended_bad pass page how h p p0 = rw (touches-ended_bad false pass page how h p p0, oldest_of) refl
 
 pub oldest_of-ended_other : (pass page : ℕ) (how : End) (h : List Effect) (p : ℕ) → (page == p) ≡ false → oldest_of (Ended pass page how ∷ h) p ≡ oldest_of h p
@@ -125,7 +125,7 @@ newest_of-went_out pass page h p = rw (touches-went_out false pass page h p, new
 pub newest_of-began : (pass page : ℕ) (h : List Effect) (p : ℕ) → newest_of (Began pass page ∷ h) p ≡ newest_of h p
 newest_of-began pass page h p = rw (touches-began_open pass page h p, newest_of) refl
 
-pub newest_of-ended_bad : (pass page : ℕ) (how : End) (h : List Effect) (p : ℕ) → is_good how ≡ false → newest_of (Ended pass page how ∷ h) p ≡ newest_of h p
+pub newest_of-ended_bad : (pass page : ℕ) (how : End) (h : List Effect) (p : ℕ) → ended_ok how ≡ false → newest_of (Ended pass page how ∷ h) p ≡ newest_of h p
 newest_of-ended_bad pass page how h p p0 = rw (touches-ended_bad false pass page how h p p0, newest_of) refl
 
 pub newest_of-ended_other : (pass page : ℕ) (how : End) (h : List Effect) (p : ℕ) → (page == p) ≡ false → newest_of (Ended pass page how ∷ h) p ≡ newest_of h p

@@ -10,7 +10,7 @@ use Rattle.cc_entry.specs.declared.hold.HoldKind.{HoldKind}
 use Rattle.cc_entry.specs.declared.error.CcError.{CcError}
 use Rattle.cc_entry.specs.declared.entry.Entry.{Entry}
 use Rattle.cc_model.specs.Setup.{Setup}
-use Rattle.cc_model.specs.Places.{is_among}
+use Rattle.cc_model.specs.Numbers.{is_among}
 use Rattle.cc_model.specs.History.{Effect}
 use Rattle.cc_model.specs.Acts.{act_of, file_of}
 use Rattle.cc_model.specs.Objects.{objects, had_map}
@@ -22,8 +22,9 @@ use Rattle.cc_model.specs.Conflicts.{held, busy}
 use Rattle.cc_model.specs.Views.{viewed, no_views, no_vacbs, not_resident}
 use Rattle.cc_model.specs.Refusals.{first_of, refusal}
 use Rattle.cc_model.specs.Legal.{IsAdmitted}
-use Rattle.cc_model.specs.Filing.{is_write_chain, serves, serves_range, IsFiled}
-use Rattle.cc_model.specs.Stamps.{is_pin}
+use Rattle.cc_model.specs.Filing.{serves, serves_range, IsFiled}
+use Rattle.cc_entry.specs.Kinds.{is_write_chain}
+use Rattle.cc_entry.specs.Kinds.{is_pin}
 use Rattle.cc_model.proofs.Steady.{BeginsWithin, ComesBackWithin, needs_no_map, IsSteadyCall}
 
 -- each of a list of reasons does not hold

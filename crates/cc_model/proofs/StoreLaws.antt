@@ -6,7 +6,7 @@ use Rattle.cc_entry.specs.Place.{File}
 use Rattle.cc_entry.specs.declared.place.FileSizes.{FileSizes}
 use Rattle.cc_entry.specs.declared.call.Call.{Call}
 use Rattle.cc_entry.specs.declared.reply.Reply.{Reply}
-use Rattle.cc_model.specs.Places.{has_byte}
+use Rattle.cc_entry.specs.Pages.{has_byte}
 use Rattle.cc_model.specs.History.{Effect, Did}
 use Rattle.cc_model.specs.Acts.{act_of, Opens, Stores}
 use Rattle.cc_model.specs.Sizes.{stored_range}

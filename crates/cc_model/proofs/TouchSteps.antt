@@ -10,10 +10,10 @@ use Rattle.cc_entry.specs.declared.reply.Reply.{Reply}
 use Rattle.cc_entry.specs.declared.entry.End.{End}
 use Rattle.cc_model.specs.History.{Effect, Did, CameIn, WentOut, Began, Ended, Synced}
 use Rattle.cc_model.specs.Acts.{act_of, Opens, Closes, Resizes, Writes, Zeroes, Stores, Stamps, Looks}
-use Rattle.cc_model.specs.Places.{has_page}
+use Rattle.cc_entry.specs.Pages.{has_page}
 use Rattle.cc_model.specs.Objects.{objects, truncation}
 use Rattle.cc_model.specs.Holds.{holds_of, hold_at}
-use Rattle.cc_model.specs.Sizes.{touched_if, cut_if, hold_has, stored_range, is_good}
+use Rattle.cc_model.specs.Sizes.{touched_if, cut_if, hold_has, stored_range, ended_ok}
 use Rattle.cc_model.specs.Touches.{touches, size_of}
 
 pub touches-opens : (ended : Bool) {file : File} {given : FileSizes} {quota : ℕ} {temporary : Bool} (pass : ℕ) (call : Call) (reply : Reply) (h : List Effect) (p : ℕ) → act_of call ≡ Opens file given quota temporary → touches ended (Did pass call reply ∷ h) p ≡ touches ended h p
@@ -79,15 +79,15 @@ pub touches-ended_after : (pass page : ℕ) (how : End) (h : List Effect) (p : �
 unfolding touches
 touches-ended_after pass page how h p = refl
 
-pub touches-ended_good : (ended : Bool) (pass page : ℕ) (how : End) (h : List Effect) (p : ℕ) → (page == p) ≡ true → is_good how ≡ true → touches ended (Ended pass page how ∷ h) p ≡ touches true h p
+pub touches-ended_good : (ended : Bool) (pass page : ℕ) (how : End) (h : List Effect) (p : ℕ) → (page == p) ≡ true → ended_ok how ≡ true → touches ended (Ended pass page how ∷ h) p ≡ touches true h p
 unfolding touches
 touches-ended_good true pass page how h p same good = refl
 touches-ended_good false pass page how h p same good = rw (same, good) refl
 
-pub touches-ended_bad : (ended : Bool) (pass page : ℕ) (how : End) (h : List Effect) (p : ℕ) → is_good how ≡ false → touches ended (Ended pass page how ∷ h) p ≡ touches ended h p
+pub touches-ended_bad : (ended : Bool) (pass page : ℕ) (how : End) (h : List Effect) (p : ℕ) → ended_ok how ≡ false → touches ended (Ended pass page how ∷ h) p ≡ touches ended h p
 unfolding touches
 touches-ended_bad true pass page how h p bad = refl
-touches-ended_bad false pass page how h p bad = ap (λ good. touches good h p) (both (page == p) (is_good how) bad)
+touches-ended_bad false pass page how h p bad = ap (λ good. touches good h p) (both (page == p) (ended_ok how) bad)
   where
     both : (same good : Bool) → good ≡ false → (same && good) ≡ false
     both true good bad = bad

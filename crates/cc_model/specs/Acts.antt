@@ -2,7 +2,7 @@
 use Rattle.std.specs.Prelude.{ℕ, ◌+◌, Bool, true, false, List}
 use Rattle.std.specs.declared.option.Option.{Option}
 use Rattle.std.specs.declared.option.Option.TheVariants.{Some, None}
-use Rattle.cc_entry.specs.Place.{File}
+use Rattle.cc_entry.specs.Place.{File, Range}
 use Rattle.cc_entry.specs.declared.place.FileSizes.{FileSizes}
 use Rattle.cc_entry.specs.declared.call.Call.{Call}
 use Rattle.cc_entry.specs.declared.call.Call.TheVariants as call
@@ -20,6 +20,8 @@ pub data Act : Type 0 where
   Stores : (page : ℕ) (bytes : List ℕ) → Act
   -- the pages of a pin are made dirty, with an LSN or without
   Stamps : (hold : ℕ) (lsn : Option ℕ) → Act
+  -- the pages of the span go unwritten, all of them where there is none
+  Discards : (span : Option Range) → Act
   -- no byte, size or dirty page changes
   Looks : Act
 
@@ -51,6 +53,7 @@ act_of (call.SetSizes file allocation size) = Resizes allocation size
 act_of (call.State file) = Looks
 act_of (call.Flush file span) = Looks
 act_of (call.Purge file span) = Looks
+act_of (call.Discard file span) = Discards span
 act_of (call.SetLog file handle) = Looks
 act_of (call.DirtyPages handle) = Looks
 act_of (call.LsnForFile file) = Looks
@@ -90,6 +93,7 @@ file_of (call.SetSizes file allocation size) = Some file
 file_of (call.State file) = Some file
 file_of (call.Flush file span) = Some file
 file_of (call.Purge file span) = Some file
+file_of (call.Discard file span) = Some file
 file_of (call.SetLog file handle) = Some file
 file_of (call.DirtyPages handle) = None
 file_of (call.LsnForFile file) = Some file

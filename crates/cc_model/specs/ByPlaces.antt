@@ -1,15 +1,16 @@
 -- Words for places of a history: what an effect does over the effects before it, and what some effect
 -- of a stretch does.
-use Rattle.std.specs.Prelude.{◌≡◌, ℕ, ◌+◌, ◌-◌, ◌*◌, Bool, true, false, ◌==◌, ◌&&◌, ◌||◌, nat_le, List, [], ◌∷◌, ◌++◌, length, slice_index}
+use Rattle.std.specs.Prelude.{◌≡◌, ℕ, ◌+◌, ◌-◌, ◌*◌, ◌/◌, Bool, true, false, ◌==◌, ◌&&◌, ◌||◌, nat_le, List, [], ◌∷◌, ◌++◌, length, slice_index}
 use Rattle.std.specs.declared.option.Option.{Option}
 use Rattle.std.specs.declared.option.Option.TheVariants.{Some, None}
-use Rattle.cc_model.specs.Places.{has_byte, has_page}
+use Rattle.cc_entry.specs.Pages.{has_byte, has_page}
 use Rattle.cc_model.specs.History.{Effect, Did, Began, Ended}
-use Rattle.cc_model.specs.Acts.{Act, act_of, Opens, Closes, Resizes, Writes, Zeroes, Stores, Stamps, Looks}
+use Rattle.cc_model.specs.Acts.{Act, act_of, Opens, Closes, Resizes, Writes, Zeroes, Stores, Stamps, Discards, Looks}
 use Rattle.cc_model.specs.Objects.{objects, truncation}
 use Rattle.cc_model.specs.Holds.{holds_of, hold_at}
-use Rattle.cc_model.specs.Sizes.{stored_range, hold_has, is_good}
-use Rattle.cc_model.specs.Touches.{size_of}
+use Rattle.cc_model.specs.Sizes.{stored_range, hold_has, ended_ok}
+use Rattle.cc_model.specs.Touches.{size_of, is_dirty}
+use Rattle.cc_model.specs.Ranges.{span_has}
 
 -- whether some effect of the later ones, over all that stood before it, passes the test
 abbrev pub some_effect : (Effect → List Effect → Bool) → List Effect → List Effect → Bool
@@ -25,6 +26,7 @@ act_touches (Stamps hold lsn) h p = hold_has (hold_at (holds_of h) hold) p
 act_touches (Opens file sizes quota temporary) h p = false
 act_touches (Closes file truncate) h p = false
 act_touches (Resizes allocation size) h p = false
+act_touches (Discards span) h p = false
 act_touches Looks h p = false
 
 -- the LSN that an act gives the pages that it touches
@@ -72,13 +74,28 @@ abbrev pub byte_given : ℕ → Effect → ℕ
 byte_given i (Did pass call reply) = act_gives (act_of call) i
 byte_given i other = 0
 
+-- whether an act throws the page away unwritten
+abbrev pub act_discards : Act → ℕ → Bool
+act_discards (Discards span) p = span_has span p
+act_discards other p = false
+
+abbrev pub discards_page : ℕ → Effect → Bool
+discards_page p (Did pass call reply) = act_discards (act_of call) p
+discards_page p other = false
+
+-- whether an effect decides what the byte at i is: a change of it, or a discard of its page while that
+-- was dirty
+abbrev pub decides_byte : ℕ → Effect → List Effect → Bool
+decides_byte i e h = changes_byte i e h || (discards_page (i / 4096) e && is_dirty h (i / 4096))
+
 -- whether a size step takes the page away: the page begins at the size that is set, or past it
 abbrev pub is_past : Option ℕ → ℕ → Bool
 is_past None p = false
 is_past (Some to) p = nat_le to (4096 * p)
 
+-- whether an effect takes the page away with all that was not written of it
 abbrev pub cuts_page : ℕ → Effect → List Effect → Bool
-cuts_page p e h = is_past (size_step e h) p
+cuts_page p e h = is_past (size_step e h) p || discards_page p e
 
 -- whether an effect begins a transfer of the page, ends one, or ends one well
 abbrev pub begins : ℕ → Effect → Bool
@@ -90,7 +107,7 @@ ends p (Ended pass page how) = page == p
 ends p other = false
 
 abbrev pub ends_well : ℕ → Effect → Bool
-ends_well p (Ended pass page how) = page == p && is_good how
+ends_well p (Ended pass page how) = page == p && ended_ok how
 ends_well p other = false
 
 -- the last place of the history whose effect passes the test: no later effect does

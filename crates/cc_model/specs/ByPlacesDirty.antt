@@ -27,13 +27,13 @@ stamps_page p other h = false
 -- with no other begin of the page between.
 pub record IsWritten (later : List Effect) (p : ℕ) : Type 0 where
   pub after : List Effect
-  pub good_end : Effect
+  pub ok_end : Effect
   pub between : List Effect
   pub begin : Effect
   pub front : List Effect
-  pub places : later ≡ after ++ good_end ∷ (between ++ begin ∷ front)
+  pub places : later ≡ after ++ ok_end ∷ (between ++ begin ∷ front)
   pub begins_it : begins p begin ≡ true
-  pub ends_it : ends_well p good_end ≡ true
+  pub ends_it : ends_well p ok_end ≡ true
   pub same_transfer : some_effect (λ e front. begins p e) between (begin ∷ front) ≡ false
 
 -- A place of the history whose effect touches the page, with no transfer of it that began later and

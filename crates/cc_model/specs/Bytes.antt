@@ -1,30 +1,59 @@
 -- The plain file: what a byte is, and what a read answers.
-use Rattle.std.specs.Prelude.{ℕ, ◌+◌, ◌-◌, ◌*◌, ◌/◌, ◌%◌, true, false, nat_lt, List, [], ◌∷◌, length, map, min, slice_index, if◌then◌else◌}
+use Rattle.std.specs.Prelude.{ℕ, ◌+◌, ◌-◌, ◌*◌, ◌/◌, ◌%◌, Bool, true, false, ◌&&◌, ◌||◌, ◌==◌, nat_lt, List, [], ◌∷◌, length, map, min, slice_index, if◌then◌else◌}
 use Rattle.std.specs.List.{range_with_len}
-use Rattle.cc_model.specs.Places.{has_byte}
-use Rattle.cc_model.specs.History.{Effect, Did}
-use Rattle.cc_model.specs.Acts.{act_of, Writes, Zeroes, Stores}
-use Rattle.cc_model.specs.Touches.{size_of, valid_of}
-use Rattle.cc_model.specs.Sizes.{stored_range}
+use Rattle.cc_entry.specs.Pages.{has_byte}
+use Rattle.cc_model.specs.History.{Effect, Did, CameIn, WentOut, Began, Ended, Synced}
+use Rattle.cc_model.specs.Acts.{act_of, Opens, Closes, Resizes, Writes, Zeroes, Stores, Stamps, Discards, Looks}
+use Rattle.cc_model.specs.Ranges.{span_has}
+use Rattle.cc_model.specs.Touches.{size_of, valid_of, is_dirty}
+use Rattle.cc_model.specs.Sizes.{stored_range, ended_ok}
 
--- What the newest change that covers the byte at i gave, or the opening byte of the disk, whose pages
--- are the first argument. A change is a copied write, a zeroing, a pinned write, a prepare with zero,
--- a descriptor store or a noncached store.
-unfoldable pub content : (ℕ → List ℕ) → List Effect → ℕ → ℕ
-content pages [] i = slice_index (pages (i / 4096)) (i % 4096)
-content pages (Did pass call reply ∷ h) i =
-    elim (act_of call) [
-      | Writes at bytes ↦
-          elim (has_byte (record { from = at; to = at + length bytes }) i) [ true ↦ slice_index bytes (i - at) | false ↦ content pages h i ]
-      | Zeroes from to ↦ elim (has_byte (record { from = from; to = to }) i) [ true ↦ 0 | false ↦ content pages h i ]
-      | Stores page bytes ↦
-          elim (has_byte (stored_range page (size_of h)) i) [
-            | true ↦ slice_index bytes (i - 4096 * page)
-            | false ↦ content pages h i
-          ]
-      | _ ↦ content pages h i
-    ]
-content pages (other ∷ h) i = content pages h i
+unfoldable mutual
+  -- What the newest change or discard that covers the byte at i gave, or the opening byte of the disk,
+  -- whose pages are the first argument. A change is a copied write, a zeroing, a pinned write, a prepare
+  -- with zero, a descriptor store or a noncached store. A discard covers the pages of its span that are
+  -- dirty as it comes, and gives what the disk holds.
+  pub content : (ℕ → List ℕ) → List Effect → ℕ → ℕ
+  content pages [] i = slice_index (pages (i / 4096)) (i % 4096)
+  content pages (Did pass call reply ∷ h) i =
+      elim (act_of call) [
+        | Writes at bytes ↦
+            elim (has_byte (record { from = at; to = at + length bytes }) i) [ true ↦ slice_index bytes (i - at) | false ↦ content pages h i ]
+        | Zeroes from to ↦ elim (has_byte (record { from = from; to = to }) i) [ true ↦ 0 | false ↦ content pages h i ]
+        | Stores page bytes ↦
+            elim (has_byte (stored_range page (size_of h)) i) [
+              | true ↦ slice_index bytes (i - 4096 * page)
+              | false ↦ content pages h i
+            ]
+        | Discards span ↦
+            elim (span_has span (i / 4096) && is_dirty h (i / 4096)) [ true ↦ on_disk pages false h i | false ↦ content pages h i ]
+        | Opens file sizes quota temporary ↦ content pages h i
+        | Closes file truncate ↦ content pages h i
+        | Resizes allocation size ↦ content pages h i
+        | Stamps hold lsn ↦ content pages h i
+        | Looks ↦ content pages h i
+      ]
+  content pages (CameIn pass page from_disk ∷ h) i = content pages h i
+  content pages (WentOut pass page ∷ h) i = content pages h i
+  content pages (Began pass page ∷ h) i = content pages h i
+  content pages (Ended pass page how ∷ h) i = content pages h i
+  content pages (Synced pass how ∷ h) i = content pages h i
+
+  -- The byte at i that the disk holds, where the last transfer of its page that ended did not fail: the
+  -- byte as that transfer began, or the opening byte. `ended` says whether a transfer of the page ended
+  -- well after the effects that are left to look at, so that its begin is the next one.
+  pub on_disk : (ℕ → List ℕ) → Bool → List Effect → ℕ → ℕ
+  on_disk pages ended [] i = slice_index (pages (i / 4096)) (i % 4096)
+  on_disk pages ended (Began pass page ∷ h) i =
+      elim (ended && page == i / 4096) [
+        | true ↦ elim (nat_lt i (valid_of h)) [ true ↦ content pages h i | false ↦ 0 ]
+        | false ↦ on_disk pages ended h i
+      ]
+  on_disk pages ended (Ended pass page how ∷ h) i = on_disk pages (ended || (page == i / 4096 && ended_ok how)) h i
+  on_disk pages ended (Did pass call reply ∷ h) i = on_disk pages ended h i
+  on_disk pages ended (CameIn pass page from_disk ∷ h) i = on_disk pages ended h i
+  on_disk pages ended (WentOut pass page ∷ h) i = on_disk pages ended h i
+  on_disk pages ended (Synced pass how ∷ h) i = on_disk pages ended h i
 
 -- the byte at i: zero from the valid data length on
 unfoldable pub byte_of : (ℕ → List ℕ) → List Effect → ℕ → ℕ

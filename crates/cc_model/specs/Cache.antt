@@ -7,7 +7,7 @@ use Rattle.cc_entry.specs.declared.call.Call.TheVariants as call
 use Rattle.cc_entry.specs.declared.reply.Outcome.TheVariants as outcome
 use Rattle.cc_entry.specs.declared.entry.Entry.{Entry}
 use Rattle.cc_entry.specs.declared.entry.Entry.TheVariants as entry
-use Rattle.cc_model.specs.Places.{is_empty}
+use Rattle.cc_model.specs.Numbers.{is_empty}
 use Rattle.cc_model.specs.History.{Effect, history}
 use Rattle.cc_model.specs.Touches.{dirty_pages, is_mapped}
 use Rattle.cc_model.specs.Settings.{quota_of, is_temporary, has_no_write_behind}

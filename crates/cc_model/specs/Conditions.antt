@@ -78,6 +78,7 @@ pub record MayFinish (past : List Entry) (pass s p : ℕ) : Type 0 where
 abbrev pub IsReady : List Entry → ℕ → ℕ → Call → Type 0
 IsReady past pass s (call.Flush file span) = is_flushed past pass s span ≡ true
 IsReady past pass s (call.Purge file span) = list_any (span_has span) (residents (history past s)) ≡ false
+IsReady past pass s (call.Discard file span) = open_of (history past s) ≡ None
 IsReady past pass s (call.NcRead file page) =
     (is_resident (history past s) page || is_none (open_of (history past s))) ≡ true
 IsReady past pass s (call.NcStore file page bytes) = MayStore past s page bytes

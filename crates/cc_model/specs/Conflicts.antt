@@ -9,28 +9,32 @@ use Rattle.cc_entry.specs.declared.call.Call.{Call}
 use Rattle.cc_entry.specs.declared.call.Call.TheVariants as call
 use Rattle.cc_entry.specs.declared.error.CcError.{CcError}
 use Rattle.cc_entry.specs.declared.error.CcError.TheVariants as error
-use Rattle.cc_model.specs.Places.{is_empty, without, has_page, pages_of}
+use Rattle.cc_entry.specs.Pages.{pages_of, share_page}
+use Rattle.cc_model.specs.Numbers.{is_empty, without}
 use Rattle.cc_model.specs.History.{Effect}
 use Rattle.cc_model.specs.Objects.{objects}
 use Rattle.cc_model.specs.Holds.{Hold, holds_of, hold_at, range_held, least_id}
-use Rattle.cc_model.specs.Ranges.{whole_range, span_has}
-use Rattle.cc_model.specs.Stamps.{is_pin, owes_stamp, owed_pages}
+use Rattle.cc_model.specs.Ranges.{span_has}
+use Rattle.cc_entry.specs.Pages.{whole_range}
+use Rattle.cc_model.specs.Stamps.{owes_stamp, owed_pages}
+use Rattle.cc_entry.specs.Kinds.{is_pin}
 
 abbrev pub held_by : Option ℕ → Option CcError
 held_by id = option_map (λ n. error.Held n) id
 
+-- whether the hold has a page of the span
+abbrev pub has_page_of : Option Range → Hold → Bool
+has_page_of span hold = list_any (span_has span) (pages_of (range_held hold))
+
 -- An open hold that ends past the new size bars a set of sizes, any hold the last uninitialise, and one
--- with a page of the span a purge.
+-- with a page of the span a purge and a discard.
 abbrev pub held : List Effect → Call → Option CcError
 held h (call.SetSizes file allocation size) = held_by (least_id (λ hold. nat_lt size (hold.at + hold.len)) (holds_of h))
 held h (call.Uninitialise file truncate) =
     held_by (if is_empty (without file.object (objects h)) then least_id (λ hold. true) (holds_of h) else None)
-held h (call.Purge file span) = held_by (least_id (λ hold. list_any (span_has span) (pages_of (range_held hold))) (holds_of h))
+held h (call.Purge file span) = held_by (least_id (has_page_of span) (holds_of h))
+held h (call.Discard file span) = held_by (least_id (has_page_of span) (holds_of h))
 held h other = None
-
--- whether two ranges have bytes in one page
-abbrev pub share_page : Range → Range → Bool
-share_page a b = list_any (has_page a) (pages_of b)
 
 -- whether an open hold is a pin that shares a page with the range, where one of both is exclusive
 abbrev pub bars_pin : Range → Bool → Hold → Bool

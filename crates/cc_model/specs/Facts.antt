@@ -2,7 +2,7 @@
 use Rattle.std.specs.Prelude.{◌≡◌, ℕ, ◌+◌, ◌-◌, ◌*◌, ◌<◌, ◌≤◌, ◌^◌, true, false, nat_eq, nat_le, List, slice_index, Some}
 use Rattle.std.specs.List.{list_all, IsDistinct}
 use Rattle.cc_entry.specs.declared.entry.Entry.{Entry}
-use Rattle.cc_model.specs.Places.{is_among}
+use Rattle.cc_model.specs.Numbers.{is_among}
 use Rattle.cc_model.specs.History.{Effect}
 use Rattle.cc_model.specs.Holds.{holds_of, is_held}
 use Rattle.cc_model.specs.Touches.{size_of, valid_of, is_dirty}

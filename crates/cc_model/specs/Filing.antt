@@ -8,14 +8,7 @@ use Rattle.cc_entry.specs.declared.hold.HoldKind.TheVariants as kind
 use Rattle.cc_entry.specs.declared.call.Call.{Call}
 use Rattle.cc_entry.specs.declared.call.Call.TheVariants as call
 use Rattle.cc_model.specs.Holds.{Hold, hold_at}
-use Rattle.cc_model.specs.Stamps.{is_pin}
-
-abbrev pub is_map : HoldKind → Bool
-is_map kind.Map = true
-is_map kind.Pin = false
-is_map kind.Repin = false
-is_map kind.ReadChain = false
-is_map kind.WriteChain = false
+use Rattle.cc_entry.specs.Kinds.{is_map, is_pin}
 
 abbrev pub is_read_chain : HoldKind → Bool
 is_read_chain kind.ReadChain = true

@@ -7,7 +7,7 @@ use Rattle.cc_entry.specs.declared.entry.Entry.{Entry}
 use Rattle.cc_entry.specs.declared.entry.Entry.TheVariants as entry
 use Rattle.cc_model.specs.History.{Effect, history}
 use Rattle.cc_model.specs.Touches.{unwritten, dirty_pages}
-use Rattle.cc_model.specs.Sizes.{is_good}
+use Rattle.cc_model.specs.Sizes.{ended_ok}
 use Rattle.cc_model.specs.Ranges.{span_has}
 use Rattle.cc_model.specs.Passes.{is_call_of, up_to_call}
 
@@ -17,9 +17,9 @@ settled_since seen h span =
     list_all (λ p. not (span_has span p) || list_all (λ touch. nat_lt seen touch.place) (unwritten h p)) (dirty_pages h)
 
 -- whether an entry is a good sync of the stream by the pass
-abbrev pub is_good_sync_of : ℕ → ℕ → Entry → Bool
-is_good_sync_of me s (entry.Sync pass stream how) = pass == me && (stream == s && is_good how)
-is_good_sync_of me s other = false
+abbrev pub is_ok_sync_of : ℕ → ℕ → Entry → Bool
+is_ok_sync_of me s (entry.Sync pass stream how) = pass == me && (stream == s && ended_ok how)
+is_ok_sync_of me s other = false
 
 -- whether there is, after the pass's last call, a good sync at which each unwritten touch of the span
 -- was later than so many effects of the stream
@@ -28,7 +28,7 @@ synced_after seen [] me s span = false
 synced_after seen (e ∷ past) me s span =
     elim (is_call_of me e) [
       | true ↦ false
-      | false ↦ (is_good_sync_of me s e && settled_since seen (history past s) span) || synced_after seen past me s span
+      | false ↦ (is_ok_sync_of me s e && settled_since seen (history past s) span) || synced_after seen past me s span
     ]
 
 -- Whether a flush by the pass may be done: after its last call there is a good sync of its stream at

@@ -11,7 +11,7 @@ use Rattle.cc_entry.specs.declared.reply.Reply.{Reply}
 use Rattle.cc_entry.specs.declared.reply.Reply.TheVariants as reply
 use Rattle.cc_entry.specs.declared.hold.HoldKind.{HoldKind}
 use Rattle.cc_entry.specs.declared.hold.HoldKind.TheVariants as kind
-use Rattle.cc_model.specs.Places.{blocks_of, has_page}
+use Rattle.cc_entry.specs.Pages.{blocks_of, has_page}
 use Rattle.cc_model.specs.History.{Effect, Did}
 
 pub record Hold : Type 0 where

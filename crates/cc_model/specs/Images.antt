@@ -3,7 +3,7 @@ use Rattle.std.specs.Prelude.{ℕ, Bool, true, false, ◌==◌, List, [], ◌∷
 use Rattle.std.specs.declared.option.Option.{Option}
 use Rattle.std.specs.declared.option.Option.TheVariants.{Some, None}
 use Rattle.cc_model.specs.History.{Effect, Did, CameIn, WentOut, Began, Ended, Synced}
-use Rattle.cc_model.specs.Sizes.{is_good}
+use Rattle.cc_model.specs.Sizes.{ended_ok}
 use Rattle.cc_model.specs.Bytes.{page_bytes}
 
 -- a transfer that began and has not ended
@@ -39,7 +39,7 @@ unfoldable pub image : (ℕ → List ℕ) → List Effect → ℕ → Option (Li
 image pages [] p = Some (pages p)
 image pages (Ended pass page how ∷ h) p =
     elim (page == p) [
-      | true ↦ image_after pages p (begun h p) (is_good how) (image pages h p)
+      | true ↦ image_after pages p (begun h p) (ended_ok how) (image pages h p)
       | false ↦ image pages h p
     ]
 image pages (other ∷ h) p = image pages h p
@@ -59,5 +59,5 @@ crash_pages pages (Began pass page ∷ h) p =
       | true ↦ crash_pages pages h p ++ page_bytes pages h p ∷ []
       | false ↦ crash_pages pages h p
     ]
-crash_pages pages (Synced pass how ∷ h) p = settled (is_good how) (image pages h p) (crash_pages pages h p)
+crash_pages pages (Synced pass how ∷ h) p = settled (ended_ok how) (image pages h p) (crash_pages pages h p)
 crash_pages pages (other ∷ h) p = crash_pages pages h p

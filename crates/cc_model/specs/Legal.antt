@@ -21,7 +21,7 @@ use Rattle.cc_model.specs.Reasons.{is_open}
 use Rattle.cc_model.specs.Refusals.{refusal}
 use Rattle.cc_model.specs.Replies.{IsReply}
 use Rattle.cc_model.specs.Passes.{store_of, is_the_page}
-use Rattle.cc_model.specs.Faults.{is_unread, is_unwritten, is_unsynced, is_unlogged, faults_since}
+use Rattle.cc_model.specs.Faults.{is_failed_read, is_failed_write, is_failed_sync, is_failed_log, faults_since}
 
 -- the history of the stream under which an entry is filed, empty where there is none
 abbrev pub stream_history : List Entry → Option ℕ → List Effect
@@ -66,12 +66,12 @@ IsQueueFull u past h other = ⊥
 -- noncached store; a failed sync names the first page of the range.
 abbrev pub IsFailure : Setup → List Entry → ℕ → Option ℕ → Call → CcError → Type 0
 IsFailure u past pass stream call (error.ReadFault page) =
-    (list_any (is_unread page) (faults_since past pass) ≡ true) × NothingElse u past pass stream call
+    (list_any (is_failed_read page) (faults_since past pass) ≡ true) × NothingElse u past pass stream call
 IsFailure u past pass stream call (error.WriteFault page) =
-    ((list_any (is_unwritten page) (faults_since past pass) || (list_any is_unsynced (faults_since past pass) && page == first_page call)) ≡ true)
+    ((list_any (is_failed_write page) (faults_since past pass) || (list_any is_failed_sync (faults_since past pass) && page == first_page call)) ≡ true)
     × NothingElse u past pass stream call
 IsFailure u past pass stream call (error.LogFault handle) =
-    (list_any (is_unlogged handle) (faults_since past pass) ≡ true) × NothingElse u past pass stream call
+    (list_any (is_failed_log handle) (faults_since past pass) ≡ true) × NothingElse u past pass stream call
 IsFailure u past pass stream call error.QueueFull = IsQueueFull u past (stream_history past stream) call
 IsFailure u past pass stream call (error.TooLong limit) = IsTooLong u past (stream_history past stream) limit call
 IsFailure u past pass stream call error.Unaligned = IsMisaligned (stream_history past stream) call

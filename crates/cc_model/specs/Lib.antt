@@ -1,21 +1,20 @@
 -- In the order in which the definitions build on each other.
 pub mod Setup
-pub mod Places
+pub mod Numbers
 pub mod History
 pub mod Acts
 pub mod Objects
 pub mod Holds
 pub mod Sizes
+pub mod Ranges
 pub mod Touches
 pub mod Bytes
 pub mod Settings
-pub mod Ranges
 pub mod Residency
 pub mod Logs
 pub mod Stamps
 pub mod Images
 pub mod ReadAhead
-pub mod Levels
 pub mod Cache
 pub mod Pick
 pub mod Throttle
@@ -24,6 +23,7 @@ pub mod Faults
 pub mod Reasons
 pub mod Conflicts
 pub mod Views
+pub mod Discards
 pub mod Refusals
 pub mod Replies
 pub mod Legal
@@ -42,11 +42,3 @@ pub mod ByPlacesDirty
 pub mod ByPlacesResident
 pub mod ByPlacesSizes
 pub mod ByPlacesImage
-pub mod Events
-pub mod MapReads
-pub mod HoldReads
-pub mod BarReads
-pub mod QuotaReads
-pub mod ViewReads
-pub mod RefusalReads
-pub mod Changes

@@ -10,7 +10,7 @@ use Rattle.cc_entry.specs.declared.reply.Outcome.{Outcome}
 use Rattle.cc_entry.specs.declared.reply.Outcome.TheVariants as outcome
 use Rattle.cc_entry.specs.declared.entry.Entry.{Entry}
 use Rattle.cc_entry.specs.declared.entry.Entry.TheVariants as entry
-use Rattle.cc_model.specs.Sizes.{is_good}
+use Rattle.cc_model.specs.Sizes.{ended_ok}
 
 -- the pass that placed an entry; a post has none
 abbrev pub pass_of : Entry → Option ℕ
@@ -102,9 +102,9 @@ is_the_page page None = false
 is_the_page page (Some other) = is_same_page page other
 
 -- whether an entry is a good end of the pass's transfer of the page
-abbrev pub is_good_end_of : ℕ → Page → Entry → Bool
-is_good_end_of me page (entry.WriteEnd pass other how) = pass == me && (is_same_page page other && is_good how)
-is_good_end_of me page other = false
+abbrev pub is_ok_end_of : ℕ → Page → Entry → Bool
+is_ok_end_of me page (entry.WriteEnd pass other how) = pass == me && (is_same_page page other && ended_ok how)
+is_ok_end_of me page other = false
 
 -- whether a good end of the pass's transfer of the page stands after the pass's last call
 unfoldable pub is_written_since : List Entry → ℕ → Page → Bool
@@ -112,5 +112,5 @@ is_written_since [] me page = false
 is_written_since (e ∷ past) me page =
     elim (is_call_of me e) [
       | true ↦ false
-      | false ↦ is_good_end_of me page e || is_written_since past me page
+      | false ↦ is_ok_end_of me page e || is_written_since past me page
     ]

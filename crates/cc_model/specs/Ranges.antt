@@ -1,6 +1,6 @@
 -- The range of a call: the bytes whose pages it needs.
 use Rattle.std.specs.Prelude.{ℕ, ◌+◌, ◌/◌, Bool, true, false, not, length, min}
-use Rattle.cc_model.specs.Places.{has_page}
+use Rattle.cc_entry.specs.Pages.{has_page, whole_range}
 use Rattle.std.specs.declared.option.Option.{Option}
 use Rattle.std.specs.declared.option.Option.TheVariants.{Some, None}
 use Rattle.cc_entry.specs.Place.{Range}
@@ -13,10 +13,6 @@ use Rattle.cc_model.specs.Sizes.{stored_range}
 -- n bytes from `at` on, as far as they lie below the size
 abbrev pub cut_range : ℕ → ℕ → ℕ → Range
 cut_range size at n = record { from = at; to = min (at + n) size }
-
--- n bytes from `at` on
-abbrev pub whole_range : ℕ → ℕ → Range
-whole_range at n = record { from = at; to = at + n }
 
 -- the range of a call on a stream of this size
 abbrev pub range_of : ℕ → Call → Option Range
@@ -47,6 +43,7 @@ range_of size (call.SetSizes file allocation to) = None
 range_of size (call.State file) = None
 range_of size (call.Flush file span) = None
 range_of size (call.Purge file span) = None
+range_of size (call.Discard file span) = None
 range_of size (call.SetLog file handle) = None
 range_of size (call.DirtyPages handle) = None
 range_of size (call.LsnForFile file) = None
@@ -73,7 +70,13 @@ needs_pages (call.NcWrite file page) r = false
 needs_pages (call.AheadStep request) (reply.Whole whole) = whole
 needs_pages other r = true
 
--- the first page of the range that a call was given, also where it is empty; 0 where it has none
+-- the first page of a span, and 0 where there is none
+abbrev pub first_of_span : Option Range → ℕ
+first_of_span None = 0
+first_of_span (Some span) = span.from / 4096
+
+-- The first page of the range that a call was given, also where it is empty; 0 where it has none, and of
+-- the calls that name a hold and of an ask, which have no range that needs pages.
 abbrev pub first_page : Call → ℕ
 first_page (call.CopyRead file at len wait) = at / 4096
 first_page (call.CopyWrite file at bytes) = at / 4096
@@ -87,9 +90,31 @@ first_page (call.NcRead file page) = page
 first_page (call.NcStore file page bytes) = page
 first_page (call.NcWrite file page) = page
 first_page (call.AheadStep request) = request.at / 4096
-first_page (call.Flush file (Some span)) = span.from / 4096
-first_page (call.Purge file (Some span)) = span.from / 4096
-first_page other = 0
+first_page (call.Flush file span) = first_of_span span
+first_page (call.Purge file span) = first_of_span span
+first_page (call.Discard file span) = first_of_span span
+first_page (call.Initialise file sizes quota temporary) = 0
+first_page (call.Uninitialise file truncate) = 0
+first_page (call.PinMapped hold exclusive) = 0
+first_page (call.MappedRead hold at len) = 0
+first_page (call.PinnedRead hold at len) = 0
+first_page (call.PinnedWrite hold at bytes) = 0
+first_page (call.SetDirty hold lsn) = 0
+first_page (call.EndHold hold) = 0
+first_page (call.Repin hold) = 0
+first_page (call.MdlBytes hold at len) = 0
+first_page (call.MdlStore hold at bytes) = 0
+first_page (call.SetSizes file allocation size) = 0
+first_page (call.State file) = 0
+first_page (call.SetLog file handle) = 0
+first_page (call.DirtyPages handle) = 0
+first_page (call.LsnForFile file) = 0
+first_page call.IsDirtyData = 0
+first_page (call.SetGranularity file bytes) = 0
+first_page (call.SetAttributes file no_read_ahead no_write_behind) = 0
+first_page (call.SetThreshold file pages) = 0
+first_page (call.AskAhead file at len) = 0
+first_page (call.CanWrite file bytes) = 0
 
 -- whether a page is of a span, where none is the whole stream
 abbrev pub span_has : Option Range → ℕ → Bool

@@ -8,7 +8,7 @@ use Rattle.cc_entry.specs.declared.call.Call.TheVariants as call
 use Rattle.cc_entry.specs.declared.reply.Reply.{Reply}
 use Rattle.cc_entry.specs.declared.reply.Reply.TheVariants as reply
 use Rattle.cc_entry.specs.declared.place.Request.{Request}
-use Rattle.cc_model.specs.Places.{is_empty, is_among}
+use Rattle.cc_model.specs.Numbers.{is_empty, is_among}
 use Rattle.cc_model.specs.History.{Effect, Did}
 use Rattle.cc_model.specs.Objects.{objects}
 use Rattle.cc_model.specs.Touches.{size_of}

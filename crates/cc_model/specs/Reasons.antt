@@ -10,7 +10,7 @@ use Rattle.cc_entry.specs.declared.call.Call.TheVariants as call
 use Rattle.cc_entry.specs.declared.error.CcError.{CcError}
 use Rattle.cc_entry.specs.declared.error.CcError.TheVariants as error
 use Rattle.cc_model.specs.Setup.{Setup}
-use Rattle.cc_model.specs.Places.{is_among}
+use Rattle.cc_model.specs.Numbers.{is_among}
 use Rattle.cc_model.specs.History.{Effect}
 use Rattle.cc_model.specs.Objects.{objects, had_map}
 use Rattle.cc_model.specs.Touches.{valid_of, is_mapped}

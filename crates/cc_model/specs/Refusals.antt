@@ -14,6 +14,7 @@ use Rattle.cc_model.specs.Ranges.{range_of}
 use Rattle.cc_model.specs.Reasons.{not_cached, cached_file, too_long, view_boundary, bad_sizes, bad_granularity, no_log, beyond_size, beyond_valid}
 use Rattle.cc_model.specs.Conflicts.{held, busy}
 use Rattle.cc_model.specs.Views.{viewed, no_views, no_vacbs, not_resident}
+use Rattle.cc_model.specs.Discards.{unsettled, grown}
 
 -- the first refusal of a list
 abbrev pub first_of : List (Option CcError) → Option CcError
@@ -39,4 +40,6 @@ refusal u past h call =
     ∷ no_views h (viewed h call (range_of (size_of h) call))
     ∷ no_vacbs past h call
     ∷ not_resident h call
+    ∷ unsettled h call
+    ∷ grown h call
     ∷ [])

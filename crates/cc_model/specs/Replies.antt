@@ -1,5 +1,5 @@
 -- What a call that is done answers.
-use Rattle.std.specs.Prelude.{◌≡◌, ℕ, suc, ◌*◌, Bool, not, ◌&&◌, nat_le, List, ◌∷◌, length}
+use Rattle.std.specs.Prelude.{◌≡◌, ℕ, suc, ◌+◌, ◌*◌, ◌<◌, ◌≤◌, Bool, not, ◌&&◌, nat_le, List, ◌∷◌, length, slice_index}
 use Rattle.std.specs.declared.option.Option.{Option}
 use Rattle.std.specs.declared.option.Option.TheVariants.{Some, None}
 use Rattle.cc_entry.specs.declared.call.Call.{Call}
@@ -16,17 +16,24 @@ use Rattle.cc_model.specs.Touches.{size_of, valid_of, is_mapped, dirty_pages}
 use Rattle.cc_model.specs.Bytes.{answer, answer_length}
 use Rattle.cc_model.specs.Settings.{allocation_of, log_of, quota_of}
 use Rattle.cc_model.specs.Ranges.{cut_range}
-use Rattle.cc_model.specs.Stamps.{oldest_among, newest_among, lsn_pair, dirty_table}
+use Rattle.cc_model.specs.Stamps.{lsns_over, dirty_table}
 use Rattle.cc_model.specs.ReadAhead.{ahead_of}
 use Rattle.cc_model.specs.Cache.{holds_made, is_any_dirty}
 use Rattle.cc_model.specs.Throttle.{may_go, pages_for}
 use Rattle.cc_model.specs.Reasons.{is_open}
 use Rattle.cc_model.specs.Views.{needed_blocks}
 
--- A read answers the plain file's bytes; where the disk does not tell its opening pages, of these only
--- the number is said.
+-- What is known of a read's answer over a disk that doesn't tell its opening pages: how many bytes it
+-- answers, and that each of them from the valid data length on is zero.
+pub record IsUntoldRead (h : List Effect) (at n : ℕ) (r : Reply) : Type 0 where
+  pub bytes : List ℕ
+  pub is : r ≡ reply.Read bytes
+  pub long : length bytes ≡ answer_length h at n
+  pub zeros : (k : ℕ) → k < length bytes → valid_of h ≤ at + k → slice_index bytes k ≡ 0
+
+-- A read answers the plain file's bytes; where the disk tells them not, what is known without it.
 abbrev pub Reads : Option (ℕ → List ℕ) → List Effect → ℕ → ℕ → Reply → Type 0
-Reads None h at n r = (bytes : List ℕ) × (r ≡ reply.Read bytes) × (length bytes ≡ answer_length h at n)
+Reads None h at n r = IsUntoldRead h at n r
 Reads (Some pages) h at n r = r ≡ reply.Read (answer pages h at n)
 
 -- the sizes and the log of a stream
@@ -58,7 +65,7 @@ IsReply u past told h pass (call.Uninitialise file truncate) r =
     r ≡ reply.Flag (not (is_mapped (Did pass (call.Uninitialise file truncate) r ∷ h)))
 IsReply u past told h pass (call.DirtyPages handle) r = r ≡ reply.Rows (dirty_table past handle)
 IsReply u past told h pass (call.LsnForFile file) r =
-    r ≡ reply.Lsns (lsn_pair (oldest_among h (dirty_pages h)) (newest_among h (dirty_pages h)))
+    r ≡ reply.Lsns (lsns_over h (dirty_pages h))
 IsReply u past told h pass call.IsDirtyData r = r ≡ reply.Flag (is_any_dirty past)
 IsReply u past told h pass (call.State file) r = r ≡ reply.State (state_of h)
 IsReply u past told h pass (call.AskAhead file at len) r = r ≡ reply.Ahead (ahead_of h file at len)
@@ -76,6 +83,7 @@ IsReply u past told h pass (call.NcWrite file page) r = r ≡ reply.Unit
 IsReply u past told h pass (call.SetSizes file allocation size) r = r ≡ reply.Unit
 IsReply u past told h pass (call.Flush file span) r = r ≡ reply.Unit
 IsReply u past told h pass (call.Purge file span) r = r ≡ reply.Unit
+IsReply u past told h pass (call.Discard file span) r = r ≡ reply.Unit
 IsReply u past told h pass (call.SetLog file handle) r = r ≡ reply.Unit
 IsReply u past told h pass (call.SetGranularity file bytes) r = r ≡ reply.Unit
 IsReply u past told h pass (call.SetAttributes file no_read_ahead no_write_behind) r = r ≡ reply.Unit

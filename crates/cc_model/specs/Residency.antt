@@ -1,16 +1,17 @@
 -- Resident pages, mapped view blocks and the order in which the blocks were last used.
-use Rattle.std.specs.Prelude.{ℕ, ◌*◌, Bool, true, false, ◌==◌, nat_eq, nat_lt, List, [], ◌∷◌, ◌++◌, map, if◌then◌else◌}
+use Rattle.std.specs.Prelude.{ℕ, ◌*◌, Bool, true, false, not, ◌==◌, nat_eq, nat_lt, List, [], ◌∷◌, ◌++◌, map, if◌then◌else◌}
 use Rattle.std.specs.declared.option.Option.{Option}
 use Rattle.std.specs.declared.option.Option.TheVariants.{Some, None}
 use Rattle.std.specs.List.{filter, list_any, list_all}
 use Rattle.std.specs.Set.{distinct_count}
 use Rattle.cc_entry.specs.Place.{Range}
-use Rattle.cc_model.specs.Places.{is_among, without, block_of, blocks_of, pages_of}
+use Rattle.cc_entry.specs.Pages.{block_of, blocks_of, pages_of}
+use Rattle.cc_model.specs.Numbers.{is_among, without}
 use Rattle.cc_model.specs.History.{Effect, Did, CameIn, WentOut, Began, Ended, Synced}
-use Rattle.cc_model.specs.Acts.{act_of, Opens, Closes, Resizes, Writes, Zeroes, Stores, Stamps, Looks}
+use Rattle.cc_model.specs.Acts.{act_of, Opens, Closes, Resizes, Writes, Zeroes, Stores, Stamps, Discards, Looks}
 use Rattle.cc_model.specs.Objects.{objects, truncation}
 use Rattle.cc_model.specs.Touches.{size_of, is_mapped}
-use Rattle.cc_model.specs.Ranges.{range_of, uses_no_block}
+use Rattle.cc_model.specs.Ranges.{range_of, uses_no_block, span_has}
 
 -- a size step cuts the pages that begin at the new size or past it
 abbrev pub below : Option ℕ → List ℕ → List ℕ
@@ -28,6 +29,7 @@ moved_by (Did pass call reply) h pages =
       | Writes at bytes ↦ pages
       | Zeroes from to ↦ pages
       | Stamps hold lsn ↦ pages
+      | Discards span ↦ filter (λ p. not (span_has span p)) pages
       | Looks ↦ pages
     ]
 moved_by (CameIn pass page from_disk) h pages = page ∷ without page pages
@@ -37,7 +39,7 @@ moved_by (Ended pass page how) h pages = pages
 moved_by (Synced pass how) h pages = pages
 
 -- The resident pages of a stream. A page comes in from the disk, as zeros or by a noncached store; it
--- goes out, or goes with a size step or with the map.
+-- goes out, or goes with a size step, with a discard or with the map.
 unfoldable pub residents : List Effect → List ℕ
 residents [] = []
 residents (e ∷ h) = elim (is_mapped (e ∷ h)) [ true ↦ moved_by e h (residents h) | false ↦ [] ]

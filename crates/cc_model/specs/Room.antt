@@ -7,10 +7,10 @@ use Rattle.cc_entry.specs.declared.call.Call.TheVariants as call
 use Rattle.cc_entry.specs.declared.entry.Entry.{Entry}
 use Rattle.cc_entry.specs.declared.entry.Entry.TheVariants as entry
 use Rattle.cc_model.specs.Setup.{Setup}
-use Rattle.cc_model.specs.Places.{is_empty, is_among}
+use Rattle.cc_model.specs.Numbers.{is_empty, is_among}
 use Rattle.cc_model.specs.History.{Effect, history}
 use Rattle.cc_model.specs.Holds.{Hold, holds_of}
-use Rattle.cc_model.specs.Stamps.{is_pin}
+use Rattle.cc_entry.specs.Kinds.{is_pin}
 use Rattle.cc_model.specs.Images.{open_of}
 use Rattle.cc_model.specs.Cache.{all_streams}
 use Rattle.cc_model.specs.Passes.{is_store, store_of, is_the_page}

@@ -5,7 +5,7 @@ use Rattle.std.specs.declared.option.Option.TheVariants.{Some, None}
 use Rattle.cc_entry.specs.Place.{Range}
 use Rattle.cc_entry.specs.declared.entry.End.{End}
 use Rattle.cc_entry.specs.declared.entry.End.TheVariants as how
-use Rattle.cc_model.specs.Places.{has_page, pages_of}
+use Rattle.cc_entry.specs.Pages.{has_page, pages_of}
 use Rattle.cc_model.specs.Holds.{Hold, range_held}
 
 -- the size and the valid data length of a stream
@@ -47,6 +47,11 @@ abbrev pub cut_if : Option ℕ → ℕ → List Touch → List Touch
 cut_if None p rest = rest
 cut_if (Some to) p rest = if nat_le to (4096 * p) then [] else rest
 
+-- nothing earlier is left where a discard throws the page away
+abbrev pub dropped_if : Bool → List Touch → List Touch
+dropped_if true rest = []
+dropped_if false rest = rest
+
 -- whether the hold of this id has the page
 abbrev pub hold_has : Option Hold → ℕ → Bool
 hold_has None p = false
@@ -58,7 +63,7 @@ hold_pages None = []
 hold_pages (Some hold) = pages_of (range_held hold)
 
 -- whether a transfer ended well
-abbrev pub is_good : End → Bool
-is_good how.Good = true
-is_good how.Failed = false
-is_good how.NoMemory = false
+abbrev pub ended_ok : End → Bool
+ended_ok how.Good = true
+ended_ok how.Failed = false
+ended_ok how.NoMemory = false

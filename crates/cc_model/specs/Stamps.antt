@@ -3,65 +3,46 @@ use Rattle.std.specs.Prelude.{ℕ, Bool, true, false, ◌&&◌, ◌==◌, List, 
 use Rattle.std.specs.declared.option.Option.{Option}
 use Rattle.std.specs.declared.option.Option.TheVariants.{Some, None}
 use Rattle.std.specs.List.{list_any, flat_map, filter_map, range_with_len}
+use Rattle.std.specs.Option.{option_map}
 use Rattle.cc_entry.specs.declared.entry.Entry.{Entry}
-use Rattle.cc_entry.specs.declared.hold.HoldKind.{HoldKind}
-use Rattle.cc_entry.specs.declared.hold.HoldKind.TheVariants as kind
+use Rattle.cc_entry.specs.Kinds.{is_pin}
 use Rattle.cc_entry.specs.declared.place.DirtyRow.{DirtyRow}
-use Rattle.cc_model.specs.Places.{has_page, pages_of, ascending}
+use Rattle.cc_entry.specs.Pages.{has_page, pages_of}
+use Rattle.cc_model.specs.Numbers.{ascending}
 use Rattle.cc_model.specs.History.{Effect, history}
 use Rattle.cc_model.specs.Holds.{Hold, holds_of}
 use Rattle.cc_model.specs.Touches.{unwritten, dirty_pages}
 use Rattle.cc_model.specs.Sizes.{Touch}
 use Rattle.cc_model.specs.Settings.{log_of}
 
--- the lesser, and the greater, of two LSNs that may be missing
-abbrev pub least_of : Option ℕ → Option ℕ → Option ℕ
-least_of None b = b
-least_of (Some a) None = Some a
-least_of (Some a) (Some b) = Some (min a b)
+-- the least and the greatest LSN of two pairs of them, either of which may be missing
+abbrev pub joined : Option (ℕ × ℕ) → Option (ℕ × ℕ) → Option (ℕ × ℕ)
+joined None b = b
+joined (Some a) None = Some a
+joined (Some a) (Some b) = Some (min a.0 b.0, max a.1 b.1)
 
-abbrev pub greatest_of : Option ℕ → Option ℕ → Option ℕ
-greatest_of None b = b
-greatest_of (Some a) None = Some a
-greatest_of (Some a) (Some b) = Some (max a b)
+-- an LSN is the least and the greatest of itself
+abbrev pub alone : Option ℕ → Option (ℕ × ℕ)
+alone None = None
+alone (Some lsn) = Some (lsn, lsn)
 
--- the least LSN among touches, and the greatest
-abbrev pub least_lsn : List Touch → Option ℕ
-least_lsn [] = None
-least_lsn (touch ∷ touches) = least_of touch.lsn (least_lsn touches)
-
-abbrev pub greatest_lsn : List Touch → Option ℕ
-greatest_lsn [] = None
-greatest_lsn (touch ∷ touches) = greatest_of touch.lsn (greatest_lsn touches)
+-- the least and the greatest LSN among touches, where one has an LSN
+abbrev pub lsns_among : List Touch → Option (ℕ × ℕ)
+lsns_among [] = None
+lsns_among (touch ∷ touches) = joined (alone touch.lsn) (lsns_among touches)
 
 -- the least and the greatest LSN stamped on a page and not yet written
-abbrev pub oldest_of : List Effect → ℕ → Option ℕ
-oldest_of h p = least_lsn (unwritten h p)
+abbrev pub lsns_of : List Effect → ℕ → Option (ℕ × ℕ)
+lsns_of h p = lsns_among (unwritten h p)
 
+-- the greatest of them, up to which the page's log has to be flushed before the page is written
 abbrev pub newest_of : List Effect → ℕ → Option ℕ
-newest_of h p = greatest_lsn (unwritten h p)
+newest_of h p = option_map (λ lsns. lsns.1) (lsns_of h p)
 
 -- the least and the greatest over several pages
-abbrev pub oldest_among : List Effect → List ℕ → Option ℕ
-oldest_among h [] = None
-oldest_among h (p ∷ ps) = least_of (oldest_of h p) (oldest_among h ps)
-
-abbrev pub newest_among : List Effect → List ℕ → Option ℕ
-newest_among h [] = None
-newest_among h (p ∷ ps) = greatest_of (newest_of h p) (newest_among h ps)
-
--- the pair of both, where both are there
-abbrev pub lsn_pair : Option ℕ → Option ℕ → Option (ℕ × ℕ)
-lsn_pair None newest = None
-lsn_pair (Some oldest) None = None
-lsn_pair (Some oldest) (Some newest) = Some (oldest, newest)
-
-abbrev pub is_pin : HoldKind → Bool
-is_pin kind.Pin = true
-is_pin kind.Map = false
-is_pin kind.Repin = false
-is_pin kind.ReadChain = false
-is_pin kind.WriteChain = false
+abbrev pub lsns_over : List Effect → List ℕ → Option (ℕ × ℕ)
+lsns_over h [] = None
+lsns_over h (p ∷ ps) = joined (lsns_of h p) (lsns_over h ps)
 
 -- whether an open hold is a pin that changed the page and did not set it dirty since
 abbrev pub owes_stamp : ℕ → Hold → Bool
@@ -78,10 +59,7 @@ owed_pages holds = ascending (flat_map (λ hold. if is_pin hold.kind then flat_m
 -- a row of the dirty page table, for a page that has a stamp
 abbrev pub row_of : ℕ → List Effect → ℕ → Option DirtyRow
 row_of s h p =
-    elim (lsn_pair (oldest_of h p) (newest_of h p)) [
-      | None ↦ None
-      | Some lsns ↦ Some (record { page = record { stream = s; page = p }; oldest = lsns.0; newest = lsns.1 })
-    ]
+    option_map (λ lsns. record { page = record { stream = s; page = p }; oldest = lsns.0; newest = lsns.1 }) (lsns_of h p)
 
 -- whether the log is the stream's
 abbrev pub is_log : ℕ → Option ℕ → Bool

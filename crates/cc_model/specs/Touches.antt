@@ -1,16 +1,19 @@
 -- Sizes, and what is not yet written.
 --
 -- The two are one knot: a map outlives its last object while a page is dirty, a page is dirty by what
--- is neither written nor cut, and what an uninitialise cuts hangs on the size before it.
+-- is neither written nor cut, and what an uninitialise cuts hangs on the size before it. A page is cut by
+-- a size step to its first byte or below, and by a discard whose span has it.
 use Rattle.std.specs.Prelude.{ℕ, suc, ◌+◌, Bool, true, false, ◌==◌, ◌&&◌, ◌||◌, not, List, [], ◌∷◌, ◌++◌, length}
 use Rattle.std.specs.declared.option.Option.TheVariants.{Some, None}
 use Rattle.std.specs.List.{list_any, filter}
-use Rattle.cc_model.specs.Places.{is_empty, has_page, pages_of, ascending}
+use Rattle.cc_entry.specs.Pages.{has_page, pages_of}
+use Rattle.cc_model.specs.Numbers.{is_empty, ascending}
 use Rattle.cc_model.specs.History.{Effect, Did, CameIn, WentOut, Began, Ended, Synced}
-use Rattle.cc_model.specs.Acts.{act_of, Opens, Closes, Resizes, Writes, Zeroes, Stores, Stamps, Looks}
+use Rattle.cc_model.specs.Acts.{act_of, Opens, Closes, Resizes, Writes, Zeroes, Stores, Stamps, Discards, Looks}
 use Rattle.cc_model.specs.Objects.{objects, truncation}
 use Rattle.cc_model.specs.Holds.{holds_of, hold_at}
-use Rattle.cc_model.specs.Sizes.{Sizes, resized, resized_by, raised, stored_range, Touch, touched_if, cut_if, hold_has, hold_pages, is_good}
+use Rattle.cc_model.specs.Ranges.{span_has}
+use Rattle.cc_model.specs.Sizes.{Sizes, resized, resized_by, raised, stored_range, Touch, touched_if, cut_if, dropped_if, hold_has, hold_pages, ended_ok}
 
 -- every page that was ever touched, with repeats
 unfoldable pub touched : List Effect → List ℕ
@@ -46,6 +49,7 @@ unfoldable mutual
         | Zeroes from to ↦ raised to (sizes h)
         | Stores page bytes ↦ let before = sizes h in raised (stored_range page before.size).to before
         | Stamps hold lsn ↦ sizes h
+        | Discards span ↦ sizes h
         | Looks ↦ sizes h
       ]
   sizes (CameIn pass page from_disk ∷ h) = sizes h
@@ -70,12 +74,13 @@ unfoldable mutual
         | Stores page bytes ↦
             touched_if (has_page (stored_range page (sizes h).size) p) (suc (length h)) None (touches ended h p)
         | Stamps hold lsn ↦ touched_if (hold_has (hold_at (holds_of h) hold) p) (suc (length h)) lsn (touches ended h p)
+        | Discards span ↦ dropped_if (span_has span p) (touches ended h p)
         | Looks ↦ touches ended h p
       ]
   touches ended (CameIn pass page from_disk ∷ h) p = touches ended h p
   touches ended (WentOut pass page ∷ h) p = touches ended h p
   touches ended (Began pass page ∷ h) p = elim (ended && page == p) [ true ↦ [] | false ↦ touches ended h p ]
-  touches ended (Ended pass page how ∷ h) p = touches (ended || (page == p && is_good how)) h p
+  touches ended (Ended pass page how ∷ h) p = touches (ended || (page == p && ended_ok how)) h p
   touches ended (Synced pass how ∷ h) p = touches ended h p
 
 -- the size of a stream, past which no byte is read

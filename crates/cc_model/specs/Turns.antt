@@ -33,12 +33,13 @@ abbrev pub is_journal : Turn → Bool
 is_journal Journal = true
 is_journal other = false
 
--- the turns of a stream that a call needs: its book, and where a noncached page was read or stored its
--- disk too
+-- the turns of a stream that a call needs: its book, and where a noncached page was read or stored, or
+-- pages were discarded, its disk too
 abbrev pub call_needs : Option ℕ → Call → Outcome → Turn → Bool
 call_needs None call ended turn = false
 call_needs (Some s) (call.NcStore file page bytes) (outcome.Done reply) turn = is_book s turn || is_device s turn
 call_needs (Some s) (call.NcRead file page) (outcome.Done reply) turn = is_book s turn || is_device s turn
+call_needs (Some s) (call.Discard file span) (outcome.Done reply) turn = is_book s turn || is_device s turn
 call_needs (Some s) other ended turn = is_book s turn
 
 -- Whether the placer of an entry needs a turn; every entry needs the journal's. A stream without a disk

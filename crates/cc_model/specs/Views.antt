@@ -11,7 +11,7 @@ use Rattle.cc_entry.specs.declared.call.Call.TheVariants as call
 use Rattle.cc_entry.specs.declared.error.CcError.{CcError}
 use Rattle.cc_entry.specs.declared.error.CcError.TheVariants as error
 use Rattle.cc_entry.specs.declared.entry.Entry.{Entry}
-use Rattle.cc_model.specs.Places.{pages_of, blocks_of}
+use Rattle.cc_entry.specs.Pages.{pages_of, blocks_of}
 use Rattle.cc_model.specs.History.{Effect}
 use Rattle.cc_model.specs.Holds.{Hold, holds_of, held_blocks}
 use Rattle.cc_model.specs.Touches.{size_of, is_mapped}

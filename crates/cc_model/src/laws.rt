@@ -8,11 +8,11 @@ ghost use Rattle.cc_entry.specs.declared.error.CcError.{CcError};
 ghost use Rattle.cc_entry.specs.declared.entry.Entry.{Entry};
 ghost use Rattle.cc_entry.specs.declared.entry.Entry.TheVariants as entry;
 ghost use Rattle.cc_entry.specs.declared.entry.End.{End};
-ghost use Rattle.cc_model.specs.Places.{has_byte, has_page};
+ghost use Rattle.cc_entry.specs.Pages.{has_byte, has_page};
 ghost use Rattle.cc_model.specs.History.{Effect, Did, Began, Ended, Synced, history};
 ghost use Rattle.cc_model.specs.Acts.{act_of, Resizes, Writes, Zeroes, Stores, Stamps, Looks};
 ghost use Rattle.cc_model.specs.Holds.{holds_of, hold_at};
-ghost use Rattle.cc_model.specs.Sizes.{hold_has, stored_range, is_good};
+ghost use Rattle.cc_model.specs.Sizes.{hold_has, stored_range, ended_ok};
 ghost use Rattle.cc_model.specs.Touches.{size_of, valid_of, unwritten, is_dirty};
 ghost use Rattle.cc_model.specs.Bytes.{byte_of, page_bytes};
 ghost use Rattle.cc_model.specs.Images.{image};
@@ -151,10 +151,10 @@ pub fn size_steps_cut_pages()
 /// A transfer that ends well with nothing between leaves its page clean and on the disk as it began;
 /// one that does not leaves each page as dirty as it was.
 pub fn transfers_clean_their_page()
-    ensures clean { (pass : ℕ) (how : End) (h : List Effect) (p : ℕ) → is_good how ≡ true →
+    ensures clean { (pass : ℕ) (how : End) (h : List Effect) (p : ℕ) → ended_ok how ≡ true →
         unwritten (Ended pass p how ∷ Began pass p ∷ h) p ≡ [] }
-    ensures on_disk { (pages : ℕ → List ℕ) (pass : ℕ) (how : End) (h : List Effect) (p : ℕ) → is_good how ≡ true →
+    ensures on_disk { (pages : ℕ → List ℕ) (pass : ℕ) (how : End) (h : List Effect) (p : ℕ) → ended_ok how ≡ true →
         image pages (Ended pass p how ∷ Began pass p ∷ h) p ≡ Some (page_bytes pages h p) }
-    ensures dirty { (pass page : ℕ) (how : End) (h : List Effect) (p : ℕ) → is_good how ≡ false →
+    ensures dirty { (pass page : ℕ) (how : End) (h : List Effect) (p : ℕ) → ended_ok how ≡ false →
         unwritten (Ended pass page how ∷ h) p ≡ unwritten h p }
 {}

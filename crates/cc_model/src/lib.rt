@@ -17,5 +17,4 @@ pub mod by_places;
 pub mod durability;
 pub mod laws;
 pub mod limits;
-pub mod readers;
 pub mod soundness;

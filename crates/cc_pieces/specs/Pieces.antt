@@ -18,7 +18,7 @@ use Rattle.cc_entry.specs.declared.entry.Entry.TheVariants as entry
 use Rattle.cc_model.specs.Acts.{file_of}
 use Rattle.cc_model.specs.History.{history}
 use Rattle.cc_model.specs.Passes.{is_mine}
-use Rattle.cc_model.specs.Places.{has_page}
+use Rattle.cc_entry.specs.Pages.{has_page}
 use Rattle.cc_model.specs.Ranges.{range_of}
 use Rattle.cc_model.specs.Touches.{size_of}
 

@@ -2,7 +2,7 @@
 use Rattle.std.proofs.Common.{◌≡◌, ℕ, zero, suc, ◌+◌, ◌<◌, ◌≤◌, Bool, true, false, cond, ◌||◌, ◌&&◌, ◌==◌, nat_lt, List, [], ◌∷◌, refl, sym, ◌∙◌, ap, arith}
 use Rattle.std.proofs.lemmas.Bool.{ltb-true, ltb-false, eqb-true, eqb-false, eq-eqb, ne_eqb}
 use Rattle.std.specs.List.{range_with_len, AllByRecursion, filter}
-use Rattle.cc_model.specs.Places.{is_among, placed, ascending}
+use Rattle.cc_model.specs.Numbers.{is_among, placed, ascending}
 use Rattle.cc_model.proofs.BlockLists.{is_among-filter}
 
 -- each number of a list is greater

@@ -13,13 +13,14 @@ use Rattle.cc_entry.specs.declared.entry.Entry.{Entry}
 use Rattle.cc_entry.specs.declared.entry.Entry.TheVariants as entry
 use Rattle.cc_traits.specs.Disk.{Disk, page_of}
 use Rattle.cc_model.specs.Setup.{Setup}
-use Rattle.cc_model.specs.Places.{has_byte}
+use Rattle.cc_entry.specs.Pages.{has_byte}
 use Rattle.cc_model.specs.History.{Did, history}
 use Rattle.cc_model.specs.Objects.{objects}
 use Rattle.cc_model.specs.Sizes.{raised}
 use Rattle.cc_model.specs.Touches.{sizes, size_of, valid_of, is_mapped}
 use Rattle.cc_model.specs.Bytes.{byte_of, content, answer, answer_length}
-use Rattle.cc_model.specs.Ranges.{cut_range, whole_range}
+use Rattle.cc_model.specs.Ranges.{cut_range}
+use Rattle.cc_entry.specs.Pages.{whole_range}
 use Rattle.cc_model.specs.Residency.{is_resident, all_resident}
 use Rattle.cc_model.specs.Replies.{Reads}
 use Rattle.cc_model.specs.Legal.{IsFailure}

@@ -7,7 +7,7 @@ use Rattle.cc_entry.specs.declared.error.CcError.{CcError}
 use Rattle.cc_entry.specs.declared.error.CcError.TheVariants as error
 use Rattle.cc_entry.specs.declared.entry.Entry.{Entry}
 use Rattle.cc_entry.specs.declared.entry.Entry.TheVariants as entry
-use Rattle.cc_model.specs.Faults.{faults_since, is_unread, Unread}
+use Rattle.cc_model.specs.Faults.{faults_since, is_failed_read, ReadFailed}
 use Rattle.cc_model.proofs.PassSteps.{faults_since-fault}
 use Rattle.cc_run.specs.Pieces.{IsFill, Filled, Went}
 use Rattle.cc_run.specs.Caches.{Keeps}
@@ -47,9 +47,9 @@ went-none from to (Err (error.ReadFault page)) past calm = absurd (calm page ref
 went-none from to (Err e) past calm = filled-none from to past
 
 -- after a failed fill, the caller has its fault
-pub faulted : (page : Page) (past new : List Entry) → new ≡ entry.FillFailed 1 page ∷ past → list_any (is_unread page.page) (faults_since new 1) ≡ true
+pub faulted : (page : Page) (past new : List Entry) → new ≡ entry.FillFailed 1 page ∷ past → list_any (is_failed_read page.page) (faults_since new 1) ≡ true
 faulted page past new is =
-    let step = faults_since-fault (entry.FillFailed 1 page) past 1 (Unread page.page) refl refl in
+    let step = faults_since-fault (entry.FillFailed 1 page) past 1 (ReadFailed page.page) refl refl in
     let same = eq-eqb page.page page.page refl in
     rw (is, step, same) refl
 

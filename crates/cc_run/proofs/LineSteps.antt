@@ -15,7 +15,7 @@ use Rattle.cc_entry.specs.declared.entry.Entry.TheVariants as entry
 use Rattle.cc_script.specs.declared.script.ActionLine.{ActionLine}
 use Rattle.cc_model.specs.Acts.{file_of}
 use Rattle.cc_model.specs.History.{history}
-use Rattle.cc_model.specs.Places.{has_page}
+use Rattle.cc_entry.specs.Pages.{has_page}
 use Rattle.cc_model.specs.Ranges.{range_of}
 use Rattle.cc_model.specs.Touches.{size_of}
 use Rattle.cc_model.proofs.HistorySteps.{history-page_in}

@@ -11,7 +11,7 @@ use Rattle.cc_entry.specs.declared.entry.Entry.{Entry}
 use Rattle.cc_entry.specs.declared.entry.Entry.TheVariants as entry
 use Rattle.cc_model.specs.Acts.{act_of, Looks}
 use Rattle.cc_model.specs.History.{Effect, Did, CameIn, history}
-use Rattle.cc_model.specs.Places.{has_page}
+use Rattle.cc_entry.specs.Pages.{has_page}
 use Rattle.cc_model.specs.Objects.{objects, had_map}
 use Rattle.cc_model.specs.Touches.{touches, touched, sizes, size_of, is_dirty}
 use Rattle.cc_model.specs.Stamps.{oldest_of, newest_of}

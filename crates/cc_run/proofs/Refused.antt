@@ -9,10 +9,11 @@ use Rattle.cc_entry.specs.declared.error.CcError.TheVariants as error
 use Rattle.cc_entry.specs.declared.entry.Entry.{Entry}
 use Rattle.cc_traits.specs.Disk.{Disk}
 use Rattle.cc_model.specs.Setup.{Setup}
-use Rattle.cc_model.specs.Places.{blocks_of}
+use Rattle.cc_entry.specs.Pages.{blocks_of}
 use Rattle.cc_model.specs.History.{history}
 use Rattle.cc_model.specs.Touches.{size_of, valid_of}
-use Rattle.cc_model.specs.Ranges.{cut_range, whole_range}
+use Rattle.cc_model.specs.Ranges.{cut_range}
+use Rattle.cc_entry.specs.Pages.{whole_range}
 use Rattle.cc_model.specs.Refusals.{refusal}
 use Rattle.cc_run.specs.Stands.{Stands, first_object}
 use Rattle.cc_run.proofs.Lists.{distinct_count-below, is_member-range}

@@ -5,7 +5,7 @@ use Rattle.std.proofs.lemmas.List.{map-append}
 use Rattle.std.proofs.lemmas.List.Elements.{filter-append}
 use Rattle.cc_entry.specs.declared.entry.Entry.{Entry}
 use Rattle.cc_print.specs.declared.table.TableRow.{TableRow}
-use Rattle.cc_model.specs.Places.{is_empty, is_among, ascending}
+use Rattle.cc_model.specs.Numbers.{is_empty, is_among, ascending}
 use Rattle.cc_model.specs.History.{Effect, history}
 use Rattle.cc_model.specs.Touches.{touched, unwritten, is_dirty, dirty_pages}
 use Rattle.cc_model.proofs.DirtyFacts.{touched-left}

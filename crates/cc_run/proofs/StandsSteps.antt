@@ -9,7 +9,8 @@ use Rattle.cc_entry.specs.declared.entry.Entry.TheVariants as entry
 use Rattle.cc_traits.specs.Disk.{Disk, page_of}
 use Rattle.cc_traits.specs.Told.{IfTold}
 use Rattle.cc_model.specs.Setup.{Setup}
-use Rattle.cc_model.specs.Places.{is_among, without, block_of}
+use Rattle.cc_entry.specs.Pages.{block_of}
+use Rattle.cc_model.specs.Numbers.{is_among, without}
 use Rattle.cc_model.specs.History.{Effect, CameIn, history}
 use Rattle.cc_model.specs.Touches.{size_of, valid_of, is_mapped}
 use Rattle.cc_model.specs.Bytes.{byte_of, content}

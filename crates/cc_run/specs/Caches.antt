@@ -9,7 +9,7 @@ use Rattle.cc_entry.specs.declared.reply.Outcome.TheVariants as outcome
 use Rattle.cc_entry.specs.declared.entry.Entry.TheVariants as entry
 use Rattle.cc_traits.specs.Disk.{Disk}
 use Rattle.cc_model.specs.Setup.{Setup}
-use Rattle.cc_model.specs.Faults.{faults_since, is_unread}
+use Rattle.cc_model.specs.Faults.{faults_since, is_failed_read}
 use Rattle.cc_run.specs.Past.{Past}
 use Rattle.cc_run.specs.Stands.{Stands, flag_at, first_object}
 use Rattle.cc_run.specs.Plain.{IsPlain}
@@ -34,7 +34,7 @@ pub record Keeps (old new : Cache) : Type 0 where
 
 -- the disk failed to read the page in this call, and there is room for the call's entry
 abbrev pub FaultedAt : ℕ → Past → Type 0
-FaultedAt page j = (list_any (is_unread page) (faults_since j.entries 1) ≡ true) × (0 < j.room)
+FaultedAt page j = (list_any (is_failed_read page) (faults_since j.entries 1) ≡ true) × (0 < j.room)
 
 -- why pages could not be brought in
 abbrev pub FillStopped : Past → CcError → Type 0

@@ -161,7 +161,7 @@ impl Cache {
     ghost use Rattle.cc_traits.specs.Stop.{faults_in};
     ghost use Rattle.cc_traits.specs.Disk.{Disk};
     ghost use Rattle.cc_model.specs.Setup.{Setup};
-    ghost use Rattle.cc_model.specs.Places.{has_page};
+    ghost use Rattle.cc_entry.specs.Pages.{has_page};
     ghost use Rattle.cc_run.specs.Stands.{flag_at, opening_of, AllFlagged, IsPiece};
     ghost use Rattle.cc_pieces.specs.Table.{table_of};
     ghost use Rattle.cc_pieces.specs.Failures.{failures};

@@ -1,10 +1,10 @@
--- What a device needs to show that its disk was written, torn or settled: from the contents that it
+-- What a device needs to show that its disk was written, failed_write or settled: from the contents that it
 -- lists, and for a device that puts each content behind the others.
 use Rattle.std.proofs.Common.{◌≡◌, ℕ, ◌==◌, Bool, true, false, if◌then◌else◌, List, [], ◌∷◌, ◌++◌, Contains, refl, ◌∙◌, ap, subst, eq-eqb}
 use Rattle.std.proofs.lemmas.Bool.{eqb-true}
 use Rattle.std.proofs.lemmas.List.{append-nil}
 use Rattle.std.proofs.lemmas.List.Elements.{Contains-append_left}
-use Rattle.cc_traits.specs.Disk.{Disk, blank_page, last_content, contents, or_alone, page_of, may_of, Wrote, Tore, Settled}
+use Rattle.cc_traits.specs.Disk.{Disk, blank_page, last_content, contents, or_alone, page_of, may_of, Wrote, WriteFailed, Settled}
 
 -- a choice at a test that is known
 if_true : {A : Type 0} (b : Bool) (x y : A) → b ≡ true → (if b then x else y) ≡ x
@@ -76,9 +76,9 @@ Wrote-by_contents page bytes old new held own rest =
       may = λ p. may_of-more page bytes old new others own rest p (page == p) refl;
     }
 
--- a disk that holds what it held was torn where it lists the bytes behind what a crash could leave
-pub Tore-by_contents : (page : ℕ) (bytes : List ℕ) (old new : Disk) → ((p : ℕ) → page_of new p ≡ page_of old p) → contents new.may page ≡ may_of old page ++ bytes ∷ [] → ((p : ℕ) → (page == p) ≡ false → contents new.may p ≡ contents old.may p) → Tore page bytes old new
-Tore-by_contents page bytes old new held own rest =
+-- a disk that holds what it held was failed_write where it lists the bytes behind what a crash could leave
+pub WriteFailed-by_contents : (page : ℕ) (bytes : List ℕ) (old new : Disk) → ((p : ℕ) → page_of new p ≡ page_of old p) → contents new.may page ≡ may_of old page ++ bytes ∷ [] → ((p : ℕ) → (page == p) ≡ false → contents new.may p ≡ contents old.may p) → WriteFailed page bytes old new
+WriteFailed-by_contents page bytes old new held own rest =
     let more : (p : ℕ) → may_of new p ≡ (if page == p then may_of old p ++ bytes ∷ [] else may_of old p) = λ p. may_of-more page bytes old new (λ q _. held q) own rest p (page == p) refl in
     record {
       others = λ p _. held p;
@@ -116,8 +116,8 @@ pushed disk page bytes = record {
   may = with_content disk page bytes;
 }
 
-abbrev pub torn : Disk → ℕ → List ℕ → Disk
-torn disk page bytes = record {
+abbrev pub failed_write : Disk → ℕ → List ℕ → Disk
+failed_write disk page bytes = record {
   fill = disk.fill;
   holds = disk.holds;
   may = with_content disk page bytes;
@@ -161,9 +161,9 @@ pub Wrote-pushed : (disk : Disk) (page : ℕ) (bytes : List ℕ) → Wrote page 
 Wrote-pushed disk page bytes =
     Wrote-by_contents page bytes disk (pushed disk page bytes) (page_of-pushed disk page bytes) (with_content-own disk page bytes) (with_content-others disk page bytes)
 
-pub Tore-torn : (disk : Disk) (page : ℕ) (bytes : List ℕ) → Tore page bytes disk (torn disk page bytes)
-Tore-torn disk page bytes =
-    Tore-by_contents page bytes disk (torn disk page bytes) (λ p. page_of-holds disk (torn disk page bytes) p refl refl) (with_content-own disk page bytes) (with_content-others disk page bytes)
+pub WriteFailed-failed_write : (disk : Disk) (page : ℕ) (bytes : List ℕ) → WriteFailed page bytes disk (failed_write disk page bytes)
+WriteFailed-failed_write disk page bytes =
+    WriteFailed-by_contents page bytes disk (failed_write disk page bytes) (λ p. page_of-holds disk (failed_write disk page bytes) p refl refl) (with_content-own disk page bytes) (with_content-others disk page bytes)
 
 pub Settled-settled : (disk : Disk) → Settled disk (settled disk)
 unfolding contents

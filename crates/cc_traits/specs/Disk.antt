@@ -49,7 +49,7 @@ pub record Wrote (page : ℕ) (bytes : List ℕ) (old new : Disk) : Type 0 where
 
 -- a write of a page failed: other pages hold what they held, a crash can leave the bytes too, and the
 -- page holds one of the contents that a crash can leave, if it did before
-pub record Tore (page : ℕ) (bytes : List ℕ) (old new : Disk) : Type 0 where
+pub record WriteFailed (page : ℕ) (bytes : List ℕ) (old new : Disk) : Type 0 where
   pub others : (p : ℕ) → (page == p) ≡ false → page_of new p ≡ page_of old p
   pub may : (p : ℕ) → may_of new p ≡ (if page == p then may_of old p ++ bytes ∷ [] else may_of old p)
   pub among : Contains (may_of old page) (page_of old page) → Contains (may_of new page) (page_of new page)

@@ -24,8 +24,13 @@ OnNoMemory (Ok _) P = Unit {0}
 OnNoMemory (Err Failed) P = Unit {0}
 OnNoMemory (Err NoMemory) P = P
 
--- by how much a call that puts a piece out raises its sink's count of stalls: by one exactly where the
--- piece is not empty and nothing of it was taken
+-- by how much a call that puts bytes out raises its sink's count of stalls: by one exactly where there
+-- are bytes and none of them was taken
 abbrev pub stalls_in : List ℕ → Result ℕ Stop → ℕ
-stalls_in (byte ∷ piece) (Ok zero) = 1
-stalls_in piece taken = 0
+stalls_in (byte ∷ bytes) (Ok zero) = 1
+stalls_in bytes taken = 0
+
+-- how many bytes a call on a source took from it
+abbrev pub taken_in : Result ℕ Stop → ℕ
+taken_in (Ok n) = n
+taken_in (Err stop) = 0

@@ -14,10 +14,10 @@ abbrev pub IfTold : {A : Type 0} → Option A → (A → Type 0) → Type 0
 IfTold None P = Unit {0}
 IfTold (Some a) P = P a
 
--- a piece went out of the front of the bytes that a source has left
+-- bytes went out of the front of those that a source has left
 abbrev pub Gave : List ℕ → List ℕ → List ℕ → Type 0
-Gave piece old new = old ≡ piece ++ new
+Gave bytes old new = old ≡ bytes ++ new
 
--- a piece was put behind the bytes that a sink has taken
+-- bytes were put behind those that a sink has taken
 abbrev pub Took : List ℕ → List ℕ → List ℕ → Type 0
-Took piece old new = new ≡ old ++ piece
+Took bytes old new = new ≡ old ++ bytes

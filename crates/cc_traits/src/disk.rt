@@ -1,7 +1,7 @@
 ghost use Rattle.std.specs.Prelude.{◌≡◌, ℕ, ◌+◌, Option, OnOk, OnErr};
 ghost use Rattle.cc_traits.specs.Stop.{faults_in, OnFailed, OnNoMemory};
 ghost use Rattle.cc_traits.specs.Told.{Both, IfTold};
-ghost use Rattle.cc_traits.specs.Disk.{Disk, Found, Wrote, Tore, Settled};
+ghost use Rattle.cc_traits.specs.Disk.{Disk, Found, Wrote, WriteFailed, Settled};
 
 use crate::Stop;
 
@@ -28,7 +28,7 @@ pub trait PageDisk: Told + Send {
         ensures wrote { OnOk result
             (Both (Self.told self.old) (Self.told self.new) (Wrote page bytes.now)) }
         ensures tore { OnFailed result
-            (Both (Self.told self.old) (Self.told self.new) (Tore page bytes.now)) }
+            (Both (Self.told self.old) (Self.told self.new) (WriteFailed page bytes.now)) }
         ensures no_memory { OnNoMemory result (Self.told self.new ≡ Self.told self.old) }
         ensures counted { Self.faults self.new ≡ Self.faults self.old + faults_in result };
 

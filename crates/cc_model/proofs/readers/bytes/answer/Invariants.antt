@@ -1,9 +1,0 @@
-use Rattle.std.proofs.Common.{◌≡◌, ◌-◌, min, map}
-use Rattle.std.specs.List.{range_with_len}
-use Rattle.cc_model.specs.Bytes.{byte_of}
-use Rattle.cc_model.specs.Changes.{filled}
-use Rattle.cc_model.specs.Events.{effects}
-use Rattle.cc_model.proofs.readers.bytes.answer.Given as goal
-
-abbrev pub invariant-loop-i : goal.invariant-loop-i
-invariant-loop-i l = l.bytes.items ≡ map (byte_of (filled l.fill) (effects l.journal l.stream)) (range_with_len l.at (min l.i l.end - l.at))

@@ -1,9 +1,0 @@
--- Whether an event makes a map.
-use Rattle.std.specs.Prelude.{Bool, true, false}
-use Rattle.cc_model.specs.declared.readers.events.Event.{Event}
-use Rattle.cc_model.specs.declared.readers.events.Event.TheVariants as event
-
--- whether an event makes a private cache map
-abbrev pub is_opening : Event → Bool
-is_opening (event.Opens object size valid) = true
-is_opening other = false

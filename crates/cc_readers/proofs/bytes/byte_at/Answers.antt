@@ -1,0 +1,18 @@
+use Rattle.std.proofs.Common.{arith, sym, ◌∙◌}
+use Rattle.std.proofs.lemmas.Bool.{lt-ltb, le-ltb}
+use Rattle.cc_readers.specs.Changes.{filled}
+use Rattle.cc_readers.specs.Events.{effects}
+use Rattle.cc_model.specs.Touches.{valid_of}
+use Rattle.cc_model.proofs.ByteSteps.{byte_of-below, byte_of-above}
+use Rattle.cc_model.proofs.readers.bytes.byte_at.Goals as goal
+
+pub returns-then-from-valid : goal.returns-then-from-valid
+returns-then-from-valid c =
+    c.content_at.ensures
+    ∙ sym (byte_of-below (filled c.args.fill) (effects c.args.journal.now c.args.stream) c.args.at
+    (lt-ltb c.args.at (valid_of (effects c.args.journal.now c.args.stream)) (omega (arith, c.requires.valid, c.from.ensures, c.if-from-valid.true))))
+
+pub returns-else-from-valid : goal.returns-else-from-valid
+returns-else-from-valid c =
+    sym (byte_of-above (filled c.args.fill) (effects c.args.journal.now c.args.stream) c.args.at
+    (le-ltb c.args.at (valid_of (effects c.args.journal.now c.args.stream)) (omega (arith, c.requires.valid, c.from.ensures, c.if-from-valid.false))))

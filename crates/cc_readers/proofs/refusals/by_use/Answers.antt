@@ -1,0 +1,22 @@
+use Rattle.std.proofs.Common.{List, map, refl, ap, ◌∙◌}
+use Rattle.cc_readers.specs.declared.holds.OpenHold.{OpenHold}
+use Rattle.cc_model.specs.Holds.{Hold}
+use Rattle.cc_model.specs.Conflicts.{busy}
+use Rattle.cc_model.specs.Refusals.{first_of}
+use Rattle.cc_readers.specs.HoldReads.{hold_of}
+use Rattle.cc_readers.proofs.RefusalReads.{same_reasons}
+use Rattle.cc_model.proofs.readers.refusals.by_use.Goals as goal
+
+pub returns : goal.returns
+returns c =
+    let by_pins =
+    c.in_ok-by_pins.ensures
+    ∙ (ap (λ (hs : List OpenHold). busy (map hold_of hs) c.args.call.now) c.deref.ensures.value
+    ∙ ap (λ (hs : List Hold). busy hs c.args.call.now) c.in_ok-holds.ensures) in
+    c.first_in.ensures
+    ∙ ap first_of
+    (same_reasons c.in_ok-by_holds.ensures
+    (same_reasons by_pins
+    (same_reasons c.in_ok-by_views.ensures
+    (same_reasons c.in_ok-by_pool.ensures
+    (same_reasons c.in_ok-by_residents.ensures refl)))))

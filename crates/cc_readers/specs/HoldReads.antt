@@ -1,0 +1,81 @@
+-- Open holds as the readers keep them.
+use Rattle.std.specs.Prelude.{ℕ, ◌+◌, ◌==◌, Bool, true, false, not, List, [], ◌∷◌, length, map}
+use Rattle.std.specs.declared.option.Option.{Option}
+use Rattle.std.specs.declared.option.Option.TheVariants.{Some, None}
+use Rattle.std.specs.List.{filter}
+use Rattle.cc_entry.specs.Place.{File, Range}
+use Rattle.cc_entry.specs.declared.call.Call.{Call}
+use Rattle.cc_entry.specs.declared.call.Call.TheVariants as call
+use Rattle.cc_entry.specs.declared.hold.HoldKind.TheVariants as kind
+use Rattle.cc_readers.specs.declared.holds.Reach.{Reach}
+use Rattle.cc_readers.specs.declared.holds.OpenHold.{OpenHold}
+use Rattle.cc_readers.specs.declared.holds.Change.{Change}
+use Rattle.cc_readers.specs.declared.holds.Change.TheVariants as change
+use Rattle.cc_model.specs.History.{Effect, Did}
+use Rattle.cc_model.specs.Holds.{Hold, hold_at, changed_at, made, repinned, held_after, id_of}
+
+-- the range of a reader's
+abbrev pub range_of_reach : Reach → Range
+range_of_reach reach = record { from = reach.from; to = reach.to }
+
+-- the hold that a reader's stands for
+abbrev pub hold_of : OpenHold → Hold
+hold_of it = record {
+  id = it.id;
+  pass = it.pass;
+  file = it.file;
+  at = it.at;
+  len = it.len;
+  kind = it.kind;
+  exclusive = it.exclusive;
+  owed = map range_of_reach it.owed.items;
+}
+
+-- the holds that one stands for, where there is one
+abbrev pub kept_hold : Option OpenHold → List Hold
+kept_hold None = []
+kept_hold (Some it) = hold_of it ∷ []
+
+-- the file object, the place and the length of a hold
+abbrev pub spot_of : Hold → File × ℕ × ℕ
+spot_of hold = (hold.file, hold.at, hold.len)
+
+-- the same holds with those of this id changed
+abbrev pub changed_by : Change → ℕ → List Hold → List Hold
+changed_by (change.Pins exclusive) id holds = changed_at id (λ it. record it { kind = kind.Pin; exclusive = exclusive }) holds
+changed_by (change.Owes from to) id holds = changed_at id (λ it. record it { owed = record { from = from; to = to } ∷ it.owed }) holds
+changed_by change.Stamps id holds = changed_at id (λ it. record it { owed = [] }) holds
+changed_by change.Ends id holds = filter (λ it. not (it.id == id)) holds
+
+-- what a prepare owes a stamp for: its range, where it zeroes it
+abbrev pub zeroed : Bool → ℕ → ℕ → List Range
+zeroed true at len = record { from = at; to = at + len } ∷ []
+zeroed false at len = []
+
+-- the pin that a done call of the pass makes, whose reply has this id, where it makes one
+abbrev pub pin_by : ℕ → Call → ℕ → List Hold
+pin_by pass (call.PinRead file at len exclusive) id = made id pass file at len kind.Pin exclusive [] []
+pin_by pass (call.PreparePin file at len zero exclusive) id =
+    made id pass file at len kind.Pin exclusive (zeroed zero at len) []
+pin_by pass other id = []
+
+-- the hold that it makes of a range that it names
+abbrev pub made_by : ℕ → Call → ℕ → List Hold
+made_by pass (call.Map file at len) id = made id pass file at len kind.Map false [] []
+made_by pass (call.MdlRead file at len) id = made id pass file at len kind.ReadChain false [] []
+made_by pass (call.MdlWrite file at len) id = made id pass file at len kind.WriteChain false [] []
+made_by pass other id = pin_by pass other id
+
+-- the other holds after it: those before it, as it changed them, and a repin of one
+abbrev pub changed_after : ℕ → Call → ℕ → List Hold → List Hold
+changed_after pass (call.PinMapped hold exclusive) id holds = changed_by (change.Pins exclusive) hold holds
+changed_after pass (call.PinnedWrite hold at bytes) id holds = changed_by (change.Owes at (at + length bytes)) hold holds
+changed_after pass (call.SetDirty hold lsn) id holds = changed_by change.Stamps hold holds
+changed_after pass (call.EndHold hold) id holds = changed_by change.Ends hold holds
+changed_after pass (call.Repin hold) id holds = repinned id pass (hold_at holds hold) holds
+changed_after pass other id holds = holds
+
+-- the open holds after an effect, where there is one
+abbrev pub held_by_effect : Option Effect → List Hold → List Hold
+held_by_effect (Some (Did pass call reply)) holds = held_after pass call (id_of reply) holds
+held_by_effect other holds = holds

@@ -1,0 +1,291 @@
+//! What an entry does to the pages and sizes of a stream, without the bytes.
+
+ghost use Rattle.std.specs.Prelude.{◌≡◌, ◌+◌};
+ghost use Rattle.cc_model.specs.Acts.{act_of};
+ghost use Rattle.cc_model.specs.History.{effect_of};
+ghost use Rattle.cc_readers.specs.Events.{event_of_act, event_of, holding_of_call, holding_of};
+ghost use Rattle.cc_model.specs.Holds.{id_of};
+ghost use Rattle.cc_model.specs.Sizes.{ended_ok};
+
+use cc_entry::{Call, End, Entry, Lsn, Outcome, Reply, StreamId};
+
+/// What an effect on a stream does to its sizes and its dirty and resident pages.
+#[derive(Clone, Copy, Debug, PartialEq, Eq)]
+pub enum Event {
+    /// Nothing.
+    Rests,
+    /// A private cache map is made, and the shared one with these sizes where there is none.
+    Opens { object: u8, size: u64, valid: u64 },
+    /// A private cache map goes.
+    Closes { object: u8, truncate: Option<u64> },
+    /// The size is set.
+    Resizes { size: u64 },
+    /// The bytes from `from` up to, and without, `to` change.
+    Changes { from: u128, to: u128 },
+    /// A noncached page comes into the cache.
+    Stores { page: u64 },
+    /// The pages of a pin are made dirty.
+    Stamps { hold: u64, lsn: Option<Lsn> },
+    /// A page becomes resident.
+    CameIn { page: u64 },
+    /// A page stops being resident.
+    WentOut { page: u64 },
+    /// A page's transfer to the disk begins.
+    Began { page: u64 },
+    /// That transfer ended, well or not.
+    Ended { page: u64, good: bool },
+}
+
+/// What a call does once it is done.
+pub fn act(call: &Call) -> Event
+    ensures { result ≡ event_of_act (act_of call.now) }
+{
+    match call {
+        Call::Initialise { file, sizes, .. } => Event::Opens {
+            object: file.object(),
+            size: sizes.size,
+            valid: sizes.valid,
+        },
+        Call::Uninitialise { file, truncate } => Event::Closes {
+            object: file.object(),
+            truncate: *truncate,
+        },
+        Call::CopyWrite { at, bytes, .. } => changes(*at, bytes.len()),
+        Call::Zero { span, .. } => Event::Changes {
+            from: u128::from(span.from()),
+            to: u128::from(span.to()),
+        },
+        Call::PreparePin {
+            at,
+            len,
+            zero: true,
+            ..
+        } => changes(*at, *len),
+        Call::PinnedWrite { at, bytes, .. } => changes(*at, bytes.len()),
+        Call::SetDirty { hold, lsn } => Event::Stamps {
+            hold: *hold,
+            lsn: *lsn,
+        },
+        Call::MdlStore { at, bytes, .. } => changes(*at, bytes.len()),
+        Call::NcStore { page, .. } => Event::Stores { page: *page },
+        Call::SetSizes { size, .. } => Event::Resizes { size: *size },
+        Call::CopyRead { .. }
+        | Call::Map { .. }
+        | Call::PinRead { .. }
+        | Call::PinMapped { .. }
+        | Call::PreparePin { zero: false, .. }
+        | Call::MappedRead { .. }
+        | Call::PinnedRead { .. }
+        | Call::EndHold { .. }
+        | Call::Repin { .. }
+        | Call::MdlRead { .. }
+        | Call::MdlWrite { .. }
+        | Call::MdlBytes { .. }
+        | Call::NcRead { .. }
+        | Call::NcWrite { .. }
+        | Call::State { .. }
+        | Call::Flush { .. }
+        | Call::Purge { .. }
+        | Call::SetLog { .. }
+        | Call::DirtyPages { .. }
+        | Call::LsnForFile { .. }
+        | Call::IsDirtyData
+        | Call::SetGranularity { .. }
+        | Call::SetAttributes { .. }
+        | Call::SetThreshold { .. }
+        | Call::AskAhead { .. }
+        | Call::AheadStep { .. }
+        | Call::CanWrite { .. } => Event::Rests,
+    }
+}
+
+// A change of `len` bytes from `at` on.
+fn changes(at: u64, len: u64) -> Event
+    ensures { result ≡ Event.Changes at (at + len) }
+{
+    Event::Changes {
+        from: u128::from(at),
+        to: u128::from(at) + u128::from(len),
+    }
+}
+
+/// What an entry does to a stream.
+pub fn event_on(entry: &Entry, stream: StreamId) -> Event
+    ensures { result ≡ event_of (effect_of entry.now stream) }
+{
+    match entry {
+        Entry::Call {
+            stream: Some(of),
+            call,
+            outcome: Outcome::Done(_),
+            ..
+        } => {
+            if of.number() == stream.number() {
+                act(call)
+            } else {
+                Event::Rests
+            }
+        }
+        Entry::PageIn { page, .. } => {
+            if page.stream().number() == stream.number() {
+                Event::CameIn { page: page.page() }
+            } else {
+                Event::Rests
+            }
+        }
+        Entry::PageOut { page, .. } => {
+            if page.stream().number() == stream.number() {
+                Event::WentOut { page: page.page() }
+            } else {
+                Event::Rests
+            }
+        }
+        Entry::WriteBegin { page, .. } => {
+            if page.stream().number() == stream.number() {
+                Event::Began { page: page.page() }
+            } else {
+                Event::Rests
+            }
+        }
+        Entry::WriteEnd { page, how, .. } => {
+            if page.stream().number() == stream.number() {
+                Event::Ended {
+                    page: page.page(),
+                    good: ended_well(*how),
+                }
+            } else {
+                Event::Rests
+            }
+        }
+        Entry::Call { .. }
+        | Entry::FillFailed { .. }
+        | Entry::Sync { .. }
+        | Entry::Append { .. }
+        | Entry::Flushed { .. }
+        | Entry::LogFailed { .. }
+        | Entry::Defer { .. }
+        | Entry::Posted { .. }
+        | Entry::Scan { .. } => Event::Rests,
+    }
+}
+
+// Whether a transfer ended well.
+fn ended_well(how: End) -> bool
+    ensures { result ≡ ended_ok how }
+{
+    match how {
+        End::Good => true,
+        End::Failed | End::NoMemory => false,
+    }
+}
+
+/// What an effect on a stream does to the places of its open holds.
+#[derive(Clone, Copy, Debug, PartialEq, Eq)]
+pub enum Holding {
+    /// Nothing.
+    Rests,
+    /// A hold of this place is made.
+    Makes { id: u64, at: u64, len: u64 },
+    /// A hold of another one's place is made.
+    Repins { id: u64, of: u64 },
+    /// A hold ends.
+    Ends { id: u64 },
+}
+
+/// The id in a reply, 0 where it has none.
+pub fn id_in(reply: &Reply) -> u64
+    ensures { result ≡ id_of reply.now }
+{
+    match reply {
+        Reply::Hold(id) => *id,
+        Reply::Unit
+        | Reply::Read(_)
+        | Reply::Flag(_)
+        | Reply::Rows(_)
+        | Reply::Lsns(_)
+        | Reply::State(_)
+        | Reply::Ahead(_)
+        | Reply::Whole(_) => 0,
+    }
+}
+
+// What a done call whose reply has this id does to the places of open holds.
+fn holding_by(call: &Call, id: u64) -> Holding
+    ensures { result ≡ holding_of_call call.now id }
+{
+    match call {
+        Call::Map { at, len, .. }
+        | Call::PinRead { at, len, .. }
+        | Call::PreparePin { at, len, .. }
+        | Call::MdlRead { at, len, .. }
+        | Call::MdlWrite { at, len, .. } => Holding::Makes {
+            id,
+            at: *at,
+            len: *len,
+        },
+        Call::Repin { hold } => Holding::Repins { id, of: *hold },
+        Call::EndHold { hold } => Holding::Ends { id: *hold },
+        Call::Initialise { .. }
+        | Call::Uninitialise { .. }
+        | Call::CopyRead { .. }
+        | Call::CopyWrite { .. }
+        | Call::Zero { .. }
+        | Call::PinMapped { .. }
+        | Call::MappedRead { .. }
+        | Call::PinnedRead { .. }
+        | Call::PinnedWrite { .. }
+        | Call::SetDirty { .. }
+        | Call::MdlBytes { .. }
+        | Call::MdlStore { .. }
+        | Call::NcRead { .. }
+        | Call::NcStore { .. }
+        | Call::NcWrite { .. }
+        | Call::SetSizes { .. }
+        | Call::State { .. }
+        | Call::Flush { .. }
+        | Call::Purge { .. }
+        | Call::SetLog { .. }
+        | Call::DirtyPages { .. }
+        | Call::LsnForFile { .. }
+        | Call::IsDirtyData
+        | Call::SetGranularity { .. }
+        | Call::SetAttributes { .. }
+        | Call::SetThreshold { .. }
+        | Call::AskAhead { .. }
+        | Call::AheadStep { .. }
+        | Call::CanWrite { .. } => Holding::Rests,
+    }
+}
+
+/// What an entry does to the places of a stream's open holds.
+pub fn holding_on(entry: &Entry, stream: StreamId) -> Holding
+    ensures { result ≡ holding_of (effect_of entry.now stream) }
+{
+    match entry {
+        Entry::Call {
+            stream: Some(of),
+            call,
+            outcome: Outcome::Done(reply),
+            ..
+        } => {
+            if of.number() == stream.number() {
+                holding_by(call, id_in(reply))
+            } else {
+                Holding::Rests
+            }
+        }
+        Entry::Call { .. }
+        | Entry::PageIn { .. }
+        | Entry::PageOut { .. }
+        | Entry::FillFailed { .. }
+        | Entry::WriteBegin { .. }
+        | Entry::WriteEnd { .. }
+        | Entry::Sync { .. }
+        | Entry::Append { .. }
+        | Entry::Flushed { .. }
+        | Entry::LogFailed { .. }
+        | Entry::Defer { .. }
+        | Entry::Posted { .. }
+        | Entry::Scan { .. } => Holding::Rests,
+    }
+}

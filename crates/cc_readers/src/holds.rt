@@ -1,0 +1,311 @@
+//! The open holds of a stream.
+
+ghost use Rattle.std.specs.Prelude.{◌≡◌, ◌∷◌, [], map, IfOk};
+ghost use Rattle.std.specs.Option.{option_map};
+ghost use Rattle.cc_model.specs.History.{effect_of};
+ghost use Rattle.cc_model.specs.Holds.{holds_of, held_after, hold_at, repinned};
+ghost use Rattle.cc_readers.specs.Events.{effects};
+ghost use Rattle.cc_readers.specs.HoldReads.{hold_of, spot_of, kept_hold, pin_by, made_by, changed_by, changed_after, held_by_effect};
+
+use crate::events::id_in;
+use cc_entry::{Call, Entry, FileId, HoldKind, NoMemory, Outcome, StreamId};
+use std::alloc::Global;
+
+/// The bytes from `from` up to, and without, `to`.
+#[derive(Clone, Copy, Debug, PartialEq, Eq)]
+pub struct Reach {
+    pub from: u128,
+    pub to: u128,
+}
+
+/// An open hold, with the ranges for which it owes a stamp.
+#[derive(Drop)]
+pub struct OpenHold {
+    pub id: u64,
+    pub pass: u32,
+    pub file: FileId,
+    pub at: u64,
+    pub len: u64,
+    pub kind: HoldKind,
+    pub exclusive: bool,
+    pub owed: Vec<Reach>,
+}
+
+/// What a call does to the open hold that it names.
+#[derive(Clone, Copy, Debug, PartialEq, Eq)]
+pub enum Change {
+    /// It becomes a pin.
+    Pins { exclusive: bool },
+    /// It owes a stamp for a range.
+    Owes { from: u128, to: u128 },
+    /// It owes none.
+    Stamps,
+    /// It ends.
+    Ends,
+}
+
+/// The open holds of a stream, the newest first.
+pub fn open_holds(
+    alloc: Global,
+    journal: &[Entry],
+    stream: StreamId,
+) -> Result<Vec<OpenHold>, NoMemory>
+    ensures { IfOk result (λ found. map hold_of found.items ≡ holds_of (effects journal.now stream)) }
+{
+    let Some((last, rest)) = journal.split_last() else {
+        return Ok(Vec::new(alloc));
+    };
+    let before = open_holds(alloc, rest, stream)?;
+    holds_then(alloc, before, last, stream)
+}
+
+// The open holds after an entry.
+fn holds_then(
+    alloc: Global,
+    before: Vec<OpenHold>,
+    last: &Entry,
+    stream: StreamId,
+) -> Result<Vec<OpenHold>, NoMemory>
+    ensures { IfOk result (λ then. map hold_of then.items ≡ held_by_effect (effect_of last.now stream) (map hold_of before.items)) }
+{
+    match last {
+        Entry::Call {
+            pass,
+            stream: Some(of),
+            call,
+            outcome: Outcome::Done(reply),
+            ..
+        } => {
+            if of.number() == stream.number() {
+                holds_after(alloc, before, *pass, call, id_in(reply))
+            } else {
+                Ok(before)
+            }
+        }
+        Entry::Call { .. }
+        | Entry::PageIn { .. }
+        | Entry::PageOut { .. }
+        | Entry::FillFailed { .. }
+        | Entry::WriteBegin { .. }
+        | Entry::WriteEnd { .. }
+        | Entry::Sync { .. }
+        | Entry::Append { .. }
+        | Entry::Flushed { .. }
+        | Entry::LogFailed { .. }
+        | Entry::Defer { .. }
+        | Entry::Posted { .. }
+        | Entry::Scan { .. } => Ok(before),
+    }
+}
+
+// A hold that owes no stamp, given its range and its kind.
+fn plain(
+    alloc: Global,
+    id: u64,
+    pass: u32,
+    place: (FileId, u64, u64),
+    kind: HoldKind,
+    exclusive: bool,
+) -> OpenHold
+    ensures { hold_of result ≡ record { id = id; pass = pass; file = place.0; at = place.1; len = place.2; kind = kind; exclusive = exclusive; owed = [] } }
+{
+    OpenHold {
+        id,
+        pass,
+        file: place.0,
+        at: place.1,
+        len: place.2,
+        kind,
+        exclusive,
+        owed: Vec::new(alloc),
+    }
+}
+
+// The holds with one more.
+fn with(mut holds: Vec<OpenHold>, hold: OpenHold) -> Result<Vec<OpenHold>, NoMemory>
+    ensures { IfOk result (λ then. map hold_of then.items ≡ hold_of hold ∷ map hold_of holds.items) }
+{
+    holds.insert(0, hold)?;
+    Ok(holds)
+}
+
+// The open holds after a done call of a pass, whose reply has this id.
+fn holds_after(
+    alloc: Global,
+    before: Vec<OpenHold>,
+    pass: u32,
+    call: &Call,
+    id: u64,
+) -> Result<Vec<OpenHold>, NoMemory>
+    ensures { IfOk result (λ then. map hold_of then.items ≡ held_after pass call.now id (map hold_of before.items)) }
+{
+    let then = holds_changed(alloc, before, pass, call, id)?;
+    match hold_made(alloc, pass, call, id)? {
+        Some(hold) => with(then, hold),
+        None => Ok(then),
+    }
+}
+
+// The hold that a call makes of a range that it names.
+fn hold_made(alloc: Global, pass: u32, call: &Call, id: u64) -> Result<Option<OpenHold>, NoMemory>
+    ensures { IfOk result (λ made. kept_hold made ≡ made_by pass call.now id) }
+{
+    match call {
+        Call::Map { file, at, len } => {
+            let place = (*file, *at, *len);
+            Ok(Some(plain(alloc, id, pass, place, HoldKind::Map, false)))
+        }
+        Call::MdlRead { file, at, len } => {
+            let place = (*file, *at, *len);
+            Ok(Some(plain(alloc, id, pass, place, HoldKind::ReadChain, false)))
+        }
+        Call::MdlWrite { file, at, len } => {
+            let place = (*file, *at, *len);
+            Ok(Some(plain(alloc, id, pass, place, HoldKind::WriteChain, false)))
+        }
+        Call::PinRead { .. } | Call::PreparePin { .. } => pin_made(alloc, pass, call, id),
+        _ => Ok(None),
+    }
+}
+
+// The pin that a call makes.
+fn pin_made(alloc: Global, pass: u32, call: &Call, id: u64) -> Result<Option<OpenHold>, NoMemory>
+    ensures { IfOk result (λ made. kept_hold made ≡ pin_by pass call.now id) }
+{
+    match call {
+        Call::PinRead {
+            file,
+            at,
+            len,
+            exclusive,
+        } => {
+            let place = (*file, *at, *len);
+            Ok(Some(plain(alloc, id, pass, place, HoldKind::Pin, *exclusive)))
+        }
+        Call::PreparePin {
+            file,
+            at,
+            len,
+            zero,
+            exclusive,
+        } => {
+            let place = (*file, *at, *len);
+            let mut made = plain(alloc, id, pass, place, HoldKind::Pin, *exclusive);
+            if *zero {
+                let from = u128::from(*at);
+                let to = from + u128::from(*len);
+                made.owed.push(Reach { from, to })?;
+            }
+            Ok(Some(made))
+        }
+        _ => Ok(None),
+    }
+}
+
+// The open holds with those changed that a call names, and with a repin of one.
+fn holds_changed(
+    alloc: Global,
+    before: Vec<OpenHold>,
+    pass: u32,
+    call: &Call,
+    id: u64,
+) -> Result<Vec<OpenHold>, NoMemory>
+    ensures { IfOk result (λ then. map hold_of then.items ≡ changed_after pass call.now id (map hold_of before.items)) }
+{
+    match call {
+        Call::PinMapped { hold, exclusive } => {
+            let exclusive = *exclusive;
+            changed(alloc, before, *hold, Change::Pins { exclusive })
+        }
+        Call::PinnedWrite { hold, at, bytes } => {
+            let from = u128::from(*at);
+            let to = from + u128::from(bytes.len());
+            changed(alloc, before, *hold, Change::Owes { from, to })
+        }
+        Call::SetDirty { hold, .. } => changed(alloc, before, *hold, Change::Stamps),
+        Call::EndHold { hold } => changed(alloc, before, *hold, Change::Ends),
+        Call::Repin { hold } => repin(alloc, before, id, pass, *hold),
+        _ => Ok(before),
+    }
+}
+
+// The open holds with one more of the range of another.
+fn repin(
+    alloc: Global,
+    before: Vec<OpenHold>,
+    id: u64,
+    pass: u32,
+    of: u64,
+) -> Result<Vec<OpenHold>, NoMemory>
+    ensures { IfOk result (λ then. map hold_of then.items ≡ repinned id pass (hold_at (map hold_of before.items) of) (map hold_of before.items)) }
+{
+    let Some(place) = place_at(&before, of) else {
+        return Ok(before);
+    };
+    with(
+        before,
+        plain(alloc, id, pass, place, HoldKind::Repin, false),
+    )
+}
+
+/// The file object, the place and the length of the first hold of this id.
+pub fn place_at(holds: &[OpenHold], id: u64) -> Option<(FileId, u64, u64)>
+    ensures { result ≡ option_map spot_of (hold_at (map hold_of holds.now) id) }
+{
+    let Some((first, rest)) = holds.split_first() else {
+        return None;
+    };
+    if first.id == id {
+        return Some((first.file, first.at, first.len));
+    }
+    place_at(rest, id)
+}
+
+// The holds with those of this id changed.
+fn changed(
+    alloc: Global,
+    mut holds: Vec<OpenHold>,
+    id: u64,
+    change: Change,
+) -> Result<Vec<OpenHold>, NoMemory>
+    ensures { IfOk result (λ then. map hold_of then.items ≡ changed_by change id (map hold_of holds.items)) }
+{
+    let Some(last) = holds.pop() else {
+        return Ok(holds);
+    };
+    let mut then = changed(alloc, holds, id, change)?;
+    if let Some(kept) = one_changed(alloc, last, id, change)? {
+        then.push(kept)?;
+    }
+    Ok(then)
+}
+
+// A hold, changed where it has this id.
+fn one_changed(
+    alloc: Global,
+    mut hold: OpenHold,
+    id: u64,
+    change: Change,
+) -> Result<Option<OpenHold>, NoMemory>
+    ensures { IfOk result (λ kept. kept_hold kept ≡ changed_by change id (hold_of hold ∷ [])) }
+{
+    if hold.id != id {
+        return Ok(Some(hold));
+    }
+    match change {
+        Change::Pins { exclusive } => {
+            hold.kind = HoldKind::Pin;
+            hold.exclusive = exclusive;
+            Ok(Some(hold))
+        }
+        Change::Owes { from, to } => {
+            hold.owed.insert(0, Reach { from, to })?;
+            Ok(Some(hold))
+        }
+        Change::Stamps => {
+            hold.owed = Vec::new(alloc);
+            Ok(Some(hold))
+        }
+        Change::Ends => Ok(None),
+    }
+}

@@ -1,0 +1,93 @@
+//! The file objects of a stream, and the places of its holds.
+
+ghost use Rattle.std.specs.Prelude.{◌≡◌, IfOk};
+ghost use Rattle.cc_model.specs.Numbers.{without};
+ghost use Rattle.cc_model.specs.Objects.{objects};
+ghost use Rattle.cc_model.specs.Holds.{holds_of};
+ghost use Rattle.cc_readers.specs.Events.{effects, objects_after, place_in};
+
+use crate::events::{Event, Holding, event_on, holding_on};
+use cc_entry::{Entry, NoMemory, StreamId};
+use std::alloc::Global;
+
+/// The file objects that have a private cache map, the newest first.
+pub fn open_objects(alloc: Global, journal: &[Entry], stream: StreamId) -> Result<Vec<u8>, NoMemory>
+    ensures { IfOk result (λ found. found.items ≡ objects (effects journal.now stream)) }
+{
+    let mut open = Vec::new(alloc);
+    for entry in journal {
+        open = objects_then(alloc, open, event_on(entry, stream))?;
+    }
+    Ok(open)
+}
+
+// The objects after an event.
+fn objects_then(alloc: Global, before: Vec<u8>, event: Event) -> Result<Vec<u8>, NoMemory>
+    ensures { IfOk result (λ then. then.items ≡ objects_after event before.items) }
+{
+    match event {
+        Event::Opens { object, .. } => {
+            let mut then = others(alloc, &before, object)?;
+            then.insert(0, object)?;
+            Ok(then)
+        }
+        Event::Closes { object, .. } => others(alloc, &before, object),
+        Event::Rests
+        | Event::Resizes { .. }
+        | Event::Changes { .. }
+        | Event::Stores { .. }
+        | Event::Stamps { .. }
+        | Event::CameIn { .. }
+        | Event::WentOut { .. }
+        | Event::Began { .. }
+        | Event::Ended { .. } => Ok(before),
+    }
+}
+
+/// The objects but for one.
+pub fn others(alloc: Global, opened: &[u8], object: u8) -> Result<Vec<u8>, NoMemory>
+    ensures { IfOk result (λ others. others.items ≡ without object opened.now) }
+{
+    let kept = opened
+        .iter()
+        .copied()
+        .filter(|other| *other != object)
+        .collect(alloc)?;
+    Ok(kept)
+}
+
+/// The place and the length of an open hold.
+pub fn hold_place(journal: &[Entry], stream: StreamId, hold: u64) -> Option<(u64, u64)>
+    ensures { result ≡ place_in (holds_of (effects journal.now stream)) hold }
+{
+    let Some((last, rest)) = journal.split_last() else {
+        return None;
+    };
+    match holding_on(last, stream) {
+        Holding::Makes { id, at, len } => {
+            if id == hold {
+                Some((at, len))
+            } else {
+                hold_place(rest, stream, hold)
+            }
+        }
+        Holding::Repins { id, of } => match hold_place(rest, stream, of) {
+            Some(place) => {
+                if id == hold {
+                    Some(place)
+                } else {
+                    hold_place(rest, stream, hold)
+                }
+            }
+            None => hold_place(rest, stream, hold),
+        },
+        Holding::Ends { id } => {
+            if id == hold {
+                None
+            } else {
+                hold_place(rest, stream, hold)
+            }
+        }
+        Holding::Rests => hold_place(rest, stream, hold),
+    }
+}

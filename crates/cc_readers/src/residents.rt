@@ -1,0 +1,91 @@
+//! Which pages of a stream are resident.
+
+ghost use Rattle.std.specs.Prelude.{◌≡◌, IfOk};
+ghost use Rattle.cc_readers.specs.Changes.{left_by, resident_after};
+ghost use Rattle.cc_readers.specs.Events.{effects, event_of, AreSizes};
+ghost use Rattle.cc_model.specs.History.{effect_of};
+ghost use Rattle.cc_model.specs.Residency.{is_resident};
+ghost use Rattle.cc_model.specs.Touches.{size_of};
+
+use crate::dirty::has_map;
+use crate::events::{Event, event_on};
+use crate::sizes::sizes;
+use crate::touches::truncation_at;
+use cc_entry::{Entry, NoMemory, StreamId};
+use std::alloc::Global;
+
+/// Whether a page of a stream is resident.
+pub fn is_page_resident(
+    alloc: Global,
+    journal: &[Entry],
+    stream: StreamId,
+    page: u64,
+) -> Result<bool, NoMemory>
+    ensures { IfOk result (λ resident. resident ≡ is_resident (effects journal.now stream) page) }
+{
+    let found = sizes(alloc, journal, stream)?;
+    is_resident_with(alloc, journal, &found, stream, page)
+}
+
+/// The same, given the sizes.
+pub fn is_resident_with(
+    alloc: Global,
+    journal: &[Entry],
+    sizes: &[u64],
+    stream: StreamId,
+    page: u64,
+) -> Result<bool, NoMemory>
+    requires { AreSizes sizes.now journal.now stream }
+    ensures { IfOk result (λ resident. resident ≡ is_resident (effects journal.now stream) page) }
+{
+    let Some((last, rest)) = journal.split_last() else {
+        return Ok(false);
+    };
+    if !has_map(alloc, journal, sizes, stream)? {
+        return Ok(false);
+    }
+    let was = is_resident_with(alloc, rest, sizes, stream, page)?;
+    resident_then(alloc, last, rest, sizes[rest.len()], stream, page, was)
+}
+
+// Whether a page is resident after an entry that leaves a map, given the entries before it and whether
+// it was resident then.
+fn resident_then(
+    alloc: Global,
+    last: &Entry,
+    rest: &[Entry],
+    size: u64,
+    stream: StreamId,
+    page: u64,
+    was: bool,
+) -> Result<bool, NoMemory>
+    requires { size ≡ size_of (effects rest.now stream) }
+    ensures { IfOk result (λ resident. resident ≡ resident_after (event_of (effect_of last.now stream)) (effects rest.now stream) page was) }
+{
+    match event_on(last, stream) {
+        Event::Closes { object, truncate } => {
+            let to = truncation_at(alloc, rest, stream, size, object, truncate)?;
+            Ok(left_at(to, page, was))
+        }
+        Event::Resizes { size: to } => Ok(left_at(Some(to), page, was)),
+        Event::Stores { page: stored } => Ok(stored == page || was),
+        Event::CameIn { page: came } => Ok(came == page || was),
+        Event::WentOut { page: gone } => Ok(gone != page && was),
+        Event::Rests
+        | Event::Opens { .. }
+        | Event::Changes { .. }
+        | Event::Stamps { .. }
+        | Event::Began { .. }
+        | Event::Ended { .. } => Ok(was),
+    }
+}
+
+// Whether a page is resident after a size step.
+fn left_at(to: Option<u64>, page: u64, was: bool) -> bool
+    ensures { result ≡ left_by to page was }
+{
+    match to {
+        Some(to) => 4096 * u128::from(page) < u128::from(to) && was,
+        None => was,
+    }
+}

@@ -1,0 +1,152 @@
+//! The size and the valid data length of a stream, and whether a page is dirty.
+
+ghost use Rattle.std.specs.Prelude.{◌≡◌, ◌+◌, IfOk, length, vec_len};
+ghost use Rattle.cc_model.specs.History.{effect_of};
+ghost use Rattle.cc_model.specs.Touches.{size_of, valid_of, is_dirty};
+ghost use Rattle.cc_readers.specs.Events.{effects, event_of, size_after, valid_after, AreSizes};
+
+use crate::dirty::{has_map, is_unwritten};
+use crate::events::{Event, event_on};
+use crate::touches::{stored_end, truncation_at};
+use cc_entry::{Entry, NoMemory, StreamId};
+use std::alloc::Global;
+
+/// The size before each entry of a journal, and after the last one.
+pub fn sizes(alloc: Global, journal: &[Entry], stream: StreamId) -> Result<Vec<u64>, NoMemory>
+    ensures each { IfOk result (λ found. AreSizes found.items journal.now stream) }
+    ensures count { IfOk result (λ found. length found.items ≡ length journal.now + 1) }
+{
+    let Some((last, rest)) = journal.split_last() else {
+        let mut none = Vec::new(alloc);
+        none.push(0)?;
+        return Ok(none);
+    };
+    let mut found = sizes(alloc, rest, stream)?;
+    let size = size_then(alloc, last, rest, &found, stream)?;
+    found.push(size)?;
+    Ok(found)
+}
+
+// The size after an entry, given the entries before it.
+fn size_then(
+    alloc: Global,
+    last: &Entry,
+    rest: &[Entry],
+    sizes: &[u64],
+    stream: StreamId,
+) -> Result<u64, NoMemory>
+    requires { AreSizes sizes.now rest.now stream }
+    ensures { IfOk result (λ size. size ≡ size_after (event_of (effect_of last.now stream)) (effects rest.now stream)) }
+{
+    let size = sizes[rest.len()];
+    match event_on(last, stream) {
+        Event::Opens { size: given, .. } => {
+            if has_map(alloc, rest, sizes, stream)? {
+                Ok(size)
+            } else {
+                Ok(given)
+            }
+        }
+        Event::Closes { object, truncate } => {
+            match truncation_at(alloc, rest, stream, size, object, truncate)? {
+                Some(to) => Ok(to),
+                None => Ok(size),
+            }
+        }
+        Event::Resizes { size: to } => Ok(to),
+        Event::Rests
+        | Event::Changes { .. }
+        | Event::Stores { .. }
+        | Event::Stamps { .. }
+        | Event::CameIn { .. }
+        | Event::WentOut { .. }
+        | Event::Began { .. }
+        | Event::Ended { .. } => Ok(size),
+    }
+}
+
+/// The size of a stream.
+pub fn size(alloc: Global, journal: &[Entry], stream: StreamId) -> Result<u64, NoMemory>
+    ensures { IfOk result (λ size. size ≡ size_of (effects journal.now stream)) }
+{
+    let found = sizes(alloc, journal, stream)?;
+    Ok(found[journal.len()])
+}
+
+/// Whether a page of a stream is dirty.
+pub fn is_page_dirty(
+    alloc: Global,
+    journal: &[Entry],
+    stream: StreamId,
+    page: u64,
+) -> Result<bool, NoMemory>
+    ensures { IfOk result (λ dirty. dirty ≡ is_dirty (effects journal.now stream) page) }
+{
+    let found = sizes(alloc, journal, stream)?;
+    is_unwritten(alloc, journal, &found, stream, u128::from(page), false)
+}
+
+/// The valid data length of a stream. In a journal that is not good it may be past 2^64.
+pub fn valid(alloc: Global, journal: &[Entry], stream: StreamId) -> Result<u128, NoMemory>
+    ensures { IfOk result (λ valid. valid ≡ valid_of (effects journal.now stream)) }
+{
+    let found = sizes(alloc, journal, stream)?;
+    valid_with(alloc, journal, &found, stream)
+}
+
+/// The same, given the sizes.
+pub fn valid_with(
+    alloc: Global,
+    journal: &[Entry],
+    sizes: &[u64],
+    stream: StreamId,
+) -> Result<u128, NoMemory>
+    requires { AreSizes sizes.now journal.now stream }
+    ensures { IfOk result (λ valid. valid ≡ valid_of (effects journal.now stream)) }
+{
+    let Some((last, rest)) = journal.split_last() else {
+        return Ok(0);
+    };
+    let before = valid_with(alloc, rest, sizes, stream)?;
+    valid_then(alloc, last, rest, sizes, before, stream)
+}
+
+// The valid data length after an entry, given the entries before it.
+fn valid_then(
+    alloc: Global,
+    last: &Entry,
+    rest: &[Entry],
+    sizes: &[u64],
+    before: u128,
+    stream: StreamId,
+) -> Result<u128, NoMemory>
+    requires sizes { AreSizes sizes.now rest.now stream }
+    requires before { before ≡ valid_of (effects rest.now stream) }
+    ensures { IfOk result (λ valid. valid ≡ valid_after (event_of (effect_of last.now stream)) (effects rest.now stream)) }
+{
+    let size = sizes[rest.len()];
+    match event_on(last, stream) {
+        Event::Opens { valid: given, .. } => {
+            if has_map(alloc, rest, sizes, stream)? {
+                Ok(before)
+            } else {
+                Ok(u128::from(given))
+            }
+        }
+        Event::Closes { object, truncate } => {
+            match truncation_at(alloc, rest, stream, size, object, truncate)? {
+                Some(to) => Ok(before.min(u128::from(to))),
+                None => Ok(before),
+            }
+        }
+        Event::Resizes { size: to } => Ok(before.min(u128::from(to))),
+        Event::Changes { to, .. } => Ok(before.max(to)),
+        Event::Stores { page } => Ok(before.max(stored_end(page, size))),
+        Event::Rests
+        | Event::Stamps { .. }
+        | Event::CameIn { .. }
+        | Event::WentOut { .. }
+        | Event::Began { .. }
+        | Event::Ended { .. } => Ok(before),
+    }
+}

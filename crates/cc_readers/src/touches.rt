@@ -1,0 +1,161 @@
+//! What an entry does to the unwritten touches of a page.
+
+ghost use Rattle.std.specs.Prelude.{◌≡◌, IfOk};
+ghost use Rattle.cc_model.specs.History.{effect_of};
+ghost use Rattle.cc_model.specs.Objects.{objects, truncation};
+ghost use Rattle.cc_entry.specs.Pages.{has_page};
+ghost use Rattle.cc_model.specs.Sizes.{stored_range};
+ghost use Rattle.cc_model.specs.Touches.{size_of};
+ghost use Rattle.cc_readers.specs.Events.{effects, event_of, cut_by, touch_if, touching_of};
+
+use crate::events::{Event, event_on};
+use crate::maps::{hold_place, open_objects, others};
+use cc_entry::{Entry, Lsn, NoMemory, StreamId};
+use std::alloc::Global;
+
+/// What an event does to the touches of a page that are neither written nor cut.
+#[derive(Clone, Copy, Debug, PartialEq, Eq)]
+pub enum Touching {
+    /// Nothing.
+    Rests,
+    /// A touch is added, with this LSN or without.
+    Touches(Option<Lsn>),
+    /// A size step takes the page away.
+    Cuts,
+    /// The page's transfer begins.
+    Begins,
+    /// The page's transfer ends well.
+    Ends,
+}
+
+/// What an entry does to the touches of a page, given the entries before it and the size before it.
+pub fn touching_by(
+    alloc: Global,
+    last: &Entry,
+    rest: &[Entry],
+    size: u64,
+    stream: StreamId,
+    page: u128,
+) -> Result<Touching, NoMemory>
+    requires { size ≡ size_of (effects rest.now stream) }
+    ensures { IfOk result (λ what. what ≡ touching_of (event_of (effect_of last.now stream)) (effects rest.now stream) page) }
+{
+    match event_on(last, stream) {
+        Event::Closes { object, truncate } => {
+            let to = truncation_at(alloc, rest, stream, size, object, truncate)?;
+            Ok(cut_at(to, page))
+        }
+        Event::Resizes { size } => Ok(cut_at(Some(size), page)),
+        Event::Changes { from, to } => Ok(touch(range_has(from, to, page), None)),
+        Event::Stores { page: stored } => {
+            let from = 4096 * u128::from(stored);
+            Ok(touch(range_has(from, stored_end(stored, size), page), None))
+        }
+        Event::Stamps { hold, lsn } => Ok(stamp(rest, stream, hold, lsn, page)),
+        Event::Began { page: begun } => {
+            if u128::from(begun) == page {
+                Ok(Touching::Begins)
+            } else {
+                Ok(Touching::Rests)
+            }
+        }
+        Event::Ended { page: ended, good } => {
+            if u128::from(ended) == page && good {
+                Ok(Touching::Ends)
+            } else {
+                Ok(Touching::Rests)
+            }
+        }
+        Event::Rests | Event::Opens { .. } | Event::CameIn { .. } | Event::WentOut { .. } => {
+            Ok(Touching::Rests)
+        }
+    }
+}
+
+// What a set-dirty of a hold does to a page.
+fn stamp(rest: &[Entry], stream: StreamId, hold: u64, lsn: Option<Lsn>, page: u128) -> Touching
+    ensures { result ≡ touching_of (Event.Stamps hold lsn) (effects rest.now stream) page }
+{
+    match hold_place(rest, stream, hold) {
+        Some((at, len)) => {
+            let from = u128::from(at);
+            touch(range_has(from, from + u128::from(len), page), lsn)
+        }
+        None => Touching::Rests,
+    }
+}
+
+/// The size that an uninitialise of the object sets, where it sets one.
+pub fn truncation_at(
+    alloc: Global,
+    rest: &[Entry],
+    stream: StreamId,
+    size: u64,
+    object: u8,
+    truncate: Option<u64>,
+) -> Result<Option<u64>, NoMemory>
+    ensures { IfOk result (λ to. to ≡ truncation (objects (effects rest.now stream)) size (record { stream = 0; object = object }) truncate) }
+{
+    let Some(to) = truncate else {
+        return Ok(None);
+    };
+    let found = open_objects(alloc, rest, stream)?;
+    if !found.contains(&object) {
+        return Ok(None);
+    }
+    let left = others(alloc, &found, object)?;
+    if left.len() > 0 {
+        return Ok(None);
+    }
+    if to < size { Ok(Some(to)) } else { Ok(None) }
+}
+
+// What a size step does to a page.
+fn cut_at(to: Option<u64>, page: u128) -> Touching
+    ensures { result ≡ cut_by to page }
+{
+    match to {
+        Some(to) => {
+            if (u128::from(to) + 4095) / 4096 <= page {
+                Touching::Cuts
+            } else {
+                Touching::Rests
+            }
+        }
+        None => Touching::Rests,
+    }
+}
+
+fn touch(has: bool, lsn: Option<Lsn>) -> Touching
+    ensures { result ≡ touch_if has lsn }
+{
+    if has {
+        Touching::Touches(lsn)
+    } else {
+        Touching::Rests
+    }
+}
+
+/// Whether the range has a byte in the page.
+pub fn range_has(from: u128, to: u128, page: u128) -> bool
+    ensures { result ≡ has_page (record { from = from; to = to }) page }
+{
+    if from < to {
+        from / 4096 <= page && page <= (to - 1) / 4096
+    } else {
+        false
+    }
+}
+
+/// The end of a noncached page's bytes: that of the page or the size, 0 where it has none.
+pub fn stored_end(page: u64, size: u64) -> u128
+    ensures { result ≡ (stored_range page size).to }
+{
+    let from = 4096 * u128::from(page);
+    let size = u128::from(size);
+    if from < size {
+        (from + 4096).min(size)
+    } else {
+        0
+    }
+}
