@@ -1,7 +1,7 @@
 -- What a discard asks of the disk: that it holds the pages which go unwritten, as far as they are valid.
 use Rattle.std.specs.Prelude.{ℕ, ◌+◌, ◌*◌, Bool, true, false, not, ◌&&◌, ◌||◌, ◌==◌, nat_lt, is_some, List, [], ◌∷◌, min, max}
 use Rattle.std.specs.declared.option.Option.{Option}
-use Rattle.std.specs.declared.option.Option.TheVariants.{Some, None}
+use Rattle.std.specs.declared.option.Option.TheVariants.{None}
 use Rattle.std.specs.List.{find}
 use Rattle.std.specs.Option.{option_map}
 use Rattle.cc_entry.specs.declared.call.Call.{Call}

@@ -35,10 +35,3 @@ pub mod Allowed
 pub mod Good
 pub mod Room
 pub mod Turns
-pub mod Laws
-pub mod Facts
-pub mod ByPlaces
-pub mod ByPlacesDirty
-pub mod ByPlacesResident
-pub mod ByPlacesSizes
-pub mod ByPlacesImage

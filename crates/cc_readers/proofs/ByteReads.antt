@@ -16,7 +16,7 @@ use Rattle.cc_model.specs.Touches.{size_of}
 use Rattle.cc_model.specs.Bytes.{content, byte_of, answer, page_size}
 use Rattle.cc_readers.specs.Events.{effects, AreSizes}
 use Rattle.cc_readers.specs.Changes.{filled, change_by, change_of}
-use Rattle.cc_model.proofs.ActSteps.{content_by, content-done}
+use Rattle.cc_laws.proofs.ActSteps.{content_by, content-done}
 use Rattle.cc_readers.proofs.ReaderSteps.{effects_back}
 use Rattle.cc_readers.proofs.TouchReads.{size_at}
 

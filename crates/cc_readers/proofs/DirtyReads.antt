@@ -10,7 +10,7 @@ use Rattle.cc_model.specs.History.{Effect, Did, CameIn, WentOut, Began, Ended, S
 use Rattle.cc_model.specs.Acts.{Act, act_of, Opens, Closes, Resizes, Writes, Zeroes, Stores, Stamps, Looks}
 use Rattle.cc_model.specs.Touches.{touched, is_dirty}
 use Rattle.cc_readers.specs.Events.{event_of, event_of_act, effects, touched_pages}
-use Rattle.cc_model.proofs.ActSteps.{touched_by, touched-done}
+use Rattle.cc_laws.proofs.ActSteps.{touched_by, touched-done}
 use Rattle.cc_readers.proofs.ReaderSteps.{effects_back}
 
 pub dirty_more : (h : List Effect) (page end : ℕ) → page < end → list_any (is_dirty h) (range_with_len page (end - page)) ≡ (is_dirty h page || list_any (is_dirty h) (range_with_len (page + 1) (end - (page + 1))))

@@ -14,8 +14,8 @@ use Rattle.cc_model.specs.Residency.{below, moved_by, residents, is_resident}
 use Rattle.cc_readers.specs.Events.{event_of, event_of_act, effects}
 use Rattle.cc_readers.specs.Changes.{left_by, resident_after}
 use Rattle.cc_readers.proofs.ReaderSteps.{effects_back}
-use Rattle.cc_model.proofs.ResidencySteps.{residents-mapped, residents-unmapped}
-use Rattle.cc_model.proofs.PlacesResident.{among-filtered, among-without, among-in}
+use Rattle.cc_laws.proofs.ResidencySteps.{residents-mapped, residents-unmapped}
+use Rattle.cc_laws.proofs.PlacesResident.{among-filtered, among-without, among-in}
 
 left : (o : Option ℕ) (p : ℕ) (pages : List ℕ) → is_among p (below o pages) ≡ left_by o p (is_among p pages)
 left None p pages = refl

@@ -13,7 +13,7 @@ use Rattle.cc_model.specs.Objects.{objects, truncation}
 use Rattle.cc_model.specs.Sizes.{Sizes, resized_by}
 use Rattle.cc_model.specs.Touches.{sizes, size_of, valid_of, is_mapped}
 use Rattle.cc_readers.specs.Events.{event_of, event_of_act, effects, size_after, valid_after, AreSizes}
-use Rattle.cc_model.proofs.ActSteps.{sizes_by, sizes-done}
+use Rattle.cc_laws.proofs.ActSteps.{sizes_by, sizes-done}
 use Rattle.cc_readers.proofs.ReaderSteps.{effects_back}
 
 cut_size : (o : Option ℕ) (h : List Effect) → (resized_by o (sizes h)).size ≡ elim o [ None ↦ size_of h | Some to ↦ to ]

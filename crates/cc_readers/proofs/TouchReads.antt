@@ -19,7 +19,7 @@ use Rattle.cc_model.specs.Holds.{holds_of, hold_at}
 use Rattle.cc_model.specs.Sizes.{cut_if, touched_if, stored_range, hold_has, ended_ok}
 use Rattle.cc_model.specs.Touches.{touches, size_of}
 use Rattle.cc_readers.specs.Events.{event_of, event_of_act, effects, cut_by, touch_if, touching_of, touches_after, AreSizes}
-use Rattle.cc_model.proofs.ActSteps.{touches_by, touches-done}
+use Rattle.cc_laws.proofs.ActSteps.{touches_by, touches-done}
 use Rattle.cc_readers.proofs.ReaderSteps.{effects_back}
 
 cuts : (o : Option ℕ) (ended : Bool) (h : List Effect) (p : ℕ) → cut_if o p (touches ended h p) ≡ touches_after (cut_by o p) ended h p

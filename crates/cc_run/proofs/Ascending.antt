@@ -3,7 +3,7 @@ use Rattle.std.proofs.Common.{◌≡◌, ℕ, zero, suc, ◌+◌, ◌<◌, ◌�
 use Rattle.std.proofs.lemmas.Bool.{ltb-true, ltb-false, eqb-true, eqb-false, eq-eqb, ne_eqb}
 use Rattle.std.specs.List.{range_with_len, AllByRecursion, filter}
 use Rattle.cc_model.specs.Numbers.{is_among, placed, ascending}
-use Rattle.cc_model.proofs.BlockLists.{is_among-filter}
+use Rattle.cc_laws.proofs.BlockLists.{is_among-filter}
 
 -- each number of a list is greater
 abbrev pub Above : ℕ → List ℕ → Type 0

@@ -28,16 +28,16 @@ use Rattle.cc_model.specs.Acts.{file_of}
 use Rattle.cc_model.specs.Holds.{Hold}
 use Rattle.cc_model.specs.Filing.{IsFiled}
 use Rattle.cc_model.specs.Allowed.{is_fault, begin_after}
-use Rattle.cc_model.proofs.HistorySteps.{history-failed, history-done}
-use Rattle.cc_model.proofs.ObjectSteps.{objects-looks, objects-writes}
-use Rattle.cc_model.proofs.SizeSteps.{sizes-looks, sizes-writes}
-use Rattle.cc_model.proofs.ByteSteps.{content-looks, content-writes_covered, content-writes_past, byte_of-same, byte_of-below, byte_of-above}
-use Rattle.cc_model.proofs.HoldSteps.{holds_of-other}
-use Rattle.cc_model.proofs.ImageSteps.{open_of-done}
-use Rattle.cc_model.proofs.MapSteps.{is_mapped-open}
-use Rattle.cc_model.proofs.ResidencySteps.{residents-looks, residents-writes}
-use Rattle.cc_model.proofs.QuotaSteps.{quota_of-looks, quota_of-writes}
-use Rattle.cc_model.proofs.PassSteps.{calls_of-call}
+use Rattle.cc_laws.proofs.HistorySteps.{history-failed, history-done}
+use Rattle.cc_laws.proofs.ObjectSteps.{objects-looks, objects-writes}
+use Rattle.cc_laws.proofs.SizeSteps.{sizes-looks, sizes-writes}
+use Rattle.cc_laws.proofs.ByteSteps.{content-looks, content-writes_covered, content-writes_past, byte_of-same, byte_of-below, byte_of-above}
+use Rattle.cc_laws.proofs.HoldSteps.{holds_of-other}
+use Rattle.cc_laws.proofs.ImageSteps.{open_of-done}
+use Rattle.cc_laws.proofs.MapSteps.{is_mapped-open}
+use Rattle.cc_laws.proofs.ResidencySteps.{residents-looks, residents-writes}
+use Rattle.cc_laws.proofs.QuotaSteps.{quota_of-looks, quota_of-writes}
+use Rattle.cc_laws.proofs.PassSteps.{calls_of-call}
 use Rattle.cc_run.specs.Stands.{Stands, flag_at, first_object, opening_of, AllFlagged}
 use Rattle.cc_run.proofs.GoodSteps.{good-call}
 use Rattle.cc_run.proofs.Lists.{list_all-range, list-map}

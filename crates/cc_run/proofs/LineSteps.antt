@@ -18,8 +18,8 @@ use Rattle.cc_model.specs.History.{history}
 use Rattle.cc_entry.specs.Pages.{has_page}
 use Rattle.cc_model.specs.Ranges.{range_of}
 use Rattle.cc_model.specs.Touches.{size_of}
-use Rattle.cc_model.proofs.HistorySteps.{history-page_in}
-use Rattle.cc_model.proofs.SizeSteps.{sizes-came_in}
+use Rattle.cc_laws.proofs.HistorySteps.{history-page_in}
+use Rattle.cc_laws.proofs.SizeSteps.{sizes-came_in}
 use Rattle.cc_pieces.specs.Calls.{call_of, calls_of_lines}
 use Rattle.cc_pieces.specs.Pieces.{reaches, Fills, Others, Explains, IsIdle}
 use Rattle.cc_pieces.proofs.Pieces.{idle-none, idle-more, ran-more}

@@ -16,10 +16,10 @@ use Rattle.cc_model.specs.Objects.{objects, had_map}
 use Rattle.cc_model.specs.Touches.{touches, touched, sizes, size_of, is_dirty}
 use Rattle.cc_model.specs.Stamps.{oldest_of, newest_of}
 use Rattle.cc_model.specs.Images.{image}
-use Rattle.cc_model.proofs.HistorySteps.{history-done, history-done_other, history-failed, history-page_in, history-page_in_other, history-fill_failed}
-use Rattle.cc_model.proofs.SizeSteps.{sizes-came_in, sizes-looks, sizes-writes}
-use Rattle.cc_model.proofs.TouchSteps.{touches-came_in, touches-looks, touches-writes}
-use Rattle.cc_model.proofs.ImageSteps.{image-came_in, image-done}
+use Rattle.cc_laws.proofs.HistorySteps.{history-done, history-done_other, history-failed, history-page_in, history-page_in_other, history-fill_failed}
+use Rattle.cc_laws.proofs.SizeSteps.{sizes-came_in, sizes-looks, sizes-writes}
+use Rattle.cc_laws.proofs.TouchSteps.{touches-came_in, touches-looks, touches-writes}
+use Rattle.cc_laws.proofs.ImageSteps.{image-came_in, image-done}
 use Rattle.cc_pieces.specs.Failures.{failures}
 use Rattle.cc_run.specs.Stands.{flag_at, first_object, opening_entry}
 use Rattle.cc_run.specs.Plain.{IsPlain}

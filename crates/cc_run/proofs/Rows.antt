@@ -8,7 +8,7 @@ use Rattle.cc_print.specs.declared.table.TableRow.{TableRow}
 use Rattle.cc_model.specs.Numbers.{is_empty, is_among, ascending}
 use Rattle.cc_model.specs.History.{Effect, history}
 use Rattle.cc_model.specs.Touches.{touched, unwritten, is_dirty, dirty_pages}
-use Rattle.cc_model.proofs.DirtyFacts.{touched-left}
+use Rattle.cc_laws.proofs.DirtyFacts.{touched-left}
 use Rattle.cc_pieces.specs.Table.{row_of, rows_of, table_of}
 use Rattle.cc_run.specs.Stands.{flag_at}
 use Rattle.cc_run.specs.Rows.{plain_row}

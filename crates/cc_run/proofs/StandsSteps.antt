@@ -16,15 +16,15 @@ use Rattle.cc_model.specs.Touches.{size_of, valid_of, is_mapped}
 use Rattle.cc_model.specs.Bytes.{byte_of, content}
 use Rattle.cc_model.specs.Residency.{residents, mapped_blocks_with}
 use Rattle.cc_model.specs.Passes.{calls_of}
-use Rattle.cc_model.proofs.HistorySteps.{history-fill_failed, history-page_in}
-use Rattle.cc_model.proofs.ObjectSteps.{objects-came_in}
-use Rattle.cc_model.proofs.SizeSteps.{sizes-came_in}
-use Rattle.cc_model.proofs.ByteSteps.{content-came_in, byte_of-came_in, byte_of-below, byte_of-above}
-use Rattle.cc_model.proofs.HoldSteps.{holds_of-came_in}
-use Rattle.cc_model.proofs.ImageSteps.{open_of-came_in}
-use Rattle.cc_model.proofs.MapSteps.{is_mapped-open}
-use Rattle.cc_model.proofs.ResidencySteps.{residents-came_in}
-use Rattle.cc_model.proofs.QuotaSteps.{quota_of-came_in}
+use Rattle.cc_laws.proofs.HistorySteps.{history-fill_failed, history-page_in}
+use Rattle.cc_laws.proofs.ObjectSteps.{objects-came_in}
+use Rattle.cc_laws.proofs.SizeSteps.{sizes-came_in}
+use Rattle.cc_laws.proofs.ByteSteps.{content-came_in, byte_of-came_in, byte_of-below, byte_of-above}
+use Rattle.cc_laws.proofs.HoldSteps.{holds_of-came_in}
+use Rattle.cc_laws.proofs.ImageSteps.{open_of-came_in}
+use Rattle.cc_laws.proofs.MapSteps.{is_mapped-open}
+use Rattle.cc_laws.proofs.ResidencySteps.{residents-came_in}
+use Rattle.cc_laws.proofs.QuotaSteps.{quota_of-came_in}
 use Rattle.cc_run.specs.Stands.{Stands, flag_at}
 use Rattle.cc_run.proofs.GoodSteps.{good-fill_failed, good-page_in}
 use Rattle.cc_run.proofs.Lists.{distinct_count-below}

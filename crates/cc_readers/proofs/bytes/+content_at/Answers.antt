@@ -4,7 +4,7 @@ use Rattle.std.proofs.lemmas.List.{nil_from_length}
 use Rattle.cc_readers.specs.Changes.{filled}
 use Rattle.cc_readers.proofs.ByteReads.{content_back, content_none}
 use Rattle.cc_readers.proofs.TouchReads.{sizes_back, size_at}
-use Rattle.cc_model.proofs.readers.bytes.+content_at.Goals as goal
+use Rattle.cc_laws.proofs.readers.bytes.+content_at.Goals as goal
 
 pub returns-in_default : goal.returns-in_default
 returns-in_default t c = sym (content_none c.args.journal.now c.args.stream c.args.fill c.args.at (nil_from_length _ c.in_default.ensures.cases))

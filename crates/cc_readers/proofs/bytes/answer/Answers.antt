@@ -3,7 +3,7 @@ use Rattle.cc_model.specs.Bytes.{byte_of}
 use Rattle.cc_readers.specs.Changes.{filled}
 use Rattle.cc_readers.specs.Events.{effects}
 use Rattle.cc_readers.proofs.ByteReads.{read_more, read_done, size_now}
-use Rattle.cc_model.proofs.readers.bytes.answer.Goals as goal
+use Rattle.cc_laws.proofs.readers.bytes.answer.Goals as goal
 
 pub loop-i-preserved : goal.loop-i-preserved
 loop-i-preserved c =

@@ -3,8 +3,8 @@ use Rattle.std.proofs.lemmas.Bool.{lt-ltb, le-ltb}
 use Rattle.cc_readers.specs.Changes.{filled}
 use Rattle.cc_readers.specs.Events.{effects}
 use Rattle.cc_model.specs.Touches.{valid_of}
-use Rattle.cc_model.proofs.ByteSteps.{byte_of-below, byte_of-above}
-use Rattle.cc_model.proofs.readers.bytes.byte_at.Goals as goal
+use Rattle.cc_laws.proofs.ByteSteps.{byte_of-below, byte_of-above}
+use Rattle.cc_laws.proofs.readers.bytes.byte_at.Goals as goal
 
 pub returns-then-from-valid : goal.returns-then-from-valid
 returns-then-from-valid c =

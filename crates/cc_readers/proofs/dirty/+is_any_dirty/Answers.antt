@@ -4,7 +4,7 @@ use Rattle.std.proofs.lemmas.List.{nil_from_length}
 use Rattle.cc_model.specs.Touches.{touched, is_dirty}
 use Rattle.cc_readers.specs.Events.{effects}
 use Rattle.cc_readers.proofs.DirtyReads.{touched_back, touched_none, found_first}
-use Rattle.cc_model.proofs.readers.dirty.+is_any_dirty.Goals as goal
+use Rattle.cc_laws.proofs.readers.dirty.+is_any_dirty.Goals as goal
 
 pub returns-in_default : goal.returns-in_default
 returns-in_default t c = sym (touched_none c.args.among.now c.args.stream (is_dirty (effects c.args.journal.now c.args.stream)) (nil_from_length _ c.in_default.ensures.cases))

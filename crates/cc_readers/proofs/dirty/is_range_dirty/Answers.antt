@@ -1,7 +1,7 @@
 use Rattle.std.proofs.Common.{◌+◌, ◌-◌, ◌/◌, sym, ◌∙◌}
 use Rattle.cc_readers.specs.Events.{effects}
 use Rattle.cc_readers.proofs.DirtyReads.{dirty_next}
-use Rattle.cc_model.proofs.readers.dirty.is_range_dirty.Goals as goal
+use Rattle.cc_laws.proofs.readers.dirty.is_range_dirty.Goals as goal
 
 pub loop-page-preserved : goal.loop-page-preserved
 loop-page-preserved c =

@@ -3,7 +3,7 @@ use Rattle.std.specs.List.{list_any, range_with_len}
 use Rattle.cc_entry.specs.Pages.{pages_of}
 use Rattle.cc_model.specs.Touches.{is_dirty}
 use Rattle.cc_readers.specs.Events.{effects}
-use Rattle.cc_model.proofs.readers.dirty.is_range_dirty.Given as goal
+use Rattle.cc_laws.proofs.readers.dirty.is_range_dirty.Given as goal
 
 abbrev pub invariant-loop-page : goal.invariant-loop-page
 invariant-loop-page l =

@@ -2,7 +2,7 @@ use Rattle.std.proofs.Common.{◌∙◌}
 use Rattle.cc_model.specs.History.{history}
 use Rattle.cc_model.specs.Objects.{objects}
 use Rattle.cc_readers.proofs.ReaderSteps.{objects_next}
-use Rattle.cc_model.proofs.readers.maps.open_objects.Goals as goal
+use Rattle.cc_laws.proofs.readers.maps.open_objects.Goals as goal
 
 pub loop-entry-init : goal.loop-entry-init
 unfolding objects history

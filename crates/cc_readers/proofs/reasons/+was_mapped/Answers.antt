@@ -2,7 +2,7 @@ use Rattle.std.proofs.Common.{sym, ◌∙◌, ap}
 use Rattle.std.proofs.lemmas.List.{nil_from_length}
 use Rattle.cc_readers.specs.MapReads.{is_opening}
 use Rattle.cc_readers.proofs.RefusalReads.{had_back, had_none, first_holds, first_fails}
-use Rattle.cc_model.proofs.readers.reasons.+was_mapped.Goals as goal
+use Rattle.cc_laws.proofs.readers.reasons.+was_mapped.Goals as goal
 
 pub returns-in_default : goal.returns-in_default
 returns-in_default t c = sym (had_none _ _ (nil_from_length _ c.in_default.ensures.cases))

@@ -5,7 +5,7 @@ use Rattle.cc_model.specs.Conflicts.{busy}
 use Rattle.cc_model.specs.Refusals.{first_of}
 use Rattle.cc_readers.specs.HoldReads.{hold_of}
 use Rattle.cc_readers.proofs.RefusalReads.{same_reasons}
-use Rattle.cc_model.proofs.readers.refusals.by_use.Goals as goal
+use Rattle.cc_laws.proofs.readers.refusals.by_use.Goals as goal
 
 pub returns : goal.returns
 returns c =

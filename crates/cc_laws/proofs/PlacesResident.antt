@@ -1,0 +1,117 @@
+-- Resident pages by places.
+use Rattle.std.specs.Prelude.{◌≡◌, ℕ, ◌*◌, Bool, true, false, not, ◌==◌, ◌&&◌, ◌||◌, ◌↔◌, cond, nat_lt, nat_le, List, [], ◌∷◌, refl}
+use Rattle.std.specs.declared.option.Option.{Option}
+use Rattle.std.specs.declared.option.Option.TheVariants.{Some, None}
+use Rattle.std.specs.List.{filter}
+use Rattle.std.proofs.Common.{ap, sym, ◌∙◌}
+use Rattle.std.proofs.lemmas.Bool.{ltb-true, ltb-false, lt-leb, le-leb, eqb-true, eqb-false, eq-eqb, ne_eqb}
+use Rattle.cc_model.specs.Numbers.{is_among, without}
+use Rattle.cc_model.specs.History.{Effect, Did, CameIn, WentOut, Began, Ended, Synced}
+use Rattle.cc_model.specs.Acts.{Act, act_of, Opens, Closes, Resizes, Writes, Zeroes, Stores, Stamps, Looks}
+use Rattle.cc_model.specs.Objects.{objects, truncation}
+use Rattle.cc_model.specs.Touches.{size_of, is_mapped}
+use Rattle.cc_model.specs.Residency.{below, moved_by, residents, is_resident}
+use Rattle.cc_laws.specs.ByPlaces.{act_size, is_past, cuts_page, SincePlace}
+use Rattle.cc_laws.specs.ByPlacesResident.{act_stores, brings_in, takes_out, comes_in, goes_away}
+use Rattle.cc_laws.proofs.ResidencySteps.{residents-mapped, residents-unmapped}
+use Rattle.cc_laws.proofs.PlacesLast.{since-place}
+
+pub among-filtered : (test : ℕ → Bool) (p : ℕ) (ns : List ℕ) → is_among p (filter test ns) ≡ (test p && is_among p ns)
+among-filtered test p [] = none (test p)
+  where
+    none : (b : Bool) → false ≡ (b && false)
+    none true = refl
+    none false = refl
+among-filtered test p (n ∷ ns) = go (test n) (n == p) refl refl (among-filtered test p ns)
+  where
+    go : (t u : Bool) → test n ≡ t → (n == p) ≡ u → is_among p (filter test ns) ≡ (test p && is_among p ns) → is_among p (cond t (n ∷ filter test ns) (filter test ns)) ≡ (test p && (u || is_among p ns))
+    go true true passes same rest = left ∙ sym (right (test p) (ap test (sym (eqb-true n p same)) ∙ passes))
+      where
+        left : ((n == p) || is_among p (filter test ns)) ≡ true
+        left = rw same refl
+
+        right : (b : Bool) → b ≡ true → (b && true) ≡ true
+        right true is = refl
+        right false is = is
+    go true false passes other rest = rw other rest
+    go false true out same rest = rest ∙ both (test p) (is_among p ns) (ap test (sym (eqb-true n p same)) ∙ out)
+      where
+        both : (b c : Bool) → b ≡ false → (b && c) ≡ (b && true)
+        both true c is = absurd (cc)
+        both false c is = refl
+    go false false out other rest = rest
+
+not-past : (to i : ℕ) → nat_lt i to ≡ not (nat_le to i)
+not-past to i = go (nat_lt i to) refl
+  where
+    go : (b : Bool) → nat_lt i to ≡ b → nat_lt i to ≡ not (nat_le to i)
+    go true is = is ∙ ap not (sym (lt-leb to i (ltb-true i to is)))
+    go false is = is ∙ ap not (sym (le-leb to i (ltb-false i to is)))
+
+among-below : (o : Option ℕ) (p : ℕ) (pages : List ℕ) → is_among p (below o pages) ≡ (not (is_past o p) && is_among p pages)
+among-below None p pages = refl
+among-below (Some to) p pages = among-filtered (λ q. nat_lt (4096 * q) to) p pages ∙ ap (λ b. b && is_among p pages) (not-past to (4096 * p))
+
+same-other : (a b : ℕ) → (a == b) ≡ (b == a)
+same-other a b = go (a == b) refl
+  where
+    go : (t : Bool) → (a == b) ≡ t → (a == b) ≡ (b == a)
+    go true is = is ∙ sym (eq-eqb b a (sym (eqb-true a b is)))
+    go false is = is ∙ sym (ne_eqb b a (λ e. eqb-false a b is (sym e)))
+
+pub among-without : (page p : ℕ) (pages : List ℕ) → is_among p (without page pages) ≡ (not (page == p) && is_among p pages)
+among-without page p pages = among-filtered (λ m. not (m == page)) p pages ∙ ap (λ b. not b && is_among p pages) (same-other p page)
+
+pub among-in : (page p : ℕ) (pages : List ℕ) → is_among p (page ∷ without page pages) ≡ ((page == p) || is_among p pages)
+among-in page p pages = ap (λ b. (page == p) || b) (among-without page p pages) ∙ go (page == p) (is_among p pages)
+  where
+    go : (a b : Bool) → (a || (not a && b)) ≡ (a || b)
+    go true b = refl
+    go false b = refl
+
+-- what an effect leaves of the resident pages has the page where it brings it in, or leaves it
+moved-among : (e : Effect) (h : List Effect) (p : ℕ) (pages : List ℕ) → is_among p (moved_by e h pages) ≡ (brings_in p e || (not (takes_out p e || cuts_page p e h) && is_among p pages))
+moved-among (Did pass call reply) h p pages = go (act_of call) refl
+  where
+    go : (a : Act) → act_of call ≡ a → is_among p (moved_by (Did pass call reply) h pages) ≡ (act_stores p (act_of call) || (not (is_past (act_size (act_of call) h) p) && is_among p pages))
+    go (Opens file given quota temporary) is = rw (is, moved_by) refl
+    go (Closes file truncate) is = rw (is, moved_by) (among-below (truncation (objects h) (size_of h) file truncate) p pages)
+    go (Resizes allocation size) is = rw (is, moved_by) (among-below (Some size) p pages)
+    go (Writes at bytes) is = rw (is, moved_by) refl
+    go (Zeroes from to) is = rw (is, moved_by) refl
+    go (Stores page bytes) is = rw (is, moved_by) (among-in page p pages)
+    go (Stamps hold lsn) is = rw (is, moved_by) refl
+    go Looks is = rw (is, moved_by) refl
+moved-among (CameIn pass page from_disk) h p pages = among-in page p pages
+moved-among (WentOut pass page) h p pages = among-without page p pages ∙ go (page == p)
+  where
+    go : (b : Bool) → (not b && is_among p pages) ≡ (not (b || false) && is_among p pages)
+    go true = refl
+    go false = refl
+moved-among (Began pass page) h p pages = refl
+moved-among (Ended pass page how) h p pages = refl
+moved-among (Synced pass how) h p pages = refl
+
+resident-effect : (p : ℕ) (e : Effect) (h : List Effect) → is_resident (e ∷ h) p ≡ (comes_in p e h || (not (goes_away p e h) && is_resident h p))
+resident-effect p e h = go (is_mapped (e ∷ h)) refl
+  where
+    kept : (m b t c r : Bool) → m ≡ true → (b || (not (t || c) && r)) ≡ ((m && b) || (not (t || (c || not m)) && r))
+    kept true b true c r is = refl
+    kept true b false true r is = refl
+    kept true b false false r is = refl
+    kept false b t c r is = absurd (cc)
+
+    gone : (m b t c r : Bool) → m ≡ false → false ≡ ((m && b) || (not (t || (c || not m)) && r))
+    gone true b t c r is = absurd (cc)
+    gone false b true c r is = refl
+    gone false b false true r is = refl
+    gone false b false false r is = refl
+
+    go : (m : Bool) → is_mapped (e ∷ h) ≡ m → is_resident (e ∷ h) p ≡ ((is_mapped (e ∷ h) && brings_in p e) || (not (takes_out p e || (cuts_page p e h || not (is_mapped (e ∷ h)))) && is_resident h p))
+    go true is = ap (is_among p) (residents-mapped e h is) ∙ moved-among e h p (residents h) ∙ kept (is_mapped (e ∷ h)) (brings_in p e) (takes_out p e) (cuts_page p e h) (is_resident h p) is
+    go false is = ap (is_among p) (residents-unmapped (e ∷ h) is) ∙ gone (is_mapped (e ∷ h)) (brings_in p e) (takes_out p e) (cuts_page p e h) (is_resident h p) is
+
+-- a page is resident since it came in
+pub resident-places : (h : List Effect) (p : ℕ) → (is_resident h p ≡ true) ↔ SincePlace (comes_in p) (goes_away p) h
+unfolding residents
+resident-places h p = since-place (λ (g : List Effect). is_resident g p) (comes_in p) (goes_away p) refl (resident-effect p) h

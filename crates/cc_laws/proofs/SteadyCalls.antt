@@ -1,0 +1,160 @@
+-- A call that is done in a legal and allowed journal is steady.
+use Rattle.std.specs.Prelude.{◌≡◌, ℕ, ◌*◌, ◌≤◌, Bool, true, false, not, ◌&&◌, ◌||◌, nat_lt, List, [], ◌∷◌, length, refl}
+use Rattle.std.proofs.lemmas.Bool.{ltb-false}
+use Rattle.std.specs.declared.option.Option.{Option}
+use Rattle.std.specs.declared.option.Option.TheVariants.{Some, None}
+use Rattle.cc_entry.specs.Place.{File}
+use Rattle.cc_entry.specs.declared.call.Call.{Call}
+use Rattle.cc_entry.specs.declared.call.Call.TheVariants as call
+use Rattle.cc_entry.specs.declared.hold.HoldKind.{HoldKind}
+use Rattle.cc_entry.specs.declared.error.CcError.{CcError}
+use Rattle.cc_entry.specs.declared.entry.Entry.{Entry}
+use Rattle.cc_model.specs.Setup.{Setup}
+use Rattle.cc_model.specs.Numbers.{is_among}
+use Rattle.cc_model.specs.History.{Effect}
+use Rattle.cc_model.specs.Acts.{act_of, file_of}
+use Rattle.cc_model.specs.Objects.{objects, had_map}
+use Rattle.cc_model.specs.Holds.{Hold, hold_at, holds_of, held_after}
+use Rattle.cc_model.specs.Touches.{size_of, valid_of, is_mapped}
+use Rattle.cc_model.specs.Reasons.{refuse_if, not_cached, cached_file, too_long, view_boundary, in_order, bad_sizes, bad_granularity, no_log, beyond_size, past_valid, beyond_valid}
+use Rattle.cc_model.specs.Ranges.{range_of}
+use Rattle.cc_model.specs.Conflicts.{held, busy}
+use Rattle.cc_model.specs.Views.{viewed, no_views, no_vacbs, not_resident}
+use Rattle.cc_model.specs.Refusals.{first_of, refusal}
+use Rattle.cc_model.specs.Legal.{IsAdmitted}
+use Rattle.cc_model.specs.Filing.{serves, serves_range, IsFiled}
+use Rattle.cc_entry.specs.Kinds.{is_write_chain}
+use Rattle.cc_entry.specs.Kinds.{is_pin}
+use Rattle.cc_laws.proofs.Steady.{BeginsWithin, ComesBackWithin, needs_no_map, IsSteadyCall}
+
+-- each of a list of reasons does not hold
+abbrev EachNone : List (Option CcError) → Type 0
+EachNone [] = Unit {0}
+EachNone (o ∷ rest) = (o ≡ None) × EachNone rest
+
+first_none : (os : List (Option CcError)) → first_of os ≡ None → EachNone os
+first_none [] e = tt
+first_none (None ∷ rest) e = (refl, first_none rest e)
+first_none (Some x ∷ rest) e = absurd (cc)
+
+-- the reasons of the list that matter here
+record IsUnrefused (h : List Effect) (call : Call) : Type 0 where
+  cached : not_cached h (cached_file call (file_of call)) ≡ None
+  ordered : bad_sizes h call ≡ None
+  within : beyond_valid (valid_of h) call ≡ None
+
+unrefused : (u : Setup) (past : List Entry) (h : List Effect) (call : Call) → refusal u past h call ≡ None → IsUnrefused h call
+unfolding refusal
+unrefused u past h call e =
+    let each =
+    first_none
+    (not_cached h (cached_file call (file_of call))
+    ∷ too_long call
+    ∷ view_boundary call
+    ∷ bad_sizes h call
+    ∷ bad_granularity call
+    ∷ no_log u call
+    ∷ beyond_size (size_of h) call
+    ∷ beyond_valid (valid_of h) call
+    ∷ held h call
+    ∷ busy (holds_of h) call
+    ∷ no_views h (viewed h call (range_of (size_of h) call))
+    ∷ no_vacbs past h call
+    ∷ not_resident h call
+    ∷ [])
+    e in
+    record { cached = each.0; ordered = each.1.1.1.0; within = each.1.1.1.1.1.1.1.0 }
+
+-- a reason that does not hold
+unless : (b : Bool) (e : CcError) → refuse_if b e ≡ None → b ≡ false
+unless true e is = absurd (cc)
+unless false e is = refl
+
+not_past : (valid start : ℕ) → past_valid valid start ≡ None → start ≤ valid
+not_past valid start is = ltb-false valid start (unless (nat_lt valid start) _ is)
+
+within-valid : (valid : ℕ) (call : Call) → beyond_valid valid call ≡ None → BeginsWithin valid (act_of call)
+within-valid valid (call.CopyWrite file at bytes) e = not_past valid at e
+within-valid valid (call.Zero file span) e = not_past valid span.from e
+within-valid valid (call.PreparePin file at len true exclusive) e = not_past valid at e
+within-valid valid (call.PreparePin file at len false exclusive) e = tt
+within-valid valid (call.PinnedWrite hold at bytes) e = not_past valid at e
+within-valid valid (call.MdlStore hold at bytes) e = not_past valid at e
+within-valid valid (call.NcStore file page bytes) e = not_past valid (4096 * page) e
+within-valid valid other e = tt
+
+-- the sizes of an initialise that makes the map again
+back-valid : (mapped ordered had : Bool) (valid given : ℕ) → (not mapped && (not ordered || (had && nat_lt valid given))) ≡ false → mapped ≡ false → had ≡ true → given ≤ valid
+back-valid true ordered had valid given e is_not was = absurd (cc)
+back-valid false false had valid given e is_not was = absurd (cc)
+back-valid false true false valid given e is_not was = absurd (cc)
+back-valid false true true valid given e is_not was = ltb-false valid given e
+
+comes_back : (h : List Effect) (call : Call) → bad_sizes h call ≡ None → ComesBackWithin h (act_of call)
+comes_back h (call.Initialise file sizes quota temporary) e =
+    back-valid (is_mapped h) (in_order sizes) (had_map h) (valid_of h) sizes.valid (unless _ _ e)
+comes_back h (call.PreparePin file at len true exclusive) e = tt
+comes_back h (call.PreparePin file at len false exclusive) e = tt
+comes_back h other e = tt
+
+-- no object is open where there is none
+none_open : (h : List Effect) (file : File) → not_cached h (Some file) ≡ None → objects h ≡ [] → ⊥
+none_open h file e none = go (objects h) none (unless _ _ e)
+  where
+    go : (opened : List ℕ) → opened ≡ [] → not (is_among file.object opened) ≡ false → ⊥
+    go [] is closed = absurd (cc)
+    go (x ∷ xs) is closed = absurd (cc)
+
+-- no hold serves where there is none
+unserved : (holds : List Hold) (pass hold : ℕ) (of_kind : HoldKind → Bool) → holds ≡ [] → serves pass of_kind (hold_at holds hold) ≡ true → ⊥
+unserved [] pass hold of_kind is e = absurd (cc)
+unserved (x ∷ xs) pass hold of_kind is e = absurd (cc)
+
+unserved_range : (holds : List Hold) (pass hold at n : ℕ) (of_kind : HoldKind → Bool) → holds ≡ [] → serves_range pass of_kind at n (hold_at holds hold) ≡ true → ⊥
+unserved_range [] pass hold at n of_kind is e = absurd (cc)
+unserved_range (x ∷ xs) pass hold at n of_kind is e = absurd (cc)
+
+-- before the first map only an initialise and what changes nothing may be done
+first_acts : (h : List Effect) (pass : ℕ) (stream : Option ℕ) (call : Call) → not_cached h (cached_file call (file_of call)) ≡ None → IsFiled (holds_of h) pass stream call (file_of call) → objects h ≡ [] → holds_of h ≡ [] → needs_no_map (act_of call) ≡ true
+first_acts h pass stream (call.Uninitialise file truncate) e f none free = absurd (none_open h file e none)
+first_acts h pass stream (call.CopyWrite file at bytes) e f none free = absurd (none_open h file e none)
+first_acts h pass stream (call.Zero file span) e f none free = absurd (none_open h file e none)
+first_acts h pass stream (call.PreparePin file at len true exclusive) e f none free = absurd (none_open h file e none)
+first_acts h pass stream (call.PreparePin file at len false exclusive) e f none free = refl
+first_acts h pass stream (call.PinnedWrite hold at bytes) e f none free = absurd (unserved_range (holds_of h) pass hold at (length bytes) is_pin free f)
+first_acts h pass stream (call.SetDirty hold lsn) e f none free = absurd (unserved (holds_of h) pass hold is_pin free f)
+first_acts h pass stream (call.MdlStore hold at bytes) e f none free = absurd (unserved_range (holds_of h) pass hold at (length bytes) is_write_chain free f)
+first_acts h pass stream (call.NcStore file page bytes) e f none free = absurd (none_open h file e none)
+first_acts h pass stream (call.SetSizes file allocation size) e f none free = absurd (none_open h file e none)
+first_acts h pass stream other e f none free = refl
+
+-- and no hold is made
+first_holds : (h : List Effect) (call : Call) → not_cached h (cached_file call (file_of call)) ≡ None → objects h ≡ [] → (pass id : ℕ) → held_after pass call id [] ≡ []
+first_holds h (call.Map file at len) e none pass id = absurd (none_open h file e none)
+first_holds h (call.PinRead file at len exclusive) e none pass id = absurd (none_open h file e none)
+first_holds h (call.PreparePin file at len true exclusive) e none pass id = absurd (none_open h file e none)
+first_holds h (call.PreparePin file at len false exclusive) e none pass id = absurd (none_open h file e none)
+first_holds h (call.MdlRead file at len) e none pass id = absurd (none_open h file e none)
+first_holds h (call.MdlWrite file at len) e none pass id = absurd (none_open h file e none)
+first_holds h (call.PinMapped hold exclusive) e none pass id = refl
+first_holds h (call.PinnedWrite hold at bytes) e none pass id = refl
+first_holds h (call.SetDirty hold lsn) e none pass id = refl
+first_holds h (call.EndHold hold) e none pass id = refl
+first_holds h (call.Repin hold) e none pass id = refl
+first_holds h other e none pass id = refl
+
+pub IsSteadyCall-unrefused : (u : Setup) (past : List Entry) (h : List Effect) (pass : ℕ) (stream : Option ℕ) (call : Call) → refusal u past h call ≡ None → IsFiled (holds_of h) pass stream call (file_of call) → IsSteadyCall h call
+IsSteadyCall-unrefused u past h pass stream call e filed =
+    let free = unrefused u past h call e in
+    record {
+      within = within-valid (valid_of h) call free.within;
+      back = comes_back h call free.ordered;
+      first = first_acts h pass stream call free.cached filed;
+      unheld = λ none held. first_holds h call free.cached none;
+    }
+
+-- a call that may be done is steady, the end of a noncached write too, which changes nothing
+pub IsSteadyCall-admitted : (u : Setup) (past : List Entry) (h : List Effect) (pass : ℕ) (stream : Option ℕ) (call : Call) → IsAdmitted u past h call → IsFiled (holds_of h) pass stream call (file_of call) → IsSteadyCall h call
+IsSteadyCall-admitted u past h pass stream (call.NcWrite file page) e filed =
+    record { within = tt; back = tt; first = λ none held. refl; unheld = λ none held pass id. refl }
+IsSteadyCall-admitted u past h pass stream other e filed = IsSteadyCall-unrefused u past h pass stream other e filed

@@ -1,0 +1,7 @@
+pub mod Laws
+pub mod Facts
+pub mod ByPlaces
+pub mod ByPlacesDirty
+pub mod ByPlacesResident
+pub mod ByPlacesSizes
+pub mod ByPlacesImage

@@ -1,5 +1,0 @@
-use Rattle.cc_model.proofs.PlacesResident.{resident-places}
-use Rattle.cc_model.proofs.by_places.resident_by_places.Goals as goal
-
-pub returns : goal.returns
-returns c = resident-places

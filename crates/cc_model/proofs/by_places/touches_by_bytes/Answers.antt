@@ -1,5 +1,0 @@
-use Rattle.cc_model.proofs.PlacesTouches.{touches-places}
-use Rattle.cc_model.proofs.by_places.touches_by_bytes.Goals as goal
-
-pub returns : goal.returns
-returns c = touches-places

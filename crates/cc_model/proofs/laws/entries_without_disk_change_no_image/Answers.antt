@@ -1,8 +1,0 @@
-use Rattle.cc_model.proofs.KeptLaws.{SameImages-deviceless, SameCrash-deviceless}
-use Rattle.cc_model.proofs.laws.entries_without_disk_change_no_image.Goals as goal
-
-pub returns-clause-images : goal.returns-clause-images
-returns-clause-images c = SameImages-deviceless
-
-pub returns-clause-crash : goal.returns-clause-crash
-returns-clause-crash c = SameCrash-deviceless

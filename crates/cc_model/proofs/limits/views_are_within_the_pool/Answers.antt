@@ -1,5 +1,0 @@
-use Rattle.cc_model.proofs.ViewsTaken.{views_taken-good}
-use Rattle.cc_model.proofs.limits.views_are_within_the_pool.Goals as goal
-
-pub returns : goal.returns
-returns c = views_taken-good

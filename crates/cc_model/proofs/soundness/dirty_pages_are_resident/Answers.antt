@@ -1,5 +1,0 @@
-use Rattle.cc_model.proofs.SoundFacts.{dirty_resident-good}
-use Rattle.cc_model.proofs.soundness.dirty_pages_are_resident.Goals as goal
-
-pub returns : goal.returns
-returns c = dirty_resident-good

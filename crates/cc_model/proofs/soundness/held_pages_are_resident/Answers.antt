@@ -1,5 +1,0 @@
-use Rattle.cc_model.proofs.SoundFacts.{held_resident-good}
-use Rattle.cc_model.proofs.soundness.held_pages_are_resident.Goals as goal
-
-pub returns : goal.returns
-returns c = held_resident-good

@@ -1,5 +1,0 @@
-use Rattle.cc_model.proofs.WholeFacts.{IsSound-good}
-use Rattle.cc_model.proofs.soundness.streams_are_sound.Goals as goal
-
-pub returns : goal.returns
-returns c = IsSound-good
