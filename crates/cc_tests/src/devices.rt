@@ -1,0 +1,1 @@
+//! Tests of the devices in memory, and the traits of what is outside.

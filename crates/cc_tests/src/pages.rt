@@ -1,0 +1,1 @@
+//! Tests of the frames of a view block.
