@@ -1,5 +1,5 @@
 -- Which hold a word of a script names, by what the caller's earlier lines were answered.
-use Rattle.std.specs.Prelude.{◌≡◌, ℕ, Bool, true, false, List, [], ◌∷◌, map, if◌then◌else◌}
+use Rattle.std.specs.Prelude.{◌≡◌, ℕ, Bool, List, ◌∷◌, map, if◌then◌else◌}
 use Rattle.std.specs.declared.option.Option.{Option}
 use Rattle.std.specs.declared.option.Option.TheVariants.{Some, None}
 use Rattle.std.specs.List.{find}
@@ -23,10 +23,13 @@ abbrev pub bound : List ℕ → HoldKind → Answer → List Binding → List Bi
 bound name its_kind (answer.Given (reply.Hold id)) bindings = record { name = name; id = id; kind = its_kind } ∷ bindings
 bound name its_kind other bindings = bindings
 
+-- a binding of this word names a pin from now on
+abbrev pub pinned_if : List ℕ → Binding → Binding
+pinned_if name b = if bytes_eq b.name name then record b { kind = kind.Pin } else b
+
 -- after a line that makes a pin of the map that the word names, where it is done
 abbrev pub pinned : List ℕ → Answer → List Binding → List Binding
-pinned name (answer.Given (reply.Hold id)) bindings =
-    map (λ b. if bytes_eq b.name name then record b { kind = kind.Pin } else b) bindings
+pinned name (answer.Given (reply.Hold id)) bindings = map (pinned_if name) bindings
 pinned name other bindings = bindings
 
 -- the id of a binding, where the hold is of such a kind

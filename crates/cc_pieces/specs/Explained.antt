@@ -1,5 +1,5 @@
 -- The journal of a run, and the answers of a script's lines, explain each other.
-use Rattle.std.specs.Prelude.{◌≡◌, ◌≢◌, ℕ, nat_eq, Bool, true, List, [], ◌∷◌, ◌++◌, map}
+use Rattle.std.specs.Prelude.{◌≡◌, ◌≢◌, ℕ, nat_eq, true, List, [], ◌++◌, map}
 use Rattle.std.specs.List.{flat_map, IsDistinct}
 use Rattle.cc_entry.specs.declared.answer.LineReply.{LineReply}
 use Rattle.cc_entry.specs.declared.entry.Entry.{Entry}
@@ -10,7 +10,7 @@ use Rattle.cc_effects.specs.Moments.{IsIdle}
 use Rattle.cc_pieces.specs.Served.{posted_by}
 use Rattle.cc_pieces.specs.Runs.{asked_of}
 use Rattle.cc_pieces.specs.Openings.{Opened}
-use Rattle.cc_pieces.specs.Phases.{Plan, PhasesRan}
+use Rattle.cc_pieces.specs.Phases.{PhasesRan}
 
 -- the numbers of the lines that replies answer
 abbrev pub answered_lines : List LineReply → List ℕ
