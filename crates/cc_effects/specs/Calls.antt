@@ -1,5 +1,5 @@
 -- What a call leaves that has an entry of its own, by what it was answered.
-use Rattle.std.specs.Prelude.{◌≡◌, ℕ, true, List, ◌∷◌, ◌++◌, length, ◌⊎◌}
+use Rattle.std.specs.Prelude.{◌≡◌, ℕ, Bool, true, false, List, [], ◌∷◌, ◌++◌, length, ◌⊎◌}
 use Rattle.std.specs.declared.option.Option.{Option}
 use Rattle.std.specs.declared.option.Option.TheVariants.{Some, None}
 use Rattle.cc_entry.specs.Place.{Range}
@@ -24,9 +24,18 @@ use Rattle.cc_model.specs.Flushed.{settled_since}
 use Rattle.cc_model.specs.Filing.{IsFiled}
 use Rattle.cc_effects.specs.Moments.{Others, AtSome}
 use Rattle.cc_effects.specs.Asked.{Calls}
-use Rattle.cc_effects.specs.Places.{Works}
+use Rattle.cc_effects.specs.Places.{Works, syncs_of}
 use Rattle.cc_effects.specs.Stops.{IsUnstopped, IsStopped, IsToldBy, may_give_up}
 use Rattle.cc_effects.specs.Refusals.{may_refuse, may_want}
+
+-- A call is under way: what the pass placed so far it may place for the call, nothing stopped it, and it has
+-- not synced.
+pub record IsUnderWay (me : ℕ) (it : Call) (old new : List Entry) : Type 0 where
+  pub during : List Entry
+  pub grew : new ≡ during ++ old
+  pub works : Works me (Calls it) during old
+  pub unsynced : syncs_of me during ≡ []
+  pub unstopped : IsUnstopped me during
 
 -- The entry of a call stands behind what the call placed before, and after it the pass placed nothing. It
 -- is filed under the stream of its file; one that names a hold under the stream in which that hold is open
@@ -35,7 +44,7 @@ pub record IsPlaced (me : ℕ) (it : Call) (ended : Outcome) (earlier old new : 
   pub nth : ℕ
   pub stream : Option ℕ
   pub later : List Entry
-  pub grew : new ≡ later ++ entry.Call me nth stream it ended ∷ earlier ++ old
+  pub grew : new ≡ later ++ (entry.Call me nth stream it ended ∷ (earlier ++ old))
   pub quiet : Others me later
   pub filed : IsFiled (holds_of (stream_history (earlier ++ old) stream)) me stream it (file_of it)
   pub works : Works me (Calls it) earlier old
@@ -114,3 +123,10 @@ CallLeft u me it (outcome.Failed (error.ReadFault page)) old new = IsFaulted me 
 CallLeft u me it (outcome.Failed (error.WriteFault page)) old new = IsFaulted me it (error.WriteFault page) old new
 CallLeft u me it (outcome.Failed (error.LogFault handle)) old new = IsFaulted me it (error.LogFault handle) old new
 CallLeft u me it (outcome.Failed e) old new = IsRefused me it e old new ⊎ IsOvertaken u me it e old new
+
+-- whether a call that is answered so leaves an entry of its own
+abbrev pub leaves_entry : Outcome → Bool
+leaves_entry (outcome.Done r) = true
+leaves_entry (outcome.Failed (error.JournalFull entries)) = false
+leaves_entry (outcome.Failed error.NoMemory) = false
+leaves_entry (outcome.Failed other) = true

@@ -25,7 +25,7 @@ pub record IsIdle (me : ℕ) (old new : List Entry) : Type 0 where
 pub record PlacedOnly (me : ℕ) (e : Entry) (old new : List Entry) : Type 0 where
   pub later : List Entry
   pub earlier : List Entry
-  pub grew : new ≡ later ++ e ∷ earlier ++ old
+  pub grew : new ≡ later ++ (e ∷ (earlier ++ old))
   pub is_own : is_mine me e ≡ true
   pub quiet_after : Others me later
   pub quiet_before : Others me earlier

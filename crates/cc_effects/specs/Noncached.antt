@@ -108,11 +108,10 @@ pub record IsTransferred (me : ℕ) (file : File) (page : ℕ) (bytes : List ℕ
   pub grew :
       new
       ≡ entry.WriteEnd me (record { stream = file.stream; page = page }) end
-      ∷ waiting
-      ++ entry.WriteBegin me (record { stream = file.stream; page = page })
+      ∷ (waiting
+      ++ (entry.WriteBegin me (record { stream = file.stream; page = page })
       ∷ entry.Call me nth (Some file.stream) (call.NcStore file page bytes) (outcome.Done reply.Unit)
-      ∷ earlier
-      ++ old
+      ∷ (earlier ++ old)))
 
 -- how many bytes the store changed: its page, cut at the size as it then was
 abbrev pub bytes_stored : ℕ → ℕ → List Entry → ℕ
@@ -136,9 +135,8 @@ pub record IsPageWritten (me : ℕ) (file : File) (page : ℕ) (bytes : List ℕ
   pub grew :
       new
       ≡ later
-      ++ entry.Call me nth (Some file.stream) (call.NcWrite file page) (outcome.Done reply.Unit)
-      ∷ tidied
-      ++ ended
+      ++ (entry.Call me nth (Some file.stream) (call.NcWrite file page) (outcome.Done reply.Unit)
+      ∷ (tidied ++ ended))
 
 -- The transfer of a page that was stored failed, and the end of the write tells it; or it found no memory,
 -- and the write has no end.

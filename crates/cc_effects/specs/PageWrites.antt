@@ -125,9 +125,9 @@ is_log_failure other = false
 -- nothing.
 pub record HasScanned (me : ℕ) (picked : List Page) (during old new : List Entry) : Type 0 where
   pub before : List Entry
-  pub grew : new ≡ during ++ entry.Scan me picked ∷ before ++ old
+  pub grew : new ≡ during ++ (entry.Scan me picked ∷ (before ++ old))
   pub quiet : Others me before
-  pub works : Works me (Writes picked) during (entry.Scan me picked ∷ before ++ old)
+  pub works : Works me (Writes picked) during (entry.Scan me picked ∷ (before ++ old))
 
 -- A tick: its scan, and then each page that it picked is counted once, by what became of it. No more pages
 -- fail by a log than a log failed.
@@ -136,7 +136,7 @@ pub record HasTicked (me : ℕ) (tick : Tick) (old new : List Entry) : Type 0 wh
   pub scanned : HasScanned me tick.picked during old new
   pub memory : HadMemory me during
   pub ends : List PageWrite
-  pub became : BecameOfAll me tick.picked ends during (entry.Scan me tick.picked ∷ scanned.before ++ old)
+  pub became : BecameOfAll me tick.picked ends during (entry.Scan me tick.picked ∷ (scanned.before ++ old))
   pub written : tick.written ≡ count_by is_written ends
   pub skipped : tick.skipped ≡ count_by is_skipped ends
   pub failed : tick.failed ≡ count_by is_failed_page ends

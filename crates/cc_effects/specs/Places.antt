@@ -1,7 +1,7 @@
 -- Which entries a call may place before its own one, each over its front.
-use Rattle.std.specs.Prelude.{◌≡◌, ℕ, ◌*◌, ◌<◌, ◌≤◌, Bool, true, false, not, ◌&&◌, nat_lt, List, [], ◌∷◌, if◌then◌else◌}
+use Rattle.std.specs.Prelude.{◌≡◌, ℕ, ◌*◌, ◌<◌, ◌≤◌, Bool, true, false, not, ◌&&◌, nat_lt, List, [], ◌∷◌, length, if◌then◌else◌}
 use Rattle.std.specs.declared.option.Option.TheVariants.{Some}
-use Rattle.std.specs.List.{count_by}
+use Rattle.std.specs.List.{filter}
 use Rattle.cc_entry.specs.Place.{Page}
 use Rattle.cc_entry.specs.declared.call.Call.{Call}
 use Rattle.cc_entry.specs.declared.entry.Entry.{Entry}
@@ -13,8 +13,7 @@ use Rattle.cc_model.specs.Residency.{is_resident}
 use Rattle.cc_model.specs.Images.{open_of}
 use Rattle.cc_model.specs.Logs.{flushed_to}
 use Rattle.cc_model.specs.Stamps.{newest_of}
-use Rattle.cc_model.specs.Passes.{is_mine}
-use Rattle.cc_effects.specs.Moments.{EachOwn, AtSome}
+use Rattle.cc_effects.specs.Moments.{own, EachOwn, AtSome}
 use Rattle.cc_effects.specs.Asked.{Work, Calls, Writes, brings_in, reads_noncached, reaches, may_bring_in, may_take_out, may_write, may_sync}
 
 -- whether a page is not resident and has a byte below the valid data length, so that its bytes are on the
@@ -66,23 +65,25 @@ MayPlace me work old past (entry.Posted id) = ⊥
 MayPlace me work old past (entry.Scan pass picked) = ⊥
 MayPlace me work old past (entry.Call pass nth stream call ended) = ⊥
 
--- whether an entry is a sync of the pass
-abbrev pub is_own_sync : ℕ → Entry → Bool
-is_own_sync me (entry.Sync pass stream how) = is_mine me (entry.Sync pass stream how)
-is_own_sync me other = false
+abbrev pub is_sync : Entry → Bool
+is_sync (entry.Sync pass stream how) = true
+is_sync other = false
 
--- whether the pass leaves no transfer of its own open: the newest of its begins and ends is an end
-abbrev pub is_ended : ℕ → List Entry → Bool
-is_ended me [] = true
-is_ended me (entry.WriteBegin pass page ∷ during) =
-    if is_mine me (entry.WriteBegin pass page) then false else is_ended me during
-is_ended me (entry.WriteEnd pass page how ∷ during) =
-    if is_mine me (entry.WriteEnd pass page how) then true else is_ended me during
-is_ended me (other ∷ during) = is_ended me during
+-- the syncs of the pass in a stretch
+abbrev pub syncs_of : ℕ → List Entry → List Entry
+syncs_of me during = filter is_sync (own me during)
+
+-- whether entries of one pass, newest first, leave no transfer open: the newest of the begins and ends is an
+-- end
+abbrev pub is_ended : List Entry → Bool
+is_ended [] = true
+is_ended (entry.WriteBegin pass page ∷ earlier) = false
+is_ended (entry.WriteEnd pass page how ∷ earlier) = true
+is_ended (other ∷ earlier) = is_ended earlier
 
 -- The entries of the pass in a stretch are such entries, with one sync at most, and none of its transfers
 -- is left open.
 pub record Works (me : ℕ) (work : Work) (during old : List Entry) : Type 0 where
   pub each : EachOwn me (MayPlace me work old) during old
-  pub one_sync : count_by (is_own_sync me) during ≤ 1
-  pub ended : is_ended me during ≡ true
+  pub one_sync : length (syncs_of me during) ≤ 1
+  pub ended : is_ended (own me during) ≡ true

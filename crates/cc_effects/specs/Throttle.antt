@@ -44,7 +44,7 @@ pub record IsPosted (me id : ℕ) (old new : List Entry) : Type 0 where
   pub idle : IsIdle me old new
   pub later : List Entry
   pub earlier : List Entry
-  pub grew : new ≡ later ++ entry.Posted id ∷ earlier ++ old
+  pub grew : new ≡ later ++ (entry.Posted id ∷ (earlier ++ old))
 
 -- nothing was posted, since at a moment there was nothing to post
 pub record WasIdleQueue (u : Setup) (me : ℕ) (old new : List Entry) : Type 0 where

@@ -11,3 +11,11 @@
 //! It stands on `cc_entry` and `cc_model`. The clauses of every call, and `cc_pieces`, which ties calls to
 //! the lines of a script, speak in its words.
 #![tactic(auto)]
+
+mod laws;
+
+pub use laws::{
+    calls_stay_explained, entries_stand_after_what_was_seen, log_calls_stay_explained,
+    noncached_calls_stay_explained, outcomes_are_as_defined, page_writes_stay_explained,
+    repins_stay_explained, steps_and_levels_stay_explained, throttle_stays_explained,
+};
