@@ -11,3 +11,7 @@
 //! What one call leaves is told by `cc_effects`, on which this crate stands, beside the script and the text; the
 //! runs stand above it.
 #![tactic(auto)]
+
+mod laws;
+
+pub use laws::{one_more_piece, others_go_on, pieces_stay_explained, reads_answer_the_plain_file};

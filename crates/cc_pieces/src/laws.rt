@@ -1,0 +1,53 @@
+//! How a caller's run grows, and what a read in it answers. Each function does nothing: its contract is the
+//! law.
+
+ghost use Rattle.std.specs.Prelude.{◌≡◌, ℕ, Bool, Some, List, [], ◌∷◌, ◌++◌};
+ghost use Rattle.cc_entry.specs.Place.{File};
+ghost use Rattle.cc_entry.specs.declared.call.Call.TheVariants as call;
+ghost use Rattle.cc_entry.specs.declared.reply.Reply.TheVariants as reply;
+ghost use Rattle.cc_entry.specs.declared.reply.Outcome.TheVariants as outcome;
+ghost use Rattle.cc_entry.specs.declared.answer.Answer.{Answer};
+ghost use Rattle.cc_entry.specs.declared.answer.Answer.TheVariants as answer;
+ghost use Rattle.cc_entry.specs.declared.entry.Entry.{Entry};
+ghost use Rattle.cc_entry.specs.declared.entry.Entry.TheVariants as entry;
+ghost use Rattle.cc_script.specs.declared.script.Action.{Action};
+ghost use Rattle.cc_script.specs.declared.script.Action.TheVariants as action;
+ghost use Rattle.cc_model.specs.Setup.{Setup};
+ghost use Rattle.cc_model.specs.History.{history};
+ghost use Rattle.cc_model.specs.Replies.{Reads};
+ghost use Rattle.cc_model.specs.Good.{IsGood};
+ghost use Rattle.cc_effects.specs.Moments.{IsIdle};
+ghost use Rattle.cc_pieces.specs.Bindings.{Binding};
+ghost use Rattle.cc_pieces.specs.Runs.{Explains, Ran, bindings_of};
+
+/// What explains a line explains it in every longer stretch in which the caller placed nothing else.
+pub fn pieces_stay_explained()
+    ensures after { (u : Setup) (limit me : ℕ) (bindings : List Binding) (asked : Action) (told : Answer) (old new newer : List Entry) →
+        Explains u limit me bindings asked told old new → IsIdle me new newer → Explains u limit me bindings asked told old newer }
+    ensures before { (u : Setup) (limit me : ℕ) (bindings : List Binding) (asked : Action) (told : Answer) (older old new : List Entry) →
+        IsIdle me older old → Explains u limit me bindings asked told old new → Explains u limit me bindings asked told older new }
+{}
+
+/// A caller's run goes on by a line that a piece explains, with the bindings that its lines so far made.
+pub fn one_more_piece()
+    ensures { (u : Setup) (limit me : ℕ) (bindings : List Binding) (lines : List (Action × Answer)) (asked : Action) (told : Answer) (old between new : List Entry) →
+        Ran u limit me bindings lines old between → Explains u limit me (bindings_of bindings lines) asked told between new →
+        Ran u limit me bindings (lines ++ (asked, told) ∷ []) old new }
+{}
+
+/// What other callers place behind a caller's run changes nothing of it.
+pub fn others_go_on()
+    ensures { (u : Setup) (limit me : ℕ) (bindings : List Binding) (lines : List (Action × Answer)) (old between new : List Entry) →
+        Ran u limit me bindings lines old between → IsIdle me between new → Ran u limit me bindings lines old new }
+{}
+
+/// In a good journal, a line that a copied read answered with bytes has its entry in its piece, and the bytes
+/// are the plain file's at that place (`CcCopyRead`).
+pub fn reads_answer_the_plain_file()
+    ensures { (u : Setup) (limit me : ℕ) (bindings : List Binding) (file : File) (at len : ℕ) (wait : Bool) (bytes : List ℕ) (old new newer : List Entry) →
+        IsGood u (newer ++ new) →
+        Explains u limit me bindings (action.CopyRead file at len wait) (answer.Given (reply.Read bytes)) old new →
+        (nth : ℕ) × (later : List Entry) × (earlier : List Entry)
+        × (new ≡ later ++ (entry.Call me nth (Some file.stream) (call.CopyRead file at len wait) (outcome.Done (reply.Read bytes)) ∷ (earlier ++ old)))
+        × Reads (u.opening file.stream) (history (earlier ++ old) file.stream) at len (reply.Read bytes) }
+{}
