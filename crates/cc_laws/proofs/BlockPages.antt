@@ -13,18 +13,18 @@ use Rattle.cc_model.specs.Numbers.{is_among, placed, ascending}
 use Rattle.cc_laws.proofs.BlockLists.{same-flip}
 
 -- ascending lists keep each number once
-abbrev Above : ℕ → List ℕ → Type 0
+abbrev pub Above : ℕ → List ℕ → Type 0
 Above n ns = AllByRecursion (λ m. n < m) ns
 
-abbrev Rises : List ℕ → Type 0
+abbrev pub Rises : List ℕ → Type 0
 Rises [] = Unit {0}
 Rises (n ∷ ns) = Above n ns × Rises ns
 
-above-less : (k n : ℕ) (ns : List ℕ) → k < n → Above n ns → Above k ns
+pub above-less : (k n : ℕ) (ns : List ℕ) → k < n → Above n ns → Above k ns
 above-less k n [] less above = tt
 above-less k n (m ∷ ns) less above = let first : n < m = above.0 in (omega arith, above-less k n ns less above.1)
 
-above-placed : (k n : ℕ) (ns : List ℕ) → k < n → Above k ns → Above k (placed n ns)
+pub above-placed : (k n : ℕ) (ns : List ℕ) → k < n → Above k ns → Above k (placed n ns)
 above-placed k n [] less above = (less, tt)
 above-placed k n (m ∷ ns) less above = go (nat_lt n m) (m == n) (above-placed k n ns less above.1)
   where
@@ -33,7 +33,7 @@ above-placed k n (m ∷ ns) less above = go (nat_lt n m) (m == n) (above-placed 
     go false true rest = above
     go false false rest = (above.0, rest)
 
-rises-placed : (n : ℕ) (ns : List ℕ) → Rises ns → Rises (placed n ns)
+pub rises-placed : (n : ℕ) (ns : List ℕ) → Rises ns → Rises (placed n ns)
 rises-placed n [] rises = (tt, tt)
 rises-placed n (m ∷ ns) rises = go (nat_lt n m) refl (m == n) refl (rises-placed n ns rises.1)
   where
@@ -48,15 +48,15 @@ rises-placed n (m ∷ ns) rises = go (nat_lt n m) refl (m == n) refl (rises-plac
         below : (a b : ℕ) → a ≤ b → (a ≡ b → ⊥) → a < b
         below a b low apart = omega arith
 
-rises-ascending : (ns : List ℕ) → Rises (ascending ns)
+pub rises-ascending : (ns : List ℕ) → Rises (ascending ns)
 rises-ascending [] = tt
 rises-ascending (n ∷ ns) = rises-placed n (ascending ns) (rises-ascending ns)
 
-apart-above : (n : ℕ) (ns : List ℕ) → Above n ns → AllByRecursion (λ m. nat_eq n m ≡ false) ns
+pub apart-above : (n : ℕ) (ns : List ℕ) → Above n ns → AllByRecursion (λ m. nat_eq n m ≡ false) ns
 apart-above n [] above = tt
 apart-above n (m ∷ ns) above = let less : n < m = above.0 in (ne_eqb n m (λ e. omega arith), apart-above n ns above.1)
 
-IsDistinct-rises : (ns : List ℕ) → Rises ns → IsDistinct nat_eq ns
+pub IsDistinct-rises : (ns : List ℕ) → Rises ns → IsDistinct nat_eq ns
 unfolding IsDistinct
 IsDistinct-rises [] rises = tt
 IsDistinct-rises (n ∷ ns) rises = (apart-above n ns rises.0, IsDistinct-rises ns rises.1)

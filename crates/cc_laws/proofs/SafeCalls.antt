@@ -20,7 +20,7 @@ use Rattle.cc_model.specs.History.{Effect, history}
 use Rattle.cc_model.specs.Acts.{act_of, file_of}
 use Rattle.cc_model.specs.Objects.{objects}
 use Rattle.cc_model.specs.Holds.{Hold, holds_of, hold_at, least_id, lesser}
-use Rattle.cc_model.specs.Touches.{size_of, valid_of, is_mapped}
+use Rattle.cc_model.specs.Touches.{size_of, is_mapped}
 use Rattle.cc_model.specs.Ranges.{range_of, needs_pages}
 use Rattle.cc_model.specs.Residency.{is_resident, all_resident}
 use Rattle.cc_model.specs.Reasons.{refuse_if, not_cached, past_size}
