@@ -6,7 +6,7 @@ use Rattle.std.proofs.lemmas.List.Folds.{list_any-append}
 use Rattle.std.proofs.lemmas.List.FromFn.{length-range_with_len}
 use Rattle.std.proofs.lemmas.Map.Made.{length-le_from_is_member}
 use Rattle.std.specs.Cmp.{nat_eq_equiv}
-use Rattle.std.specs.List.{range_with_len, IsDistinct, AllByRecursion}
+use Rattle.std.specs.List.{range_with_len, filter, IsDistinct, AllByRecursion}
 use Rattle.std.specs.Set.{distinct_count, is_member, unique_keys}
 use Rattle.cc_entry.specs.Pages.{block_of}
 use Rattle.cc_model.specs.Numbers.{is_among, placed, ascending}
@@ -51,6 +51,22 @@ rises-placed n (m ∷ ns) rises = go (nat_lt n m) refl (m == n) refl (rises-plac
 pub rises-ascending : (ns : List ℕ) → Rises (ascending ns)
 rises-ascending [] = tt
 rises-ascending (n ∷ ns) = rises-placed n (ascending ns) (rises-ascending ns)
+
+pub above-filter : (test : ℕ → Bool) (k : ℕ) (ns : List ℕ) → Above k ns → Above k (filter test ns)
+above-filter test k [] above = tt
+above-filter test k (n ∷ ns) above = go (test n) (above-filter test k ns above.1)
+  where
+    go : (t : Bool) → Above k (filter test ns) → Above k (cond t (n ∷ filter test ns) (filter test ns))
+    go true rest = (above.0, rest)
+    go false rest = rest
+
+pub rises-filter : (test : ℕ → Bool) (ns : List ℕ) → Rises ns → Rises (filter test ns)
+rises-filter test [] rises = tt
+rises-filter test (n ∷ ns) rises = go (test n) (rises-filter test ns rises.1)
+  where
+    go : (t : Bool) → Rises (filter test ns) → Rises (cond t (n ∷ filter test ns) (filter test ns))
+    go true rest = (above-filter test n ns rises.0, rest)
+    go false rest = rest
 
 pub apart-above : (n : ℕ) (ns : List ℕ) → Above n ns → AllByRecursion (λ m. nat_eq n m ≡ false) ns
 apart-above n [] above = tt

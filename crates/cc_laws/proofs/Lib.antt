@@ -74,3 +74,4 @@ pub mod PlacesImage
 pub mod PlacesSizes
 pub mod PlacesTouches
 pub mod DiscardLaws
+pub mod LeastPages

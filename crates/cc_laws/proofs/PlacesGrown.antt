@@ -167,6 +167,9 @@ low-WasPast h p i k =
     through : (a b : ℕ) → a ≤ b → b ≤ i → a ≤ i
     through a b x y = omega arith
 
+pub low-places : (h : List Effect) (p i : ℕ) → i < valid_of h → (low_of h p ≤ i) ↔ WasPast h p i
+low-places h p i valid = (λ low. WasPast-low h p i low valid, low-WasPast h p i)
+
 -- a page has grown where it has such a byte
 pub grown-places : (h : List Effect) (p : ℕ) → (has_grown h p ≡ true) ↔ GrownByte h p
 grown-places h p = (there_is, grows)

@@ -6,3 +6,4 @@ pub mod ByPlacesGrown
 pub mod ByPlacesResident
 pub mod ByPlacesSizes
 pub mod ByPlacesImage
+pub mod LeastPages

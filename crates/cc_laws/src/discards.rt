@@ -1,9 +1,11 @@
 //! What the disk is known to hold, and what a discard makes of a stream. Each function does nothing: its
 //! contract is the law.
 
-ghost use Rattle.std.specs.Prelude.{◌≡◌, ℕ, ◌+◌, ◌-◌, ◌*◌, ◌<◌, ◌≤◌, Some, is_some, true, false, List, ◌∷◌, slice_index, Option};
-ghost use Rattle.cc_entry.specs.Place.{Range};
+ghost use Rattle.std.specs.Prelude.{◌≡◌, ◌↔◌, ℕ, ◌+◌, ◌-◌, ◌*◌, ◌<◌, ◌≤◌, Some, None, is_some, true, false, not, List, ◌∷◌, slice_index, Option};
+ghost use Rattle.cc_entry.specs.Place.{File, Range};
 ghost use Rattle.cc_entry.specs.declared.call.Call.{Call};
+ghost use Rattle.cc_entry.specs.declared.call.Call.TheVariants as call;
+ghost use Rattle.cc_entry.specs.declared.error.CcError.TheVariants as error;
 ghost use Rattle.cc_entry.specs.declared.reply.Reply.{Reply};
 ghost use Rattle.cc_model.specs.History.{Effect, Did};
 ghost use Rattle.cc_model.specs.Acts.{act_of, Discards};
@@ -12,7 +14,8 @@ ghost use Rattle.cc_model.specs.Touches.{sizes, valid_of, unwritten, is_dirty, i
 ghost use Rattle.cc_model.specs.Bytes.{on_disk, byte_of};
 ghost use Rattle.cc_model.specs.Residency.{is_resident};
 ghost use Rattle.cc_model.specs.Images.{image};
-ghost use Rattle.cc_model.specs.Discards.{is_known};
+ghost use Rattle.cc_model.specs.Discards.{is_known, has_grown, unsettled, grown};
+ghost use Rattle.cc_laws.specs.LeastPages.{IsLeastDirty};
 
 /// Where the image of a page is known, the byte that the disk holds is the image's.
 pub fn on_disk_is_the_image()
@@ -57,4 +60,20 @@ pub fn discards_give_the_image()
     ensures clean { (pages : ℕ → List ℕ) (pass : ℕ) (call : Call) (reply : Reply) (h : List Effect)
         (span : Option Range) (p i : ℕ) → act_of call ≡ Discards span → is_dirty h p ≡ false →
         4096 * p ≤ i → i < 4096 * p + 4096 → byte_of pages (Did pass call reply ∷ h) i ≡ byte_of pages h i }
+{}
+
+/// A discard is refused for the least dirty page of its span whose image is not known, and else for the
+/// least that has grown, and for neither where there is no such page.
+pub fn discards_are_refused_for_the_least_page()
+    ensures unsettled { (h : List Effect) (file : File) (span : Option Range) (p : ℕ) →
+        (unsettled h (call.Discard file span) ≡ Some (error.Unsettled p))
+        ↔ IsLeastDirty h span (λ q. not (is_known h q)) p }
+    ensures settled { (h : List Effect) (file : File) (span : Option Range) →
+        (unsettled h (call.Discard file span) ≡ None)
+        ↔ ((p : ℕ) → is_dirty h p ≡ true → span_has span p ≡ true → is_known h p ≡ true) }
+    ensures grown { (h : List Effect) (file : File) (span : Option Range) (p : ℕ) →
+        (grown h (call.Discard file span) ≡ Some (error.Grown p)) ↔ IsLeastDirty h span (has_grown h) p }
+    ensures not_grown { (h : List Effect) (file : File) (span : Option Range) →
+        (grown h (call.Discard file span) ≡ None)
+        ↔ ((p : ℕ) → is_dirty h p ≡ true → span_has span p ≡ true → has_grown h p ≡ false) }
 {}
