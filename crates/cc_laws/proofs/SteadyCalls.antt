@@ -7,7 +7,6 @@ use Rattle.cc_entry.specs.Place.{File}
 use Rattle.cc_entry.specs.declared.call.Call.{Call}
 use Rattle.cc_entry.specs.declared.call.Call.TheVariants as call
 use Rattle.cc_entry.specs.declared.hold.HoldKind.{HoldKind}
-use Rattle.cc_entry.specs.declared.error.CcError.{CcError}
 use Rattle.cc_entry.specs.declared.entry.Entry.{Entry}
 use Rattle.cc_model.specs.Setup.{Setup}
 use Rattle.cc_model.specs.Numbers.{is_among}
@@ -17,23 +16,18 @@ use Rattle.cc_model.specs.Objects.{objects, had_map}
 use Rattle.cc_model.specs.Holds.{Hold, hold_at, holds_of, held_after}
 use Rattle.cc_model.specs.Touches.{valid_of, is_mapped}
 use Rattle.cc_model.specs.Images.{open_of}
-use Rattle.cc_model.specs.Reasons.{refuse_if, not_cached, cached_file, in_order, bad_sizes, past_valid, beyond_valid}
+use Rattle.cc_model.specs.Reasons.{not_cached, cached_file, in_order, bad_sizes, past_valid, beyond_valid}
 use Rattle.cc_model.specs.Discards.{unsettled}
 use Rattle.cc_model.specs.Refusals.{refusal}
 use Rattle.cc_model.specs.Legal.{IsAdmitted}
 use Rattle.cc_model.specs.Filing.{is_write_chain, serves, serves_range, IsFiled}
 use Rattle.cc_entry.specs.Kinds.{is_pin}
-use Rattle.cc_laws.proofs.UnrefusedCalls.{unrefused}
+use Rattle.cc_laws.proofs.UnrefusedCalls.{unrefused, refuse_if-none}
 use Rattle.cc_laws.proofs.LeastPages.{unsettled-none}
 use Rattle.cc_laws.proofs.Steady.{BeginsWithin, ComesBackWithin, DiscardsSettled, needs_no_map, IsSteadyCall}
 
--- a reason that does not hold
-unless : (b : Bool) (e : CcError) → refuse_if b e ≡ None → b ≡ false
-unless true e is = absurd (cc)
-unless false e is = refl
-
 not_past : (valid start : ℕ) → past_valid valid start ≡ None → start ≤ valid
-not_past valid start is = ltb-false valid start (unless (nat_lt valid start) _ is)
+not_past valid start is = ltb-false valid start (refuse_if-none (nat_lt valid start) _ is)
 
 within-valid : (valid : ℕ) (call : Call) → beyond_valid valid call ≡ None → BeginsWithin valid (act_of call)
 within-valid valid (call.CopyWrite file at bytes) e = not_past valid at e
@@ -54,7 +48,7 @@ back-valid false true true valid given e is_not was = ltb-false valid given e
 
 comes_back : (h : List Effect) (call : Call) → bad_sizes h call ≡ None → ComesBackWithin h (act_of call)
 comes_back h (call.Initialise file sizes quota temporary) e =
-    back-valid (is_mapped h) (in_order sizes) (had_map h) (valid_of h) sizes.valid (unless _ _ e)
+    back-valid (is_mapped h) (in_order sizes) (had_map h) (valid_of h) sizes.valid (refuse_if-none _ _ e)
 comes_back h (call.PreparePin file at len true exclusive) e = tt
 comes_back h (call.PreparePin file at len false exclusive) e = tt
 comes_back h other e = tt
@@ -72,7 +66,7 @@ settled h other e finds = tt
 
 -- no object is open where there is none
 none_open : (h : List Effect) (file : File) → not_cached h (Some file) ≡ None → objects h ≡ [] → ⊥
-none_open h file e none = go (objects h) none (unless _ _ e)
+none_open h file e none = go (objects h) none (refuse_if-none _ _ e)
   where
     go : (opened : List ℕ) → opened ≡ [] → not (is_among file.object opened) ≡ false → ⊥
     go [] is closed = absurd (cc)
