@@ -30,7 +30,7 @@ pub fn images_are_known_over_every_disk()
 {}
 
 /// After a discard no page of its span is dirty or resident, and every other page is as it was: its
-/// touches, whether it is resident, and its bytes. The sizes stay.
+/// touches, its bytes and, while the stream has a map, whether it is resident. The sizes stay.
 pub fn discards_drop_their_pages()
     ensures clean { (pass : ℕ) (call : Call) (reply : Reply) (h : List Effect) (span : Option Range) (p : ℕ) →
         act_of call ≡ Discards span → span_has span p ≡ true → is_dirty (Did pass call reply ∷ h) p ≡ false }
@@ -62,8 +62,8 @@ pub fn discards_give_the_image()
         4096 * p ≤ i → i < 4096 * p + 4096 → byte_of pages (Did pass call reply ∷ h) i ≡ byte_of pages h i }
 {}
 
-/// A discard is refused for the least dirty page of its span whose image is not known, and else for the
-/// least that has grown, and for neither where there is no such page.
+/// The two reasons that a discard alone meets name the least dirty page of its span whose image is not known,
+/// and the least that has grown, and neither holds where there is no such page.
 pub fn discards_are_refused_for_the_least_page()
     ensures unsettled { (h : List Effect) (file : File) (span : Option Range) (p : ℕ) →
         (unsettled h (call.Discard file span) ≡ Some (error.Unsettled p))
