@@ -38,15 +38,26 @@ abbrev pub grown_written : List Entry
 grown_written = grown ++ written 1 1
 
 -- a later change of it is dropped
-abbrev pub settled_byte_back : List Entry
-settled_byte_back =
+abbrev pub later_dropped : List Entry
+later_dropped = grown_written ++ done 1 2 (call.CopyWrite a 5000 (205 ∷ [])) ∷ discarded 1 3 ∷ []
+
+-- the stream's sizes as a caller is told them
+abbrev pub told : ℕ → Entry
+told valid = answers 1 4 (call.State a) (reply.State (record { sizes = sized 8192 valid; log = None }))
+
+-- the sizes stay, and the byte is the one that was written
+abbrev pub written_byte_back : List Entry
+written_byte_back =
     reverse (
-    grown_written
-    ++ done 1 2 (call.CopyWrite a 5000 (205 ∷ []))
-    ∷ discarded 1 3
+    later_dropped
+    ++ told 5001
     ∷ read_in 1 1
-    ∷ answers 1 4 (call.CopyRead a 5000 2 true) (reply.Read (171 ∷ 0 ∷ []))
+    ∷ answers 1 5 (call.CopyRead a 5000 2 true) (reply.Read (171 ∷ 0 ∷ []))
     ∷ [])
+
+-- wrong: the valid data length falls
+abbrev pub valid_dropped : List Entry
+valid_dropped = reverse (later_dropped ++ told 5000 ∷ [])
 
 -- one more byte becomes valid since, so the page has grown again
 abbrev pub grown_since : List Entry
