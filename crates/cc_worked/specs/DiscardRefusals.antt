@@ -158,7 +158,7 @@ cut_page_dropped =
     ∷ discarded 1 5
     ∷ [])
 
--- a zeroing lets both pages grow: the first is told
+-- a zeroing lets both pages grow: a discard of both is told the first
 abbrev pub both_grown : CcError → List Entry
 both_grown cause =
     reverse (
@@ -166,7 +166,23 @@ both_grown cause =
     ∷ read_in 1 0
     ∷ entry.PageIn 1 (page 1) false
     ∷ done 1 1 (call.Zero a (record { from = 4000; to = 4098 }))
-    ∷ barred 1 2 cause
+    ∷ refused 1 2 (call.Discard a (Some second_page)) (error.Grown 1)
+    ∷ barred 1 3 cause
+    ∷ [])
+
+-- the first page is changed, and the second grows: the first is discarded
+abbrev pub dropped_beside_grown : List Entry
+dropped_beside_grown =
+    reverse (
+    opened 8192 5000
+    ∷ read_in 1 0
+    ∷ read_in 1 1
+    ∷ done 1 1 (call.CopyWrite a 0 (171 ∷ []))
+    ∷ done 1 2 (call.CopyWrite a 5000 (205 ∷ []))
+    ∷ done 1 3 (call.Discard a (Some first_page))
+    ∷ read_in 1 0
+    ∷ answers 1 4 (call.CopyRead a 0 1 true) (reply.Read (90 ∷ []))
+    ∷ answers 1 5 (call.CopyRead a 5000 1 true) (reply.Read (205 ∷ []))
     ∷ [])
 
 -- A zeroing lets both pages grow, and a write of the second fails.
