@@ -130,7 +130,8 @@ settled_by_flush =
 abbrev pub unsettled_dropped : List Entry
 unsettled_dropped = reverse (write_failed ++ discarded 1 3 ∷ [])
 
--- a write that ended as it did leaves the page unsettled, or not
+-- A page is written with this end and changed again; a discard is told that what the disk holds of it is
+-- not known.
 abbrev pub barred_after : End → List Entry
 barred_after how =
     reverse (

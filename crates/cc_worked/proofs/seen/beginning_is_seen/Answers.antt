@@ -13,7 +13,9 @@ returns-clause-beginning c = record { later = dirty_is 2 2 false ∷ []; grew = 
 
 pub returns-clause-no_more : goal.returns-clause-no_more
 returns-clause-no_more c seen =
-    let long : length seen_after ≡ length seen.later + length whole_journal = ap length seen.grew ∙ length-append seen.later whole_journal in
+    let long : length seen_after ≡ length seen.later + length whole_journal =
+    ap length seen.grew ∙ length-append seen.later whole_journal
+    in
     let short : 4 ≡ length seen.later + 5 = long in
     omega arith
 
@@ -21,6 +23,8 @@ pub returns-clause-none_left_out : goal.returns-clause-none_left_out
 returns-clause-none_left_out c seen =
     let long : 5 ≡ length seen.later + 3 = ap length seen.grew ∙ length-append seen.later one_left_out in
     let two : length seen.later ≡ 2 = omega arith in
-    let rest : drop (length seen.later) whole_journal ≡ one_left_out = ap (drop (length seen.later)) seen.grew ∙ drop-append_seam seen.later one_left_out in
+    let rest : drop (length seen.later) whole_journal ≡ one_left_out =
+    ap (drop (length seen.later)) seen.grew ∙ drop-append_seam seen.later one_left_out
+    in
     let at_two : drop 2 whole_journal ≡ one_left_out = sym (ap (λ n. drop n whole_journal) two) ∙ rest in
     grind arith
