@@ -34,7 +34,10 @@ fn a_disk_keeps_pages(rt: HostRuntime) -> Result<(), Fail> {
     assert_eq!(rt; disk.may(3)?.len(), 2);
     disk.stop_after(4);
     assert_eq!(rt; write_and_read(&mut disk, 3, 9), Err(Stop::Failed));
-    assert_eq!(rt; (disk.page(3)[0], disk.page(4)[0], disk.faults()), (7, 0x5A, 2));
+    assert_eq!(rt;
+        (disk.page(3)[0], disk.page(4)[0], disk.faults()),
+        (7, 0x5A, 2)
+    );
     Ok(())
 }
 
@@ -54,7 +57,10 @@ fn a_log_takes_5000_appends(rt: HostRuntime) -> Result<(), Fail> {
         assert_eq!(rt; append_and_flush(&mut log, lsn), Ok(()));
     }
     assert_eq!(rt; append_and_flush(&mut log, 5001), Err(Stop::Failed));
-    assert_eq!(rt; (log.entries().len(), log.durable(), log.faults()), (5000, 5000, 1));
+    assert_eq!(rt;
+        (log.entries().len(), log.durable(), log.faults()),
+        (5000, 5000, 1)
+    );
     let mut boxed: Box<dyn LogFile + Send> = Box::new(rt.alloc(), log)?;
     assert_eq!(rt; append_and_flush(&mut boxed, 5002), Ok(()));
     Ok(())

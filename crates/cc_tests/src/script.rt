@@ -33,7 +33,10 @@ const WHOLE: [(&str, u32); 34] = [
     ("stream a 1 1 1", 1),
     ("stream a 1 1\nstream a 1 1", 2),
     ("stream a 1 1\nstate a\nstream b 1 1", 3),
-    ("journal 64\nstream a 1 1\nt16 state a\nt1 sizes a 18446744073709551615 4194304", 0),
+    (
+        "journal 64\nstream a 1 1\nt16 state a\nt1 sizes a 18446744073709551615 4194304",
+        0,
+    ),
     ("journal 63", 1),
     ("journal 1048577", 1),
     ("journal 64\njournal 64", 2),
@@ -44,8 +47,14 @@ const WHOLE: [(&str, u32); 34] = [
     ("stream a 1 1\ncread b 0 1", 2),
     ("stream a 1 1\ncread a:0 0 1", 2),
     ("stream a 1 1\ncread a 0 2097152\ncread a 0 2097153", 3),
-    ("stream a 1 1\ncwrite a 0 AB\ncwrite a 0 ABCD,00x2\ncwrite a 0 -\ncwrite a 0 AB,", 5),
-    ("stream a 1 1\ncwrite a 0 ABx2097152\ncwrite a 0 ABx2097152,00", 3),
+    (
+        "stream a 1 1\ncwrite a 0 AB\ncwrite a 0 ABCD,00x2\ncwrite a 0 -\ncwrite a 0 AB,",
+        5,
+    ),
+    (
+        "stream a 1 1\ncwrite a 0 ABx2097152\ncwrite a 0 ABx2097152,00",
+        3,
+    ),
     ("stream a 1 1\ncwrite a 0 ABx0", 2),
     ("stream a 1 1\ncwrite a 0 ab", 2),
     ("stream a 1 1\ncwrite a 0 ABCDx2", 2),
@@ -87,12 +96,23 @@ fn keeps_values(rt: HostRuntime) -> Result<(), Fail> {
     let script = read_offered(rt.alloc(), text, Mode::Run, Offer::Whole)
         .ok()
         .ok_or("read")?;
-    assert_eq!(rt; (script.journal, script.threshold, script.phases), (64, 1024, 2));
+    assert_eq!(rt;
+        (script.journal, script.threshold, script.phases),
+        (64, 1024, 2)
+    );
     let [stream] = script.streams.as_slice() else {
         return Err("one stream".into());
     };
     assert_eq!(rt; stream.name.as_str(), "a");
-    assert_eq!(rt; (stream.line, stream.size, stream.valid, stream.quota.blocks()), (4, 9, 7, 16));
+    assert_eq!(rt;
+        (
+            stream.line,
+            stream.size,
+            stream.valid,
+            stream.quota.blocks()
+        ),
+        (4, 9, 7, 16)
+    );
     let [write, flush] = script.lines.as_slice() else {
         return Err("two actions".into());
     };
@@ -100,7 +120,10 @@ fn keeps_values(rt: HostRuntime) -> Result<(), Fail> {
     let Action::CopyWrite { at, bytes, .. } = &write.action else {
         return Err("a write".into());
     };
-    assert_eq!(rt; (*at, bytes.len(), bytes.get(0), bytes.get(2)), (5, 3, Some(0xAB), Some(0)));
+    assert_eq!(rt;
+        (*at, bytes.len(), bytes.get(0), bytes.get(2)),
+        (5, 3, Some(0xAB), Some(0))
+    );
     assert_eq!(rt; (flush.line, flush.caller, flush.phase), (7, 1, 2));
     Ok(())
 }
@@ -124,7 +147,8 @@ fn reads_the_largest_scripts(rt: HostRuntime) -> Result<(), Fail> {
         let read = read_script(rt.alloc(), text.as_bytes(), Mode::Run);
         assert_eq!(rt; wrong_line(read), Some(line));
     }
-    let header = "stream a 1 1\nstream b 1 1\nstream c 1 1\nstream d 1 1\nstream e 1 1\nstream f 1 1\nstream g 1 1\nstream h 1 1\nstream i 1 1\nstream j 1 1\nstream k 1 1\nstream l 1 1\nstream m 1 1\nstream n 1 1\nstream o 1 1\nstream p 1 1\n";
+    let header =
+        "stream a 1 1\nstream b 1 1\nstream c 1 1\nstream d 1 1\nstream e 1 1\nstream f 1 1\nstream g 1 1\nstream h 1 1\nstream i 1 1\nstream j 1 1\nstream k 1 1\nstream l 1 1\nstream m 1 1\nstream n 1 1\nstream o 1 1\nstream p 1 1\n";
     let streams = repeated(rt.alloc(), header, "stream q 1 1\n", 1)?;
     for (text, line) in [(header, 0), (streams.as_str(), 17)] {
         let read = read_offered(rt.alloc(), text.as_bytes(), Mode::Run, Offer::Whole);

@@ -1,6 +1,9 @@
 //! Tests of values, bytes and errors.
 
-use cc_entry::{Answer, Bytes, Call, CcError, Entry, Ids, LineReply, NoMemory, Outcome, PageId, Pages, Reply, Rows, StreamId};
+use cc_entry::{
+    Answer, Bytes, Call, CcError, Entry, Ids, LineReply, NoMemory, Outcome, PageId, Pages, Reply,
+    Rows, StreamId,
+};
 use std::test::Fail;
 
 /// Takes a value that may cross threads.
