@@ -69,14 +69,7 @@ objects-done pass call reply h = go (act_of call) refl
   where
     go : (a : Act) → act_of call ≡ a → objects (Did pass call reply ∷ h) ≡ objects_by a h
     go (Opens file given quota temporary) is = rw (is, objects) refl
-    go (Closes file truncate) is = rw (is, objects) refl
-    go (Resizes allocation size) is = rw (is, objects) refl
-    go (Writes at bytes) is = rw (is, objects) refl
-    go (Zeroes from to) is = rw (is, objects) refl
-    go (Stores page bytes) is = rw (is, objects) refl
-    go (Stamps hold lsn) is = rw (is, objects) refl
-    go (Discards span) is = rw (is, objects) refl
-    go Looks is = rw (is, objects) refl
+    go other is = rw (is, objects) refl
 
 pub touched-done : (pass : ℕ) (call : Call) (reply : Reply) (h : List Effect) → touched (Did pass call reply ∷ h) ≡ touched_by (act_of call) h
 unfolding touched
@@ -84,14 +77,7 @@ touched-done pass call reply h = go (act_of call) refl
   where
     go : (a : Act) → act_of call ≡ a → touched (Did pass call reply ∷ h) ≡ touched_by a h
     go (Opens file given quota temporary) is = rw (is, touched) refl
-    go (Closes file truncate) is = rw (is, touched) refl
-    go (Resizes allocation size) is = rw (is, touched) refl
-    go (Writes at bytes) is = rw (is, touched) refl
-    go (Zeroes from to) is = rw (is, touched) refl
-    go (Stores page bytes) is = rw (is, touched) refl
-    go (Stamps hold lsn) is = rw (is, touched) refl
-    go (Discards span) is = rw (is, touched) refl
-    go Looks is = rw (is, touched) refl
+    go other is = rw (is, touched) refl
 
 pub sizes-done : (pass : ℕ) (call : Call) (reply : Reply) (h : List Effect) → sizes (Did pass call reply ∷ h) ≡ sizes_by (act_of call) h
 unfolding sizes
@@ -99,14 +85,7 @@ sizes-done pass call reply h = go (act_of call) refl
   where
     go : (a : Act) → act_of call ≡ a → sizes (Did pass call reply ∷ h) ≡ sizes_by a h
     go (Opens file given quota temporary) is = rw (is, sizes) refl
-    go (Closes file truncate) is = rw (is, sizes) refl
-    go (Resizes allocation size) is = rw (is, sizes) refl
-    go (Writes at bytes) is = rw (is, sizes) refl
-    go (Zeroes from to) is = rw (is, sizes) refl
-    go (Stores page bytes) is = rw (is, sizes) refl
-    go (Stamps hold lsn) is = rw (is, sizes) refl
-    go (Discards span) is = rw (is, sizes) refl
-    go Looks is = rw (is, sizes) refl
+    go other is = rw (is, sizes) refl
 
 pub touches-done : (ended : Bool) (pass : ℕ) (call : Call) (reply : Reply) (h : List Effect) (p : ℕ) → touches ended (Did pass call reply ∷ h) p ≡ touches_by ended (act_of call) h p
 unfolding touches
@@ -114,14 +93,7 @@ touches-done ended pass call reply h p = go (act_of call) refl
   where
     go : (a : Act) → act_of call ≡ a → touches ended (Did pass call reply ∷ h) p ≡ touches_by ended a h p
     go (Opens file given quota temporary) is = rw (is, touches) refl
-    go (Closes file truncate) is = rw (is, touches) refl
-    go (Resizes allocation size) is = rw (is, touches) refl
-    go (Writes at bytes) is = rw (is, touches) refl
-    go (Zeroes from to) is = rw (is, touches) refl
-    go (Stores page bytes) is = rw (is, touches) refl
-    go (Stamps hold lsn) is = rw (is, touches) refl
-    go (Discards span) is = rw (is, touches) refl
-    go Looks is = rw (is, touches) refl
+    go other is = rw (is, touches) refl
 
 pub content-done : (pages : ℕ → List ℕ) (pass : ℕ) (call : Call) (reply : Reply) (h : List Effect) (i : ℕ) → content pages (Did pass call reply ∷ h) i ≡ content_by pages (act_of call) h i
 unfolding content
@@ -129,11 +101,4 @@ content-done pages pass call reply h i = go (act_of call) refl
   where
     go : (a : Act) → act_of call ≡ a → content pages (Did pass call reply ∷ h) i ≡ content_by pages a h i
     go (Opens file given quota temporary) is = rw (is, content) refl
-    go (Closes file truncate) is = rw (is, content) refl
-    go (Resizes allocation size) is = rw (is, content) refl
-    go (Writes at bytes) is = rw (is, content) refl
-    go (Zeroes from to) is = rw (is, content) refl
-    go (Stores page bytes) is = rw (is, content) refl
-    go (Stamps hold lsn) is = rw (is, content) refl
-    go (Discards span) is = rw (is, content) refl
-    go Looks is = rw (is, content) refl
+    go other is = rw (is, content) refl

@@ -1,5 +1,5 @@
 -- Reasons that do not hold of a call that is done.
-use Rattle.std.specs.Prelude.{◌≡◌, ℕ, ◌*◌, ◌<◌, Bool, true, false, nat_le, List, refl}
+use Rattle.std.specs.Prelude.{◌≡◌, ℕ, ◌*◌, ◌<◌, nat_le, List}
 use Rattle.std.proofs.lemmas.Bool.{leb-false}
 use Rattle.std.specs.declared.option.Option.TheVariants.{None}
 use Rattle.cc_entry.specs.declared.call.Call.{Call}
@@ -14,7 +14,7 @@ use Rattle.cc_model.specs.Conflicts.{held}
 use Rattle.cc_model.specs.Views.{no_vacbs}
 use Rattle.cc_model.specs.Refusals.{refusal}
 use Rattle.cc_model.specs.Legal.{IsAdmitted}
-use Rattle.cc_laws.proofs.UnrefusedCalls.{unrefused}
+use Rattle.cc_laws.proofs.UnrefusedCalls.{unrefused, refuse_if-none}
 
 -- no page past the size, no open hold and no want of views bars the call
 pub record HasRoom (past : List Entry) (h : List Effect) (call : Call) : Type 0 where
@@ -36,10 +36,6 @@ pub HasRoomFor-admitted : (u : Setup) (past : List Entry) (h : List Effect) (cal
 HasRoomFor-admitted u past h (call.NcWrite file page) e = tt
 HasRoomFor-admitted u past h other e = HasRoom-unrefused u past h other e
 
--- a reason that does not hold
-pub refuse_if-none : (b : Bool) (e : CcError) → refuse_if b e ≡ None → b ≡ false
-refuse_if-none true e is = absurd (cc)
-refuse_if-none false e is = refl
-
+-- a noncached store is of a page that begins below the size
 pub stores_below : (size page : ℕ) (e : CcError) → refuse_if (nat_le size (4096 * page)) e ≡ None → 4096 * page < size
 stores_below size page e is = leb-false size (4096 * page) (refuse_if-none (nat_le size (4096 * page)) e is)

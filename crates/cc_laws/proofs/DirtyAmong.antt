@@ -1,9 +1,9 @@
--- The list of the dirty pages of a stream has each of them.
-use Rattle.std.specs.Prelude.{◌≡◌, ℕ, Bool, true, false, cond, not, ◌&&◌, ◌||◌, ◌==◌, nat_lt, List, [], ◌∷◌, refl}
+-- The list of the dirty pages of a stream has each of them, and no other.
+use Rattle.std.specs.Prelude.{◌≡◌, ℕ, Bool, true, false, cond, ◌||◌, ◌==◌, nat_lt, List, [], ◌∷◌, refl}
 use Rattle.std.specs.declared.option.Option.TheVariants.{Some, None}
 use Rattle.std.specs.List.{find}
 use Rattle.std.proofs.Common.{ap, sym, ◌∙◌}
-use Rattle.std.proofs.lemmas.Bool.{and_from, not-true, eqb-true}
+use Rattle.std.proofs.lemmas.Bool.{and_parts, and_from, not-true, eqb-true}
 use Rattle.cc_model.specs.Numbers.{is_empty, is_among, placed, ascending}
 use Rattle.cc_model.specs.History.{Effect}
 use Rattle.cc_model.specs.Touches.{touched, touches, is_dirty, dirty_pages}
@@ -38,6 +38,10 @@ pub dirty-among : (h : List Effect) (p : ℕ) → is_dirty h p ≡ true → is_a
 dirty-among h p dirty =
     is_among-filter (is_dirty h) p (ascending (touched h))
     ∙ and_from _ _ (is_among-ascending p (touched h) ∙ touched-left false h p (not-true (is_empty (touches false h p)) dirty)) dirty
+
+-- and only these
+pub dirty_pages-dirty : (h : List Effect) (q : ℕ) → is_among q (dirty_pages h) ≡ true → is_dirty h q ≡ true
+dirty_pages-dirty h q is = (and_parts (is_among q (ascending (touched h))) (is_dirty h q) (sym (is_among-filter (is_dirty h) q (ascending (touched h))) ∙ is)).1
 
 -- what is found in a list where nothing passes a test fails it
 pub find-none : (test : ℕ → Bool) (p : ℕ) (ns : List ℕ) → find test ns ≡ None → is_among p ns ≡ true → test p ≡ false

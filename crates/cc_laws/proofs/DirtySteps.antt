@@ -1,4 +1,6 @@
 -- How it steps whether a page is dirty.
+--
+-- It waits for `cc_book`, the book of a stream, which keeps a row for each dirty page.
 use Rattle.std.specs.Prelude.{◌≡◌, ℕ, ◌+◌, ◌*◌, Bool, true, false, ◌==◌, nat_le, List, ◌∷◌, length, refl}
 use Rattle.std.specs.declared.option.Option.{Option}
 use Rattle.std.specs.declared.option.Option.TheVariants.{Some, None}

@@ -1,9 +1,11 @@
 -- What the disk holds of a byte is what the page's image has of it, where the image is known.
-use Rattle.std.specs.Prelude.{◌≡◌, ℕ, ◌+◌, ◌-◌, ◌*◌, ◌/◌, ◌%◌, ◌<◌, ◌≤◌, Bool, true, false, ◌==◌, ◌&&◌, ◌||◌, cond, is_some, nat_lt, List, [], ◌∷◌, slice_index, refl}
+use Rattle.std.specs.Prelude.{◌≡◌, ℕ, ◌+◌, ◌-◌, ◌*◌, ◌/◌, ◌%◌, ◌<◌, ◌≤◌, Bool, true, false, ◌==◌, ◌&&◌, cond, is_some, nat_lt, List, [], ◌∷◌, slice_index, refl}
 use Rattle.std.specs.declared.option.Option.{Option}
 use Rattle.std.specs.declared.option.Option.TheVariants.{Some, None}
 use Rattle.std.proofs.Common.{arith, ap, sym, ◌∙◌}
 use Rattle.std.proofs.lemmas.List.FromFn.{get_or-map-range_with_len}
+use Rattle.cc_entry.specs.declared.call.Call.{Call}
+use Rattle.cc_entry.specs.declared.reply.Reply.{Reply}
 use Rattle.cc_entry.specs.declared.entry.End.{End}
 use Rattle.cc_model.specs.History.{Effect, Did, CameIn, WentOut, Began, Ended, Synced}
 use Rattle.cc_model.specs.Sizes.{ended_ok}
@@ -16,6 +18,15 @@ use Rattle.cc_laws.proofs.ImageSteps.{begun-began_page, begun-began_other, image
 pub page_bytes-at : (pages : ℕ → List ℕ) (h : List Effect) (p i : ℕ) → 4096 * p ≤ i → i < 4096 * p + 4096 → slice_index (page_bytes pages h p) (i - 4096 * p) ≡ byte_of pages h i
 unfolding page_bytes page_size
 page_bytes-at pages h p i low high = get_or-map-range_with_len (byte_of pages h) (4096 * p) 4096 (i - 4096 * p) i 0 (omega arith) (omega arith)
+
+-- neither a call nor a sync changes what the disk holds
+pub on_disk-done : (pages : ℕ → List ℕ) (pass : ℕ) (call : Call) (reply : Reply) (h : List Effect) (i : ℕ) → on_disk pages false (Did pass call reply ∷ h) i ≡ on_disk pages false h i
+unfolding on_disk
+on_disk-done pages pass call reply h i = refl
+
+pub on_disk-synced : (pages : ℕ → List ℕ) (pass : ℕ) (how : End) (h : List Effect) (i : ℕ) → on_disk pages false (Synced pass how ∷ h) i ≡ on_disk pages false h i
+unfolding on_disk
+on_disk-synced pages pass how h i = refl
 
 -- a begin gives the byte as its transfer began
 on_disk-began_page : (pages : ℕ → List ℕ) (pass page : ℕ) (h : List Effect) (i : ℕ) → (page == i / 4096) ≡ true → on_disk pages true (Began pass page ∷ h) i ≡ byte_of pages h i

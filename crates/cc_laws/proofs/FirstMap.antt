@@ -45,13 +45,7 @@ IsFirst-done pass call reply h steady first never = go (act_of call) refl (stead
     go : (a : Act) → act_of call ≡ a → needs_no_map (act_of call) ≡ true → IsFirst (Did pass call reply ∷ h)
     go (Opens file given quota temporary) is fits = absurd (cc (had_map-opens pass call reply h is))
     go Looks is fits = IsFirst-looks pass call reply h is steady first
-    go (Closes file truncate) is fits = absurd (cc (ap needs_no_map is))
-    go (Resizes allocation size) is fits = absurd (cc (ap needs_no_map is))
-    go (Writes at bytes) is fits = absurd (cc (ap needs_no_map is))
-    go (Zeroes from to) is fits = absurd (cc (ap needs_no_map is))
-    go (Stores page bytes) is fits = absurd (cc (ap needs_no_map is))
-    go (Stamps hold lsn) is fits = absurd (cc (ap needs_no_map is))
-    go (Discards span) is fits = absurd (cc (ap needs_no_map is))
+    go other is fits = absurd (cc (ap needs_no_map is))
 
 -- a call that may be done before the first map changes no content
 pub content-first : (pages : ℕ → List ℕ) (pass : ℕ) (call : Call) (reply : Reply) (h : List Effect) (i : ℕ) → IsSteadyCall h call → IsFirst h → content pages (Did pass call reply ∷ h) i ≡ content pages h i
@@ -60,13 +54,7 @@ content-first pages pass call reply h i steady first = go (act_of call) refl (st
     go : (a : Act) → act_of call ≡ a → needs_no_map (act_of call) ≡ true → content pages (Did pass call reply ∷ h) i ≡ content pages h i
     go (Opens file given quota temporary) is fits = content-opens pages pass call reply h i is
     go Looks is fits = content-looks pages pass call reply h i is
-    go (Closes file truncate) is fits = absurd (cc (ap needs_no_map is))
-    go (Resizes allocation size) is fits = absurd (cc (ap needs_no_map is))
-    go (Writes at bytes) is fits = absurd (cc (ap needs_no_map is))
-    go (Zeroes from to) is fits = absurd (cc (ap needs_no_map is))
-    go (Stores page bytes) is fits = absurd (cc (ap needs_no_map is))
-    go (Stamps hold lsn) is fits = absurd (cc (ap needs_no_map is))
-    go (Discards span) is fits = absurd (cc (ap needs_no_map is))
+    go other is fits = absurd (cc (ap needs_no_map is))
 
 -- a stream that has no map after a call had none before it
 never_before : (pass : ℕ) (call : Call) (reply : Reply) (h : List Effect) → had_map (Did pass call reply ∷ h) ≡ false → had_map h ≡ false

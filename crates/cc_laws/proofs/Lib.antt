@@ -66,9 +66,12 @@ pub mod DirtyPages
 pub mod WholeFacts
 pub mod PlacesSteps
 pub mod PlacesDirty
+pub mod PlacesGrown
 pub mod PlacesLast
 pub mod PlacesBytes
 pub mod PlacesResident
 pub mod PlacesImage
 pub mod PlacesSizes
 pub mod PlacesTouches
+pub mod DiscardLaws
+pub mod LeastPages

@@ -6,7 +6,7 @@ use Rattle.std.proofs.lemmas.Bool.{or_parts, cond-true, cond-false, lt-ltb, le-l
 use Rattle.cc_model.specs.History.{Effect, Did, CameIn, WentOut, Began, Ended, Synced}
 use Rattle.cc_model.specs.Acts.{Act, act_of, Opens, Closes, Resizes, Writes, Zeroes, Stores, Stamps, Discards, Looks}
 use Rattle.cc_model.specs.Touches.{valid_of}
-use Rattle.cc_model.specs.Bytes.{content, on_disk, byte_of}
+use Rattle.cc_model.specs.Bytes.{content, byte_of}
 use Rattle.cc_model.specs.Images.{image}
 use Rattle.cc_laws.specs.ByPlaces.{some_effect, act_changes, changes_byte, byte_given, act_discards, discards_page, decides_byte, LastPlace}
 use Rattle.cc_laws.proofs.ByteSteps.{byte_of-below, byte_of-above}

@@ -1,7 +1,7 @@
 -- A touch of a page is a change of a byte of it, or a set-dirty whose hold has it.
-use Rattle.std.specs.Prelude.{◌≡◌, ℕ, ◌+◌, ◌*◌, ◌<◌, ◌≤◌, true, ◌⊎◌, ◌↔◌, nat_lt, nat_le, max, List, length}
+use Rattle.std.specs.Prelude.{◌≡◌, ℕ, ◌+◌, ◌*◌, ◌<◌, ◌≤◌, true, ◌⊎◌, ◌↔◌, nat_lt, max, List, length}
 use Rattle.std.proofs.Common.{arith, inl, inr}
-use Rattle.std.proofs.lemmas.Bool.{and_parts, and_from, ltb-true, lt-ltb, leb-true, le-leb}
+use Rattle.std.proofs.lemmas.Bool.{and_parts, and_from, ltb-true, lt-ltb, le-leb}
 use Rattle.cc_entry.specs.Place.{Range}
 use Rattle.cc_entry.specs.Pages.{has_byte, has_page}
 use Rattle.cc_model.specs.History.{Effect, Did, CameIn, WentOut, Began, Ended, Synced}
@@ -10,6 +10,7 @@ use Rattle.cc_model.specs.Sizes.{stored_range}
 use Rattle.cc_model.specs.Touches.{size_of}
 use Rattle.cc_laws.specs.ByPlaces.{act_touches, act_changes, touches_page}
 use Rattle.cc_laws.specs.ByPlacesDirty.{ChangedByte, act_stamps, stamps_page}
+use Rattle.cc_laws.proofs.CoveredBytes.{has_page-byte}
 
 -- a byte of the page that the range has
 record InRange (r : Range) (p : ℕ) : Type 0 where
@@ -26,13 +27,6 @@ InRange-page r p has =
     let before : r.from < 4096 * p + 4096 = ltb-true _ _ b.0 in
     let after : 4096 * p < r.to = ltb-true _ _ b.1 in
     record { byte = max r.from (4096 * p); low = omega arith; high = omega arith; has = and_from _ _ (le-leb r.from (max r.from (4096 * p)) (omega arith)) (lt-ltb (max r.from (4096 * p)) r.to (omega arith)) }
-
-page-byte : (r : Range) (p i : ℕ) → 4096 * p ≤ i → i < 4096 * p + 4096 → has_byte r i ≡ true → has_page r p ≡ true
-page-byte r p i low high has =
-    let k = and_parts (nat_le r.from i) _ has in
-    let from : r.from ≤ i = leb-true r.from i k.0 in
-    let to : i < r.to = ltb-true i r.to k.1 in
-    and_from _ _ (lt-ltb r.from r.to (omega arith)) (and_from _ _ (lt-ltb r.from (4096 * p + 4096) (omega arith)) (lt-ltb (4096 * p) r.to (omega arith)))
 
 -- of an act: what changes a byte of the page, and what stamps it
 record ActChanges (p : ℕ) (a : Act) (h : List Effect) : Type 0 where
@@ -56,9 +50,9 @@ changes-touch : (a : Act) (h : List Effect) (p i : ℕ) → 4096 * p ≤ i → i
 changes-touch (Opens file given quota temporary) h p i low high is = absurd (cc)
 changes-touch (Closes file truncate) h p i low high is = absurd (cc)
 changes-touch (Resizes allocation size) h p i low high is = absurd (cc)
-changes-touch (Writes at bytes) h p i low high is = page-byte (record { from = at; to = at + length bytes }) p i low high is
-changes-touch (Zeroes from to) h p i low high is = page-byte (record { from = from; to = to }) p i low high is
-changes-touch (Stores page bytes) h p i low high is = page-byte (stored_range page (size_of h)) p i low high is
+changes-touch (Writes at bytes) h p i low high is = has_page-byte (record { from = at; to = at + length bytes }) p i low high is
+changes-touch (Zeroes from to) h p i low high is = has_page-byte (record { from = from; to = to }) p i low high is
+changes-touch (Stores page bytes) h p i low high is = has_page-byte (stored_range page (size_of h)) p i low high is
 changes-touch (Stamps hold lsn) h p i low high is = absurd (cc)
 changes-touch (Discards span) h p i low high is = absurd (cc)
 changes-touch Looks h p i low high is = absurd (cc)

@@ -9,7 +9,6 @@ use Rattle.std.proofs.lemmas.Bool.{and_parts, not-false, ltb-true, leb-true, ltb
 use Rattle.cc_entry.specs.Place.{File}
 use Rattle.cc_entry.specs.declared.call.Call.{Call}
 use Rattle.cc_entry.specs.declared.call.Call.TheVariants as call
-use Rattle.cc_entry.specs.declared.error.CcError.{CcError}
 use Rattle.cc_entry.specs.declared.reply.Reply.{Reply}
 use Rattle.cc_entry.specs.declared.hold.HoldKind.{HoldKind}
 use Rattle.cc_entry.specs.declared.entry.Entry.{Entry}
@@ -20,22 +19,18 @@ use Rattle.cc_model.specs.History.{Effect, history}
 use Rattle.cc_model.specs.Acts.{act_of, file_of}
 use Rattle.cc_model.specs.Objects.{objects}
 use Rattle.cc_model.specs.Holds.{Hold, holds_of, hold_at, least_id, lesser}
-use Rattle.cc_model.specs.Touches.{size_of, valid_of, is_mapped}
+use Rattle.cc_model.specs.Touches.{size_of, is_mapped}
 use Rattle.cc_model.specs.Ranges.{range_of, needs_pages}
 use Rattle.cc_model.specs.Residency.{is_resident, all_resident}
-use Rattle.cc_model.specs.Reasons.{refuse_if, not_cached, past_size}
+use Rattle.cc_model.specs.Reasons.{not_cached, past_size}
 use Rattle.cc_model.specs.Conflicts.{held_by, has_page_of}
 use Rattle.cc_model.specs.Refusals.{IsUnrefused}
 use Rattle.cc_model.specs.Filing.{serves_range, IsFiled}
 use Rattle.cc_model.specs.Conditions.{IsFilled, IsReady}
 use Rattle.cc_model.specs.Legal.{IsAdmitted}
-use Rattle.cc_laws.proofs.UnrefusedCalls.{unrefused}
+use Rattle.cc_laws.proofs.UnrefusedCalls.{unrefused, refuse_if-none}
 use Rattle.cc_laws.proofs.Lists1.{among-all, among-pages, among-not_empty, any-found}
 use Rattle.cc_laws.proofs.SafeHistory.{MayHold, Filled, Held, in_hold, IsHoldSafe, IsActSafe}
-
-refuse-none : (b : Bool) (e : CcError) → refuse_if b e ≡ None → b ≡ false
-refuse-none true e is = absurd (cc)
-refuse-none false e is = refl
 
 held_by-none : (o : Option ℕ) → held_by o ≡ None → o ≡ None
 held_by-none None is = refl
@@ -54,17 +49,17 @@ least-none test (hold ∷ holds) is = go (test hold) is (least-none test holds)
     go false is rest = rest is
 
 open-not_empty : (h : List Effect) (file : File) → not_cached h (Some file) ≡ None → is_empty (objects h) ≡ false
-open-not_empty h file is = among-not_empty file.object (objects h) (not-false _ (refuse-none _ _ is))
+open-not_empty h file is = among-not_empty file.object (objects h) (not-false _ (refuse_if-none _ _ is))
 
 filled-pages : (h : List Effect) (from to : ℕ) → all_resident h (record { from = from; to = to }) ≡ true → (p : ℕ) → has_page (record { from = from; to = to }) p ≡ true → is_resident h p ≡ true
 filled-pages h from to all p has = among-all (is_resident h) p (pages_of (record { from = from; to = to })) all (among-pages (record { from = from; to = to }) p has)
 
 below-size : (size end : ℕ) → past_size size end ≡ None → end ≤ size
-below-size size end is = ltb-false size end (refuse-none _ _ is)
+below-size size end is = ltb-false size end (refuse_if-none _ _ is)
 
 hold-safe : (h : List Effect) (file : File) (at len : ℕ) → not_cached h (Some file) ≡ None → past_size (size_of h) (at + len) ≡ None → all_resident h (record { from = at; to = at + len }) ≡ true → MayHold h at len
 hold-safe h file at len cached size filled = record {
-  within = refuse-none _ _ size;
+  within = refuse_if-none _ _ size;
   resident = filled-pages h at (at + len) filled;
   opened = open-not_empty h file cached;
 }
@@ -97,7 +92,7 @@ closes-safe h true last is = least-none (λ hold. true) (holds_of h) (held_by-no
 closes-safe h false last is = absurd (cc)
 
 acts-safe : (u : Setup) (past : List Entry) (pass s : ℕ) (call : Call) (reply : Reply) → let h : List Effect = history past s in IsUnrefused u past h call → IsFiled (holds_of h) pass (Some s) call (file_of call) → OnTrue (needs_pages call reply) (IsFilled h (range_of (size_of h) call)) → IsReady past pass s call → IsActSafe h (act_of call)
-acts-safe u past pass s (call.Initialise file sizes quota temporary) reply passed filed filled ready = λ unmapped. opens-safe (history past s) _ _ unmapped (refuse-none _ _ passed.sizes_in_order)
+acts-safe u past pass s (call.Initialise file sizes quota temporary) reply passed filed filled ready = λ unmapped. opens-safe (history past s) _ _ unmapped (refuse_if-none _ _ passed.sizes_in_order)
 acts-safe u past pass s (call.Uninitialise file truncate) reply passed filed filled ready = λ last. closes-safe (history past s) _ last passed.not_held
 acts-safe u past pass s (call.CopyWrite file at bytes) reply passed filed filled ready = Filled (below-size _ _ passed.within_size) (filled-pages (history past s) at (at + length bytes) filled)
 acts-safe u past pass s (call.Zero file span) reply passed filed filled ready = Filled (below-size _ _ passed.within_size) (filled-pages (history past s) span.from span.to filled)
@@ -109,7 +104,7 @@ acts-safe u past pass s (call.NcStore file page bytes) reply passed filed filled
 acts-safe u past pass s (call.SetSizes file allocation size) reply passed filed filled ready = (small, least-none (λ hold. nat_lt size (hold.at + hold.len)) (holds_of (history past s)) (held_by-none _ passed.not_held))
   where
     ordered : (nat_le size allocation && nat_lt allocation (2 ^ 63)) ≡ true
-    ordered = not-false _ (refuse-none _ _ passed.sizes_in_order)
+    ordered = not-false _ (refuse_if-none _ _ passed.sizes_in_order)
 
     small : size < 2 ^ 63
     small = below (2 ^ 63) (leb-true size allocation (and_parts (nat_le size allocation) _ ordered).0) (ltb-true allocation (2 ^ 63) (and_parts (nat_le size allocation) _ ordered).1)

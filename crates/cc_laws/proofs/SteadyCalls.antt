@@ -1,17 +1,12 @@
 -- A call that is done in a legal and allowed journal is steady.
 use Rattle.std.specs.Prelude.{◌≡◌, ℕ, ◌*◌, ◌≤◌, Bool, true, false, not, ◌&&◌, ◌||◌, nat_lt, List, [], ◌∷◌, length, refl}
-use Rattle.std.proofs.Common.{ap}
-use Rattle.std.proofs.lemmas.Bool.{and_from, ltb-false}
-use Rattle.std.specs.List.{find}
-use Rattle.std.specs.Option.{option_map}
+use Rattle.std.proofs.lemmas.Bool.{ltb-false}
 use Rattle.std.specs.declared.option.Option.{Option}
 use Rattle.std.specs.declared.option.Option.TheVariants.{Some, None}
-use Rattle.cc_entry.specs.Place.{File, Range}
+use Rattle.cc_entry.specs.Place.{File}
 use Rattle.cc_entry.specs.declared.call.Call.{Call}
 use Rattle.cc_entry.specs.declared.call.Call.TheVariants as call
 use Rattle.cc_entry.specs.declared.hold.HoldKind.{HoldKind}
-use Rattle.cc_entry.specs.declared.error.CcError.{CcError}
-use Rattle.cc_entry.specs.declared.error.CcError.TheVariants as error
 use Rattle.cc_entry.specs.declared.entry.Entry.{Entry}
 use Rattle.cc_model.specs.Setup.{Setup}
 use Rattle.cc_model.specs.Numbers.{is_among}
@@ -19,26 +14,20 @@ use Rattle.cc_model.specs.History.{Effect}
 use Rattle.cc_model.specs.Acts.{act_of, file_of}
 use Rattle.cc_model.specs.Objects.{objects, had_map}
 use Rattle.cc_model.specs.Holds.{Hold, hold_at, holds_of, held_after}
-use Rattle.cc_model.specs.Touches.{valid_of, is_dirty, dirty_pages, is_mapped}
-use Rattle.cc_model.specs.Ranges.{span_has}
+use Rattle.cc_model.specs.Touches.{valid_of, is_mapped}
 use Rattle.cc_model.specs.Images.{open_of}
-use Rattle.cc_model.specs.Reasons.{refuse_if, not_cached, cached_file, in_order, bad_sizes, past_valid, beyond_valid}
-use Rattle.cc_model.specs.Discards.{is_known, unsettled}
+use Rattle.cc_model.specs.Reasons.{not_cached, cached_file, in_order, bad_sizes, past_valid, beyond_valid}
+use Rattle.cc_model.specs.Discards.{unsettled}
 use Rattle.cc_model.specs.Refusals.{refusal}
 use Rattle.cc_model.specs.Legal.{IsAdmitted}
 use Rattle.cc_model.specs.Filing.{is_write_chain, serves, serves_range, IsFiled}
 use Rattle.cc_entry.specs.Kinds.{is_pin}
-use Rattle.cc_laws.proofs.UnrefusedCalls.{unrefused}
-use Rattle.cc_laws.proofs.DirtyAmong.{dirty-among, find-none}
+use Rattle.cc_laws.proofs.UnrefusedCalls.{unrefused, refuse_if-none}
+use Rattle.cc_laws.proofs.LeastPages.{unsettled-none}
 use Rattle.cc_laws.proofs.Steady.{BeginsWithin, ComesBackWithin, DiscardsSettled, needs_no_map, IsSteadyCall}
 
--- a reason that does not hold
-unless : (b : Bool) (e : CcError) → refuse_if b e ≡ None → b ≡ false
-unless true e is = absurd (cc)
-unless false e is = refl
-
 not_past : (valid start : ℕ) → past_valid valid start ≡ None → start ≤ valid
-not_past valid start is = ltb-false valid start (unless (nat_lt valid start) _ is)
+not_past valid start is = ltb-false valid start (refuse_if-none (nat_lt valid start) _ is)
 
 within-valid : (valid : ℕ) (call : Call) → beyond_valid valid call ≡ None → BeginsWithin valid (act_of call)
 within-valid valid (call.CopyWrite file at bytes) e = not_past valid at e
@@ -59,18 +48,10 @@ back-valid false true true valid given e is_not was = ltb-false valid given e
 
 comes_back : (h : List Effect) (call : Call) → bad_sizes h call ≡ None → ComesBackWithin h (act_of call)
 comes_back h (call.Initialise file sizes quota temporary) e =
-    back-valid (is_mapped h) (in_order sizes) (had_map h) (valid_of h) sizes.valid (unless _ _ e)
+    back-valid (is_mapped h) (in_order sizes) (had_map h) (valid_of h) sizes.valid (refuse_if-none _ _ e)
 comes_back h (call.PreparePin file at len true exclusive) e = tt
 comes_back h (call.PreparePin file at len false exclusive) e = tt
 comes_back h other e = tt
-
--- where no page of a span is dirty with an unknown image, each dirty page of it has a known one
-known-image : (h : List Effect) (span : Option Range) (p : ℕ) → find (λ q. span_has span q && not (is_known h q)) (dirty_pages h) ≡ None → span_has span p ≡ true → is_dirty h p ≡ true → is_known h p ≡ true
-known-image h span p none has dirty = go (is_known h p) refl (find-none (λ q. span_has span q && not (is_known h q)) p (dirty_pages h) none (dirty-among h p dirty))
-  where
-    go : (t : Bool) → is_known h p ≡ t → (span_has span p && not (is_known h p)) ≡ false → is_known h p ≡ true
-    go true is fails = is
-    go false is fails = absurd (cc (and_from (span_has span p) (not (is_known h p)) has (ap not is)))
 
 -- what a discard finds of transfers
 abbrev pub FindsNoTransfer : List Effect → Call → Type 0
@@ -78,18 +59,14 @@ FindsNoTransfer h (call.Discard file span) = open_of h ≡ None
 FindsNoTransfer h other = Unit {0}
 
 settled : (h : List Effect) (call : Call) → unsettled h call ≡ None → FindsNoTransfer h call → DiscardsSettled h (act_of call)
-settled h (call.Discard file span) e finds = record { no_transfer = finds; known = λ p. known-image h span p (none_found _ e) }
-  where
-    none_found : (o : Option ℕ) → option_map (λ p. error.Unsettled p) o ≡ None → o ≡ None
-    none_found None is = refl
-    none_found (Some p) is = absurd (cc)
+settled h (call.Discard file span) e finds = record { no_transfer = finds; known = λ p has dirty. (unsettled-none h file span).0 e p dirty has }
 settled h (call.PreparePin file at len true exclusive) e finds = tt
 settled h (call.PreparePin file at len false exclusive) e finds = tt
 settled h other e finds = tt
 
 -- no object is open where there is none
 none_open : (h : List Effect) (file : File) → not_cached h (Some file) ≡ None → objects h ≡ [] → ⊥
-none_open h file e none = go (objects h) none (unless _ _ e)
+none_open h file e none = go (objects h) none (refuse_if-none _ _ e)
   where
     go : (opened : List ℕ) → opened ≡ [] → not (is_among file.object opened) ≡ false → ⊥
     go [] is closed = absurd (cc)

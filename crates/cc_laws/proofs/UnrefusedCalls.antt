@@ -1,5 +1,5 @@
 -- Nothing refuses a call exactly where none of the reasons holds.
-use Rattle.std.specs.Prelude.{◌≡◌, ◌↔◌, List, [], ◌∷◌, refl}
+use Rattle.std.specs.Prelude.{◌≡◌, ◌↔◌, Bool, true, false, List, ◌∷◌, refl}
 use Rattle.std.specs.declared.option.Option.{Option}
 use Rattle.std.specs.declared.option.Option.TheVariants.{Some, None}
 use Rattle.cc_entry.specs.declared.call.Call.{Call}
@@ -11,7 +11,7 @@ use Rattle.cc_model.specs.Acts.{file_of}
 use Rattle.cc_model.specs.Holds.{holds_of}
 use Rattle.cc_model.specs.Touches.{size_of, valid_of}
 use Rattle.cc_model.specs.Ranges.{range_of}
-use Rattle.cc_model.specs.Reasons.{not_cached, cached_file, too_long, view_boundary, bad_sizes, bad_granularity, no_log, beyond_size, beyond_valid}
+use Rattle.cc_model.specs.Reasons.{refuse_if, not_cached, cached_file, too_long, view_boundary, bad_sizes, bad_granularity, no_log, beyond_size, beyond_valid}
 use Rattle.cc_model.specs.Conflicts.{held, busy}
 use Rattle.cc_model.specs.Views.{viewed, no_views, no_vacbs, not_resident}
 use Rattle.cc_model.specs.Discards.{unsettled, grown}
@@ -70,3 +70,8 @@ no_reason u past h call k =
 
 pub unrefused-reasons : (u : Setup) (past : List Entry) (h : List Effect) (call : Call) → (refusal u past h call ≡ None) ↔ IsUnrefused u past h call
 unrefused-reasons u past h call = (unrefused u past h call, no_reason u past h call)
+
+-- a test that is no reason fails
+pub refuse_if-none : (b : Bool) (e : CcError) → refuse_if b e ≡ None → b ≡ false
+refuse_if-none true e is = absurd (cc)
+refuse_if-none false e is = refl

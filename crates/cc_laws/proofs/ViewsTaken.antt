@@ -28,7 +28,8 @@ use Rattle.cc_laws.proofs.HistorySteps.{history-effect, history-no_effect, histo
 use Rattle.cc_laws.proofs.QuotaSteps.{quota_of-opens_mapped, quota_of-opens_anew, quota_of-closes, quota_of-resizes, quota_of-writes, quota_of-zeroes, quota_of-stores, quota_of-stamps, quota_of-discards, quota_of-looks, quota_of-came_in, quota_of-went_out, quota_of-began, quota_of-ended, quota_of-synced}
 use Rattle.cc_laws.proofs.Steady.{IsSteadyEffect, IsSteady}
 use Rattle.cc_laws.proofs.SteadyPasts.{IsSteady-good}
-use Rattle.cc_laws.proofs.AdmittedCalls.{HasRoom, HasRoomFor-admitted, refuse_if-none}
+use Rattle.cc_laws.proofs.AdmittedCalls.{HasRoom, HasRoomFor-admitted}
+use Rattle.cc_laws.proofs.UnrefusedCalls.{refuse_if-none}
 use Rattle.cc_laws.proofs.RoomPasts.{IsGoodSoFar-before}
 use Rattle.cc_laws.proofs.BlockLists.{same-flip}
 use Rattle.cc_laws.proofs.HeldObjects.{HoldsAsOpen, HoldsAsOpen-good}

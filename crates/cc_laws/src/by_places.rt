@@ -8,10 +8,12 @@ ghost use Rattle.cc_model.specs.Touches.{size_of, valid_of, unwritten, is_dirty}
 ghost use Rattle.cc_model.specs.Bytes.{byte_of};
 ghost use Rattle.cc_model.specs.Residency.{is_resident};
 ghost use Rattle.cc_model.specs.Images.{image};
+ghost use Rattle.cc_model.specs.Discards.{low_of, has_grown};
 ghost use Rattle.cc_laws.specs.ByPlaces.{some_effect, touches_page, changes_byte, byte_given, discards_page, decides_byte, ends_well, LastPlace, SincePlace};
 ghost use Rattle.cc_laws.specs.ByPlacesDirty.{ChangedByte, stamps_page, IsTouch, Has, is_newest_first};
 ghost use Rattle.cc_laws.specs.ByPlacesResident.{comes_in, goes_away};
 ghost use Rattle.cc_laws.specs.ByPlacesSizes.{size_set, sets_size, validates, invalidates};
+ghost use Rattle.cc_laws.specs.ByPlacesGrown.{WasPast, GrownByte};
 ghost use Rattle.cc_laws.specs.ByPlacesImage.{LastTransfer, ends_begun, left_by};
 
 /// An effect touches a page exactly where it changes a byte of it or is a set-dirty whose hold has it.
@@ -20,8 +22,8 @@ pub fn touches_by_bytes()
         (touches_page p e h ≡ true) ↔ (ChangedByte p e h ⊎ (stamps_page p e h ≡ true)) }
 {}
 
-/// A page is dirty exactly where some touch of it is neither written nor cut, by a size step or a discard. The touches that are
-/// left are exactly these, newest first.
+/// A page is dirty exactly where some touch of it is neither written nor cut, by a size step or a discard.
+/// The touches that are left are exactly these, newest first.
 pub fn dirty_by_places()
     ensures dirty { (h : List Effect) (p : ℕ) → (is_dirty h p ≡ true) ↔ ((t : Touch) × IsTouch h p t) }
     ensures touches { (h : List Effect) (p : ℕ) (t : Touch) → Has (unwritten h p) t ↔ IsTouch h p t }
@@ -72,4 +74,12 @@ pub fn sizes_by_places()
     ensures opening { (h : List Effect) → some_effect sets_size h [] ≡ false → size_of h ≡ 0 }
     ensures one_of_both { (h : List Effect) → LastPlace sets_size h ⊎ (some_effect sets_size h [] ≡ false) }
     ensures valid { (h : List Effect) (i : ℕ) → (i < valid_of h) ↔ SincePlace (validates i) (invalidates i) h }
+{}
+
+/// A page has grown exactly where it has a byte that is valid now and was not at some place since the
+/// stream was initialised and the last transfer of the page that ended well began. The least valid data
+/// length that the page had is at or below a valid byte exactly where there is such a place.
+pub fn grown_by_places()
+    ensures grown { (h : List Effect) (p : ℕ) → (has_grown h p ≡ true) ↔ GrownByte h p }
+    ensures low { (h : List Effect) (p i : ℕ) → i < valid_of h → (low_of h p ≤ i) ↔ WasPast h p i }
 {}

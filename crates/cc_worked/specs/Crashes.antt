@@ -1,5 +1,5 @@
 -- What a crash may leave of a page.
-use Rattle.std.specs.Prelude.{ℕ, List, [], ◌∷◌, ◌++◌, true, reverse, map, replicate, slice_index}
+use Rattle.std.specs.Prelude.{ℕ, List, [], ◌∷◌, ◌++◌, reverse, map, replicate, slice_index}
 use Rattle.std.specs.declared.option.Option.TheVariants.{None}
 use Rattle.cc_entry.specs.declared.call.Call.TheVariants as call
 use Rattle.cc_entry.specs.declared.error.CcError.TheVariants as error

@@ -38,15 +38,26 @@ abbrev pub grown_written : List Entry
 grown_written = grown ++ written 1 1
 
 -- a later change of it is dropped
-abbrev pub settled_byte_back : List Entry
-settled_byte_back =
+abbrev pub later_dropped : List Entry
+later_dropped = grown_written ++ done 1 2 (call.CopyWrite a 5000 (205 ∷ [])) ∷ discarded 1 3 ∷ []
+
+-- the stream's sizes as a caller is told them
+abbrev pub told : ℕ → Entry
+told valid = answers 1 4 (call.State a) (reply.State (record { sizes = sized 8192 valid; log = None }))
+
+-- the sizes stay, and the byte is the one that was written
+abbrev pub written_byte_back : List Entry
+written_byte_back =
     reverse (
-    grown_written
-    ++ done 1 2 (call.CopyWrite a 5000 (205 ∷ []))
-    ∷ discarded 1 3
+    later_dropped
+    ++ told 5001
     ∷ read_in 1 1
-    ∷ answers 1 4 (call.CopyRead a 5000 2 true) (reply.Read (171 ∷ 0 ∷ []))
+    ∷ answers 1 5 (call.CopyRead a 5000 2 true) (reply.Read (171 ∷ 0 ∷ []))
     ∷ [])
+
+-- wrong: the valid data length falls
+abbrev pub valid_dropped : List Entry
+valid_dropped = reverse (later_dropped ++ told 5000 ∷ [])
 
 -- one more byte becomes valid since, so the page has grown again
 abbrev pub grown_since : List Entry
@@ -119,7 +130,8 @@ settled_by_flush =
 abbrev pub unsettled_dropped : List Entry
 unsettled_dropped = reverse (write_failed ++ discarded 1 3 ∷ [])
 
--- a write that ended as it did leaves the page unsettled, or not
+-- A page is written with this end and changed again; a discard is told that what the disk holds of it is
+-- not known.
 abbrev pub barred_after : End → List Entry
 barred_after how =
     reverse (
@@ -147,7 +159,7 @@ cut_page_dropped =
     ∷ discarded 1 5
     ∷ [])
 
--- a zeroing lets both pages grow: the first is told
+-- a zeroing lets both pages grow: a discard of both is told the first
 abbrev pub both_grown : CcError → List Entry
 both_grown cause =
     reverse (
@@ -155,7 +167,23 @@ both_grown cause =
     ∷ read_in 1 0
     ∷ entry.PageIn 1 (page 1) false
     ∷ done 1 1 (call.Zero a (record { from = 4000; to = 4098 }))
-    ∷ barred 1 2 cause
+    ∷ refused 1 2 (call.Discard a (Some second_page)) (error.Grown 1)
+    ∷ barred 1 3 cause
+    ∷ [])
+
+-- the first page is changed, and the second grows: the first is discarded
+abbrev pub dropped_beside_grown : List Entry
+dropped_beside_grown =
+    reverse (
+    opened 8192 5000
+    ∷ read_in 1 0
+    ∷ read_in 1 1
+    ∷ done 1 1 (call.CopyWrite a 0 (171 ∷ []))
+    ∷ done 1 2 (call.CopyWrite a 5000 (205 ∷ []))
+    ∷ done 1 3 (call.Discard a (Some first_page))
+    ∷ read_in 1 0
+    ∷ answers 1 4 (call.CopyRead a 0 1 true) (reply.Read (90 ∷ []))
+    ∷ answers 1 5 (call.CopyRead a 5000 1 true) (reply.Read (205 ∷ []))
     ∷ [])
 
 -- A zeroing lets both pages grow, and a write of the second fails.

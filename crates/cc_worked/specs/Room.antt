@@ -50,9 +50,9 @@ finish nth = done 2 nth (call.NcWrite a 1)
 abbrev pub another_call : Entry
 another_call = done 2 2 (call.SetThreshold a 2)
 
--- n copied reads by a second caller after a past
+-- n copied reads by a second caller after a past, of a byte that nothing changed
 abbrev pub reads_after : ℕ → List Entry → List Entry
-reads_after n past = reverse (map (λ k. answers 2 (k + 1) (call.CopyRead a 0 1 true) (reply.Read (90 ∷ []))) (range_with_len 0 n)) ++ past
+reads_after n past = reverse (map (λ k. answers 2 (k + 1) (call.CopyRead a 100 1 true) (reply.Read (90 ∷ []))) (range_with_len 0 n)) ++ past
 
 -- a stream and a page of it, to which a journal of 64 entries has room for 62 reads
 abbrev pub read_in_once : List Entry

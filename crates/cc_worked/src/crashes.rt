@@ -12,6 +12,9 @@ ghost use Rattle.cc_worked.specs.Crashes.{first_bytes, under_way, unsynced, sync
 /// During a transfer a crash may leave the page as it was or as the transfer began, after a good end too;
 /// a good sync leaves the latter alone.
 pub fn crash_after_good_transfer()
+    ensures legal { IsLegal setup (synced_after how.Good how.Failed) }
+    ensures allowed { IsAllowed setup (synced_after how.Good how.Failed) }
+    ensures covered { IsCovered (synced_after how.Good how.Failed) }
     ensures under_way { first_bytes under_way 0 ≡ 90 ∷ 171 ∷ [] }
     ensures ended { first_bytes (unsynced how.Good) 0 ≡ 90 ∷ 171 ∷ [] }
     ensures synced { first_bytes (synced_after how.Good how.Good) 0 ≡ 171 ∷ [] }
@@ -32,6 +35,9 @@ pub fn crash_after_failed_transfer()
     ensures legal { IsLegal setup written_at_last }
     ensures allowed { IsAllowed setup written_at_last }
     ensures covered { IsCovered written_at_last }
+    ensures no_memory_legal { IsLegal setup (synced_after how.NoMemory how.Good) }
+    ensures no_memory_allowed { IsAllowed setup (synced_after how.NoMemory how.Good) }
+    ensures no_memory_covered { IsCovered (synced_after how.NoMemory how.Good) }
     ensures failed { first_bytes (unsynced how.Failed) 0 ≡ 90 ∷ 171 ∷ [] }
     ensures synced { first_bytes (synced_after how.Failed how.Good) 0 ≡ 90 ∷ 171 ∷ [] }
     ensures no_memory { first_bytes (synced_after how.NoMemory how.Good) 0 ≡ 90 ∷ 171 ∷ [] }

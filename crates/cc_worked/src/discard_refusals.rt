@@ -6,7 +6,7 @@ ghost use Rattle.cc_model.specs.Covered.{IsCovered};
 ghost use Rattle.cc_entry.specs.declared.error.CcError.TheVariants.{NotCached, Held, Unsettled, Grown};
 ghost use Rattle.cc_entry.specs.declared.entry.End.TheVariants as how;
 ghost use Rattle.cc_worked.specs.Values.{setup};
-ghost use Rattle.cc_worked.specs.DiscardRefusals.{barred_as_grown, grown_dropped, settled_byte_back, grown_since, grown_since_dropped, barred_as_zeroed, zeros_dropped, barred_as_reopened, barred_as_changed, settled_by_flush, unsettled_dropped, barred_after, cut_page_dropped, both_grown, unsettled_first, grown_first, unsettled_elsewhere, barred_by_hold, mapped_dropped, barred_beside_hold, of_second, of_held};
+ghost use Rattle.cc_worked.specs.DiscardRefusals.{barred_as_grown, grown_dropped, written_byte_back, valid_dropped, grown_since, grown_since_dropped, barred_as_zeroed, zeros_dropped, barred_as_reopened, barred_as_changed, settled_by_flush, unsettled_dropped, barred_after, cut_page_dropped, both_grown, dropped_beside_grown, unsettled_first, grown_first, unsettled_elsewhere, barred_by_hold, mapped_dropped, barred_beside_hold, of_second, of_held};
 
 /// A page with a byte that became valid and was never written is not discarded.
 pub fn grown_page_is_kept()
@@ -18,19 +18,23 @@ pub fn grown_page_is_kept()
     ensures not_where_none_grew { IsLegal setup (barred_as_changed (Grown 0)) → ⊥ }
 {}
 
-/// Of two pages that have grown the first is told.
-pub fn first_grown_page_is_told()
+/// Of two pages of the span that have grown the first is told; one outside it is no reason.
+pub fn first_grown_page_of_span_is_told()
     ensures legal { IsLegal setup (both_grown (Grown 0)) }
     ensures allowed { IsAllowed setup (both_grown (Grown 0)) }
     ensures covered { IsCovered (both_grown (Grown 0)) }
     ensures not_second { IsLegal setup (both_grown (Grown 1)) → ⊥ }
+    ensures beside_legal { IsLegal setup dropped_beside_grown }
+    ensures beside_allowed { IsAllowed setup dropped_beside_grown }
+    ensures beside_covered { IsCovered dropped_beside_grown }
 {}
 
 /// Once the page was written, it is discarded, unless it has grown since.
 pub fn growth_counts_since_write()
-    ensures legal { IsLegal setup settled_byte_back }
-    ensures allowed { IsAllowed setup settled_byte_back }
-    ensures covered { IsCovered settled_byte_back }
+    ensures legal { IsLegal setup written_byte_back }
+    ensures allowed { IsAllowed setup written_byte_back }
+    ensures covered { IsCovered written_byte_back }
+    ensures valid_length_stays { IsLegal setup valid_dropped → ⊥ }
     ensures since_legal { IsLegal setup grown_since }
     ensures since_allowed { IsAllowed setup grown_since }
     ensures since_covered { IsCovered grown_since }

@@ -65,6 +65,9 @@ pub fn room_is_what_is_not_owed()
 /// A journal of 64 entries is full by 64 entries, and by 62 that owe two; what is owed still finds its
 /// place.
 pub fn full_journal_has_no_room()
+    ensures legal { IsLegal setup (reads_after 2 owing) }
+    ensures allowed { IsAllowed setup (reads_after 2 owing) }
+    ensures covered { IsCovered (reads_after 2 owing) }
     ensures last { room_in (with_capacity 64) (reads_after 61 read_in_once) 0 ≡ 1 }
     ensures full { room_in (with_capacity 64) (reads_after 62 read_in_once) 0 ≡ 0 }
     ensures full_by_owed { room_in (with_capacity 64) (reads_after 58 owing) 0 ≡ 0 }
