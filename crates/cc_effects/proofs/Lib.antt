@@ -6,3 +6,4 @@ pub mod PageSteps
 pub mod NoncachedSteps
 pub mod FrontLaws
 pub mod Starts
+pub mod Licences

@@ -16,9 +16,11 @@ use Rattle.cc_model.specs.Holds.{holds_of}
 use Rattle.cc_model.specs.Legal.{stream_history}
 use Rattle.cc_model.specs.Faults.{ReadFailed}
 use Rattle.cc_model.specs.Filing.{IsFiled}
+use Rattle.cc_model.specs.Passes.{is_mine}
 use Rattle.cc_effects.specs.Moments.{AtSome}
 use Rattle.cc_effects.specs.Asked.{Calls, reaches, brings_in}
 use Rattle.cc_effects.specs.Places.{Works, may_read}
+use Rattle.cc_effects.specs.Stops.{IsUnstopped, IsToldBy}
 use Rattle.cc_effects.specs.Refusals.{may_refuse, may_want}
 use Rattle.cc_effects.specs.Calls.{IsUnderWay, IsPlaced, HasDone, IsDone, IsRefused, IsFaulted, IsUnplaced}
 use Rattle.cc_effects.proofs.Stretches.{some-end}
@@ -102,4 +104,23 @@ gives_up me it e old new way listed wants = record {
   came = inl way.unstopped;
   listed = listed;
   wants = rw way.grew (some-end (λ moment. may_want it moment ≡ true) way.during old (rw way.grew at wants));
+}
+
+-- The same from what the pass placed before the entry of the call, as a whole.
+pub done_by : (me nth : ℕ) (stream : Option ℕ) (it : Call) (r : Reply) (earlier old : List Entry) → Works me (Calls it) earlier old → IsFiled (holds_of (stream_history (earlier ++ old) stream)) me stream it (file_of it) → IsUnstopped me earlier → HasDone me it earlier old → IsDone me it r old (entry.Call me nth stream it (outcome.Done r) ∷ (earlier ++ old))
+done_by me nth stream it r earlier old works filed unstopped has = record {
+  earlier = earlier;
+  placed = placed-at me nth stream it (outcome.Done r) earlier old (earlier ++ old) refl works filed;
+  unstopped = unstopped;
+  has_done = has;
+}
+
+pub faulted_by : (me nth : ℕ) (stream : Option ℕ) (it : Call) (e : CcError) (stop : Entry) (before old : List Entry) → Works me (Calls it) (stop ∷ before) old → IsFiled (holds_of (stream_history (stop ∷ (before ++ old)) stream)) me stream it (file_of it) → may_refuse it e ≡ true → is_mine me stop ≡ true → IsUnstopped me before → IsToldBy me it e stop → IsFaulted me it e old (entry.Call me nth stream it (outcome.Failed e) ∷ (stop ∷ (before ++ old)))
+faulted_by me nth stream it e stop before old works filed listed mine unstopped told = record {
+  earlier = stop ∷ before;
+  placed = placed-at me nth stream it (outcome.Failed e) (stop ∷ before) old (stop ∷ (before ++ old)) refl works filed;
+  listed = listed;
+  stop = stop;
+  stopped = record { since = []; before = before; split = refl; is_own = mine; quiet = tt; unstopped = unstopped };
+  told = told;
 }

@@ -5,6 +5,7 @@ pub mod Places
 pub mod Stops
 pub mod Refusals
 pub mod Calls
+pub mod Licences
 pub mod LogCalls
 pub mod Throttle
 pub mod PageWrites

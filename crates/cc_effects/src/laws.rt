@@ -1,6 +1,7 @@
 //! What holds of all that calls leave. Each function does nothing: its contract is the law.
 
-ghost use Rattle.std.specs.Prelude.{◌≡◌, ℕ, Bool, true, Option, List, ◌∷◌, ◌++◌, Result};
+ghost use Rattle.std.specs.Prelude.{◌≡◌, ℕ, Bool, true, false, Option, List, ◌∷◌, ◌++◌, Result};
+ghost use Rattle.std.specs.List.{list_any};
 ghost use Rattle.cc_entry.specs.Place.{File, Page};
 ghost use Rattle.cc_entry.specs.declared.answer.Tick.{Tick};
 ghost use Rattle.cc_entry.specs.declared.answer.AheadDone.{AheadDone};
@@ -13,7 +14,12 @@ ghost use Rattle.cc_model.specs.Setup.{Setup};
 ghost use Rattle.cc_model.specs.Passes.{HasSeen, WasPlaced};
 ghost use Rattle.cc_model.specs.Legal.{IsOutcome};
 ghost use Rattle.cc_model.specs.Good.{IsGood};
-ghost use Rattle.cc_effects.specs.Moments.{IsIdle};
+ghost use Rattle.cc_entry.specs.declared.error.CcError.TheVariants as error;
+ghost use Rattle.cc_entry.specs.declared.reply.Outcome.TheVariants as outcome;
+ghost use Rattle.cc_effects.specs.Moments.{own, EachOwn, IsIdle};
+ghost use Rattle.cc_effects.specs.Asked.{Calls};
+ghost use Rattle.cc_effects.specs.Places.{MayPlace};
+ghost use Rattle.cc_effects.specs.Licences.{IsLicensed, is_call, shows_fault};
 ghost use Rattle.cc_effects.specs.Calls.{IsUnderWay, CallLeft, leaves_entry};
 ghost use Rattle.cc_effects.specs.LogCalls.{AppendLeft, LogFlushLeft};
 ghost use Rattle.cc_effects.specs.Throttle.{DeferLeft, PostLeft};
@@ -118,4 +124,31 @@ pub fn outcomes_are_as_defined()
         (nth : ℕ) × (stream : Option ℕ) × (later : List Entry) × (earlier : List Entry)
         × (new ≡ later ++ (entry.Call me nth stream it answered ∷ (earlier ++ old)))
         × IsOutcome u (earlier ++ old) me stream it answered }
+{}
+
+/// Each entry of the pass in a stretch that a call explains is the call's own one, or one that the call may
+/// place before it; a call that leaves an entry has it there, and one that leaves none has no call's entry.
+pub fn own_entries_are_licensed()
+    ensures licensed { (u : Setup) (me : ℕ) (it : Call) (answered : Outcome) (during old : List Entry) →
+        CallLeft u me it answered old (during ++ old) → leaves_entry answered ≡ true →
+        EachOwn me (IsLicensed me it answered old) during old }
+    ensures unplaced { (u : Setup) (me : ℕ) (it : Call) (answered : Outcome) (during old : List Entry) →
+        CallLeft u me it answered old (during ++ old) → leaves_entry answered ≡ false →
+        EachOwn me (MayPlace me (Calls it) old) during old }
+    ensures has_entry { (u : Setup) (me : ℕ) (it : Call) (answered : Outcome) (during old : List Entry) →
+        CallLeft u me it answered old (during ++ old) → leaves_entry answered ≡ true →
+        list_any is_call (own me during) ≡ true }
+{}
+
+/// A call is told a fault only where an entry of its own pass in its own stretch shows it.
+pub fn faults_are_shown()
+    ensures read { (u : Setup) (me : ℕ) (it : Call) (page : ℕ) (during old : List Entry) →
+        CallLeft u me it (outcome.Failed (error.ReadFault page)) old (during ++ old) →
+        shows_fault me it (error.ReadFault page) during ≡ true }
+    ensures write { (u : Setup) (me : ℕ) (it : Call) (page : ℕ) (during old : List Entry) →
+        CallLeft u me it (outcome.Failed (error.WriteFault page)) old (during ++ old) →
+        shows_fault me it (error.WriteFault page) during ≡ true }
+    ensures log { (u : Setup) (me : ℕ) (it : Call) (handle : ℕ) (during old : List Entry) →
+        CallLeft u me it (outcome.Failed (error.LogFault handle)) old (during ++ old) →
+        shows_fault me it (error.LogFault handle) during ≡ true }
 {}

@@ -25,3 +25,5 @@ pub mod DiscardRefusals
 pub mod Crashes
 pub mod Room
 pub mod Seen
+pub mod PiecesReads
+pub mod PiecesWrites
