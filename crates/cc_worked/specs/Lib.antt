@@ -27,3 +27,4 @@ pub mod Room
 pub mod Seen
 pub mod PiecesReads
 pub mod PiecesWrites
+pub mod PiecesNoncached

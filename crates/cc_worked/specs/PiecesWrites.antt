@@ -51,6 +51,13 @@ abbrev pub pages_are_purged : List Entry
 pages_are_purged =
     done 1 3 all_pages ∷ goes_out 1 1 ∷ goes_out 1 0 ∷ ends 1 1 ∷ begins 1 1 ∷ ends 1 0 ∷ begins 1 0 ∷ []
 
+-- wrong: a purge of the first page takes the other one out
+abbrev pub first_alone : Call
+first_alone = call.Purge a (Some (record { from = 0; to = 4096 }))
+
+abbrev pub other_goes_out : List Entry
+other_goes_out = done 1 3 first_alone ∷ goes_out 1 1 ∷ []
+
 -- a stream with a log, and a page stamped with LSN 2 after LSN 1
 abbrev pub stamped_twice : List Entry
 stamped_twice =

@@ -7,7 +7,7 @@ ghost use Rattle.cc_entry.specs.declared.reply.Outcome.TheVariants as outcome;
 ghost use Rattle.cc_effects.specs.Calls.{CallLeft};
 ghost use Rattle.cc_worked.specs.Values.{setup};
 ghost use Rattle.cc_worked.specs.PiecesReads.{a_byte};
-ghost use Rattle.cc_worked.specs.PiecesWrites.{both_dirty, first_page, page_is_flushed, write_fails, sync_fails, other_is_written, write_of_another_fails, all_pages, pages_are_purged, stamped_twice, log_goes_first, log_fails, log_goes_short, two_of_three, third_block, second_goes, first_goes};
+ghost use Rattle.cc_worked.specs.PiecesWrites.{both_dirty, first_page, page_is_flushed, write_fails, sync_fails, other_is_written, write_of_another_fails, all_pages, pages_are_purged, first_alone, other_goes_out, stamped_twice, log_goes_first, log_fails, log_goes_short, two_of_three, third_block, second_goes, first_goes};
 
 /// A flush writes the dirty pages of its span and syncs once; a failed write, or a failed sync, is told.
 pub fn flush_writes_its_span()
@@ -21,6 +21,7 @@ pub fn flush_writes_its_span()
 /// A purge writes what is dirty, and takes the pages of its span out.
 pub fn purge_takes_its_span_out()
     ensures done { CallLeft setup 1 all_pages (outcome.Done reply.Unit) both_dirty (pages_are_purged ++ both_dirty) }
+    ensures no_other { CallLeft setup 1 first_alone (outcome.Done reply.Unit) both_dirty (other_goes_out ++ both_dirty) → ⊥ }
 {}
 
 /// The log of a stream is flushed to the newest stamp of a page before the page is written, and no less far.

@@ -1,5 +1,6 @@
 -- The page of the span asks its log up to its newest stamp.
 use Rattle.std.specs.Prelude.{◌≡◌, ℕ, ◌+◌, ◌*◌, ◌<◌, ◌==◌, nat_lt, true, false, List, [], ◌∷◌, ◌++◌, refl}
+use Rattle.std.specs.declared.option.Option.{Option}
 use Rattle.std.specs.declared.option.Option.TheVariants.{Some}
 use Rattle.std.proofs.Common.{arith, sym}
 use Rattle.std.proofs.lemmas.Bool.{and_parts, eqb-true, ltb-true}
@@ -45,7 +46,7 @@ no_less short =
     let newest : newest_of (history stamped_twice 0) 0 ≡ Some 1 = rw (stream, number) at short.newest in
     absurd (two_is_not_one newest)
   where
-    two_is_not_one : Some 2 ≡ Some 1 → ⊥
+    two_is_not_one : ◌≡◌ {A = Option ℕ} (Some 2) (Some 1) → ⊥
     two_is_not_one same = absurd (cc)
 
 pub returns-clause-not_short : goal.returns-clause-not_short
