@@ -16,13 +16,13 @@ use Rattle.cc_entry.specs.declared.entry.Entry.TheVariants as entry
 use Rattle.cc_model.specs.Setup.{Setup}
 use Rattle.cc_model.specs.Faults.{fault_of}
 use Rattle.cc_model.specs.Passes.{is_mine}
-use Rattle.cc_effects.specs.Moments.{own, EachOwn}
+use Rattle.cc_effects.specs.Moments.{own, EachOwn, PlacedOnly, AtSome}
 use Rattle.cc_effects.specs.Asked.{Work, Calls}
 use Rattle.cc_effects.specs.Places.{MayPlace}
 use Rattle.cc_effects.specs.Stops.{IsStopped, IsToldBy, tells}
 use Rattle.cc_effects.specs.Calls.{IsPlaced, IsFaulted, IsUnplaced, CallLeft, leaves_entry}
 use Rattle.cc_effects.specs.Licences.{IsEntryOf, IsLicensed, is_call, is_told, shows_fault}
-use Rattle.cc_effects.proofs.Stretches.{own-append, each-others, each-append, each-implies}
+use Rattle.cc_effects.proofs.Stretches.{own-append, own-others, each-others, each-append, each-implies}
 use Rattle.cc_effects.proofs.FrontLaws.{placed-of}
 
 -- the stretch in which the entry of a call stands
@@ -87,3 +87,23 @@ write-fault-shown u me it page during old left = shown me it (error.WriteFault p
 
 pub log-fault-shown : (u : Setup) (me : ℕ) (it : Call) (handle : ℕ) (during old : List Entry) → CallLeft u me it (outcome.Failed (error.LogFault handle)) old (during ++ old) → shows_fault me it (error.LogFault handle) during ≡ true
 log-fault-shown u me it handle during old left = shown me it (error.LogFault handle) during old left
+
+-- what was placed alone is the one entry of the pass
+pub only-own : (me : ℕ) (e : Entry) (during old : List Entry) → PlacedOnly me e old (during ++ old) → own me during ≡ e ∷ []
+only-own me e during old only =
+    let split : during ≡ only.later ++ (e ∷ only.earlier) = append_cancel_right during (only.later ++ (e ∷ only.earlier)) old (only.grew ∙ sym (append_assoc only.later (e ∷ only.earlier) old)) in
+    rw split
+    (own-append me only.later (e ∷ only.earlier)
+    ∙ rw (own-others me only.later only.quiet_after, only.is_own, own-others me only.earlier only.quiet_before) refl)
+
+-- where nothing was placed, there is one moment
+pub some-here : (Holds : List Entry → Type 0) (old : List Entry) → AtSome Holds old old → Holds old
+some-here Holds old some =
+    let behind : old ≡ (some.later ++ some.since) ++ old = some.ends ∙ (ap (λ l. some.later ++ l) some.begins ∙ sym (append_assoc some.later some.since old)) in
+    let nothing : some.since ≡ [] = last-empty some.later some.since (sym (append_cancel_right [] (some.later ++ some.since) old behind)) in
+    let here : some.moment ≡ old = some.begins ∙ rw nothing refl in
+    rw here at some.holds
+  where
+    last-empty : (xs ys : List Entry) → xs ++ ys ≡ [] → ys ≡ []
+    last-empty [] ys is = is
+    last-empty (x ∷ xs) ys is = absurd (cc)

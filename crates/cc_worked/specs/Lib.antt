@@ -28,3 +28,4 @@ pub mod Seen
 pub mod PiecesReads
 pub mod PiecesWrites
 pub mod PiecesNoncached
+pub mod PiecesWithoutEntry

@@ -1,6 +1,6 @@
 -- What noncached calls leave, and the end of a repin with write through. Each stretch has its newest entry
 -- first, and stands on a past.
-use Rattle.std.specs.Prelude.{ℕ, List, [], ◌∷◌, true, false}
+use Rattle.std.specs.Prelude.{ℕ, List, [], ◌∷◌, false}
 use Rattle.std.specs.declared.option.Option.TheVariants.{Some, None}
 use Rattle.cc_entry.specs.declared.call.Call.TheVariants as call
 use Rattle.cc_entry.specs.declared.reply.Reply.TheVariants as reply

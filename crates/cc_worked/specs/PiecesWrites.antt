@@ -1,6 +1,6 @@
 -- What flushes and purges leave, and calls that give a block up. Each stretch has its newest entry first, and
 -- stands on a past.
-use Rattle.std.specs.Prelude.{ℕ, List, [], ◌∷◌, true, false}
+use Rattle.std.specs.Prelude.{List, [], ◌∷◌, true, false}
 use Rattle.std.specs.declared.option.Option.TheVariants.{Some, None}
 use Rattle.cc_entry.specs.declared.call.Call.{Call}
 use Rattle.cc_entry.specs.declared.call.Call.TheVariants as call
@@ -9,7 +9,7 @@ use Rattle.cc_entry.specs.declared.error.CcError.TheVariants as error
 use Rattle.cc_entry.specs.declared.entry.End.TheVariants as how
 use Rattle.cc_entry.specs.declared.entry.Entry.{Entry}
 use Rattle.cc_entry.specs.declared.entry.Entry.TheVariants as entry
-use Rattle.cc_worked.specs.Values.{a, page, sized, opened, done, answers, refused, read_in, goes_out, begins, ends, fails, synced}
+use Rattle.cc_worked.specs.Values.{a, sized, opened, done, answers, refused, read_in, goes_out, begins, ends, fails, synced}
 
 -- a stream of two pages that are dirty
 abbrev pub both_dirty : List Entry

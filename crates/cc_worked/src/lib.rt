@@ -24,6 +24,7 @@ pub mod noncached;
 pub mod pages;
 pub mod pieces_noncached;
 pub mod pieces_reads;
+pub mod pieces_without_entry;
 pub mod pieces_writes;
 pub mod pins;
 pub mod read_ahead;

@@ -1,5 +1,5 @@
 -- The page comes in on the past; a wrong entry is neither the call's own nor one that it may place.
-use Rattle.std.specs.Prelude.{◌≡◌, ℕ, true, false, List, [], ◌∷◌, ◌++◌, refl}
+use Rattle.std.specs.Prelude.{true, [], ◌∷◌, ◌++◌, refl}
 use Rattle.std.specs.declared.option.Option.TheVariants.{Some}
 use Rattle.cc_entry.specs.declared.reply.Outcome.TheVariants as outcome
 use Rattle.cc_effects.proofs.Starts.{begins, brings, ends_done}

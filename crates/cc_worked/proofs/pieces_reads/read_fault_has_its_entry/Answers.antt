@@ -1,6 +1,6 @@
 -- The fault is the last entry before the call's own; where another caller closed the file, nothing refused
 -- the call as it began.
-use Rattle.std.specs.Prelude.{◌≡◌, ℕ, true, false, List, [], ◌∷◌, ◌++◌, refl}
+use Rattle.std.specs.Prelude.{true, [], ◌∷◌, refl}
 use Rattle.std.specs.declared.option.Option.TheVariants.{Some, None}
 use Rattle.std.proofs.Common.{inr, arith}
 use Rattle.cc_entry.specs.declared.call.Call.TheVariants as call

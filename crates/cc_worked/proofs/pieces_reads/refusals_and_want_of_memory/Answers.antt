@@ -1,5 +1,5 @@
 -- A refusal has the call's entry; want of memory has none.
-use Rattle.std.specs.Prelude.{◌≡◌, ℕ, true, false, List, [], ◌∷◌, ◌++◌, refl}
+use Rattle.std.specs.Prelude.{true, ◌∷◌, refl}
 use Rattle.std.specs.declared.option.Option.TheVariants.{Some}
 use Rattle.std.proofs.Common.{inl}
 use Rattle.cc_entry.specs.declared.error.CcError.TheVariants as error
@@ -8,7 +8,7 @@ use Rattle.cc_effects.proofs.Starts.{begins, brings, ends_refused, gives_up}
 use Rattle.cc_effects.proofs.Licences.{unplaced-licensed}
 use Rattle.cc_worked.specs.Values.{setup, page, read_in}
 use Rattle.cc_worked.specs.PiecesReads.{two_pages, first_byte, page_comes_in, fill_fails, past_the_size}
-use Rattle.cc_worked.proofs.PiecesOpened.{computed, not_so}
+use Rattle.cc_worked.proofs.PiecesOpened.{computed}
 use Rattle.cc_worked.proofs.pieces_reads.refusals_and_want_of_memory.Goals as goal
 
 pub returns-clause-refused : goal.returns-clause-refused

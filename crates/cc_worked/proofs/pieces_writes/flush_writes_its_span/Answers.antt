@@ -1,5 +1,5 @@
 -- The begin of a page of the span, its end, and one sync.
-use Rattle.std.specs.Prelude.{◌≡◌, ℕ, true, false, List, [], ◌∷◌, ◌++◌, refl}
+use Rattle.std.specs.Prelude.{[], ◌∷◌, refl}
 use Rattle.std.specs.declared.option.Option.TheVariants.{Some}
 use Rattle.std.proofs.Common.{arith}
 use Rattle.cc_entry.specs.declared.reply.Reply.TheVariants as reply

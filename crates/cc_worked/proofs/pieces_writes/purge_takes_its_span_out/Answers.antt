@@ -1,5 +1,5 @@
 -- Each page is written, and then goes out.
-use Rattle.std.specs.Prelude.{◌≡◌, ℕ, true, false, List, [], ◌∷◌, ◌++◌, refl}
+use Rattle.std.specs.Prelude.{[], ◌∷◌, refl}
 use Rattle.std.specs.declared.option.Option.TheVariants.{Some}
 use Rattle.std.proofs.Common.{arith}
 use Rattle.cc_entry.specs.declared.reply.Reply.TheVariants as reply

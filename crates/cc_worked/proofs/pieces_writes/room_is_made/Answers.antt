@@ -1,5 +1,5 @@
 -- The block to give up is the first by last use.
-use Rattle.std.specs.Prelude.{◌≡◌, ℕ, true, false, List, [], ◌∷◌, ◌++◌, refl}
+use Rattle.std.specs.Prelude.{[], ◌∷◌, refl}
 use Rattle.std.specs.declared.option.Option.TheVariants.{Some}
 use Rattle.std.proofs.Common.{arith}
 use Rattle.cc_entry.specs.declared.reply.Outcome.TheVariants as outcome
