@@ -1,3 +1,4 @@
 pub mod LineSteps
 pub mod PlainReads
 pub mod OneCaller
+pub mod Words

@@ -1,7 +1,10 @@
-//! How a caller's run grows, and what a read in it answers. Each function does nothing: its contract is the
-//! law.
+//! How a caller's run grows, what a read in it answers, and which holds words name. Each function does
+//! nothing: its contract is the law.
 
-ghost use Rattle.std.specs.Prelude.{◌≡◌, ℕ, Bool, Some, List, [], ◌∷◌, ◌++◌};
+ghost use Rattle.std.specs.Prelude.{◌≡◌, ℕ, Bool, Some, None, List, [], ◌∷◌, ◌++◌};
+ghost use Rattle.cc_entry.specs.Kinds.{is_map, is_pin};
+ghost use Rattle.cc_entry.specs.declared.hold.HoldKind.TheVariants as kind;
+ghost use Rattle.cc_entry.specs.declared.error.CcError.{CcError};
 ghost use Rattle.cc_entry.specs.Place.{File};
 ghost use Rattle.cc_entry.specs.declared.call.Call.TheVariants as call;
 ghost use Rattle.cc_entry.specs.declared.reply.Reply.TheVariants as reply;
@@ -17,7 +20,8 @@ ghost use Rattle.cc_model.specs.History.{history};
 ghost use Rattle.cc_model.specs.Replies.{Reads};
 ghost use Rattle.cc_model.specs.Good.{IsGood};
 ghost use Rattle.cc_effects.specs.Moments.{IsIdle};
-ghost use Rattle.cc_pieces.specs.Bindings.{Binding};
+ghost use Rattle.cc_pieces.specs.Bindings.{Binding, bound, pinned, hold_named, OnHold};
+ghost use Rattle.cc_pieces.specs.HoldLines.{HeldReadLine, PinnedWriteLine};
 ghost use Rattle.cc_pieces.specs.Runs.{Explains, Ran, bindings_of};
 
 /// What explains a line explains it in every longer stretch in which the caller placed nothing else.
@@ -50,4 +54,21 @@ pub fn reads_answer_the_plain_file()
         (nth : ℕ) × (later : List Entry) × (earlier : List Entry)
         × (new ≡ later ++ (entry.Call me nth (Some file.stream) (call.CopyRead file at len wait) (outcome.Done (reply.Read bytes)) ∷ (earlier ++ old)))
         × Reads (u.opening file.stream) (history (earlier ++ old) file.stream) at len (reply.Read bytes) }
+{}
+
+/// A word names the hold that its line made, of the kind that the hold is now; a refused line binds nothing.
+pub fn words_name_holds()
+    ensures made { (name : List ℕ) (id : ℕ) → hold_named (bound name kind.Map (answer.Given (reply.Hold id)) []) name is_map ≡ Some id }
+    ensures of_its_kind { (name : List ℕ) (id : ℕ) → hold_named (bound name kind.Map (answer.Given (reply.Hold id)) []) name is_pin ≡ None }
+    ensures pinned { (name : List ℕ) (id : ℕ) → hold_named (pinned name (answer.Given (reply.Hold id)) (bound name kind.Map (answer.Given (reply.Hold id)) [])) name is_pin ≡ Some id }
+    ensures refused { (name : List ℕ) (e : CcError) → hold_named (bound name kind.Map (answer.Refused e) []) name is_map ≡ None }
+{}
+
+/// A line on a word that names no hold of the kind that it needs is answered so, and leaves nothing.
+pub fn lines_without_hold_leave_nothing()
+    ensures read { (u : Setup) (me : ℕ) (name : List ℕ) (at len : ℕ) (told : Answer) (old new : List Entry) →
+        HeldReadLine u me [] name at len told old new → (told ≡ answer.NoHold) × IsIdle me old new }
+    ensures write { (u : Setup) (me : ℕ) (name bytes : List ℕ) (id at : ℕ) (told : Answer) (old new : List Entry) →
+        PinnedWriteLine u me (bound name kind.Map (answer.Given (reply.Hold id)) []) name at bytes told old new →
+        (told ≡ answer.NoHold) × IsIdle me old new }
 {}

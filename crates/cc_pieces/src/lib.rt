@@ -14,4 +14,7 @@
 
 mod laws;
 
-pub use laws::{one_more_piece, others_go_on, pieces_stay_explained, reads_answer_the_plain_file};
+pub use laws::{
+    lines_without_hold_leave_nothing, one_more_piece, others_go_on, pieces_stay_explained,
+    reads_answer_the_plain_file, words_name_holds,
+};
