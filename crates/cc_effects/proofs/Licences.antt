@@ -1,7 +1,6 @@
 -- Each entry of a pass in a stretch that a call explains is licensed by the call; a call has its entry, and a
 -- fault its own.
-use Rattle.std.specs.Prelude.{◌≡◌, ℕ, Bool, true, false, ◌||◌, cond, List, [], ◌∷◌, ◌++◌, refl, ◌⊎◌}
-use Rattle.std.specs.declared.option.Option.TheVariants.{Some, None}
+use Rattle.std.specs.Prelude.{◌≡◌, ℕ, Bool, true, false, List, [], ◌∷◌, ◌++◌, refl}
 use Rattle.std.specs.List.{list_any}
 use Rattle.std.proofs.Common.{sym, ap, ◌∙◌, inl, inr, append_assoc, eq-eqb}
 use Rattle.std.proofs.lemmas.List.{append_cancel_right}
@@ -17,11 +16,10 @@ use Rattle.cc_model.specs.Setup.{Setup}
 use Rattle.cc_model.specs.Faults.{fault_of}
 use Rattle.cc_model.specs.Passes.{is_mine}
 use Rattle.cc_effects.specs.Moments.{own, EachOwn, PlacedOnly, AtSome}
-use Rattle.cc_effects.specs.Asked.{Work, Calls}
+use Rattle.cc_effects.specs.Asked.{Calls}
 use Rattle.cc_effects.specs.Places.{MayPlace}
-use Rattle.cc_effects.specs.Stops.{IsStopped, IsToldBy, tells}
 use Rattle.cc_effects.specs.Calls.{IsPlaced, IsFaulted, IsUnplaced, CallLeft, leaves_entry}
-use Rattle.cc_effects.specs.Licences.{IsEntryOf, IsLicensed, is_call, is_told, shows_fault}
+use Rattle.cc_effects.specs.Licences.{IsLicensed, is_call, is_told, shows_fault}
 use Rattle.cc_effects.proofs.Stretches.{own-append, own-others, each-others, each-append, each-implies}
 use Rattle.cc_effects.proofs.FrontLaws.{placed-of}
 
@@ -73,9 +71,9 @@ has-entry u me it answered during old left leaves =
 shown : (me : ℕ) (it : Call) (e : CcError) (during old : List Entry) → IsFaulted me it e old (during ++ old) → shows_fault me it e during ≡ true
 shown me it e during old f =
     let split : during ≡ (f.placed.later ++ (entry.Call me f.placed.nth f.placed.stream it (outcome.Failed e) ∷ f.stopped.since)) ++ (f.stop ∷ f.stopped.before) =
-      placed-split me it (outcome.Failed e) f.earlier during old f.placed
-      ∙ (ap (λ l. f.placed.later ++ (entry.Call me f.placed.nth f.placed.stream it (outcome.Failed e) ∷ l)) f.stopped.split
-      ∙ sym (append_assoc f.placed.later (entry.Call me f.placed.nth f.placed.stream it (outcome.Failed e) ∷ f.stopped.since) (f.stop ∷ f.stopped.before))) in
+    placed-split me it (outcome.Failed e) f.earlier during old f.placed
+    ∙ (ap (λ l. f.placed.later ++ (entry.Call me f.placed.nth f.placed.stream it (outcome.Failed e) ∷ l)) f.stopped.split
+    ∙ sym (append_assoc f.placed.later (entry.Call me f.placed.nth f.placed.stream it (outcome.Failed e) ∷ f.stopped.since) (f.stop ∷ f.stopped.before))) in
     rw split (own-middle me (λ stop. is_told it e (fault_of me stop)) (f.placed.later ++ (entry.Call me f.placed.nth f.placed.stream it (outcome.Failed e) ∷ f.stopped.since)) f.stop f.stopped.before f.stopped.is_own (rw f.told.shown f.told.told))
 
 -- a call that is told a fault has the entry that shows it, of its own pass and since it began

@@ -22,7 +22,7 @@ use Rattle.cc_model.specs.Refusals.{refusal}
 use Rattle.cc_model.specs.Legal.{stream_history}
 use Rattle.cc_model.specs.Flushed.{settled_since}
 use Rattle.cc_model.specs.Filing.{IsFiled}
-use Rattle.cc_effects.specs.Moments.{Others, AtSome}
+use Rattle.cc_effects.specs.Moments.{Others, AtSome, Between}
 use Rattle.cc_effects.specs.Asked.{Calls}
 use Rattle.cc_effects.specs.Places.{Works, syncs_of}
 use Rattle.cc_effects.specs.Stops.{IsUnstopped, IsStopped, IsToldBy, may_give_up}
@@ -115,7 +115,7 @@ pub record IsUnplaced (me : ℕ) (it : Call) (e : CcError) (old new : List Entry
   pub wants : AtSome (λ moment. may_want it moment ≡ true) old new
 
 -- What a call left that was answered so, by cases over the answer.
-abbrev pub CallLeft : Setup → ℕ → Call → Outcome → List Entry → List Entry → Type 0
+abbrev pub CallLeft : Setup → ℕ → Call → Outcome → Between
 CallLeft u me it (outcome.Done r) old new = IsDone me it r old new
 CallLeft u me it (outcome.Failed (error.JournalFull entries)) old new = IsUnplaced me it (error.JournalFull entries) old new
 CallLeft u me it (outcome.Failed error.NoMemory) old new = IsUnplaced me it error.NoMemory old new

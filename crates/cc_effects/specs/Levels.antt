@@ -7,7 +7,7 @@ use Rattle.cc_entry.specs.declared.entry.Entry.{Entry}
 use Rattle.cc_model.specs.History.{history}
 use Rattle.cc_model.specs.Touches.{size_of}
 use Rattle.cc_model.specs.Reasons.{is_open}
-use Rattle.cc_effects.specs.Moments.{IsIdle, AtSome}
+use Rattle.cc_effects.specs.Moments.{IsIdle, AtSome, Between}
 use Rattle.cc_effects.specs.Throttle.{WasNotCached}
 
 -- at a moment the object was cached, and its stream's size had so many levels
@@ -17,7 +17,7 @@ pub record HadLevels (levels : ℕ → ℕ) (me : ℕ) (file : File) (n : ℕ) (
       AtSome (λ moment. (is_open (history moment file.stream) file ≡ true) × (n ≡ levels (size_of (history moment file.stream)))) old new
 
 -- the question, over the levels of an index of each size
-abbrev pub LevelsLeft : (ℕ → ℕ) → ℕ → File → Result ℕ CcError → List Entry → List Entry → Type 0
+abbrev pub LevelsLeft : (ℕ → ℕ) → ℕ → File → Result ℕ CcError → Between
 LevelsLeft levels me file (Ok n) old new = HadLevels levels me file n old new
 LevelsLeft levels me file (Err error.NotCached) old new = WasNotCached me file old new
 LevelsLeft levels me file (Err error.NoMemory) old new = IsIdle me old new

@@ -1,5 +1,5 @@
 -- What each entry of a pass in a stretch has to be, where a call explains the stretch.
-use Rattle.std.specs.Prelude.{◌≡◌, ℕ, Bool, true, false, List, [], ◌∷◌, ◌⊎◌}
+use Rattle.std.specs.Prelude.{◌≡◌, ℕ, Bool, true, false, List, ◌⊎◌}
 use Rattle.std.specs.declared.option.Option.{Option}
 use Rattle.std.specs.declared.option.Option.TheVariants.{Some, None}
 use Rattle.std.specs.List.{list_any}
@@ -10,7 +10,7 @@ use Rattle.cc_entry.specs.declared.entry.Entry.{Entry}
 use Rattle.cc_entry.specs.declared.entry.Entry.TheVariants as entry
 use Rattle.cc_model.specs.Faults.{Fault, fault_of}
 use Rattle.cc_effects.specs.Moments.{own}
-use Rattle.cc_effects.specs.Asked.{Work, Calls}
+use Rattle.cc_effects.specs.Asked.{Calls}
 use Rattle.cc_effects.specs.Places.{MayPlace}
 use Rattle.cc_effects.specs.Stops.{tells}
 

@@ -7,6 +7,10 @@ use Rattle.std.specs.List.{AllByRecursion, filter}
 use Rattle.cc_entry.specs.declared.entry.Entry.{Entry}
 use Rattle.cc_model.specs.Passes.{is_mine}
 
+-- what is said of two moments, the earlier one first
+abbrev pub Between : Type 1
+Between = List Entry → List Entry → Type 0
+
 -- the entries of the pass in a stretch of the journal, newest first
 abbrev pub own : ℕ → List Entry → List Entry
 own me during = filter (is_mine me) during

@@ -18,7 +18,7 @@ use Rattle.cc_model.specs.Setup.{Setup}
 use Rattle.cc_model.specs.History.{history}
 use Rattle.cc_model.specs.Sizes.{stored_range}
 use Rattle.cc_model.specs.Touches.{size_of}
-use Rattle.cc_effects.specs.Moments.{Others, IsIdle, PlacedOnly, EachOwn}
+use Rattle.cc_effects.specs.Moments.{Others, IsIdle, PlacedOnly, EachOwn, Between}
 use Rattle.cc_effects.specs.Asked.{Calls}
 use Rattle.cc_effects.specs.Places.{MayPlace, Works}
 use Rattle.cc_effects.specs.Stops.{IsUnstopped}
@@ -42,7 +42,7 @@ pages_from at len = range_with_len (at / 4096) (len / 4096)
 
 -- A call with such a place or length: it leaves its entry for the first page, with that refusal or
 -- NotCached, which comes before it; or nothing, where room or memory were wanting.
-abbrev pub MisshapenLeft : ℕ → File → Call → CcError → CcError → List Entry → List Entry → Type 0
+abbrev pub MisshapenLeft : ℕ → File → Call → CcError → CcError → Between
 MisshapenLeft me file it refusal error.NoMemory old new = IsIdle me old new
 MisshapenLeft me file it refusal (error.JournalFull entries) old new = IsIdle me old new
 MisshapenLeft me file it refusal error.NotCached old new =
@@ -52,7 +52,7 @@ MisshapenLeft me file it refusal e old new =
 
 -- The pages of a read, each with the bytes that it answered, up to the first that answered none: it began
 -- at the size or past it, and ends the call.
-abbrev pub PagesRead : Setup → ℕ → File → List ℕ → List ℕ → List Entry → List Entry → Type 0
+abbrev pub PagesRead : Setup → ℕ → File → List ℕ → List ℕ → Between
 PagesRead u me file [] bytes old new = (bytes ≡ []) × IsIdle me old new
 PagesRead u me file (page ∷ pages) [] old new =
     CallLeft u me (call.NcRead file page) (outcome.Done (reply.Read [])) old new
@@ -66,7 +66,7 @@ PagesRead u me file (page ∷ pages) (byte ∷ bytes) old new =
     × PagesRead u me file pages rest between new
 
 -- so many pages were read, from this one on, and the one after them was refused
-abbrev pub PageReadsRefused : Setup → ℕ → File → ℕ → ℕ → CcError → List Entry → List Entry → Type 0
+abbrev pub PageReadsRefused : Setup → ℕ → File → ℕ → ℕ → CcError → Between
 PageReadsRefused u me file page zero e old new =
     (is_of_shape e ≡ false) × CallLeft u me (call.NcRead file page) (outcome.Failed e) old new
 PageReadsRefused u me file page (suc done) e old new =
@@ -77,7 +77,7 @@ PageReadsRefused u me file page (suc done) e old new =
     × PageReadsRefused u me file (suc page) done e between new
 
 -- A noncached read with a place and length in order. One of no bytes leaves nothing, whatever the file.
-abbrev pub AlignedReadLeft : Setup → ℕ → File → ℕ → ℕ → Result (List ℕ) (ℕ × CcError) → List Entry → List Entry → Type 0
+abbrev pub AlignedReadLeft : Setup → ℕ → File → ℕ → ℕ → Result (List ℕ) (ℕ × CcError) → Between
 AlignedReadLeft u me file at zero (Ok bytes) old new = (bytes ≡ []) × IsIdle me old new
 AlignedReadLeft u me file at zero (Err failed) old new = (failed ≡ (0, error.NoMemory)) × IsIdle me old new
 AlignedReadLeft u me file at (suc n) (Ok bytes) old new = PagesRead u me file (pages_from at (suc n)) bytes old new
@@ -85,14 +85,14 @@ AlignedReadLeft u me file at (suc n) (Err failed) old new =
     (failed.0 < length (pages_from at (suc n))) × PageReadsRefused u me file (at / 4096) failed.0 failed.1 old new
 
 -- the same by what is refused of the place and the length, where something is
-abbrev pub ShapedReadLeft : Setup → ℕ → File → ℕ → ℕ → Option CcError → Result (List ℕ) (ℕ × CcError) → List Entry → List Entry → Type 0
+abbrev pub ShapedReadLeft : Setup → ℕ → File → ℕ → ℕ → Option CcError → Result (List ℕ) (ℕ × CcError) → Between
 ShapedReadLeft u me file at len None answered old new = AlignedReadLeft u me file at len answered old new
 ShapedReadLeft u me file at len (Some refusal) (Ok bytes) old new = ⊥
 ShapedReadLeft u me file at len (Some refusal) (Err failed) old new =
     (failed.0 ≡ 0) × MisshapenLeft me file (call.NcRead file (at / 4096)) refusal failed.1 old new
 
 -- A noncached read: the bytes that it answered, or how many pages it finished and why the next was refused.
-abbrev pub NcReadLeft : Setup → ℕ → File → ℕ → ℕ → Result (List ℕ) (ℕ × CcError) → List Entry → List Entry → Type 0
+abbrev pub NcReadLeft : Setup → ℕ → File → ℕ → ℕ → Result (List ℕ) (ℕ × CcError) → Between
 NcReadLeft u me file at len answered old new = ShapedReadLeft u me file at len (shape_refusal at len) answered old new
 
 -- The bytes of one page came into the cache and went to the disk: the store with its begin, which is one
@@ -140,7 +140,7 @@ pub record IsPageWritten (me : ℕ) (file : File) (page : ℕ) (bytes : List ℕ
 
 -- The transfer of a page that was stored failed, and the end of the write tells it; or it found no memory,
 -- and the write has no end.
-abbrev pub TransferRefused : ℕ → File → ℕ → List ℕ → CcError → List Entry → List Entry → Type 0
+abbrev pub TransferRefused : ℕ → File → ℕ → List ℕ → CcError → Between
 TransferRefused me file page bytes (error.WriteFault failed) old new =
     (failed ≡ page)
     × (ended : List Entry)
@@ -152,13 +152,13 @@ TransferRefused me file page bytes error.NoMemory old new =
 TransferRefused me file page bytes other old new = ⊥
 
 -- a page was refused: before its store, which leaves the end of the write alone, or at its transfer
-abbrev pub PageRefused : Setup → ℕ → File → ℕ → List ℕ → CcError → List Entry → List Entry → Type 0
+abbrev pub PageRefused : Setup → ℕ → File → ℕ → List ℕ → CcError → Between
 PageRefused u me file page bytes e old new =
     ((is_of_shape e ≡ false) × CallLeft u me (call.NcWrite file page) (outcome.Failed e) old new)
     ⊎ TransferRefused me file page bytes e old new
 
 -- so many pages were written, from this one on, with these bytes, and their stores changed so many bytes
-abbrev pub PagesWritten : ℕ → File → ℕ → ℕ → List ℕ → ℕ → List Entry → List Entry → Type 0
+abbrev pub PagesWritten : ℕ → File → ℕ → ℕ → List ℕ → ℕ → Between
 PagesWritten me file page zero bytes count old new = (count ≡ 0) × IsIdle me old new
 PagesWritten me file page (suc done) bytes count old new =
     (between : List Entry)
@@ -169,7 +169,7 @@ PagesWritten me file page (suc done) bytes count old new =
     × PagesWritten me file (suc page) done (drop 4096 bytes) rest between new
 
 -- so many pages were written, and the one after them was refused
-abbrev pub PageWritesRefused : Setup → ℕ → File → ℕ → ℕ → List ℕ → CcError → List Entry → List Entry → Type 0
+abbrev pub PageWritesRefused : Setup → ℕ → File → ℕ → ℕ → List ℕ → CcError → Between
 PageWritesRefused u me file page done bytes e old new =
     (between : List Entry)
     × (count : ℕ)
@@ -177,7 +177,7 @@ PageWritesRefused u me file page done bytes e old new =
     × PageRefused u me file (page + done) (take 4096 (drop (4096 * done) bytes)) e between new
 
 -- A noncached write with a place and length in order. One of no bytes leaves nothing, whatever the file.
-abbrev pub AlignedWriteLeft : Setup → ℕ → File → ℕ → List ℕ → Result ℕ (ℕ × CcError) → List Entry → List Entry → Type 0
+abbrev pub AlignedWriteLeft : Setup → ℕ → File → ℕ → List ℕ → Result ℕ (ℕ × CcError) → Between
 AlignedWriteLeft u me file at [] (Ok count) old new = (count ≡ 0) × IsIdle me old new
 AlignedWriteLeft u me file at [] (Err failed) old new = (failed ≡ (0, error.NoMemory)) × IsIdle me old new
 AlignedWriteLeft u me file at (byte ∷ bytes) (Ok count) old new =
@@ -185,7 +185,7 @@ AlignedWriteLeft u me file at (byte ∷ bytes) (Ok count) old new =
 AlignedWriteLeft u me file at (byte ∷ bytes) (Err failed) old new =
     (failed.0 < length (byte ∷ bytes) / 4096) × PageWritesRefused u me file (at / 4096) failed.0 (byte ∷ bytes) failed.1 old new
 
-abbrev pub ShapedWriteLeft : Setup → ℕ → File → ℕ → List ℕ → Option CcError → Result ℕ (ℕ × CcError) → List Entry → List Entry → Type 0
+abbrev pub ShapedWriteLeft : Setup → ℕ → File → ℕ → List ℕ → Option CcError → Result ℕ (ℕ × CcError) → Between
 ShapedWriteLeft u me file at bytes None answered old new = AlignedWriteLeft u me file at bytes answered old new
 ShapedWriteLeft u me file at bytes (Some refusal) (Ok count) old new = ⊥
 ShapedWriteLeft u me file at bytes (Some refusal) (Err failed) old new =
@@ -193,6 +193,6 @@ ShapedWriteLeft u me file at bytes (Some refusal) (Err failed) old new =
 
 -- A noncached write: how many bytes its stores changed, or how many pages it finished and why the next was
 -- refused.
-abbrev pub NcWriteLeft : Setup → ℕ → File → ℕ → List ℕ → Result ℕ (ℕ × CcError) → List Entry → List Entry → Type 0
+abbrev pub NcWriteLeft : Setup → ℕ → File → ℕ → List ℕ → Result ℕ (ℕ × CcError) → Between
 NcWriteLeft u me file at bytes answered old new =
     ShapedWriteLeft u me file at bytes (shape_refusal at (length bytes)) answered old new

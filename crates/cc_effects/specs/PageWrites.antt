@@ -16,7 +16,7 @@ use Rattle.cc_model.specs.Settings.{log_of}
 use Rattle.cc_model.specs.Stamps.{is_unstamped}
 use Rattle.cc_model.specs.Faults.{is_failed}
 use Rattle.cc_model.specs.Passes.{is_same_page}
-use Rattle.cc_effects.specs.Moments.{own, Others, IsIdle, AtSome}
+use Rattle.cc_effects.specs.Moments.{own, Others, IsIdle, AtSome, Between}
 use Rattle.cc_effects.specs.Asked.{Writes}
 use Rattle.cc_effects.specs.Places.{Works}
 use Rattle.cc_effects.specs.Stops.{found_no_memory}
@@ -83,7 +83,7 @@ pub record IsCutOff (me : ℕ) (pages : List Page) (old new : List Entry) : Type
   pub works : Works me (Writes pages) during old
 
 -- the writing of one page
-abbrev pub PageWriteLeft : ℕ → Page → Result PageWrite CcError → List Entry → List Entry → Type 0
+abbrev pub PageWriteLeft : ℕ → Page → Result PageWrite CcError → Between
 PageWriteLeft me page (Ok written) old new = PageLeft me page written old new
 PageWriteLeft me page (Err (error.JournalFull entries)) old new = IsCutOff me (page ∷ []) old new
 PageWriteLeft me page (Err error.NoMemory) old new = IsCutOff me (page ∷ []) old new
@@ -143,12 +143,12 @@ pub record HasTicked (me : ℕ) (tick : Tick) (old new : List Entry) : Type 0 wh
   pub by_logs : count_by is_not_logged ends ≤ count_by is_log_failure (own me during)
 
 -- room or memory were wanting in a tick: before its scan, or after it
-abbrev pub TickCutOff : ℕ → List Entry → List Entry → Type 0
+abbrev pub TickCutOff : ℕ → Between
 TickCutOff me old new =
     IsIdle me old new ⊎ ((picked : List Page) × (during : List Entry) × HasScanned me picked during old new)
 
 -- a tick of the lazy writer
-abbrev pub TickLeft : ℕ → Result Tick CcError → List Entry → List Entry → Type 0
+abbrev pub TickLeft : ℕ → Result Tick CcError → Between
 TickLeft me (Ok tick) old new = HasTicked me tick old new
 TickLeft me (Err (error.JournalFull entries)) old new = TickCutOff me old new
 TickLeft me (Err error.NoMemory) old new = TickCutOff me old new

@@ -9,6 +9,7 @@ use Rattle.cc_entry.specs.declared.entry.Entry.{Entry}
 use Rattle.cc_model.specs.Setup.{Setup}
 use Rattle.cc_model.specs.Holds.{Hold, holds_of, hold_at, range_held}
 use Rattle.cc_model.specs.Legal.{stream_history}
+use Rattle.cc_effects.specs.Moments.{Between}
 use Rattle.cc_effects.specs.Calls.{IsDone, CallLeft}
 
 -- the hold of this id, as it stood, was ended
@@ -17,7 +18,7 @@ pub record IsHoldEnded (me id : ℕ) (hold : Hold) (old new : List Entry) : Type
   pub found : hold_at (holds_of (stream_history (done.earlier ++ old) done.placed.stream)) id ≡ Some hold
 
 -- The hold is spent, whatever the flush answers. Without write through there is no refusal.
-abbrev pub UnpinLeft : Setup → ℕ → ℕ → Bool → Outcome → List Entry → List Entry → Type 0
+abbrev pub UnpinLeft : Setup → ℕ → ℕ → Bool → Outcome → Between
 UnpinLeft u me id false answered old new = CallLeft u me (call.EndHold id) answered old new
 UnpinLeft u me id true answered old new =
     (between : List Entry)

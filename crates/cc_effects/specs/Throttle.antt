@@ -12,7 +12,7 @@ use Rattle.cc_model.specs.Setup.{Setup}
 use Rattle.cc_model.specs.History.{history}
 use Rattle.cc_model.specs.Throttle.{pages_for, may_go, queue}
 use Rattle.cc_model.specs.Reasons.{is_open}
-use Rattle.cc_effects.specs.Moments.{IsIdle, PlacedOnly, AtSome}
+use Rattle.cc_effects.specs.Moments.{IsIdle, PlacedOnly, AtSome, Between}
 
 -- at a moment the object was not cached, and the call placed nothing
 pub record WasNotCached (me : ℕ) (file : File) (old new : List Entry) : Type 0 where
@@ -25,7 +25,7 @@ pub record WasFull (me : ℕ) (file : File) (old new : List Entry) : Type 0 wher
   pub full : AtSome (λ moment. (is_open (history moment file.stream) file ≡ true) × (64 ≤ length (queue moment))) old new
 
 -- a write of so many bytes is deferred, under the number that is answered
-abbrev pub DeferLeft : ℕ → File → ℕ → Bool → Result ℕ CcError → List Entry → List Entry → Type 0
+abbrev pub DeferLeft : ℕ → File → ℕ → Bool → Result ℕ CcError → Between
 DeferLeft me file bytes retrying (Ok id) old new = PlacedOnly me (entry.Defer me id file (pages_for bytes) retrying) old new
 DeferLeft me file bytes retrying (Err error.NotCached) old new = WasNotCached me file old new
 DeferLeft me file bytes retrying (Err error.QueueFull) old new = WasFull me file old new
@@ -52,7 +52,7 @@ pub record WasIdleQueue (u : Setup) (me : ℕ) (old new : List Entry) : Type 0 w
   pub nothing : AtSome (λ moment. MayNotPost u moment (queue moment)) old new
 
 -- the first deferred write is posted, where it may go, and its number is answered
-abbrev pub PostLeft : Setup → ℕ → Result (Option ℕ) CcError → List Entry → List Entry → Type 0
+abbrev pub PostLeft : Setup → ℕ → Result (Option ℕ) CcError → Between
 PostLeft u me (Ok (Some id)) old new = IsPosted me id old new
 PostLeft u me (Ok None) old new = WasIdleQueue u me old new
 PostLeft u me (Err (error.JournalFull entries)) old new = IsIdle me old new

@@ -42,9 +42,11 @@ pub fn calls_stay_explained()
 
 /// The same of appends to a log and of its flushes.
 pub fn log_calls_stay_explained()
-    ensures append_after { (u : Setup) (me handle : ℕ) (bytes : List ℕ) (answered : Result ℕ CcError) (old new newer : List Entry) →
+    ensures append_after { (u : Setup) (me handle : ℕ) (bytes : List ℕ) (answered : Result ℕ CcError)
+        (old new newer : List Entry) →
         AppendLeft u me handle bytes answered old new → IsIdle me new newer → AppendLeft u me handle bytes answered old newer }
-    ensures append_before { (u : Setup) (me handle : ℕ) (bytes : List ℕ) (answered : Result ℕ CcError) (older old new : List Entry) →
+    ensures append_before { (u : Setup) (me handle : ℕ) (bytes : List ℕ) (answered : Result ℕ CcError)
+        (older old new : List Entry) →
         IsIdle me older old → AppendLeft u me handle bytes answered old new → AppendLeft u me handle bytes answered older new }
     ensures flush_after { (u : Setup) (me handle lsn : ℕ) (answered : Result ℕ CcError) (old new newer : List Entry) →
         LogFlushLeft u me handle lsn answered old new → IsIdle me new newer → LogFlushLeft u me handle lsn answered old newer }
@@ -54,9 +56,11 @@ pub fn log_calls_stay_explained()
 
 /// The same of deferrals and posts.
 pub fn throttle_stays_explained()
-    ensures defer_after { (me : ℕ) (file : File) (bytes : ℕ) (retrying : Bool) (answered : Result ℕ CcError) (old new newer : List Entry) →
+    ensures defer_after { (me : ℕ) (file : File) (bytes : ℕ) (retrying : Bool) (answered : Result ℕ CcError)
+        (old new newer : List Entry) →
         DeferLeft me file bytes retrying answered old new → IsIdle me new newer → DeferLeft me file bytes retrying answered old newer }
-    ensures defer_before { (me : ℕ) (file : File) (bytes : ℕ) (retrying : Bool) (answered : Result ℕ CcError) (older old new : List Entry) →
+    ensures defer_before { (me : ℕ) (file : File) (bytes : ℕ) (retrying : Bool) (answered : Result ℕ CcError)
+        (older old new : List Entry) →
         IsIdle me older old → DeferLeft me file bytes retrying answered old new → DeferLeft me file bytes retrying answered older new }
     ensures post_after { (u : Setup) (me : ℕ) (answered : Result (Option ℕ) CcError) (old new newer : List Entry) →
         PostLeft u me answered old new → IsIdle me new newer → PostLeft u me answered old newer }
@@ -78,25 +82,33 @@ pub fn page_writes_stay_explained()
 
 /// The same of read-ahead steps and of questions for the levels of a view index.
 pub fn steps_and_levels_stay_explained()
-    ensures step_after { (u : Setup) (me : ℕ) (answered : Result (Option AheadDone) CcError) (old new newer : List Entry) →
+    ensures step_after { (u : Setup) (me : ℕ) (answered : Result (Option AheadDone) CcError)
+        (old new newer : List Entry) →
         AheadLeft u me answered old new → IsIdle me new newer → AheadLeft u me answered old newer }
-    ensures step_before { (u : Setup) (me : ℕ) (answered : Result (Option AheadDone) CcError) (older old new : List Entry) →
+    ensures step_before { (u : Setup) (me : ℕ) (answered : Result (Option AheadDone) CcError)
+        (older old new : List Entry) →
         IsIdle me older old → AheadLeft u me answered old new → AheadLeft u me answered older new }
-    ensures levels_after { (levels : ℕ → ℕ) (me : ℕ) (file : File) (answered : Result ℕ CcError) (old new newer : List Entry) →
+    ensures levels_after { (levels : ℕ → ℕ) (me : ℕ) (file : File) (answered : Result ℕ CcError)
+        (old new newer : List Entry) →
         LevelsLeft levels me file answered old new → IsIdle me new newer → LevelsLeft levels me file answered old newer }
-    ensures levels_before { (levels : ℕ → ℕ) (me : ℕ) (file : File) (answered : Result ℕ CcError) (older old new : List Entry) →
+    ensures levels_before { (levels : ℕ → ℕ) (me : ℕ) (file : File) (answered : Result ℕ CcError)
+        (older old new : List Entry) →
         IsIdle me older old → LevelsLeft levels me file answered old new → LevelsLeft levels me file answered older new }
 {}
 
 /// The same of noncached reads and writes, page by page.
 pub fn noncached_calls_stay_explained()
-    ensures read_after { (u : Setup) (me : ℕ) (file : File) (at len : ℕ) (answered : Result (List ℕ) (ℕ × CcError)) (old new newer : List Entry) →
+    ensures read_after { (u : Setup) (me : ℕ) (file : File) (at len : ℕ) (answered : Result (List ℕ) (ℕ × CcError))
+        (old new newer : List Entry) →
         NcReadLeft u me file at len answered old new → IsIdle me new newer → NcReadLeft u me file at len answered old newer }
-    ensures read_before { (u : Setup) (me : ℕ) (file : File) (at len : ℕ) (answered : Result (List ℕ) (ℕ × CcError)) (older old new : List Entry) →
+    ensures read_before { (u : Setup) (me : ℕ) (file : File) (at len : ℕ) (answered : Result (List ℕ) (ℕ × CcError))
+        (older old new : List Entry) →
         IsIdle me older old → NcReadLeft u me file at len answered old new → NcReadLeft u me file at len answered older new }
-    ensures write_after { (u : Setup) (me : ℕ) (file : File) (at : ℕ) (bytes : List ℕ) (answered : Result ℕ (ℕ × CcError)) (old new newer : List Entry) →
+    ensures write_after { (u : Setup) (me : ℕ) (file : File) (at : ℕ) (bytes : List ℕ) (answered : Result ℕ (ℕ × CcError))
+        (old new newer : List Entry) →
         NcWriteLeft u me file at bytes answered old new → IsIdle me new newer → NcWriteLeft u me file at bytes answered old newer }
-    ensures write_before { (u : Setup) (me : ℕ) (file : File) (at : ℕ) (bytes : List ℕ) (answered : Result ℕ (ℕ × CcError)) (older old new : List Entry) →
+    ensures write_before { (u : Setup) (me : ℕ) (file : File) (at : ℕ) (bytes : List ℕ) (answered : Result ℕ (ℕ × CcError))
+        (older old new : List Entry) →
         IsIdle me older old → NcWriteLeft u me file at bytes answered old new → NcWriteLeft u me file at bytes answered older new }
 {}
 

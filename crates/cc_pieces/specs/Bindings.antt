@@ -9,8 +9,7 @@ use Rattle.cc_entry.specs.declared.hold.HoldKind.TheVariants as kind
 use Rattle.cc_entry.specs.declared.reply.Reply.TheVariants as reply
 use Rattle.cc_entry.specs.declared.answer.Answer.{Answer}
 use Rattle.cc_entry.specs.declared.answer.Answer.TheVariants as answer
-use Rattle.cc_entry.specs.declared.entry.Entry.{Entry}
-use Rattle.cc_effects.specs.Moments.{IsIdle}
+use Rattle.cc_effects.specs.Moments.{IsIdle, Between}
 
 -- a word of a caller that names a hold: its id, and what the hold is now
 pub record Binding : Type 0 where
@@ -43,6 +42,6 @@ hold_named bindings name of_kind = id_if of_kind (find (λ b. bytes_eq b.name na
 
 -- A line on the hold that a word names: what the line leaves on that hold. Where the word names none that
 -- serves, no call is made, nothing is placed, and the line is answered so.
-abbrev pub OnHold : ℕ → Option ℕ → (ℕ → Answer → List Entry → List Entry → Type 0) → Answer → List Entry → List Entry → Type 0
+abbrev pub OnHold : ℕ → Option ℕ → (ℕ → Answer → Between) → Answer → Between
 OnHold me None Left told old new = (told ≡ answer.NoHold) × IsIdle me old new
 OnHold me (Some id) Left told old new = Left id told old new

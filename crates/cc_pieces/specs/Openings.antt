@@ -14,7 +14,7 @@ use Rattle.cc_entry.specs.declared.answer.LineReply.{LineReply}
 use Rattle.cc_entry.specs.declared.entry.Entry.{Entry}
 use Rattle.cc_script.specs.declared.script.StreamLine.{StreamLine}
 use Rattle.cc_model.specs.Setup.{Setup}
-use Rattle.cc_effects.specs.Moments.{IsIdle}
+use Rattle.cc_effects.specs.Moments.{IsIdle, Between}
 use Rattle.cc_effects.specs.Calls.{CallLeft}
 use Rattle.cc_pieces.specs.Answered.{CallAnswered}
 use Rattle.cc_pieces.specs.Rooms.{HadNoRoom}
@@ -29,7 +29,7 @@ opening_call s stream =
 
 -- A stream's line with such a log, or none. Its answer is that of the first call that is refused, else that of
 -- the last.
-abbrev pub LoggedOpening : Setup → ℕ → StreamLine → Option ℕ → Answer → List Entry → List Entry → Type 0
+abbrev pub LoggedOpening : Setup → ℕ → StreamLine → Option ℕ → Answer → Between
 LoggedOpening u s stream None told old new = CallAnswered u 0 (opening_call s stream) told old new
 LoggedOpening u s stream (Some handle) told old new =
     ((e : CcError) × (told ≡ answer.Refused e) × CallLeft u 0 (opening_call s stream) (outcome.Failed e) old new)
@@ -43,7 +43,7 @@ pub record Opens (u : Setup) (s : ℕ) (stream : StreamLine) (told : Answer) (ol
   pub room : HadNoRoom u 4 told old new
 
 -- the lines of the streams, numbered from `s`, each with its reply, left pieces that follow each other
-abbrev pub Opened : Setup → ℕ → List StreamLine → List LineReply → List Entry → List Entry → Type 0
+abbrev pub Opened : Setup → ℕ → List StreamLine → List LineReply → Between
 Opened u s [] [] old new = IsIdle 0 old new
 Opened u s (stream ∷ streams) (reply ∷ replies) old new =
     (between : List Entry) × Opens u s stream reply.answer old between × Opened u (suc s) streams replies between new

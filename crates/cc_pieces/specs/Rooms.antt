@@ -4,18 +4,17 @@ use Rattle.std.specs.List.{list_all}
 use Rattle.cc_entry.specs.declared.error.CcError.TheVariants as error
 use Rattle.cc_entry.specs.declared.answer.Answer.{Answer}
 use Rattle.cc_entry.specs.declared.answer.Answer.TheVariants as answer
-use Rattle.cc_entry.specs.declared.entry.Entry.{Entry}
 use Rattle.cc_script.specs.declared.script.ActionLine.{ActionLine}
 use Rattle.cc_model.specs.Setup.{Setup}
 use Rattle.cc_model.specs.Room.{room_in}
-use Rattle.cc_effects.specs.Moments.{AtSome}
+use Rattle.cc_effects.specs.Moments.{AtSome, Between}
 
 -- at a moment of the line the journal had so many entries, and less room than this
-abbrev pub WasFull : Setup → ℕ → ℕ → List Entry → List Entry → Type 0
+abbrev pub WasFull : Setup → ℕ → ℕ → Between
 WasFull u limit entries old new = AtSome (λ moment. (entries ≡ length moment) × (room_in u moment 0 < limit)) old new
 
 -- the answer says that the journal was full only where it was
-abbrev pub HadNoRoom : Setup → ℕ → Answer → List Entry → List Entry → Type 0
+abbrev pub HadNoRoom : Setup → ℕ → Answer → Between
 HadNoRoom u limit (answer.Refused (error.JournalFull entries)) old new = WasFull u limit entries old new
 HadNoRoom u limit (answer.NcRefused done (error.JournalFull entries)) old new = WasFull u limit entries old new
 HadNoRoom u limit other old new = Unit {0}

@@ -6,7 +6,7 @@ use Rattle.cc_entry.specs.declared.entry.Entry.{Entry}
 use Rattle.cc_script.specs.declared.script.Action.{Action}
 use Rattle.cc_script.specs.declared.script.ActionLine.{ActionLine}
 use Rattle.cc_model.specs.Setup.{Setup}
-use Rattle.cc_effects.specs.Moments.{IsIdle}
+use Rattle.cc_effects.specs.Moments.{IsIdle, Between}
 use Rattle.cc_pieces.specs.Bindings.{Binding}
 use Rattle.cc_pieces.specs.Served.{Served, bindings_after}
 use Rattle.cc_pieces.specs.Rooms.{HadNoRoom}
@@ -18,7 +18,7 @@ pub record Explains (u : Setup) (limit me : ℕ) (bindings : List Binding) (aske
 
 -- From one moment to another, a caller's lines, each with its answer, left pieces that follow each other, and
 -- the caller placed nothing else.
-abbrev pub Ran : Setup → ℕ → ℕ → List Binding → List (Action × Answer) → List Entry → List Entry → Type 0
+abbrev pub Ran : Setup → ℕ → ℕ → List Binding → List (Action × Answer) → Between
 Ran u limit me bindings [] old new = IsIdle me old new
 Ran u limit me bindings (line ∷ more) old new =
     (between : List Entry)

@@ -2,15 +2,15 @@
 use Rattle.std.specs.Prelude.{ℕ, List, []}
 use Rattle.cc_entry.specs.declared.call.Call.TheVariants as call
 use Rattle.cc_entry.specs.declared.answer.Answer.{Answer}
-use Rattle.cc_entry.specs.declared.entry.Entry.{Entry}
 use Rattle.cc_script.specs.declared.script.Action.{Action}
 use Rattle.cc_script.specs.declared.script.Action.TheVariants as action
 use Rattle.cc_model.specs.Setup.{Setup}
+use Rattle.cc_effects.specs.Moments.{Between}
 use Rattle.cc_pieces.specs.Bindings.{Binding}
 use Rattle.cc_pieces.specs.Answered.{CallAnswered}
 
 -- from one moment to another, the caller's line left what explains its answer
-abbrev pub Served : Setup → ℕ → List Binding → Action → Answer → List Entry → List Entry → Type 0
+abbrev pub Served : Setup → ℕ → List Binding → Action → Answer → Between
 Served u me bindings (action.CopyRead file at len wait) told old new = CallAnswered u me (call.CopyRead file at len wait) told old new
 Served u me bindings (action.CopyWrite file at bytes) told old new = CallAnswered u me (call.CopyWrite file at bytes) told old new
 Served u me bindings (action.Zero file span) told old new = CallAnswered u me (call.Zero file span) told old new

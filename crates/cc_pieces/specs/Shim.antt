@@ -18,7 +18,7 @@ use Rattle.cc_entry.specs.declared.answer.Answer.TheVariants as answer
 use Rattle.cc_entry.specs.declared.entry.Entry.{Entry}
 use Rattle.cc_model.specs.Setup.{Setup}
 use Rattle.cc_model.specs.Ranges.{cut_range}
-use Rattle.cc_effects.specs.Moments.{IsIdle}
+use Rattle.cc_effects.specs.Moments.{IsIdle, Between}
 use Rattle.cc_effects.specs.Calls.{CallLeft}
 use Rattle.cc_effects.specs.LogCalls.{AppendLeft}
 use Rattle.cc_effects.specs.Noncached.{NcReadLeft}
@@ -32,7 +32,7 @@ pub data ReadPath : Type 0 where
   Noncached : ReadPath
 
 -- calls that answer nothing, each done, up to one that is refused
-abbrev pub CallsLeft : Setup → ℕ → List Call → Result (Unit {0}) CcError → List Entry → List Entry → Type 0
+abbrev pub CallsLeft : Setup → ℕ → List Call → Result (Unit {0}) CcError → Between
 CallsLeft u me [] (Ok done) old new = IsIdle me old new
 CallsLeft u me [] (Err e) old new = ⊥
 CallsLeft u me (it ∷ more) (Ok done) old new =
@@ -42,7 +42,7 @@ CallsLeft u me (it ∷ more) (Err e) old new =
     ⊎ ((between : List Entry) × CallLeft u me it (outcome.Done reply.Unit) old between × CallsLeft u me more (Err e) between new)
 
 -- the sizes and the log of the stream were asked, and told so
-abbrev pub StateLeft : Setup → ℕ → File → FileState → List Entry → List Entry → Type 0
+abbrev pub StateLeft : Setup → ℕ → File → FileState → Between
 StateLeft u me file state old new = CallLeft u me (call.State file) (outcome.Done (reply.State state)) old new
 
 -- How a path that holds what it reads makes a hold of a range and reads its bytes.
@@ -73,7 +73,7 @@ descriptor_path file = record {
 }
 
 -- one range was held, read and let go
-abbrev pub PartRead : Setup → ℕ → HoldPath → Range → List ℕ → List Entry → List Entry → Type 0
+abbrev pub PartRead : Setup → ℕ → HoldPath → Range → List ℕ → Between
 PartRead u me path r bytes old new =
     (id : ℕ)
     × (made : List Entry)
@@ -83,7 +83,7 @@ PartRead u me path r bytes old new =
     × CallLeft u me (call.EndHold id) (outcome.Done reply.Unit) seen new
 
 -- one range could not be held, or was held and not read; the hold is ended in every case
-abbrev pub PartRefused : Setup → ℕ → HoldPath → Range → CcError → List Entry → List Entry → Type 0
+abbrev pub PartRefused : Setup → ℕ → HoldPath → Range → CcError → Between
 PartRefused u me path r e old new =
     CallLeft u me (path.make r) (outcome.Failed e) old new
     ⊎ ((id : ℕ)
@@ -94,7 +94,7 @@ PartRefused u me path r e old new =
     × CallLeft u me (call.EndHold id) (outcome.Done reply.Unit) seen new)
 
 -- ranges read one after the other, up to one that is refused
-abbrev pub PartsLeft : Setup → ℕ → HoldPath → List Range → Result (List ℕ) CcError → List Entry → List Entry → Type 0
+abbrev pub PartsLeft : Setup → ℕ → HoldPath → List Range → Result (List ℕ) CcError → Between
 PartsLeft u me path [] (Ok bytes) old new = (bytes ≡ []) × IsIdle me old new
 PartsLeft u me path [] (Err e) old new = ⊥
 PartsLeft u me path (r ∷ rs) (Ok bytes) old new =
@@ -121,7 +121,7 @@ abbrev pub whole_part : Range → List Range
 whole_part r = if nat_lt r.from r.to then r ∷ [] else []
 
 -- a read that asks the size first, and holds the parts of its range below it
-abbrev pub HeldPartsLeft : Setup → ℕ → File → HoldPath → (Range → List Range) → ℕ → ℕ → Result (List ℕ) CcError → List Entry → List Entry → Type 0
+abbrev pub HeldPartsLeft : Setup → ℕ → File → HoldPath → (Range → List Range) → ℕ → ℕ → Result (List ℕ) CcError → Between
 HeldPartsLeft u me file path parts at len (Ok bytes) old new =
     (between : List Entry)
     × (state : FileState)
@@ -135,7 +135,7 @@ HeldPartsLeft u me file path parts at len (Err e) old new =
     × PartsLeft u me path (parts (cut_range state.sizes.size at len)) (Err e) between new)
 
 -- a read that went by a path, with the bytes that it answered
-abbrev pub PathReadLeft : Setup → ℕ → File → ReadPath → ℕ → ℕ → Result (List ℕ) CcError → List Entry → List Entry → Type 0
+abbrev pub PathReadLeft : Setup → ℕ → File → ReadPath → ℕ → ℕ → Result (List ℕ) CcError → Between
 PathReadLeft u me file Cached at len (Ok bytes) old new = CallLeft u me (call.CopyRead file at len true) (outcome.Done (reply.Read bytes)) old new
 PathReadLeft u me file Cached at len (Err e) old new = CallLeft u me (call.CopyRead file at len true) (outcome.Failed e) old new
 PathReadLeft u me file Mapped at len answered old new = HeldPartsLeft u me file (mapped_path file) parts_of at len answered old new
@@ -154,13 +154,13 @@ misaligned_for Noncached at len = if nat_lt 0 (at % 4096) || nat_lt 0 (len % 409
 misaligned_for other at len = None
 
 -- what is refused before the first call leaves nothing
-abbrev pub ReadTested : Setup → ℕ → File → ReadPath → ℕ → ℕ → Option CcError → Option CcError → Result (List ℕ) CcError → List Entry → List Entry → Type 0
+abbrev pub ReadTested : Setup → ℕ → File → ReadPath → ℕ → ℕ → Option CcError → Option CcError → Result (List ℕ) CcError → Between
 ReadTested u me file path at len (Some e) misaligned answered old new = (answered ≡ Err e) × IsIdle me old new
 ReadTested u me file path at len None (Some e) answered old new = (answered ≡ Err e) × IsIdle me old new
 ReadTested u me file path at len None None answered old new = PathReadLeft u me file path at len answered old new
 
 -- a read by a path
-abbrev pub ReadAnswered : Setup → ℕ → File → ReadPath → ℕ → ℕ → Answer → List Entry → List Entry → Type 0
+abbrev pub ReadAnswered : Setup → ℕ → File → ReadPath → ℕ → ℕ → Answer → Between
 ReadAnswered u me file path at len (answer.Given (reply.Read bytes)) old new =
     ReadTested u me file path at len (too_long_for path len) (misaligned_for path at len) (Ok bytes) old new
 ReadAnswered u me file path at len (answer.Refused e) old new =
@@ -185,13 +185,13 @@ write_calls file at bytes state =
     extensions file state (at + length bytes) ++ (zeroings file state.sizes.valid at ++ call.CopyWrite file at bytes ∷ [])
 
 -- a write, given the sizes that it was told: a gap that is too long is refused before the other calls
-abbrev pub ToldWriteLeft : Setup → ℕ → File → ℕ → List ℕ → FileState → Result (Unit {0}) CcError → List Entry → List Entry → Type 0
+abbrev pub ToldWriteLeft : Setup → ℕ → File → ℕ → List ℕ → FileState → Result (Unit {0}) CcError → Between
 ToldWriteLeft u me file at bytes state answered old new =
     ((state.sizes.valid + 67108864 < at) × (answered ≡ Err (error.GapTooLong 67108864)) × IsIdle me old new)
     ⊎ ((at ≤ state.sizes.valid + 67108864) × CallsLeft u me (write_calls file at bytes state) answered old new)
 
 -- a write of no more bytes than the limit
-abbrev pub ShortWriteLeft : Setup → ℕ → File → ℕ → List ℕ → Result (Unit {0}) CcError → List Entry → List Entry → Type 0
+abbrev pub ShortWriteLeft : Setup → ℕ → File → ℕ → List ℕ → Result (Unit {0}) CcError → Between
 ShortWriteLeft u me file at bytes answered old new =
     ((e : CcError) × (answered ≡ Err e) × CallLeft u me (call.State file) (outcome.Failed e) old new)
     ⊎ ((between : List Entry)
@@ -199,12 +199,12 @@ ShortWriteLeft u me file at bytes answered old new =
     × StateLeft u me file state old between
     × ToldWriteLeft u me file at bytes state answered between new)
 
-abbrev pub WriteTested : Setup → ℕ → File → ℕ → List ℕ → Bool → Result (Unit {0}) CcError → List Entry → List Entry → Type 0
+abbrev pub WriteTested : Setup → ℕ → File → ℕ → List ℕ → Bool → Result (Unit {0}) CcError → Between
 WriteTested u me file at bytes true answered old new = (answered ≡ Err (error.TooLong 1048576)) × IsIdle me old new
 WriteTested u me file at bytes false answered old new = ShortWriteLeft u me file at bytes answered old new
 
 -- a write that extends the stream
-abbrev pub WriteAnswered : Setup → ℕ → File → ℕ → List ℕ → Answer → List Entry → List Entry → Type 0
+abbrev pub WriteAnswered : Setup → ℕ → File → ℕ → List ℕ → Answer → Between
 WriteAnswered u me file at bytes (answer.Given reply.Unit) old new = WriteTested u me file at bytes (nat_lt 1048576 (length bytes)) (Ok tt) old new
 WriteAnswered u me file at bytes (answer.Refused e) old new = WriteTested u me file at bytes (nat_lt 1048576 (length bytes)) (Err e) old new
 WriteAnswered u me file at bytes other old new = ⊥
@@ -219,14 +219,14 @@ abbrev pub update_record : File → ℕ → List ℕ → List ℕ
 update_record file at bytes = file.stream ∷ (little_endian 8 at ++ (little_endian 4 (length bytes) ++ bytes))
 
 -- an update that has its record in a log: the pinned bytes are written and stamped with its LSN
-abbrev pub RecordedLeft : Setup → ℕ → ℕ → ℕ → List ℕ → ℕ → Result ℕ CcError → List Entry → List Entry → Type 0
+abbrev pub RecordedLeft : Setup → ℕ → ℕ → ℕ → List ℕ → ℕ → Result ℕ CcError → Between
 RecordedLeft u me id at bytes lsn (Ok told) old new =
     (told ≡ lsn) × CallsLeft u me (call.PinnedWrite id at bytes ∷ call.SetDirty id (Some lsn) ∷ []) (Ok tt) old new
 RecordedLeft u me id at bytes lsn (Err e) old new =
     CallsLeft u me (call.PinnedWrite id at bytes ∷ call.SetDirty id (Some lsn) ∷ []) (Err e) old new
 
 -- an update, given the log that it was told: the record is appended first
-abbrev pub LoggedLeft : Setup → ℕ → File → ℕ → ℕ → List ℕ → ℕ → Result ℕ CcError → List Entry → List Entry → Type 0
+abbrev pub LoggedLeft : Setup → ℕ → File → ℕ → ℕ → List ℕ → ℕ → Result ℕ CcError → Between
 LoggedLeft u me file id at bytes handle answered old new =
     ((e : CcError) × (answered ≡ Err e) × AppendLeft u me handle (update_record file at bytes) (Err e) old new)
     ⊎ ((between : List Entry)
@@ -235,14 +235,14 @@ LoggedLeft u me file id at bytes handle answered old new =
     × RecordedLeft u me id at bytes lsn answered between new)
 
 -- without a log, and past the valid data length, nothing is appended
-abbrev pub ToldUpdateLeft : Setup → ℕ → File → ℕ → ℕ → List ℕ → Option ℕ → ℕ → Result ℕ CcError → List Entry → List Entry → Type 0
+abbrev pub ToldUpdateLeft : Setup → ℕ → File → ℕ → ℕ → List ℕ → Option ℕ → ℕ → Result ℕ CcError → Between
 ToldUpdateLeft u me file id at bytes None valid answered old new = (answered ≡ Err (error.NoLog 255)) × IsIdle me old new
 ToldUpdateLeft u me file id at bytes (Some handle) valid answered old new =
     ((valid < at) × (answered ≡ Err (error.BeyondValid valid)) × IsIdle me old new)
     ⊎ ((at ≤ valid) × LoggedLeft u me file id at bytes handle answered old new)
 
 -- an update under its pin: the sizes and the log are asked first
-abbrev pub PinnedUpdateLeft : Setup → ℕ → File → ℕ → ℕ → List ℕ → Result ℕ CcError → List Entry → List Entry → Type 0
+abbrev pub PinnedUpdateLeft : Setup → ℕ → File → ℕ → ℕ → List ℕ → Result ℕ CcError → Between
 PinnedUpdateLeft u me file id at bytes answered old new =
     ((e : CcError) × (answered ≡ Err e) × CallLeft u me (call.State file) (outcome.Failed e) old new)
     ⊎ ((between : List Entry)
@@ -251,7 +251,7 @@ PinnedUpdateLeft u me file id at bytes answered old new =
     × ToldUpdateLeft u me file id at bytes state.log state.sizes.valid answered between new)
 
 -- an update: its range is pinned for this call alone, and let go in every case
-abbrev pub UpdateLeft : Setup → ℕ → File → ℕ → List ℕ → Result ℕ CcError → List Entry → List Entry → Type 0
+abbrev pub UpdateLeft : Setup → ℕ → File → ℕ → List ℕ → Result ℕ CcError → Between
 UpdateLeft u me file at bytes answered old new =
     ((e : CcError) × (answered ≡ Err e) × CallLeft u me (call.PinRead file at (length bytes) true) (outcome.Failed e) old new)
     ⊎ ((id : ℕ)
@@ -261,7 +261,7 @@ UpdateLeft u me file at bytes answered old new =
     × PinnedUpdateLeft u me file id at bytes answered made done
     × CallLeft u me (call.EndHold id) (outcome.Done reply.Unit) done new)
 
-abbrev pub UpdateAnswered : Setup → ℕ → File → ℕ → List ℕ → Answer → List Entry → List Entry → Type 0
+abbrev pub UpdateAnswered : Setup → ℕ → File → ℕ → List ℕ → Answer → Between
 UpdateAnswered u me file at bytes (answer.NewLsn lsn) old new = UpdateLeft u me file at bytes (Ok lsn) old new
 UpdateAnswered u me file at bytes (answer.Refused e) old new = UpdateLeft u me file at bytes (Err e) old new
 UpdateAnswered u me file at bytes other old new = ⊥

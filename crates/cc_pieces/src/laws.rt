@@ -26,33 +26,40 @@ ghost use Rattle.cc_pieces.specs.Runs.{Explains, Ran, bindings_of};
 
 /// What explains a line explains it in every longer stretch in which the caller placed nothing else.
 pub fn pieces_stay_explained()
-    ensures after { (u : Setup) (limit me : ℕ) (bindings : List Binding) (asked : Action) (told : Answer) (old new newer : List Entry) →
+    ensures after { (u : Setup) (limit me : ℕ) (bindings : List Binding) (asked : Action) (told : Answer)
+        (old new newer : List Entry) →
         Explains u limit me bindings asked told old new → IsIdle me new newer → Explains u limit me bindings asked told old newer }
-    ensures before { (u : Setup) (limit me : ℕ) (bindings : List Binding) (asked : Action) (told : Answer) (older old new : List Entry) →
+    ensures before { (u : Setup) (limit me : ℕ) (bindings : List Binding) (asked : Action) (told : Answer)
+        (older old new : List Entry) →
         IsIdle me older old → Explains u limit me bindings asked told old new → Explains u limit me bindings asked told older new }
 {}
 
 /// A caller's run goes on by a line that a piece explains, with the bindings that its lines so far made.
 pub fn one_more_piece()
-    ensures { (u : Setup) (limit me : ℕ) (bindings : List Binding) (lines : List (Action × Answer)) (asked : Action) (told : Answer) (old between new : List Entry) →
+    ensures { (u : Setup) (limit me : ℕ) (bindings : List Binding) (lines : List (Action × Answer)) (asked : Action) (told : Answer)
+        (old between new : List Entry) →
         Ran u limit me bindings lines old between → Explains u limit me (bindings_of bindings lines) asked told between new →
         Ran u limit me bindings (lines ++ (asked, told) ∷ []) old new }
 {}
 
 /// What other callers place behind a caller's run changes nothing of it.
 pub fn others_go_on()
-    ensures { (u : Setup) (limit me : ℕ) (bindings : List Binding) (lines : List (Action × Answer)) (old between new : List Entry) →
+    ensures { (u : Setup) (limit me : ℕ) (bindings : List Binding) (lines : List (Action × Answer))
+        (old between new : List Entry) →
         Ran u limit me bindings lines old between → IsIdle me between new → Ran u limit me bindings lines old new }
 {}
 
 /// In a good journal, a line that a copied read answered with bytes has its entry in its piece, and the bytes
 /// are the plain file's at that place (`CcCopyRead`).
 pub fn reads_answer_the_plain_file()
-    ensures { (u : Setup) (limit me : ℕ) (bindings : List Binding) (file : File) (at len : ℕ) (wait : Bool) (bytes : List ℕ) (old new newer : List Entry) →
+    ensures { (u : Setup) (limit me : ℕ) (bindings : List Binding) (file : File) (at len : ℕ) (wait : Bool) (bytes : List ℕ)
+        (old new newer : List Entry) →
         IsGood u (newer ++ new) →
         Explains u limit me bindings (action.CopyRead file at len wait) (answer.Given (reply.Read bytes)) old new →
         (nth : ℕ) × (later : List Entry) × (earlier : List Entry)
-        × (new ≡ later ++ (entry.Call me nth (Some file.stream) (call.CopyRead file at len wait) (outcome.Done (reply.Read bytes)) ∷ (earlier ++ old)))
+        × (new ≡ later
+        ++ (entry.Call me nth (Some file.stream) (call.CopyRead file at len wait) (outcome.Done (reply.Read bytes))
+        ∷ (earlier ++ old)))
         × Reads (u.opening file.stream) (history (earlier ++ old) file.stream) at len (reply.Read bytes) }
 {}
 
@@ -60,7 +67,8 @@ pub fn reads_answer_the_plain_file()
 pub fn words_name_holds()
     ensures made { (name : List ℕ) (id : ℕ) → hold_named (bound name kind.Map (answer.Given (reply.Hold id)) []) name is_map ≡ Some id }
     ensures of_its_kind { (name : List ℕ) (id : ℕ) → hold_named (bound name kind.Map (answer.Given (reply.Hold id)) []) name is_pin ≡ None }
-    ensures pinned { (name : List ℕ) (id : ℕ) → hold_named (pinned name (answer.Given (reply.Hold id)) (bound name kind.Map (answer.Given (reply.Hold id)) [])) name is_pin ≡ Some id }
+    ensures pinned { (name : List ℕ) (id : ℕ) →
+        hold_named (pinned name (answer.Given (reply.Hold id)) (bound name kind.Map (answer.Given (reply.Hold id)) [])) name is_pin ≡ Some id }
     ensures refused { (name : List ℕ) (e : CcError) → hold_named (bound name kind.Map (answer.Refused e) []) name is_map ≡ None }
 {}
 
