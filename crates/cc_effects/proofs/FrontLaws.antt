@@ -12,6 +12,7 @@ use Rattle.cc_entry.specs.declared.entry.Entry.TheVariants as entry
 use Rattle.cc_model.specs.Setup.{Setup}
 use Rattle.cc_model.specs.Passes.{HasSeen, WasPlaced}
 use Rattle.cc_model.specs.Legal.{IsLegal, IsLegalEntry, IsOutcome}
+use Rattle.cc_model.specs.Allowed.{MayCall, IsAllowedSoFar, IsAllowed}
 use Rattle.cc_model.specs.Good.{IsGood}
 use Rattle.cc_effects.specs.Calls.{IsPlaced, IsRefused, IsOvertaken, CallLeft, leaves_entry}
 
@@ -64,3 +65,24 @@ outcome-defined u me it answered old new newer good left leaves =
     let tail : IsLegal u new = legal-tail u newer new good.legal in
     let front : IsLegal u (entry.Call me p.1.nth p.1.stream it answered ∷ (p.0 ++ old)) = legal-tail u p.1.later _ (rw p.1.grew at tail) in
     (p.1.nth, p.1.stream, p.1.later, p.0, p.1.grew, legal-call u me p.1.nth p.1.stream it answered (p.0 ++ old) front)
+
+allowed-tail : (u : Setup) (later past : List Entry) → IsAllowedSoFar u (later ++ past) → IsAllowedSoFar u past
+unfolding IsAllowedSoFar
+allowed-tail u [] past allowed = allowed
+allowed-tail u (e ∷ later) past allowed = allowed-tail u later past allowed.2
+
+allowed-call : (u : Setup) (me nth : ℕ) (stream : Option ℕ) (it : Call) (answered : Outcome) (front : List Entry) → IsAllowedSoFar u (entry.Call me nth stream it answered ∷ front) → MayCall u front me nth stream it answered
+unfolding IsAllowedSoFar
+allowed-call u me nth stream it answered front allowed = allowed.1
+
+so-far : (u : Setup) (past : List Entry) → IsAllowed u past → IsAllowedSoFar u past
+unfolding IsAllowed
+so-far u past allowed = allowed.0
+
+-- in a good journal the entry of a call may stand where it does
+pub may-stand : (u : Setup) (me : ℕ) (it : Call) (answered : Outcome) (old new newer : List Entry) → IsGood u (newer ++ new) → CallLeft u me it answered old new → leaves_entry answered ≡ true → (nth : ℕ) × (stream : Option ℕ) × (later : List Entry) × (earlier : List Entry) × (new ≡ later ++ (entry.Call me nth stream it answered ∷ (earlier ++ old))) × MayCall u (earlier ++ old) me nth stream it answered
+may-stand u me it answered old new newer good left leaves =
+    let p = placed-of u me it answered old new left leaves in
+    let tail : IsAllowedSoFar u new = allowed-tail u newer new (so-far u (newer ++ new) good.allowed) in
+    let front : IsAllowedSoFar u (entry.Call me p.1.nth p.1.stream it answered ∷ (p.0 ++ old)) = allowed-tail u p.1.later _ (rw p.1.grew at tail) in
+    (p.1.nth, p.1.stream, p.1.later, p.0, p.1.grew, allowed-call u me p.1.nth p.1.stream it answered (p.0 ++ old) front)

@@ -13,6 +13,7 @@ ghost use Rattle.cc_entry.specs.declared.entry.Entry.TheVariants as entry;
 ghost use Rattle.cc_model.specs.Setup.{Setup};
 ghost use Rattle.cc_model.specs.Passes.{HasSeen, WasPlaced};
 ghost use Rattle.cc_model.specs.Legal.{IsOutcome};
+ghost use Rattle.cc_model.specs.Allowed.{MayCall};
 ghost use Rattle.cc_model.specs.Good.{IsGood};
 ghost use Rattle.cc_entry.specs.declared.error.CcError.TheVariants as error;
 ghost use Rattle.cc_entry.specs.declared.reply.Outcome.TheVariants as outcome;
@@ -136,6 +137,16 @@ pub fn outcomes_are_as_defined()
         (nth : ℕ) × (stream : Option ℕ) × (later : List Entry) × (earlier : List Entry)
         × (new ≡ later ++ (entry.Call me nth stream it answered ∷ (earlier ++ old)))
         × IsOutcome u (earlier ++ old) me stream it answered }
+{}
+
+/// In a good journal the entry of a call may stand where it does: a call that is done has the pages of its
+/// range resident at its front, a flush has synced, and a purge has taken its span out.
+pub fn entries_may_stand_where_they_do()
+    ensures { (u : Setup) (me : ℕ) (it : Call) (answered : Outcome) (old new newer : List Entry) →
+        IsGood u (newer ++ new) → CallLeft u me it answered old new → leaves_entry answered ≡ true →
+        (nth : ℕ) × (stream : Option ℕ) × (later : List Entry) × (earlier : List Entry)
+        × (new ≡ later ++ (entry.Call me nth stream it answered ∷ (earlier ++ old)))
+        × MayCall u (earlier ++ old) me nth stream it answered }
 {}
 
 /// Each entry of the pass in a stretch that a call explains is the call's own one, or one that the call may
