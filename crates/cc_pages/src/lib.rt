@@ -6,4 +6,4 @@
 
 mod frames;
 
-pub use frames::{Frames, NoMemory, PAGE_SIZE, PAGES};
+pub use frames::{Frame, Frames, NoMemory, PAGE_SIZE, PAGES};
