@@ -50,8 +50,8 @@ snapshot (Some old) page new frame there same kept =
     let is : old ≡ page = cc in
     rw is (same, ap Some kept)
 
-pub Snapshot-made : (slots : List Slot) (i : ℕ) (x : Slot) (old new : Kept) (frame : List ℕ) → length slots ≡ 64 → i < 64 → x ≡ get_or slots i x → x ≡ Some old → frame ≡ (page_of old).bytes → page_of new ≡ shared (page_of old).bytes → Snapshot (page_at (pages_in slots) i) (page_at (pages_in (set slots i (Some new))) i) (Some frame)
-Snapshot-made slots i x old new frame n h found there same kept =
+pub Snapshot-made : (slots : List Slot) (i : ℕ) (x : Slot) (old new : Kept) (frame : List ℕ) → length slots ≡ 64 → i < 64 → get_or slots i x ≡ Some old → frame ≡ (page_of old).bytes → page_of new ≡ shared (page_of old).bytes → Snapshot (page_at (pages_in slots) i) (page_at (pages_in (set slots i (Some new))) i) (Some frame)
+Snapshot-made slots i x old new frame n h there same kept =
     let le : i < length slots = omega arith in
-    let was : page_at (pages_in slots) i ≡ Some (page_of old) = get_or-map-at page_in slots i x None le ∙ (ap page_in (sym found) ∙ ap page_in there) in
+    let was : page_at (pages_in slots) i ≡ Some (page_of old) = get_or-map-at page_in slots i x None le ∙ ap page_in there in
     rw (page_at-set slots i (Some new) n h) (snapshot (page_at (pages_in slots) i) (page_of old) (page_of new) frame was same kept)
