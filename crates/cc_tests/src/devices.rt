@@ -16,8 +16,9 @@ fn write<D: PageDisk>(disk: &mut D, page: u64, byte: u8) -> Result<(), Stop> {
     disk.write_page(page, &[byte; 4096])
 }
 
-fn read<D: PageDisk>(disk: &mut D, page: u64) -> Result<(), Stop> {
-    let mut out = [0; 4096];
+/// Reads a page over a buffer that is full of one byte.
+fn read<D: PageDisk>(disk: &mut D, page: u64, byte: u8) -> Result<(), Stop> {
+    let mut out = [byte; 4096];
     disk.read_page(page, &mut out)
 }
 
@@ -36,10 +37,10 @@ fn a_disk_keeps_pages(rt: HostRuntime) -> Result<(), Fail> {
     assert_eq!(rt; write(&mut disk, 3, 7), Ok(()));
     assert_eq!(rt; sync(&mut disk), Ok(()));
     assert_eq!(rt; write(&mut disk, 3, 8), Err(Stop::Failed));
-    assert_eq!(rt; read(&mut disk, 3), Ok(()));
+    assert_eq!(rt; read(&mut disk, 3, 0), Ok(()));
     assert_eq!(rt; disk.may(3)?.len(), 2);
     disk.stop_after(4);
-    assert_eq!(rt; read(&mut disk, 3), Err(Stop::Failed));
+    assert_eq!(rt; read(&mut disk, 3, 0), Err(Stop::Failed));
     assert!(rt; disk.page(3) == [7; 4096]);
     assert_eq!(rt; disk.faults(), 2);
     Ok(())
