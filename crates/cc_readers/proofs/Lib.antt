@@ -1,12 +1,13 @@
+pub mod ReaderSteps
 pub mod RefusalReads
 pub mod HoldReads
 pub mod BarReads
 pub mod AbsentReads
 pub mod QuotaReads
-pub mod ReaderSteps
 pub mod HoldPlaces
 pub mod TouchReads
 pub mod DirtyReads
 pub mod SizeReads
-pub mod ByteReads
 pub mod ResidentReads
+pub mod TransferSteps
+pub mod ByteReads

@@ -6,3 +6,5 @@ pub mod QuotaReads
 pub mod ViewReads
 pub mod RefusalReads
 pub mod Changes
+pub mod TransferReads
+pub mod ByteSources

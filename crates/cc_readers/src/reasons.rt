@@ -190,6 +190,7 @@ fn needed_file(call: &Call) -> Option<FileId>
         | Call::State { file }
         | Call::Flush { file, .. }
         | Call::Purge { file, .. }
+        | Call::Discard { file, .. }
         | Call::SetLog { file, .. }
         | Call::LsnForFile { file }
         | Call::SetGranularity { file, .. }

@@ -11,7 +11,7 @@ use Rattle.cc_readers.specs.Events.{effects}
 use Rattle.cc_model.specs.Conflicts.{held, held_by}
 use Rattle.cc_readers.specs.HoldReads.{hold_of}
 use Rattle.cc_readers.specs.BarReads.{bars_by}
-use Rattle.cc_laws.proofs.readers.conflicts.by_holds.Goals as goal
+use Rattle.cc_readers.proofs.conflicts.by_holds.Goals as goal
 
 pub returns-in-SetSizes : goal.returns-in-SetSizes
 returns-in-SetSizes c =
