@@ -22,7 +22,6 @@ use Rattle.cc_readers.specs.declared.bytes.Source.{Source}
 use Rattle.cc_readers.specs.declared.bytes.Source.TheVariants as source
 use Rattle.cc_readers.specs.declared.bytes.Found.{Found}
 use Rattle.cc_readers.specs.declared.bytes.Found.TheVariants as found
-use Rattle.cc_readers.specs.TransferReads.{ended_before}
 use Rattle.cc_readers.specs.ByteSources.{byte_from, look_in_changes, look_on_disk, look}
 use Rattle.cc_laws.proofs.ActSteps.{content_by, content-done}
 use Rattle.cc_readers.proofs.ReaderSteps.{effects_back}

@@ -8,7 +8,7 @@ ghost use Rattle.cc_model.specs.Holds.{holds_of, least_id, lesser};
 ghost use Rattle.cc_model.specs.Ranges.{span_has};
 ghost use Rattle.cc_entry.specs.Kinds.{is_pin};
 ghost use Rattle.cc_readers.specs.Events.{effects};
-ghost use Rattle.cc_model.specs.Conflicts.{held, held_by};
+ghost use Rattle.cc_model.specs.Conflicts.{has_page_of, held, held_by};
 ghost use Rattle.cc_readers.specs.HoldReads.{hold_of, range_of_reach, range_owed};
 ghost use Rattle.cc_readers.specs.BarReads.{bars_by};
 
@@ -152,6 +152,14 @@ pub fn reach_of(span: Option<Span>) -> Option<Reach>
     }
 }
 
+// The refusal of a purge or a discard by a hold that has a page of its span.
+fn by_span(holds: &[OpenHold], span: Option<Span>) -> Option<CcError>
+    ensures { result ≡ held_by (least_id (has_page_of span) (map hold_of holds.now)) }
+{
+    let span = reach_of(span);
+    held_at(least_in_the_way(holds, Bar::Purge { span }))
+}
+
 // The refusal of an uninitialise of the last object, while a hold is open.
 fn by_last(
     alloc: Global,
@@ -186,10 +194,8 @@ pub fn by_holds(
             Ok(held_at(least_in_the_way(&holds, Bar::EndsPast { size: *size })))
         }
         Call::Uninitialise { file, .. } => by_last(alloc, journal, stream, &holds, *file),
-        Call::Purge { span, .. } | Call::Discard { span, .. } => {
-            let span = reach_of(*span);
-            Ok(held_at(least_in_the_way(&holds, Bar::Purge { span })))
-        }
+        Call::Purge { span, .. } => Ok(by_span(&holds, *span)),
+        Call::Discard { span, .. } => Ok(by_span(&holds, *span)),
         _ => Ok(None),
     }
 }

@@ -56,13 +56,7 @@ fn end_of(event: Event, page: u64) -> Option<bool>
     ensures { result ≡ end_of_page event page }
 {
     match event {
-        Event::Ended { page: ended, ok } => {
-            if ended == page {
-                Some(ok)
-            } else {
-                None
-            }
-        }
+        Event::Ended { page: ended, ok } => { if ended == page { Some(ok) } else { None } }
         _ => None,
     }
 }

@@ -11,12 +11,12 @@ returns-in_default t c = sym (byte_none _ _ c.args.fill c.args.at c.args.source 
 pub returns-in-Byte : goal.returns-in-Byte
 returns-in-Byte t c =
     sym (byte_back (filled c.args.fill) _ _ _ _ c.args.at c.args.source (found.Byte c.in-Byte.byte) c.in-Some.ensures.cases.0
-    (sym c.in-Byte.is ∙ c.in_ok-look.ensures))
+    (sym c.in-Byte.is ∙ c.in_ok-byte.ensures))
 
 pub returns-in-Before : goal.returns-in-Before
 returns-in-Before t c =
     let P : ℕ → Type 0 = λ n. IfOk c.byte_from.result (λ byte. byte ≡ n) in
     subst P
     (sym (byte_back (filled c.args.fill) _ _ _ _ c.args.at c.args.source (found.Before c.in-Before.source) c.in-Some.ensures.cases.0
-    (sym c.in-Before.is ∙ c.in_ok-look.ensures)))
+    (sym c.in-Before.is ∙ c.in_ok-byte.ensures)))
     c.byte_from.ensures
