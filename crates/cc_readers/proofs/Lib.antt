@@ -1,3 +1,4 @@
+-- Lemmas on what a reader answers after one entry more, each before those that cite it.
 pub mod ReaderSteps
 pub mod RefusalReads
 pub mod HoldReads

@@ -7,6 +7,7 @@ use Rattle.std.specs.List.{filter}
 use Rattle.cc_entry.specs.Place.{File, Range}
 use Rattle.cc_entry.specs.declared.call.Call.{Call}
 use Rattle.cc_entry.specs.declared.call.Call.TheVariants as call
+use Rattle.cc_entry.specs.declared.hold.HoldKind.{HoldKind}
 use Rattle.cc_entry.specs.declared.hold.HoldKind.TheVariants as kind
 use Rattle.cc_readers.specs.declared.holds.Reach.{Reach}
 use Rattle.cc_readers.specs.declared.holds.Owed.{Owed}
@@ -44,6 +45,19 @@ hold_of it = record {
 -- the holds that a reader's stand for
 abbrev pub holds_in : List OpenHold → List Hold
 holds_in holds = map hold_of holds
+
+-- a hold that owes no stamp, given its file object, its place and its length
+abbrev pub new_hold : ℕ → ℕ → File × ℕ × ℕ → HoldKind → Bool → Hold
+new_hold id pass place its_kind exclusive = record {
+  id = id;
+  pass = pass;
+  file = place.0;
+  at = place.1;
+  len = place.2;
+  kind = its_kind;
+  exclusive = exclusive;
+  owed = [];
+}
 
 -- the holds that one stands for, where there is one
 abbrev pub kept_hold : Option OpenHold → List Hold

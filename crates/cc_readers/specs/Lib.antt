@@ -1,3 +1,4 @@
+-- What the contracts of the readers cite.
 pub mod Events
 pub mod MapReads
 pub mod HoldReads

@@ -5,7 +5,7 @@ ghost use Rattle.std.specs.Option.{option_map};
 ghost use Rattle.cc_model.specs.History.{effect_of};
 ghost use Rattle.cc_model.specs.Holds.{holds_of, held_after, hold_at, repinned};
 ghost use Rattle.cc_readers.specs.Events.{effects};
-ghost use Rattle.cc_readers.specs.HoldReads.{hold_of, holds_in, spot_of, kept_hold, pin_by, made_by, changed_by, changed_after, held_by_effect};
+ghost use Rattle.cc_readers.specs.HoldReads.{hold_of, holds_in, new_hold, spot_of, kept_hold, pin_by, made_by, changed_by, changed_after, held_by_effect};
 
 use crate::events::id_in;
 use cc_entry::{Call, Entry, FileId, HoldKind, NoMemory, Outcome, StreamId};
@@ -114,7 +114,7 @@ fn new_hold(
     kind: HoldKind,
     exclusive: bool,
 ) -> OpenHold
-    ensures { hold_of result ≡ record { id = id; pass = pass; file = place.0; at = place.1; len = place.2; kind = kind; exclusive = exclusive; owed = [] } }
+    ensures { hold_of result ≡ new_hold id pass place kind exclusive }
 {
     OpenHold {
         id,

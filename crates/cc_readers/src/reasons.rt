@@ -66,6 +66,7 @@ pub fn by_view(call: &Call) -> Option<CcError>
     }
 }
 
+// Whether a granularity is a power of two from 4096 to 1048576.
 fn is_power(bytes: u64) -> bool
     ensures { result ≡ is_granularity bytes }
 {

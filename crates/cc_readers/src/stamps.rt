@@ -80,12 +80,14 @@ fn joined(a: Option<(Lsn, Lsn)>, b: Option<(Lsn, Lsn)>) -> Option<(Lsn, Lsn)>
     }
 }
 
+// The lesser of two LSNs.
 fn the_lesser(a: Lsn, b: Lsn) -> Lsn
     ensures { result ≡ min a b }
 {
     if a.number() <= b.number() { a } else { b }
 }
 
+// The greater of two LSNs.
 fn the_greater(a: Lsn, b: Lsn) -> Lsn
     ensures { result ≡ max a b }
 {

@@ -117,7 +117,7 @@ pub fn truncation_at(
     if to < size { Ok(Some(to)) } else { Ok(None) }
 }
 
-// What a size step does to a page.
+// What a size step does to a page, where there is one.
 fn cut_at(to: Option<u64>, page: u128) -> Touching
     ensures { result ≡ cut_by to page }
 {
@@ -133,6 +133,7 @@ fn cut_at(to: Option<u64>, page: u128) -> Touching
     }
 }
 
+// What a touch with this LSN does to a page, where it has the page.
 fn touch(has: bool, lsn: Option<Lsn>) -> Touching
     ensures { result ≡ touch_if has lsn }
 {
