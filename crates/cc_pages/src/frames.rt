@@ -16,7 +16,7 @@ pub const PAGE_SIZE: usize = 4096;
 pub const PAGES: usize = 64;
 
 /// No memory was found for the frame of a page.
-#[derive(Clone, Copy, Debug, PartialEq, Eq, Hash)]
+#[derive(Clone, Copy, Debug, PartialEq, Eq)]
 pub struct NoMemory;
 
 /// A snapshot of a page: the bytes of the moment in which it was made, whatever becomes of the page.
