@@ -8,24 +8,24 @@ ghost use Rattle.cc_model.specs.Holds.{holds_of, least_id, lesser};
 ghost use Rattle.cc_model.specs.Ranges.{span_has};
 ghost use Rattle.cc_entry.specs.Kinds.{is_pin};
 ghost use Rattle.cc_readers.specs.Events.{effects};
-ghost use Rattle.cc_model.specs.Conflicts.{held, held_by};
-ghost use Rattle.cc_readers.specs.HoldReads.{hold_of, range_of_reach};
+ghost use Rattle.cc_model.specs.Conflicts.{has_page_of, held, held_by};
+ghost use Rattle.cc_readers.specs.HoldReads.{hold_of, range_of_reach, range_owed};
 ghost use Rattle.cc_readers.specs.BarReads.{bars_by};
 
-use crate::holds::{OpenHold, Reach, open_holds};
+use crate::holds::{OpenHold, Owed, Reach, open_holds};
 use crate::maps::{open_objects, others};
 use crate::touches::range_has;
 use cc_entry::{Call, CcError, Entry, FileId, HoldKind, NoMemory, Span, StreamId};
 use std::alloc::Global;
 
 /// What an open hold may be in the way of.
-#[derive(Clone, Copy, Debug, PartialEq, Eq)]
+#[derive(Clone, Copy)]
 pub enum Bar {
     /// The end of the map.
     Any,
     /// A size.
     EndsPast { size: u64 },
-    /// A purge of a span, or of the whole stream.
+    /// A purge or a discard of a span, or of the whole stream.
     Purge { span: Option<Reach> },
     /// A pin of a range.
     Pin { range: Reach, exclusive: bool },
@@ -33,8 +33,8 @@ pub enum Bar {
     Write { page: u128 },
 }
 
-/// Whether a range has bytes in a page of a span, where none is the whole stream.
-pub fn shares_page(span: Option<Reach>, range: Reach) -> bool
+// Whether a range has bytes in a page of another one, where none is the whole stream.
+fn shares_page(span: Option<Reach>, range: Reach) -> bool
     ensures { result ≡ list_any (span_has (option_map range_of_reach span)) (pages_of (range_of_reach range)) }
 {
     if range.from >= range.to {
@@ -51,7 +51,7 @@ pub fn shares_page(span: Option<Reach>, range: Reach) -> bool
     false
 }
 
-/// Whether a page is of a span, where none is the whole stream.
+/// Whether a page is of a range, where none is the whole stream.
 pub fn has(span: Option<Reach>, page: u128) -> bool
     ensures { result ≡ span_has (option_map range_of_reach span) page }
 {
@@ -61,14 +61,15 @@ pub fn has(span: Option<Reach>, page: u128) -> bool
     }
 }
 
-// Whether one of the ranges has the page.
-fn have_page(ranges: &[Reach], page: u128) -> bool
-    ensures { result ≡ list_any (λ r. has_page r page) (map range_of_reach ranges.now) }
+// Whether some bytes for which a stamp is owed are in the page.
+fn have_page(owed: &[Owed], page: u128) -> bool
+    ensures { result ≡ list_any (λ r. has_page r page) (map range_owed owed.now) }
 {
-    let Some((first, rest)) = ranges.split_first() else {
+    let Some((first, rest)) = owed.split_first() else {
         return false;
     };
-    if range_has(first.from, first.to, page) {
+    let from = u128::from(first.at);
+    if range_has(from, from + u128::from(first.len), page) {
         return true;
     }
     have_page(rest, page)
@@ -138,7 +139,7 @@ fn held_at(id: Option<u64>) -> Option<CcError>
     }
 }
 
-/// The span of a call.
+/// The range of a span.
 pub fn reach_of(span: Option<Span>) -> Option<Reach>
     ensures { option_map range_of_reach result ≡ span }
 {
@@ -149,6 +150,14 @@ pub fn reach_of(span: Option<Span>) -> Option<Reach>
         }),
         None => None,
     }
+}
+
+// The refusal of a purge or a discard by a hold that has a page of its span.
+fn by_span(holds: &[OpenHold], span: Option<Span>) -> Option<CcError>
+    ensures { result ≡ held_by (least_id (has_page_of span) (map hold_of holds.now)) }
+{
+    let span = reach_of(span);
+    held_at(least_in_the_way(holds, Bar::Purge { span }))
 }
 
 // The refusal of an uninitialise of the last object, while a hold is open.
@@ -170,7 +179,7 @@ fn by_last(
     Ok(held_at(least_in_the_way(holds, Bar::Any)))
 }
 
-/// The refusal of a call that open holds bar: a set of sizes, the last uninitialise, a purge.
+/// The refusal of a call that open holds bar: a set of sizes, the last uninitialise, a purge, a discard.
 pub fn by_holds(
     alloc: Global,
     journal: &[Entry],
@@ -185,10 +194,8 @@ pub fn by_holds(
             Ok(held_at(least_in_the_way(&holds, Bar::EndsPast { size: *size })))
         }
         Call::Uninitialise { file, .. } => by_last(alloc, journal, stream, &holds, *file),
-        Call::Purge { span, .. } => {
-            let span = reach_of(*span);
-            Ok(held_at(least_in_the_way(&holds, Bar::Purge { span })))
-        }
+        Call::Purge { span, .. } => Ok(by_span(&holds, *span)),
+        Call::Discard { span, .. } => Ok(by_span(&holds, *span)),
         _ => Ok(None),
     }
 }

@@ -5,20 +5,27 @@ ghost use Rattle.std.specs.Option.{option_map};
 ghost use Rattle.cc_model.specs.History.{effect_of};
 ghost use Rattle.cc_model.specs.Holds.{holds_of, held_after, hold_at, repinned};
 ghost use Rattle.cc_readers.specs.Events.{effects};
-ghost use Rattle.cc_readers.specs.HoldReads.{hold_of, spot_of, kept_hold, pin_by, made_by, changed_by, changed_after, held_by_effect};
+ghost use Rattle.cc_readers.specs.HoldReads.{hold_of, holds_in, new_hold, spot_of, kept_hold, pin_by, made_by, changed_by, changed_after, held_by_effect};
 
 use crate::events::id_in;
 use cc_entry::{Call, Entry, FileId, HoldKind, NoMemory, Outcome, StreamId};
 use std::alloc::Global;
 
 /// The bytes from `from` up to, and without, `to`.
-#[derive(Clone, Copy, Debug, PartialEq, Eq)]
+#[derive(Clone, Copy)]
 pub struct Reach {
     pub from: u128,
     pub to: u128,
 }
 
-/// An open hold, with the ranges for which it owes a stamp.
+/// Bytes for which a pin owes a stamp.
+#[derive(Clone, Copy)]
+pub struct Owed {
+    pub at: u64,
+    pub len: u64,
+}
+
+/// An open hold, with what it owes a stamp for.
 #[derive(Drop)]
 pub struct OpenHold {
     pub id: u64,
@@ -28,16 +35,16 @@ pub struct OpenHold {
     pub len: u64,
     pub kind: HoldKind,
     pub exclusive: bool,
-    pub owed: Vec<Reach>,
+    pub owed: Vec<Owed>,
 }
 
 /// What a call does to the open hold that it names.
-#[derive(Clone, Copy, Debug, PartialEq, Eq)]
+#[derive(Clone, Copy)]
 pub enum Change {
     /// It becomes a pin.
     Pins { exclusive: bool },
-    /// It owes a stamp for a range.
-    Owes { from: u128, to: u128 },
+    /// It owes a stamp for so many bytes from a place on.
+    Owes { at: u64, len: u64 },
     /// It owes none.
     Stamps,
     /// It ends.
@@ -66,7 +73,7 @@ fn holds_then(
     last: &Entry,
     stream: StreamId,
 ) -> Result<Vec<OpenHold>, NoMemory>
-    ensures { IfOk result (λ then. map hold_of then.items ≡ held_by_effect (effect_of last.now stream) (map hold_of before.items)) }
+    ensures { IfOk result (λ then. holds_in then.items ≡ held_by_effect (effect_of last.now stream) (holds_in before.items)) }
 {
     match last {
         Entry::Call {
@@ -99,7 +106,7 @@ fn holds_then(
 }
 
 // A hold that owes no stamp, given its range and its kind.
-fn plain(
+fn new_hold(
     alloc: Global,
     id: u64,
     pass: u32,
@@ -107,7 +114,7 @@ fn plain(
     kind: HoldKind,
     exclusive: bool,
 ) -> OpenHold
-    ensures { hold_of result ≡ record { id = id; pass = pass; file = place.0; at = place.1; len = place.2; kind = kind; exclusive = exclusive; owed = [] } }
+    ensures { hold_of result ≡ new_hold id pass place kind exclusive }
 {
     OpenHold {
         id,
@@ -153,15 +160,15 @@ fn hold_made(alloc: Global, pass: u32, call: &Call, id: u64) -> Result<Option<Op
     match call {
         Call::Map { file, at, len } => {
             let place = (*file, *at, *len);
-            Ok(Some(plain(alloc, id, pass, place, HoldKind::Map, false)))
+            Ok(Some(new_hold(alloc, id, pass, place, HoldKind::Map, false)))
         }
         Call::MdlRead { file, at, len } => {
             let place = (*file, *at, *len);
-            Ok(Some(plain(alloc, id, pass, place, HoldKind::ReadChain, false)))
+            Ok(Some(new_hold(alloc, id, pass, place, HoldKind::ReadChain, false)))
         }
         Call::MdlWrite { file, at, len } => {
             let place = (*file, *at, *len);
-            Ok(Some(plain(alloc, id, pass, place, HoldKind::WriteChain, false)))
+            Ok(Some(new_hold(alloc, id, pass, place, HoldKind::WriteChain, false)))
         }
         Call::PinRead { .. } | Call::PreparePin { .. } => pin_made(alloc, pass, call, id),
         _ => Ok(None),
@@ -180,7 +187,7 @@ fn pin_made(alloc: Global, pass: u32, call: &Call, id: u64) -> Result<Option<Ope
             exclusive,
         } => {
             let place = (*file, *at, *len);
-            Ok(Some(plain(alloc, id, pass, place, HoldKind::Pin, *exclusive)))
+            Ok(Some(new_hold(alloc, id, pass, place, HoldKind::Pin, *exclusive)))
         }
         Call::PreparePin {
             file,
@@ -190,11 +197,9 @@ fn pin_made(alloc: Global, pass: u32, call: &Call, id: u64) -> Result<Option<Ope
             exclusive,
         } => {
             let place = (*file, *at, *len);
-            let mut made = plain(alloc, id, pass, place, HoldKind::Pin, *exclusive);
+            let mut made = new_hold(alloc, id, pass, place, HoldKind::Pin, *exclusive);
             if *zero {
-                let from = u128::from(*at);
-                let to = from + u128::from(*len);
-                made.owed.push(Reach { from, to })?;
+                made.owed.push(Owed { at: *at, len: *len })?;
             }
             Ok(Some(made))
         }
@@ -218,9 +223,11 @@ fn holds_changed(
             changed(alloc, before, *hold, Change::Pins { exclusive })
         }
         Call::PinnedWrite { hold, at, bytes } => {
-            let from = u128::from(*at);
-            let to = from + u128::from(bytes.len());
-            changed(alloc, before, *hold, Change::Owes { from, to })
+            let owes = Change::Owes {
+                at: *at,
+                len: bytes.len(),
+            };
+            changed(alloc, before, *hold, owes)
         }
         Call::SetDirty { hold, .. } => changed(alloc, before, *hold, Change::Stamps),
         Call::EndHold { hold } => changed(alloc, before, *hold, Change::Ends),
@@ -237,14 +244,14 @@ fn repin(
     pass: u32,
     of: u64,
 ) -> Result<Vec<OpenHold>, NoMemory>
-    ensures { IfOk result (λ then. map hold_of then.items ≡ repinned id pass (hold_at (map hold_of before.items) of) (map hold_of before.items)) }
+    ensures { IfOk result (λ then. holds_in then.items ≡ repinned id pass (hold_at (holds_in before.items) of) (holds_in before.items)) }
 {
     let Some(place) = place_at(&before, of) else {
         return Ok(before);
     };
     with(
         before,
-        plain(alloc, id, pass, place, HoldKind::Repin, false),
+        new_hold(alloc, id, pass, place, HoldKind::Repin, false),
     )
 }
 
@@ -298,8 +305,8 @@ fn one_changed(
             hold.exclusive = exclusive;
             Ok(Some(hold))
         }
-        Change::Owes { from, to } => {
-            hold.owed.insert(0, Reach { from, to })?;
+        Change::Owes { at, len } => {
+            hold.owed.insert(0, Owed { at, len })?;
             Ok(Some(hold))
         }
         Change::Stamps => {

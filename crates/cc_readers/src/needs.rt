@@ -5,7 +5,7 @@ ghost use Rattle.std.specs.Option.{option_map};
 ghost use Rattle.cc_model.specs.Ranges.{range_of, cut_range};
 ghost use Rattle.cc_model.specs.Views.{viewed};
 ghost use Rattle.cc_readers.specs.Events.{effects};
-ghost use Rattle.cc_readers.specs.HoldReads.{range_of_reach};
+ghost use Rattle.cc_readers.specs.HoldReads.{range_of_reach, range_if};
 ghost use Rattle.cc_readers.specs.ViewReads.{whole_in, cut_in, stored_in, absent_in};
 
 use crate::holds::Reach;
@@ -74,7 +74,7 @@ pub fn range_viewed(
     size: u64,
     call: &Call,
 ) -> Result<Option<Reach>, NoMemory>
-    ensures { IfOk result (λ range. option_map range_of_reach range ≡ viewed (effects journal.now stream) call.now (range_of size call.now)) }
+    ensures { IfOk result (λ range. range_if range ≡ viewed (effects journal.now stream) call.now (range_of size call.now)) }
 {
     match call {
         Call::AheadStep { .. } => Ok(None),
