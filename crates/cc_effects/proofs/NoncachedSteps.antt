@@ -107,6 +107,7 @@ page-written-behind me file page bytes count gap older new others is = record {
   later = is.later;
   tidied = is.tidied;
   goes_out = is.goes_out;
+  once = is.once;
   quiet = is.quiet;
   grew = is.grew;
 }
@@ -123,6 +124,7 @@ page-written-after me file page bytes count old new newer is idle = record {
   later = idle.during ++ is.later;
   tidied = is.tidied;
   goes_out = is.goes_out;
+  once = is.once;
   quiet = others-append me idle.during is.later idle.others is.quiet;
   grew = grew-after idle.during is.later (entry.Call me is.nth (Some file.stream) (call.NcWrite file page) (outcome.Done reply.Unit) ∷ (is.tidied ++ is.ended)) new newer idle.grew is.grew;
 }

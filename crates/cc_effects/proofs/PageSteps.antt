@@ -9,7 +9,7 @@ use Rattle.cc_entry.specs.declared.entry.Entry.{Entry}
 use Rattle.cc_entry.specs.declared.entry.Entry.TheVariants as entry
 use Rattle.cc_effects.specs.Moments.{Others, IsIdle}
 use Rattle.cc_effects.specs.Asked.{Writes}
-use Rattle.cc_effects.specs.PageWrites.{PageWrite, Written, Skipped, NotWritten, NotLogged, HasLogFailed, is_passed_over, BecameOf, IsCutOff, PageWriteLeft, BecameOfAll, HasScanned, HasTicked, TickCutOff, TickLeft}
+use Rattle.cc_effects.specs.PageWrites.{PageWrite, Written, Skipped, NotWritten, NotLogged, HasLogFailed, is_passed_over, BecameOf, IsCutOff, CutOffSo, PageWriteLeft, BecameOfAll, HasScanned, HasTicked, TickCutOff, TickLeft}
 use Rattle.cc_effects.proofs.Stretches.{others-append, own-after, own-before, idle-then, grew-after, some-after, some-before}
 use Rattle.cc_effects.proofs.WorkSteps.{works-others, works-append, works-after, unsynced-others}
 
@@ -49,18 +49,49 @@ became-before me page Skipped during gap older others is = record {
 became-before me page NotWritten during gap older others is = rw (own-before me during gap others) is
 became-before me page NotLogged during gap older others is = log-failed-before me page during gap older is
 
-cut-off-after : (me : ℕ) (pages : List Page) (old new newer : List Entry) → IsCutOff me pages old new → IsIdle me new newer → IsCutOff me pages old newer
-cut-off-after me pages old new newer left idle = record {
+-- what may stand where room or memory were wanting, with others' entries after, and before
+so-after : (me : ℕ) (e : CcError) (gap during : List Entry) → Others me gap → CutOffSo me e during → CutOffSo me e (gap ++ during)
+so-after me error.NoMemory gap during others (inl memory) = inl (rw (own-after me gap during others) memory)
+so-after me error.NoMemory gap during others (inr wanted) = inr (record {
+  since = gap ++ wanted.since;
+  want = wanted.want;
+  before = wanted.before;
+  split = ap (λ l. gap ++ l) wanted.split ∙ sym (append_assoc gap wanted.since (wanted.want ∷ wanted.before));
+  is_own = wanted.is_own;
+  is_want = wanted.is_want;
+  quiet = others-append me gap wanted.since others wanted.quiet;
+  memory = wanted.memory;
+})
+so-after me other gap during others memory = rw (own-after me gap during others) memory
+
+so-before : (me : ℕ) (e : CcError) (during gap : List Entry) → Others me gap → CutOffSo me e during → CutOffSo me e (during ++ gap)
+so-before me error.NoMemory during gap others (inl memory) = inl (rw (own-before me during gap others) memory)
+so-before me error.NoMemory during gap others (inr wanted) = inr (record {
+  since = wanted.since;
+  want = wanted.want;
+  before = wanted.before ++ gap;
+  split = ap (λ l. l ++ gap) wanted.split ∙ append_assoc wanted.since (wanted.want ∷ wanted.before) gap;
+  is_own = wanted.is_own;
+  is_want = wanted.is_want;
+  quiet = wanted.quiet;
+  memory = rw (own-before me wanted.before gap others) wanted.memory;
+})
+so-before me other during gap others memory = rw (own-before me during gap others) memory
+
+cut-off-after : (me : ℕ) (pages : List Page) (e : CcError) (old new newer : List Entry) → IsCutOff me pages e old new → IsIdle me new newer → IsCutOff me pages e old newer
+cut-off-after me pages e old new newer left idle = record {
   during = idle.during ++ left.during;
   grew = grew-after idle.during left.during old new newer idle.grew left.grew;
   works = works-after me (Writes pages) idle.during left.during old idle.others left.works;
+  so = so-after me e idle.during left.during idle.others left.so;
 }
 
-cut-off-before : (me : ℕ) (pages : List Page) (gap older new : List Entry) → Others me gap → IsCutOff me pages (gap ++ older) new → IsCutOff me pages older new
-cut-off-before me pages gap older new others left = record {
+cut-off-before : (me : ℕ) (pages : List Page) (e : CcError) (gap older new : List Entry) → Others me gap → IsCutOff me pages e (gap ++ older) new → IsCutOff me pages e older new
+cut-off-before me pages e gap older new others left = record {
   during = left.during ++ gap;
   grew = rw (append_assoc left.during gap older) left.grew;
   works = works-append me (Writes pages) left.during gap older left.works (works-others me (Writes pages) gap older others) (unsynced-others me gap others);
+  so = so-before me e left.during gap others left.so;
 }
 
 pub write-after : (me : ℕ) (page : Page) (answered : Result PageWrite CcError) (old new newer : List Entry) → PageWriteLeft me page answered old new → IsIdle me new newer → PageWriteLeft me page answered old newer
@@ -71,8 +102,8 @@ write-after me page (Ok written) old new newer left idle = record {
   memory = rw (own-after me idle.during left.during idle.others) left.memory;
   became = became-after me page written idle.during left.during old idle.others left.became;
 }
-write-after me page (Err (error.JournalFull entries)) old new newer left idle = cut-off-after me (page ∷ []) old new newer left idle
-write-after me page (Err error.NoMemory) old new newer left idle = cut-off-after me (page ∷ []) old new newer left idle
+write-after me page (Err (error.JournalFull entries)) old new newer left idle = cut-off-after me (page ∷ []) (error.JournalFull entries) old new newer left idle
+write-after me page (Err error.NoMemory) old new newer left idle = cut-off-after me (page ∷ []) error.NoMemory old new newer left idle
 write-after me page (Err other) old new newer left idle = absurd left
 
 write-behind : (me : ℕ) (page : Page) (answered : Result PageWrite CcError) (gap older new : List Entry) → Others me gap → PageWriteLeft me page answered (gap ++ older) new → PageWriteLeft me page answered older new
@@ -83,8 +114,8 @@ write-behind me page (Ok written) gap older new others left = record {
   memory = rw (own-before me left.during gap others) left.memory;
   became = became-before me page written left.during gap older others left.became;
 }
-write-behind me page (Err (error.JournalFull entries)) gap older new others left = cut-off-before me (page ∷ []) gap older new others left
-write-behind me page (Err error.NoMemory) gap older new others left = cut-off-before me (page ∷ []) gap older new others left
+write-behind me page (Err (error.JournalFull entries)) gap older new others left = cut-off-before me (page ∷ []) (error.JournalFull entries) gap older new others left
+write-behind me page (Err error.NoMemory) gap older new others left = cut-off-before me (page ∷ []) error.NoMemory gap older new others left
 write-behind me page (Err other) gap older new others left = absurd left
 
 pub write-before : (me : ℕ) (page : Page) (answered : Result PageWrite CcError) (older old new : List Entry) → IsIdle me older old → PageWriteLeft me page answered old new → PageWriteLeft me page answered older new
@@ -113,6 +144,11 @@ scanned-before me picked during gap older new others has = record {
   works = rw (append_assoc has.before gap older) has.works;
 }
 
+cut-tick-after : (me : ℕ) (e : CcError) (old new newer : List Entry) → TickCutOff me e old new → IsIdle me new newer → TickCutOff me e old newer
+cut-tick-after me e old new newer (inl was) idle = inl (idle-then me old new newer was idle)
+cut-tick-after me e old new newer (inr has) idle =
+    inr (has.0, idle.during ++ has.1, scanned-after me has.0 idle.during has.1 old new newer idle.others idle.grew has.2, so-after me e idle.during has.1 idle.others has.3)
+
 pub tick-after : (me : ℕ) (answered : Result Tick CcError) (old new newer : List Entry) → TickLeft me answered old new → IsIdle me new newer → TickLeft me answered old newer
 tick-after me (Ok tick) old new newer left idle = record {
   during = idle.during ++ left.during;
@@ -125,22 +161,14 @@ tick-after me (Ok tick) old new newer left idle = record {
   failed = left.failed;
   by_logs = rw (own-after me idle.during left.during idle.others) left.by_logs;
 }
-tick-after me (Err (error.JournalFull entries)) old new newer left idle = by left
-  where
-    by : TickCutOff me old new → TickCutOff me old newer
-    by (inl was) = inl (idle-then me old new newer was idle)
-    by (inr has) = inr (has.0, idle.during ++ has.1, scanned-after me has.0 idle.during has.1 old new newer idle.others idle.grew has.2)
-tick-after me (Err error.NoMemory) old new newer left idle = by left
-  where
-    by : TickCutOff me old new → TickCutOff me old newer
-    by (inl was) = inl (idle-then me old new newer was idle)
-    by (inr has) = inr (has.0, idle.during ++ has.1, scanned-after me has.0 idle.during has.1 old new newer idle.others idle.grew has.2)
+tick-after me (Err (error.JournalFull entries)) old new newer left idle = cut-tick-after me (error.JournalFull entries) old new newer left idle
+tick-after me (Err error.NoMemory) old new newer left idle = cut-tick-after me error.NoMemory old new newer left idle
 tick-after me (Err other) old new newer left idle = absurd left
 
-cut-tick-before : (me : ℕ) (older old new : List Entry) → IsIdle me older old → TickCutOff me old new → TickCutOff me older new
-cut-tick-before me older old new idle (inl was) = inl (idle-then me older old new idle was)
-cut-tick-before me older old new idle (inr has) =
-    inr (has.0, has.1, scanned-before me has.0 has.1 idle.during older new idle.others (rw idle.grew at has.2))
+cut-tick-before : (me : ℕ) (e : CcError) (older old new : List Entry) → IsIdle me older old → TickCutOff me e old new → TickCutOff me e older new
+cut-tick-before me e older old new idle (inl was) = inl (idle-then me older old new idle was)
+cut-tick-before me e older old new idle (inr has) =
+    inr (has.0, has.1, scanned-before me has.0 has.1 idle.during older new idle.others (rw idle.grew at has.2), has.3)
 
 tick-behind : (me : ℕ) (tick : Tick) (gap older new : List Entry) → Others me gap → HasTicked me tick (gap ++ older) new → HasTicked me tick older new
 tick-behind me tick gap older new others left = record {
@@ -157,6 +185,6 @@ tick-behind me tick gap older new others left = record {
 
 pub tick-before : (me : ℕ) (answered : Result Tick CcError) (older old new : List Entry) → IsIdle me older old → TickLeft me answered old new → TickLeft me answered older new
 tick-before me (Ok tick) older old new idle left = tick-behind me tick idle.during older new idle.others (rw idle.grew at left)
-tick-before me (Err (error.JournalFull entries)) older old new idle left = cut-tick-before me older old new idle left
-tick-before me (Err error.NoMemory) older old new idle left = cut-tick-before me older old new idle left
+tick-before me (Err (error.JournalFull entries)) older old new idle left = cut-tick-before me (error.JournalFull entries) older old new idle left
+tick-before me (Err error.NoMemory) older old new idle left = cut-tick-before me error.NoMemory older old new idle left
 tick-before me (Err other) older old new idle left = absurd left

@@ -38,7 +38,7 @@ brings me it old new page from_disk way may reached = record {
   works = record {
     each = ((λ is. rw (may, ← way.grew) reached), way.works.each);
     one_sync = rw (eq-eqb me me refl) way.works.one_sync;
-    ended = rw (eq-eqb me me refl) way.works.ended;
+    whole = rw (eq-eqb me me refl) way.works.whole;
   };
   unsynced = rw (eq-eqb me me refl) way.unsynced;
   unstopped = rw (eq-eqb me me refl) way.unstopped;
@@ -92,7 +92,7 @@ ends_unread me nth stream it page old new way filed listed read reached = record
     works = record {
       each = ((λ is. failed way.during way.grew), way.works.each);
       one_sync = rw (eq-eqb me me refl) way.works.one_sync;
-      ended = rw (eq-eqb me me refl) way.works.ended;
+      whole = rw (eq-eqb me me refl) way.works.whole;
     }
 
 -- memory is wanting, and it leaves no entry of its own

@@ -1,13 +1,17 @@
 -- What a pass placed for a call stays such work in a longer stretch, and two stretches of work are one.
-use Rattle.std.specs.Prelude.{◌≡◌, ℕ, Bool, true, false, cond, ◌||◌, List, [], ◌∷◌, ◌++◌, refl}
+use Rattle.std.specs.Prelude.{◌≡◌, ℕ, Bool, true, false, cond, ◌||◌, List, [], ◌∷◌, ◌++◌, refl, ◌&&◌}
 use Rattle.std.specs.List.{list_any, filter}
 use Rattle.std.proofs.Common.{sym, ap, ◌∙◌, arith, append_assoc, append-nil}
 use Rattle.cc_entry.specs.Place.{Page}
+use Rattle.std.specs.declared.option.Option.{Option}
+use Rattle.std.specs.declared.option.Option.TheVariants.{Some, None}
+use Rattle.cc_entry.specs.Place.{Page}
+use Rattle.cc_model.specs.Passes.{is_same_page}
 use Rattle.cc_entry.specs.declared.entry.Entry.{Entry}
 use Rattle.cc_entry.specs.declared.entry.Entry.TheVariants as entry
 use Rattle.cc_effects.specs.Moments.{own, Others}
 use Rattle.cc_effects.specs.Asked.{Work, Calls, Writes, reaches}
-use Rattle.cc_effects.specs.Places.{MayPlace, MayFailToRead, Works, is_sync, is_ended, syncs_of}
+use Rattle.cc_effects.specs.Places.{MayPlace, MayFailToRead, Works, is_sync, are_whole, syncs_of}
 use Rattle.cc_effects.specs.Stops.{stops, IsUnstopped, IsStopped}
 use Rattle.cc_effects.proofs.Stretches.{others-append, own-others, own-after, own-append, some-before, each-others, each-append, each-implies}
 
@@ -36,7 +40,7 @@ pub works-others : (me : ℕ) (work : Work) (gap old : List Entry) → Others me
 works-others me work gap old others = record {
   each = each-others me (MayPlace me work old) gap old others;
   one_sync = rw (own-others me gap others) (omega arith);
-  ended = rw (own-others me gap others) refl;
+  whole = rw (own-others me gap others) refl;
 }
 
 filter-append : (test : Entry → Bool) (xs ys : List Entry) → filter test (xs ++ ys) ≡ filter test xs ++ filter test ys
@@ -50,21 +54,40 @@ filter-append test (x ∷ xs) ys = by (test x) (filter-append test xs ys)
 syncs-append : (me : ℕ) (xs ys : List Entry) → syncs_of me (xs ++ ys) ≡ syncs_of me xs ++ syncs_of me ys
 syncs-append me xs ys = ap (filter is_sync) (own-append me xs ys) ∙ filter-append is_sync (own me xs) (own me ys)
 
-ended-append : (xs ys : List Entry) → is_ended xs ≡ true → is_ended ys ≡ true → is_ended (xs ++ ys) ≡ true
-ended-append [] ys a b = b
-ended-append (entry.PageIn pass page from_disk ∷ xs) ys a b = ended-append xs ys a b
-ended-append (entry.PageOut pass page ∷ xs) ys a b = ended-append xs ys a b
-ended-append (entry.FillFailed pass page ∷ xs) ys a b = ended-append xs ys a b
-ended-append (entry.WriteBegin pass page ∷ xs) ys a b = absurd (cc)
-ended-append (entry.WriteEnd pass page how ∷ xs) ys a b = refl
-ended-append (entry.Sync pass stream how ∷ xs) ys a b = ended-append xs ys a b
-ended-append (entry.Append pass handle lsn bytes ∷ xs) ys a b = ended-append xs ys a b
-ended-append (entry.Flushed pass handle to ∷ xs) ys a b = ended-append xs ys a b
-ended-append (entry.LogFailed pass handle ∷ xs) ys a b = ended-append xs ys a b
-ended-append (entry.Defer pass id file pages retrying ∷ xs) ys a b = ended-append xs ys a b
-ended-append (entry.Posted id ∷ xs) ys a b = ended-append xs ys a b
-ended-append (entry.Scan pass picked ∷ xs) ys a b = ended-append xs ys a b
-ended-append (entry.Call pass nth stream call ended ∷ xs) ys a b = ended-append xs ys a b
+both : (same whole joined : Bool) → (same && whole) ≡ true → (whole ≡ true → joined ≡ true) → (same && joined) ≡ true
+both true whole joined is so = so is
+both false whole joined is so = absurd (cc)
+
+whole-append : (ended : Option Page) (xs ys : List Entry) → are_whole ended xs ≡ true → are_whole None ys ≡ true → are_whole ended (xs ++ ys) ≡ true
+whole-append None [] ys a b = b
+whole-append (Some page) [] ys a b = absurd (cc)
+whole-append None (entry.WriteEnd pass page how ∷ xs) ys a b = whole-append (Some page) xs ys a b
+whole-append (Some after) (entry.WriteEnd pass page how ∷ xs) ys a b = absurd (cc)
+whole-append None (entry.WriteBegin pass page ∷ xs) ys a b = absurd (cc)
+whole-append (Some after) (entry.WriteBegin pass page ∷ xs) ys a b =
+    both (is_same_page page after) (are_whole None xs) (are_whole None (xs ++ ys)) a (λ is. whole-append None xs ys is b)
+whole-append None (entry.PageIn pass page from_disk ∷ xs) ys a b = whole-append None xs ys a b
+whole-append (Some after) (entry.PageIn pass page from_disk ∷ xs) ys a b = whole-append (Some after) xs ys a b
+whole-append None (entry.PageOut pass page ∷ xs) ys a b = whole-append None xs ys a b
+whole-append (Some after) (entry.PageOut pass page ∷ xs) ys a b = whole-append (Some after) xs ys a b
+whole-append None (entry.FillFailed pass page ∷ xs) ys a b = whole-append None xs ys a b
+whole-append (Some after) (entry.FillFailed pass page ∷ xs) ys a b = whole-append (Some after) xs ys a b
+whole-append None (entry.Sync pass stream how ∷ xs) ys a b = whole-append None xs ys a b
+whole-append (Some after) (entry.Sync pass stream how ∷ xs) ys a b = whole-append (Some after) xs ys a b
+whole-append None (entry.Append pass handle lsn bytes ∷ xs) ys a b = whole-append None xs ys a b
+whole-append (Some after) (entry.Append pass handle lsn bytes ∷ xs) ys a b = whole-append (Some after) xs ys a b
+whole-append None (entry.Flushed pass handle to ∷ xs) ys a b = whole-append None xs ys a b
+whole-append (Some after) (entry.Flushed pass handle to ∷ xs) ys a b = whole-append (Some after) xs ys a b
+whole-append None (entry.LogFailed pass handle ∷ xs) ys a b = whole-append None xs ys a b
+whole-append (Some after) (entry.LogFailed pass handle ∷ xs) ys a b = whole-append (Some after) xs ys a b
+whole-append None (entry.Defer pass id file pages retrying ∷ xs) ys a b = whole-append None xs ys a b
+whole-append (Some after) (entry.Defer pass id file pages retrying ∷ xs) ys a b = whole-append (Some after) xs ys a b
+whole-append None (entry.Posted id ∷ xs) ys a b = whole-append None xs ys a b
+whole-append (Some after) (entry.Posted id ∷ xs) ys a b = whole-append (Some after) xs ys a b
+whole-append None (entry.Scan pass picked ∷ xs) ys a b = whole-append None xs ys a b
+whole-append (Some after) (entry.Scan pass picked ∷ xs) ys a b = whole-append (Some after) xs ys a b
+whole-append None (entry.Call pass nth stream call ended ∷ xs) ys a b = whole-append None xs ys a b
+whole-append (Some after) (entry.Call pass nth stream call ended ∷ xs) ys a b = whole-append (Some after) xs ys a b
 
 -- two stretches of work are one, where the first has no sync
 pub works-append : (me : ℕ) (work : Work) (later during old : List Entry) → Works me work later (during ++ old) → Works me work during old → syncs_of me during ≡ [] → Works me work (later ++ during) old
@@ -74,7 +97,7 @@ works-append me work later during old second first unsynced = record {
       (each-implies me (MayPlace me work (during ++ old)) (MayPlace me work old) (λ past e may. may-place-before me work old during past e may) later (during ++ old) second.each)
       first.each;
   one_sync = rw (syncs-append me later during) (rw unsynced (rw (append-nil (syncs_of me later)) second.one_sync));
-  ended = rw (own-append me later during) (ended-append (own me later) (own me during) second.ended first.ended);
+  whole = rw (own-append me later during) (whole-append None (own me later) (own me during) second.whole first.whole);
 }
 
 pub unsynced-append : (me : ℕ) (later during : List Entry) → syncs_of me later ≡ [] → syncs_of me during ≡ [] → syncs_of me (later ++ during) ≡ []
@@ -88,7 +111,7 @@ pub works-after : (me : ℕ) (work : Work) (gap during old : List Entry) → Oth
 works-after me work gap during old others works = record {
   each = each-append me (MayPlace me work old) gap during old (each-others me (MayPlace me work old) gap (during ++ old) others) works.each;
   one_sync = rw (own-after me gap during others) works.one_sync;
-  ended = rw (own-after me gap during others) works.ended;
+  whole = rw (own-after me gap during others) works.whole;
 }
 
 pub unstopped-others : (me : ℕ) (gap : List Entry) → Others me gap → IsUnstopped me gap

@@ -91,14 +91,20 @@ is_in_the_way it page past =
     && (let h = history past page.stream in goes_for h (range_of (size_of h) it) page.page))
 
 -- Whether the writing of a page is what a call asks for: a flush and a purge write the pages of their
--- span, and a noncached call the page that it is about.
+-- span, and a noncached read its page. A noncached write stores its page and puts that on the disk; before the
+-- store it writes none but to make room.
 abbrev pub asks_write : Call → Page → List Entry → Bool
 asks_write (call.Flush file span) page past = file.stream == page.stream && span_has span page.page
 asks_write (call.Purge file span) page past = file.stream == page.stream && span_has span page.page
 asks_write (call.NcRead file number) page past = reaches (call.NcRead file number) page past
-asks_write (call.NcStore file number bytes) page past = reaches (call.NcStore file number bytes) page past
-asks_write (call.NcWrite file number) page past = reaches (call.NcWrite file number) page past
 asks_write other page past = false
+
+-- whether a page is the one that a noncached write stores, whose log is flushed before
+abbrev pub stores : Work → Page → List Entry → Bool
+stores (Calls (call.NcStore file number bytes)) page past = reaches (call.NcStore file number bytes) page past
+stores (Calls (call.NcWrite file number)) page past = reaches (call.NcWrite file number) page past
+stores (Calls other) page past = false
+stores (Writes pages) page past = false
 
 -- whether what is under way may write a page: to make room, or since it is asked for
 abbrev pub may_write : Work → Page → List Entry → Bool

@@ -105,7 +105,8 @@ abbrev pub CameSoFar : ℕ → CcError → List Entry → Type 0
 CameSoFar me e during = IsUnstopped me during ⊎ ((stop : Entry) × IsStopped me stop during × (may_give_up e stop ≡ true))
 
 -- The journal had no room for the call, or memory was wanting: it left what it had placed, and no entry of
--- its own.
+-- its own. That there was little room is asked of lines, where they are explained, and of each call by its own
+-- contract, which knows what is reserved.
 pub record IsUnplaced (me : ℕ) (it : Call) (e : CcError) (old new : List Entry) : Type 0 where
   pub during : List Entry
   pub grew : new ≡ during ++ old

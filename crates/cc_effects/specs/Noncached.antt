@@ -1,5 +1,5 @@
 -- What noncached reads and writes leave: page after page, until one is refused.
-use Rattle.std.specs.Prelude.{◌≡◌, ℕ, zero, suc, ◌+◌, ◌-◌, ◌*◌, ◌/◌, ◌%◌, ◌<◌, Bool, true, false, ◌&&◌, ◌==◌, nat_lt, List, [], ◌∷◌, ◌++◌, length, take, drop, Result, Ok, Err, ◌⊎◌, if◌then◌else◌}
+use Rattle.std.specs.Prelude.{◌≡◌, ℕ, zero, suc, ◌+◌, ◌-◌, ◌*◌, ◌/◌, ◌%◌, ◌<◌, ◌≤◌, Bool, true, false, ◌&&◌, ◌==◌, nat_lt, List, [], ◌∷◌, ◌++◌, length, take, drop, Result, Ok, Err, ◌⊎◌, if◌then◌else◌}
 use Rattle.std.specs.declared.option.Option.{Option}
 use Rattle.std.specs.declared.option.Option.TheVariants.{Some, None}
 use Rattle.std.specs.List.{range_with_len}
@@ -18,7 +18,7 @@ use Rattle.cc_model.specs.Setup.{Setup}
 use Rattle.cc_model.specs.History.{history}
 use Rattle.cc_model.specs.Sizes.{stored_range}
 use Rattle.cc_model.specs.Touches.{size_of}
-use Rattle.cc_effects.specs.Moments.{Others, IsIdle, PlacedOnly, EachOwn, Between}
+use Rattle.cc_effects.specs.Moments.{own, Others, IsIdle, PlacedOnly, EachOwn, Between}
 use Rattle.cc_effects.specs.Asked.{Calls}
 use Rattle.cc_effects.specs.Places.{MayPlace, Works}
 use Rattle.cc_effects.specs.Stops.{IsUnstopped}
@@ -131,6 +131,7 @@ pub record IsPageWritten (me : ℕ) (file : File) (page : ℕ) (bytes : List ℕ
   pub later : List Entry
   pub tidied : List Entry
   pub goes_out : EachOwn me (TakesOut me file page ended) tidied ended
+  pub once : length (own me tidied) ≤ 1
   pub quiet : Others me later
   pub grew :
       new

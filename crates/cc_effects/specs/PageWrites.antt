@@ -15,7 +15,7 @@ use Rattle.cc_model.specs.Touches.{is_dirty, is_mapped}
 use Rattle.cc_model.specs.Settings.{log_of}
 use Rattle.cc_model.specs.Stamps.{is_unstamped}
 use Rattle.cc_model.specs.Faults.{is_failed}
-use Rattle.cc_model.specs.Passes.{is_same_page}
+use Rattle.cc_model.specs.Passes.{is_same_page, is_mine}
 use Rattle.cc_effects.specs.Moments.{own, Others, IsIdle, AtSome, Between}
 use Rattle.cc_effects.specs.Asked.{Writes}
 use Rattle.cc_effects.specs.Places.{Works}
@@ -76,17 +76,34 @@ pub record PageLeft (me : ℕ) (page : Page) (written : PageWrite) (old new : Li
   pub memory : HadMemory me during
   pub became : BecameOf me page written during old
 
+-- A transfer of the pass found no memory: it placed nothing after, and no transfer had found none before.
+pub record WantedMemory (me : ℕ) (during : List Entry) : Type 0 where
+  pub since : List Entry
+  pub want : Entry
+  pub before : List Entry
+  pub split : during ≡ since ++ want ∷ before
+  pub is_own : is_mine me want ≡ true
+  pub is_want : found_no_memory want ≡ true
+  pub quiet : Others me since
+  pub memory : HadMemory me before
+
+-- what may stand where the journal had no room, and where memory was wanting
+abbrev pub CutOffSo : ℕ → CcError → List Entry → Type 0
+CutOffSo me error.NoMemory during = HadMemory me during ⊎ WantedMemory me during
+CutOffSo me other during = HadMemory me during
+
 -- room or memory were wanting while pages were written
-pub record IsCutOff (me : ℕ) (pages : List Page) (old new : List Entry) : Type 0 where
+pub record IsCutOff (me : ℕ) (pages : List Page) (e : CcError) (old new : List Entry) : Type 0 where
   pub during : List Entry
   pub grew : new ≡ during ++ old
   pub works : Works me (Writes pages) during old
+  pub so : CutOffSo me e during
 
 -- the writing of one page
 abbrev pub PageWriteLeft : ℕ → Page → Result PageWrite CcError → Between
 PageWriteLeft me page (Ok written) old new = PageLeft me page written old new
-PageWriteLeft me page (Err (error.JournalFull entries)) old new = IsCutOff me (page ∷ []) old new
-PageWriteLeft me page (Err error.NoMemory) old new = IsCutOff me (page ∷ []) old new
+PageWriteLeft me page (Err (error.JournalFull entries)) old new = IsCutOff me (page ∷ []) (error.JournalFull entries) old new
+PageWriteLeft me page (Err error.NoMemory) old new = IsCutOff me (page ∷ []) error.NoMemory old new
 PageWriteLeft me page (Err other) old new = ⊥
 
 -- this became of each of the pages
@@ -143,13 +160,14 @@ pub record HasTicked (me : ℕ) (tick : Tick) (old new : List Entry) : Type 0 wh
   pub by_logs : count_by is_not_logged ends ≤ count_by is_log_failure (own me during)
 
 -- room or memory were wanting in a tick: before its scan, or after it
-abbrev pub TickCutOff : ℕ → Between
-TickCutOff me old new =
-    IsIdle me old new ⊎ ((picked : List Page) × (during : List Entry) × HasScanned me picked during old new)
+abbrev pub TickCutOff : ℕ → CcError → Between
+TickCutOff me e old new =
+    IsIdle me old new
+    ⊎ ((picked : List Page) × (during : List Entry) × HasScanned me picked during old new × CutOffSo me e during)
 
 -- a tick of the lazy writer
 abbrev pub TickLeft : ℕ → Result Tick CcError → Between
 TickLeft me (Ok tick) old new = HasTicked me tick old new
-TickLeft me (Err (error.JournalFull entries)) old new = TickCutOff me old new
-TickLeft me (Err error.NoMemory) old new = TickCutOff me old new
+TickLeft me (Err (error.JournalFull entries)) old new = TickCutOff me (error.JournalFull entries) old new
+TickLeft me (Err error.NoMemory) old new = TickCutOff me error.NoMemory old new
 TickLeft me (Err other) old new = ⊥

@@ -1,6 +1,7 @@
 -- Which entries a call may place before its own one, each over its front.
-use Rattle.std.specs.Prelude.{◌≡◌, ℕ, ◌*◌, ◌<◌, ◌≤◌, Bool, true, false, not, ◌&&◌, nat_lt, List, [], ◌∷◌, length, if◌then◌else◌}
-use Rattle.std.specs.declared.option.Option.TheVariants.{Some}
+use Rattle.std.specs.Prelude.{◌≡◌, ℕ, ◌*◌, ◌<◌, ◌≤◌, Bool, true, false, not, ◌&&◌, ◌||◌, nat_lt, List, [], ◌∷◌, length, if◌then◌else◌}
+use Rattle.std.specs.declared.option.Option.{Option}
+use Rattle.std.specs.declared.option.Option.TheVariants.{Some, None}
 use Rattle.std.specs.List.{filter}
 use Rattle.cc_entry.specs.Place.{Page}
 use Rattle.cc_entry.specs.declared.call.Call.{Call}
@@ -13,8 +14,9 @@ use Rattle.cc_model.specs.Residency.{is_resident}
 use Rattle.cc_model.specs.Images.{open_of}
 use Rattle.cc_model.specs.Logs.{flushed_to}
 use Rattle.cc_model.specs.Stamps.{newest_of}
+use Rattle.cc_model.specs.Passes.{is_same_page}
 use Rattle.cc_effects.specs.Moments.{own, EachOwn, AtSome}
-use Rattle.cc_effects.specs.Asked.{Work, Calls, Writes, brings_in, reads_noncached, reaches, may_bring_in, may_take_out, may_write, may_sync}
+use Rattle.cc_effects.specs.Asked.{Work, Calls, Writes, brings_in, reads_noncached, reaches, may_bring_in, may_take_out, may_write, may_sync, stores}
 
 -- whether a page is not resident and has a byte below the valid data length, so that its bytes are on the
 -- disk alone
@@ -34,10 +36,11 @@ MayFailToRead (Calls it) old page past =
     (may_read it page past ≡ true) × AtSome (λ moment. reaches it page moment ≡ true) old past
 MayFailToRead (Writes pages) old page past = ⊥
 
--- a page that is to be written has this log, and this LSN as the newest stamped on it
+-- a page that is to be written, or stored by a noncached write, has this log, and this LSN as the newest stamped
+-- on it
 pub record AsksLog (work : Work) (handle to : ℕ) (past : List Entry) : Type 0 where
   pub page : Page
-  pub writes : may_write work page past ≡ true
+  pub writes : (may_write work page past || stores work page past) ≡ true
   pub log : log_of (history past page.stream) ≡ Some handle
   pub newest : newest_of (history past page.stream) page.page ≡ Some to
 
@@ -73,17 +76,21 @@ is_sync other = false
 abbrev pub syncs_of : ℕ → List Entry → List Entry
 syncs_of me during = filter is_sync (own me during)
 
--- whether entries of one pass, newest first, leave no transfer open: the newest of the begins and ends is an
--- end
-abbrev pub is_ended : List Entry → Bool
-is_ended [] = true
-is_ended (entry.WriteBegin pass page ∷ earlier) = false
-is_ended (entry.WriteEnd pass page how ∷ earlier) = true
-is_ended (other ∷ earlier) = is_ended earlier
+-- Whether each transfer that entries of one pass, newest first, speak of stands there whole: a begin is
+-- followed by the end of its page, with no other begin or end between. The page is that of an end whose begin
+-- is still to come.
+abbrev pub are_whole : Option Page → List Entry → Bool
+are_whole None [] = true
+are_whole (Some page) [] = false
+are_whole None (entry.WriteEnd pass page how ∷ earlier) = are_whole (Some page) earlier
+are_whole (Some after) (entry.WriteEnd pass page how ∷ earlier) = false
+are_whole None (entry.WriteBegin pass page ∷ earlier) = false
+are_whole (Some after) (entry.WriteBegin pass page ∷ earlier) = is_same_page page after && are_whole None earlier
+are_whole ended (other ∷ earlier) = are_whole ended earlier
 
--- The entries of the pass in a stretch are such entries, with one sync at most, and none of its transfers
--- is left open.
+-- The entries of the pass in a stretch are such entries, with one sync at most, and each of its transfers
+-- stands there whole.
 pub record Works (me : ℕ) (work : Work) (during old : List Entry) : Type 0 where
   pub each : EachOwn me (MayPlace me work old) during old
   pub one_sync : length (syncs_of me during) ≤ 1
-  pub ended : is_ended (own me during) ≡ true
+  pub whole : are_whole None (own me during) ≡ true

@@ -34,11 +34,6 @@ found_no_memory (entry.WriteEnd pass page how) = is_want how
 found_no_memory (entry.Sync pass stream how) = is_want how
 found_no_memory other = false
 
--- whether an entry is a failed read
-abbrev pub is_failed_fill : Entry → Bool
-is_failed_fill (entry.FillFailed pass page) = true
-is_failed_fill other = false
-
 -- nothing stopped the pass in a stretch
 abbrev pub IsUnstopped : ℕ → List Entry → Type 0
 IsUnstopped me during = list_any stops (own me during) ≡ false
@@ -66,10 +61,9 @@ pub record IsToldBy (me : ℕ) (it : Call) (e : CcError) (stop : Entry) : Type 0
   pub shown : fault_of me stop ≡ Some fault
   pub told : tells it e fault ≡ true
 
--- Whether a call that was stopped by this entry may end without an entry of its own. A failed read is always
--- told, for the room and the memory of both entries are taken before the disk is asked; and where a
--- transfer found no memory, that is the answer.
+-- Whether a call that was stopped by this entry may end without an entry of its own: its own entry found no
+-- room, or memory was wanting. Where a transfer found no memory, that is the answer.
 abbrev pub may_give_up : CcError → Entry → Bool
-may_give_up (error.JournalFull entries) stop = not (is_failed_fill stop) && not (found_no_memory stop)
-may_give_up error.NoMemory stop = not (is_failed_fill stop)
+may_give_up (error.JournalFull entries) stop = not (found_no_memory stop)
+may_give_up error.NoMemory stop = true
 may_give_up other stop = false

@@ -1,4 +1,5 @@
--- What each action of a script leaves: one case for each.
+-- What each action of a script leaves: one case for each. The lines on holds, of the shim and without a call's
+-- entry are defined beside, and become a case here with their verb.
 use Rattle.std.specs.Prelude.{ℕ, List, []}
 use Rattle.cc_entry.specs.declared.call.Call.TheVariants as call
 use Rattle.cc_entry.specs.declared.answer.Answer.{Answer}

@@ -153,10 +153,14 @@ abbrev pub misaligned_for : ReadPath → ℕ → ℕ → Option CcError
 misaligned_for Noncached at len = if nat_lt 0 (at % 4096) || nat_lt 0 (len % 4096) then Some error.Unaligned else None
 misaligned_for other at len = None
 
+-- a test of the shim's own refuses so, or finds no memory
+abbrev pub RefusedSo : {T : Type 0} → CcError → Result T CcError → Type 0
+RefusedSo e answered = (answered ≡ Err e) ⊎ (answered ≡ Err error.NoMemory)
+
 -- what is refused before the first call leaves nothing
 abbrev pub ReadTested : Setup → ℕ → File → ReadPath → ℕ → ℕ → Option CcError → Option CcError → Result (List ℕ) CcError → Between
-ReadTested u me file path at len (Some e) misaligned answered old new = (answered ≡ Err e) × IsIdle me old new
-ReadTested u me file path at len None (Some e) answered old new = (answered ≡ Err e) × IsIdle me old new
+ReadTested u me file path at len (Some e) misaligned answered old new = RefusedSo e answered × IsIdle me old new
+ReadTested u me file path at len None (Some e) answered old new = RefusedSo e answered × IsIdle me old new
 ReadTested u me file path at len None None answered old new = PathReadLeft u me file path at len answered old new
 
 -- a read by a path
@@ -187,7 +191,7 @@ write_calls file at bytes state =
 -- a write, given the sizes that it was told: a gap that is too long is refused before the other calls
 abbrev pub ToldWriteLeft : Setup → ℕ → File → ℕ → List ℕ → FileState → Result (Unit {0}) CcError → Between
 ToldWriteLeft u me file at bytes state answered old new =
-    ((state.sizes.valid + 67108864 < at) × (answered ≡ Err (error.GapTooLong 67108864)) × IsIdle me old new)
+    ((state.sizes.valid + 67108864 < at) × RefusedSo (error.GapTooLong 67108864) answered × IsIdle me old new)
     ⊎ ((at ≤ state.sizes.valid + 67108864) × CallsLeft u me (write_calls file at bytes state) answered old new)
 
 -- a write of no more bytes than the limit
@@ -200,7 +204,7 @@ ShortWriteLeft u me file at bytes answered old new =
     × ToldWriteLeft u me file at bytes state answered between new)
 
 abbrev pub WriteTested : Setup → ℕ → File → ℕ → List ℕ → Bool → Result (Unit {0}) CcError → Between
-WriteTested u me file at bytes true answered old new = (answered ≡ Err (error.TooLong 1048576)) × IsIdle me old new
+WriteTested u me file at bytes true answered old new = RefusedSo (error.TooLong 1048576) answered × IsIdle me old new
 WriteTested u me file at bytes false answered old new = ShortWriteLeft u me file at bytes answered old new
 
 -- a write that extends the stream
@@ -236,9 +240,9 @@ LoggedLeft u me file id at bytes handle answered old new =
 
 -- without a log, and past the valid data length, nothing is appended
 abbrev pub ToldUpdateLeft : Setup → ℕ → File → ℕ → ℕ → List ℕ → Option ℕ → ℕ → Result ℕ CcError → Between
-ToldUpdateLeft u me file id at bytes None valid answered old new = (answered ≡ Err (error.NoLog 255)) × IsIdle me old new
+ToldUpdateLeft u me file id at bytes None valid answered old new = RefusedSo (error.NoLog 255) answered × IsIdle me old new
 ToldUpdateLeft u me file id at bytes (Some handle) valid answered old new =
-    ((valid < at) × (answered ≡ Err (error.BeyondValid valid)) × IsIdle me old new)
+    ((valid < at) × RefusedSo (error.BeyondValid valid) answered × IsIdle me old new)
     ⊎ ((at ≤ valid) × LoggedLeft u me file id at bytes handle answered old new)
 
 -- an update under its pin: the sizes and the log are asked first

@@ -36,6 +36,7 @@ returns-clause-written c = record {
   later = [];
   tidied = goes_out 1 0 ∷ [];
   goes_out = ((λ is. (refl, refl)), tt);
+  once = omega arith;
   quiet = tt;
   grew = refl;
 }

@@ -39,7 +39,7 @@ returns-clause-overtaken c = inr (record {
     works = record {
       each = ((λ is. (refl, record { moment = two_pages; later = closing ∷ []; since = []; ends = refl; begins = refl; holds = refl })), ((λ is. absurd (not_so is)), tt));
       one_sync = omega arith;
-      ended = refl;
+      whole = refl;
     };
   };
   listed = refl;

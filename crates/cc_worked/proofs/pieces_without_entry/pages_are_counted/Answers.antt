@@ -15,7 +15,7 @@ unfolding computed
 returns-clause-written c = record {
   during = page_is_written;
   grew = refl;
-  works = record { each = ((λ is. refl), ((λ is. refl), tt)); one_sync = omega arith; ended = refl };
+  works = record { each = ((λ is. refl), ((λ is. refl), tt)); one_sync = omega arith; whole = refl };
   memory = refl;
   became = refl;
 }
@@ -25,7 +25,7 @@ unfolding computed
 returns-clause-failed c = record {
   during = page_fails;
   grew = refl;
-  works = record { each = ((λ is. refl), ((λ is. refl), tt)); one_sync = omega arith; ended = refl };
+  works = record { each = ((λ is. refl), ((λ is. refl), tt)); one_sync = omega arith; whole = refl };
   memory = refl;
   became = refl;
 }
@@ -53,7 +53,7 @@ returns-clause-ticked c = record {
     before = [];
     grew = refl;
     quiet = tt;
-    works = record { each = ((λ is. refl), ((λ is. refl), tt)); one_sync = omega arith; ended = refl };
+    works = record { each = ((λ is. refl), ((λ is. refl), tt)); one_sync = omega arith; whole = refl };
   };
   memory = refl;
   ends = Written ∷ [];

@@ -18,17 +18,17 @@ use Rattle.cc_worked.proofs.pieces_writes.flush_writes_its_span.Goals as goal
 pub returns-clause-done : goal.returns-clause-done
 unfolding computed
 returns-clause-done c =
-    done_by 1 3 (Some 0) first_page reply.Unit (synced 1 ∷ ends 1 0 ∷ begins 1 0 ∷ []) both_dirty (record { each = ((λ is. refl), ((λ is. refl), ((λ is. refl), tt))); one_sync = omega arith; ended = refl }) refl refl (record { after = []; before = ends 1 0 ∷ begins 1 0 ∷ []; split = refl; settled = refl })
+    done_by 1 3 (Some 0) first_page reply.Unit (synced 1 ∷ ends 1 0 ∷ begins 1 0 ∷ []) both_dirty (record { each = ((λ is. refl), ((λ is. refl), ((λ is. refl), tt))); one_sync = omega arith; whole = refl }) refl refl (record { after = []; before = ends 1 0 ∷ begins 1 0 ∷ []; split = refl; settled = refl })
 
 pub returns-clause-write_failed : goal.returns-clause-write_failed
 unfolding computed
 returns-clause-write_failed c =
-    faulted_by 1 3 (Some 0) first_page (error.WriteFault 0) (fails 1 0) (begins 1 0 ∷ []) both_dirty (record { each = ((λ is. refl), ((λ is. refl), tt)); one_sync = omega arith; ended = refl }) refl refl refl refl (record { fault = WriteFailed 0; shown = refl; told = refl })
+    faulted_by 1 3 (Some 0) first_page (error.WriteFault 0) (fails 1 0) (begins 1 0 ∷ []) both_dirty (record { each = ((λ is. refl), ((λ is. refl), tt)); one_sync = omega arith; whole = refl }) refl refl refl refl (record { fault = WriteFailed 0; shown = refl; told = refl })
 
 pub returns-clause-sync_failed : goal.returns-clause-sync_failed
 unfolding computed
 returns-clause-sync_failed c =
-    faulted_by 1 3 (Some 0) first_page (error.WriteFault 0) (entry.Sync 1 0 how.Failed) (ends 1 0 ∷ begins 1 0 ∷ []) both_dirty (record { each = ((λ is. refl), ((λ is. refl), ((λ is. refl), tt))); one_sync = omega arith; ended = refl }) refl refl refl refl (record { fault = SyncFailed; shown = refl; told = refl })
+    faulted_by 1 3 (Some 0) first_page (error.WriteFault 0) (entry.Sync 1 0 how.Failed) (ends 1 0 ∷ begins 1 0 ∷ []) both_dirty (record { each = ((λ is. refl), ((λ is. refl), ((λ is. refl), tt))); one_sync = omega arith; whole = refl }) refl refl refl refl (record { fault = SyncFailed; shown = refl; told = refl })
 
 pub returns-clause-no_other_page : goal.returns-clause-no_other_page
 unfolding computed

@@ -1,5 +1,5 @@
 -- The page of the span asks its log up to its newest stamp.
-use Rattle.std.specs.Prelude.{◌≡◌, ℕ, ◌+◌, ◌*◌, ◌<◌, ◌==◌, nat_lt, [], ◌∷◌, refl}
+use Rattle.std.specs.Prelude.{◌≡◌, ℕ, ◌+◌, ◌*◌, ◌<◌, ◌==◌, ◌&&◌, ◌||◌, Bool, true, false, nat_lt, [], ◌∷◌, refl}
 use Rattle.std.specs.declared.option.Option.{Option}
 use Rattle.std.specs.declared.option.Option.TheVariants.{Some}
 use Rattle.std.proofs.Common.{arith, sym}
@@ -28,18 +28,23 @@ asks = record { page = page 0; writes = refl; log = refl; newest = refl }
 pub returns-clause-done : goal.returns-clause-done
 unfolding computed
 returns-clause-done c =
-    done_by 1 4 (Some 0) first_page reply.Unit (synced 1 ∷ ends 1 0 ∷ begins 1 0 ∷ entry.Flushed 1 0 2 ∷ []) stamped_twice (record { each = ((λ is. refl), ((λ is. refl), ((λ is. refl), ((λ is. asks), tt)))); one_sync = omega arith; ended = refl }) refl refl (record { after = []; before = ends 1 0 ∷ begins 1 0 ∷ entry.Flushed 1 0 2 ∷ []; split = refl; settled = refl })
+    done_by 1 4 (Some 0) first_page reply.Unit (synced 1 ∷ ends 1 0 ∷ begins 1 0 ∷ entry.Flushed 1 0 2 ∷ []) stamped_twice (record { each = ((λ is. refl), ((λ is. refl), ((λ is. refl), ((λ is. asks), tt)))); one_sync = omega arith; whole = refl }) refl refl (record { after = []; before = ends 1 0 ∷ begins 1 0 ∷ entry.Flushed 1 0 2 ∷ []; split = refl; settled = refl })
 
 pub returns-clause-log_failed : goal.returns-clause-log_failed
 unfolding computed
 returns-clause-log_failed c =
-    faulted_by 1 4 (Some 0) first_page (error.LogFault 0) (entry.LogFailed 1 0) [] stamped_twice (record { each = ((λ is. record { to = 2; asks = asks; due = omega arith }), tt); one_sync = omega arith; ended = refl }) refl refl refl refl (record { fault = LogFailed 0; shown = refl; told = refl })
+    faulted_by 1 4 (Some 0) first_page (error.LogFault 0) (entry.LogFailed 1 0) [] stamped_twice (record { each = ((λ is. record { to = 2; asks = asks; due = omega arith }), tt); one_sync = omega arith; whole = refl }) refl refl refl refl (record { fault = LogFailed 0; shown = refl; told = refl })
+
+or_false : (b : Bool) → (b || false) ≡ true → b ≡ true
+or_false true is = refl
+or_false false is = is
 
 -- the only page that the flush writes is the first
 no_less : AsksLog (Calls first_page) 0 1 stamped_twice → ⊥
 unfolding computed
 no_less short =
-    let parts = and_parts (0 == short.page.stream) (has_page (record { from = 0; to = 4096 }) short.page.page) short.writes in
+    let writes : ((0 == short.page.stream && has_page (record { from = 0; to = 4096 }) short.page.page)) ≡ true = or_false (0 == short.page.stream && has_page (record { from = 0; to = 4096 }) short.page.page) short.writes in
+    let parts = and_parts (0 == short.page.stream) (has_page (record { from = 0; to = 4096 }) short.page.page) writes in
     let stream : short.page.stream ≡ 0 = sym (eqb-true 0 short.page.stream parts.0) in
     let below : 4096 * short.page.page < 4096 = ltb-true (4096 * short.page.page) 4096 (and_parts (nat_lt 0 (4096 * short.page.page + 4096)) (nat_lt (4096 * short.page.page) 4096) parts.1).1 in
     let number : short.page.page ≡ 0 = omega (arith, below) in

@@ -14,7 +14,7 @@ use Rattle.cc_worked.proofs.pieces_writes.purge_takes_its_span_out.Goals as goal
 pub returns-clause-done : goal.returns-clause-done
 unfolding computed
 returns-clause-done c =
-    done_by 1 3 (Some 0) all_pages reply.Unit (goes_out 1 1 ∷ goes_out 1 0 ∷ ends 1 1 ∷ begins 1 1 ∷ ends 1 0 ∷ begins 1 0 ∷ []) both_dirty (record { each = ((λ is. refl), ((λ is. refl), ((λ is. refl), ((λ is. refl), ((λ is. refl), ((λ is. refl), tt)))))); one_sync = omega arith; ended = refl }) refl refl tt
+    done_by 1 3 (Some 0) all_pages reply.Unit (goes_out 1 1 ∷ goes_out 1 0 ∷ ends 1 1 ∷ begins 1 1 ∷ ends 1 0 ∷ begins 1 0 ∷ []) both_dirty (record { each = ((λ is. refl), ((λ is. refl), ((λ is. refl), ((λ is. refl), ((λ is. refl), ((λ is. refl), tt)))))); one_sync = omega arith; whole = refl }) refl refl tt
 
 pub returns-clause-no_other : goal.returns-clause-no_other
 unfolding computed

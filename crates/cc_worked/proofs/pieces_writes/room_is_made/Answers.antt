@@ -14,7 +14,7 @@ use Rattle.cc_worked.proofs.pieces_writes.room_is_made.Goals as goal
 pub returns-clause-done : goal.returns-clause-done
 unfolding computed
 returns-clause-done c =
-    done_by 1 3 (Some 0) third_block a_byte (read_in 1 128 ∷ goes_out 1 64 ∷ []) two_of_three (record { each = ((λ is. refl), ((λ is. refl), tt)); one_sync = omega arith; ended = refl }) refl refl tt
+    done_by 1 3 (Some 0) third_block a_byte (read_in 1 128 ∷ goes_out 1 64 ∷ []) two_of_three (record { each = ((λ is. refl), ((λ is. refl), tt)); one_sync = omega arith; whole = refl }) refl refl tt
 
 pub returns-clause-not_the_other : goal.returns-clause-not_the_other
 unfolding computed
