@@ -36,6 +36,8 @@ went-more from to (Err (error.ReadFault page)) a b c first second = record {
   before = second.before;
   filled = filled-more from to a b second.before first second.filled;
   within = second.within;
+  absent = second.absent;
+  below = second.below;
   failed = second.failed;
 }
 went-more from to (Err e) a b c first second = filled-more from to a b c first second

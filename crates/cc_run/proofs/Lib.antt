@@ -1,12 +1,12 @@
 pub mod GoodSteps
 pub mod Lists
+pub mod AgreeSteps
 pub mod StandsSteps
 pub mod Refused
 pub mod CallSteps
 pub mod Opening
 pub mod Fills
 pub mod Stops
-pub mod PlainSteps
 pub mod Ascending
 pub mod Rows
 pub mod Told

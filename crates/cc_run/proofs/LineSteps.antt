@@ -25,7 +25,7 @@ use Rattle.cc_pieces.specs.Pieces.{reaches, Fills, Others, Explains, IsIdle}
 use Rattle.cc_pieces.proofs.Pieces.{idle-none, idle-more, ran-more}
 use Rattle.cc_pieces.proofs.Lines.{calls_of_lines-own}
 use Rattle.cc_run.specs.Stands.{first_object}
-use Rattle.cc_run.specs.Pieces.{IsFill, IsWithin, Answered, answer_of}
+use Rattle.cc_run.specs.Pieces.{IsFill, IsPageOf, Answered, answer_of}
 use Rattle.cc_run.specs.Lines.{Serves, ServedLines}
 
 -- the size stays while pages come in
@@ -37,11 +37,11 @@ size-fills from to (entry.PageIn pass page from_disk ∷ fills) old all =
 size-fills from to (other ∷ fills) old all = absurd all.0
 
 -- a page with a byte of the range
-within-page : (from to p : ℕ) → IsWithin from to p → has_page (record { from = from; to = to }) p ≡ true
+within-page : (from to p : ℕ) → IsPageOf from to p → has_page (record { from = from; to = to }) p ≡ true
 within-page from to p w = rw (lt-ltb from to w.0, lt-ltb from (4096 * p + 4096) w.1, lt-ltb (4096 * p) to w.2) refl
 
 module _ (call : Call) (size from to : ℕ) (of_first : file_of call ≡ Some first_object) (ranged : range_of size call ≡ Some (record { from = from; to = to })) where
-  reached : (stream p : ℕ) (past : List Entry) → stream ≡ 0 → size_of (history past 0) ≡ size → IsWithin from to p → reaches call (record { stream = stream; page = p }) past ≡ true
+  reached : (stream p : ℕ) (past : List Entry) → stream ≡ 0 → size_of (history past 0) ≡ size → IsPageOf from to p → reaches call (record { stream = stream; page = p }) past ≡ true
   reached stream p past first same w = rw (of_first, first, same, ranged) (within-page from to p w)
 
   fills-filled : (fills old : List Entry) → AllByRecursion (IsFill from to) fills → size_of (history old 0) ≡ size → Fills 1 call fills old

@@ -1,6 +1,5 @@
 pub mod Past
 pub mod Stands
-pub mod Plain
 pub mod Rows
 pub mod Pieces
 pub mod Caches

@@ -1,5 +1,5 @@
 -- What a call placed in the journal.
-use Rattle.std.specs.Prelude.{◌≡◌, ℕ, suc, ◌+◌, ◌*◌, ◌<◌, List, ◌∷◌, ◌++◌, Some, Result, Ok, Err}
+use Rattle.std.specs.Prelude.{◌≡◌, ℕ, suc, ◌+◌, ◌*◌, ◌<◌, false, List, ◌∷◌, ◌++◌, Some, Result, Ok, Err}
 use Rattle.std.specs.List.{AllByRecursion}
 use Rattle.cc_entry.specs.declared.call.Call.{Call}
 use Rattle.cc_entry.specs.declared.error.CcError.{CcError}
@@ -11,14 +11,17 @@ use Rattle.cc_entry.specs.declared.answer.Answer.{Answer}
 use Rattle.cc_entry.specs.declared.answer.Answer.TheVariants as answer
 use Rattle.cc_entry.specs.declared.entry.Entry.{Entry}
 use Rattle.cc_entry.specs.declared.entry.Entry.TheVariants as entry
+use Rattle.cc_model.specs.History.{history}
+use Rattle.cc_model.specs.Touches.{valid_of}
+use Rattle.cc_model.specs.Residency.{is_resident}
 
 -- a page has a byte from one place up to another
-abbrev pub IsWithin : ℕ → ℕ → ℕ → Type 0
-IsWithin from to page = (from < to) × (from < 4096 * page + 4096) × (4096 * page < to)
+abbrev pub IsPageOf : ℕ → ℕ → ℕ → Type 0
+IsPageOf from to page = (from < to) × (from < 4096 * page + 4096) × (4096 * page < to)
 
 -- an entry of caller 1 that brings in a page of the first stream with a byte from one place up to another
 abbrev pub IsFill : ℕ → ℕ → Entry → Type 0
-IsFill from to (entry.PageIn pass page from_disk) = (pass ≡ 1) × (page.stream ≡ 0) × IsWithin from to page.page
+IsFill from to (entry.PageIn pass page from_disk) = (pass ≡ 1) × (page.stream ≡ 0) × IsPageOf from to page.page
 IsFill from to other = ⊥
 
 -- a past grew by such entries alone
@@ -27,11 +30,14 @@ pub record Filled (from to : ℕ) (old new : List Entry) : Type 0 where
   pub all : AllByRecursion (IsFill from to) fills
   pub grew : new ≡ fills ++ old
 
--- after such entries, the disk failed to read a page of them
+-- after such entries, the disk failed to read a page of them, which was not resident and begins below the
+-- valid data length
 pub record Faulted (from to page : ℕ) (old new : List Entry) : Type 0 where
   pub before : List Entry
   pub filled : Filled from to old before
-  pub within : IsWithin from to page
+  pub within : IsPageOf from to page
+  pub absent : is_resident (history before 0) page ≡ false
+  pub below : 4096 * page < valid_of (history before 0)
   pub failed : new ≡ entry.FillFailed 1 (record { stream = 0; page = page }) ∷ before
 
 -- what bringing pages in placed, where it ended so
