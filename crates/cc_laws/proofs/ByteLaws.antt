@@ -8,7 +8,7 @@ use Rattle.cc_entry.specs.declared.call.Call.{Call}
 use Rattle.cc_entry.specs.declared.reply.Reply.{Reply}
 use Rattle.cc_entry.specs.Pages.{has_byte}
 use Rattle.cc_model.specs.History.{Effect, Did}
-use Rattle.cc_model.specs.Acts.{act_of, Resizes, Writes, Zeroes, Stamps, Looks}
+use Rattle.cc_model.specs.Acts.{act_of, Resizes, Writes, Zeroes, Stamps, Discards, Looks}
 use Rattle.cc_model.specs.Touches.{valid_of}
 use Rattle.cc_model.specs.Bytes.{byte_of}
 use Rattle.cc_laws.proofs.SizeSteps.{sizes-writes, sizes-zeroes, sizes-looks, sizes-stamps, sizes-resizes}

@@ -5,7 +5,7 @@ use Rattle.std.proofs.lemmas.Bool.{and_parts, and_from, ltb-true, lt-ltb, leb-tr
 use Rattle.cc_entry.specs.Place.{Range}
 use Rattle.cc_entry.specs.Pages.{has_byte, has_page}
 use Rattle.cc_model.specs.History.{Effect, Did, CameIn, WentOut, Began, Ended, Synced}
-use Rattle.cc_model.specs.Acts.{Act, act_of, Opens, Closes, Resizes, Writes, Zeroes, Stores, Stamps, Looks}
+use Rattle.cc_model.specs.Acts.{Act, act_of, Opens, Closes, Resizes, Writes, Zeroes, Stores, Stamps, Discards, Looks}
 use Rattle.cc_model.specs.Sizes.{stored_range}
 use Rattle.cc_model.specs.Touches.{size_of}
 use Rattle.cc_laws.specs.ByPlaces.{act_touches, act_changes, touches_page}
@@ -49,6 +49,7 @@ act-touch (Writes at bytes) h p is = let k = InRange-page (record { from = at; t
 act-touch (Zeroes from to) h p is = let k = InRange-page (record { from = from; to = to }) p is in inl (record { byte = k.byte; low = k.low; high = k.high; changes_it = k.has })
 act-touch (Stores page bytes) h p is = let k = InRange-page (stored_range page (size_of h)) p is in inl (record { byte = k.byte; low = k.low; high = k.high; changes_it = k.has })
 act-touch (Stamps hold lsn) h p is = inr is
+act-touch (Discards span) h p is = absurd (cc)
 act-touch Looks h p is = absurd (cc)
 
 changes-touch : (a : Act) (h : List Effect) (p i : ℕ) → 4096 * p ≤ i → i < 4096 * p + 4096 → act_changes a h i ≡ true → act_touches a h p ≡ true
@@ -59,6 +60,7 @@ changes-touch (Writes at bytes) h p i low high is = page-byte (record { from = a
 changes-touch (Zeroes from to) h p i low high is = page-byte (record { from = from; to = to }) p i low high is
 changes-touch (Stores page bytes) h p i low high is = page-byte (stored_range page (size_of h)) p i low high is
 changes-touch (Stamps hold lsn) h p i low high is = absurd (cc)
+changes-touch (Discards span) h p i low high is = absurd (cc)
 changes-touch Looks h p i low high is = absurd (cc)
 
 stamps-touch : (a : Act) (h : List Effect) (p : ℕ) → act_stamps p a h ≡ true → act_touches a h p ≡ true
@@ -69,6 +71,7 @@ stamps-touch (Writes at bytes) h p is = absurd (cc)
 stamps-touch (Zeroes from to) h p is = absurd (cc)
 stamps-touch (Stores page bytes) h p is = absurd (cc)
 stamps-touch (Stamps hold lsn) h p is = is
+stamps-touch (Discards span) h p is = absurd (cc)
 stamps-touch Looks h p is = absurd (cc)
 
 there_is : (e : Effect) (h : List Effect) (p : ℕ) → touches_page p e h ≡ true → ChangedByte p e h ⊎ (stamps_page p e h ≡ true)

@@ -1,13 +1,17 @@
 -- A call that is done in a legal and allowed journal is steady.
 use Rattle.std.specs.Prelude.{◌≡◌, ℕ, ◌*◌, ◌≤◌, Bool, true, false, not, ◌&&◌, ◌||◌, nat_lt, List, [], ◌∷◌, length, refl}
-use Rattle.std.proofs.lemmas.Bool.{ltb-false}
+use Rattle.std.proofs.Common.{ap}
+use Rattle.std.proofs.lemmas.Bool.{and_from, ltb-false}
+use Rattle.std.specs.List.{find}
+use Rattle.std.specs.Option.{option_map}
 use Rattle.std.specs.declared.option.Option.{Option}
 use Rattle.std.specs.declared.option.Option.TheVariants.{Some, None}
-use Rattle.cc_entry.specs.Place.{File}
+use Rattle.cc_entry.specs.Place.{File, Range}
 use Rattle.cc_entry.specs.declared.call.Call.{Call}
 use Rattle.cc_entry.specs.declared.call.Call.TheVariants as call
 use Rattle.cc_entry.specs.declared.hold.HoldKind.{HoldKind}
 use Rattle.cc_entry.specs.declared.error.CcError.{CcError}
+use Rattle.cc_entry.specs.declared.error.CcError.TheVariants as error
 use Rattle.cc_entry.specs.declared.entry.Entry.{Entry}
 use Rattle.cc_model.specs.Setup.{Setup}
 use Rattle.cc_model.specs.Numbers.{is_among}
@@ -15,55 +19,18 @@ use Rattle.cc_model.specs.History.{Effect}
 use Rattle.cc_model.specs.Acts.{act_of, file_of}
 use Rattle.cc_model.specs.Objects.{objects, had_map}
 use Rattle.cc_model.specs.Holds.{Hold, hold_at, holds_of, held_after}
-use Rattle.cc_model.specs.Touches.{size_of, valid_of, is_mapped}
-use Rattle.cc_model.specs.Reasons.{refuse_if, not_cached, cached_file, too_long, view_boundary, in_order, bad_sizes, bad_granularity, no_log, beyond_size, past_valid, beyond_valid}
-use Rattle.cc_model.specs.Ranges.{range_of}
-use Rattle.cc_model.specs.Conflicts.{held, busy}
-use Rattle.cc_model.specs.Views.{viewed, no_views, no_vacbs, not_resident}
-use Rattle.cc_model.specs.Refusals.{first_of, refusal}
+use Rattle.cc_model.specs.Touches.{valid_of, is_dirty, dirty_pages, is_mapped}
+use Rattle.cc_model.specs.Ranges.{span_has}
+use Rattle.cc_model.specs.Images.{open_of}
+use Rattle.cc_model.specs.Reasons.{refuse_if, not_cached, cached_file, in_order, bad_sizes, past_valid, beyond_valid}
+use Rattle.cc_model.specs.Discards.{is_known, unsettled}
+use Rattle.cc_model.specs.Refusals.{refusal}
 use Rattle.cc_model.specs.Legal.{IsAdmitted}
-use Rattle.cc_model.specs.Filing.{serves, serves_range, IsFiled}
-use Rattle.cc_entry.specs.Kinds.{is_write_chain}
+use Rattle.cc_model.specs.Filing.{is_write_chain, serves, serves_range, IsFiled}
 use Rattle.cc_entry.specs.Kinds.{is_pin}
-use Rattle.cc_laws.proofs.Steady.{BeginsWithin, ComesBackWithin, needs_no_map, IsSteadyCall}
-
--- each of a list of reasons does not hold
-abbrev EachNone : List (Option CcError) → Type 0
-EachNone [] = Unit {0}
-EachNone (o ∷ rest) = (o ≡ None) × EachNone rest
-
-first_none : (os : List (Option CcError)) → first_of os ≡ None → EachNone os
-first_none [] e = tt
-first_none (None ∷ rest) e = (refl, first_none rest e)
-first_none (Some x ∷ rest) e = absurd (cc)
-
--- the reasons of the list that matter here
-record IsUnrefused (h : List Effect) (call : Call) : Type 0 where
-  cached : not_cached h (cached_file call (file_of call)) ≡ None
-  ordered : bad_sizes h call ≡ None
-  within : beyond_valid (valid_of h) call ≡ None
-
-unrefused : (u : Setup) (past : List Entry) (h : List Effect) (call : Call) → refusal u past h call ≡ None → IsUnrefused h call
-unfolding refusal
-unrefused u past h call e =
-    let each =
-    first_none
-    (not_cached h (cached_file call (file_of call))
-    ∷ too_long call
-    ∷ view_boundary call
-    ∷ bad_sizes h call
-    ∷ bad_granularity call
-    ∷ no_log u call
-    ∷ beyond_size (size_of h) call
-    ∷ beyond_valid (valid_of h) call
-    ∷ held h call
-    ∷ busy (holds_of h) call
-    ∷ no_views h (viewed h call (range_of (size_of h) call))
-    ∷ no_vacbs past h call
-    ∷ not_resident h call
-    ∷ [])
-    e in
-    record { cached = each.0; ordered = each.1.1.1.0; within = each.1.1.1.1.1.1.1.0 }
+use Rattle.cc_laws.proofs.UnrefusedCalls.{unrefused}
+use Rattle.cc_laws.proofs.DirtyAmong.{dirty-among, find-none}
+use Rattle.cc_laws.proofs.Steady.{BeginsWithin, ComesBackWithin, DiscardsSettled, needs_no_map, IsSteadyCall}
 
 -- a reason that does not hold
 unless : (b : Bool) (e : CcError) → refuse_if b e ≡ None → b ≡ false
@@ -97,6 +64,29 @@ comes_back h (call.PreparePin file at len true exclusive) e = tt
 comes_back h (call.PreparePin file at len false exclusive) e = tt
 comes_back h other e = tt
 
+-- where no page of a span is dirty with an unknown image, each dirty page of it has a known one
+known-image : (h : List Effect) (span : Option Range) (p : ℕ) → find (λ q. span_has span q && not (is_known h q)) (dirty_pages h) ≡ None → span_has span p ≡ true → is_dirty h p ≡ true → is_known h p ≡ true
+known-image h span p none has dirty = go (is_known h p) refl (find-none (λ q. span_has span q && not (is_known h q)) p (dirty_pages h) none (dirty-among h p dirty))
+  where
+    go : (t : Bool) → is_known h p ≡ t → (span_has span p && not (is_known h p)) ≡ false → is_known h p ≡ true
+    go true is fails = is
+    go false is fails = absurd (cc (and_from (span_has span p) (not (is_known h p)) has (ap not is)))
+
+-- what a discard finds of transfers
+abbrev pub FindsNoTransfer : List Effect → Call → Type 0
+FindsNoTransfer h (call.Discard file span) = open_of h ≡ None
+FindsNoTransfer h other = Unit {0}
+
+settled : (h : List Effect) (call : Call) → unsettled h call ≡ None → FindsNoTransfer h call → DiscardsSettled h (act_of call)
+settled h (call.Discard file span) e finds = record { no_transfer = finds; known = λ p. known-image h span p (none_found _ e) }
+  where
+    none_found : (o : Option ℕ) → option_map (λ p. error.Unsettled p) o ≡ None → o ≡ None
+    none_found None is = refl
+    none_found (Some p) is = absurd (cc)
+settled h (call.PreparePin file at len true exclusive) e finds = tt
+settled h (call.PreparePin file at len false exclusive) e finds = tt
+settled h other e finds = tt
+
 -- no object is open where there is none
 none_open : (h : List Effect) (file : File) → not_cached h (Some file) ≡ None → objects h ≡ [] → ⊥
 none_open h file e none = go (objects h) none (unless _ _ e)
@@ -126,6 +116,7 @@ first_acts h pass stream (call.SetDirty hold lsn) e f none free = absurd (unserv
 first_acts h pass stream (call.MdlStore hold at bytes) e f none free = absurd (unserved_range (holds_of h) pass hold at (length bytes) is_write_chain free f)
 first_acts h pass stream (call.NcStore file page bytes) e f none free = absurd (none_open h file e none)
 first_acts h pass stream (call.SetSizes file allocation size) e f none free = absurd (none_open h file e none)
+first_acts h pass stream (call.Discard file span) e f none free = absurd (none_open h file e none)
 first_acts h pass stream other e f none free = refl
 
 -- and no hold is made
@@ -143,18 +134,19 @@ first_holds h (call.EndHold hold) e none pass id = refl
 first_holds h (call.Repin hold) e none pass id = refl
 first_holds h other e none pass id = refl
 
-pub IsSteadyCall-unrefused : (u : Setup) (past : List Entry) (h : List Effect) (pass : ℕ) (stream : Option ℕ) (call : Call) → refusal u past h call ≡ None → IsFiled (holds_of h) pass stream call (file_of call) → IsSteadyCall h call
-IsSteadyCall-unrefused u past h pass stream call e filed =
+pub IsSteadyCall-unrefused : (u : Setup) (past : List Entry) (h : List Effect) (pass : ℕ) (stream : Option ℕ) (call : Call) → refusal u past h call ≡ None → IsFiled (holds_of h) pass stream call (file_of call) → FindsNoTransfer h call → IsSteadyCall h call
+IsSteadyCall-unrefused u past h pass stream call e filed finds =
     let free = unrefused u past h call e in
     record {
-      within = within-valid (valid_of h) call free.within;
-      back = comes_back h call free.ordered;
+      within = within-valid (valid_of h) call free.within_valid;
+      back = comes_back h call free.sizes_in_order;
+      settled = settled h call free.images_known finds;
       first = first_acts h pass stream call free.cached filed;
       unheld = λ none held. first_holds h call free.cached none;
     }
 
 -- a call that may be done is steady, the end of a noncached write too, which changes nothing
-pub IsSteadyCall-admitted : (u : Setup) (past : List Entry) (h : List Effect) (pass : ℕ) (stream : Option ℕ) (call : Call) → IsAdmitted u past h call → IsFiled (holds_of h) pass stream call (file_of call) → IsSteadyCall h call
-IsSteadyCall-admitted u past h pass stream (call.NcWrite file page) e filed =
-    record { within = tt; back = tt; first = λ none held. refl; unheld = λ none held pass id. refl }
-IsSteadyCall-admitted u past h pass stream other e filed = IsSteadyCall-unrefused u past h pass stream other e filed
+pub IsSteadyCall-admitted : (u : Setup) (past : List Entry) (h : List Effect) (pass : ℕ) (stream : Option ℕ) (call : Call) → IsAdmitted u past h call → IsFiled (holds_of h) pass stream call (file_of call) → FindsNoTransfer h call → IsSteadyCall h call
+IsSteadyCall-admitted u past h pass stream (call.NcWrite file page) e filed finds =
+    record { within = tt; back = tt; settled = tt; first = λ none held. refl; unheld = λ none held pass id. refl }
+IsSteadyCall-admitted u past h pass stream other e filed finds = IsSteadyCall-unrefused u past h pass stream other e filed finds
