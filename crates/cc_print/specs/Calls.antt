@@ -1,16 +1,17 @@
 -- Calls as they are printed: the verb, then the arguments in the order of the script's grammar.
-use Rattle.std.specs.Prelude.{ℕ, Bool, not, Option, List, [], ◌++◌, codes, decimal, if◌then◌else◌}
+use Rattle.std.specs.Prelude.{ℕ, Bool, not, Option, List, [], codes, decimal, if◌then◌else◌}
 use Rattle.cc_entry.specs.Place.{File, Range}
 use Rattle.cc_entry.specs.declared.place.FileSizes.{FileSizes}
 use Rattle.cc_entry.specs.declared.call.Call.{Call}
 use Rattle.cc_entry.specs.declared.call.Call.TheVariants as call
 use Rattle.cc_script.specs.declared.script.StreamLine.{StreamLine}
+use Rattle.cc_print.specs.Append.{◌&◌}
 use Rattle.cc_print.specs.Pieces.{file_text, word_if, number_if, span_if, bytes_text}
 use Rattle.cc_print.specs.Answers.{request_text}
 
 -- a verb and a file
 abbrev pub of_file : List ℕ → List StreamLine → File → List ℕ → List ℕ
-of_file verb streams file behind = verb ++ codes " " ++ file_text streams file ++ behind
+of_file verb streams file behind = verb & codes " " & file_text streams file & behind
 
 -- a verb, a file and a range, if there is one
 abbrev pub of_file_span : List ℕ → List StreamLine → File → Option Range → List ℕ
@@ -18,49 +19,49 @@ of_file_span verb streams file span = of_file verb streams file (span_if span)
 
 -- a verb, a file and a number
 abbrev pub of_file_number : List ℕ → List StreamLine → File → ℕ → List ℕ
-of_file_number verb streams file number = verb ++ codes " " ++ file_text streams file ++ codes " " ++ decimal number
+of_file_number verb streams file number = verb & codes " " & file_text streams file & codes " " & decimal number
 
 -- a verb, a file and two numbers
 abbrev pub of_file_numbers : List ℕ → List StreamLine → File → ℕ → ℕ → List ℕ → List ℕ
 of_file_numbers verb streams file first second behind =
-    verb ++ codes " " ++ file_text streams file ++ codes " " ++ decimal first ++ codes " " ++ decimal second ++ behind
+    verb & codes " " & file_text streams file & codes " " & decimal first & codes " " & decimal second & behind
 
 -- a verb, a file, a place and bytes
 abbrev pub of_file_bytes : List ℕ → List StreamLine → File → ℕ → List ℕ → List ℕ
 of_file_bytes verb streams file at bytes =
-    verb ++ codes " " ++ file_text streams file ++ codes " " ++ decimal at ++ codes " " ++ bytes_text bytes
+    verb & codes " " & file_text streams file & codes " " & decimal at & codes " " & bytes_text bytes
 
 -- a verb and a hold
 abbrev pub of_hold : List ℕ → ℕ → List ℕ → List ℕ
-of_hold verb hold behind = verb ++ codes " #" ++ decimal hold ++ behind
+of_hold verb hold behind = verb & codes " #" & decimal hold & behind
 
 -- a verb, a hold and two numbers
 abbrev pub of_hold_numbers : List ℕ → ℕ → ℕ → ℕ → List ℕ
 of_hold_numbers verb hold at len =
-    verb ++ codes " #" ++ decimal hold ++ codes " " ++ decimal at ++ codes " " ++ decimal len
+    verb & codes " #" & decimal hold & codes " " & decimal at & codes " " & decimal len
 
 -- a verb, a hold, a place and bytes
 abbrev pub of_hold_bytes : List ℕ → ℕ → ℕ → List ℕ → List ℕ
 of_hold_bytes verb hold at bytes =
-    verb ++ codes " #" ++ decimal hold ++ codes " " ++ decimal at ++ codes " " ++ bytes_text bytes
+    verb & codes " #" & decimal hold & codes " " & decimal at & codes " " & bytes_text bytes
 
 -- the quota always stands
 abbrev pub initialise_text : List StreamLine → File → FileSizes → ℕ → Bool → List ℕ
 initialise_text streams file sizes quota temporary =
-    codes "init " ++ file_text streams file
-    ++ codes " " ++ decimal sizes.allocation
-    ++ codes " " ++ decimal sizes.size
-    ++ codes " " ++ decimal sizes.valid
-    ++ codes " quota " ++ decimal quota
-    ++ word_if temporary (codes " temporary")
+    codes "init " & file_text streams file
+    & codes " " & decimal sizes.allocation
+    & codes " " & decimal sizes.size
+    & codes " " & decimal sizes.valid
+    & codes " quota " & decimal quota
+    & word_if temporary (codes " temporary")
 
 abbrev pub prepare_text : List StreamLine → File → ℕ → ℕ → Bool → Bool → List ℕ
 prepare_text streams file at len zero exclusive =
-    codes "prepare " ++ file_text streams file
-    ++ codes " " ++ decimal at
-    ++ codes " " ++ decimal len
-    ++ word_if zero (codes " zero")
-    ++ word_if exclusive (codes " excl")
+    codes "prepare " & file_text streams file
+    & codes " " & decimal at
+    & codes " " & decimal len
+    & word_if zero (codes " zero")
+    & word_if exclusive (codes " excl")
 
 -- a flag as a digit
 abbrev pub digit_of : Bool → ℕ
@@ -98,7 +99,7 @@ call_text streams (call.Flush file span) = of_file_span (codes "flush") streams 
 call_text streams (call.Purge file span) = of_file_span (codes "purge") streams file span
 call_text streams (call.Discard file span) = of_file_span (codes "discard") streams file span
 call_text streams (call.SetLog file handle) = of_file_number (codes "setlog") streams file handle
-call_text streams (call.DirtyPages handle) = codes "dirty " ++ decimal handle
+call_text streams (call.DirtyPages handle) = codes "dirty " & decimal handle
 call_text streams (call.LsnForFile file) = of_file (codes "lsns") streams file []
 call_text streams call.IsDirtyData = codes "isdirty"
 call_text streams (call.SetGranularity file bytes) = of_file_number (codes "granularity") streams file bytes
