@@ -3,7 +3,7 @@
 ghost use Rattle.std.specs.Prelude.{◌≡◌, [], ◌∷◌};
 ghost use Rattle.cc_model.specs.History.{history};
 ghost use Rattle.cc_model.specs.Touches.{dirty_pages};
-ghost use Rattle.cc_model.specs.Stamps.{newest_among};
+ghost use Rattle.cc_model.specs.Stamps.{lsns_over};
 ghost use Rattle.cc_model.specs.Legal.{IsLegal};
 ghost use Rattle.cc_model.specs.Allowed.{IsAllowed};
 ghost use Rattle.cc_model.specs.Covered.{IsCovered};
@@ -17,7 +17,7 @@ pub fn store_is_read_through_chain()
     ensures allowed { IsAllowed setup read_back }
     ensures covered { IsCovered read_back }
     ensures dirty { dirty_pages (history read_back 0) ≡ 0 ∷ 1 ∷ [] }
-    ensures unstamped { newest_among (history read_back 0) (0 ∷ 1 ∷ []) ≡ None }
+    ensures unstamped { lsns_over (history read_back 0) (0 ∷ 1 ∷ []) ≡ None }
     ensures not_taken_back { IsLegal setup store_taken_back → ⊥ }
 {}
 

@@ -1,5 +1,0 @@
-use Rattle.cc_pieces.proofs.Pieces.{ran-more}
-use Rattle.cc_pieces.proofs.laws.one_more_piece.Goals as goal
-
-pub returns : goal.returns
-returns c = ran-more

@@ -1,5 +1,0 @@
-use Rattle.cc_pieces.proofs.Pieces.{ran-idle}
-use Rattle.cc_pieces.proofs.laws.others_go_on.Goals as goal
-
-pub returns : goal.returns
-returns c = ran-idle
