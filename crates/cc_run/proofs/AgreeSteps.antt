@@ -18,7 +18,7 @@ use Rattle.cc_model.specs.Objects.{objects, had_map}
 use Rattle.cc_model.specs.Sizes.{raised}
 use Rattle.cc_model.specs.Touches.{touches, touched, sizes, is_mapped, is_dirty}
 use Rattle.cc_model.specs.Residency.{residents, is_resident}
-use Rattle.cc_model.specs.Stamps.{oldest_of, newest_of}
+use Rattle.cc_model.specs.Stamps.{lsns_of}
 use Rattle.cc_model.specs.Images.{image}
 use Rattle.cc_laws.proofs.HistorySteps.{history-done, history-done_other, history-failed, history-page_in, history-page_in_other, history-fill_failed}
 use Rattle.cc_laws.proofs.ObjectSteps.{objects-came_in, objects-looks, objects-writes}
@@ -57,8 +57,7 @@ same_effect e effect a step others objects_same sizes_same resident_are touches_
   sizes_are = rw (step, sizes_same) a.sizes_are;
   resident_are = λ p. rw step (resident_are p);
   dirty_are = λ p. rw (step, touches_same p) (a.dirty_are p);
-  oldest_is = λ p. rw (step, touches_same p) (a.oldest_is p);
-  newest_is = λ p. rw (step, touches_same p) (a.newest_is p);
+  lsns_are = λ p. rw (step, touches_same p) (a.lsns_are p);
   images_are = λ pages p. rw (step, images_same pages p) (a.images_are pages p);
   others = λ s other. others s other ∙ a.others s other;
   unfailed = λ s other. failures_same s other ∙ a.unfailed s other;
@@ -105,8 +104,7 @@ same_history e a same failures_same = record {
   sizes_are = rw (same 0) a.sizes_are;
   resident_are = λ p. rw (same 0) (a.resident_are p);
   dirty_are = λ p. rw (same 0) (a.dirty_are p);
-  oldest_is = λ p. rw (same 0) (a.oldest_is p);
-  newest_is = λ p. rw (same 0) (a.newest_is p);
+  lsns_are = λ p. rw (same 0) (a.lsns_are p);
   images_are = λ pages p. rw (same 0) (a.images_are pages p);
   others = λ s other. same s ∙ a.others s other;
   unfailed = λ s other. failures_same s other ∙ a.unfailed s other;
@@ -132,8 +130,7 @@ agrees-write {size = size} {dirty = dirty} {new = new} {past = past} nth at byte
   sizes_are = rw step (sizes-writes 1 the_call reply.Unit (history past 0) refl ∙ ap (λ z. raised (at + length bytes) z) a.sizes_are);
   resident_are = λ p. rw (step, residents-writes 1 the_call reply.Unit (history past 0) refl (is_mapped-open _ 0 [] objects_now)) (a.resident_are p);
   dirty_are = λ p. rw step (is_dirty_after p (has_page (record { from = at; to = at + length bytes }) p) refl);
-  oldest_is = λ p. rw step (oldest_after p (has_page (record { from = at; to = at + length bytes }) p) refl);
-  newest_is = λ p. rw step (newest_after p (has_page (record { from = at; to = at + length bytes }) p) refl);
+  lsns_are = λ p. rw step (lsns_after p (has_page (record { from = at; to = at + length bytes }) p) refl);
   images_are = λ pages p. rw (step, image-done pages 1 the_call reply.Unit (history past 0) p) (a.images_are pages p);
   others = λ s other. history-done_other 1 nth 0 the_call reply.Unit past s (first_only s other) ∙ a.others s other;
   unfailed = λ s other. a.unfailed s other;
@@ -152,13 +149,9 @@ agrees-write {size = size} {dirty = dirty} {new = new} {past = past} nth at byte
     is_dirty_after p true has = rw (touches-writes false 1 the_call reply.Unit (history past 0) p refl, marked p, has) refl
     is_dirty_after p false has = rw (touches-writes false 1 the_call reply.Unit (history past 0) p refl, marked p, has) (a.dirty_are p)
 
-    oldest_after : (p : ℕ) (b : Bool) → has_page (record { from = at; to = at + length bytes }) p ≡ b → oldest_of (Did 1 (call.CopyWrite first_object at bytes) reply.Unit ∷ history past 0) p ≡ None
-    oldest_after p true has = rw (touches-writes false 1 the_call reply.Unit (history past 0) p refl, has) (a.oldest_is p)
-    oldest_after p false has = rw (touches-writes false 1 the_call reply.Unit (history past 0) p refl, has) (a.oldest_is p)
-
-    newest_after : (p : ℕ) (b : Bool) → has_page (record { from = at; to = at + length bytes }) p ≡ b → newest_of (Did 1 (call.CopyWrite first_object at bytes) reply.Unit ∷ history past 0) p ≡ None
-    newest_after p true has = rw (touches-writes false 1 the_call reply.Unit (history past 0) p refl, has) (a.newest_is p)
-    newest_after p false has = rw (touches-writes false 1 the_call reply.Unit (history past 0) p refl, has) (a.newest_is p)
+    lsns_after : (p : ℕ) (b : Bool) → has_page (record { from = at; to = at + length bytes }) p ≡ b → lsns_of (Did 1 (call.CopyWrite first_object at bytes) reply.Unit ∷ history past 0) p ≡ None
+    lsns_after p true has = rw (touches-writes false 1 the_call reply.Unit (history past 0) p refl, has) (a.lsns_are p)
+    lsns_after p false has = rw (touches-writes false 1 the_call reply.Unit (history past 0) p refl, has) (a.lsns_are p)
 
 -- the first object was initialised
 pub agrees-opened : (size valid : ℕ) (resident dirty : List Bool) → ((p : ℕ) → flag_at resident p ≡ false) → ((p : ℕ) → flag_at dirty p ≡ false) → Agrees size valid resident dirty (opening_entry size valid ∷ [])
@@ -168,8 +161,7 @@ agrees-opened size valid resident dirty absent clean = record {
   sizes_are = refl;
   resident_are = λ p. sym (absent p);
   dirty_are = λ p. sym (clean p);
-  oldest_is = λ p. refl;
-  newest_is = λ p. refl;
+  lsns_are = λ p. refl;
   images_are = λ pages p. refl;
   others = λ s other. rw (first_only s other) refl;
   unfailed = λ s other. refl;

@@ -9,7 +9,7 @@ use Rattle.cc_entry.specs.declared.entry.Entry.{Entry}
 use Rattle.cc_entry.specs.declared.entry.Entry.TheVariants as entry
 use Rattle.cc_model.specs.Faults.{faults_since, is_failed_read, ReadFailed}
 use Rattle.cc_laws.proofs.PassSteps.{faults_since-fault}
-use Rattle.cc_run.specs.Pieces.{IsFill, Filled, Went}
+use Rattle.cc_run.specs.Fills.{IsFill, Filled, Went}
 use Rattle.cc_run.specs.Caches.{Keeps}
 use Rattle.cc_run.specs.declared.cache.Cache.{Cache}
 

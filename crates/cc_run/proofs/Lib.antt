@@ -10,6 +10,7 @@ pub mod Stops
 pub mod Ascending
 pub mod Rows
 pub mod Told
+pub mod Left
 pub mod LineSteps
 pub mod FailureSteps
 pub mod Explained

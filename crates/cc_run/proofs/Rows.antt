@@ -55,7 +55,7 @@ map-same f g (n ∷ ns) same = rw (same n) (ap (λ l. g n ∷ l) (map-same f g n
 
 first_rows : {size valid : ℕ} {resident dirty : List Bool} {past : List Entry} → Agrees size valid resident dirty past → rows_of past 0 ≡ map unstamped_row (filter (flag_at dirty) (range_with_len 0 (length dirty)))
 first_rows {dirty = dirty} {past = past} a =
-    map-same (row_of 0 (history past 0)) unstamped_row (dirty_pages (history past 0)) (λ p. rw (a.oldest_is p, a.newest_is p) refl)
+    map-same (row_of 0 (history past 0)) unstamped_row (dirty_pages (history past 0)) (λ p. rw (a.lsns_are p) refl)
     ∙ ap (λ l. map unstamped_row l) (dirty_pages-flags a)
 
 other_rows : {size valid : ℕ} {resident dirty : List Bool} {past : List Entry} → Agrees size valid resident dirty past → (s : ℕ) → s ≢ 0 → rows_of past s ≡ []

@@ -8,7 +8,6 @@ use Rattle.cc_script.specs.declared.script.Mode.TheVariants as mode
 use Rattle.cc_script.specs.declared.script.Offer.TheVariants as offer
 use Rattle.cc_script.specs.Grammar.{script_of}
 use Rattle.cc_print.specs.Text.{text_of}
-use Rattle.cc_pieces.specs.Runs.{IsExplained}
 use Rattle.cc_pieces.specs.Table.{table_of}
 use Rattle.cc_run.specs.Words.{is_run}
 use Rattle.cc_run.specs.Ends.{Input, Output, status_of, IsCause, IsRead, IsWrong, WasTaken, TookMany, HasTooFewDisks, HasFailed, Spells, IsPut, IsRun, IsEnded}
@@ -164,13 +163,6 @@ module _ (i : Input) (o : Output) (script : Option Script) (replies : List LineR
       go : (s : Option Script) → IsEnded i o s replies journal status → IfSome s (Spells i.left)
       go None e = tt
       go (Some one) e = e.spelled
-
-  pub explained-at : IfSome script (λ made. IsExplained made.streams made.lines replies (reverse journal))
-  explained-at = go script ended
-    where
-      go : (s : Option Script) → IsEnded i o s replies journal status → IfSome s (λ made. IsExplained made.streams made.lines replies (reverse journal))
-      go None e = tt
-      go (Some one) e = e.explained
 
   pub empty-at : script ≡ None → journal ≡ []
   empty-at is = go script ended is

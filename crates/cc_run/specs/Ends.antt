@@ -8,7 +8,6 @@ use Rattle.cc_script.specs.declared.script.Mode.TheVariants as mode
 use Rattle.cc_script.specs.declared.script.Offer.TheVariants as offer
 use Rattle.cc_script.specs.Grammar.{script_of}
 use Rattle.cc_print.specs.Text.{text_of}
-use Rattle.cc_pieces.specs.Runs.{IsExplained}
 use Rattle.cc_pieces.specs.Table.{table_of}
 use Rattle.cc_run.specs.Words.{is_run}
 use Rattle.cc_run.specs.declared.no_run.NoRun.{NoRun}
@@ -188,11 +187,9 @@ pub record IsRun (i : Input) (o : Output) (script : Script) (replies : List Line
   pub read : IsRead i
   pub spelled : Spells i.left script
   pub enough : length script.streams ≤ i.disks
-  pub explained : IsExplained script.streams script.lines replies (reverse journal)
   pub printed : IsPrinted o (text_of script replies journal (table_of (reverse journal))) status
 
--- How the program ended: without a run it gives back no script, reply or entry; with one, it gives back the
--- script, and replies that the journal explains.
+-- How the program ended: without a run it gives back no script, reply or entry; with one, the script.
 abbrev pub IsEnded : Input → Output → Option Script → List LineReply → List Entry → ℕ → Type 0
 IsEnded i o None replies journal status = (replies ≡ []) × (journal ≡ []) × IsRefused i o status
 IsEnded i o (Some script) replies journal status = IsRun i o script replies journal status

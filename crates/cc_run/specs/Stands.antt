@@ -15,7 +15,7 @@ use Rattle.cc_model.specs.Touches.{sizes, is_dirty}
 use Rattle.cc_model.specs.Bytes.{byte_of, content}
 use Rattle.cc_model.specs.Settings.{quota_of}
 use Rattle.cc_model.specs.Residency.{is_resident}
-use Rattle.cc_model.specs.Stamps.{oldest_of, newest_of}
+use Rattle.cc_model.specs.Stamps.{lsns_of}
 use Rattle.cc_model.specs.Images.{image, open_of}
 use Rattle.cc_model.specs.Passes.{calls_of}
 use Rattle.cc_model.specs.Good.{IsGood}
@@ -60,8 +60,7 @@ pub record Agrees (size valid : ℕ) (resident dirty : List Bool) (past : List E
   pub resident_are : (p : ℕ) → is_resident (history past 0) p ≡ flag_at resident p
   pub dirty_are : (p : ℕ) → is_dirty (history past 0) p ≡ flag_at dirty p
   -- no page has a stamp
-  pub oldest_is : (p : ℕ) → oldest_of (history past 0) p ≡ None
-  pub newest_is : (p : ℕ) → newest_of (history past 0) p ≡ None
+  pub lsns_are : (p : ℕ) → lsns_of (history past 0) p ≡ None
   -- nothing was written back, so every image is the opening page
   pub images_are : (pages : ℕ → List ℕ) (p : ℕ) → image pages (history past 0) p ≡ Some (pages p)
   -- no other stream has an effect or a failure

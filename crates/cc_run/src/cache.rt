@@ -164,7 +164,7 @@ impl Cache {
     ghost use Rattle.cc_run.specs.Stands.{flag_at, opening_of, AllFlagged, IsPart};
     ghost use Rattle.cc_pieces.specs.Table.{table_of};
     ghost use Rattle.cc_pieces.specs.Failures.{failures};
-    ghost use Rattle.cc_run.specs.Pieces.{IsPageOf, Went, Answered, calls_after};
+    ghost use Rattle.cc_run.specs.Fills.{IsPageOf, Went, LeftAlone, HasRoom, outcome_of, calls_after};
     ghost use Rattle.cc_run.specs.Caches.{CacheStands, CacheAgrees, Keeps, FillStopped, ReadStopped, WriteStopped, StandsWithWrite};
 
     /// Brings a page of the stream in, where it is not resident.
@@ -317,8 +317,10 @@ impl Cache {
         ensures stands { (u : Setup) → CacheStands u (D.told disk.old) self.old → CacheStands u (D.told disk.new) self.new }
         ensures told { D.told disk.new ≡ D.told disk.old }
         ensures counted { D.faults disk.new + failures 0 self.old.journal.entries ≡ D.faults disk.old + failures 0 self.new.journal.entries }
-        ensures answered { (u : Setup) → CacheStands u (D.told disk.old) self.old →
-            Answered at (min (at + len) self.old.size) (λ bytes. reply.Read bytes) (call.CopyRead the_first_object at len true) (suc self.old.calls) self.old.journal.entries self.new.journal.entries result }
+        ensures left { (u : Setup) → CacheStands u (D.told disk.old) self.old →
+            LeftAlone u (call.CopyRead the_first_object at len true) (outcome_of (λ bytes. reply.Read bytes) result)
+            self.old.journal.entries self.new.journal.entries }
+        ensures room { IfErr result HasRoom }
         ensures calls { self.new.calls ≡ calls_after self.old.calls result }
         ensures size { self.new.size ≡ self.old.size }
     {
@@ -401,13 +403,19 @@ impl Cache {
         ensures stands { (u : Setup) → CacheStands u (D.told disk.old) self.old → CacheStands u (D.told disk.new) self.new }
         ensures told { D.told disk.new ≡ D.told disk.old }
         ensures counted { D.faults disk.new + failures 0 self.old.journal.entries ≡ D.faults disk.old + failures 0 self.new.journal.entries }
-        ensures answered { (u : Setup) → CacheStands u (D.told disk.old) self.old →
-            Answered at (at + length bytes.now) (λ done. reply.Unit) (call.CopyWrite the_first_object at bytes.now) (suc self.old.calls) self.old.journal.entries self.new.journal.entries result }
+        ensures left { (u : Setup) → CacheStands u (D.told disk.old) self.old →
+            LeftAlone u (call.CopyWrite the_first_object at bytes.now) (outcome_of (λ done. reply.Unit) result)
+            self.old.journal.entries self.new.journal.entries }
+        ensures room { IfErr result HasRoom }
         ensures calls { self.new.calls ≡ calls_after self.old.calls result }
         ensures size { self.new.size ≡ self.old.size }
     {
-        let listed = bytes.to_vec(alloc)?;
-        let kept = Bytes::of(alloc, &listed)?;
+        let Ok(listed) = bytes.to_vec(alloc) else {
+            return Err(CcError::NoMemory);
+        };
+        let Ok(kept) = Bytes::of(alloc, &listed) else {
+            return Err(CcError::NoMemory);
+        };
         match self.write(disk, at, &listed) {
             Ok(()) => {
                 self.place(write_call(at, kept), Outcome::Done(Reply::Unit));

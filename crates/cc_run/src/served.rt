@@ -51,7 +51,7 @@ fn are_served(lines: &[ActionLine]) -> bool
 fn is_served_line(line: &ActionLine) -> bool
     ensures { result ≡ true → IsServedLine line.now }
 {
-    line.caller == 1 && is_copy(&line.action)
+    line.caller == 1 && line.phase == 1 && is_copy(&line.action)
 }
 
 fn is_copy(action: &Action) -> bool

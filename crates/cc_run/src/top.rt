@@ -4,7 +4,7 @@ ghost use Rattle.std.specs.Prelude.{◌≡◌, ◌⊎◌, ◌<◌, List, ◌≤�
 ghost use Rattle.cc_model.specs.Setup.{Setup};
 ghost use Rattle.cc_model.specs.Good.{IsGood};
 ghost use Rattle.cc_script.specs.declared.script.Script.{Script as TheScript};
-ghost use Rattle.cc_pieces.specs.Runs.{IsExplained};
+ghost use Rattle.cc_pieces.specs.Explained.{IsExplained};
 ghost use Rattle.cc_pieces.specs.Table.{table_of};
 ghost use Rattle.cc_print.specs.Text.{text_of as the_text_of};
 ghost use Rattle.cc_traits.specs.Told.{Both, Took};
@@ -15,6 +15,7 @@ ghost use Rattle.cc_run.specs.Complete.{EndsWith, SyntaxAlways, TooLongAlways, T
 ghost use Rattle.cc_run.specs.declared.no_run.NoRun.TheVariants as no_run;
 ghost use Rattle.cc_run.specs.Disks.{DisksAre, AreCounted, HaveRisen};
 ghost use Rattle.cc_run.specs.Words.{is_run};
+ghost use Rattle.cc_run.specs.Lines.{given_of, lines_answered};
 
 use crate::intake::{IntakeError, take_all};
 use crate::no_run::{NoRun, syntax_text};
@@ -136,7 +137,8 @@ fn run_script<D: PageDisk>(
 ) -> Result<RunResult, NoMemory>
     requires { length script.now.streams ≤ vec_len disks.old }
     ensures good { IfOk result (λ ran. (u : Setup) → OpensWith u D.told disks.old.items → IsGood u (reverse ran.journal.items)) }
-    ensures explained { IfOk result (λ ran. IsExplained script.now.streams script.now.lines ran.replies.items (reverse ran.journal.items)) }
+    ensures explained { IfOk result (λ ran. (u : Setup) → OpensWith u D.told disks.old.items →
+        IsExplained u (given_of script.now) (lines_answered ran.replies.items) (reverse ran.journal.items)) }
     ensures table { IfOk result (λ ran. ran.table.items ≡ table_of (reverse ran.journal.items)) }
     ensures disks { IfOk result (λ ran. DisksAre D.told (reverse ran.journal.items) disks.old.items disks.new.items) }
     ensures counted { IfOk result (λ ran. AreCounted D.faults (reverse ran.journal.items) disks.old.items disks.new.items) }
@@ -188,6 +190,8 @@ fn conduct<S: Source, K: Sink, D: PageDisk>(
         (input S.told S.faults S.taken (map string_bytes words.now) source.old source.new (length disks.old.items))
         (output K.told K.faults K.stalls out.old out.new)
         result.script result.replies.items result.journal.items result.status }
+    ensures explained { IfSome result.script (λ made. (u : Setup) → OpensWith u D.told disks.old.items →
+        IsExplained u (given_of made) (lines_answered result.replies.items) (reverse result.journal.items)) }
     ensures untouched { is_run (map string_bytes words.now) ≡ false → source.new ≡ source.old }
     ensures given { WasTaken (S.told source.old) (S.told source.new) (S.taken source.old) (S.taken source.new) }
     ensures bounded { S.taken source.new ≤ S.taken source.old + 16777217 }
@@ -266,8 +270,10 @@ pub fn cache_main<S: Source, K: Sink, D: PageDisk, P: Gate>(
     ensures bounded { S.taken script.new ≤ S.taken script.old + 16777217 }
     ensures made { (result.status ≡ 0) ⊎ (result.status ≡ 4) → is_some result.script ≡ true }
     ensures spelled { IfSome result.script (Spells (S.told script.old)) }
-    ensures explained { IfSome result.script (λ made.
-        IsExplained made.streams made.lines result.replies.items (reverse result.journal.items)) }
+    ensures explained { IfSome result.script (λ made. (u : Setup) → OpensWith u D.told disks.items →
+        IsExplained u (given_of made)
+        (record { replies = result.replies.items; ticked = result.ticks.items; stepped = result.aheads.items })
+        (reverse result.journal.items)) }
     ensures empty { result.script ≡ None → result.journal.items ≡ [] }
     ensures printed { result.status ≡ 0 → IfSome result.script (λ made. Both (K.told out.old) (K.told out.new)
         (Took (the_text_of made result.replies.items result.journal.items (table_of (reverse result.journal.items))))) }

@@ -13,13 +13,13 @@ returns-clause-good g c = λ u opening.
     rw (c.into_entries-journal.ensures, c.into_journal.ensures) after.good
 
 pub returns-clause-explained : goal.returns-clause-explained
-returns-clause-explained g c =
+returns-clause-explained g c = λ u opening.
     let first : c.push_reserved.new.self.items ≡ opened_reply c.args.stream.now ∷ [] =
     c.push_reserved.ensures.items ∙ ap (λ l. l ++ opened_reply c.args.stream.now ∷ []) (c.in_ok-reserve.ensures.items ∙ c.new-replies.ensures.items) in
-    let begun = c.in_ok-cache.ensures.stands (setup_over (g.D.Told.told c.args.disk.now)) (g.D.Told.told c.args.disk.now) refl in
-    let served : ServedLines c.args.lines.now (opened_reply c.args.stream.now ∷ []) c.serve_lines.new.replies.items (opening_entry c.args.stream.now.size c.args.stream.now.valid ∷ []) c.serve_lines.new.cache.journal.entries =
-    rw (first, c.in_ok-cache.ensures.placed) at (c.in_ok-serve_lines.ensures.served (setup_over (g.D.Told.told c.args.disk.now)) begun) in
-    rw (c.into_entries-journal.ensures, c.into_journal.ensures) (explained-one c.args.stream.now c.args.lines.now c.serve_lines.new.replies.items c.serve_lines.new.cache.journal.entries c.requires.stream c.requires.lines served)
+    let begun = c.in_ok-cache.ensures.stands u (g.D.Told.told c.args.disk.now) opening in
+    let served : ServedLines u c.args.lines.now (opened_reply c.args.stream.now ∷ []) c.serve_lines.new.replies.items (opening_entry c.args.stream.now.size c.args.stream.now.valid ∷ []) c.serve_lines.new.cache.journal.entries =
+    rw (first, c.in_ok-cache.ensures.placed) at (c.in_ok-serve_lines.ensures.served u begun) in
+    rw (c.into_entries-journal.ensures, c.into_journal.ensures) (explained-one u c.args.stream.now c.args.lines.now c.serve_lines.new.replies.items c.serve_lines.new.cache.journal.entries c.requires.stream c.requires.lines served)
 
 pub returns-clause-counted : goal.returns-clause-counted
 returns-clause-counted g c =

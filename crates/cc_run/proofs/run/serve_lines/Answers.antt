@@ -16,5 +16,5 @@ loop-line-preserved g c = record {
       let more : take (c.loop-line.line-index + 1) c.args.lines.now ≡ take c.loop-line.line-index c.args.lines.now ++ c.line-item.result ∷ [] =
       take_more c.args.lines.now c.loop-line.line-index c.line-item.result c.loop-line-test.true ∙ ap (λ x. take c.loop-line.line-index c.args.lines.now ++ x ∷ []) (sym c.line-item.is) in
       let own : IsServedLine c.line-item.result = rw c.line-item.is (all-at IsServedLine c.args.lines.now c.loop-line.line-index c.line-item.result c.loop-line-test.true c.requires.lines) in
-      rw (more, c.push_reserved.ensures.items, c.in_ok-reserve.ensures.items) (served-more (take c.loop-line.line-index c.args.lines.now) c.line-item.result c.args.replies.now.items c.loop-line.replies.items c.serve-answer.result c.args.cache.now.journal.entries c.loop-line.cache.journal.entries c.serve-answer.new.cache.journal.entries before own.0 serves);
+      rw (more, c.push_reserved.ensures.items, c.in_ok-reserve.ensures.items) (served-more u (take c.loop-line.line-index c.args.lines.now) c.line-item.result c.args.replies.now.items c.loop-line.replies.items c.serve-answer.result c.args.cache.now.journal.entries c.loop-line.cache.journal.entries c.serve-answer.new.cache.journal.entries before own serves);
 }

@@ -11,5 +11,5 @@ invariant-loop-line g l = record {
   told : g.D.Told.told l.disk ≡ g.D.Told.told l.initial.disk;
   counted : g.D.Told.faults l.disk + failures 0 l.initial.cache.journal.entries ≡ g.D.Told.faults l.initial.disk + failures 0 l.cache.journal.entries;
   calls : l.cache.calls ≤ l.line-index;
-  served : (u : Setup) → CacheStands u (g.D.Told.told l.initial.disk) l.initial.cache → ServedLines (take l.line-index l.lines) l.initial.replies.items l.replies.items l.initial.cache.journal.entries l.cache.journal.entries;
+  served : (u : Setup) → CacheStands u (g.D.Told.told l.initial.disk) l.initial.cache → ServedLines u (take l.line-index l.lines) l.initial.replies.items l.replies.items l.initial.cache.journal.entries l.cache.journal.entries;
 }

@@ -1,5 +1,5 @@
 use Rattle.std.proofs.Common.{ap}
-use Rattle.cc_run.proofs.Statuses.{usage-at, words-always, syntax-at, read_fault-at, write_fault-at, too_long-at, too_few-at, syntax-always, too_long-always, too_long-told, too_few-always, complete, made-at, spelled-at, explained-at, empty-at, printed-at}
+use Rattle.cc_run.proofs.Statuses.{usage-at, words-always, syntax-at, read_fault-at, write_fault-at, too_long-at, too_few-at, syntax-always, too_long-always, too_long-told, too_few-always, complete, made-at, spelled-at, empty-at, printed-at}
 use Rattle.cc_run.proofs.top.cache_main.Goals as goal
 
 pub returns-clause-usage : goal.returns-clause-usage
@@ -44,9 +44,6 @@ returns-clause-made g c = made-at _ _ _ _ _ _ c.conduct-status.ensures.ended
 
 pub returns-clause-spelled : goal.returns-clause-spelled
 returns-clause-spelled g c = spelled-at _ _ _ _ _ _ c.conduct-status.ensures.ended
-
-pub returns-clause-explained : goal.returns-clause-explained
-returns-clause-explained g c = explained-at _ _ _ _ _ _ c.conduct-status.ensures.ended
 
 pub returns-clause-empty : goal.returns-clause-empty
 returns-clause-empty g c = empty-at _ _ _ _ _ _ c.conduct-status.ensures.ended

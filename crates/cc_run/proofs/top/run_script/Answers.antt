@@ -3,6 +3,7 @@ use Rattle.std.proofs.lemmas.Option.{get_or_from_slice_get}
 use Rattle.cc_run.proofs.Opening.{good-none}
 use Rattle.cc_run.proofs.Rows.{table-none}
 use Rattle.cc_run.proofs.DiskSteps.{unchanged-none, disks-same, risen-same, counted-same, disks-first, risen-first, counted-first, on_err}
+use Rattle.cc_run.proofs.Explained.{given-one, explained-none}
 use Rattle.cc_run.proofs.top.run_script.Goals as goal
 
 pub returns-then-not-is_served-clause-kept : goal.returns-then-not-is_served-clause-kept
@@ -25,6 +26,16 @@ returns-in_default-clause-counted g c = rw c.new-in_default.ensures.items (count
 
 pub returns-in_default-clause-risen : goal.returns-in_default-clause-risen
 returns-in_default-clause-risen g c = risen-same _ _
+
+pub returns-in_default-clause-explained : goal.returns-in_default-clause-explained
+returns-in_default-clause-explained g c = λ u opening.
+    let given = given-one c.args.script.now (c.is_served.ensures.header c.if-is_served.true) in
+    rw (given, c.new-in_default.ensures.items, c.new-in_default-2.ensures.items) (explained-none u)
+
+pub returns-clause-explained : goal.returns-clause-explained
+returns-clause-explained g c = λ u opening.
+    let given = given-one c.args.script.now (c.is_served.ensures.header c.if-is_served.true) in
+    rw given (c.in_ok-ran.ensures.explained u opening)
 
 pub returns-clause-disks : goal.returns-clause-disks
 returns-clause-disks g c =

@@ -2,7 +2,7 @@ use Rattle.std.proofs.Common.{◌≡◌, ℕ, ◌+◌, ◌≤◌, ◌<◌, ◌/�
 use Rattle.cc_model.specs.Setup.{Setup}
 use Rattle.cc_run.specs.Stands.{flag_at}
 use Rattle.cc_pieces.specs.Failures.{failures}
-use Rattle.cc_run.specs.Pieces.{Filled}
+use Rattle.cc_run.specs.Fills.{Filled}
 use Rattle.cc_run.specs.Caches.{CacheStands, Keeps}
 use Rattle.cc_run.proofs.cache.Cache.bring_range.Given as goal
 

@@ -1,9 +1,18 @@
-use Rattle.std.proofs.Common.{◌≡◌, arith, ◌∙◌, refl, ap, length}
+use Rattle.std.proofs.Common.{◌≡◌, ◌+◌, ◌∷◌, ◌∙◌, refl, ap, length, suc, Some}
 use Rattle.cc_entry.specs.declared.call.Call.TheVariants as call
+use Rattle.cc_entry.specs.declared.error.CcError.TheVariants as error
+use Rattle.cc_entry.specs.declared.reply.Reply.TheVariants as reply
+use Rattle.cc_entry.specs.declared.reply.Outcome.TheVariants as outcome
+use Rattle.cc_entry.specs.declared.entry.Entry.TheVariants as entry
+use Rattle.cc_model.specs.History.{history}
+use Rattle.cc_model.specs.Touches.{size_of}
 use Rattle.cc_run.specs.Stands.{first_object}
 use Rattle.cc_run.proofs.CallSteps.{stands-failed}
 use Rattle.cc_run.proofs.FailureSteps.{failures-call}
-use Rattle.cc_run.proofs.Stops.{write_fails}
+use Rattle.cc_run.specs.Fills.{Filled}
+use Rattle.cc_run.proofs.Fills.{filled-none}
+use Rattle.cc_run.proofs.Left.{left-done, left-no_memory, left-stopped}
+use Rattle.cc_run.proofs.Stops.{write_fails, write_stop}
 use Rattle.cc_run.proofs.cache.Cache.copy_write.Goals as goal
 
 pub returns-clause-stands : goal.returns-clause-stands
@@ -21,3 +30,13 @@ returns-in-Ok-clause-counted g c = rw (c.place.ensures.placed, failures-call) c.
 
 pub returns-clause-counted : goal.returns-clause-counted
 returns-clause-counted g c = rw (c.place-in-Err.ensures.placed, failures-call) c.in-Err.ensures.counted
+
+pub returns-in-Ok-clause-left : goal.returns-in-Ok-clause-left
+returns-in-Ok-clause-left g c = λ u s.
+    let same : c.deref-2.result.now ≡ c.args.bytes.now = c.deref-2.ensures.value ∙ c.in-Ok-listed.ensures in
+    let kept : c.in-Ok-kept.kept ≡ c.args.bytes.now = c.in-Ok-kept.ensures ∙ (c.deref.ensures.value ∙ c.in-Ok-listed.ensures) in
+    let size : size_of (history c.args.self.now.journal.entries 0) ≡ c.args.self.now.size = rw (size_of, s.agrees.sizes_are) refl in
+    let placed : c.place.new.self.journal.entries ≡ entry.Call 1 (suc c.write.new.self.calls) (Some 0) (call.CopyWrite first_object c.args.at c.args.bytes.now) (outcome.Done reply.Unit) ∷ c.write.new.self.journal.entries =
+    c.place.ensures.placed ∙ rw (c.write_call.ensures, kept) refl in
+    left-done u (call.CopyWrite first_object c.args.at c.args.bytes.now) c.args.self.now.size c.args.at (c.args.at + length c.args.bytes.now) refl refl refl refl (λ holds. refl)
+    reply.Unit (suc c.write.new.self.calls) _ _ _ (λ during. tt) (rw same at (c.in-Ok.ensures.filled u s)) placed size

@@ -1,5 +1,5 @@
--- What a call placed in the journal.
-use Rattle.std.specs.Prelude.{◌≡◌, ℕ, suc, ◌+◌, ◌*◌, ◌<◌, false, List, ◌∷◌, ◌++◌, Some, Result, Ok, Err}
+-- Which pages a call brought in, one after the other.
+use Rattle.std.specs.Prelude.{◌≡◌, ◌≢◌, ℕ, suc, ◌+◌, ◌*◌, ◌<◌, false, List, ◌∷◌, ◌++◌, Result, Ok, Err}
 use Rattle.std.specs.List.{AllByRecursion}
 use Rattle.cc_entry.specs.declared.call.Call.{Call}
 use Rattle.cc_entry.specs.declared.error.CcError.{CcError}
@@ -11,9 +11,12 @@ use Rattle.cc_entry.specs.declared.answer.Answer.{Answer}
 use Rattle.cc_entry.specs.declared.answer.Answer.TheVariants as answer
 use Rattle.cc_entry.specs.declared.entry.Entry.{Entry}
 use Rattle.cc_entry.specs.declared.entry.Entry.TheVariants as entry
+use Rattle.cc_model.specs.Setup.{Setup}
 use Rattle.cc_model.specs.History.{history}
 use Rattle.cc_model.specs.Touches.{valid_of}
 use Rattle.cc_model.specs.Residency.{is_resident}
+use Rattle.cc_effects.specs.Moments.{IsIdle}
+use Rattle.cc_effects.specs.Calls.{CallLeft}
 
 -- a page has a byte from one place up to another
 abbrev pub IsPageOf : ℕ → ℕ → ℕ → Type 0
@@ -46,25 +49,10 @@ Went from to (Ok answer) old new = Filled from to old new
 Went from to (Err (error.ReadFault page)) old new = Faulted from to page old new
 Went from to (Err e) old new = Filled from to old new
 
--- after such entries, the call was placed
-pub record Placed (from to : ℕ) (call : Call) (ended : Outcome) (nth : ℕ) (old new : List Entry) : Type 0 where
-  pub before : List Entry
-  pub filled : Filled from to old before
-  pub placed : new ≡ entry.Call 1 nth (Some 0) call ended ∷ before
-
--- after a page that could not be read, the call was placed with this fault
-pub record PlacedFault (from to page : ℕ) (call : Call) (nth : ℕ) (old new : List Entry) : Type 0 where
-  pub before : List Entry
-  pub faulted : Faulted from to page old before
-  pub placed : new ≡ entry.Call 1 nth (Some 0) call (outcome.Failed (error.ReadFault page)) ∷ before
-
--- A call that answers so left its own entry with that outcome, as the nth of its caller; one that found
--- no memory left none.
-abbrev pub Answered : {T : Type 0} → ℕ → ℕ → (T → Reply) → Call → ℕ → List Entry → List Entry → Result T CcError → Type 0
-Answered from to reply_of call nth old new (Ok answer) = Placed from to call (outcome.Done (reply_of answer)) nth old new
-Answered from to reply_of call nth old new (Err error.NoMemory) = Filled from to old new
-Answered from to reply_of call nth old new (Err (error.ReadFault page)) = PlacedFault from to page call nth old new
-Answered from to reply_of call nth old new (Err e) = Placed from to call (outcome.Failed e) nth old new
+-- how the entry of a call that answers so says that it ended
+abbrev pub outcome_of : {T : Type 0} → (T → Reply) → Result T CcError → Outcome
+outcome_of reply_of (Ok value) = outcome.Done (reply_of value)
+outcome_of reply_of (Err e) = outcome.Failed e
 
 -- the answer of the line
 abbrev pub answer_of : {T : Type 0} → (T → Reply) → Result T CcError → Answer
@@ -76,3 +64,13 @@ abbrev pub calls_after : {T : Type 0} → ℕ → Result T CcError → ℕ
 calls_after calls (Ok answer) = suc calls
 calls_after calls (Err error.NoMemory) = calls
 calls_after calls (Err e) = suc calls
+
+-- a refusal that is not for want of room
+abbrev pub HasRoom : CcError → Type 0
+HasRoom (error.JournalFull entries) = ⊥
+HasRoom other = Unit {0}
+
+-- a call of caller 1 left what explains its outcome, and no other pass placed anything
+pub record LeftAlone (u : Setup) (it : Call) (ended : Outcome) (old new : List Entry) : Type 0 where
+  pub left : CallLeft u 1 it ended old new
+  pub alone : (me : ℕ) → me ≢ 1 → IsIdle me old new
