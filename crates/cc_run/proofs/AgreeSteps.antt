@@ -1,5 +1,5 @@
 -- What a past says of the first stream without its disk, over the entries that are placed.
-use Rattle.std.proofs.Common.{◌≡◌, ◌≢◌, ℕ, zero, suc, ◌+◌, ◌<◌, Bool, true, false, not, cond, ◌||◌, ◌==◌, max, List, [], ◌∷◌, length, set, refl, sym, ◌∙◌, ap, arith, Some, None}
+use Rattle.std.proofs.Common.{◌≡◌, ◌≢◌, ℕ, ◌+◌, ◌<◌, Bool, true, false, not, cond, ◌||◌, ◌==◌, max, List, [], ◌∷◌, length, set, refl, sym, ◌∙◌, ap, Some, None}
 use Rattle.std.proofs.lemmas.Bool.{ne_eqb, eqb-true, eq-eqb}
 use Rattle.std.proofs.lemmas.List.{get_or-set_same, get_or-set_other}
 use Rattle.cc_entry.specs.declared.call.Call.{Call}
@@ -16,7 +16,7 @@ use Rattle.cc_model.specs.Acts.{act_of, Looks}
 use Rattle.cc_model.specs.History.{Effect, Did, CameIn, history}
 use Rattle.cc_model.specs.Objects.{objects, had_map}
 use Rattle.cc_model.specs.Sizes.{raised}
-use Rattle.cc_model.specs.Touches.{touches, touched, sizes, is_mapped, is_dirty}
+use Rattle.cc_model.specs.Touches.{touches, touched, sizes, is_dirty}
 use Rattle.cc_model.specs.Residency.{residents, is_resident}
 use Rattle.cc_model.specs.Stamps.{lsns_of}
 use Rattle.cc_model.specs.Images.{image}

@@ -111,7 +111,7 @@ stands-read {u = u} {told = told} {size = size} {valid = valid} {calls = calls} 
 
     zeros : (k : ℕ) → k < length read → valid_of (history past 0) ≤ at + k → slice_index read k ≡ 0
     zeros k low over =
-        let past_valid : valid ≤ at + k = rw (valid_of, s.agrees.agrees.sizes_are) at over in
+        let past_valid : valid ≤ at + k = rw (valid_of, s.agrees.sizes_are) at over in
         same_bytes k low ∙ s.zeros (at + k) (flag_of k low) past_valid
 
     of_disk : (disk : Disk) → told ≡ Some disk → read ≡ map (byte_of (page_of disk) (history past 0)) (range_with_len at (length read))

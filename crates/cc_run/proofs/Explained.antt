@@ -1,5 +1,5 @@
 -- The run of one stream explains the answers of all its lines.
-use Rattle.std.proofs.Common.{◌≡◌, ◌≢◌, ℕ, ◌==◌, ◌&&◌, nat_lt, nat_eq, Bool, true, false, List, [], ◌∷◌, ◌++◌, append-nil, refl, sym, ◌∙◌, ap, Some, None, inl}
+use Rattle.std.proofs.Common.{◌≡◌, ◌≢◌, ℕ, ◌==◌, ◌&&◌, Bool, true, false, List, [], ◌∷◌, append-nil, arith, refl, sym, ap, slice_get, Option, Some, None, inl}
 use Rattle.std.specs.List.{AllByRecursion, IsDistinct}
 use Rattle.std.proofs.lemmas.Bool.{eqb-true, eqb-false, ne_eqb}
 use Rattle.cc_entry.specs.declared.answer.Answer.{Answer}
@@ -17,13 +17,13 @@ use Rattle.cc_script.specs.declared.script.StreamLine.{StreamLine}
 use Rattle.cc_model.specs.Setup.{Setup}
 use Rattle.cc_effects.specs.Moments.{IsIdle}
 use Rattle.cc_pieces.specs.Served.{posted_by}
-use Rattle.cc_pieces.specs.Runs.{Ran, asked_of, bindings_of}
+use Rattle.cc_pieces.specs.Runs.{Ran, asked_of}
 use Rattle.cc_pieces.specs.Rooms.{is_alone, room_limit}
 use Rattle.cc_pieces.specs.Openings.{opening_call, Opens, LoggedOpening}
 use Rattle.cc_pieces.specs.Phases.{is_of_phase, is_before_phase, PhaseRan}
-use Rattle.cc_pieces.specs.Explained.{Given, IsExplained, posted_in}
+use Rattle.cc_pieces.specs.Explained.{IsExplained, posted_in}
 use Rattle.cc_run.specs.Stands.{opening_entry}
-use Rattle.cc_run.specs.Served.{IsServedStream, IsServedLine, HasNoHeader}
+use Rattle.cc_run.specs.Served.{IsServed, IsServedStream, IsServedLine, HasNoHeader}
 use Rattle.cc_run.specs.Lines.{ServedLines, given_of, one_phase, lines_answered}
 use Rattle.cc_run.proofs.LineSteps.{idle-none}
 
@@ -112,7 +112,7 @@ explained-one u stream lines replies past first all served = record {
     grew = refl;
     others = (ne_eqb 0 me (λ e. other (sym e)), tt);
   };
-  ran = (past, 0, phase-ran u lines served.answers _ past all ran served.alone, refl, refl, refl);
+  ran = (past, 0, phase-ran u lines served.answers _ past all ran served.alone, (refl, refl, refl));
   posted_once = rw (posted-none lines served.answers) tt;
 }
   where
@@ -121,7 +121,7 @@ explained-one u stream lines replies past first all served = record {
         rw (append-nil (asked_of (is_of_phase 1 1) lines served.answers)) at (served.ran limit [] past (idle-none 1 past))
 
 -- a script without lines
-pub explained-none : (u : Setup) → IsExplained u (one_phase [] []) (lines_answered []) []
+explained-none : (u : Setup) → IsExplained u (one_phase [] []) (lines_answered []) []
 unfolding IsDistinct
 explained-none u = record {
   setup = [];
@@ -132,10 +132,25 @@ explained-none u = record {
   answer_lines = refl;
   opened = idle-none 0 [];
   alone = λ me other. idle-none me [];
-  ran = ([], 0, phase-ran u [] [] [] [] tt (λ limit. idle-none 1 []) (λ me other. idle-none me []), refl, refl, refl);
+  ran = ([], 0, phase-ran u [] [] [] [] tt (λ limit. idle-none 1 []) (λ me other. idle-none me []), (refl, refl, refl));
   posted_once = tt;
 }
 
 -- what a served script gives a run is one phase without workers
 pub given-one : (script : Script) → HasNoHeader script → given_of script ≡ one_phase script.streams script.lines
 given-one script header = rw (header.phases, header.ticks, header.aheads) refl
+
+-- a served script without a stream has no line
+pub explained-empty : (u : Setup) (streams : List StreamLine) (lines : List ActionLine) → IsServed streams lines → slice_get streams 0 ≡ None → IsExplained u (one_phase streams lines) (lines_answered []) []
+explained-empty u [] lines served none = rw served (explained-none u)
+explained-empty u (s ∷ streams) lines served none = absurd (cc none)
+
+-- a served script that has a stream has that one
+pub one_stream : (streams : List StreamLine) (lines : List ActionLine) (stream : StreamLine) → IsServed streams lines → slice_get streams 0 ≡ Some stream → streams ≡ stream ∷ []
+one_stream [] lines stream served first = absurd (cc first)
+one_stream (s ∷ []) lines stream served first = let same : s ≡ stream = cc first in ap (λ x. x ∷ []) same
+one_stream (s ∷ next ∷ more) lines stream served first = absurd served
+
+pub no_item : {T : Type 0} (o : Option T) → ((x : T) → o ≡ Some x → ⊥) → o ≡ None
+no_item None other = refl
+no_item (Some x) other = absurd (other x refl)

@@ -1,6 +1,6 @@
 -- What a copied read or write of the first object left in the journal.
-use Rattle.std.proofs.Common.{◌≡◌, ◌≢◌, ℕ, ◌+◌, ◌*◌, ◌≤◌, Bool, true, false, List, [], ◌∷◌, ◌++◌, refl, sym, ◌∙◌, ap, arith, Some, Result, Ok, Err, inl}
-use Rattle.std.specs.List.{AllByRecursion, list_any, count_by}
+use Rattle.std.proofs.Common.{◌≡◌, ◌≢◌, ℕ, ◌+◌, ◌*◌, true, false, List, [], ◌∷◌, ◌++◌, refl, sym, ◌∙◌, ap, arith, Some, Err, inl}
+use Rattle.std.specs.List.{AllByRecursion, count_by}
 use Rattle.std.proofs.lemmas.Bool.{lt-ltb, eq-eqb, ne_eqb}
 use Rattle.cc_entry.specs.Place.{Page}
 use Rattle.cc_entry.specs.Pages.{has_page}
@@ -19,16 +19,15 @@ use Rattle.cc_model.specs.Holds.{Hold}
 use Rattle.cc_model.specs.Filing.{IsFiled}
 use Rattle.cc_model.specs.Faults.{ReadFailed}
 use Rattle.cc_model.specs.Ranges.{range_of}
-use Rattle.cc_model.specs.Residency.{is_resident}
 use Rattle.cc_model.specs.Touches.{size_of, valid_of}
 use Rattle.cc_laws.proofs.HistorySteps.{history-page_in}
 use Rattle.cc_laws.proofs.SizeSteps.{sizes-came_in}
-use Rattle.cc_effects.specs.Moments.{own, Others, IsIdle, EachOwn}
+use Rattle.cc_effects.specs.Moments.{Others, IsIdle, EachOwn}
 use Rattle.cc_effects.specs.Asked.{Calls, brings_in, reads_noncached, reaches}
 use Rattle.cc_effects.specs.Places.{MayPlace, MayFailToRead, Works, is_own_sync, is_ended}
-use Rattle.cc_effects.specs.Stops.{stops, IsUnstopped}
+use Rattle.cc_effects.specs.Stops.{IsUnstopped}
 use Rattle.cc_effects.specs.Refusals.{may_refuse, may_want}
-use Rattle.cc_effects.specs.Calls.{IsPlaced, HasDone, CallLeft}
+use Rattle.cc_effects.specs.Calls.{IsPlaced, HasDone}
 use Rattle.cc_run.specs.Stands.{first_object}
 use Rattle.cc_run.specs.Fills.{IsPageOf, IsFill, Filled, Faulted, Went, LeftAlone}
 
@@ -139,8 +138,7 @@ module _ (u : Setup) (it : Call) (size from to : ℕ) (of_first : file_of it ≡
   -- the disk failed to read a page
   may_fail : (page : ℕ) (old before : List Entry) (w : Faulted from to page old before) → size_of (history old 0) ≡ size → MayFailToRead (Calls it) old (record { stream = 0; page = page }) w.before
   may_fail page old before w same =
-      let low = lt-ltb (4096 * page) (valid_of (history w.before 0)) w.below in
-      (
+      let low = lt-ltb (4096 * page) (valid_of (history w.before 0)) w.below in (
         rw (cached, brings, w.absent, low) refl,
         record {
           moment = old;
@@ -192,10 +190,10 @@ module _ (u : Setup) (it : Call) (size from to : ℕ) (of_first : file_of it ≡
         };
       }
 
-  pub left-stopped : {T : Type 0} (e : CcError) (nth : ℕ) (old before new : List Entry) → IsStop e → may_refuse it e ≡ true → Went {T = T} from to (Err e) old before → new ≡ entry.Call 1 nth (Some 0) it (outcome.Failed e) ∷ before → size_of (history old 0) ≡ size → LeftAlone u it (outcome.Failed e) old new
-  left-stopped (error.ReadFault page) nth old before new stop listed went placed same =
+  pub left-stopped : (T : Type 0) (e : CcError) (nth : ℕ) (old before new : List Entry) → IsStop e → may_refuse it e ≡ true → Went {T = T} from to (Err e) old before → new ≡ entry.Call 1 nth (Some 0) it (outcome.Failed e) ∷ before → size_of (history old 0) ≡ size → LeftAlone u it (outcome.Failed e) old new
+  left-stopped T (error.ReadFault page) nth old before new stop listed went placed same =
       left-faulted page nth old before new listed went placed same
-  left-stopped (error.TooLong limit) nth old before new stop listed went placed same = record {
+  left-stopped T (error.TooLong limit) nth old before new stop listed went placed same = record {
     left = inl (record {
       earlier = went.fills;
       placed = placed-fills _ nth old before new went placed same;
@@ -204,7 +202,7 @@ module _ (u : Setup) (it : Call) (size from to : ℕ) (of_first : file_of it ≡
     });
     alone = λ me other. placed-alone from to me nth it _ old before new other went placed;
   }
-  left-stopped (error.BeyondSize end) nth old before new stop listed went placed same = record {
+  left-stopped T (error.BeyondSize end) nth old before new stop listed went placed same = record {
     left = inl (record {
       earlier = went.fills;
       placed = placed-fills _ nth old before new went placed same;
@@ -213,7 +211,7 @@ module _ (u : Setup) (it : Call) (size from to : ℕ) (of_first : file_of it ≡
     });
     alone = λ me other. placed-alone from to me nth it _ old before new other went placed;
   }
-  left-stopped (error.BeyondValid end) nth old before new stop listed went placed same = record {
+  left-stopped T (error.BeyondValid end) nth old before new stop listed went placed same = record {
     left = inl (record {
       earlier = went.fills;
       placed = placed-fills _ nth old before new went placed same;
@@ -222,4 +220,4 @@ module _ (u : Setup) (it : Call) (size from to : ℕ) (of_first : file_of it ≡
     });
     alone = λ me other. placed-alone from to me nth it _ old before new other went placed;
   }
-  left-stopped e nth old before new stop listed went placed same = absurd stop
+  left-stopped T e nth old before new stop listed went placed same = absurd stop

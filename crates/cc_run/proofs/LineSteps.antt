@@ -1,10 +1,12 @@
 -- The lines of the first caller, one after the other.
-use Rattle.std.proofs.Common.{◌≡◌, ◌≢◌, ℕ, zero, suc, ◌<◌, Bool, true, false, cond, ◌==◌, List, [], ◌∷◌, ◌++◌, length, refl, sym, ◌∙◌, ap, arith, get_or, append_assoc, append-nil}
+use Rattle.std.proofs.Common.{◌≡◌, ℕ, zero, suc, ◌<◌, Bool, true, false, cond, List, [], ◌∷◌, ◌++◌, length, refl, sym, ◌∙◌, ap, arith, get_or, append_assoc, append-nil}
 use Rattle.std.specs.List.{AllByRecursion}
-use Rattle.std.proofs.lemmas.Bool.{eq-eqb}
 use Rattle.std.proofs.lemmas.List.{map-append, length-map}
+use Rattle.cc_entry.specs.declared.call.Call.{Call}
 use Rattle.cc_entry.specs.declared.error.CcError.{CcError}
 use Rattle.cc_entry.specs.declared.error.CcError.TheVariants as error
+use Rattle.cc_entry.specs.declared.reply.Reply.{Reply}
+use Rattle.cc_entry.specs.declared.reply.Outcome.TheVariants as outcome
 use Rattle.cc_entry.specs.declared.answer.Answer.{Answer}
 use Rattle.cc_entry.specs.declared.answer.Answer.TheVariants as answer
 use Rattle.cc_entry.specs.declared.answer.LineReply.{LineReply}
@@ -14,18 +16,32 @@ use Rattle.cc_script.specs.declared.script.Action.TheVariants as action
 use Rattle.cc_script.specs.declared.script.ActionLine.{ActionLine}
 use Rattle.cc_model.specs.Setup.{Setup}
 use Rattle.cc_effects.specs.Moments.{Others, IsIdle}
+use Rattle.cc_effects.specs.Calls.{CallLeft}
 use Rattle.cc_pieces.specs.Rooms.{HadNoRoom}
-use Rattle.cc_pieces.specs.Served.{bindings_after}
+use Rattle.cc_pieces.specs.Served.{Served, bindings_after}
 use Rattle.cc_pieces.specs.Runs.{Ran, asked_of}
 use Rattle.cc_pieces.specs.Phases.{is_of_phase}
-use Rattle.cc_run.specs.Fills.{HasRoom}
+use Rattle.cc_run.specs.Fills.{LeftAlone, HasRoom}
 use Rattle.cc_run.specs.Served.{IsServedLine}
 use Rattle.cc_run.specs.Lines.{Serves, ServedLines}
 
 -- a refusal that is not for want of room needs no reason of it
-pub had_no_room : (u : Setup) (limit : ℕ) (e : CcError) (old new : List Entry) → HasRoom e → HadNoRoom u limit (answer.Refused e) old new
+had_no_room : (u : Setup) (limit : ℕ) (e : CcError) (old new : List Entry) → HasRoom e → HadNoRoom u limit (answer.Refused e) old new
 had_no_room u limit (error.JournalFull entries) old new room = absurd room
 had_no_room u limit e old new room = tt
+
+-- a line whose call left what explains its answer
+pub serves-given : (u : Setup) (asked : Action) (it : Call) (reply : Reply) (old new : List Entry) → (CallLeft u 1 it (outcome.Done reply) old new → Served u 1 [] asked (answer.Given reply) old new) → LeftAlone u it (outcome.Done reply) old new → Serves u asked (answer.Given reply) old new
+serves-given u asked it reply old new served w = record {
+  explained = λ limit. record { served = served w.left; room = tt };
+  alone = w.alone;
+}
+
+pub serves-refused : (u : Setup) (asked : Action) (it : Call) (e : CcError) (old new : List Entry) → (CallLeft u 1 it (outcome.Failed e) old new → Served u 1 [] asked (answer.Refused e) old new) → HasRoom e → LeftAlone u it (outcome.Failed e) old new → Serves u asked (answer.Refused e) old new
+serves-refused u asked it e old new served room w = record {
+  explained = λ limit. record { served = served w.left; room = had_no_room u limit e old new room };
+  alone = w.alone;
+}
 
 pub idle-none : (me : ℕ) (past : List Entry) → IsIdle me past past
 idle-none me past = record { during = []; grew = refl; others = tt }

@@ -1,5 +1,5 @@
 -- The list of pages stands for its past once the first object was initialised.
-use Rattle.std.proofs.Common.{◌≡◌, ℕ, zero, suc, replicate, ◌/◌, ◌^◌, ◌≤◌, Bool, true, false, nat_lt, nat_le, List, [], ◌∷◌, reverse, refl, sym, arith, Option, Some, None}
+use Rattle.std.proofs.Common.{◌≡◌, ℕ, zero, suc, replicate, ◌/◌, ◌^◌, ◌≤◌, Bool, true, false, nat_lt, nat_le, List, [], ◌∷◌, reverse, refl, arith, Option, Some, None}
 use Rattle.std.proofs.lemmas.Bool.{lt-ltb, le-leb}
 use Rattle.cc_entry.specs.declared.call.Call.TheVariants as call
 use Rattle.cc_entry.specs.declared.reply.Reply.TheVariants as reply
@@ -45,7 +45,7 @@ opening_admitted u size valid below small =
     rw (first, second, third) refl
 
 pub stands-opened : {u : Setup} {told : Option Disk} (size valid : ℕ) (bytes : List ℕ) (resident dirty : List Bool) → valid ≤ size → size ≤ 4194304 → u.opening 0 ≡ opening_of told → ((p : ℕ) → flag_at resident p ≡ false) → ((p : ℕ) → flag_at dirty p ≡ false) → Stands u told size valid 0 bytes resident dirty (entry.Call 0 1 (Some 0) (call.Initialise first_object (record { allocation = size; size = size; valid = valid }) 16 false) (outcome.Done reply.Unit) ∷ [])
-unfolding history holds_of quota_of open_of content calls_of
+unfolding history objects had_map touched holds_of quota_of open_of content calls_of
 stands-opened {u = u} size valid bytes resident dirty below small opening clear clean =
     record {
       good = good-call u 0 1 (Some 0) (call.Initialise first_object (record { allocation = size; size = size; valid = valid }) 16 false) (outcome.Done reply.Unit) [] refl (opening_admitted u size valid below small, refl) (record {

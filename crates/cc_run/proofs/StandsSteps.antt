@@ -1,5 +1,5 @@
 -- The list of pages goes on standing for its past, over the entries that bring a page in.
-use Rattle.std.proofs.Common.{◌≡◌, ◌≢◌, ℕ, zero, suc, ◌+◌, ◌-◌, ◌*◌, ◌/◌, ◌%◌, ◌<◌, ◌≤◌, Bool, true, false, ◌||◌, not, ◌==◌, eqb, nat_lt, cond, if◌then◌else◌, List, [], ◌∷◌, length, map, refl, sym, ◌∙◌, ap, arith, set, slice_index, Option, Some}
+use Rattle.std.proofs.Common.{◌≡◌, ◌≢◌, ℕ, ◌+◌, ◌-◌, ◌*◌, ◌/◌, ◌%◌, ◌<◌, ◌≤◌, Bool, true, false, ◌||◌, ◌==◌, eqb, nat_lt, if◌then◌else◌, List, [], ◌∷◌, length, map, refl, sym, ◌∙◌, ap, arith, set, slice_index, Option, Some}
 use Rattle.std.specs.Set.{is_member}
 use Rattle.std.proofs.lemmas.List.{get_or-set_other}
 use Rattle.std.proofs.lemmas.Bool.{eqb-true, eq-eqb, ltb-true, ltb-false, le-ltb}

@@ -1,9 +1,10 @@
-use Rattle.std.proofs.Common.{◌≡◌, [], reverse, sym, ◌∙◌, arith, slice_get, Some}
-use Rattle.std.proofs.lemmas.Option.{get_or_from_slice_get}
+use Rattle.std.proofs.Common.{◌≡◌, [], reverse, refl, sym, ◌∙◌, ap, arith, length, slice_get, Some, None}
+use Rattle.std.specs.Option.{option_copied}
+use Rattle.std.proofs.lemmas.Option.{get_or_from_slice_get, slice_get_read}
 use Rattle.cc_run.proofs.Opening.{good-none}
 use Rattle.cc_run.proofs.Rows.{table-none}
 use Rattle.cc_run.proofs.DiskSteps.{unchanged-none, disks-same, risen-same, counted-same, disks-first, risen-first, counted-first, on_err}
-use Rattle.cc_run.proofs.Explained.{given-one, explained-none}
+use Rattle.cc_run.proofs.Explained.{given-one, explained-empty, one_stream, no_item}
 use Rattle.cc_run.proofs.top.run_script.Goals as goal
 
 pub returns-then-not-is_served-clause-kept : goal.returns-then-not-is_served-clause-kept
@@ -29,13 +30,19 @@ returns-in_default-clause-risen g c = risen-same _ _
 
 pub returns-in_default-clause-explained : goal.returns-in_default-clause-explained
 returns-in_default-clause-explained g c = λ u opening.
-    let given = given-one c.args.script.now (c.is_served.ensures.header c.if-is_served.true) in
-    rw (given, c.new-in_default.ensures.items, c.new-in_default-2.ensures.items) (explained-none u)
+    let given = given-one c.args.script.now (c.is_served.ensures.header c.if-not-is_served.false) in
+    let none : slice_get c.args.script.now.streams 0 ≡ None = rw c.as_slice.ensures.same at (sym c.first.ensures.value ∙ ap option_copied (no_item c.first.result c.in_default.not-Some)) in
+    let explained = explained-empty u c.args.script.now.streams c.args.script.now.lines (c.is_served.ensures.lines c.if-not-is_served.false) none in
+    rw (given, c.new.ensures.items, c.new-in_default.ensures.items) explained
 
 pub returns-clause-explained : goal.returns-clause-explained
 returns-clause-explained g c = λ u opening.
-    let given = given-one c.args.script.now (c.is_served.ensures.header c.if-is_served.true) in
-    rw given (c.in_ok-ran.ensures.explained u opening)
+    let given = given-one c.args.script.now (c.is_served.ensures.header c.if-not-is_served.false) in
+    let first : slice_get c.args.script.now.streams 0 ≡ Some c.in-Some.stream.now = rw c.as_slice.ensures.same at (sym c.first.ensures.value ∙ ap option_copied c.in-Some.is) in
+    let only = one_stream c.args.script.now.streams c.args.script.now.lines c.in-Some.stream.now (c.is_served.ensures.lines c.if-not-is_served.false) first in
+    let opened = opening c.index_mut.result.now (slice_get_read c.args.disks.now.items (length c.args.disks.now.items) 0 c.index_mut.result.now refl (omega (arith, ap length only)) c.index_mut.ensures.value) in
+    let explained = rw c.as_slice-2.ensures at (c.in_ok-ran.ensures.explained u opened) in
+    rw (given, only) explained
 
 pub returns-clause-disks : goal.returns-clause-disks
 returns-clause-disks g c =

@@ -1,4 +1,5 @@
 use Rattle.std.proofs.Common.{◌≡◌, ◌+◌, ◌∷◌, ◌∙◌, refl, true, min, suc, Some}
+use Rattle.cc_entry.specs.declared.bytes.Bytes.{Bytes}
 use Rattle.cc_entry.specs.declared.call.Call.TheVariants as call
 use Rattle.cc_entry.specs.declared.error.CcError.TheVariants as error
 use Rattle.cc_entry.specs.declared.reply.Reply.TheVariants as reply
@@ -57,7 +58,7 @@ returns-else-is_no_memory-clause-left g c = λ u s.
     let placed : c.place-in-Err.new.self.journal.entries ≡ entry.Call 1 (suc c.read.new.self.calls) (Some 0) (call.CopyRead first_object c.args.at c.args.len true) (outcome.Failed c.in-Err.error) ∷ c.read.new.self.journal.entries =
     c.place-in-Err.ensures.placed ∙ rw c.read_call-in-Err.ensures refl in
     left-stopped u (call.CopyRead first_object c.args.at c.args.len true) c.args.self.now.size c.args.at (min (c.args.at + c.args.len) c.args.self.now.size) refl refl refl refl (λ holds. refl)
-    c.in-Err.error (suc c.read.new.self.calls) _ _ _ stop.0 stop.1 (c.in-Err.ensures.filled u s) placed size
+    (Bytes × Bytes) c.in-Err.error (suc c.read.new.self.calls) _ _ _ stop.0 stop.1 (c.in-Err.ensures.filled u s) placed size
 
 pub returns-else-is_no_memory-clause-room : goal.returns-else-is_no_memory-clause-room
 returns-else-is_no_memory-clause-room g c =
