@@ -4,10 +4,9 @@ ghost use Rattle.std.specs.Prelude.{◌≡◌, ◌+◌, None};
 ghost use Rattle.cc_traits.specs.Stop.{faults_in, taken_in};
 
 use cc_traits::{Faults, Source, Stop};
-use std::fs;
 use std::fs::Files;
-use std::io;
 use std::io::Read;
+use std::{fs, io};
 
 /// Where a file is.
 pub trait Place: Drop {

@@ -77,13 +77,18 @@ fn files(rt: HostRuntime) -> Result<(), Fail> {
         let disk = disk(alloc, &[])?;
         let ended = status_of(alloc, &RUN, &mut source, &mut sink, Some(disk))?;
         let printed = text_of(alloc, &sink)?;
-        assert_eq!(rt; (ended, printed.as_str()), (status, text), "{chunk} {reads}");
+        assert_eq!(rt;
+            (ended, printed.as_str()),
+            (status, text),
+            "{chunk} {reads}"
+        );
     }
     Ok(())
 }
 
 /// A printer that takes at most `most` bytes a call and fails after so many calls. It keeps how far what it
 /// was given is the text that is expected.
+#[derive(Drop)]
 struct TestPrinter {
     expected: &'static [u8],
     most: usize,
@@ -148,7 +153,11 @@ fn printers(rt: HostRuntime) -> Result<(), Fail> {
         let disk = disk(alloc, &[])?;
         let mut source = source(alloc, row.script)?;
         let ended = status_of(alloc, &RUN, &mut source, &mut out, Some(disk))?;
-        assert_eq!(rt; (ended, printer.printed.get()), (status, printed), "{most} {calls}");
+        assert_eq!(rt;
+            (ended, printer.printed.get()),
+            (status, printed),
+            "{most} {calls}"
+        );
     }
     Ok(())
 }

@@ -59,7 +59,7 @@ fn wrong_words(rt: HostRuntime) -> Result<(), Fail> {
 }
 
 #[test]
-fn no_disk(rt: HostRuntime) -> Result<(), Fail> {
+fn too_few_disks(rt: HostRuntime) -> Result<(), Fail> {
     let alloc = rt.alloc();
     for (script, status, text) in [
         (SCRIPT, 7, "too few devices\n"),
@@ -67,7 +67,13 @@ fn no_disk(rt: HostRuntime) -> Result<(), Fail> {
         ("", 0, ""),
     ] {
         let mut sink = sink(alloc);
-        let ended = status_of(alloc, &RUN, &mut source(alloc, script)?, &mut sink, no_disk())?;
+        let ended = status_of(
+            alloc,
+            &RUN,
+            &mut source(alloc, script)?,
+            &mut sink,
+            no_disk(),
+        )?;
         let printed = text_of(alloc, &sink)?;
         assert_eq!(rt; (ended, printed.as_str()), (status, text), "{script}");
     }

@@ -104,6 +104,11 @@ served-more u lines line before after answer old between new served own serves =
     is_own : is_of_phase 1 1 line ≡ true
     is_own = rw (own.caller, own.phase) refl
 
+-- a fact of each element, and of one more
+pub all-more : {X : Type 0} (P : X → Type 0) (xs : List X) (x : X) → AllByRecursion P xs → P x → AllByRecursion P (xs ++ x ∷ [])
+all-more P [] x all one = (one, tt)
+all-more P (y ∷ ys) x all one = (all.0, all-more P ys x all.1 one)
+
 -- a fact of each element, of one
 pub all-at : {X : Type 0} (P : X → Type 0) (xs : List X) (i : ℕ) (d : X) → i < length xs → AllByRecursion P xs → P (get_or xs i d)
 all-at P [] i d low all = absurd (omega (arith, low))

@@ -11,18 +11,23 @@ use std::alloc::{AllocError, Global};
 pub fn devices(alloc: Global) -> Result<Vec<MemDisk>, AllocError>
     ensures { IfOk result (λ disks. disks.items ≡ replicate 16 new_disk) }
 {
-    let mut disks = Vec::new(alloc);
-    for _ in 0..16 {
-        let fails = DiskFails {
-            reads: Vec::new(alloc),
-            writes: Vec::new(alloc),
-            syncs: Vec::new(alloc),
-        };
-        disks
-            .push(MemDisk::new(alloc, 0x5A, fails))
-            .map_err(|_| AllocError)?;
+    let mut disks = Vec::with_capacity(alloc, 16)?;
+    for made in 0..16usize {
+        disks.push_reserved(device(alloc));
     }
     Ok(disks)
+}
+
+/// A disk with 5A in each byte, none of whose calls is to fail.
+fn device(alloc: Global) -> MemDisk
+    ensures { result ≡ new_disk }
+{
+    let fails = DiskFails {
+        reads: Vec::new(alloc),
+        writes: Vec::new(alloc),
+        syncs: Vec::new(alloc),
+    };
+    MemDisk::new(alloc, 0x5A, fails)
 }
 
 /// A log that a script can name.
