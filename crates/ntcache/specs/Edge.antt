@@ -1,5 +1,5 @@
 -- What the program hands to the top call: disks that nobody has used.
-use Rattle.std.specs.Prelude.{ℕ, [], None}
+use Rattle.std.specs.Prelude.{[], None}
 use Rattle.cc_memdev.specs.Devices.{DiskState}
 
 -- a disk in memory whose bytes are 5A and none of whose calls is to fail, as it is made
