@@ -1,0 +1,15 @@
+-- What the program hands to the top call: disks that nobody has used.
+use Rattle.std.specs.Prelude.{[], None}
+use Rattle.cc_memdev.specs.Devices.{DiskState}
+
+-- a disk in memory whose bytes are 5A and none of whose calls is to fail, as it is made
+abbrev pub new_disk : DiskState
+new_disk =
+    record {
+      disk = record { fill = 90; holds = []; may = [] };
+      reads = record { fails = []; made = 0 };
+      writes = record { fails = []; made = 0 };
+      syncs = record { fails = []; made = 0 };
+      stop = record { after = None; made = 0 };
+      faults = 0;
+    }
