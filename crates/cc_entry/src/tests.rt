@@ -101,7 +101,7 @@ fn bytes_are_their_longest_runs(rt: HostRuntime) -> Result<(), Fail> {
             count: 1,
         },
     ];
-    assert!(rt; bytes.runs() == runs.as_slice());
+    assert!(rt; bytes.runs().eq(runs));
     let plain = bytes.to_vec(rt.alloc())?;
     assert_eq!(rt;
         plain.as_slice(),
