@@ -1,4 +1,4 @@
-pub mod Pieces
+pub mod Words
 pub mod Answers
 pub mod Calls
 pub mod Entries

@@ -3,7 +3,7 @@
 ghost use Rattle.std.specs.Prelude.{◌≡◌, IfOk, string_bytes};
 ghost use Rattle.cc_print.specs.Text.{stamp_text, table_line};
 
-use crate::piece::page_text;
+use crate::words::page_text;
 use cc_entry::{Lsn, PageId};
 use cc_script::StreamLine;
 use std::alloc::{AllocError, Global};
