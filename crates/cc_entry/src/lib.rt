@@ -32,6 +32,3 @@ pub use place::{
 };
 pub use reply::{Outcome, Reply};
 pub use runs::{Run, Runs};
-
-#[cfg(test)]
-mod tests;

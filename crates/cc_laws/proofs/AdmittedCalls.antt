@@ -1,32 +1,20 @@
 -- Reasons that do not hold of a call that is done.
-use Rattle.std.specs.Prelude.{◌≡◌, ℕ, ◌*◌, ◌<◌, Bool, true, false, nat_le, List, [], ◌∷◌, refl}
+use Rattle.std.specs.Prelude.{◌≡◌, ℕ, ◌*◌, ◌<◌, nat_le, List}
 use Rattle.std.proofs.lemmas.Bool.{leb-false}
-use Rattle.std.specs.declared.option.Option.{Option}
-use Rattle.std.specs.declared.option.Option.TheVariants.{Some, None}
+use Rattle.std.specs.declared.option.Option.TheVariants.{None}
 use Rattle.cc_entry.specs.declared.call.Call.{Call}
 use Rattle.cc_entry.specs.declared.call.Call.TheVariants as call
 use Rattle.cc_entry.specs.declared.error.CcError.{CcError}
 use Rattle.cc_entry.specs.declared.entry.Entry.{Entry}
 use Rattle.cc_model.specs.Setup.{Setup}
 use Rattle.cc_model.specs.History.{Effect}
-use Rattle.cc_model.specs.Acts.{file_of}
-use Rattle.cc_model.specs.Holds.{holds_of}
-use Rattle.cc_model.specs.Touches.{size_of, valid_of}
-use Rattle.cc_model.specs.Ranges.{range_of}
-use Rattle.cc_model.specs.Reasons.{refuse_if, not_cached, cached_file, too_long, view_boundary, bad_sizes, bad_granularity, no_log, beyond_size, beyond_valid}
-use Rattle.cc_model.specs.Conflicts.{held, busy}
-use Rattle.cc_model.specs.Views.{viewed, no_views, no_vacbs, not_resident}
-use Rattle.cc_model.specs.Refusals.{first_of, refusal}
+use Rattle.cc_model.specs.Touches.{size_of}
+use Rattle.cc_model.specs.Reasons.{refuse_if, beyond_size}
+use Rattle.cc_model.specs.Conflicts.{held}
+use Rattle.cc_model.specs.Views.{no_vacbs}
+use Rattle.cc_model.specs.Refusals.{refusal}
 use Rattle.cc_model.specs.Legal.{IsAdmitted}
-
-abbrev EachNone : List (Option CcError) → Type 0
-EachNone [] = Unit {0}
-EachNone (o ∷ rest) = (o ≡ None) × EachNone rest
-
-first_none : (os : List (Option CcError)) → first_of os ≡ None → EachNone os
-first_none [] e = tt
-first_none (None ∷ rest) e = (refl, first_none rest e)
-first_none (Some x ∷ rest) e = absurd (cc)
+use Rattle.cc_laws.proofs.UnrefusedCalls.{unrefused, refuse_if-none}
 
 -- no page past the size, no open hold and no want of views bars the call
 pub record HasRoom (past : List Entry) (h : List Effect) (call : Call) : Type 0 where
@@ -35,26 +23,9 @@ pub record HasRoom (past : List Entry) (h : List Effect) (call : Call) : Type 0 
   pub in_pool : no_vacbs past h call ≡ None
 
 HasRoom-unrefused : (u : Setup) (past : List Entry) (h : List Effect) (call : Call) → refusal u past h call ≡ None → HasRoom past h call
-unfolding refusal
 HasRoom-unrefused u past h call e =
-    let each =
-    first_none
-    (not_cached h (cached_file call (file_of call))
-    ∷ too_long call
-    ∷ view_boundary call
-    ∷ bad_sizes h call
-    ∷ bad_granularity call
-    ∷ no_log u call
-    ∷ beyond_size (size_of h) call
-    ∷ beyond_valid (valid_of h) call
-    ∷ held h call
-    ∷ busy (holds_of h) call
-    ∷ no_views h (viewed h call (range_of (size_of h) call))
-    ∷ no_vacbs past h call
-    ∷ not_resident h call
-    ∷ [])
-    e in
-    record { within = each.1.1.1.1.1.1.0; unheld = each.1.1.1.1.1.1.1.1.0; in_pool = each.1.1.1.1.1.1.1.1.1.1.1.0 }
+    let free = unrefused u past h call e in
+    record { within = free.within_size; unheld = free.not_held; in_pool = free.within_pool }
 
 -- what a done call has room for; the end of a noncached write passed its tests at its store
 abbrev pub HasRoomFor : List Entry → List Effect → Call → Type 0
@@ -65,10 +36,6 @@ pub HasRoomFor-admitted : (u : Setup) (past : List Entry) (h : List Effect) (cal
 HasRoomFor-admitted u past h (call.NcWrite file page) e = tt
 HasRoomFor-admitted u past h other e = HasRoom-unrefused u past h other e
 
--- a reason that does not hold
-pub refuse_if-none : (b : Bool) (e : CcError) → refuse_if b e ≡ None → b ≡ false
-refuse_if-none true e is = absurd (cc)
-refuse_if-none false e is = refl
-
+-- a noncached store is of a page that begins below the size
 pub stores_below : (size page : ℕ) (e : CcError) → refuse_if (nat_le size (4096 * page)) e ≡ None → 4096 * page < size
 stores_below size page e is = leb-false size (4096 * page) (refuse_if-none (nat_le size (4096 * page)) e is)

@@ -6,25 +6,25 @@ use Rattle.std.proofs.lemmas.List.Folds.{list_any-append}
 use Rattle.std.proofs.lemmas.List.FromFn.{length-range_with_len}
 use Rattle.std.proofs.lemmas.Map.Made.{length-le_from_is_member}
 use Rattle.std.specs.Cmp.{nat_eq_equiv}
-use Rattle.std.specs.List.{range_with_len, IsDistinct, AllByRecursion}
+use Rattle.std.specs.List.{range_with_len, filter, IsDistinct, AllByRecursion}
 use Rattle.std.specs.Set.{distinct_count, is_member, unique_keys}
 use Rattle.cc_entry.specs.Pages.{block_of}
 use Rattle.cc_model.specs.Numbers.{is_among, placed, ascending}
 use Rattle.cc_laws.proofs.BlockLists.{same-flip}
 
 -- ascending lists keep each number once
-abbrev Above : ℕ → List ℕ → Type 0
+abbrev pub Above : ℕ → List ℕ → Type 0
 Above n ns = AllByRecursion (λ m. n < m) ns
 
-abbrev Rises : List ℕ → Type 0
+abbrev pub Rises : List ℕ → Type 0
 Rises [] = Unit {0}
 Rises (n ∷ ns) = Above n ns × Rises ns
 
-above-less : (k n : ℕ) (ns : List ℕ) → k < n → Above n ns → Above k ns
+pub above-less : (k n : ℕ) (ns : List ℕ) → k < n → Above n ns → Above k ns
 above-less k n [] less above = tt
 above-less k n (m ∷ ns) less above = let first : n < m = above.0 in (omega arith, above-less k n ns less above.1)
 
-above-placed : (k n : ℕ) (ns : List ℕ) → k < n → Above k ns → Above k (placed n ns)
+pub above-placed : (k n : ℕ) (ns : List ℕ) → k < n → Above k ns → Above k (placed n ns)
 above-placed k n [] less above = (less, tt)
 above-placed k n (m ∷ ns) less above = go (nat_lt n m) (m == n) (above-placed k n ns less above.1)
   where
@@ -33,7 +33,7 @@ above-placed k n (m ∷ ns) less above = go (nat_lt n m) (m == n) (above-placed 
     go false true rest = above
     go false false rest = (above.0, rest)
 
-rises-placed : (n : ℕ) (ns : List ℕ) → Rises ns → Rises (placed n ns)
+pub rises-placed : (n : ℕ) (ns : List ℕ) → Rises ns → Rises (placed n ns)
 rises-placed n [] rises = (tt, tt)
 rises-placed n (m ∷ ns) rises = go (nat_lt n m) refl (m == n) refl (rises-placed n ns rises.1)
   where
@@ -48,15 +48,31 @@ rises-placed n (m ∷ ns) rises = go (nat_lt n m) refl (m == n) refl (rises-plac
         below : (a b : ℕ) → a ≤ b → (a ≡ b → ⊥) → a < b
         below a b low apart = omega arith
 
-rises-ascending : (ns : List ℕ) → Rises (ascending ns)
+pub rises-ascending : (ns : List ℕ) → Rises (ascending ns)
 rises-ascending [] = tt
 rises-ascending (n ∷ ns) = rises-placed n (ascending ns) (rises-ascending ns)
 
-apart-above : (n : ℕ) (ns : List ℕ) → Above n ns → AllByRecursion (λ m. nat_eq n m ≡ false) ns
+pub above-filter : (test : ℕ → Bool) (k : ℕ) (ns : List ℕ) → Above k ns → Above k (filter test ns)
+above-filter test k [] above = tt
+above-filter test k (n ∷ ns) above = go (test n) (above-filter test k ns above.1)
+  where
+    go : (t : Bool) → Above k (filter test ns) → Above k (cond t (n ∷ filter test ns) (filter test ns))
+    go true rest = (above.0, rest)
+    go false rest = rest
+
+pub rises-filter : (test : ℕ → Bool) (ns : List ℕ) → Rises ns → Rises (filter test ns)
+rises-filter test [] rises = tt
+rises-filter test (n ∷ ns) rises = go (test n) (rises-filter test ns rises.1)
+  where
+    go : (t : Bool) → Rises (filter test ns) → Rises (cond t (n ∷ filter test ns) (filter test ns))
+    go true rest = (above-filter test n ns rises.0, rest)
+    go false rest = rest
+
+pub apart-above : (n : ℕ) (ns : List ℕ) → Above n ns → AllByRecursion (λ m. nat_eq n m ≡ false) ns
 apart-above n [] above = tt
 apart-above n (m ∷ ns) above = let less : n < m = above.0 in (ne_eqb n m (λ e. omega arith), apart-above n ns above.1)
 
-IsDistinct-rises : (ns : List ℕ) → Rises ns → IsDistinct nat_eq ns
+pub IsDistinct-rises : (ns : List ℕ) → Rises ns → IsDistinct nat_eq ns
 unfolding IsDistinct
 IsDistinct-rises [] rises = tt
 IsDistinct-rises (n ∷ ns) rises = (apart-above n ns rises.0, IsDistinct-rises ns rises.1)

@@ -2,8 +2,7 @@
 use Rattle.std.specs.Prelude.{◌≡◌, ℕ, ◌+◌, ◌-◌, ◌<◌, ◌≤◌, true, false, nat_lt, List, ◌∷◌, length, max, min, slice_index}
 use Rattle.std.specs.declared.option.Option.{Option}
 use Rattle.std.proofs.Common.{ap, sym, ◌∙◌, arith}
-use Rattle.std.proofs.lemmas.Bool.{lt-ltb, le-leb, le-ltb, and_from}
-use Rattle.cc_entry.specs.Place.{Range}
+use Rattle.std.proofs.lemmas.Bool.{lt-ltb, le-ltb}
 use Rattle.cc_entry.specs.declared.call.Call.{Call}
 use Rattle.cc_entry.specs.declared.reply.Reply.{Reply}
 use Rattle.cc_entry.specs.Pages.{has_byte}
@@ -11,18 +10,15 @@ use Rattle.cc_model.specs.History.{Effect, Did}
 use Rattle.cc_model.specs.Acts.{act_of, Resizes, Writes, Zeroes, Stamps, Looks}
 use Rattle.cc_model.specs.Touches.{valid_of}
 use Rattle.cc_model.specs.Bytes.{byte_of}
+use Rattle.cc_laws.proofs.CoveredBytes.{has_byte-between}
 use Rattle.cc_laws.proofs.SizeSteps.{sizes-writes, sizes-zeroes, sizes-looks, sizes-stamps, sizes-resizes}
 use Rattle.cc_laws.proofs.ByteSteps.{content-writes_covered, content-writes_past, content-zeroes_covered, content-zeroes_past, content-looks, content-stamps, byte_of-below, byte_of-above, byte_of-same}
-
--- a byte of a range is one from its beginning on and before its end
-has_byte-inside : (r : Range) (i : ℕ) → r.from ≤ i → i < r.to → has_byte r i ≡ true
-has_byte-inside r i from_on before = and_from _ _ (le-leb r.from i from_on) (lt-ltb i r.to before)
 
 -- each byte that a write gives reads as it was given
 pub byte_of-written : {at : ℕ} {bytes : List ℕ} (pages : ℕ → List ℕ) (pass : ℕ) (call : Call) (reply : Reply) (h : List Effect) (k : ℕ) → act_of call ≡ Writes at bytes → k < length bytes → byte_of pages (Did pass call reply ∷ h) (at + k) ≡ slice_index bytes k
 byte_of-written {at} {bytes} pages pass call reply h k is inside =
     byte_of-below pages (Did pass call reply ∷ h) (at + k) below
-    ∙ (content-writes_covered pages pass call reply h (at + k) is (has_byte-inside (record { from = at; to = at + length bytes }) (at + k) (omega arith) (omega arith))
+    ∙ (content-writes_covered pages pass call reply h (at + k) is (has_byte-between (record { from = at; to = at + length bytes }) (at + k) (omega arith) (omega arith))
     ∙ ap (slice_index bytes) offset)
   where
     offset : (at + k) - at ≡ k
@@ -50,7 +46,7 @@ byte_of-past_write {at} {bytes} pages pass call reply h i is valid past =
 pub byte_of-zeroed : {from to : ℕ} (pages : ℕ → List ℕ) (pass : ℕ) (call : Call) (reply : Reply) (h : List Effect) (i : ℕ) → act_of call ≡ Zeroes from to → from ≤ i → i < to → byte_of pages (Did pass call reply ∷ h) i ≡ 0
 byte_of-zeroed {from} {to} pages pass call reply h i is from_on before =
     byte_of-below pages (Did pass call reply ∷ h) i below
-    ∙ content-zeroes_covered pages pass call reply h i is (has_byte-inside (record { from = from; to = to }) i from_on before)
+    ∙ content-zeroes_covered pages pass call reply h i is (has_byte-between (record { from = from; to = to }) i from_on before)
   where
     reaches : i < max (valid_of h) to
     reaches = omega arith

@@ -1,17 +1,18 @@
 -- How the bytes of a stream step.
-use Rattle.std.specs.Prelude.{◌≡◌, ℕ, ◌+◌, ◌-◌, ◌*◌, Bool, true, false, nat_lt, List, ◌∷◌, length, slice_index, refl}
+use Rattle.std.specs.Prelude.{◌≡◌, ℕ, ◌+◌, ◌-◌, ◌*◌, ◌/◌, Bool, true, false, ◌&&◌, nat_lt, List, ◌∷◌, length, slice_index, refl}
 use Rattle.std.specs.declared.option.Option.{Option}
-use Rattle.cc_entry.specs.Place.{File}
+use Rattle.cc_entry.specs.Place.{File, Range}
 use Rattle.cc_entry.specs.declared.place.FileSizes.{FileSizes}
 use Rattle.cc_entry.specs.declared.call.Call.{Call}
 use Rattle.cc_entry.specs.declared.reply.Reply.{Reply}
 use Rattle.cc_entry.specs.declared.entry.End.{End}
 use Rattle.cc_model.specs.History.{Effect, Did, CameIn, WentOut, Began, Ended, Synced}
-use Rattle.cc_model.specs.Acts.{act_of, Opens, Closes, Resizes, Writes, Zeroes, Stores, Stamps, Looks}
+use Rattle.cc_model.specs.Acts.{act_of, Opens, Closes, Resizes, Writes, Zeroes, Stores, Stamps, Discards, Looks}
 use Rattle.cc_entry.specs.Pages.{has_byte}
 use Rattle.cc_model.specs.Sizes.{stored_range}
-use Rattle.cc_model.specs.Touches.{sizes, size_of, valid_of}
-use Rattle.cc_model.specs.Bytes.{content, byte_of}
+use Rattle.cc_model.specs.Ranges.{span_has}
+use Rattle.cc_model.specs.Touches.{sizes, size_of, valid_of, is_dirty}
+use Rattle.cc_model.specs.Bytes.{content, on_disk, byte_of}
 
 pub content-opens : (pages : ℕ → List ℕ) {file : File} {given : FileSizes} {quota : ℕ} {temporary : Bool} (pass : ℕ) (call : Call) (reply : Reply) (h : List Effect) (i : ℕ) → act_of call ≡ Opens file given quota temporary → content pages (Did pass call reply ∷ h) i ≡ content pages h i
 unfolding content
@@ -52,6 +53,14 @@ content-stores_past pages pass call reply h i is p0 = rw (is, p0, content) refl
 pub content-stamps : (pages : ℕ → List ℕ) {hold : ℕ} {lsn : Option ℕ} (pass : ℕ) (call : Call) (reply : Reply) (h : List Effect) (i : ℕ) → act_of call ≡ Stamps hold lsn → content pages (Did pass call reply ∷ h) i ≡ content pages h i
 unfolding content
 content-stamps pages pass call reply h i is = rw (is, content) refl
+
+pub content-discards_dirty : (pages : ℕ → List ℕ) {span : Option Range} (pass : ℕ) (call : Call) (reply : Reply) (h : List Effect) (i : ℕ) → act_of call ≡ Discards span → (span_has span (i / 4096) && is_dirty h (i / 4096)) ≡ true → content pages (Did pass call reply ∷ h) i ≡ on_disk pages false h i
+unfolding content
+content-discards_dirty pages pass call reply h i is p0 = rw (is, p0, content) refl
+
+pub content-discards_kept : (pages : ℕ → List ℕ) {span : Option Range} (pass : ℕ) (call : Call) (reply : Reply) (h : List Effect) (i : ℕ) → act_of call ≡ Discards span → (span_has span (i / 4096) && is_dirty h (i / 4096)) ≡ false → content pages (Did pass call reply ∷ h) i ≡ content pages h i
+unfolding content
+content-discards_kept pages pass call reply h i is p0 = rw (is, p0, content) refl
 
 pub content-looks : (pages : ℕ → List ℕ) (pass : ℕ) (call : Call) (reply : Reply) (h : List Effect) (i : ℕ) → act_of call ≡ Looks → content pages (Did pass call reply ∷ h) i ≡ content pages h i
 unfolding content

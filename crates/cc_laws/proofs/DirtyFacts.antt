@@ -10,10 +10,11 @@ use Rattle.cc_entry.specs.declared.entry.End.{End}
 use Rattle.cc_entry.specs.Pages.{has_page, pages_of}
 use Rattle.cc_model.specs.Numbers.{is_empty, is_among}
 use Rattle.cc_model.specs.History.{Effect, Did, CameIn, WentOut, Began, Ended, Synced}
-use Rattle.cc_model.specs.Acts.{Act, act_of, Opens, Closes, Resizes, Writes, Zeroes, Stores, Stamps, Looks}
+use Rattle.cc_model.specs.Acts.{Act, act_of, Opens, Closes, Resizes, Writes, Zeroes, Stores, Stamps, Discards, Looks}
 use Rattle.cc_model.specs.Objects.{objects, truncation}
 use Rattle.cc_model.specs.Holds.{Hold, range_held, hold_at, holds_of}
-use Rattle.cc_model.specs.Sizes.{Touch, touched_if, cut_if, hold_has, hold_pages, stored_range, ended_ok}
+use Rattle.cc_model.specs.Sizes.{Touch, touched_if, cut_if, dropped_if, hold_has, hold_pages, stored_range, ended_ok}
+use Rattle.cc_model.specs.Ranges.{span_has}
 use Rattle.cc_model.specs.Touches.{touched, touches, unwritten, is_dirty, size_of, is_mapped}
 use Rattle.cc_model.specs.Residency.{is_resident}
 use Rattle.cc_laws.proofs.ActSteps.{touched_by, touched-done, touches_by, touches-done}
@@ -30,6 +31,10 @@ cut-kept (Some to) p ts left = go (nat_le to (4096 * p)) refl left
     go : (t : Bool) → nat_le to (4096 * p) ≡ t → is_empty (cond t [] ts) ≡ false → (is_empty ts ≡ false) × (nat_le to (4096 * p) ≡ false)
     go true is it = absurd (cc)
     go false is it = (it, is)
+
+dropped-kept : (dropped : Bool) (ts : List Touch) → is_empty (dropped_if dropped ts) ≡ false → (is_empty ts ≡ false) × (dropped ≡ false)
+dropped-kept true ts left = absurd (cc)
+dropped-kept false ts left = (left, refl)
 
 touched-cases : {P : Type 0} (b : Bool) (place : ℕ) (lsn : Option ℕ) (ts : List Touch) → is_empty (touched_if b place lsn ts) ≡ false → (b ≡ true → P) → (is_empty ts ≡ false → P) → P
 touched-cases true place lsn ts left here before = here refl
@@ -72,6 +77,7 @@ act-touched ended (Stamps hold lsn) h p rest left =
     touched-cases (hold_has (hold_at (holds_of h) hold) p) (suc (length h)) lsn (touches ended h p) left
     (λ has. among-append_left p (hold_pages (hold_at (holds_of h) hold)) (touched h) (hold-among (hold_at (holds_of h) hold) p has))
     (λ it. among-append_right p (hold_pages (hold_at (holds_of h) hold)) (touched h) (rest it))
+act-touched ended (Discards span) h p rest left = rest (dropped-kept (span_has span p) (touches ended h p) left).0
 act-touched ended Looks h p rest left = rest left
 
 -- a page with a touch that is neither written nor cut was touched
@@ -119,6 +125,11 @@ act-fewer (Writes at bytes) h p rest left = fewer-touched (has_page (record { fr
 act-fewer (Zeroes from to) h p rest left = fewer-touched (has_page (record { from = from; to = to }) p) (suc (length h)) None (touches true h p) (touches false h p) rest left
 act-fewer (Stores page bytes) h p rest left = fewer-touched (has_page (stored_range page (size_of h)) p) (suc (length h)) None (touches true h p) (touches false h p) rest left
 act-fewer (Stamps hold lsn) h p rest left = fewer-touched (hold_has (hold_at (holds_of h) hold) p) (suc (length h)) lsn (touches true h p) (touches false h p) rest left
+act-fewer (Discards span) h p rest left = go (span_has span p) left
+  where
+    go : (t : Bool) → is_empty (dropped_if t (touches true h p)) ≡ false → is_empty (dropped_if t (touches false h p)) ≡ false
+    go true it = it
+    go false it = rest it
 act-fewer Looks h p rest left = rest left
 
 -- what is unwritten after a good end was so before it
@@ -193,6 +204,9 @@ done-dirty pass call reply h p safe rest dirty = go (act_of call) refl left
     go (Stamps hold lsn) is it =
         stays (Stamps hold lsn) is refl
         (touched-cases (hold_has (hold_at (holds_of h) hold) p) (suc (length h)) lsn (unwritten h p) (rw is at it) (stamped hold (hold_at (holds_of h) hold) refl) rest)
+    go (Discards span) is it =
+        let kept = dropped-kept (span_has span p) (unwritten h p) (rw is at it) in
+        stays (Discards span) is kept.1 (rest kept.0)
     go Looks is it = stays Looks is refl (rest (rw is at it))
 
 dirty-first : (p : ℕ) → is_dirty [] p ≡ true → is_resident [] p ≡ true

@@ -1,12 +1,11 @@
 -- The dirty pages of all streams are at most as many as the pages of the pool of views.
 use Rattle.std.specs.Prelude.{◌≡◌, ℕ, zero, suc, ◌+◌, ◌*◌, ◌≤◌, Bool, true, false, nat_eq, List, refl}
 use Rattle.std.proofs.Common.{sym, ◌∙◌, arith}
-use Rattle.std.proofs.lemmas.Bool.{and_parts}
 use Rattle.std.proofs.lemmas.List.Sums.{sum_by-cons}
 use Rattle.std.specs.List.{sum_by, range_with_len}
 use Rattle.std.specs.Set.{is_member}
 use Rattle.cc_entry.specs.declared.entry.Entry.{Entry}
-use Rattle.cc_model.specs.Numbers.{is_among, ascending}
+use Rattle.cc_model.specs.Numbers.{ascending}
 use Rattle.cc_model.specs.Setup.{Setup}
 use Rattle.cc_model.specs.History.{Effect, history}
 use Rattle.cc_model.specs.Touches.{touched, is_dirty, dirty_pages, is_mapped}
@@ -16,13 +15,11 @@ use Rattle.cc_model.specs.Cache.{views_of, views_taken, dirty_count, dirty_total
 use Rattle.cc_model.specs.Good.{IsGoodSoFar}
 use Rattle.cc_laws.specs.Facts.{IsWithinLimits}
 use Rattle.cc_laws.proofs.ResidencySteps.{residents-unmapped}
-use Rattle.cc_laws.proofs.BlockLists.{is_among-filter, IsDistinct-filter}
+use Rattle.cc_laws.proofs.BlockLists.{IsDistinct-filter}
+use Rattle.cc_laws.proofs.DirtyAmong.{dirty_pages-dirty}
 use Rattle.cc_laws.proofs.BlockPages.{IsDistinct-ascending, is_member-among, length-within_blocks}
 use Rattle.cc_laws.proofs.SoundFacts.{dirty_resident-good, within_quota-good}
 use Rattle.cc_laws.proofs.ViewsTaken.{views_of-mapped, views_taken-good}
-
-pub dirty_pages-dirty : (h : List Effect) (q : ℕ) → is_among q (dirty_pages h) ≡ true → is_dirty h q ≡ true
-dirty_pages-dirty h q is = (and_parts (is_among q (ascending (touched h))) (is_dirty h q) (sym (is_among-filter (is_dirty h) q (ascending (touched h))) ∙ is)).1
 
 dirty_count-blocks : (h : List Effect) → ((p : ℕ) → is_dirty h p ≡ true → is_resident h p ≡ true) → dirty_count h ≤ 64 * mapped_blocks h
 dirty_count-blocks h resident = length-within_blocks (dirty_pages h) (residents h) (IsDistinct-filter (is_dirty h) (ascending (touched h)) (IsDistinct-ascending (touched h))) each

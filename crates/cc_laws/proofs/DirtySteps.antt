@@ -1,20 +1,23 @@
 -- How it steps whether a page is dirty.
+--
+-- It waits for `cc_book`, the book of a stream, which keeps a row for each dirty page.
 use Rattle.std.specs.Prelude.{◌≡◌, ℕ, ◌+◌, ◌*◌, Bool, true, false, ◌==◌, nat_le, List, ◌∷◌, length, refl}
 use Rattle.std.specs.declared.option.Option.{Option}
 use Rattle.std.specs.declared.option.Option.TheVariants.{Some, None}
-use Rattle.cc_entry.specs.Place.{File}
+use Rattle.cc_entry.specs.Place.{File, Range}
 use Rattle.cc_entry.specs.declared.place.FileSizes.{FileSizes}
 use Rattle.cc_entry.specs.declared.call.Call.{Call}
 use Rattle.cc_entry.specs.declared.reply.Reply.{Reply}
 use Rattle.cc_entry.specs.declared.entry.End.{End}
 use Rattle.cc_model.specs.History.{Effect, Did, CameIn, WentOut, Began, Ended, Synced}
-use Rattle.cc_model.specs.Acts.{act_of, Opens, Closes, Resizes, Writes, Zeroes, Stores, Stamps, Looks}
+use Rattle.cc_model.specs.Acts.{act_of, Opens, Closes, Resizes, Writes, Zeroes, Stores, Stamps, Discards, Looks}
 use Rattle.cc_entry.specs.Pages.{has_page}
 use Rattle.cc_model.specs.Holds.{holds_of, hold_at}
 use Rattle.cc_model.specs.Objects.{objects, truncation}
 use Rattle.cc_model.specs.Sizes.{hold_has, stored_range, ended_ok}
+use Rattle.cc_model.specs.Ranges.{span_has}
 use Rattle.cc_model.specs.Touches.{size_of, is_dirty}
-use Rattle.cc_laws.proofs.TouchSteps.{touches-opens, touches-closes, touches-resizes, touches-writes, touches-zeroes, touches-stores, touches-stamps, touches-looks, touches-came_in, touches-went_out, touches-began_open, touches-ended_bad, touches-ended_other, touches-synced}
+use Rattle.cc_laws.proofs.TouchSteps.{touches-opens, touches-closes, touches-resizes, touches-writes, touches-zeroes, touches-stores, touches-stamps, touches-discards, touches-looks, touches-came_in, touches-went_out, touches-began_open, touches-ended_bad, touches-ended_other, touches-synced}
 
 pub is_dirty-opens : {file : File} {given : FileSizes} {quota : ℕ} {temporary : Bool} (pass : ℕ) (call : Call) (reply : Reply) (h : List Effect) (p : ℕ) → act_of call ≡ Opens file given quota temporary → is_dirty (Did pass call reply ∷ h) p ≡ is_dirty h p
 is_dirty-opens pass call reply h p is = rw (touches-opens false pass call reply h p is, is_dirty) refl
@@ -57,6 +60,12 @@ is_dirty-stamps_on pass call reply h p is p0 = rw (touches-stamps false pass cal
 
 pub is_dirty-stamps_off : {hold : ℕ} {lsn : Option ℕ} (pass : ℕ) (call : Call) (reply : Reply) (h : List Effect) (p : ℕ) → act_of call ≡ Stamps hold lsn → hold_has (hold_at (holds_of h) hold) p ≡ false → is_dirty (Did pass call reply ∷ h) p ≡ is_dirty h p
 is_dirty-stamps_off pass call reply h p is p0 = rw (touches-stamps false pass call reply h p is, p0, is_dirty) refl
+
+pub is_dirty-discards_on : {span : Option Range} (pass : ℕ) (call : Call) (reply : Reply) (h : List Effect) (p : ℕ) → act_of call ≡ Discards span → span_has span p ≡ true → is_dirty (Did pass call reply ∷ h) p ≡ false
+is_dirty-discards_on pass call reply h p is p0 = rw (touches-discards false pass call reply h p is, p0, is_dirty) refl
+
+pub is_dirty-discards_off : {span : Option Range} (pass : ℕ) (call : Call) (reply : Reply) (h : List Effect) (p : ℕ) → act_of call ≡ Discards span → span_has span p ≡ false → is_dirty (Did pass call reply ∷ h) p ≡ is_dirty h p
+is_dirty-discards_off pass call reply h p is p0 = rw (touches-discards false pass call reply h p is, p0, is_dirty) refl
 
 pub is_dirty-looks : (pass : ℕ) (call : Call) (reply : Reply) (h : List Effect) (p : ℕ) → act_of call ≡ Looks → is_dirty (Did pass call reply ∷ h) p ≡ is_dirty h p
 is_dirty-looks pass call reply h p is = rw (touches-looks false pass call reply h p is, is_dirty) refl

@@ -6,13 +6,13 @@ use Rattle.std.specs.declared.option.Option.TheVariants.{Some, None}
 use Rattle.cc_entry.specs.declared.call.Call.{Call}
 use Rattle.cc_entry.specs.declared.reply.Reply.{Reply}
 use Rattle.cc_model.specs.History.{Effect, Did, CameIn, WentOut, Began, Ended, Synced}
-use Rattle.cc_model.specs.Acts.{Act, act_of, Opens, Closes, Resizes, Writes, Zeroes, Stores, Stamps, Looks}
+use Rattle.cc_model.specs.Acts.{Act, act_of, Opens, Closes, Resizes, Writes, Zeroes, Stores, Stamps, Discards, Looks}
 use Rattle.cc_model.specs.Objects.{objects, had_map}
 use Rattle.cc_model.specs.Holds.{holds_of, held_after, id_of}
 use Rattle.cc_model.specs.Touches.{touches, is_dirty}
 use Rattle.cc_model.specs.Bytes.{content}
 use Rattle.cc_model.specs.Images.{open_of, begun, image}
-use Rattle.cc_laws.proofs.ObjectSteps.{objects-looks, had_map-opens, had_map-closes, had_map-resizes, had_map-writes, had_map-zeroes, had_map-stores, had_map-stamps, had_map-looks}
+use Rattle.cc_laws.proofs.ObjectSteps.{objects-looks, had_map-opens, had_map-closes, had_map-resizes, had_map-writes, had_map-zeroes, had_map-stores, had_map-stamps, had_map-discards, had_map-looks}
 use Rattle.cc_laws.proofs.TouchSteps.{touches-looks}
 use Rattle.cc_laws.proofs.ByteSteps.{content-opens, content-looks}
 use Rattle.cc_laws.proofs.Steady.{needs_no_map, IsSteadyCall, IsSteady}
@@ -45,12 +45,7 @@ IsFirst-done pass call reply h steady first never = go (act_of call) refl (stead
     go : (a : Act) → act_of call ≡ a → needs_no_map (act_of call) ≡ true → IsFirst (Did pass call reply ∷ h)
     go (Opens file given quota temporary) is fits = absurd (cc (had_map-opens pass call reply h is))
     go Looks is fits = IsFirst-looks pass call reply h is steady first
-    go (Closes file truncate) is fits = absurd (cc (ap needs_no_map is))
-    go (Resizes allocation size) is fits = absurd (cc (ap needs_no_map is))
-    go (Writes at bytes) is fits = absurd (cc (ap needs_no_map is))
-    go (Zeroes from to) is fits = absurd (cc (ap needs_no_map is))
-    go (Stores page bytes) is fits = absurd (cc (ap needs_no_map is))
-    go (Stamps hold lsn) is fits = absurd (cc (ap needs_no_map is))
+    go other is fits = absurd (cc (ap needs_no_map is))
 
 -- a call that may be done before the first map changes no content
 pub content-first : (pages : ℕ → List ℕ) (pass : ℕ) (call : Call) (reply : Reply) (h : List Effect) (i : ℕ) → IsSteadyCall h call → IsFirst h → content pages (Did pass call reply ∷ h) i ≡ content pages h i
@@ -59,12 +54,7 @@ content-first pages pass call reply h i steady first = go (act_of call) refl (st
     go : (a : Act) → act_of call ≡ a → needs_no_map (act_of call) ≡ true → content pages (Did pass call reply ∷ h) i ≡ content pages h i
     go (Opens file given quota temporary) is fits = content-opens pages pass call reply h i is
     go Looks is fits = content-looks pages pass call reply h i is
-    go (Closes file truncate) is fits = absurd (cc (ap needs_no_map is))
-    go (Resizes allocation size) is fits = absurd (cc (ap needs_no_map is))
-    go (Writes at bytes) is fits = absurd (cc (ap needs_no_map is))
-    go (Zeroes from to) is fits = absurd (cc (ap needs_no_map is))
-    go (Stores page bytes) is fits = absurd (cc (ap needs_no_map is))
-    go (Stamps hold lsn) is fits = absurd (cc (ap needs_no_map is))
+    go other is fits = absurd (cc (ap needs_no_map is))
 
 -- a stream that has no map after a call had none before it
 never_before : (pass : ℕ) (call : Call) (reply : Reply) (h : List Effect) → had_map (Did pass call reply ∷ h) ≡ false → had_map h ≡ false
@@ -78,6 +68,7 @@ never_before pass call reply h never = go (act_of call) refl
     go (Zeroes from to) is = sym (had_map-zeroes pass call reply h is) ∙ never
     go (Stores page bytes) is = sym (had_map-stores pass call reply h is) ∙ never
     go (Stamps hold lsn) is = sym (had_map-stamps pass call reply h is) ∙ never
+    go (Discards span) is = sym (had_map-discards pass call reply h is) ∙ never
     go Looks is = sym (had_map-looks pass call reply h is) ∙ never
 
 clean : (h : List Effect) (p : ℕ) → touches false h p ≡ [] → is_dirty h p ≡ true → ⊥

@@ -1,4 +1,6 @@
 -- How it steps whether a flush is done.
+--
+-- It waits for `cc_flush`, whose last step places the entry of a flush.
 use Rattle.std.specs.Prelude.{◌≡◌, ℕ, true, false, ◌==◌, List, ◌∷◌, length, refl}
 use Rattle.std.specs.declared.option.Option.{Option}
 use Rattle.cc_entry.specs.Place.{Range}

@@ -11,13 +11,13 @@ use Rattle.cc_entry.specs.declared.reply.Reply.{Reply}
 use Rattle.cc_entry.specs.Pages.{has_page}
 use Rattle.cc_model.specs.Numbers.{is_empty}
 use Rattle.cc_model.specs.History.{Effect, Did, CameIn, WentOut, Began, Ended, Synced}
-use Rattle.cc_model.specs.Acts.{Act, act_of, Opens, Closes, Resizes, Writes, Zeroes, Stores, Stamps, Looks}
+use Rattle.cc_model.specs.Acts.{Act, act_of, Opens, Closes, Resizes, Writes, Zeroes, Stores, Stamps, Discards, Looks}
 use Rattle.cc_model.specs.Objects.{objects}
 use Rattle.cc_model.specs.Holds.{Hold, hold_at, changed_at, repinned, id_of, held_after, holds_of}
 use Rattle.cc_model.specs.Touches.{size_of}
 use Rattle.cc_model.specs.Residency.{is_resident}
 use Rattle.cc_laws.proofs.HoldSteps.{changes_holds, holds_of-done, holds_of-other, holds_of-came_in, holds_of-went_out, holds_of-began, holds_of-ended, holds_of-synced}
-use Rattle.cc_laws.proofs.ObjectSteps.{objects-opens, objects-closes, objects-resizes, objects-writes, objects-zeroes, objects-stores, objects-stamps, objects-looks, objects-came_in, objects-went_out, objects-began, objects-ended, objects-synced}
+use Rattle.cc_laws.proofs.ObjectSteps.{objects-opens, objects-closes, objects-resizes, objects-writes, objects-zeroes, objects-stores, objects-stamps, objects-discards, objects-looks, objects-came_in, objects-went_out, objects-began, objects-ended, objects-synced}
 use Rattle.cc_laws.proofs.Lists1.{any-found}
 use Rattle.cc_laws.proofs.SafeHistory.{MayHold, IsHoldSafe, IsSafe}
 
@@ -84,6 +84,7 @@ is_still (Stores page bytes) = true
 is_still (Writes at bytes) = false
 is_still (Zeroes from to) = false
 is_still (Stamps hold lsn) = false
+is_still (Discards span) = true
 is_still Looks = false
 
 still-unchanged : (call : Call) → is_still (act_of call) ≡ true → changes_holds call ≡ false
@@ -162,6 +163,7 @@ no-holds (Did pass call reply ∷ h) safe empty = go (act_of call) refl (no-hold
     go (Zeroes from to) is none = moved (objects-zeroes pass call reply h is) none
     go (Stores page bytes) is none = moved (objects-stores pass call reply h is) none
     go (Stamps hold lsn) is none = moved (objects-stamps pass call reply h is) none
+    go (Discards span) is none = moved (objects-discards pass call reply h is) none
     go Looks is none = moved (objects-looks pass call reply h is) none
 no-holds (CameIn pass page from_disk ∷ h) safe empty = rw (holds_of-came_in pass page from_disk h) (no-holds h safe.1 (rw (objects-came_in pass page from_disk h) at empty))
 no-holds (WentOut pass page ∷ h) safe empty = rw (holds_of-went_out pass page h) (no-holds h safe.1 (rw (objects-went_out pass page h) at empty))

@@ -1,7 +1,7 @@
--- A call that leaves nothing of its own in a page leaves the page's bytes, and raises the valid data
--- length over none of them.
-use Rattle.std.specs.Prelude.{◌≡◌, ℕ, suc, ◌+◌, ◌*◌, ◌<◌, ◌≤◌, Bool, true, false, nat_le, List, [], ◌∷◌, length, max, refl}
-use Rattle.std.proofs.Common.{arith, sym, subst, ◌∙◌}
+-- A call that neither discards a page nor leaves anything of its own in it leaves the page's bytes, and
+-- raises the valid data length over none of them.
+use Rattle.std.specs.Prelude.{◌≡◌, ℕ, suc, ◌+◌, ◌*◌, ◌/◌, ◌<◌, ◌≤◌, Bool, true, false, ◌&&◌, nat_le, List, [], ◌∷◌, length, max, refl}
+use Rattle.std.proofs.Common.{arith, ap, sym, subst, ◌∙◌}
 use Rattle.std.proofs.lemmas.Bool.{leb-true}
 use Rattle.std.specs.declared.option.Option.{Option}
 use Rattle.std.specs.declared.option.Option.TheVariants.{Some, None}
@@ -10,16 +10,18 @@ use Rattle.cc_entry.specs.declared.place.FileSizes.{FileSizes}
 use Rattle.cc_entry.specs.declared.call.Call.{Call}
 use Rattle.cc_entry.specs.declared.reply.Reply.{Reply}
 use Rattle.cc_model.specs.History.{Effect, Did}
-use Rattle.cc_model.specs.Acts.{Act, act_of, Opens, Closes, Resizes, Writes, Zeroes, Stores, Stamps, Looks}
+use Rattle.cc_model.specs.Acts.{Act, act_of, Opens, Closes, Resizes, Writes, Zeroes, Stores, Stamps, Discards, Looks}
 use Rattle.cc_entry.specs.Pages.{has_byte, has_page}
 use Rattle.cc_model.specs.Objects.{objects, had_map, truncation}
 use Rattle.cc_model.specs.Holds.{holds_of, hold_at}
-use Rattle.cc_model.specs.Sizes.{Sizes, resized_by, stored_range, touched_if, cut_if, hold_has}
-use Rattle.cc_model.specs.Touches.{sizes, touches, size_of, valid_of, is_mapped}
+use Rattle.cc_model.specs.Sizes.{Sizes, resized_by, stored_range, touched_if, cut_if, dropped_if, hold_has}
+use Rattle.cc_model.specs.Ranges.{span_has}
+use Rattle.cc_model.specs.Touches.{sizes, touches, size_of, valid_of, is_dirty, is_mapped}
 use Rattle.cc_model.specs.Bytes.{content}
-use Rattle.cc_laws.proofs.SizeSteps.{sizes-opens_mapped, sizes-opens_anew, sizes-closes, sizes-resizes, sizes-writes, sizes-zeroes, sizes-stores, sizes-stamps, sizes-looks}
-use Rattle.cc_laws.proofs.TouchSteps.{touches-opens, touches-closes, touches-resizes, touches-writes, touches-zeroes, touches-stores, touches-stamps, touches-looks}
-use Rattle.cc_laws.proofs.ByteSteps.{content-opens, content-closes, content-resizes, content-writes_past, content-zeroes_past, content-stores_past, content-stamps, content-looks}
+use Rattle.cc_laws.specs.ByPlaces.{act_discards}
+use Rattle.cc_laws.proofs.SizeSteps.{sizes-opens_mapped, sizes-opens_anew, sizes-closes, sizes-resizes, sizes-writes, sizes-zeroes, sizes-stores, sizes-stamps, sizes-discards, sizes-looks}
+use Rattle.cc_laws.proofs.TouchSteps.{touches-opens, touches-closes, touches-resizes, touches-writes, touches-zeroes, touches-stores, touches-stamps, touches-discards, touches-looks}
+use Rattle.cc_laws.proofs.ByteSteps.{content-opens, content-closes, content-resizes, content-writes_past, content-zeroes_past, content-stores_past, content-stamps, content-discards_kept, content-looks}
 use Rattle.cc_laws.proofs.Steady.{BeginsWithin, ComesBackWithin, IsSteadyCall}
 use Rattle.cc_laws.proofs.CoveredBytes.{IsUncovered-page, IsUntouched-none}
 
@@ -121,6 +123,19 @@ module _ (pages : ℕ → List ℕ) (ended : Bool) (pass : ℕ) (call : Call) (r
         same = content-stamps pages pass call reply h i is;
       }
 
+  kept-discards : (span : Option Range) → act_of call ≡ Discards span → span_has span p ≡ false → IsKeptByte pages ended (Did pass call reply) h p i
+  kept-discards span is apart =
+      record {
+        kept = record {
+          clean = sym (touches-discards ended pass call reply h p is ∙ ap (λ b. dropped_if b (touches ended h p)) apart) ∙ none;
+          below = below_as (sizes h) (sizes-discards pass call reply h is);
+        };
+        same = content-discards_kept pages pass call reply h i is (aside (i / 4096) (omega arith));
+      }
+    where
+      aside : (q : ℕ) → q ≡ p → (span_has span q && is_dirty h q) ≡ false
+      aside q same = ap (λ b. b && is_dirty h q) (ap (span_has span) same ∙ apart)
+
   kept-looks : act_of call ≡ Looks → IsKeptByte pages ended (Did pass call reply) h p i
   kept-looks is =
       record {
@@ -131,8 +146,8 @@ module _ (pages : ℕ → List ℕ) (ended : Bool) (pass : ℕ) (call : Call) (r
         same = content-looks pages pass call reply h i is;
       }
 
-  pub IsKeptByte-done : IsSteadyCall h call → had_map h ≡ true → IsKeptByte pages ended (Did pass call reply) h p i
-  IsKeptByte-done steady had = go (act_of call) refl steady.within steady.back
+  pub IsKeptByte-done : IsSteadyCall h call → had_map h ≡ true → act_discards (act_of call) p ≡ false → IsKeptByte pages ended (Did pass call reply) h p i
+  IsKeptByte-done steady had apart = go (act_of call) refl steady.within steady.back
     where
       go : (a : Act) → act_of call ≡ a → BeginsWithin (valid_of h) a → ComesBackWithin h a → IsKeptByte pages ended (Did pass call reply) h p i
       go (Opens file given quota temporary) is within back = kept-opens file given quota temporary is (λ m. back m had)
@@ -142,4 +157,5 @@ module _ (pages : ℕ → List ℕ) (ended : Bool) (pass : ℕ) (call : Call) (r
       go (Zeroes from to) is within back = kept-zeroes from to is within
       go (Stores page bytes) is within back = kept-stores page bytes is within
       go (Stamps hold lsn) is within back = kept-stamps hold lsn is
+      go (Discards span) is within back = kept-discards span is (sym (ap (λ a. act_discards a p) is) ∙ apart)
       go Looks is within back = kept-looks is

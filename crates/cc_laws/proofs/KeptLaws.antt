@@ -1,15 +1,16 @@
 -- What a sync, and what entries without the book or the disk of a stream, keep of it.
-use Rattle.std.specs.Prelude.{◌≡◌, ℕ, true, List, ◌∷◌, ◌++◌}
+use Rattle.std.specs.Prelude.{◌≡◌, ℕ, true, false, List, ◌∷◌, ◌++◌}
 use Rattle.cc_entry.specs.declared.entry.End.{End}
 use Rattle.cc_entry.specs.declared.entry.Entry.{Entry}
 use Rattle.cc_model.specs.History.{Effect, Synced, history}
 use Rattle.cc_model.specs.Objects.{objects, had_map}
 use Rattle.cc_model.specs.Holds.{holds_of}
 use Rattle.cc_model.specs.Touches.{sizes, touches, touched, dirty_pages, is_mapped}
-use Rattle.cc_model.specs.Bytes.{byte_of}
+use Rattle.cc_model.specs.Bytes.{on_disk, byte_of}
 use Rattle.cc_model.specs.Settings.{quota_of, is_temporary, allocation_of, log_of, has_no_read_ahead, has_no_write_behind, threshold_of, granularity_of}
 use Rattle.cc_model.specs.Residency.{residents, order_of_use}
 use Rattle.cc_model.specs.Images.{open_of, begun, image, crash_pages}
+use Rattle.cc_model.specs.Discards.{low_of}
 use Rattle.cc_model.specs.ReadAhead.{reads_of}
 use Rattle.cc_model.specs.Turns.{Device, Book, is_quiet}
 use Rattle.cc_laws.specs.Laws.{SameBook, SameSettings, SameImages, SameCrash}
@@ -24,6 +25,8 @@ use Rattle.cc_laws.proofs.MapSteps.{is_mapped-synced, dirty_pages-synced}
 use Rattle.cc_laws.proofs.ResidencySteps.{residents-synced, order_of_use-synced}
 use Rattle.cc_laws.proofs.QuotaSteps.{quota_of-synced, is_temporary-synced, allocation_of-synced}
 use Rattle.cc_laws.proofs.SettingEffects.{log_of-synced, has_no_read_ahead-synced, has_no_write_behind-synced, threshold_of-synced, granularity_of-synced, reads_of-synced}
+use Rattle.cc_laws.proofs.DiskBytes.{on_disk-done, on_disk-synced}
+use Rattle.cc_laws.proofs.PlacesGrown.{low_of-synced}
 use Rattle.cc_laws.proofs.ImageSteps.{open_of-done, open_of-synced, begun-done, begun-synced, image-done, image-synced, crash_pages-done}
 
 pub SameBook-synced : (pass : ℕ) (how : End) (h : List Effect) → SameBook (Synced pass how ∷ h) h
@@ -34,6 +37,7 @@ SameBook-synced pass how h = record {
   same_sizes = sizes-synced pass how h;
   same_touches = λ ended p. touches-synced ended pass how h p;
   same_dirty = (dirty_pages-synced pass how h, touched-synced pass how h);
+  same_low = λ p. low_of-synced pass how h p;
   same_bytes = λ pages i. byte_of-synced pages pass how h i;
   same_residents = residents-synced pass how h;
   same_order = order_of_use-synced pass how h;
@@ -57,6 +61,7 @@ SameImages-synced pass how h = record {
   same_transfer = open_of-synced pass how h;
   same_front = λ p. begun-synced pass how h p;
   same_image = λ pages p. image-synced pages pass how h p;
+  same_disk = λ pages i. on_disk-synced pages pass how h i;
 }
 
 pub SameBook-bookless : (later past : List Entry) (s : ℕ) → is_quiet (Book s) later ≡ true → SameBook (history (later ++ past) s) (history past s)
@@ -67,6 +72,7 @@ SameBook-bookless later past s quiet = record {
   same_sizes = kept_without_book sizes sizes-synced later past s quiet;
   same_touches = λ ended p. kept_without_book (λ h. touches ended h p) (λ pass how h. touches-synced ended pass how h p) later past s quiet;
   same_dirty = (kept_without_book dirty_pages dirty_pages-synced later past s quiet, kept_without_book touched touched-synced later past s quiet);
+  same_low = λ p. kept_without_book (λ h. low_of h p) (λ pass how h. low_of-synced pass how h p) later past s quiet;
   same_bytes = λ pages i. kept_without_book (λ h. byte_of pages h i) (λ pass how h. byte_of-synced pages pass how h i) later past s quiet;
   same_residents = kept_without_book residents residents-synced later past s quiet;
   same_order = kept_without_book order_of_use order_of_use-synced later past s quiet;
@@ -90,6 +96,7 @@ SameImages-bookless later past s quiet = record {
   same_transfer = kept_without_book open_of open_of-synced later past s quiet;
   same_front = λ p. kept_without_book (λ h. begun h p) (λ pass how h. begun-synced pass how h p) later past s quiet;
   same_image = λ pages p. kept_without_book (λ h. image pages h p) (λ pass how h. image-synced pages pass how h p) later past s quiet;
+  same_disk = λ pages i. kept_without_book (λ h. on_disk pages false h i) (λ pass how h. on_disk-synced pages pass how h i) later past s quiet;
 }
 
 pub SameImages-deviceless : (later past : List Entry) (s : ℕ) → is_quiet (Device s) later ≡ true → SameImages (history (later ++ past) s) (history past s)
@@ -97,6 +104,7 @@ SameImages-deviceless later past s quiet = record {
   same_transfer = kept_without_disk open_of open_of-done later past s quiet;
   same_front = λ p. kept_without_disk (λ h. begun h p) (λ pass call reply h. begun-done pass call reply h p) later past s quiet;
   same_image = λ pages p. kept_without_disk (λ h. image pages h p) (λ pass call reply h. image-done pages pass call reply h p) later past s quiet;
+  same_disk = λ pages i. kept_without_disk (λ h. on_disk pages false h i) (λ pass call reply h. on_disk-done pages pass call reply h i) later past s quiet;
 }
 
 pub SameCrash-deviceless : (later past : List Entry) (s : ℕ) → is_quiet (Device s) later ≡ true → SameCrash (history (later ++ past) s) (history past s)

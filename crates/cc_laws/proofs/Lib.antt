@@ -19,6 +19,7 @@ pub mod DirtyLaws
 pub mod MapSteps
 pub mod ResidencySteps
 pub mod ImageSteps
+pub mod DiskBytes
 pub mod ActSteps
 pub mod ByteLaws
 pub mod StoreLaws
@@ -34,6 +35,7 @@ pub mod TransferLaws
 pub mod BlockLists
 pub mod OrderOfUse
 pub mod Lists1
+pub mod UnrefusedCalls
 pub mod SafeHistory
 pub mod SafeCalls
 pub mod SafeJournals
@@ -43,6 +45,7 @@ pub mod ResidentFacts
 pub mod DirtyFacts
 pub mod QuotaFacts
 pub mod SoundFacts
+pub mod DirtyAmong
 pub mod Steady
 pub mod SteadyCalls
 pub mod SteadyPasts
@@ -63,9 +66,12 @@ pub mod DirtyPages
 pub mod WholeFacts
 pub mod PlacesSteps
 pub mod PlacesDirty
+pub mod PlacesGrown
 pub mod PlacesLast
 pub mod PlacesBytes
 pub mod PlacesResident
 pub mod PlacesImage
 pub mod PlacesSizes
 pub mod PlacesTouches
+pub mod DiscardLaws
+pub mod LeastPages

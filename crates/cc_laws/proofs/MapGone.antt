@@ -11,10 +11,11 @@ use Rattle.cc_entry.specs.declared.reply.Reply.{Reply}
 use Rattle.cc_entry.specs.Pages.{has_page}
 use Rattle.cc_model.specs.Numbers.{is_empty}
 use Rattle.cc_model.specs.History.{Effect, Did, CameIn, WentOut, Began, Ended, Synced}
-use Rattle.cc_model.specs.Acts.{Act, act_of, Opens, Closes, Resizes, Writes, Zeroes, Stores, Stamps, Looks}
+use Rattle.cc_model.specs.Acts.{Act, act_of, Opens, Closes, Resizes, Writes, Zeroes, Stores, Stamps, Discards, Looks}
 use Rattle.cc_model.specs.Objects.{objects, truncation}
 use Rattle.cc_model.specs.Holds.{holds_of, hold_at}
-use Rattle.cc_model.specs.Sizes.{Touch, touched_if, cut_if, hold_has, stored_range, ended_ok}
+use Rattle.cc_model.specs.Sizes.{Touch, touched_if, cut_if, dropped_if, hold_has, stored_range, ended_ok}
+use Rattle.cc_model.specs.Ranges.{span_has}
 use Rattle.cc_model.specs.Touches.{size_of, touched, touches, is_dirty, is_mapped}
 use Rattle.cc_laws.proofs.ActSteps.{touches_by, touches-done}
 use Rattle.cc_laws.proofs.MapSteps.{is_mapped-looks, is_mapped-came_in, is_mapped-went_out, is_mapped-began, is_mapped-synced}
@@ -33,6 +34,10 @@ cut_if-none (Some to) p ts us none rest = go (nat_le to (4096 * p)) none
     go true none = refl
     go false none = rest none
 
+dropped_if-none : (dropped : Bool) (ts us : List Touch) → dropped_if dropped ts ≡ [] → (ts ≡ [] → us ≡ []) → dropped_if dropped us ≡ []
+dropped_if-none true ts us none rest = refl
+dropped_if-none false ts us none rest = rest none
+
 -- a page that is clean is clean since the last begin of its transfer
 pub touches-since : (h : List Effect) (p : ℕ) → touches false h p ≡ [] → touches true h p ≡ []
 unfolding touches
@@ -47,6 +52,7 @@ touches-since (Did pass call reply ∷ h) p clean = touches-done true pass call 
     go (Zeroes from to) none rest = touched_if-none (has_page (record { from = from; to = to }) p) (suc (length h)) None (touches false h p) (touches true h p) none rest
     go (Stores page bytes) none rest = touched_if-none (has_page (stored_range page (size_of h)) p) (suc (length h)) None (touches false h p) (touches true h p) none rest
     go (Stamps hold lsn) none rest = touched_if-none (hold_has (hold_at (holds_of h) hold) p) (suc (length h)) lsn (touches false h p) (touches true h p) none rest
+    go (Discards span) none rest = dropped_if-none (span_has span p) (touches false h p) (touches true h p) none rest
     go Looks none rest = rest none
 touches-since (CameIn pass page from_disk ∷ h) p clean = touches-since h p clean
 touches-since (WentOut pass page ∷ h) p clean = touches-since h p clean
@@ -99,6 +105,7 @@ makes_map (Writes at bytes) = false
 makes_map (Zeroes from to) = false
 makes_map (Stores page bytes) = false
 makes_map (Stamps hold lsn) = false
+makes_map (Discards span) = false
 makes_map Looks = false
 
 abbrev pub NoInitialise : Effect → Type 0

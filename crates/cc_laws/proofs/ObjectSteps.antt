@@ -1,13 +1,13 @@
 -- How the open objects of a stream step, and whether it ever had a map.
 use Rattle.std.specs.Prelude.{◌≡◌, ℕ, Bool, true, List, ◌∷◌, refl}
 use Rattle.std.specs.declared.option.Option.{Option}
-use Rattle.cc_entry.specs.Place.{File}
+use Rattle.cc_entry.specs.Place.{File, Range}
 use Rattle.cc_entry.specs.declared.place.FileSizes.{FileSizes}
 use Rattle.cc_entry.specs.declared.call.Call.{Call}
 use Rattle.cc_entry.specs.declared.reply.Reply.{Reply}
 use Rattle.cc_entry.specs.declared.entry.End.{End}
 use Rattle.cc_model.specs.History.{Effect, Did, CameIn, WentOut, Began, Ended, Synced}
-use Rattle.cc_model.specs.Acts.{act_of, Opens, Closes, Resizes, Writes, Zeroes, Stores, Stamps, Looks}
+use Rattle.cc_model.specs.Acts.{act_of, Opens, Closes, Resizes, Writes, Zeroes, Stores, Stamps, Discards, Looks}
 use Rattle.cc_model.specs.Numbers.{without}
 use Rattle.cc_model.specs.Objects.{objects, had_map}
 
@@ -38,6 +38,10 @@ objects-stores pass call reply h is = rw (is, objects) refl
 pub objects-stamps : {hold : ℕ} {lsn : Option ℕ} (pass : ℕ) (call : Call) (reply : Reply) (h : List Effect) → act_of call ≡ Stamps hold lsn → objects (Did pass call reply ∷ h) ≡ objects h
 unfolding objects
 objects-stamps pass call reply h is = rw (is, objects) refl
+
+pub objects-discards : {span : Option Range} (pass : ℕ) (call : Call) (reply : Reply) (h : List Effect) → act_of call ≡ Discards span → objects (Did pass call reply ∷ h) ≡ objects h
+unfolding objects
+objects-discards pass call reply h is = rw (is, objects) refl
 
 pub objects-looks : (pass : ℕ) (call : Call) (reply : Reply) (h : List Effect) → act_of call ≡ Looks → objects (Did pass call reply ∷ h) ≡ objects h
 unfolding objects
@@ -90,6 +94,10 @@ had_map-stores pass call reply h is = rw (is, had_map) refl
 pub had_map-stamps : {hold : ℕ} {lsn : Option ℕ} (pass : ℕ) (call : Call) (reply : Reply) (h : List Effect) → act_of call ≡ Stamps hold lsn → had_map (Did pass call reply ∷ h) ≡ had_map h
 unfolding had_map
 had_map-stamps pass call reply h is = rw (is, had_map) refl
+
+pub had_map-discards : {span : Option Range} (pass : ℕ) (call : Call) (reply : Reply) (h : List Effect) → act_of call ≡ Discards span → had_map (Did pass call reply ∷ h) ≡ had_map h
+unfolding had_map
+had_map-discards pass call reply h is = rw (is, had_map) refl
 
 pub had_map-looks : (pass : ℕ) (call : Call) (reply : Reply) (h : List Effect) → act_of call ≡ Looks → had_map (Did pass call reply ∷ h) ≡ had_map h
 unfolding had_map

@@ -11,6 +11,7 @@ use Rattle.cc_model.specs.Numbers.{is_among, without}
 use Rattle.cc_model.specs.History.{Effect, Did, CameIn, WentOut, Began, Ended, Synced}
 use Rattle.cc_model.specs.Objects.{objects, truncation}
 use Rattle.cc_model.specs.Sizes.{stored_range}
+use Rattle.cc_model.specs.Ranges.{span_has}
 use Rattle.cc_model.specs.Touches.{size_of, is_mapped}
 use Rattle.cc_model.specs.Residency.{below, moved_by, residents, block_is_mapped, used_by, used, order_of_use}
 use Rattle.cc_laws.specs.Facts.{IsOrderOfMapped}
@@ -62,6 +63,8 @@ moved-within (Did pass (call.Uninitialise file truncate) reply) h b inside some 
     go (Some to) some = list_any-filter (λ p. block_of p == b) (λ p. nat_lt (4096 * p) to) (residents h) some
 moved-within (Did pass (call.SetSizes file allocation size) reply) h b inside some =
     or_right (is_among b (used_by (Did pass (call.SetSizes file allocation size) reply) h)) _ (list_any-filter (λ p. block_of p == b) (λ p. nat_lt (4096 * p) size) (residents h) some)
+moved-within (Did pass (call.Discard file span) reply) h b inside some =
+    or_right (is_among b (used_by (Did pass (call.Discard file span) reply) h)) _ (list_any-filter (λ p. block_of p == b) (λ p. not (span_has span p)) (residents h) some)
 moved-within (Did pass (call.PreparePin file at len true exclusive) reply) h b inside some =
     or_right (is_among b (used_by (Did pass (call.PreparePin file at len true exclusive) reply) h)) _ some
 moved-within (Did pass call reply) h b inside some = or_right (is_among b (used_by (Did pass call reply) h)) _ some

@@ -13,7 +13,7 @@ use Rattle.cc_laws.specs.ByPlacesDirty.{IsWritten, IsTouch, Has, here, there, is
 use Rattle.cc_laws.proofs.PlacesSteps.{touches_after, touches-effect}
 
 -- whether what stands before these effects is written, where `ended` says whether a good end follows them
-abbrev writes_it : Bool → List Effect → ℕ → Bool
+abbrev pub writes_it : Bool → List Effect → ℕ → Bool
 writes_it ended [] p = false
 writes_it ended (e ∷ later) p = (ended && begins p e) || writes_it (ended || ends_well p e) later p
 
@@ -124,12 +124,12 @@ end-writes ended [] e rest p is writes =
     or_right (ended && begins p e) _ (subst (λ (b : Bool). writes_it b rest p ≡ true) (sym (or_right ended (ends_well p e) is)) writes)
 end-writes ended (x ∷ after) e rest p is writes = or_right (ended && begins p x) _ (end-writes (ended || ends_well p x) after e rest p is writes)
 
-writes-IsWritten : (later : List Effect) (p : ℕ) → IsWritten later p → writes_it false later p ≡ true
+pub writes-IsWritten : (later : List Effect) (p : ℕ) → IsWritten later p → writes_it false later p ≡ true
 writes-IsWritten later p k =
     ap (λ (l : List Effect). writes_it false l p) k.places
     ∙ end-writes false k.after k.ok_end (k.between ++ k.begin ∷ k.front) p k.ends_it (begin-writes k.between k.begin k.front p k.begins_it)
 
-unwritten-writes : (later : List Effect) (p : ℕ) → (IsWritten later p → ⊥) → writes_it false later p ≡ false
+pub unwritten-writes : (later : List Effect) (p : ℕ) → (IsWritten later p → ⊥) → writes_it false later p ≡ false
 unwritten-writes later p never = go (writes_it false later p) refl
   where
     go : (b : Bool) → writes_it false later p ≡ b → b ≡ false

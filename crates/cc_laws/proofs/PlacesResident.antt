@@ -1,45 +1,26 @@
 -- Resident pages by places.
-use Rattle.std.specs.Prelude.{◌≡◌, ℕ, ◌*◌, Bool, true, false, not, ◌==◌, ◌&&◌, ◌||◌, ◌↔◌, cond, nat_lt, nat_le, List, [], ◌∷◌, refl}
+use Rattle.std.specs.Prelude.{◌≡◌, ℕ, ◌*◌, Bool, true, false, not, ◌==◌, ◌&&◌, ◌||◌, ◌↔◌, nat_lt, nat_le, List, ◌∷◌, refl}
 use Rattle.std.specs.declared.option.Option.{Option}
 use Rattle.std.specs.declared.option.Option.TheVariants.{Some, None}
 use Rattle.std.specs.List.{filter}
 use Rattle.std.proofs.Common.{ap, sym, ◌∙◌}
-use Rattle.std.proofs.lemmas.Bool.{ltb-true, ltb-false, lt-leb, le-leb, eqb-true, eqb-false, eq-eqb, ne_eqb}
+use Rattle.std.proofs.Math.Bool.{and_comm}
+use Rattle.std.proofs.lemmas.Bool.{ltb-true, ltb-false, lt-leb, le-leb}
 use Rattle.cc_model.specs.Numbers.{is_among, without}
 use Rattle.cc_model.specs.History.{Effect, Did, CameIn, WentOut, Began, Ended, Synced}
-use Rattle.cc_model.specs.Acts.{Act, act_of, Opens, Closes, Resizes, Writes, Zeroes, Stores, Stamps, Looks}
+use Rattle.cc_model.specs.Acts.{Act, act_of, Opens, Closes, Resizes, Writes, Zeroes, Stores, Stamps, Discards, Looks}
 use Rattle.cc_model.specs.Objects.{objects, truncation}
+use Rattle.cc_model.specs.Ranges.{span_has}
 use Rattle.cc_model.specs.Touches.{size_of, is_mapped}
 use Rattle.cc_model.specs.Residency.{below, moved_by, residents, is_resident}
-use Rattle.cc_laws.specs.ByPlaces.{act_size, is_past, cuts_page, SincePlace}
+use Rattle.cc_laws.specs.ByPlaces.{act_size, act_discards, is_past, cuts_page, SincePlace}
 use Rattle.cc_laws.specs.ByPlacesResident.{act_stores, brings_in, takes_out, comes_in, goes_away}
+use Rattle.cc_laws.proofs.BlockLists.{is_among-filter, same-flip}
 use Rattle.cc_laws.proofs.ResidencySteps.{residents-mapped, residents-unmapped}
 use Rattle.cc_laws.proofs.PlacesLast.{since-place}
 
 pub among-filtered : (test : ℕ → Bool) (p : ℕ) (ns : List ℕ) → is_among p (filter test ns) ≡ (test p && is_among p ns)
-among-filtered test p [] = none (test p)
-  where
-    none : (b : Bool) → false ≡ (b && false)
-    none true = refl
-    none false = refl
-among-filtered test p (n ∷ ns) = go (test n) (n == p) refl refl (among-filtered test p ns)
-  where
-    go : (t u : Bool) → test n ≡ t → (n == p) ≡ u → is_among p (filter test ns) ≡ (test p && is_among p ns) → is_among p (cond t (n ∷ filter test ns) (filter test ns)) ≡ (test p && (u || is_among p ns))
-    go true true passes same rest = left ∙ sym (right (test p) (ap test (sym (eqb-true n p same)) ∙ passes))
-      where
-        left : ((n == p) || is_among p (filter test ns)) ≡ true
-        left = rw same refl
-
-        right : (b : Bool) → b ≡ true → (b && true) ≡ true
-        right true is = refl
-        right false is = is
-    go true false passes other rest = rw other rest
-    go false true out same rest = rest ∙ both (test p) (is_among p ns) (ap test (sym (eqb-true n p same)) ∙ out)
-      where
-        both : (b c : Bool) → b ≡ false → (b && c) ≡ (b && true)
-        both true c is = absurd (cc)
-        both false c is = refl
-    go false false out other rest = rest
+among-filtered test p ns = is_among-filter test p ns ∙ and_comm (is_among p ns) (test p)
 
 not-past : (to i : ℕ) → nat_lt i to ≡ not (nat_le to i)
 not-past to i = go (nat_lt i to) refl
@@ -48,19 +29,16 @@ not-past to i = go (nat_lt i to) refl
     go true is = is ∙ ap not (sym (lt-leb to i (ltb-true i to is)))
     go false is = is ∙ ap not (sym (le-leb to i (ltb-false i to is)))
 
-among-below : (o : Option ℕ) (p : ℕ) (pages : List ℕ) → is_among p (below o pages) ≡ (not (is_past o p) && is_among p pages)
+among-below : (o : Option ℕ) (p : ℕ) (pages : List ℕ) → is_among p (below o pages) ≡ (not (is_past o p || false) && is_among p pages)
 among-below None p pages = refl
-among-below (Some to) p pages = among-filtered (λ q. nat_lt (4096 * q) to) p pages ∙ ap (λ b. b && is_among p pages) (not-past to (4096 * p))
-
-same-other : (a b : ℕ) → (a == b) ≡ (b == a)
-same-other a b = go (a == b) refl
+among-below (Some to) p pages = among-filtered (λ q. nat_lt (4096 * q) to) p pages ∙ ap (λ b. b && is_among p pages) (not-past to (4096 * p) ∙ same (nat_le to (4096 * p)))
   where
-    go : (t : Bool) → (a == b) ≡ t → (a == b) ≡ (b == a)
-    go true is = is ∙ sym (eq-eqb b a (sym (eqb-true a b is)))
-    go false is = is ∙ sym (ne_eqb b a (λ e. eqb-false a b is (sym e)))
+    same : (b : Bool) → not b ≡ not (b || false)
+    same true = refl
+    same false = refl
 
 pub among-without : (page p : ℕ) (pages : List ℕ) → is_among p (without page pages) ≡ (not (page == p) && is_among p pages)
-among-without page p pages = among-filtered (λ m. not (m == page)) p pages ∙ ap (λ b. not b && is_among p pages) (same-other p page)
+among-without page p pages = among-filtered (λ m. not (m == page)) p pages ∙ ap (λ b. not b && is_among p pages) (same-flip p page)
 
 pub among-in : (page p : ℕ) (pages : List ℕ) → is_among p (page ∷ without page pages) ≡ ((page == p) || is_among p pages)
 among-in page p pages = ap (λ b. (page == p) || b) (among-without page p pages) ∙ go (page == p) (is_among p pages)
@@ -73,7 +51,7 @@ among-in page p pages = ap (λ b. (page == p) || b) (among-without page p pages)
 moved-among : (e : Effect) (h : List Effect) (p : ℕ) (pages : List ℕ) → is_among p (moved_by e h pages) ≡ (brings_in p e || (not (takes_out p e || cuts_page p e h) && is_among p pages))
 moved-among (Did pass call reply) h p pages = go (act_of call) refl
   where
-    go : (a : Act) → act_of call ≡ a → is_among p (moved_by (Did pass call reply) h pages) ≡ (act_stores p (act_of call) || (not (is_past (act_size (act_of call) h) p) && is_among p pages))
+    go : (a : Act) → act_of call ≡ a → is_among p (moved_by (Did pass call reply) h pages) ≡ (act_stores p (act_of call) || (not (is_past (act_size (act_of call) h) p || act_discards (act_of call) p) && is_among p pages))
     go (Opens file given quota temporary) is = rw (is, moved_by) refl
     go (Closes file truncate) is = rw (is, moved_by) (among-below (truncation (objects h) (size_of h) file truncate) p pages)
     go (Resizes allocation size) is = rw (is, moved_by) (among-below (Some size) p pages)
@@ -81,6 +59,7 @@ moved-among (Did pass call reply) h p pages = go (act_of call) refl
     go (Zeroes from to) is = rw (is, moved_by) refl
     go (Stores page bytes) is = rw (is, moved_by) (among-in page p pages)
     go (Stamps hold lsn) is = rw (is, moved_by) refl
+    go (Discards span) is = rw (is, moved_by) (among-filtered (λ q. not (span_has span q)) p pages)
     go Looks is = rw (is, moved_by) refl
 moved-among (CameIn pass page from_disk) h p pages = among-in page p pages
 moved-among (WentOut pass page) h p pages = among-without page p pages ∙ go (page == p)

@@ -6,7 +6,7 @@ use Rattle.std.proofs.Common.{ap, sym, ◌∙◌, arith}
 use Rattle.std.proofs.lemmas.Bool.{or_parts, ltb-true, ltb-false, lt-ltb, le-ltb, le-leb, lt-leb}
 use Rattle.cc_entry.specs.declared.place.FileSizes.{FileSizes}
 use Rattle.cc_model.specs.History.{Effect, Did, CameIn, WentOut, Began, Ended, Synced}
-use Rattle.cc_model.specs.Acts.{Act, act_of, Opens, Closes, Resizes, Writes, Zeroes, Stores, Stamps, Looks}
+use Rattle.cc_model.specs.Acts.{Act, act_of, Opens, Closes, Resizes, Writes, Zeroes, Stores, Stamps, Discards, Looks}
 use Rattle.cc_model.specs.Objects.{objects, truncation}
 use Rattle.cc_model.specs.Sizes.{Sizes, resized_by, stored_range}
 use Rattle.cc_model.specs.Touches.{sizes, size_of, valid_of, is_mapped}
@@ -43,6 +43,7 @@ act-size (Writes at bytes) h = refl
 act-size (Zeroes from to) h = refl
 act-size (Stores page bytes) h = refl
 act-size (Stamps hold lsn) h = refl
+act-size (Discards span) h = refl
 act-size Looks h = refl
 
 size-effect : (e : Effect) (h : List Effect) → size_of (e ∷ h) ≡ or_old (size_set e h) (size_of h)
@@ -119,6 +120,7 @@ act-valid i (Writes at bytes) h = lt-max i (valid_of h) (at + length bytes)
 act-valid i (Zeroes from to) h = lt-max i (valid_of h) to
 act-valid i (Stores page bytes) h = lt-max i (valid_of h) (stored_range page (size_of h)).to
 act-valid i (Stamps hold lsn) h = refl
+act-valid i (Discards span) h = refl
 act-valid i Looks h = refl
 
 valid-effect : (i : ℕ) (e : Effect) (h : List Effect) → nat_lt i (valid_of (e ∷ h)) ≡ (validates i e h || (not (invalidates i e h) && nat_lt i (valid_of h)))

@@ -1,15 +1,16 @@
 -- A touch of a page is a change of a byte of it, or a set-dirty whose hold has it.
-use Rattle.std.specs.Prelude.{◌≡◌, ℕ, ◌+◌, ◌*◌, ◌<◌, ◌≤◌, true, ◌⊎◌, ◌↔◌, nat_lt, nat_le, max, List, length}
+use Rattle.std.specs.Prelude.{◌≡◌, ℕ, ◌+◌, ◌*◌, ◌<◌, ◌≤◌, true, ◌⊎◌, ◌↔◌, nat_lt, max, List, length}
 use Rattle.std.proofs.Common.{arith, inl, inr}
-use Rattle.std.proofs.lemmas.Bool.{and_parts, and_from, ltb-true, lt-ltb, leb-true, le-leb}
+use Rattle.std.proofs.lemmas.Bool.{and_parts, and_from, ltb-true, lt-ltb, le-leb}
 use Rattle.cc_entry.specs.Place.{Range}
 use Rattle.cc_entry.specs.Pages.{has_byte, has_page}
 use Rattle.cc_model.specs.History.{Effect, Did, CameIn, WentOut, Began, Ended, Synced}
-use Rattle.cc_model.specs.Acts.{Act, act_of, Opens, Closes, Resizes, Writes, Zeroes, Stores, Stamps, Looks}
+use Rattle.cc_model.specs.Acts.{Act, act_of, Opens, Closes, Resizes, Writes, Zeroes, Stores, Stamps, Discards, Looks}
 use Rattle.cc_model.specs.Sizes.{stored_range}
 use Rattle.cc_model.specs.Touches.{size_of}
 use Rattle.cc_laws.specs.ByPlaces.{act_touches, act_changes, touches_page}
 use Rattle.cc_laws.specs.ByPlacesDirty.{ChangedByte, act_stamps, stamps_page}
+use Rattle.cc_laws.proofs.CoveredBytes.{has_page-byte}
 
 -- a byte of the page that the range has
 record InRange (r : Range) (p : ℕ) : Type 0 where
@@ -27,13 +28,6 @@ InRange-page r p has =
     let after : 4096 * p < r.to = ltb-true _ _ b.1 in
     record { byte = max r.from (4096 * p); low = omega arith; high = omega arith; has = and_from _ _ (le-leb r.from (max r.from (4096 * p)) (omega arith)) (lt-ltb (max r.from (4096 * p)) r.to (omega arith)) }
 
-page-byte : (r : Range) (p i : ℕ) → 4096 * p ≤ i → i < 4096 * p + 4096 → has_byte r i ≡ true → has_page r p ≡ true
-page-byte r p i low high has =
-    let k = and_parts (nat_le r.from i) _ has in
-    let from : r.from ≤ i = leb-true r.from i k.0 in
-    let to : i < r.to = ltb-true i r.to k.1 in
-    and_from _ _ (lt-ltb r.from r.to (omega arith)) (and_from _ _ (lt-ltb r.from (4096 * p + 4096) (omega arith)) (lt-ltb (4096 * p) r.to (omega arith)))
-
 -- of an act: what changes a byte of the page, and what stamps it
 record ActChanges (p : ℕ) (a : Act) (h : List Effect) : Type 0 where
   byte : ℕ
@@ -49,16 +43,18 @@ act-touch (Writes at bytes) h p is = let k = InRange-page (record { from = at; t
 act-touch (Zeroes from to) h p is = let k = InRange-page (record { from = from; to = to }) p is in inl (record { byte = k.byte; low = k.low; high = k.high; changes_it = k.has })
 act-touch (Stores page bytes) h p is = let k = InRange-page (stored_range page (size_of h)) p is in inl (record { byte = k.byte; low = k.low; high = k.high; changes_it = k.has })
 act-touch (Stamps hold lsn) h p is = inr is
+act-touch (Discards span) h p is = absurd (cc)
 act-touch Looks h p is = absurd (cc)
 
 changes-touch : (a : Act) (h : List Effect) (p i : ℕ) → 4096 * p ≤ i → i < 4096 * p + 4096 → act_changes a h i ≡ true → act_touches a h p ≡ true
 changes-touch (Opens file given quota temporary) h p i low high is = absurd (cc)
 changes-touch (Closes file truncate) h p i low high is = absurd (cc)
 changes-touch (Resizes allocation size) h p i low high is = absurd (cc)
-changes-touch (Writes at bytes) h p i low high is = page-byte (record { from = at; to = at + length bytes }) p i low high is
-changes-touch (Zeroes from to) h p i low high is = page-byte (record { from = from; to = to }) p i low high is
-changes-touch (Stores page bytes) h p i low high is = page-byte (stored_range page (size_of h)) p i low high is
+changes-touch (Writes at bytes) h p i low high is = has_page-byte (record { from = at; to = at + length bytes }) p i low high is
+changes-touch (Zeroes from to) h p i low high is = has_page-byte (record { from = from; to = to }) p i low high is
+changes-touch (Stores page bytes) h p i low high is = has_page-byte (stored_range page (size_of h)) p i low high is
 changes-touch (Stamps hold lsn) h p i low high is = absurd (cc)
+changes-touch (Discards span) h p i low high is = absurd (cc)
 changes-touch Looks h p i low high is = absurd (cc)
 
 stamps-touch : (a : Act) (h : List Effect) (p : ℕ) → act_stamps p a h ≡ true → act_touches a h p ≡ true
@@ -69,6 +65,7 @@ stamps-touch (Writes at bytes) h p is = absurd (cc)
 stamps-touch (Zeroes from to) h p is = absurd (cc)
 stamps-touch (Stores page bytes) h p is = absurd (cc)
 stamps-touch (Stamps hold lsn) h p is = is
+stamps-touch (Discards span) h p is = absurd (cc)
 stamps-touch Looks h p is = absurd (cc)
 
 there_is : (e : Effect) (h : List Effect) (p : ℕ) → touches_page p e h ≡ true → ChangedByte p e h ⊎ (stamps_page p e h ≡ true)

@@ -33,6 +33,7 @@ or-left true b e = e
 call_needs-book : (stream s : ℕ) (call : Call) (reply : Reply) → call_needs (Some stream) call (outcome.Done reply) (Book s) ≡ false → (stream == s) ≡ false
 call_needs-book stream s (call.NcStore file page bytes) reply b = eqb-swapped s stream (or-left _ _ b)
 call_needs-book stream s (call.NcRead file page) reply b = eqb-swapped s stream (or-left _ _ b)
+call_needs-book stream s (call.Discard file span) reply b = eqb-swapped s stream (or-left _ _ b)
 call_needs-book stream s other reply b = eqb-swapped s stream b
 
 -- an effect that a sync has
@@ -40,15 +41,16 @@ abbrev pub is_sync : Effect → Bool
 is_sync (Synced pass how) = true
 is_sync other = false
 
--- whether a call goes to the disk while it is done
-abbrev pub goes_to_disk : Call → Bool
-goes_to_disk (call.NcStore file page bytes) = true
-goes_to_disk (call.NcRead file page) = true
-goes_to_disk other = false
+-- whether a done call needs the disk of its stream
+abbrev pub needs_disk : Call → Bool
+needs_disk (call.NcStore file page bytes) = true
+needs_disk (call.NcRead file page) = true
+needs_disk (call.Discard file span) = true
+needs_disk other = false
 
--- an effect of a call that does not go to the disk
+-- an effect of a call that does not need the disk
 abbrev pub is_cached_call : Effect → Bool
-is_cached_call (Did pass call reply) = not (goes_to_disk call)
+is_cached_call (Did pass call reply) = not (needs_disk call)
 is_cached_call other = false
 
 -- whether there is no effect, or one that passes a test
@@ -96,18 +98,19 @@ effect_of-bookless (entry.Defer pass id file pages retrying) s b = refl
 effect_of-bookless (entry.Posted id) s b = refl
 effect_of-bookless (entry.Scan pass picked) s b = refl
 
--- a done call that does not need the disk of the stream has no effect on it, or does not go to the disk
+-- a done call without the turn of the stream's disk has no effect on the stream, or does not need the disk
 call_needs-device : (pass stream : ℕ) (call : Call) (reply : Reply) (s : ℕ) → call_needs (Some stream) call (outcome.Done reply) (Device s) ≡ false → none_or is_cached_call (if stream == s then Some (Did pass call reply) else None) ≡ true
 call_needs-device pass stream (call.NcStore file page bytes) reply s d = rw (eqb-swapped s stream d) refl
 call_needs-device pass stream (call.NcRead file page) reply s d = rw (eqb-swapped s stream d) refl
+call_needs-device pass stream (call.Discard file span) reply s d = rw (eqb-swapped s stream d) refl
 call_needs-device pass stream other reply s d = either (stream == s)
   where
     either : (t : Bool) → none_or is_cached_call (if t then Some (Did pass other reply) else None) ≡ true
     either true = refl
     either false = refl
 
--- an entry that does not need the disk of the stream has no effect on it, or that of a call that does
--- not go to the disk
+-- an entry without the turn of the stream's disk has no effect on the stream, or that of a call that does
+-- not need the disk
 pub effect_of-deviceless : (e : Entry) (s : ℕ) → needs e (Device s) ≡ false → none_or is_cached_call (effect_of e s) ≡ true
 effect_of-deviceless (entry.Call pass nth (Some stream) call (outcome.Done reply)) s d = call_needs-device pass stream call reply s d
 effect_of-deviceless (entry.Call pass nth (Some stream) call (outcome.Failed error)) s d = refl

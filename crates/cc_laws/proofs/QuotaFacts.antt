@@ -2,6 +2,7 @@
 use Rattle.std.specs.Prelude.{◌≡◌, ℕ, ◌*◌, ◌≤◌, Bool, true, false, not, ◌==◌, nat_eq, nat_lt, List, [], ◌∷◌, map, refl}
 use Rattle.std.specs.declared.option.Option.{Option}
 use Rattle.std.specs.declared.option.Option.TheVariants.{Some, None}
+use Rattle.std.specs.List.{filter}
 use Rattle.std.specs.Set.{distinct_count}
 use Rattle.std.proofs.Common.{ap, ◌∙◌, arith}
 use Rattle.cc_entry.specs.declared.call.Call.{Call}
@@ -9,13 +10,14 @@ use Rattle.cc_entry.specs.declared.reply.Reply.{Reply}
 use Rattle.cc_entry.specs.Pages.{block_of}
 use Rattle.cc_model.specs.Numbers.{without}
 use Rattle.cc_model.specs.History.{Effect, Did, CameIn, WentOut, Began, Ended, Synced}
-use Rattle.cc_model.specs.Acts.{Act, act_of, Opens, Closes, Resizes, Writes, Zeroes, Stores, Stamps, Looks}
+use Rattle.cc_model.specs.Acts.{Act, act_of, Opens, Closes, Resizes, Writes, Zeroes, Stores, Stamps, Discards, Looks}
 use Rattle.cc_model.specs.Objects.{objects, truncation}
+use Rattle.cc_model.specs.Ranges.{span_has}
 use Rattle.cc_model.specs.Touches.{size_of, is_mapped}
 use Rattle.cc_model.specs.Settings.{quota_of}
 use Rattle.cc_model.specs.Residency.{below, residents, mapped_blocks, mapped_blocks_with}
-use Rattle.cc_laws.proofs.QuotaSteps.{quota_of-opens_mapped, quota_of-opens_anew, quota_of-closes, quota_of-resizes, quota_of-writes, quota_of-zeroes, quota_of-stores, quota_of-stamps, quota_of-looks, quota_of-came_in, quota_of-went_out, quota_of-began, quota_of-ended, quota_of-synced}
-use Rattle.cc_laws.proofs.ResidencySteps.{residents-mapped, residents-unmapped, residents-looks, residents-opens, residents-closes, residents-resizes, residents-writes, residents-zeroes, residents-stores, residents-stamps, residents-went_out, residents-began, residents-ended, residents-synced}
+use Rattle.cc_laws.proofs.QuotaSteps.{quota_of-opens_mapped, quota_of-opens_anew, quota_of-closes, quota_of-resizes, quota_of-writes, quota_of-zeroes, quota_of-stores, quota_of-stamps, quota_of-discards, quota_of-looks, quota_of-came_in, quota_of-went_out, quota_of-began, quota_of-ended, quota_of-synced}
+use Rattle.cc_laws.proofs.ResidencySteps.{residents-mapped, residents-unmapped, residents-looks, residents-opens, residents-closes, residents-resizes, residents-writes, residents-zeroes, residents-stores, residents-stamps, residents-discards, residents-went_out, residents-began, residents-ended, residents-synced}
 use Rattle.cc_laws.proofs.Lists1.{blocks-filtered, blocks-placed}
 use Rattle.cc_laws.proofs.SafeHistory.{IsActSafe, IsSafe}
 
@@ -61,6 +63,9 @@ done-within pass call reply h safe before mapped = go (act_of call) refl
         quota-by (Did pass call reply ∷ h) (page ∷ without page (residents h)) (quota_of h) (residents-stores pass call reply h is mapped) (quota_of-stores pass call reply h is)
         (fewer-within (count_blocks (page ∷ without page (residents h))) (mapped_blocks_with h page) (quota_of h) (blocks-placed page (residents h)) room)
     go (Stamps hold lsn) is = same (residents-stamps pass call reply h is mapped) (quota_of-stamps pass call reply h is)
+    go (Discards span) is =
+        quota-by (Did pass call reply ∷ h) (filter (λ p. not (span_has span p)) (residents h)) (quota_of h) (residents-discards pass call reply h is mapped) (quota_of-discards pass call reply h is)
+        (fewer-within (count_blocks (filter (λ p. not (span_has span p)) (residents h))) (count_blocks (residents h)) (quota_of h) (blocks-filtered (λ p. not (span_has span p)) (residents h)) before)
     go Looks is = same (residents-looks pass call reply h is) (quota_of-looks pass call reply h is)
 
 quota-first : mapped_blocks [] ≤ quota_of []

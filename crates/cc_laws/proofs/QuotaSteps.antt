@@ -1,13 +1,13 @@
 -- How what the last initialise that made the map gave steps.
 use Rattle.std.specs.Prelude.{◌≡◌, ℕ, Bool, true, false, List, ◌∷◌, refl}
 use Rattle.std.specs.declared.option.Option.{Option}
-use Rattle.cc_entry.specs.Place.{File}
+use Rattle.cc_entry.specs.Place.{File, Range}
 use Rattle.cc_entry.specs.declared.place.FileSizes.{FileSizes}
 use Rattle.cc_entry.specs.declared.call.Call.{Call}
 use Rattle.cc_entry.specs.declared.reply.Reply.{Reply}
 use Rattle.cc_entry.specs.declared.entry.End.{End}
 use Rattle.cc_model.specs.History.{Effect, Did, CameIn, WentOut, Began, Ended, Synced}
-use Rattle.cc_model.specs.Acts.{act_of, Opens, Closes, Resizes, Writes, Zeroes, Stores, Stamps, Looks}
+use Rattle.cc_model.specs.Acts.{act_of, Opens, Closes, Resizes, Writes, Zeroes, Stores, Stamps, Discards, Looks}
 use Rattle.cc_model.specs.Touches.{is_mapped}
 use Rattle.cc_model.specs.Settings.{quota_of, is_temporary, allocation_of}
 
@@ -42,6 +42,10 @@ quota_of-stores pass call reply h is = rw (is, quota_of) refl
 pub quota_of-stamps : {hold : ℕ} {lsn : Option ℕ} (pass : ℕ) (call : Call) (reply : Reply) (h : List Effect) → act_of call ≡ Stamps hold lsn → quota_of (Did pass call reply ∷ h) ≡ quota_of h
 unfolding quota_of
 quota_of-stamps pass call reply h is = rw (is, quota_of) refl
+
+pub quota_of-discards : {span : Option Range} (pass : ℕ) (call : Call) (reply : Reply) (h : List Effect) → act_of call ≡ Discards span → quota_of (Did pass call reply ∷ h) ≡ quota_of h
+unfolding quota_of
+quota_of-discards pass call reply h is = rw (is, quota_of) refl
 
 pub quota_of-looks : (pass : ℕ) (call : Call) (reply : Reply) (h : List Effect) → act_of call ≡ Looks → quota_of (Did pass call reply ∷ h) ≡ quota_of h
 unfolding quota_of
@@ -99,6 +103,10 @@ pub is_temporary-stamps : {hold : ℕ} {lsn : Option ℕ} (pass : ℕ) (call : C
 unfolding is_temporary
 is_temporary-stamps pass call reply h is = rw (is, is_temporary) refl
 
+pub is_temporary-discards : {span : Option Range} (pass : ℕ) (call : Call) (reply : Reply) (h : List Effect) → act_of call ≡ Discards span → is_temporary (Did pass call reply ∷ h) ≡ is_temporary h
+unfolding is_temporary
+is_temporary-discards pass call reply h is = rw (is, is_temporary) refl
+
 pub is_temporary-looks : (pass : ℕ) (call : Call) (reply : Reply) (h : List Effect) → act_of call ≡ Looks → is_temporary (Did pass call reply ∷ h) ≡ is_temporary h
 unfolding is_temporary
 is_temporary-looks pass call reply h is = rw (is, is_temporary) refl
@@ -154,6 +162,10 @@ allocation_of-stores pass call reply h is = rw (is, allocation_of) refl
 pub allocation_of-stamps : {hold : ℕ} {lsn : Option ℕ} (pass : ℕ) (call : Call) (reply : Reply) (h : List Effect) → act_of call ≡ Stamps hold lsn → allocation_of (Did pass call reply ∷ h) ≡ allocation_of h
 unfolding allocation_of
 allocation_of-stamps pass call reply h is = rw (is, allocation_of) refl
+
+pub allocation_of-discards : {span : Option Range} (pass : ℕ) (call : Call) (reply : Reply) (h : List Effect) → act_of call ≡ Discards span → allocation_of (Did pass call reply ∷ h) ≡ allocation_of h
+unfolding allocation_of
+allocation_of-discards pass call reply h is = rw (is, allocation_of) refl
 
 pub allocation_of-looks : (pass : ℕ) (call : Call) (reply : Reply) (h : List Effect) → act_of call ≡ Looks → allocation_of (Did pass call reply ∷ h) ≡ allocation_of h
 unfolding allocation_of

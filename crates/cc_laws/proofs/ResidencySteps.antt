@@ -1,10 +1,10 @@
 -- How the resident pages of a stream, and the order of use of its view blocks, step.
-use Rattle.std.specs.Prelude.{◌≡◌, ℕ, Bool, true, false, cond, List, [], ◌∷◌, ◌++◌, refl}
+use Rattle.std.specs.Prelude.{◌≡◌, ℕ, Bool, true, false, cond, not, List, [], ◌∷◌, ◌++◌, refl}
 use Rattle.std.specs.declared.option.Option.{Option}
 use Rattle.std.specs.declared.option.Option.TheVariants.{Some}
 use Rattle.std.proofs.Common.{ap, sym, ◌∙◌}
 use Rattle.std.specs.List.{filter}
-use Rattle.cc_entry.specs.Place.{File}
+use Rattle.cc_entry.specs.Place.{File, Range}
 use Rattle.cc_entry.specs.declared.place.FileSizes.{FileSizes}
 use Rattle.cc_entry.specs.declared.call.Call.{Call}
 use Rattle.cc_entry.specs.declared.reply.Reply.{Reply}
@@ -12,8 +12,9 @@ use Rattle.cc_entry.specs.declared.entry.End.{End}
 use Rattle.cc_entry.specs.Pages.{block_of}
 use Rattle.cc_model.specs.Numbers.{without}
 use Rattle.cc_model.specs.History.{Effect, Did, CameIn, WentOut, Began, Ended, Synced}
-use Rattle.cc_model.specs.Acts.{act_of, Opens, Closes, Resizes, Writes, Zeroes, Stores, Stamps, Looks}
+use Rattle.cc_model.specs.Acts.{act_of, Opens, Closes, Resizes, Writes, Zeroes, Stores, Stamps, Discards, Looks}
 use Rattle.cc_model.specs.Objects.{objects, truncation}
+use Rattle.cc_model.specs.Ranges.{span_has}
 use Rattle.cc_model.specs.Touches.{size_of, is_mapped}
 use Rattle.cc_model.specs.Residency.{below, moved_by, residents, block_is_mapped, used_by, used, order_of_use}
 use Rattle.cc_laws.proofs.MapSteps.{is_mapped-opens, is_mapped-looks, is_mapped-came_in, is_mapped-went_out, is_mapped-began, is_mapped-synced}
@@ -59,6 +60,9 @@ residents-stores pass call reply h is mapped = residents-mapped (Did pass call r
 
 pub residents-stamps : {hold : ℕ} {lsn : Option ℕ} (pass : ℕ) (call : Call) (reply : Reply) (h : List Effect) → act_of call ≡ Stamps hold lsn → is_mapped (Did pass call reply ∷ h) ≡ true → residents (Did pass call reply ∷ h) ≡ residents h
 residents-stamps pass call reply h is mapped = residents-mapped (Did pass call reply) h mapped ∙ rw (is, moved_by) refl
+
+pub residents-discards : {span : Option Range} (pass : ℕ) (call : Call) (reply : Reply) (h : List Effect) → act_of call ≡ Discards span → is_mapped (Did pass call reply ∷ h) ≡ true → residents (Did pass call reply ∷ h) ≡ filter (λ p. not (span_has span p)) (residents h)
+residents-discards pass call reply h is mapped = residents-mapped (Did pass call reply) h mapped ∙ rw (is, moved_by) refl
 
 pub residents-came_in : (pass page : ℕ) (from_disk : Bool) (h : List Effect) → is_mapped h ≡ true → residents (CameIn pass page from_disk ∷ h) ≡ page ∷ without page (residents h)
 residents-came_in pass page from_disk h mapped = residents-mapped (CameIn pass page from_disk) h (is_mapped-came_in pass page from_disk h ∙ mapped)

@@ -1,24 +1,26 @@
--- Resident pages stay but where a size step or a page-out takes them, and the pages of holds are resident.
+-- Resident pages stay but where a size step, a discard or a page-out takes them, and the pages of holds are resident.
 use Rattle.std.specs.Prelude.{◌≡◌, ℕ, ◌+◌, ◌*◌, ◌<◌, ◌≤◌, Bool, true, false, not, ◌&&◌, ◌==◌, nat_lt, nat_le, List, [], ◌∷◌, refl}
 use Rattle.std.specs.declared.option.Option.{Option}
 use Rattle.std.specs.declared.option.Option.TheVariants.{Some, None}
 use Rattle.std.specs.List.{list_any}
 use Rattle.std.proofs.Common.{ap, sym, ◌∙◌, arith}
 use Rattle.std.proofs.lemmas.Bool.{and_parts, and_from, or_left, eqb-true, ltb-true, leb-true, lt-ltb, leb-false}
-use Rattle.cc_entry.specs.Place.{File}
+use Rattle.cc_entry.specs.Place.{File, Range}
 use Rattle.cc_entry.specs.declared.call.Call.{Call}
 use Rattle.cc_entry.specs.declared.reply.Reply.{Reply}
-use Rattle.cc_entry.specs.Pages.{has_page}
+use Rattle.cc_entry.specs.Pages.{has_page, pages_of}
 use Rattle.cc_model.specs.Numbers.{is_empty, is_among}
 use Rattle.cc_model.specs.History.{Effect, Did, CameIn, WentOut, Began, Ended, Synced}
-use Rattle.cc_model.specs.Acts.{Act, act_of, Opens, Closes, Resizes, Writes, Zeroes, Stores, Stamps, Looks}
+use Rattle.cc_model.specs.Acts.{Act, act_of, Opens, Closes, Resizes, Writes, Zeroes, Stores, Stamps, Discards, Looks}
 use Rattle.cc_model.specs.Objects.{objects, truncation}
 use Rattle.cc_model.specs.Holds.{Hold, range_held, holds_of, is_held, id_of}
 use Rattle.cc_model.specs.Touches.{size_of, is_mapped}
+use Rattle.cc_model.specs.Ranges.{span_has}
+use Rattle.cc_model.specs.Conflicts.{has_page_of}
 use Rattle.cc_model.specs.Residency.{below, residents, is_resident}
 use Rattle.cc_laws.proofs.HoldSteps.{holds_of-done, holds_of-came_in, holds_of-went_out, holds_of-began, holds_of-ended, holds_of-synced}
-use Rattle.cc_laws.proofs.ResidencySteps.{residents-mapped, residents-looks, residents-opens, residents-closes, residents-resizes, residents-writes, residents-zeroes, residents-stores, residents-stamps, residents-went_out, residents-began, residents-ended, residents-synced}
-use Rattle.cc_laws.proofs.Lists1.{among-filter, among-without, among-placed, any-weaker, any-none}
+use Rattle.cc_laws.proofs.ResidencySteps.{residents-mapped, residents-looks, residents-opens, residents-closes, residents-resizes, residents-writes, residents-zeroes, residents-stores, residents-stamps, residents-discards, residents-went_out, residents-began, residents-ended, residents-synced}
+use Rattle.cc_laws.proofs.Lists1.{among-filter, among-without, among-placed, among-any, among-pages, any-weaker, any-none}
 use Rattle.cc_laws.proofs.SafeHistory.{MayChange, Filled, Held, IsActSafe, IsSafe}
 use Rattle.cc_laws.proofs.HeldFacts.{is_still, holds-clear, holds_of-still, new-resident, no-holds}
 use Rattle.cc_laws.proofs.SizeFacts.{truncation-last}
@@ -32,6 +34,7 @@ is_cut_to (Some to) p = nat_le to (4096 * p)
 abbrev pub is_cut_by : Act → List Effect → ℕ → Bool
 is_cut_by (Closes file truncate) h p = is_cut_to (truncation (objects h) (size_of h) file truncate) p
 is_cut_by (Resizes allocation size) h p = is_cut_to (Some size) p
+is_cut_by (Discards span) h p = span_has span p
 is_cut_by other h p = false
 
 -- whether an effect takes the page
@@ -59,6 +62,7 @@ resident-kept (Did pass call reply) h p mapped here uncut = go (act_of call) ref
     go (Zeroes from to) is = ap (is_among p) (residents-zeroes pass call reply h is mapped) ∙ here
     go (Stores page bytes) is = ap (is_among p) (residents-stores pass call reply h is mapped) ∙ among-placed page p (residents h) here
     go (Stamps hold lsn) is = ap (is_among p) (residents-stamps pass call reply h is mapped) ∙ here
+    go (Discards span) is = ap (is_among p) (residents-discards pass call reply h is mapped) ∙ among-filter (λ q. not (span_has span q)) p (residents h) here (ap not (cut (Discards span) is))
     go Looks is = ap (is_among p) (residents-looks pass call reply h is) ∙ here
 resident-kept (CameIn pass page from_disk) h p mapped here uncut = ap (is_among p) (residents-mapped (CameIn pass page from_disk) h mapped) ∙ among-placed page p (residents h) here
 resident-kept (WentOut pass page) h p mapped here uncut = ap (is_among p) (residents-went_out pass page h) ∙ among-without page p (residents h) here uncut
@@ -89,6 +93,17 @@ held-cut h p to within held = go (nat_le to (4096 * p)) refl
 
     go : (t : Bool) → nat_le to (4096 * p) ≡ t → nat_le to (4096 * p) ≡ false
     go true past = absurd (cc (any-weaker (λ hold. has_page (range_held hold) p) (λ hold. nat_lt to (hold.at + hold.len)) (holds_of h) (longer (leb-true to (4096 * p) past)) held))
+    go false is = is
+
+-- a page of an open hold is of no span of which no open hold has a page
+held-apart : (h : List Effect) (p : ℕ) (span : Option Range) → list_any (has_page_of span) (holds_of h) ≡ false → is_held (holds_of h) p ≡ true → span_has span p ≡ false
+held-apart h p span free held = go (span_has span p) refl
+  where
+    among : span_has span p ≡ true → (hold : Hold) → has_page (range_held hold) p ≡ true → has_page_of span hold ≡ true
+    among has hold is = among-any (span_has span) p (pages_of (range_held hold)) (among-pages (range_held hold) p is) has
+
+    go : (t : Bool) → span_has span p ≡ t → span_has span p ≡ false
+    go true has = absurd (cc (free, any-weaker (λ hold. has_page (range_held hold) p) (has_page_of span) (holds_of h) (among has) held))
     go false is = is
 
 done-held : (pass : ℕ) (call : Call) (reply : Reply) (h : List Effect) (p : ℕ) → IsSafe (Did pass call reply ∷ h) → (is_held (holds_of h) p ≡ true → is_resident h p ≡ true) → is_held (holds_of (Did pass call reply ∷ h)) p ≡ true → is_resident (Did pass call reply ∷ h) p ≡ true
@@ -128,6 +143,9 @@ done-held pass call reply h p safe rest held = resident-kept (Did pass call repl
     uncut (Zeroes from to) is = ap (λ b. is_cut_by b h p) is
     uncut (Stores page bytes) is = ap (λ b. is_cut_by b h p) is
     uncut (Stamps hold lsn) is = ap (λ b. is_cut_by b h p) is
+    uncut (Discards span) is =
+        let allowed : IsActSafe h (Discards span) = rw is at safe.0.1 in
+        ap (λ b. is_cut_by b h p) is ∙ held-apart h p span allowed (still-held (ap is_still is))
     uncut Looks is = ap (λ b. is_cut_by b h p) is
 
 held-first : (p : ℕ) → is_held (holds_of []) p ≡ true → is_resident [] p ≡ true

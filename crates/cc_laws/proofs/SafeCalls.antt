@@ -9,7 +9,6 @@ use Rattle.std.proofs.lemmas.Bool.{and_parts, not-false, ltb-true, leb-true, ltb
 use Rattle.cc_entry.specs.Place.{File}
 use Rattle.cc_entry.specs.declared.call.Call.{Call}
 use Rattle.cc_entry.specs.declared.call.Call.TheVariants as call
-use Rattle.cc_entry.specs.declared.error.CcError.{CcError}
 use Rattle.cc_entry.specs.declared.reply.Reply.{Reply}
 use Rattle.cc_entry.specs.declared.hold.HoldKind.{HoldKind}
 use Rattle.cc_entry.specs.declared.entry.Entry.{Entry}
@@ -20,63 +19,18 @@ use Rattle.cc_model.specs.History.{Effect, history}
 use Rattle.cc_model.specs.Acts.{act_of, file_of}
 use Rattle.cc_model.specs.Objects.{objects}
 use Rattle.cc_model.specs.Holds.{Hold, holds_of, hold_at, least_id, lesser}
-use Rattle.cc_model.specs.Touches.{size_of, valid_of, is_mapped}
+use Rattle.cc_model.specs.Touches.{size_of, is_mapped}
 use Rattle.cc_model.specs.Ranges.{range_of, needs_pages}
 use Rattle.cc_model.specs.Residency.{is_resident, all_resident}
-use Rattle.cc_model.specs.Reasons.{refuse_if, not_cached, cached_file, too_long, view_boundary, past_size, beyond_size, beyond_valid, bad_sizes, bad_granularity, no_log}
-use Rattle.cc_model.specs.Conflicts.{held, held_by, busy}
-use Rattle.cc_model.specs.Views.{viewed, no_views, no_vacbs, not_resident}
-use Rattle.cc_model.specs.Refusals.{first_of, refusal}
+use Rattle.cc_model.specs.Reasons.{not_cached, past_size}
+use Rattle.cc_model.specs.Conflicts.{held_by, has_page_of}
+use Rattle.cc_model.specs.Refusals.{IsUnrefused}
 use Rattle.cc_model.specs.Filing.{serves_range, IsFiled}
 use Rattle.cc_model.specs.Conditions.{IsFilled, IsReady}
 use Rattle.cc_model.specs.Legal.{IsAdmitted}
+use Rattle.cc_laws.proofs.UnrefusedCalls.{unrefused, refuse_if-none}
 use Rattle.cc_laws.proofs.Lists1.{among-all, among-pages, among-not_empty, any-found}
 use Rattle.cc_laws.proofs.SafeHistory.{MayHold, Filled, Held, in_hold, IsHoldSafe, IsActSafe}
-
--- the rows of the table of refusals that the sizes, the holds and the pages hang on
-pub record IsUnrefused (h : List Effect) (call : Call) : Type 0 where
-  pub cached : not_cached h (cached_file call (file_of call)) ≡ None
-  pub sizes : bad_sizes h call ≡ None
-  pub size : beyond_size (size_of h) call ≡ None
-  pub held : held h call ≡ None
-
--- where the first of a list of reasons is none, none of them holds
-AreNone : List (Option CcError) → Type 0
-AreNone [] = Unit {0}
-AreNone (o ∷ rest) = (o ≡ None) × AreNone rest
-
-are-none : (reasons : List (Option CcError)) → first_of reasons ≡ None → AreNone reasons
-unfolding AreNone
-are-none [] is = tt
-are-none (None ∷ rest) is = (refl, are-none rest is)
-are-none (Some e ∷ rest) is = absurd (cc)
-
-pub unrefused : (u : Setup) (past : List Entry) (h : List Effect) (call : Call) → refusal u past h call ≡ None → IsUnrefused h call
-unfolding refusal AreNone
-unrefused u past h call is =
-    let none =
-    are-none
-    (not_cached h (cached_file call (file_of call))
-    ∷ too_long call
-    ∷ view_boundary call
-    ∷ bad_sizes h call
-    ∷ bad_granularity call
-    ∷ no_log u call
-    ∷ beyond_size (size_of h) call
-    ∷ beyond_valid (valid_of h) call
-    ∷ held h call
-    ∷ busy (holds_of h) call
-    ∷ no_views h (viewed h call (range_of (size_of h) call))
-    ∷ no_vacbs past h call
-    ∷ not_resident h call
-    ∷ [])
-    is
-    in
-    record { cached = none.0; sizes = none.1.1.1.0; size = none.1.1.1.1.1.1.0; held = none.1.1.1.1.1.1.1.1.0 }
-
-refuse-none : (b : Bool) (e : CcError) → refuse_if b e ≡ None → b ≡ false
-refuse-none true e is = absurd (cc)
-refuse-none false e is = refl
 
 held_by-none : (o : Option ℕ) → held_by o ≡ None → o ≡ None
 held_by-none None is = refl
@@ -95,17 +49,17 @@ least-none test (hold ∷ holds) is = go (test hold) is (least-none test holds)
     go false is rest = rest is
 
 open-not_empty : (h : List Effect) (file : File) → not_cached h (Some file) ≡ None → is_empty (objects h) ≡ false
-open-not_empty h file is = among-not_empty file.object (objects h) (not-false _ (refuse-none _ _ is))
+open-not_empty h file is = among-not_empty file.object (objects h) (not-false _ (refuse_if-none _ _ is))
 
 filled-pages : (h : List Effect) (from to : ℕ) → all_resident h (record { from = from; to = to }) ≡ true → (p : ℕ) → has_page (record { from = from; to = to }) p ≡ true → is_resident h p ≡ true
 filled-pages h from to all p has = among-all (is_resident h) p (pages_of (record { from = from; to = to })) all (among-pages (record { from = from; to = to }) p has)
 
 below-size : (size end : ℕ) → past_size size end ≡ None → end ≤ size
-below-size size end is = ltb-false size end (refuse-none _ _ is)
+below-size size end is = ltb-false size end (refuse_if-none _ _ is)
 
 hold-safe : (h : List Effect) (file : File) (at len : ℕ) → not_cached h (Some file) ≡ None → past_size (size_of h) (at + len) ≡ None → all_resident h (record { from = at; to = at + len }) ≡ true → MayHold h at len
 hold-safe h file at len cached size filled = record {
-  within = refuse-none _ _ size;
+  within = refuse_if-none _ _ size;
   resident = filled-pages h at (at + len) filled;
   opened = open-not_empty h file cached;
 }
@@ -117,13 +71,13 @@ served pass of_kind h id at n is = go (hold_at (holds_of h) id) refl is
     go None found is = absurd (cc)
     go (Some hold) found is = any-found (λ it. it.id == id) (λ it. nat_le it.at at && nat_le (at + n) (it.at + it.len)) (holds_of h) hold found (and_parts (hold.pass == pass && of_kind hold.kind) _ is).1
 
-holds-safe : (h : List Effect) (call : Call) (reply : Reply) → IsUnrefused h call → OnTrue (needs_pages call reply) (IsFilled h (range_of (size_of h) call)) → IsHoldSafe h call
-holds-safe h (call.Map file at len) reply passed filled = hold-safe h file at len passed.cached passed.size filled
-holds-safe h (call.PinRead file at len exclusive) reply passed filled = hold-safe h file at len passed.cached passed.size filled
-holds-safe h (call.PreparePin file at len zero exclusive) reply passed filled = hold-safe h file at len passed.cached passed.size filled
-holds-safe h (call.MdlRead file at len) reply passed filled = hold-safe h file at len passed.cached passed.size filled
-holds-safe h (call.MdlWrite file at len) reply passed filled = hold-safe h file at len passed.cached passed.size filled
-holds-safe h other reply passed filled = tt
+holds-safe : (u : Setup) (past : List Entry) (h : List Effect) (call : Call) (reply : Reply) → IsUnrefused u past h call → OnTrue (needs_pages call reply) (IsFilled h (range_of (size_of h) call)) → IsHoldSafe h call
+holds-safe u past h (call.Map file at len) reply passed filled = hold-safe h file at len passed.cached passed.within_size filled
+holds-safe u past h (call.PinRead file at len exclusive) reply passed filled = hold-safe h file at len passed.cached passed.within_size filled
+holds-safe u past h (call.PreparePin file at len zero exclusive) reply passed filled = hold-safe h file at len passed.cached passed.within_size filled
+holds-safe u past h (call.MdlRead file at len) reply passed filled = hold-safe h file at len passed.cached passed.within_size filled
+holds-safe u past h (call.MdlWrite file at len) reply passed filled = hold-safe h file at len passed.cached passed.within_size filled
+holds-safe u past h other reply passed filled = tt
 
 opens-safe : (h : List Effect) (b c : Bool) → is_mapped h ≡ false → (not (is_mapped h) && (not b || c)) ≡ false → b ≡ true
 opens-safe h true c unmapped is = refl
@@ -137,31 +91,32 @@ closes-safe : (h : List Effect) (b : Bool) → b ≡ true → held_by (cond b (l
 closes-safe h true last is = least-none (λ hold. true) (holds_of h) (held_by-none _ is)
 closes-safe h false last is = absurd (cc)
 
-acts-safe : (past : List Entry) (pass s : ℕ) (call : Call) (reply : Reply) → let h : List Effect = history past s in IsUnrefused h call → IsFiled (holds_of h) pass (Some s) call (file_of call) → OnTrue (needs_pages call reply) (IsFilled h (range_of (size_of h) call)) → IsReady past pass s call → IsActSafe h (act_of call)
-acts-safe past pass s (call.Initialise file sizes quota temporary) reply passed filed filled ready = λ unmapped. opens-safe (history past s) _ _ unmapped (refuse-none _ _ passed.sizes)
-acts-safe past pass s (call.Uninitialise file truncate) reply passed filed filled ready = λ last. closes-safe (history past s) _ last passed.held
-acts-safe past pass s (call.CopyWrite file at bytes) reply passed filed filled ready = Filled (below-size _ _ passed.size) (filled-pages (history past s) at (at + length bytes) filled)
-acts-safe past pass s (call.Zero file span) reply passed filed filled ready = Filled (below-size _ _ passed.size) (filled-pages (history past s) span.from span.to filled)
-acts-safe past pass s (call.PreparePin file at len true exclusive) reply passed filed filled ready = Filled (below-size _ _ passed.size) (filled-pages (history past s) at (at + len) filled)
-acts-safe past pass s (call.PreparePin file at len false exclusive) reply passed filed filled ready = tt
-acts-safe past pass s (call.PinnedWrite hold at bytes) reply passed filed filled ready = Held (served pass _ (history past s) hold at (length bytes) filed)
-acts-safe past pass s (call.MdlStore hold at bytes) reply passed filed filled ready = Held (served pass _ (history past s) hold at (length bytes) filed)
-acts-safe past pass s (call.NcStore file page bytes) reply passed filed filled ready = ready.in_quota
-acts-safe past pass s (call.SetSizes file allocation size) reply passed filed filled ready = (small, least-none (λ hold. nat_lt size (hold.at + hold.len)) (holds_of (history past s)) (held_by-none _ passed.held))
+acts-safe : (u : Setup) (past : List Entry) (pass s : ℕ) (call : Call) (reply : Reply) → let h : List Effect = history past s in IsUnrefused u past h call → IsFiled (holds_of h) pass (Some s) call (file_of call) → OnTrue (needs_pages call reply) (IsFilled h (range_of (size_of h) call)) → IsReady past pass s call → IsActSafe h (act_of call)
+acts-safe u past pass s (call.Initialise file sizes quota temporary) reply passed filed filled ready = λ unmapped. opens-safe (history past s) _ _ unmapped (refuse_if-none _ _ passed.sizes_in_order)
+acts-safe u past pass s (call.Uninitialise file truncate) reply passed filed filled ready = λ last. closes-safe (history past s) _ last passed.not_held
+acts-safe u past pass s (call.CopyWrite file at bytes) reply passed filed filled ready = Filled (below-size _ _ passed.within_size) (filled-pages (history past s) at (at + length bytes) filled)
+acts-safe u past pass s (call.Zero file span) reply passed filed filled ready = Filled (below-size _ _ passed.within_size) (filled-pages (history past s) span.from span.to filled)
+acts-safe u past pass s (call.PreparePin file at len true exclusive) reply passed filed filled ready = Filled (below-size _ _ passed.within_size) (filled-pages (history past s) at (at + len) filled)
+acts-safe u past pass s (call.PreparePin file at len false exclusive) reply passed filed filled ready = tt
+acts-safe u past pass s (call.PinnedWrite hold at bytes) reply passed filed filled ready = Held (served pass _ (history past s) hold at (length bytes) filed)
+acts-safe u past pass s (call.MdlStore hold at bytes) reply passed filed filled ready = Held (served pass _ (history past s) hold at (length bytes) filed)
+acts-safe u past pass s (call.NcStore file page bytes) reply passed filed filled ready = ready.in_quota
+acts-safe u past pass s (call.SetSizes file allocation size) reply passed filed filled ready = (small, least-none (λ hold. nat_lt size (hold.at + hold.len)) (holds_of (history past s)) (held_by-none _ passed.not_held))
   where
     ordered : (nat_le size allocation && nat_lt allocation (2 ^ 63)) ≡ true
-    ordered = not-false _ (refuse-none _ _ passed.sizes)
+    ordered = not-false _ (refuse_if-none _ _ passed.sizes_in_order)
 
     small : size < 2 ^ 63
     small = below (2 ^ 63) (leb-true size allocation (and_parts (nat_le size allocation) _ ordered).0) (ltb-true allocation (2 ^ 63) (and_parts (nat_le size allocation) _ ordered).1)
       where
         below : (most : ℕ) → size ≤ allocation → allocation < most → size < most
         below most a b = omega arith
-acts-safe past pass s other reply passed filed filled ready = tt
+acts-safe u past pass s (call.Discard file span) reply passed filed filled ready = least-none (has_page_of span) (holds_of (history past s)) (held_by-none _ passed.not_held)
+acts-safe u past pass s other reply passed filed filled ready = tt
 
 -- a done call that is legal and allowed is safe
 pub done-safe : (u : Setup) (past : List Entry) (pass s : ℕ) (call : Call) (reply : Reply) → let h : List Effect = history past s in IsAdmitted u past h call → IsFiled (holds_of h) pass (Some s) call (file_of call) → OnTrue (needs_pages call reply) (IsFilled h (range_of (size_of h) call)) → IsReady past pass s call → IsHoldSafe h call × IsActSafe h (act_of call)
 done-safe u past pass s (call.NcWrite file page) reply admitted filed filled ready = (tt, tt)
 done-safe u past pass s other reply admitted filed filled ready =
     let passed = unrefused u past (history past s) other admitted in
-    (holds-safe (history past s) other reply passed filled, acts-safe past pass s other reply passed filed filled ready)
+    (holds-safe u past (history past s) other reply passed filled, acts-safe u past pass s other reply passed filed filled ready)

@@ -6,13 +6,14 @@ use Rattle.cc_entry.specs.declared.call.Call.TheVariants as call
 use Rattle.cc_entry.specs.Pages.{has_page}
 use Rattle.cc_model.specs.Numbers.{is_empty, without}
 use Rattle.cc_model.specs.History.{Effect, Did, CameIn, WentOut, Began, Ended, Synced}
-use Rattle.cc_model.specs.Acts.{Act, act_of, Opens, Closes, Resizes, Writes, Zeroes, Stores, Stamps, Looks}
+use Rattle.cc_model.specs.Acts.{Act, act_of, Opens, Closes, Resizes, Writes, Zeroes, Stores, Stamps, Discards, Looks}
 use Rattle.cc_model.specs.Objects.{objects}
 use Rattle.cc_model.specs.Holds.{holds_of}
 use Rattle.cc_model.specs.Touches.{size_of, is_mapped}
 use Rattle.cc_model.specs.Settings.{quota_of}
 use Rattle.cc_model.specs.Residency.{is_resident, mapped_blocks_with}
 use Rattle.cc_model.specs.Reasons.{in_order}
+use Rattle.cc_model.specs.Conflicts.{has_page_of}
 use Rattle.cc_model.specs.Conditions.{MayComeIn, MayGoOut}
 
 -- a hold of the range may be made
@@ -48,6 +49,7 @@ IsActSafe h (Writes at bytes) = MayChange h at (at + length bytes)
 IsActSafe h (Zeroes from to) = MayChange h from to
 IsActSafe h (Stores page bytes) = mapped_blocks_with h page ≤ quota_of h
 IsActSafe h (Stamps hold lsn) = Unit {0}
+IsActSafe h (Discards span) = list_any (has_page_of span) (holds_of h) ≡ false
 IsActSafe h Looks = Unit {0}
 
 abbrev pub IsEffectSafe : Effect → List Effect → Type 0

@@ -11,14 +11,14 @@ use Rattle.cc_entry.specs.declared.call.Call.{Call}
 use Rattle.cc_entry.specs.declared.reply.Reply.{Reply}
 use Rattle.cc_model.specs.Numbers.{is_empty, is_among, without}
 use Rattle.cc_model.specs.History.{Effect, Did, CameIn, WentOut, Began, Ended, Synced}
-use Rattle.cc_model.specs.Acts.{Act, act_of, Opens, Closes, Resizes, Writes, Zeroes, Stores, Stamps, Looks}
+use Rattle.cc_model.specs.Acts.{Act, act_of, Opens, Closes, Resizes, Writes, Zeroes, Stores, Stamps, Discards, Looks}
 use Rattle.cc_model.specs.Objects.{objects, truncation}
 use Rattle.cc_model.specs.Holds.{Hold, holds_of, id_of}
 use Rattle.cc_model.specs.Sizes.{Sizes, resized, resized_by, raised, stored_range}
 use Rattle.cc_model.specs.Touches.{sizes, size_of, valid_of, is_mapped}
 use Rattle.cc_model.specs.Reasons.{in_order}
 use Rattle.cc_laws.proofs.HoldSteps.{holds_of-done, holds_of-came_in, holds_of-went_out, holds_of-began, holds_of-ended, holds_of-synced}
-use Rattle.cc_laws.proofs.SizeSteps.{sizes-opens_mapped, sizes-opens_anew, sizes-closes, sizes-resizes, sizes-writes, sizes-zeroes, sizes-stores, sizes-stamps, sizes-looks, sizes-came_in, sizes-went_out, sizes-began, sizes-ended, sizes-synced}
+use Rattle.cc_laws.proofs.SizeSteps.{sizes-opens_mapped, sizes-opens_anew, sizes-closes, sizes-resizes, sizes-writes, sizes-zeroes, sizes-stores, sizes-stamps, sizes-discards, sizes-looks, sizes-came_in, sizes-went_out, sizes-began, sizes-ended, sizes-synced}
 use Rattle.cc_laws.proofs.Lists1.{any-weaker, any-none}
 use Rattle.cc_laws.proofs.SafeHistory.{MayChange, Filled, Held, IsActSafe, IsSafe}
 use Rattle.cc_laws.proofs.HeldFacts.{is_still, holds-clear, holds_of-still, new-within, no-holds}
@@ -139,6 +139,7 @@ sized-done pass call reply h safe before = go (act_of call) refl
         sized-by (Did pass call reply ∷ h) (raised (stored_range page (size_of h)).to (sizes h)) (sizes-stores pass call reply h is)
         (raised-within (valid_of h) (size_of h) (stored_range page (size_of h)).to before.valid_within (stored-within page (size_of h))) before.size_in_range (still (size_of h) (ap is_still is) before.held_within)
     go (Stamps hold lsn) is = sized-by (Did pass call reply ∷ h) (sizes h) (sizes-stamps pass call reply h is) before.valid_within before.size_in_range moved
+    go (Discards span) is = sized-same (Did pass call reply ∷ h) h (sizes-discards pass call reply h is) (holds_of-still pass call reply h (ap is_still is)) before
     go Looks is = sized-by (Did pass call reply ∷ h) (sizes h) (sizes-looks pass call reply h is) before.valid_within before.size_in_range moved
 
 sized-first : IsSized []

@@ -1,16 +1,20 @@
 -- Steady histories: each change begins at or below the valid data length, a stream that comes back has
--- no more valid data than it left, and before the first map nothing is changed or held.
+-- no more valid data than it left, a discard throws away what the disk is known to hold, and before the
+-- first map nothing is changed or held.
 use Rattle.std.specs.Prelude.{◌≡◌, ℕ, ◌*◌, ◌≤◌, Bool, true, false, List, [], ◌∷◌}
 use Rattle.std.specs.declared.option.Option.{Option}
 use Rattle.std.specs.declared.option.Option.TheVariants.{Some, None}
 use Rattle.std.specs.List.{cons_option}
+use Rattle.cc_entry.specs.Place.{Range}
 use Rattle.cc_entry.specs.declared.call.Call.{Call}
 use Rattle.cc_model.specs.History.{Effect, Did, CameIn, WentOut, Began, Ended, Synced}
-use Rattle.cc_model.specs.Acts.{Act, act_of, Opens, Closes, Resizes, Writes, Zeroes, Stores, Stamps, Looks}
+use Rattle.cc_model.specs.Acts.{Act, act_of, Opens, Closes, Resizes, Writes, Zeroes, Stores, Stamps, Discards, Looks}
 use Rattle.cc_model.specs.Objects.{objects, had_map}
 use Rattle.cc_model.specs.Holds.{holds_of, held_after}
 use Rattle.cc_model.specs.Touches.{valid_of, is_dirty, is_mapped}
+use Rattle.cc_model.specs.Ranges.{span_has}
 use Rattle.cc_model.specs.Images.{open_of}
+use Rattle.cc_model.specs.Discards.{is_known}
 
 -- a change begins at or below the valid data length
 abbrev pub BeginsWithin : ℕ → Act → Type 0
@@ -21,6 +25,7 @@ BeginsWithin valid (Opens file given quota temporary) = Unit {0}
 BeginsWithin valid (Closes file truncate) = Unit {0}
 BeginsWithin valid (Resizes allocation size) = Unit {0}
 BeginsWithin valid (Stamps hold lsn) = Unit {0}
+BeginsWithin valid (Discards span) = Unit {0}
 BeginsWithin valid Looks = Unit {0}
 
 -- an initialise that makes the map again brings no valid data that the stream did not have
@@ -32,7 +37,17 @@ ComesBackWithin h (Writes at bytes) = Unit {0}
 ComesBackWithin h (Zeroes from to) = Unit {0}
 ComesBackWithin h (Stores page bytes) = Unit {0}
 ComesBackWithin h (Stamps hold lsn) = Unit {0}
+ComesBackWithin h (Discards span) = Unit {0}
 ComesBackWithin h Looks = Unit {0}
+
+-- a discard comes while no transfer is under way, and the disk is known to hold each dirty page of its span
+pub record IsSettled (h : List Effect) (span : Option Range) : Type 0 where
+  pub no_transfer : open_of h ≡ None
+  pub known : (p : ℕ) → span_has span p ≡ true → is_dirty h p ≡ true → is_known h p ≡ true
+
+abbrev pub DiscardsSettled : List Effect → Act → Type 0
+DiscardsSettled h (Discards span) = IsSettled h span
+DiscardsSettled h other = Unit {0}
 
 -- whether an act may stand before the first map
 abbrev pub needs_no_map : Act → Bool
@@ -43,12 +58,14 @@ needs_no_map (Writes at bytes) = false
 needs_no_map (Zeroes from to) = false
 needs_no_map (Stores page bytes) = false
 needs_no_map (Stamps hold lsn) = false
+needs_no_map (Discards span) = false
 needs_no_map Looks = true
 
 -- what a done call keeps to, given the stream before it
 pub record IsSteadyCall (h : List Effect) (call : Call) : Type 0 where
   pub within : BeginsWithin (valid_of h) (act_of call)
   pub back : ComesBackWithin h (act_of call)
+  pub settled : DiscardsSettled h (act_of call)
   pub first : objects h ≡ [] → holds_of h ≡ [] → needs_no_map (act_of call) ≡ true
   pub unheld : objects h ≡ [] → holds_of h ≡ [] → (pass id : ℕ) → held_after pass call id [] ≡ []
 

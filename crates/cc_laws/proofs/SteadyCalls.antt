@@ -7,7 +7,6 @@ use Rattle.cc_entry.specs.Place.{File}
 use Rattle.cc_entry.specs.declared.call.Call.{Call}
 use Rattle.cc_entry.specs.declared.call.Call.TheVariants as call
 use Rattle.cc_entry.specs.declared.hold.HoldKind.{HoldKind}
-use Rattle.cc_entry.specs.declared.error.CcError.{CcError}
 use Rattle.cc_entry.specs.declared.entry.Entry.{Entry}
 use Rattle.cc_model.specs.Setup.{Setup}
 use Rattle.cc_model.specs.Numbers.{is_among}
@@ -15,63 +14,20 @@ use Rattle.cc_model.specs.History.{Effect}
 use Rattle.cc_model.specs.Acts.{act_of, file_of}
 use Rattle.cc_model.specs.Objects.{objects, had_map}
 use Rattle.cc_model.specs.Holds.{Hold, hold_at, holds_of, held_after}
-use Rattle.cc_model.specs.Touches.{size_of, valid_of, is_mapped}
-use Rattle.cc_model.specs.Reasons.{refuse_if, not_cached, cached_file, too_long, view_boundary, in_order, bad_sizes, bad_granularity, no_log, beyond_size, past_valid, beyond_valid}
-use Rattle.cc_model.specs.Ranges.{range_of}
-use Rattle.cc_model.specs.Conflicts.{held, busy}
-use Rattle.cc_model.specs.Views.{viewed, no_views, no_vacbs, not_resident}
-use Rattle.cc_model.specs.Refusals.{first_of, refusal}
+use Rattle.cc_model.specs.Touches.{valid_of, is_mapped}
+use Rattle.cc_model.specs.Images.{open_of}
+use Rattle.cc_model.specs.Reasons.{not_cached, cached_file, in_order, bad_sizes, past_valid, beyond_valid}
+use Rattle.cc_model.specs.Discards.{unsettled}
+use Rattle.cc_model.specs.Refusals.{refusal}
 use Rattle.cc_model.specs.Legal.{IsAdmitted}
-use Rattle.cc_model.specs.Filing.{serves, serves_range, IsFiled}
-use Rattle.cc_entry.specs.Kinds.{is_write_chain}
+use Rattle.cc_model.specs.Filing.{is_write_chain, serves, serves_range, IsFiled}
 use Rattle.cc_entry.specs.Kinds.{is_pin}
-use Rattle.cc_laws.proofs.Steady.{BeginsWithin, ComesBackWithin, needs_no_map, IsSteadyCall}
-
--- each of a list of reasons does not hold
-abbrev EachNone : List (Option CcError) → Type 0
-EachNone [] = Unit {0}
-EachNone (o ∷ rest) = (o ≡ None) × EachNone rest
-
-first_none : (os : List (Option CcError)) → first_of os ≡ None → EachNone os
-first_none [] e = tt
-first_none (None ∷ rest) e = (refl, first_none rest e)
-first_none (Some x ∷ rest) e = absurd (cc)
-
--- the reasons of the list that matter here
-record IsUnrefused (h : List Effect) (call : Call) : Type 0 where
-  cached : not_cached h (cached_file call (file_of call)) ≡ None
-  ordered : bad_sizes h call ≡ None
-  within : beyond_valid (valid_of h) call ≡ None
-
-unrefused : (u : Setup) (past : List Entry) (h : List Effect) (call : Call) → refusal u past h call ≡ None → IsUnrefused h call
-unfolding refusal
-unrefused u past h call e =
-    let each =
-    first_none
-    (not_cached h (cached_file call (file_of call))
-    ∷ too_long call
-    ∷ view_boundary call
-    ∷ bad_sizes h call
-    ∷ bad_granularity call
-    ∷ no_log u call
-    ∷ beyond_size (size_of h) call
-    ∷ beyond_valid (valid_of h) call
-    ∷ held h call
-    ∷ busy (holds_of h) call
-    ∷ no_views h (viewed h call (range_of (size_of h) call))
-    ∷ no_vacbs past h call
-    ∷ not_resident h call
-    ∷ [])
-    e in
-    record { cached = each.0; ordered = each.1.1.1.0; within = each.1.1.1.1.1.1.1.0 }
-
--- a reason that does not hold
-unless : (b : Bool) (e : CcError) → refuse_if b e ≡ None → b ≡ false
-unless true e is = absurd (cc)
-unless false e is = refl
+use Rattle.cc_laws.proofs.UnrefusedCalls.{unrefused, refuse_if-none}
+use Rattle.cc_laws.proofs.LeastPages.{unsettled-none}
+use Rattle.cc_laws.proofs.Steady.{BeginsWithin, ComesBackWithin, DiscardsSettled, needs_no_map, IsSteadyCall}
 
 not_past : (valid start : ℕ) → past_valid valid start ≡ None → start ≤ valid
-not_past valid start is = ltb-false valid start (unless (nat_lt valid start) _ is)
+not_past valid start is = ltb-false valid start (refuse_if-none (nat_lt valid start) _ is)
 
 within-valid : (valid : ℕ) (call : Call) → beyond_valid valid call ≡ None → BeginsWithin valid (act_of call)
 within-valid valid (call.CopyWrite file at bytes) e = not_past valid at e
@@ -92,14 +48,25 @@ back-valid false true true valid given e is_not was = ltb-false valid given e
 
 comes_back : (h : List Effect) (call : Call) → bad_sizes h call ≡ None → ComesBackWithin h (act_of call)
 comes_back h (call.Initialise file sizes quota temporary) e =
-    back-valid (is_mapped h) (in_order sizes) (had_map h) (valid_of h) sizes.valid (unless _ _ e)
+    back-valid (is_mapped h) (in_order sizes) (had_map h) (valid_of h) sizes.valid (refuse_if-none _ _ e)
 comes_back h (call.PreparePin file at len true exclusive) e = tt
 comes_back h (call.PreparePin file at len false exclusive) e = tt
 comes_back h other e = tt
 
+-- what a discard finds of transfers
+abbrev pub FindsNoTransfer : List Effect → Call → Type 0
+FindsNoTransfer h (call.Discard file span) = open_of h ≡ None
+FindsNoTransfer h other = Unit {0}
+
+settled : (h : List Effect) (call : Call) → unsettled h call ≡ None → FindsNoTransfer h call → DiscardsSettled h (act_of call)
+settled h (call.Discard file span) e finds = record { no_transfer = finds; known = λ p has dirty. (unsettled-none h file span).0 e p dirty has }
+settled h (call.PreparePin file at len true exclusive) e finds = tt
+settled h (call.PreparePin file at len false exclusive) e finds = tt
+settled h other e finds = tt
+
 -- no object is open where there is none
 none_open : (h : List Effect) (file : File) → not_cached h (Some file) ≡ None → objects h ≡ [] → ⊥
-none_open h file e none = go (objects h) none (unless _ _ e)
+none_open h file e none = go (objects h) none (refuse_if-none _ _ e)
   where
     go : (opened : List ℕ) → opened ≡ [] → not (is_among file.object opened) ≡ false → ⊥
     go [] is closed = absurd (cc)
@@ -126,6 +93,7 @@ first_acts h pass stream (call.SetDirty hold lsn) e f none free = absurd (unserv
 first_acts h pass stream (call.MdlStore hold at bytes) e f none free = absurd (unserved_range (holds_of h) pass hold at (length bytes) is_write_chain free f)
 first_acts h pass stream (call.NcStore file page bytes) e f none free = absurd (none_open h file e none)
 first_acts h pass stream (call.SetSizes file allocation size) e f none free = absurd (none_open h file e none)
+first_acts h pass stream (call.Discard file span) e f none free = absurd (none_open h file e none)
 first_acts h pass stream other e f none free = refl
 
 -- and no hold is made
@@ -143,18 +111,19 @@ first_holds h (call.EndHold hold) e none pass id = refl
 first_holds h (call.Repin hold) e none pass id = refl
 first_holds h other e none pass id = refl
 
-pub IsSteadyCall-unrefused : (u : Setup) (past : List Entry) (h : List Effect) (pass : ℕ) (stream : Option ℕ) (call : Call) → refusal u past h call ≡ None → IsFiled (holds_of h) pass stream call (file_of call) → IsSteadyCall h call
-IsSteadyCall-unrefused u past h pass stream call e filed =
+pub IsSteadyCall-unrefused : (u : Setup) (past : List Entry) (h : List Effect) (pass : ℕ) (stream : Option ℕ) (call : Call) → refusal u past h call ≡ None → IsFiled (holds_of h) pass stream call (file_of call) → FindsNoTransfer h call → IsSteadyCall h call
+IsSteadyCall-unrefused u past h pass stream call e filed finds =
     let free = unrefused u past h call e in
     record {
-      within = within-valid (valid_of h) call free.within;
-      back = comes_back h call free.ordered;
+      within = within-valid (valid_of h) call free.within_valid;
+      back = comes_back h call free.sizes_in_order;
+      settled = settled h call free.images_known finds;
       first = first_acts h pass stream call free.cached filed;
       unheld = λ none held. first_holds h call free.cached none;
     }
 
 -- a call that may be done is steady, the end of a noncached write too, which changes nothing
-pub IsSteadyCall-admitted : (u : Setup) (past : List Entry) (h : List Effect) (pass : ℕ) (stream : Option ℕ) (call : Call) → IsAdmitted u past h call → IsFiled (holds_of h) pass stream call (file_of call) → IsSteadyCall h call
-IsSteadyCall-admitted u past h pass stream (call.NcWrite file page) e filed =
-    record { within = tt; back = tt; first = λ none held. refl; unheld = λ none held pass id. refl }
-IsSteadyCall-admitted u past h pass stream other e filed = IsSteadyCall-unrefused u past h pass stream other e filed
+pub IsSteadyCall-admitted : (u : Setup) (past : List Entry) (h : List Effect) (pass : ℕ) (stream : Option ℕ) (call : Call) → IsAdmitted u past h call → IsFiled (holds_of h) pass stream call (file_of call) → FindsNoTransfer h call → IsSteadyCall h call
+IsSteadyCall-admitted u past h pass stream (call.NcWrite file page) e filed finds =
+    record { within = tt; back = tt; settled = tt; first = λ none held. refl; unheld = λ none held pass id. refl }
+IsSteadyCall-admitted u past h pass stream other e filed finds = IsSteadyCall-unrefused u past h pass stream other e filed finds

@@ -3,16 +3,19 @@ use Rattle.std.specs.Prelude.{◌≡◌, ℕ, Bool, true, false, ◌==◌, List,
 use Rattle.std.proofs.Common.{subst}
 use Rattle.std.proofs.lemmas.Bool.{eqb-true}
 use Rattle.std.specs.declared.option.Option.TheVariants.{Some, None}
+use Rattle.cc_entry.specs.declared.call.Call.{Call}
+use Rattle.cc_entry.specs.declared.call.Call.TheVariants as call
 use Rattle.cc_entry.specs.declared.reply.Outcome.TheVariants as outcome
 use Rattle.cc_entry.specs.declared.entry.Entry.{Entry}
 use Rattle.cc_entry.specs.declared.entry.Entry.TheVariants as entry
 use Rattle.cc_model.specs.Setup.{Setup}
 use Rattle.cc_model.specs.History.{Effect, Did, CameIn, WentOut, Began, Ended, Synced, effect_of, history}
+use Rattle.cc_model.specs.Conditions.{IsReady}
 use Rattle.cc_model.specs.Legal.{IsLegal, IsLegalEntry}
 use Rattle.cc_model.specs.Allowed.{MayStand, IsAllowedSoFar}
 use Rattle.cc_model.specs.Good.{IsGoodSoFar}
 use Rattle.cc_laws.proofs.Steady.{IsSteadyEffect, IsSteady, IsSteadyOption, IsSteady-onto}
-use Rattle.cc_laws.proofs.SteadyCalls.{IsSteadyCall-admitted}
+use Rattle.cc_laws.proofs.SteadyCalls.{FindsNoTransfer, IsSteadyCall-admitted}
 
 -- an effect on the stream of an entry, where that stream is the one
 IsSteadyOption-if : (stream s : ℕ) (past : List Entry) (e : Effect) → IsSteadyEffect e (history past stream) → IsSteadyOption (if stream == s then Some e else None) (history past s)
@@ -22,10 +25,15 @@ IsSteadyOption-if stream s past e steady = go (stream == s) refl
     go true is = subst (λ t. IsSteadyEffect e (history past t)) (eqb-true stream s is) steady
     go false is = tt
 
+-- a discard may be done while no transfer is under way
+finds-none : (past : List Entry) (pass s : ℕ) (call : Call) → IsReady past pass s call → FindsNoTransfer (history past s) call
+finds-none past pass s (call.Discard file span) ready = ready
+finds-none past pass s other ready = tt
+
 IsSteadyOption-entry : (u : Setup) (past : List Entry) (e : Entry) (s : ℕ) → IsLegalEntry u past e → MayStand u past e → IsSteadyOption (effect_of e s) (history past s)
 unfolding IsLegalEntry
 IsSteadyOption-entry u past (entry.Call pass nth (Some stream) call (outcome.Done reply)) s legal stands =
-    IsSteadyOption-if stream s past (Did pass call reply) (IsSteadyCall-admitted u past (history past stream) pass (Some stream) call legal.0 stands.filed)
+    IsSteadyOption-if stream s past (Did pass call reply) (IsSteadyCall-admitted u past (history past stream) pass (Some stream) call legal.0 stands.filed (finds-none past pass stream call stands.may_end.1))
 IsSteadyOption-entry u past (entry.Call pass nth (Some stream) call (outcome.Failed error)) s legal stands = tt
 IsSteadyOption-entry u past (entry.Call pass nth None call ended) s legal stands = tt
 IsSteadyOption-entry u past (entry.PageIn pass page from_disk) s legal stands =

@@ -3,17 +3,18 @@ use Rattle.std.specs.Prelude.{◌≡◌, ℕ, suc, ◌+◌, Bool, true, false, �
 use Rattle.std.proofs.Common.{ap}
 use Rattle.std.specs.declared.option.Option.{Option}
 use Rattle.std.specs.declared.option.Option.TheVariants.{Some, None}
-use Rattle.cc_entry.specs.Place.{File}
+use Rattle.cc_entry.specs.Place.{File, Range}
 use Rattle.cc_entry.specs.declared.place.FileSizes.{FileSizes}
 use Rattle.cc_entry.specs.declared.call.Call.{Call}
 use Rattle.cc_entry.specs.declared.reply.Reply.{Reply}
 use Rattle.cc_entry.specs.declared.entry.End.{End}
 use Rattle.cc_model.specs.History.{Effect, Did, CameIn, WentOut, Began, Ended, Synced}
-use Rattle.cc_model.specs.Acts.{act_of, Opens, Closes, Resizes, Writes, Zeroes, Stores, Stamps, Looks}
+use Rattle.cc_model.specs.Acts.{act_of, Opens, Closes, Resizes, Writes, Zeroes, Stores, Stamps, Discards, Looks}
 use Rattle.cc_entry.specs.Pages.{has_page}
 use Rattle.cc_model.specs.Objects.{objects, truncation}
 use Rattle.cc_model.specs.Holds.{holds_of, hold_at}
-use Rattle.cc_model.specs.Sizes.{touched_if, cut_if, hold_has, stored_range, ended_ok}
+use Rattle.cc_model.specs.Sizes.{touched_if, cut_if, dropped_if, hold_has, stored_range, ended_ok}
+use Rattle.cc_model.specs.Ranges.{span_has}
 use Rattle.cc_model.specs.Touches.{touches, size_of}
 
 pub touches-opens : (ended : Bool) {file : File} {given : FileSizes} {quota : ℕ} {temporary : Bool} (pass : ℕ) (call : Call) (reply : Reply) (h : List Effect) (p : ℕ) → act_of call ≡ Opens file given quota temporary → touches ended (Did pass call reply ∷ h) p ≡ touches ended h p
@@ -43,6 +44,10 @@ touches-stores ended pass call reply h p is = rw (is, touches) refl
 pub touches-stamps : (ended : Bool) {hold : ℕ} {lsn : Option ℕ} (pass : ℕ) (call : Call) (reply : Reply) (h : List Effect) (p : ℕ) → act_of call ≡ Stamps hold lsn → touches ended (Did pass call reply ∷ h) p ≡ touched_if (hold_has (hold_at (holds_of h) hold) p) (suc (length h)) lsn (touches ended h p)
 unfolding touches
 touches-stamps ended pass call reply h p is = rw (is, touches) refl
+
+pub touches-discards : (ended : Bool) {span : Option Range} (pass : ℕ) (call : Call) (reply : Reply) (h : List Effect) (p : ℕ) → act_of call ≡ Discards span → touches ended (Did pass call reply ∷ h) p ≡ dropped_if (span_has span p) (touches ended h p)
+unfolding touches
+touches-discards ended pass call reply h p is = rw (is, touches) refl
 
 pub touches-looks : (ended : Bool) (pass : ℕ) (call : Call) (reply : Reply) (h : List Effect) (p : ℕ) → act_of call ≡ Looks → touches ended (Did pass call reply ∷ h) p ≡ touches ended h p
 unfolding touches

@@ -1,13 +1,13 @@
 -- How the pages that were ever touched step.
 use Rattle.std.specs.Prelude.{◌≡◌, ℕ, ◌+◌, Bool, List, ◌∷◌, ◌++◌, length, refl}
 use Rattle.std.specs.declared.option.Option.{Option}
-use Rattle.cc_entry.specs.Place.{File}
+use Rattle.cc_entry.specs.Place.{File, Range}
 use Rattle.cc_entry.specs.declared.place.FileSizes.{FileSizes}
 use Rattle.cc_entry.specs.declared.call.Call.{Call}
 use Rattle.cc_entry.specs.declared.reply.Reply.{Reply}
 use Rattle.cc_entry.specs.declared.entry.End.{End}
 use Rattle.cc_model.specs.History.{Effect, Did, CameIn, WentOut, Began, Ended, Synced}
-use Rattle.cc_model.specs.Acts.{act_of, Opens, Closes, Resizes, Writes, Zeroes, Stores, Stamps, Looks}
+use Rattle.cc_model.specs.Acts.{act_of, Opens, Closes, Resizes, Writes, Zeroes, Stores, Stamps, Discards, Looks}
 use Rattle.cc_entry.specs.Pages.{pages_of}
 use Rattle.cc_model.specs.Holds.{holds_of, hold_at}
 use Rattle.cc_model.specs.Sizes.{hold_pages}
@@ -40,6 +40,10 @@ touched-stores pass call reply h is = rw (is, touched) refl
 pub touched-stamps : {hold : ℕ} {lsn : Option ℕ} (pass : ℕ) (call : Call) (reply : Reply) (h : List Effect) → act_of call ≡ Stamps hold lsn → touched (Did pass call reply ∷ h) ≡ hold_pages (hold_at (holds_of h) hold) ++ touched h
 unfolding touched
 touched-stamps pass call reply h is = rw (is, touched) refl
+
+pub touched-discards : {span : Option Range} (pass : ℕ) (call : Call) (reply : Reply) (h : List Effect) → act_of call ≡ Discards span → touched (Did pass call reply ∷ h) ≡ touched h
+unfolding touched
+touched-discards pass call reply h is = rw (is, touched) refl
 
 pub touched-looks : (pass : ℕ) (call : Call) (reply : Reply) (h : List Effect) → act_of call ≡ Looks → touched (Did pass call reply ∷ h) ≡ touched h
 unfolding touched

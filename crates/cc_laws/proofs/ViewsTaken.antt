@@ -16,7 +16,7 @@ use Rattle.cc_entry.specs.declared.entry.Entry.{Entry}
 use Rattle.cc_entry.specs.declared.entry.Entry.TheVariants as entry
 use Rattle.cc_model.specs.Setup.{Setup}
 use Rattle.cc_model.specs.History.{Effect, Did, CameIn, WentOut, Began, Ended, Synced, effect_of, history}
-use Rattle.cc_model.specs.Acts.{Act, act_of, Opens, Closes, Resizes, Writes, Zeroes, Stores, Stamps, Looks}
+use Rattle.cc_model.specs.Acts.{Act, act_of, Opens, Closes, Resizes, Writes, Zeroes, Stores, Stamps, Discards, Looks}
 use Rattle.cc_model.specs.Objects.{objects}
 use Rattle.cc_model.specs.Touches.{touched, touches, is_mapped}
 use Rattle.cc_model.specs.Reasons.{refuse_if}
@@ -25,10 +25,11 @@ use Rattle.cc_model.specs.Cache.{views_of, views_taken}
 use Rattle.cc_model.specs.Good.{IsGoodSoFar}
 use Rattle.cc_model.specs.Legal.{IsLegal, IsLegalEntry}
 use Rattle.cc_laws.proofs.HistorySteps.{history-effect, history-no_effect, history-done, history-done_other}
-use Rattle.cc_laws.proofs.QuotaSteps.{quota_of-opens_mapped, quota_of-opens_anew, quota_of-closes, quota_of-resizes, quota_of-writes, quota_of-zeroes, quota_of-stores, quota_of-stamps, quota_of-looks, quota_of-came_in, quota_of-went_out, quota_of-began, quota_of-ended, quota_of-synced}
+use Rattle.cc_laws.proofs.QuotaSteps.{quota_of-opens_mapped, quota_of-opens_anew, quota_of-closes, quota_of-resizes, quota_of-writes, quota_of-zeroes, quota_of-stores, quota_of-stamps, quota_of-discards, quota_of-looks, quota_of-came_in, quota_of-went_out, quota_of-began, quota_of-ended, quota_of-synced}
 use Rattle.cc_laws.proofs.Steady.{IsSteadyEffect, IsSteady}
 use Rattle.cc_laws.proofs.SteadyPasts.{IsSteady-good}
-use Rattle.cc_laws.proofs.AdmittedCalls.{HasRoom, HasRoomFor-admitted, refuse_if-none}
+use Rattle.cc_laws.proofs.AdmittedCalls.{HasRoom, HasRoomFor-admitted}
+use Rattle.cc_laws.proofs.UnrefusedCalls.{refuse_if-none}
 use Rattle.cc_laws.proofs.RoomPasts.{IsGoodSoFar-before}
 use Rattle.cc_laws.proofs.BlockLists.{same-flip}
 use Rattle.cc_laws.proofs.HeldObjects.{HoldsAsOpen, HoldsAsOpen-good}
@@ -47,6 +48,7 @@ quota_of-mapped (Did pass call reply) h mapped = go (act_of call) refl
     go (Zeroes from to) is = quota_of-zeroes pass call reply h is
     go (Stores page bytes) is = quota_of-stores pass call reply h is
     go (Stamps hold lsn) is = quota_of-stamps pass call reply h is
+    go (Discards span) is = quota_of-discards pass call reply h is
     go Looks is = quota_of-looks pass call reply h is
 quota_of-mapped (CameIn pass page from_disk) h mapped = quota_of-came_in pass page from_disk h
 quota_of-mapped (WentOut pass page) h mapped = quota_of-went_out pass page h

@@ -1,15 +1,16 @@
 -- What stays the same of a stream, of its disk, of a log and of a pass, while others go on.
-use Rattle.std.specs.Prelude.{◌≡◌, ℕ, Bool, List}
+use Rattle.std.specs.Prelude.{◌≡◌, ℕ, Bool, false, List}
 use Rattle.cc_entry.specs.Place.{Page}
 use Rattle.cc_entry.specs.declared.entry.Entry.{Entry}
 use Rattle.cc_model.specs.History.{Effect}
 use Rattle.cc_model.specs.Objects.{objects, had_map}
 use Rattle.cc_model.specs.Holds.{holds_of}
 use Rattle.cc_model.specs.Touches.{sizes, touches, touched, dirty_pages, is_mapped}
-use Rattle.cc_model.specs.Bytes.{byte_of}
+use Rattle.cc_model.specs.Bytes.{on_disk, byte_of}
 use Rattle.cc_model.specs.Settings.{quota_of, is_temporary, allocation_of, log_of, has_no_read_ahead, has_no_write_behind, threshold_of, granularity_of}
 use Rattle.cc_model.specs.Residency.{residents, order_of_use}
 use Rattle.cc_model.specs.Images.{open_of, begun, image, crash_pages}
+use Rattle.cc_model.specs.Discards.{low_of}
 use Rattle.cc_model.specs.ReadAhead.{reads_of}
 use Rattle.cc_model.specs.Logs.{flushed_to, floor_of}
 use Rattle.cc_model.specs.Passes.{mine_of, calls_of, up_to_call, is_written_since}
@@ -23,6 +24,7 @@ pub record SameBook (new old : List Effect) : Type 0 where
   pub same_sizes : sizes new ≡ sizes old
   pub same_touches : (ended : Bool) (p : ℕ) → touches ended new p ≡ touches ended old p
   pub same_dirty : (dirty_pages new ≡ dirty_pages old) × (touched new ≡ touched old)
+  pub same_low : (p : ℕ) → low_of new p ≡ low_of old p
   pub same_bytes : (pages : ℕ → List ℕ) (i : ℕ) → byte_of pages new i ≡ byte_of pages old i
   pub same_residents : residents new ≡ residents old
   pub same_order : order_of_use new ≡ order_of_use old
@@ -44,6 +46,7 @@ pub record SameImages (new old : List Effect) : Type 0 where
   pub same_transfer : open_of new ≡ open_of old
   pub same_front : (p : ℕ) → begun new p ≡ begun old p
   pub same_image : (pages : ℕ → List ℕ) (p : ℕ) → image pages new p ≡ image pages old p
+  pub same_disk : (pages : ℕ → List ℕ) (i : ℕ) → on_disk pages false new i ≡ on_disk pages false old i
 
 -- of two histories of a stream, what a crash may leave of each page is the same
 pub record SameCrash (new old : List Effect) : Type 0 where

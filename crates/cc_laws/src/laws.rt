@@ -1,6 +1,6 @@
 //! Laws of what a journal means. Each function does nothing: its contract is the law.
 
-ghost use Rattle.std.specs.Prelude.{◌≡◌, ℕ, ◌+◌, ◌-◌, ◌*◌, ◌<◌, ◌≤◌, true, false, not, ◌&&◌, ◌||◌, nat_le, Option, List, [], ◌∷◌, ◌++◌, length, slice_index};
+ghost use Rattle.std.specs.Prelude.{◌≡◌, ◌↔◌, ℕ, ◌+◌, ◌-◌, ◌*◌, ◌<◌, ◌≤◌, true, false, not, ◌&&◌, ◌||◌, nat_le, Option, None, List, [], ◌∷◌, ◌++◌, length, slice_index};
 ghost use Rattle.cc_entry.specs.declared.call.Call.{Call};
 ghost use Rattle.cc_entry.specs.declared.reply.Reply.{Reply};
 ghost use Rattle.cc_entry.specs.declared.reply.Outcome.TheVariants as outcome;
@@ -9,6 +9,7 @@ ghost use Rattle.cc_entry.specs.declared.entry.Entry.{Entry};
 ghost use Rattle.cc_entry.specs.declared.entry.Entry.TheVariants as entry;
 ghost use Rattle.cc_entry.specs.declared.entry.End.{End};
 ghost use Rattle.cc_entry.specs.Pages.{has_byte, has_page};
+ghost use Rattle.cc_model.specs.Setup.{Setup};
 ghost use Rattle.cc_model.specs.History.{Effect, Did, Began, Ended, Synced, history};
 ghost use Rattle.cc_model.specs.Acts.{act_of, Resizes, Writes, Zeroes, Stores, Stamps, Looks};
 ghost use Rattle.cc_model.specs.Holds.{holds_of, hold_at};
@@ -17,6 +18,7 @@ ghost use Rattle.cc_model.specs.Touches.{size_of, valid_of, unwritten, is_dirty}
 ghost use Rattle.cc_model.specs.Bytes.{byte_of, page_bytes};
 ghost use Rattle.cc_model.specs.Images.{image};
 ghost use Rattle.cc_model.specs.Passes.{mine_of};
+ghost use Rattle.cc_model.specs.Refusals.{refusal, IsUnrefused};
 ghost use Rattle.cc_model.specs.Turns.{Book, Device, Log, is_quiet};
 ghost use Rattle.cc_laws.specs.Laws.{SameBook, SameSettings, SameImages, SameCrash, SameLog, SamePass};
 
@@ -157,4 +159,10 @@ pub fn transfers_clean_their_page()
         image pages (Ended pass p how ∷ Began pass p ∷ h) p ≡ Some (page_bytes pages h p) }
     ensures dirty { (pass page : ℕ) (how : End) (h : List Effect) (p : ℕ) → ended_ok how ≡ false →
         unwritten (Ended pass page how ∷ h) p ≡ unwritten h p }
+{}
+
+/// Nothing refuses a call exactly where none of the reasons holds.
+pub fn refusals_have_a_reason()
+    ensures { (u : Setup) (past : List Entry) (h : List Effect) (call : Call) →
+        (refusal u past h call ≡ None) ↔ IsUnrefused u past h call }
 {}

@@ -8,7 +8,7 @@ use Rattle.cc_entry.specs.declared.call.Call.{Call}
 use Rattle.cc_entry.specs.declared.call.Call.TheVariants as call
 use Rattle.cc_entry.specs.declared.error.CcError.{CcError}
 use Rattle.cc_entry.specs.declared.error.CcError.TheVariants as error
-use Rattle.cc_model.specs.History.{Effect, Did, CameIn, WentOut, Began, Ended, Synced}
+use Rattle.cc_model.specs.History.{Effect, Began, Ended}
 use Rattle.cc_model.specs.Objects.{had_map}
 use Rattle.cc_model.specs.Sizes.{ended_ok}
 use Rattle.cc_model.specs.Touches.{valid_of, dirty_pages}
@@ -37,14 +37,7 @@ low_since ended (Began pass page ∷ h) p =
     ]
 low_since ended (Ended pass page how ∷ h) p =
     least_valid (had_map h) (valid_of (Ended pass page how ∷ h)) (low_since (ended || (page == p && ended_ok how)) h p)
-low_since ended (Did pass call reply ∷ h) p =
-    least_valid (had_map h) (valid_of (Did pass call reply ∷ h)) (low_since ended h p)
-low_since ended (CameIn pass page from_disk ∷ h) p =
-    least_valid (had_map h) (valid_of (CameIn pass page from_disk ∷ h)) (low_since ended h p)
-low_since ended (WentOut pass page ∷ h) p =
-    least_valid (had_map h) (valid_of (WentOut pass page ∷ h)) (low_since ended h p)
-low_since ended (Synced pass how ∷ h) p =
-    least_valid (had_map h) (valid_of (Synced pass how ∷ h)) (low_since ended h p)
+low_since ended (other ∷ h) p = least_valid (had_map h) (valid_of (other ∷ h)) (low_since ended h p)
 
 abbrev pub low_of : List Effect → ℕ → ℕ
 low_of h p = low_since false h p

@@ -1,5 +1,5 @@
 -- Refusals: which calls may not be done, and the order in which the reasons count.
-use Rattle.std.specs.Prelude.{List, [], ◌∷◌}
+use Rattle.std.specs.Prelude.{◌≡◌, List, [], ◌∷◌}
 use Rattle.std.specs.declared.option.Option.{Option}
 use Rattle.std.specs.declared.option.Option.TheVariants.{Some, None}
 use Rattle.cc_entry.specs.declared.call.Call.{Call}
@@ -43,3 +43,21 @@ refusal u past h call =
     ∷ unsettled h call
     ∷ grown h call
     ∷ [])
+
+-- nothing refuses a call: each reason by its name
+pub record IsUnrefused (u : Setup) (past : List Entry) (h : List Effect) (call : Call) : Type 0 where
+  pub cached : not_cached h (cached_file call (file_of call)) ≡ None
+  pub within_limit : too_long call ≡ None
+  pub in_one_block : view_boundary call ≡ None
+  pub sizes_in_order : bad_sizes h call ≡ None
+  pub is_granularity : bad_granularity call ≡ None
+  pub log_exists : no_log u call ≡ None
+  pub within_size : beyond_size (size_of h) call ≡ None
+  pub within_valid : beyond_valid (valid_of h) call ≡ None
+  pub not_held : held h call ≡ None
+  pub not_busy : busy (holds_of h) call ≡ None
+  pub within_quota : no_views h (viewed h call (range_of (size_of h) call)) ≡ None
+  pub within_pool : no_vacbs past h call ≡ None
+  pub is_resident : not_resident h call ≡ None
+  pub images_known : unsettled h call ≡ None
+  pub none_grown : grown h call ≡ None

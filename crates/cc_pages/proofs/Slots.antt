@@ -1,3 +1,4 @@
+-- What a write of one slot leaves of the pages.
 use Rattle.std.proofs.Common.{◌≡◌, ℕ, ◌<◌, List, Option, None, Some, length, get_or, set, ap, ◌∙◌, sym, inl, inr, arith}
 use Rattle.std.proofs.lemmas.List.{map-set, length-map}
 use Rattle.std.proofs.lemmas.Grind.{common_steps}
@@ -26,13 +27,13 @@ overwrites : (f : List ℕ → List ℕ) (now was new : Option (List ℕ)) → n
 overwrites f None was new e w = tt
 overwrites f (Some bytes) was new e w = w ∙ ap (option_map f) (sym e)
 
--- a piece written over the frame of a slot
-pub page_at-overwritten : (slots : List Slot) (i : ℕ) (x y : Slot) (at : ℕ) (piece : List ℕ) → length slots ≡ 64 → i < 64
-    → page_in y ≡ option_map (λ bytes. overwritten bytes at piece) (page_in (get_or slots i x))
-    → IfSome (page_at (pages_in slots) i) (λ bytes. page_at (pages_in (set slots i y)) i ≡ Some (overwritten bytes at piece))
-page_at-overwritten slots i x y at piece n h w =
+-- bytes written over the frame of a slot
+pub page_at-overwritten : (slots : List Slot) (i : ℕ) (x y : Slot) (at : ℕ) (bytes : List ℕ) → length slots ≡ 64 → i < 64
+    → page_in y ≡ option_map (λ page. overwritten page at bytes) (page_in (get_or slots i x))
+    → IfSome (page_at (pages_in slots) i) (λ page. page_at (pages_in (set slots i y)) i ≡ Some (overwritten page at bytes))
+page_at-overwritten slots i x y at bytes n h w =
     let le : i < length slots = omega arith in
-    overwrites (λ bytes. overwritten bytes at piece) (page_at (pages_in slots) i) (page_in (get_or slots i x)) (page_at (pages_in (set slots i y)) i)
+    overwrites (λ page. overwritten page at bytes) (page_at (pages_in slots) i) (page_in (get_or slots i x)) (page_at (pages_in (set slots i y)) i)
     (get_or-map-at page_in slots i x None le) (page_at-set slots i y n h ∙ w)
 
 -- slots that are all empty show no page, also past the last

@@ -1,3 +1,4 @@
+-- The pages of a view block as contracts see them.
 use Rattle.std.specs.Prelude.{◌≡◌, ◌≢◌, ℕ, ◌+◌, List, ◌++◌, Option, None, length, map, take, drop, slice_index_or}
 use Rattle.std.specs.Option.{option_map}
 use Rattle.std.specs.declared.alloc.Global.{Global}
@@ -7,9 +8,9 @@ use Rattle.std.specs.declared.boxed.Box.{Box}
 abbrev pub page_at : List (Option (List ℕ)) → ℕ → Option (List ℕ)
 page_at pages i = slice_index_or pages i None
 
--- the bytes of a page after a piece is written into it at a place
+-- the bytes of a page after bytes are written into it at a place
 abbrev pub overwritten : List ℕ → ℕ → List ℕ → List ℕ
-overwritten bytes at piece = take at bytes ++ piece ++ drop (at + length piece) bytes
+overwritten page at bytes = take at page ++ bytes ++ drop (at + length bytes) page
 
 -- every page but page i is as it was
 abbrev pub KeepsOthers : List (Option (List ℕ)) → List (Option (List ℕ)) → ℕ → Type 0

@@ -1,3 +1,5 @@
+//! The frames of the pages.
+
 ghost use Rattle.std.specs.Prelude.{◌≡◌, ℕ, ◌+◌, ◌<◌, ◌≤◌, None, Some, length, IsSome, IfSome, OnOk, OnErr};
 ghost use Rattle.std.specs.Option.{option_copied, option_map};
 ghost use Rattle.cc_pages.specs.Pages.{page_at, page_in, overwritten, KeepsOthers};
@@ -39,6 +41,7 @@ impl Model for Frames {
 }
 
 impl Frames {
+    /// No page.
     pub fn new(alloc: Global) -> Frames
         ensures empty { (i : ℕ) → page_at result i ≡ None }
     {
@@ -46,6 +49,7 @@ impl Frames {
         Frames { slots, alloc }
     }
 
+    /// The bytes of a page.
     pub fn get(&self, i: u8) -> Option<&[u8; PAGE_SIZE]>
         requires { i < PAGES }
         ensures { option_copied result ≡ page_at self.now i }
@@ -56,6 +60,7 @@ impl Frames {
         }
     }
 
+    /// Gives a page these bytes, in a frame of its own.
     pub fn put(&mut self, i: u8, bytes: &[u8; PAGE_SIZE]) -> Result<(), NoMemory>
         requires { i < PAGES }
         ensures page { OnOk result (page_at self.new i ≡ Some bytes.now) }
@@ -71,16 +76,19 @@ impl Frames {
         }
     }
 
-    pub fn write(&mut self, i: u8, at: u16, piece: &[u8])
+    /// Writes bytes over those of a page that is there.
+    pub fn write(&mut self, i: u8, at: u16, bytes: &[u8])
         requires within { i < PAGES }
         requires there { IsSome (page_at self.old i) }
-        requires fits { at + length piece.now ≤ PAGE_SIZE }
-        ensures page { IfSome (page_at self.old i) (λ bytes. page_at self.new i ≡ Some (overwritten bytes at piece.now)) }
+        requires fits { at + length bytes.now ≤ PAGE_SIZE }
+        ensures page { IfSome (page_at self.old i)
+            (λ page. page_at self.new i ≡ Some (overwritten page at bytes.now)) }
         ensures others { KeepsOthers self.old self.new i }
     {
-        overwrite(&mut self.slots[i as usize], at as usize, piece);
+        overwrite(&mut self.slots[i as usize], at as usize, bytes);
     }
 
+    /// Takes a page away.
     pub fn clear(&mut self, i: u8)
         requires { i < PAGES }
         ensures page { page_at self.new i ≡ None }
@@ -90,11 +98,13 @@ impl Frames {
     }
 }
 
-fn overwrite(slot: &mut Option<Box<[u8; PAGE_SIZE]>>, at: usize, piece: &[u8])
-    requires { at + length piece.now ≤ PAGE_SIZE }
-    ensures { page_in slot.new ≡ option_map (λ bytes. overwritten bytes at piece.now) (page_in slot.old) }
+// Writes bytes over those of the frame in a slot, where there is one.
+fn overwrite(slot: &mut Option<Box<[u8; PAGE_SIZE]>>, at: usize, bytes: &[u8])
+    requires { at + length bytes.now ≤ PAGE_SIZE }
+    ensures { page_in slot.new
+        ≡ option_map (λ page. overwritten page at bytes.now) (page_in slot.old) }
 {
     if let Some(frame) = slot {
-        frame[at..at + piece.len()].copy_from_slice(piece);
+        frame[at..at + bytes.len()].copy_from_slice(bytes);
     }
 }

@@ -7,6 +7,3 @@
 mod frames;
 
 pub use frames::{Frames, NoMemory, PAGE_SIZE, PAGES};
-
-#[cfg(test)]
-mod tests;

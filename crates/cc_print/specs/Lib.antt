@@ -1,3 +1,4 @@
+pub mod Append
 pub mod Words
 pub mod Answers
 pub mod Calls

@@ -19,6 +19,8 @@ mod readers;
 #[cfg(test)]
 mod script;
 #[cfg(test)]
+mod sent;
+#[cfg(test)]
 mod text;
 #[cfg(test)]
 mod vacb;
