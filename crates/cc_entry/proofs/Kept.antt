@@ -1,7 +1,7 @@
 -- Bytes at their places, in a list that is kept in parts.
-use Rattle.std.proofs.Common.{◌≡◌, ◌≢◌, ℕ, suc, zero, ◌+◌, ◌-◌, ◌<◌, ◌≤◌, List, [], ◌∷◌, ◌++◌, replicate, take, drop, set, length, get_or, slice_get, Some, refl, ap, sym, ◌∙◌, arith, append_assoc}
-use Rattle.std.proofs.lemmas.List.{append-nil, length-append, length-replicate, length-drop, get_or-take, get_or-replicate, drop-replicate, drop_more, get_or_append_left, take_more_set, replicate_more, replicate-append-replicate}
-use Rattle.std.proofs.lemmas.Option.{slice_get-get_or, get_or_from_slice_get}
+use Rattle.std.proofs.Common.{◌≡◌, ℕ, suc, zero, ◌+◌, ◌-◌, ◌<◌, ◌≤◌, List, [], ◌∷◌, ◌++◌, replicate, take, drop, set, length, get_or, slice_get, Some, refl, ap, sym, ◌∙◌, arith, append_assoc}
+use Rattle.std.proofs.lemmas.List.{append-nil, length-append, length-replicate, length-drop, get_or-take, get_or-replicate, drop-replicate, drop_more, take_more, take_more_set, take-take, take-append-drop, drop-take, drop_at, length-take-le, replicate_more, replicate-append-replicate}
+use Rattle.std.proofs.lemmas.Option.{slice_get-get_or, get_or_from_slice_get, slice_get_within}
 use Rattle.std.specs.List.{concat}
 
 -- a byte of the first few of a list
@@ -85,3 +85,34 @@ last_longer (x ∷ y ∷ parts) (suc i) d part more h e = ap (x ++◌) (last_lon
 pub one_behind : (parts : List (List ℕ)) (part : List ℕ) → concat (parts ++ part ∷ []) ≡ concat parts ++ part
 one_behind [] part = append-nil part
 one_behind (x ∷ parts) part = ap (x ++◌) (one_behind parts part) ∙ sym (append_assoc x (concat parts) part)
+
+-- one more byte of the same value
+pub same_longer : (bytes : List ℕ) (at end b : ℕ) → at ≤ end → end < length bytes → get_or bytes end 0 ≡ b → take end bytes ≡ take at bytes ++ replicate (end - at) b → take (end + 1) bytes ≡ take at bytes ++ replicate (end + 1 - at) b
+same_longer bytes at end b from within is e =
+    let more : end + 1 - at ≡ end - at + 1 = omega (arith, from) in
+    take_more bytes end 0 within ∙ ap (λ x. take end bytes ++ x ∷ []) is ∙ ap (λ front. front ++ b ∷ []) e ∙ append_assoc (take at bytes) (replicate (end - at) b) (b ∷ []) ∙ ap (take at bytes ++◌) (replicate_more (end - at) b ∙ ap (λ n. replicate n b) (sym more))
+
+-- bytes of one value from a place on
+pub same_next : (bytes : List ℕ) (at end b : ℕ) → at ≤ end → end ≤ length bytes → take end bytes ≡ take at bytes ++ replicate (end - at) b → drop at bytes ≡ replicate (end - at) b ++ drop (at + (end - at)) bytes
+same_next bytes at end b from within e =
+    let there : at + (end - at) ≡ end = omega (arith, from) in
+    let split : bytes ≡ take at bytes ++ (replicate (end - at) b ++ drop end bytes) = sym (take-append-drop end bytes) ∙ ap (λ front. front ++ drop end bytes) e ∙ append_assoc (take at bytes) (replicate (end - at) b) (drop end bytes) in
+    rw there (ap (drop at) split ∙ drop_at (take at bytes) (replicate (end - at) b ++ drop end bytes) at (length-take-le at bytes (omega (arith, from, within))))
+
+-- the same value does not follow at the end, nor past it
+pub other_follows : (bytes : List ℕ) (i b : ℕ) → (get_or bytes i 0 ≡ b → ⊥) → slice_get bytes i ≡ Some b → ⊥
+other_follows bytes i b other e = other (get_or_from_slice_get bytes i b 0 e)
+
+pub none_follows : (bytes : List ℕ) (i b : ℕ) → length bytes ≤ i → slice_get bytes i ≡ Some b → ⊥
+none_follows bytes i b past e = omega (arith, past, slice_get_within bytes i b e)
+
+-- the next bytes behind the first ones
+pub take_add : (bytes : List ℕ) (at n : ℕ) → take (at + n) bytes ≡ take at bytes ++ take n (drop at bytes)
+take_add bytes at n =
+    sym (take-append-drop at (take (at + n) bytes)) ∙ ap (λ xs. xs ++ drop at (take (at + n) bytes)) (take-take at (at + n) bytes (omega arith)) ∙ ap (take at bytes ++◌) (drop-take at n bytes)
+
+-- a part with the next few bytes
+pub next_few : (bytes part : List ℕ) (at n : ℕ) → part ≡ take n (drop at bytes) → at + n ≤ length bytes → take (at + length part) bytes ≡ take at bytes ++ part
+next_few bytes part at n e within =
+    let long : length part ≡ n = ap length e ∙ length-take-le n (drop at bytes) (omega (arith, length-drop at bytes, within)) in
+    ap (λ m. take (at + m) bytes) long ∙ take_add bytes at n ∙ ap (take at bytes ++◌) (sym e)

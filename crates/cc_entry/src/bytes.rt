@@ -46,11 +46,17 @@ impl Bytes {
     pub fn of(alloc: Global, slice: &[u8]) -> Result<Bytes, NoMemory>
         ensures { IfOk result (λ bytes. bytes ≡ slice.now) }
     {
-        let mut bytes = Bytes::new(alloc);
-        for &byte in slice {
-            bytes.append(byte, 1)?;
+        let mut parts = Vec::new(alloc);
+        let mut at = 0;
+        while at < slice.len() {
+            let part = Part::from(slice, at);
+            at += part.len() as usize;
+            parts.push(part)?;
         }
-        Ok(bytes)
+        Ok(Bytes {
+            parts,
+            len: at as u64,
+        })
     }
 
     /// Adds `count` bytes of one value at the end.

@@ -1,6 +1,6 @@
 //! A part of a list of bytes, in 16 bytes of memory: a few bytes as they are, or more of one value.
 
-ghost use Rattle.std.specs.Prelude.{◌≡◌, ◌≢◌, ◌<◌, ◌≤◌, ◌+◌, ◌^◌, ◌++◌, length, take, drop, replicate, slice_get, Some, IfSome, OnOk};
+ghost use Rattle.std.specs.Prelude.{◌≡◌, ◌≢◌, ◌<◌, ◌≤◌, ◌+◌, ◌-◌, ◌^◌, ◌++◌, length, take, drop, replicate, slice_get, Some, IfSome, OnOk};
 
 use crate::error::NoMemory;
 use std::marker::Model;
@@ -40,6 +40,38 @@ impl Part {
         Part {
             kind: Kind::Run { byte, count },
         }
+    }
+
+    /// A few bytes as they are.
+    pub(crate) fn few(slice: &[u8]) -> Part
+        requires some { 0 < length slice.now }
+        requires short { length slice.now ≤ 14 }
+        ensures { result ≡ slice.now }
+    {
+        let mut bytes = [0; 14];
+        for i in 0..slice.len() {
+            bytes[i] = slice[i];
+        }
+        Part {
+            kind: Kind::Few {
+                len: slice.len() as u8,
+                bytes,
+            },
+        }
+    }
+
+    /// The part with the bytes of a slice from a place on: a long run of one value, else the next few.
+    pub(crate) fn from(slice: &[u8], at: usize) -> Part
+        requires { at < length slice.now }
+        ensures next { take (at + length result) slice.now ≡ take at slice.now ++ result }
+        ensures within { at + length result ≤ length slice.now }
+    {
+        let end = end_of_same(slice, at, slice[at]);
+        if end - at > 14 {
+            return Part::run(slice[at], (end - at) as u64);
+        }
+        let end = slice.len().min(at + 14);
+        Part::few(&slice[at..end])
     }
 
     /// This part with bytes of one value behind it, where one part holds them all.
@@ -86,17 +118,19 @@ impl Part {
         }
     }
 
-    /// How many bytes of a value are known to stand from a place on, none only where another stands there.
+    /// How many bytes of a value follow one another from a place on.
     pub(crate) fn same_from(&self, at: u64, byte: u8) -> u64
         requires { at < length self.now }
         ensures same { drop at self.now ≡ replicate result byte ++ drop (at + result) self.now }
-        ensures none { result ≡ 0 → slice_get self.now at ≢ Some byte }
+        ensures ended { slice_get self.now (at + result) ≢ Some byte }
         ensures within { at + result ≤ length self.now }
     {
         match self.kind {
-            Kind::Few { bytes, .. } if bytes[at as usize] == byte => 1,
+            Kind::Few { len, bytes } => {
+                end_of_same(&bytes[..len as usize], at as usize, byte) as u64 - at
+            }
             Kind::Run { byte: same, count } if same == byte => count - at,
-            _ => 0,
+            Kind::Run { .. } => 0,
         }
     }
 
@@ -136,4 +170,19 @@ fn few_with(mut bytes: [u8; 14], len: u64, byte: u8, count: u64) -> Option<Part>
             bytes,
         },
     })
+}
+
+// Where the bytes of a value end that follow one another from a place on.
+fn end_of_same(slice: &[u8], at: usize, byte: u8) -> usize
+    requires { at ≤ length slice.now }
+    ensures from { at ≤ result }
+    ensures within { result ≤ length slice.now }
+    ensures same { take result slice.now ≡ take at slice.now ++ replicate (result - at) byte }
+    ensures ended { slice_get slice.now result ≢ Some byte }
+{
+    let mut end = at;
+    while end < slice.len() && slice[end] == byte {
+        end += 1;
+    }
+    end
 }

@@ -1,6 +1,6 @@
 //! The longest runs of equal bytes in a list of bytes, read from its parts.
 
-ghost use Rattle.std.specs.Prelude.{◌≡◌, ◌≢◌, ◌<◌, ◌≤◌, ◌+◌, ◌^◌, ◌++◌, length, replicate, slice_get, Some};
+ghost use Rattle.std.specs.Prelude.{◌≡◌, ◌≢◌, ◌<◌, ◌≤◌, ◌+◌, ◌^◌, ◌++◌, length, replicate, slice_get, Some, true, false};
 ghost use Rattle.std.specs.List.{concat};
 ghost use Rattle.std.specs.Iterator.{YieldsFirst, item_count};
 ghost use Rattle.cc_entry.specs.Runs.{runs_of};
@@ -61,23 +61,26 @@ impl<'a> Left<'a> {
         }
     }
 
-    /// Reads past some bytes of one value, and says how many they were; none only where another is first.
-    fn skip_some(&mut self, byte: u8) -> u64
-        ensures skipped { self.old ≡ replicate result byte ++ self.new }
-        ensures none { result ≡ 0 → slice_get self.new 0 ≢ Some byte }
+    /// Reads past the bytes of a value that come first in the first part. Says how many they were, and
+    /// whether the part ended with them, so that more may follow.
+    fn skip_in_part(&mut self, byte: u8) -> (u64, bool)
+        ensures skipped { self.old ≡ replicate result.0 byte ++ self.new }
+        ensures some { result.1 ≡ true → 0 < result.0 }
+        ensures ended { result.1 ≡ false → slice_get self.new 0 ≢ Some byte }
     {
         let Some((part, behind)) = self.parts.split_first() else {
-            return 0;
+            return (0, false);
         };
         let same = part.same_from(self.read, byte);
         self.read += same;
-        if self.read == part.len() {
-            *self = Left::new(behind);
+        if self.read < part.len() {
+            return (same, false);
         }
-        same
+        *self = Left::new(behind);
+        (same, true)
     }
 
-    /// Reads past all bytes of one value that come first, and says how many they were.
+    /// Reads past all bytes of a value that come first, and says how many they were.
     fn skip_same(&mut self, byte: u8) -> u64
         requires { length self.old < 2 ^ 64 }
         ensures skipped { self.old ≡ replicate result byte ++ self.new }
@@ -85,11 +88,11 @@ impl<'a> Left<'a> {
     {
         let mut count = 0;
         loop {
-            let same = self.skip_some(byte);
-            if same == 0 {
+            let (same, part_ended) = self.skip_in_part(byte);
+            count += same;
+            if !part_ended {
                 return count;
             }
-            count += same;
         }
     }
 }

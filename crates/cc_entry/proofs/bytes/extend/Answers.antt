@@ -1,4 +1,4 @@
-use Rattle.std.proofs.Common.{◌≡◌, ◌+◌, ◌-◌, ◌≤◌, ◌++◌, ◌∷◌, [], length, get_or, replicate, arith, ap, sym, ◌∙◌, rules}
+use Rattle.std.proofs.Common.{◌≡◌, ◌-◌, ◌++◌, length, get_or, replicate, arith, ap, ◌∙◌}
 use Rattle.std.specs.List.{concat}
 use Rattle.cc_entry.proofs.Kept.{length_within, last_longer, one_behind}
 use Rattle.cc_entry.proofs.bytes.extend.Goals as goal

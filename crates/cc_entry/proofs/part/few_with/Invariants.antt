@@ -1,4 +1,4 @@
-use Rattle.std.proofs.Common.{◌≡◌, ◌+◌, ◌-◌, ◌≤◌, ◌++◌, length, take, replicate}
+use Rattle.std.proofs.Common.{◌≡◌, ◌-◌, ◌++◌, length, take, replicate}
 use Rattle.cc_entry.proofs.part.few_with.Given as goal
 
 abbrev pub invariant-loop-i : goal.invariant-loop-i

@@ -1,6 +1,6 @@
-use Rattle.std.proofs.Common.{◌≡◌, ◌<◌, length, ap, ◌∙◌, arith, ℕ, List}
+use Rattle.std.proofs.Common.{◌≡◌, length, ap, ◌∙◌, arith}
 use Rattle.std.specs.List.{concat}
-use Rattle.cc_entry.specs.Runs.{runs_of, spelled, AreLongest}
+use Rattle.cc_entry.specs.Runs.{spelled}
 use Rattle.cc_entry.proofs.Longest.{runs_of-longest, spelled-runs_of}
 use Rattle.cc_entry.proofs.bytes.Bytes.runs.Goals as goal
 

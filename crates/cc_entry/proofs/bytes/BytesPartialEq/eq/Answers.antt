@@ -1,10 +1,9 @@
-use Rattle.std.proofs.Common.{◌≡◌, ◌∷◌, [], Bool, true, false, ◌&&◌, List, Option, Some, None, nat_eq, ap, ◌∙◌, sym, refl}
+use Rattle.std.proofs.Common.{◌≡◌, ◌∷◌, [], Bool, true, false, ◌&&◌, List, Option, Some, None, ap, ◌∙◌, sym, refl}
 use Rattle.std.specs.Prelude.{is_some, not}
 use Rattle.std.proofs.lemmas.Bool.{false≢true}
 use Rattle.std.specs.Cmp.Lexicographic.{pointwise}
 use Rattle.std.specs.Iterator.{YieldsFirst}
 use Rattle.cc_entry.specs.declared.runs.Run.{Run}
-use Rattle.cc_entry.specs.Runs.{runs_of}
 use Rattle.cc_entry.proofs.Longest.{same_run, same_bytes}
 use Rattle.cc_entry.proofs.bytes.BytesPartialEq.eq.Goals as goal
 

@@ -1,5 +1,5 @@
-use Rattle.std.proofs.Common.{◌≡◌, ◌<◌, ◌≤◌, length, slice_get, Some, get_or, take, arith, ap, sym, ◌∙◌}
-use Rattle.cc_entry.specs.Parts.{bytes_in, len_in, most_in}
+use Rattle.std.proofs.Common.{◌≡◌, ◌<◌, length, slice_get, take, arith, ap, sym, ◌∙◌}
+use Rattle.cc_entry.specs.Parts.{bytes_in, most_in}
 use Rattle.cc_entry.proofs.Kept.{taken_at, replicated_at}
 use Rattle.cc_entry.proofs.part.Part.get.Goals as goal
 

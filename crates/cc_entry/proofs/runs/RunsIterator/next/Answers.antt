@@ -1,4 +1,4 @@
-use Rattle.std.proofs.Common.{◌≡◌, arith, length, ap, ◌∙◌, sym}
+use Rattle.std.proofs.Common.{arith, length, ap, ◌∙◌, sym}
 use Rattle.cc_entry.proofs.Longest.{first_run, no_run}
 use Rattle.cc_entry.proofs.runs.RunsIterator.next.Goals as goal
 
