@@ -1,97 +1,9 @@
--- Runs that are extended at the end spell the bytes and those added, and stay the longest.
-use Rattle.std.proofs.Common.{◌≡◌, ℕ, suc, zero, ◌+◌, ◌<◌, ◌==◌, Bool, true, false, List, [], ◌∷◌, ◌++◌, replicate, if◌then◌else◌, refl, ap, sym, ◌∙◌, append_assoc, arith, get_or, set, length, slice_get, Some, ◌≤◌, ◌-◌, Decides, ◌&&◌, drop, nat_eq}
-use Rattle.std.proofs.lemmas.List.{replicate-append-replicate, append-nil, length-append, length-replicate, get_or_append_left, get_or-replicate, drop_more}
-use Rattle.std.proofs.lemmas.Option.{slice_get-get_or}
+-- The longest runs of equal bytes spell the bytes, and one more stands before those of the bytes behind it.
+use Rattle.std.proofs.Common.{◌≡◌, ◌≢◌, ℕ, suc, zero, ◌+◌, ◌==◌, Bool, true, false, List, [], ◌∷◌, ◌++◌, replicate, refl, ap, sym, ◌∙◌, arith, slice_get, Option, Some, None, subst, nat_eq, ◌&&◌, Decides}
 use Rattle.std.proofs.lemmas.Bool.Decides.{nat_tests, Decides-eqb, Decides-like, Decides-and, same_from_decides}
 use Rattle.std.specs.Cmp.Lexicographic.{pointwise, pointwise_decides, bytes_decides}
-use Rattle.cc_entry.specs.declared.bytes.Run.{Run}
-use Rattle.cc_entry.specs.Runs.{spelled, joined, runs_of, extended, AreLongest}
-
--- the bytes of extended runs
-pub spelled-extended : (rs : List Run) (b n : ℕ) → spelled (extended rs b n) ≡ spelled rs ++ replicate n b
-spelled-extended [] b n = append-nil (replicate n b)
-spelled-extended (r ∷ []) b n = at_end r b n (r.byte == b) refl
-  where
-    at_end : (r : Run) (b n : ℕ) (t : Bool) → (r.byte == b) ≡ t
-        → spelled (if t then record r { count = r.count + n } ∷ [] else r ∷ record { byte = b; count = n } ∷ []) ≡ spelled (r ∷ []) ++ replicate n b
-    at_end r b n true e =
-        let same : r.byte ≡ b = (Decides-eqb r.byte b).0 e in
-        simp append-nil (rw (← same) (sym (replicate-append-replicate r.count n r.byte)))
-    at_end r b n false e = simp append-nil
-spelled-extended (r ∷ next ∷ rs) b n = rw (spelled-extended (next ∷ rs) b n) (sym (append_assoc (replicate r.count r.byte) (spelled (next ∷ rs)) (replicate n b)))
-
--- a byte before and bytes after may be added in either order
-pub joined-extended : (x : ℕ) (rs : List Run) (b n : ℕ) → joined x (extended rs b n) ≡ extended (joined x rs) b n
-joined-extended x [] b n = alone (x == b) (b == x) refl refl
-  where
-    alone : (s t : Bool) → (x == b) ≡ s → (b == x) ≡ t → joined x (extended [] b n) ≡ extended (joined x []) b n
-    alone true true e f =
-        let same : b ≡ x = (Decides-eqb b x).0 f in let more : n + 1 ≡ 1 + n = omega arith in simp (more, same)
-    alone true false e f = grind (arith, nat_tests)
-    alone false true e f = grind (arith, nat_tests)
-    alone false false e f = simp (e, f)
-joined-extended x (r ∷ []) b n = either (r.byte == x) (r.byte == b) refl refl
-  where
-    either : (s t : Bool) → (r.byte == x) ≡ s → (r.byte == b) ≡ t → joined x (extended (r ∷ []) b n) ≡ extended (joined x (r ∷ [])) b n
-    either true true e f = let more : r.count + n + 1 ≡ r.count + 1 + n = omega arith in simp (e, f, more)
-    either true false e f = simp (e, f)
-    either false true e f = simp (e, f)
-    either false false e f = simp (e, f)
-joined-extended x (r ∷ next ∷ rs) b n = either (r.byte == x) refl
-  where
-    either : (s : Bool) → (r.byte == x) ≡ s → joined x (extended (r ∷ next ∷ rs) b n) ≡ extended (joined x (r ∷ next ∷ rs)) b n
-    either true e = simp e
-    either false e = simp e
-
--- equal bytes are one run
-pub runs_of-replicate : (b n : ℕ) → runs_of (replicate (suc n) b) ≡ record { byte = b; count = suc n } ∷ []
-runs_of-replicate b zero = refl
-runs_of-replicate b (suc n) =
-    let same : (b == b) ≡ true = (Decides-eqb b b).1 refl in let more : suc n + 1 ≡ suc (suc n) = omega arith in
-    rw (runs_of-replicate b n) (simp (same, more))
-
--- the longest runs of bytes with more of one value after them
-pub runs_of-more : (bs : List ℕ) (b n : ℕ) → 0 < n → runs_of (bs ++ replicate n b) ≡ extended (runs_of bs) b n
-runs_of-more [] b zero h = absurd (omega arith)
-runs_of-more [] b (suc n) h = runs_of-replicate b n
-runs_of-more (x ∷ bs) b n h = rw (runs_of-more bs b n h) (joined-extended x (runs_of bs) b n)
-
--- no run is longer than all
-pub count_within : (rs : List Run) (i : ℕ) (d : Run) → i < length rs → (get_or rs i d).count ≤ length (spelled rs)
-count_within [] i d h = absurd (omega arith)
-count_within (r ∷ rs) zero d h = omega (arith, length-append (replicate r.count r.byte) (spelled rs), length-replicate r.count r.byte)
-count_within (r ∷ rs) (suc i) d h =
-    let deeper : (get_or rs i d).count ≤ length (spelled rs) = count_within rs i d (omega arith) in
-    omega (arith, length-append (replicate r.count r.byte) (spelled rs), deeper)
-
--- the last run takes more bytes where it has their value
-pub joins_last : (rs : List Run) (i b n : ℕ) (r : Run) → i + 1 ≡ length rs → r ≡ get_or rs i r → r.byte ≡ b → set rs i (record r { count = r.count + n }) ≡ extended rs b n
-joins_last [] i b n r h at same = absurd (omega arith)
-joins_last (x ∷ []) zero b n r h at same = simp (← at, (Decides-eqb r.byte b).1 same)
-joins_last (x ∷ []) (suc i) b n r h at same = absurd (omega arith)
-joins_last (x ∷ y ∷ rs) zero b n r h at same = absurd (omega arith)
-joins_last (x ∷ y ∷ rs) (suc i) b n r h at same = ap (x ∷◌) (joins_last (y ∷ rs) i b n r (omega arith) at same)
-
--- a run of its own follows where the last one has another value
-pub follows_last : (rs : List Run) (i b n : ℕ) (r : Run) → i + 1 ≡ length rs → r ≡ get_or rs i r → (r.byte == b) ≡ false → rs ++ record { byte = b; count = n } ∷ [] ≡ extended rs b n
-follows_last [] i b n r h at other = absurd (omega arith)
-follows_last (x ∷ []) zero b n r h at other = simp (← at, other)
-follows_last (x ∷ []) (suc i) b n r h at other = absurd (omega arith)
-follows_last (x ∷ y ∷ rs) zero b n r h at other = absurd (omega arith)
-follows_last (x ∷ y ∷ rs) (suc i) b n r h at other = ap (x ∷◌) (follows_last (y ∷ rs) i b n r (omega arith) at other)
-
--- a place within the first run, and one past it
-pub within_first : (r : Run) (rs : List Run) (i : ℕ) → i < r.count → slice_get (spelled (r ∷ rs)) i ≡ Some r.byte
-within_first r rs i h =
-    let long : i < length (replicate r.count r.byte) = omega (arith, length-replicate r.count r.byte) in
-    let longer : i < length (spelled (r ∷ rs)) = omega (arith, length-append (replicate r.count r.byte) (spelled rs)) in
-    slice_get-get_or (spelled (r ∷ rs)) i 0 longer ∙ ap Some (get_or_append_left (replicate r.count r.byte) (spelled rs) 0 i long ∙ get_or-replicate r.count i r.byte 0 h)
-
-pub past_first : (byte count : ℕ) (bs : List ℕ) (i : ℕ) → count ≤ i → slice_get (replicate count byte ++ bs) i ≡ slice_get bs (i - count)
-past_first byte zero bs i h = let e : i - 0 ≡ i = omega arith in rw e
-past_first byte (suc count) bs zero h = absurd (omega arith)
-past_first byte (suc count) bs (suc i) h =
-    let e : suc i - suc count ≡ i - count = omega arith in rw e (past_first byte count bs i (omega arith))
+use Rattle.cc_entry.specs.declared.runs.Run.{Run}
+use Rattle.cc_entry.specs.Runs.{spelled, joined, runs_of, AreLongest}
 
 -- a byte before the longest runs leaves them the longest
 joined-longest : (x : ℕ) (rs : List Run) → AreLongest rs → AreLongest (joined x rs)
@@ -112,27 +24,76 @@ pub runs_of-longest : (bs : List ℕ) → AreLongest (runs_of bs)
 runs_of-longest [] = tt
 runs_of-longest (x ∷ bs) = joined-longest x (runs_of bs) (runs_of-longest bs)
 
--- bytes before, and a run of those that follow, are no longer than all
-pub run_fits : (bs : List ℕ) (rs : List Run) (i : ℕ) (d : Run) (all : List ℕ) → i < length rs → bs ++ spelled (drop i rs) ≡ all → length bs + (get_or rs i d).count ≤ length all
-run_fits bs rs i d all h e =
-    let r = get_or rs i d in let rest = spelled (drop (i + 1) rs) in
-    let front : spelled (drop i rs) ≡ replicate r.count r.byte ++ rest = ap spelled (drop_more rs i d h) in
-    let whole : length (bs ++ spelled (drop i rs)) ≡ length all = ap length e in
-    let parts : length (spelled (drop i rs)) ≡ length (replicate r.count r.byte ++ rest) = ap length front in
-    omega (arith, whole, parts, length-append bs (spelled (drop i rs)), length-append (replicate r.count r.byte) rest, length-replicate r.count r.byte)
+-- a byte before runs stands before their bytes
+spelled-joined : (x : ℕ) (rs : List Run) → spelled (joined x rs) ≡ x ∷ spelled rs
+spelled-joined x [] = refl
+spelled-joined x (r ∷ rs) = either (r.byte == x) refl
+  where
+    either : (s : Bool) → (r.byte == x) ≡ s → spelled (joined x (r ∷ rs)) ≡ x ∷ spelled (r ∷ rs)
+    either true e =
+        let same : r.byte ≡ x = (Decides-eqb r.byte x).0 e in
+        let more : r.count + 1 ≡ suc r.count = omega arith in
+        rw e (rw more (ap (λ b. b ∷ replicate r.count r.byte ++ spelled rs) same))
+    either false e = rw e refl
 
--- equal runs are the same run
-run_eq-decides : (r s : Run) → Decides ((r.byte == s.byte) && (r.count == s.count)) (r ≡ s)
-run_eq-decides r s =
+-- the longest runs of bytes spell them
+pub spelled-runs_of : (bs : List ℕ) → spelled (runs_of bs) ≡ bs
+spelled-runs_of [] = refl
+spelled-runs_of (x ∷ bs) = spelled-joined x (runs_of bs) ∙ ap (x ∷◌) (spelled-runs_of bs)
+
+-- one byte is a run of its own before bytes that begin with another
+alone : (b : ℕ) (bs : List ℕ) → slice_get bs 0 ≢ Some b → runs_of (b ∷ bs) ≡ record { byte = b; count = 1 } ∷ runs_of bs
+alone b [] other = refl
+alone b (x ∷ bs) other = before (runs_of bs)
+  where
+    differs : (x == b) ≡ false
+    differs = either (x == b) refl
+      where
+        either : (s : Bool) → (x == b) ≡ s → (x == b) ≡ false
+        either true e = absurd (other (ap Some ((Decides-eqb x b).0 e)))
+        either false e = e
+
+    before : (rs : List Run) → joined b (joined x rs) ≡ record { byte = b; count = 1 } ∷ joined x rs
+    before [] = rw differs refl
+    before (r ∷ rs) = first (r.byte == x) refl
+      where
+        first : (s : Bool) → (r.byte == x) ≡ s → joined b (joined x (r ∷ rs)) ≡ record { byte = b; count = 1 } ∷ joined x (r ∷ rs)
+        first true e =
+            let same : r.byte ≡ x = (Decides-eqb r.byte x).0 e in
+            rw e (rw same (rw differs refl))
+        first false e = rw e (rw differs refl)
+
+-- bytes of one value are the first run where another byte follows, or none
+pub runs_of-first : (b n : ℕ) (bs : List ℕ) → slice_get bs 0 ≢ Some b → runs_of (replicate (suc n) b ++ bs) ≡ record { byte = b; count = suc n } ∷ runs_of bs
+runs_of-first b zero bs other = alone b bs other
+runs_of-first b (suc n) bs other =
+    let same : (b == b) ≡ true = (Decides-eqb b b).1 refl in let more : suc n + 1 ≡ suc (suc n) = omega arith in
+    rw (runs_of-first b n bs other) (simp (same, more))
+
+-- the same of all bytes, which begin with that value
+pub first_run : (b n : ℕ) (bs all : List ℕ) → replicate n b ++ bs ≡ all → slice_get all 0 ≡ Some b → slice_get bs 0 ≢ Some b → runs_of all ≡ record { byte = b; count = n } ∷ runs_of bs
+first_run b zero bs all e first other = absurd (other (ap (λ bytes. slice_get bytes 0) e ∙ first))
+first_run b (suc n) bs all e first other = ap runs_of (sym e) ∙ runs_of-first b n bs other
+
+-- no byte is first only where there is none
+pub no_run : (bs : List ℕ) → slice_get bs 0 ≡ None → runs_of bs ≡ []
+no_run [] e = refl
+no_run (x ∷ bs) e = absurd (let Q : Option ℕ → Type 0 = λ o. elim o [ Some _ ↦ Unit {0} | None ↦ ⊥ ] in subst Q e tt)
+
+-- whether two runs are the same
+abbrev pub same_run : Run → Run → Bool
+same_run r s = (r.byte == s.byte) && (r.count == s.count)
+
+same_run-decides : (r s : Run) → Decides (same_run r s) (r ≡ s)
+same_run-decides r s =
     Decides-like _ (λ both. same both.0 both.1) (λ e. (ap (λ (x : Run). x.byte) e, ap (λ (x : Run). x.count) e)) (Decides-and _ _ (Decides-eqb r.byte s.byte) (Decides-eqb r.count s.count))
   where
     same : r.byte ≡ s.byte → r.count ≡ s.count → r ≡ s
     same e f = λ i. record { byte = e i; count = f i }
 
 -- bytes are the same exactly where their longest runs are
-pub same_bytes : (rs ss : List Run) (b : Bool) → rs ≡ runs_of (spelled rs) → ss ≡ runs_of (spelled ss)
-    → b ≡ pointwise (λ r s. (r.byte == s.byte) && (r.count == s.count)) rs ss → b ≡ pointwise nat_eq (spelled rs) (spelled ss)
-same_bytes rs ss b h g e =
-    e ∙ same_from_decides _ _
-    (Decides-like _ (λ same. ap spelled same) (λ same. h ∙ ap runs_of same ∙ sym g) (pointwise_decides run_eq-decides rs ss))
-    (bytes_decides (spelled rs) (spelled ss))
+pub same_bytes : (bs cs : List ℕ) → pointwise same_run (runs_of bs) (runs_of cs) ≡ pointwise nat_eq bs cs
+same_bytes bs cs =
+    same_from_decides _ _
+    (Decides-like _ (λ same. sym (spelled-runs_of bs) ∙ ap spelled same ∙ spelled-runs_of cs) (λ same. ap runs_of same) (pointwise_decides same_run-decides (runs_of bs) (runs_of cs)))
+    (bytes_decides bs cs)

@@ -2,6 +2,7 @@ pub mod Place
 pub mod Pages
 pub mod Kinds
 pub mod Lsns
+pub mod Parts
 pub mod Runs
 pub mod Errors
 pub mod Same

@@ -1,6 +1,6 @@
 -- Bytes as runs of equal bytes, always the longest.
 use Rattle.std.specs.Prelude.{ℕ, ◌+◌, ◌==◌, List, [], ◌∷◌, ◌++◌, replicate, if◌then◌else◌, ◌<◌, ◌≢◌, ⊤}
-use Rattle.cc_entry.specs.declared.bytes.Run.{Run}
+use Rattle.cc_entry.specs.declared.runs.Run.{Run}
 
 -- the bytes that runs spell
 abbrev pub spelled : List Run → List ℕ
@@ -16,12 +16,6 @@ joined byte (run ∷ runs) = if run.byte == byte then record run { count = run.c
 abbrev pub runs_of : List ℕ → List Run
 runs_of [] = []
 runs_of (byte ∷ bytes) = joined byte (runs_of bytes)
-
--- more bytes of one value after runs, which join the last run where that repeats the byte
-abbrev pub extended : List Run → ℕ → ℕ → List Run
-extended [] byte count = record { byte = byte; count = count } ∷ []
-extended (run ∷ []) byte count = if run.byte == byte then record run { count = run.count + count } ∷ [] else run ∷ record { byte = byte; count = count } ∷ []
-extended (run ∷ next ∷ runs) byte count = run ∷ extended (next ∷ runs) byte count
 
 -- no run is empty, and neighbours have different bytes
 abbrev pub AreLongest : List Run → Type 0

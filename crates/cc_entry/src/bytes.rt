@@ -1,39 +1,34 @@
-//! A list of bytes, kept as runs of equal bytes.
+//! A list of bytes, kept in little memory where they repeat and where they don't.
 //!
-//! The runs are always the longest, so they are a function of the list, and with them every text that
-//! is printed of the bytes.
+//! Contracts see the list, and its longest runs of equal bytes, which are a function of it; so is each
+//! text that is printed of the bytes.
 
-ghost use Rattle.std.specs.Prelude.{◌≡◌, ◌<◌, ◌≤◌, ◌+◌, ◌^◌, [], ◌++◌, length, replicate, slice_get, IfOk, OnOk, OnErr, IsTrue, ◌↔◌};
-ghost use Rattle.cc_entry.specs.Runs.{runs_of, spelled, extended, AreLongest};
+ghost use Rattle.std.specs.Prelude.{◌≡◌, ◌<◌, ◌+◌, ◌^◌, [], ◌++◌, length, replicate, slice_get, IfOk, OnOk, OnErr, IsTrue, ◌↔◌};
+ghost use Rattle.std.specs.List.{concat};
+ghost use Rattle.cc_entry.specs.Runs.{runs_of, spelled, AreLongest};
 
 use crate::error::NoMemory;
+use crate::part::Part;
+use crate::runs::Runs;
 use std::alloc::Global;
 use std::marker::Model;
-
-/// `count` bytes of one value.
-#[derive(Clone, Copy, Debug, PartialEq, Eq, Hash)]
-pub struct Run {
-    pub byte: u8,
-    pub count: u64,
-}
 
 /// A list of bytes, of fewer than 2^64.
 #[derive(Clone, Debug, Drop)]
 pub struct Bytes {
-    runs: Vec<Run>,
+    parts: Vec<Part>,
     len: u64,
 }
 
 impl Model for Bytes {
-    ghost use Rattle.std.specs.Prelude.{◌≡◌, List, ℕ, length};
+    ghost use Rattle.std.specs.Prelude.{◌≡◌, ◌<◌, ◌^◌, List, ℕ, length};
+    ghost use Rattle.std.specs.List.{concat};
 
     ghost Value = { List ℕ };
 
-    ghost use Rattle.cc_entry.specs.Runs.{runs_of, spelled};
+    ghost view = { λ b. concat b.parts.items };
 
-    ghost view = { λ b. spelled b.runs.items };
-
-    ghost invariant = { λ b. (b.runs.items ≡ runs_of (spelled b.runs.items)) × (b.len ≡ length (spelled b.runs.items)) };
+    ghost invariant = { λ b. (b.len ≡ length (concat b.parts.items)) × (b.len < 2 ^ 64) };
 }
 
 impl Bytes {
@@ -42,20 +37,26 @@ impl Bytes {
         ensures { result ≡ [] }
     {
         Bytes {
-            runs: Vec::new(alloc),
+            parts: Vec::new(alloc),
             len: 0,
         }
     }
 
     /// The bytes of a slice.
-    pub fn of(alloc: Global, piece: &[u8]) -> Result<Bytes, NoMemory>
-        ensures { IfOk result (λ bytes. bytes ≡ piece.now) }
+    pub fn of(alloc: Global, slice: &[u8]) -> Result<Bytes, NoMemory>
+        ensures { IfOk result (λ bytes. bytes ≡ slice.now) }
     {
-        let mut bytes = Bytes::new(alloc);
-        for &byte in piece {
-            bytes.append(byte, 1)?;
+        let mut parts = Vec::new(alloc);
+        let mut at = 0;
+        while at < slice.len() {
+            let part = Part::from(slice, at);
+            at += part.len() as usize;
+            parts.push(part)?;
         }
-        Ok(bytes)
+        Ok(Bytes {
+            parts,
+            len: at as u64,
+        })
     }
 
     /// Adds `count` bytes of one value at the end.
@@ -65,7 +66,7 @@ impl Bytes {
         ensures ok { OnOk result (self.new ≡ self.old ++ replicate count byte) }
         ensures err { OnErr result (self.new ≡ self.old) }
     {
-        extend(&mut self.runs, byte, count)?;
+        extend(&mut self.parts, byte, count)?;
         self.len += count;
         Ok(())
     }
@@ -88,11 +89,11 @@ impl Bytes {
         ensures { result ≡ slice_get self.now i }
     {
         let mut rest = i;
-        for run in &self.runs {
-            if rest < run.count {
-                return Some(run.byte);
+        for part in &self.parts {
+            if rest < part.len() {
+                return part.get(rest);
             }
-            rest -= run.count;
+            rest -= part.len();
         }
         None
     }
@@ -102,19 +103,19 @@ impl Bytes {
         ensures { IfOk result (λ bytes. bytes.items ≡ self.now) }
     {
         let mut bytes = Vec::with_capacity(alloc, self.len as usize)?;
-        for run in &self.runs {
-            push_run(&mut bytes, run)?;
+        for part in &self.parts {
+            part.push_onto(&mut bytes)?;
         }
         Ok(bytes)
     }
 
     /// The longest runs of equal bytes, in order: none is empty, and neighbours have different bytes.
-    pub fn runs(&self) -> &[Run]
-        ensures runs { result.now ≡ runs_of self.now }
-        ensures spell { spelled result.now ≡ self.now }
-        ensures longest { AreLongest result.now }
+    pub fn runs(&self) -> Runs<'_>
+        ensures runs { result ≡ runs_of self.now }
+        ensures spell { spelled result ≡ self.now }
+        ensures longest { AreLongest result }
     {
-        &self.runs
+        Runs::new(&self.parts)
     }
 }
 
@@ -129,31 +130,31 @@ impl PartialEq for Bytes {
     ghost laws = { partial_equiv_from_equiv nat_list_eq_equiv };
 
     fn eq(&self, other: &Bytes) -> bool {
-        self.runs == other.runs
+        let mut theirs = other.runs();
+        for run in self.runs() {
+            match theirs.next() {
+                Some(same) if run == same => {}
+                _ => return false,
+            }
+        }
+        theirs.next().is_none()
     }
 }
 
-// Adds bytes at the end, which join the last run where that has the same value.
-fn extend(runs: &mut Vec<Run>, byte: u8, count: u64) -> Result<(), NoMemory>
-    requires fits { length (spelled runs.old.items) + count < 2 ^ 64 }
-    ensures ok { OnOk result (runs.new.items ≡ extended runs.old.items byte count) }
-    ensures err { OnErr result (runs.new.items ≡ runs.old.items) }
+// Adds bytes at the end, in the last part where it has room for them.
+fn extend(parts: &mut Vec<Part>, byte: u8, count: u64) -> Result<(), NoMemory>
+    requires some { 0 < count }
+    requires fits { length (concat parts.old.items) + count < 2 ^ 64 }
+    ensures ok { OnOk result (concat parts.new.items ≡ concat parts.old.items ++ replicate count byte) }
+    ensures err { OnErr result (parts.new.items ≡ parts.old.items) }
 {
-    let last = runs.len();
-    if last > 0 && runs[last - 1].byte == byte {
-        runs[last - 1].count += count;
-    } else {
-        runs.push(Run { byte, count })?;
+    let last = parts.len();
+    if last > 0 {
+        if let Some(part) = parts[last - 1].with(byte, count) {
+            parts[last - 1] = part;
+            return Ok(());
+        }
     }
-    Ok(())
-}
-
-// Adds the bytes of a run at the end.
-fn push_run(bytes: &mut Vec<u8>, run: &Run) -> Result<(), NoMemory>
-    requires fits { length bytes.old.items + run.now.count < 2 ^ 64 }
-    ensures { OnOk result (bytes.new.items ≡ bytes.old.items ++ replicate run.now.count run.now.byte) }
-{
-    let len = bytes.len() + run.count as usize;
-    bytes.resize(len, run.byte)?;
+    parts.push(Part::run(byte, count))?;
     Ok(())
 }

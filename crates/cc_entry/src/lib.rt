@@ -2,8 +2,8 @@
 //!
 //! Everything that the cache is asked, answers and records is a value of this crate. A value that has
 //! a range keeps it: a stream is one of 16, a page lies below 2^51, an LSN is 1 to 2^62. Lists inside a
-//! value are small types over `Vec` that contracts see as lists, and `Bytes` is kept as runs of equal
-//! bytes and seen as the list of them. Units are bytes, pages of 4096 bytes and blocks of 64 pages.
+//! value are small types over `Vec` that contracts see as lists, and `Bytes` is kept in parts and seen as
+//! the list of the bytes. Units are bytes, pages of 4096 bytes and blocks of 64 pages.
 //!
 //! It stands on no crate; every other crate but the containers without values stands on it.
 #![tactic(auto)]
@@ -15,11 +15,13 @@ pub mod entry;
 pub mod error;
 pub mod hold;
 pub mod lists;
+mod part;
 pub mod place;
 pub mod reply;
+pub mod runs;
 
 pub use answer::{AheadDone, Answer, LineReply, Tick};
-pub use bytes::{Bytes, Run};
+pub use bytes::Bytes;
 pub use call::Call;
 pub use entry::{End, Entry};
 pub use error::{CcError, NoMemory};
@@ -29,3 +31,4 @@ pub use place::{
     DirtyRow, FileId, FileSizes, FileState, Lsn, PageId, Quota, Request, Span, StreamId,
 };
 pub use reply::{Outcome, Reply};
+pub use runs::{Run, Runs};

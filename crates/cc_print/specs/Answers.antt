@@ -15,7 +15,7 @@ use Rattle.cc_entry.specs.declared.reply.Reply.{Reply}
 use Rattle.cc_entry.specs.declared.reply.Reply.TheVariants as reply
 use Rattle.cc_script.specs.declared.script.StreamLine.{StreamLine}
 use Rattle.cc_print.specs.Append.{◌&◌}
-use Rattle.cc_print.specs.Pieces.{file_text, page_text, bytes_text}
+use Rattle.cc_print.specs.Words.{file_text, page_text, bytes_text}
 
 -- the numbers of a refusal, each behind a space
 abbrev pub error_numbers : CcError → List ℕ

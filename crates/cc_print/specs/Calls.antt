@@ -6,7 +6,7 @@ use Rattle.cc_entry.specs.declared.call.Call.{Call}
 use Rattle.cc_entry.specs.declared.call.Call.TheVariants as call
 use Rattle.cc_script.specs.declared.script.StreamLine.{StreamLine}
 use Rattle.cc_print.specs.Append.{◌&◌}
-use Rattle.cc_print.specs.Pieces.{file_text, word_if, number_if, span_if, bytes_text}
+use Rattle.cc_print.specs.Words.{file_text, word_if, number_if, span_if, bytes_text}
 use Rattle.cc_print.specs.Answers.{request_text}
 
 -- a verb and a file

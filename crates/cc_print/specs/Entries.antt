@@ -11,7 +11,7 @@ use Rattle.cc_entry.specs.declared.entry.Entry.{Entry}
 use Rattle.cc_entry.specs.declared.entry.Entry.TheVariants as entry
 use Rattle.cc_script.specs.declared.script.StreamLine.{StreamLine}
 use Rattle.cc_print.specs.Append.{◌&◌}
-use Rattle.cc_print.specs.Pieces.{name_at, page_text, word_if, bytes_text}
+use Rattle.cc_print.specs.Words.{name_at, page_text, word_if, bytes_text}
 use Rattle.cc_print.specs.Answers.{reply_text, error_text}
 use Rattle.cc_print.specs.Calls.{call_text}
 

@@ -1,5 +1,5 @@
 pub mod Append
-pub mod Pieces
+pub mod Words
 pub mod Answers
 pub mod Calls
 pub mod Entries

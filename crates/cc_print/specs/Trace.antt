@@ -9,7 +9,7 @@ use Rattle.cc_entry.specs.declared.entry.Entry.{Entry}
 use Rattle.cc_entry.specs.declared.entry.Entry.TheVariants as entry
 use Rattle.cc_script.specs.declared.script.StreamLine.{StreamLine}
 use Rattle.cc_print.specs.Append.{◌&◌}
-use Rattle.cc_print.specs.Pieces.{name_at, page_text}
+use Rattle.cc_print.specs.Words.{name_at, page_text}
 use Rattle.cc_print.specs.Entries.{end_text}
 
 abbrev pub newline : List ℕ

@@ -3,7 +3,7 @@
 ghost use Rattle.std.specs.Prelude.{◌≡◌, ◌++◌, IfOk, OnOk, string_bytes};
 ghost use Rattle.cc_print.specs.Answers.{error_numbers, error_text, row_text, rows_text, counted_rows, lsns_text, number_or_dash, state_text, request_text, ahead_text, whole_word, stepped_text, reply_text, ids_text, more_ids, tick_text, answer_text};
 
-use crate::piece::{bytes_text, file_text, number_if, page_text};
+use crate::words::{bytes_text, file_text, number_if, page_text};
 use cc_entry::{AheadDone, Answer, CcError, DirtyRow, FileState, Lsn, Reply, Request, Tick};
 use cc_script::StreamLine;
 use std::alloc::{AllocError, Global};

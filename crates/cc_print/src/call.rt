@@ -4,7 +4,7 @@ ghost use Rattle.std.specs.Prelude.{◌≡◌, IfOk, string_bytes};
 ghost use Rattle.cc_print.specs.Calls.{of_file, of_file_span, of_file_number, of_file_numbers, of_file_bytes, of_hold, of_hold_numbers, of_hold_bytes, initialise_text, prepare_text, digit_of, call_text};
 
 use crate::answer::{lsn_number, request_text};
-use crate::piece::{bytes_text, file_text, number_if, span_if, word_if};
+use crate::words::{bytes_text, file_text, number_if, span_if, word_if};
 use cc_entry::{Bytes, Call, FileId, FileSizes, Quota, Span};
 use cc_script::StreamLine;
 use std::alloc::{AllocError, Global};

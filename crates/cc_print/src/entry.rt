@@ -5,7 +5,7 @@ ghost use Rattle.cc_print.specs.Entries.{outcome_text, end_text, pages_text, sca
 
 use crate::answer::{error_text, reply_text};
 use crate::call::call_text;
-use crate::piece::{bytes_text, name_of, page_text, word_if};
+use crate::words::{bytes_text, name_of, page_text, word_if};
 use cc_entry::{Bytes, Call, End, Entry, FileId, Lsn, Outcome, PageId};
 use cc_script::StreamLine;
 use std::alloc::{AllocError, Global};

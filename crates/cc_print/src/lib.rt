@@ -11,11 +11,11 @@
 mod answer;
 mod call;
 mod entry;
-mod piece;
 mod replies;
 mod table;
 mod text;
 mod trace;
+mod words;
 
 pub use table::TableRow;
 pub use text::text_of;

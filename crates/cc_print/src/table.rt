@@ -4,7 +4,7 @@ ghost use Rattle.std.specs.Prelude.{◌≡◌, IfOk, string_bytes};
 ghost use Rattle.cc_print.specs.Text.{table_line};
 
 use crate::answer::{lsn_number, number_or_dash};
-use crate::piece::page_text;
+use crate::words::page_text;
 use cc_entry::{Lsn, PageId};
 use cc_script::StreamLine;
 use std::alloc::{AllocError, Global};

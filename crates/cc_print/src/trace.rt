@@ -4,7 +4,7 @@ ghost use Rattle.std.specs.Prelude.{◌≡◌, IfOk, string_bytes};
 ghost use Rattle.cc_print.specs.Trace.{read_line, has_read, trace_call, trace_line};
 
 use crate::entry::end_text;
-use crate::piece::{name_of, page_text};
+use crate::words::{name_of, page_text};
 use cc_entry::{Call, Entry, Outcome, Reply, StreamId};
 use cc_script::StreamLine;
 use std::alloc::{AllocError, Global};

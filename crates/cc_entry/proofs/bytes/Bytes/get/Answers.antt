@@ -1,22 +1,22 @@
-use Rattle.std.proofs.Common.{◌≡◌, ◌+◌, ◌-◌, ◌∷◌, Some, drop, get_or, slice_get, arith, ap}
-use Rattle.std.proofs.lemmas.List.{drop_more}
-use Rattle.cc_entry.specs.Runs.{spelled}
-use Rattle.cc_entry.specs.declared.bytes.Run.{Run}
-use Rattle.cc_entry.proofs.Longest.{within_first, past_first}
+use Rattle.std.proofs.Common.{◌≡◌, ◌<◌, ◌≤◌, ◌+◌, ◌-◌, ◌++◌, length, drop, get_or, slice_get, arith, ap, sym, ◌∙◌}
+use Rattle.std.specs.List.{concat}
+use Rattle.cc_entry.proofs.Kept.{within_first, past_first, parts_more}
 use Rattle.cc_entry.proofs.bytes.Bytes.get.Goals as goal
 
-pub returns-then-rest-run : goal.returns-then-rest-run
-returns-then-rest-run c =
-    let items = c.deref-run-items.result.now in let k = c.loop-run.run-index in
-    let none : Run = record { byte = 0; count = 0 } in
-    let front : spelled (drop k items) ≡ spelled (get_or items k none ∷ drop (k + 1) items) = ap spelled (drop_more items k none (omega arith)) in
-    let here : slice_get (spelled (get_or items k none ∷ drop (k + 1) items)) c.loop-run.rest ≡ Some (get_or items k none).byte = within_first (get_or items k none) (drop (k + 1) items) c.loop-run.rest c.if-rest-run.true in
-    cc (c.loop-run.invariant, c.self.view_is)
+pub returns-then-rest-len : goal.returns-then-rest-len
+returns-then-rest-len c =
+    let parts = c.deref-part-items.result.now in let k = c.loop-part.part-index in let part = c.part-item.result in
+    let is : get_or parts k part ≡ part = sym c.part-item.is in
+    let front : concat (drop k parts) ≡ part ++ concat (drop (k + 1) parts) = parts_more parts k part (omega arith) ∙ ap (λ first. first ++ concat (drop (k + 1) parts)) is in
+    let within : c.loop-part.rest < length part = omega (arith, c.if-rest-len.true, c.len.ensures.len) in
+    let here : slice_get (part ++ concat (drop (k + 1) parts)) c.loop-part.rest ≡ slice_get part c.loop-part.rest = within_first part (concat (drop (k + 1) parts)) c.loop-part.rest within in
+    cc (c.loop-part.invariant, c.self.view_is)
 
-pub loop-run-preserved : goal.loop-run-preserved
-loop-run-preserved c =
-    let items = c.deref-run-items.result.now in let k = c.loop-run.run-index in
-    let none : Run = record { byte = 0; count = 0 } in
-    let front : spelled (drop k items) ≡ spelled (get_or items k none ∷ drop (k + 1) items) = ap spelled (drop_more items k none (omega arith)) in
-    let past : slice_get (spelled (get_or items k none ∷ drop (k + 1) items)) c.loop-run.rest ≡ slice_get (spelled (drop (k + 1) items)) (c.loop-run.rest - (get_or items k none).count) = past_first (get_or items k none).byte (get_or items k none).count (spelled (drop (k + 1) items)) c.loop-run.rest c.if-rest-run.false in
-    cc (c.loop-run.invariant)
+pub loop-part-preserved : goal.loop-part-preserved
+loop-part-preserved c =
+    let parts = c.deref-part-items.result.now in let k = c.loop-part.part-index in let part = c.part-item.result in
+    let is : get_or parts k part ≡ part = sym c.part-item.is in
+    let front : concat (drop k parts) ≡ part ++ concat (drop (k + 1) parts) = parts_more parts k part (omega arith) ∙ ap (λ first. first ++ concat (drop (k + 1) parts)) is in
+    let past : length part ≤ c.loop-part.rest = omega (arith, c.if-rest-len.false, c.len.ensures.len) in
+    let behind : slice_get (part ++ concat (drop (k + 1) parts)) c.loop-part.rest ≡ slice_get (concat (drop (k + 1) parts)) (c.loop-part.rest - length part) = past_first part (concat (drop (k + 1) parts)) c.loop-part.rest past in
+    cc (c.loop-part.invariant, c.len-rest.ensures.len)

@@ -1,6 +1,6 @@
 use Rattle.std.proofs.Common.{◌≡◌, drop, slice_get}
-use Rattle.cc_entry.specs.Runs.{spelled}
+use Rattle.std.specs.List.{concat}
 use Rattle.cc_entry.proofs.bytes.Bytes.get.Given as goal
 
-abbrev pub invariant-loop-run : goal.invariant-loop-run
-invariant-loop-run l = slice_get (spelled l.run-items) l.i ≡ slice_get (spelled (drop l.run-index l.run-items)) l.rest
+abbrev pub invariant-loop-part : goal.invariant-loop-part
+invariant-loop-part l = slice_get (concat l.part-items) l.i ≡ slice_get (concat (drop l.part-index l.part-items)) l.rest

@@ -4,7 +4,7 @@ use Rattle.std.specs.List.{flat_map}
 use Rattle.std.specs.Fmt.{digit_glyph}
 use Rattle.cc_entry.specs.Place.{File, Page, Range}
 use Rattle.cc_entry.specs.Runs.{runs_of}
-use Rattle.cc_entry.specs.declared.bytes.Run.{Run}
+use Rattle.cc_entry.specs.declared.runs.Run.{Run}
 use Rattle.cc_script.specs.declared.script.StreamLine.{StreamLine}
 
 -- the name of a stream's line, empty where there is none

@@ -1,9 +1,10 @@
 //! The words that lines are made of: names, files, pages, numbers that may be absent, bytes.
 
-ghost use Rattle.std.specs.Prelude.{◌≡◌, ◌++◌, IfOk, OnOk, string_bytes};
-ghost use Rattle.cc_print.specs.Pieces.{name_at, file_text, page_text, word_if, number_if, span_if, hex_pair, run_text, more_runs, bytes_text};
+ghost use Rattle.std.specs.Prelude.{◌≡◌, ◌<◌, ◌++◌, true, IfOk, OnOk, string_bytes};
+ghost use Rattle.std.specs.Fmt.{digit_glyph};
+ghost use Rattle.cc_print.specs.Words.{name_at, file_text, page_text, word_if, number_if, span_if, hex_pair, run_text, more_runs, bytes_text};
 
-use cc_entry::{Bytes, FileId, PageId, Run, Span, StreamId};
+use cc_entry::{Bytes, FileId, PageId, Run, Runs, Span, StreamId};
 use cc_script::StreamLine;
 use std::alloc::{AllocError, Global};
 
@@ -74,32 +75,45 @@ pub(crate) fn span_if(alloc: Global, span: Option<Span>) -> Result<String, Alloc
     }
 }
 
-#[tactic(auto, using(std::proofs::lemmas::Fmt::hex_byte))]
-fn hex_pair(alloc: Global, byte: u8) -> Result<String, AllocError>
-    ensures { IfOk result (λ text. string_bytes text ≡ hex_pair byte) }
+/// An upper-case hexadecimal digit.
+fn hex_digit(value: u8) -> char
+    requires { value < 16 }
+    ensures digit { result ≡ digit_glyph true value }
+    ensures ascii { result < 128 }
 {
-    format!(in alloc; "{byte:02X}")
-}
-
-fn run_text(alloc: Global, run: &Run) -> Result<String, AllocError>
-    ensures { IfOk result (λ text. string_bytes text ≡ run_text run.now) }
-{
-    let pair = hex_pair(alloc, run.byte)?;
-    let count = run.count;
-    if count == 1 {
-        Ok(pair)
+    if value < 10 {
+        (b'0' + value) as char
     } else {
-        format!(in alloc; "{pair}x{count}")
+        (b'A' + (value - 10)) as char
     }
 }
 
-fn push_runs(alloc: Global, text: &mut String, runs: &[Run]) -> Result<(), AllocError>
-    ensures { OnOk result (string_bytes text.new ≡ string_bytes text.old ++ more_runs runs.now) }
+fn push_pair(text: &mut String, byte: u8) -> Result<(), AllocError>
+    ensures { OnOk result (string_bytes text.new ≡ string_bytes text.old ++ hex_pair byte) }
+{
+    text.push(hex_digit(byte / 16))?;
+    text.push(hex_digit(byte % 16))?;
+    Ok(())
+}
+
+fn push_run(alloc: Global, text: &mut String, run: Run) -> Result<(), AllocError>
+    ensures { OnOk result (string_bytes text.new ≡ string_bytes text.old ++ run_text run) }
+{
+    push_pair(text, run.byte)?;
+    if run.count != 1 {
+        let count = run.count;
+        let times = format!(in alloc; "x{count}")?;
+        text.push_str(times.as_str())?;
+    }
+    Ok(())
+}
+
+fn push_more(alloc: Global, text: &mut String, runs: Runs) -> Result<(), AllocError>
+    ensures { OnOk result (string_bytes text.new ≡ string_bytes text.old ++ more_runs runs.entry) }
 {
     for run in runs {
-        let run = run_text(alloc, run)?;
-        text.push_str(",")?;
-        text.push_str(run.as_str())?;
+        text.push(',')?;
+        push_run(alloc, text, run)?;
     }
     Ok(())
 }
@@ -108,12 +122,14 @@ fn push_runs(alloc: Global, text: &mut String, runs: &[Run]) -> Result<(), Alloc
 pub(crate) fn bytes_text(alloc: Global, bytes: &Bytes) -> Result<String, AllocError>
     ensures { IfOk result (λ text. string_bytes text ≡ bytes_text bytes.now) }
 {
-    match bytes.runs() {
-        [] => String::from_str(alloc, "-"),
-        [first, more @ ..] => {
-            let mut text = run_text(alloc, first)?;
-            push_runs(alloc, &mut text, more)?;
+    let mut runs = bytes.runs();
+    match runs.next() {
+        Some(first) => {
+            let mut text = String::new(alloc);
+            push_run(alloc, &mut text, first)?;
+            push_more(alloc, &mut text, runs)?;
             Ok(text)
         }
+        None => String::from_str(alloc, "-"),
     }
 }
