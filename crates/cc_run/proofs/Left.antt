@@ -22,9 +22,9 @@ use Rattle.cc_model.specs.Ranges.{range_of}
 use Rattle.cc_model.specs.Touches.{size_of, valid_of}
 use Rattle.cc_laws.proofs.HistorySteps.{history-page_in}
 use Rattle.cc_laws.proofs.SizeSteps.{sizes-came_in}
-use Rattle.cc_effects.specs.Moments.{Others, IsIdle, EachOwn}
+use Rattle.cc_effects.specs.Moments.{own, Others, IsIdle, EachOwn}
 use Rattle.cc_effects.specs.Asked.{Calls, brings_in, reads_noncached, reaches}
-use Rattle.cc_effects.specs.Places.{MayPlace, MayFailToRead, Works, is_own_sync, is_ended}
+use Rattle.cc_effects.specs.Places.{MayPlace, MayFailToRead, Works, syncs_of, are_whole}
 use Rattle.cc_effects.specs.Stops.{IsUnstopped}
 use Rattle.cc_effects.specs.Refusals.{may_refuse, may_want}
 use Rattle.cc_effects.specs.Calls.{IsPlaced, HasDone}
@@ -40,15 +40,15 @@ size-fills from to (entry.PageIn pass page from_disk ∷ fills) old all =
 size-fills from to (other ∷ fills) old all = absurd all.0
 
 -- none of them is a sync, or opens or ends a transfer, or stops the call
-no_sync-fills : (from to : ℕ) (fills : List Entry) → AllByRecursion (IsFill from to) fills → count_by (is_own_sync 1) fills ≡ 0
+no_sync-fills : (from to : ℕ) (fills : List Entry) → AllByRecursion (IsFill from to) fills → syncs_of 1 fills ≡ []
 no_sync-fills from to [] all = refl
-no_sync-fills from to (entry.PageIn pass page from_disk ∷ fills) all = no_sync-fills from to fills all.1
+no_sync-fills from to (entry.PageIn pass page from_disk ∷ fills) all = rw all.0.0 (no_sync-fills from to fills all.1)
 no_sync-fills from to (other ∷ fills) all = absurd all.0
 
-ended-fills : (from to : ℕ) (fills : List Entry) → AllByRecursion (IsFill from to) fills → is_ended 1 fills ≡ true
-ended-fills from to [] all = refl
-ended-fills from to (entry.PageIn pass page from_disk ∷ fills) all = ended-fills from to fills all.1
-ended-fills from to (other ∷ fills) all = absurd all.0
+whole-fills : (from to : ℕ) (fills : List Entry) → AllByRecursion (IsFill from to) fills → are_whole None (own 1 fills) ≡ true
+whole-fills from to [] all = refl
+whole-fills from to (entry.PageIn pass page from_disk ∷ fills) all = rw all.0.0 (whole-fills from to fills all.1)
+whole-fills from to (other ∷ fills) all = absurd all.0
 
 unstopped-fills : (from to : ℕ) (fills : List Entry) → AllByRecursion (IsFill from to) fills → IsUnstopped 1 fills
 unstopped-fills from to [] all = refl
@@ -96,8 +96,8 @@ module _ (u : Setup) (it : Call) (size from to : ℕ) (of_first : file_of it ≡
   works-fills : (fills old : List Entry) → AllByRecursion (IsFill from to) fills → size_of (history old 0) ≡ size → Works 1 (Calls it) fills old
   works-fills fills old all same = record {
     each = each-fills fills old all same;
-    one_sync = omega (arith, no_sync-fills from to fills all);
-    ended = ended-fills from to fills all;
+    one_sync = rw (no_sync-fills from to fills all) (omega arith);
+    whole = whole-fills from to fills all;
   }
 
   placed-fills : (ended : Outcome) (nth : ℕ) (old before new : List Entry) (f : Filled from to old before) → new ≡ entry.Call 1 nth (Some 0) it ended ∷ before → size_of (history old 0) ≡ size → IsPlaced 1 it ended f.fills old new
@@ -168,7 +168,7 @@ module _ (u : Setup) (it : Call) (size from to : ℕ) (of_first : file_of it ≡
             works = record {
               each = ((λ is. rw (← w.filled.grew) (may_fail page old before w same)), each-fills w.filled.fills old w.filled.all same);
               one_sync = omega (arith, no_sync-fills from to w.filled.fills w.filled.all);
-              ended = ended-fills from to w.filled.fills w.filled.all;
+              ended = whole-fills from to w.filled.fills w.filled.all;
             };
           };
           listed = listed;
