@@ -6,8 +6,8 @@ use Rattle.std.proofs.lemmas.List.Folds.{list_any-append}
 use Rattle.std.proofs.lemmas.List.Sums.{sum_by-cons}
 use Rattle.std.specs.List.{range_with_len, list_any, count_by}
 use Rattle.std.specs.Set.{is_member, distinct_count, unique_keys}
-use Rattle.cc_bcb.specs.Ranges.{blocks_of}
-use Rattle.cc_bcb.specs.Holds.{has_block, held_blocks, active_blocks}
+use Rattle.cc_entry.specs.Pages.{blocks_of}
+use Rattle.cc_bcb.specs.Holds.{range_of, has_block, held_blocks, active_blocks}
 use Rattle.cc_bcb.specs.declared.holds.Hold.{Hold}
 
 is_member-range : (first n b : ℕ) → is_member nat_eq (range_with_len first n) b ≡ (nat_le first b && nat_lt b (first + n))
@@ -71,7 +71,7 @@ distinct_count-units false first n others = omega arith
 is_member-held : (holds : List Hold) (b : ℕ) → is_member nat_eq (held_blocks holds) b ≡ list_any (has_block b) holds
 is_member-held [] b = refl
 is_member-held (h ∷ holds) b =
-    list_any-append (nat_eq b) (blocks_of h.row.at (h.row.at + h.row.len)) (held_blocks holds) ∙ ap (λ others. has_block b h || others) (is_member-held holds b)
+    list_any-append (nat_eq b) (blocks_of (range_of h.row)) (held_blocks holds) ∙ ap (λ others. has_block b h || others) (is_member-held holds b)
 
 -- a test that answers alike counts alike
 count_by-same : (p q : ℕ → Bool) → ((b : ℕ) → p b ≡ q b) → (xs : List ℕ) → count_by p xs ≡ count_by q xs
@@ -80,12 +80,12 @@ count_by-same p q same (x ∷ xs) = rw (count_by-cons p x xs, count_by-cons q x 
 
 -- the blocks of a hold and of those after it
 pub active_blocks-cons : (h : Hold) (later : List Hold)
-    → active_blocks (h ∷ later) ≡ count_by (λ b. not (list_any (has_block b) later)) (blocks_of h.row.at (h.row.at + h.row.len)) + active_blocks later
+    → active_blocks (h ∷ later) ≡ count_by (λ b. not (list_any (has_block b) later)) (blocks_of (range_of h.row)) + active_blocks later
 active_blocks-cons h later =
     let from : ℕ = h.row.at in
     let to : ℕ = h.row.at + h.row.len in
     distinct_count-units (nat_lt from to) (from / 262144) ((to - 1) / 262144 + 1 - from / 262144) (held_blocks later)
-    ∙ ap (λ n. n + active_blocks later) (count_by-same (λ b. not (is_member nat_eq (held_blocks later) b)) (λ b. not (list_any (has_block b) later)) (λ b. ap not (is_member-held later b)) (blocks_of from to))
+    ∙ ap (λ n. n + active_blocks later) (count_by-same (λ b. not (is_member nat_eq (held_blocks later) b)) (λ b. not (list_any (has_block b) later)) (λ b. ap not (is_member-held later b)) (blocks_of (range_of h.row)))
 
 -- the count so far of a range, at most `most`
 pub counted-more : (p : ℕ → Bool) (first block most count new : ℕ) → first ≤ block → count ≡ min (count_by p (range_with_len first (block - first))) most
@@ -101,7 +101,7 @@ pub record Counts (holds : List Hold) (place count most : ℕ) : Type 0 where
   pub within : count ≤ most
 
 pub Counts-more : (holds later : List Hold) (place count most further new : ℕ) (h : Hold) → h ≡ get_or holds place h → place < length holds
-    → further ≡ min (count_by (λ b. not (list_any (has_block b) later)) (blocks_of h.row.at (h.row.at + h.row.len))) most
+    → further ≡ min (count_by (λ b. not (list_any (has_block b) later)) (blocks_of (range_of h.row))) most
     → new ≡ min (count + further) most → Counts holds place count most → later ≡ drop (place + 1) holds → Counts holds (place + 1) new most
 Counts-more holds later place count most further new h at lt is step before same =
     let one : suc place ≡ place + 1 = omega arith in

@@ -1,14 +1,14 @@
 -- Open holds by id.
-use Rattle.std.specs.Prelude.{◌≡◌, ℕ, ◌+◌, ◌==◌, ◌≤◌, Bool, true, false, ◌&&◌, ◌||◌, nat_lt, nat_eq, List, [], Option, None, Some, All, IfSome, insert, remove, slice_set, find}
+use Rattle.std.specs.Prelude.{◌≡◌, ℕ, ◌+◌, ◌==◌, ◌≤◌, Bool, true, ◌&&◌, ◌||◌, nat_lt, nat_eq, List, [], Option, None, Some, All, IfSome, insert, remove, slice_set, find}
 use Rattle.std.specs.List.{position_or_len, flat_map}
 use Rattle.std.specs.Option.{option_map}
 use Rattle.std.specs.Set.{distinct_count, is_member}
 use Rattle.cc_entry.specs.Place.{Range}
-use Rattle.cc_entry.specs.declared.hold.HoldKind.{HoldKind}
 use Rattle.cc_entry.specs.declared.hold.HoldKind.TheVariants as kind
 use Rattle.cc_entry.specs.declared.hold.HoldRow.{HoldRow}
-use Rattle.cc_bcb.specs.Ranges.{share_page, pages_of, blocks_of}
-use Rattle.cc_bcb.specs.Touched.{has_page, with_pages, widened}
+use Rattle.cc_entry.specs.Kinds.{is_pin}
+use Rattle.cc_entry.specs.Pages.{whole_range, share_page, pages_of, blocks_of}
+use Rattle.cc_bcb.specs.Touched.{has_touched, with_pages, widened}
 use Rattle.cc_bcb.specs.declared.holds.Hold.{Hold}
 
 -- whether a hold has this id
@@ -34,7 +34,7 @@ Changes old new id f = IfSome (hold_of old id) (λ h. new ≡ slice_set old (pos
 -- the pages of a span, where there is one
 abbrev pub touched_at : Option Range → List ℕ
 touched_at None = []
-touched_at (Some span) = with_pages [] (pages_of span.from span.to)
+touched_at (Some span) = with_pages [] (pages_of span)
 
 -- a hold as it is opened: what it was written through so far is its span
 abbrev pub opened : HoldRow → Hold
@@ -44,7 +44,7 @@ opened row = record { row = row; touched = touched_at row.written }
 abbrev pub written : Range → Hold → Hold
 written span h = record {
   row = record (h.row) { written = widened h.row.written span };
-  touched = with_pages h.touched (pages_of span.from span.to);
+  touched = with_pages h.touched (pages_of span);
 }
 
 -- a hold after a set-dirty
@@ -55,16 +55,13 @@ cleaned h = record { row = record (h.row) { written = None }; touched = [] }
 abbrev pub pinned : Bool → Hold → Hold
 pinned exclusive h = record h { row = record (h.row) { kind = kind.Pin; exclusive = exclusive } }
 
-abbrev pub is_pin : HoldKind → Bool
-is_pin kind.Pin = true
-is_pin kind.Map = false
-is_pin kind.Repin = false
-is_pin kind.ReadChain = false
-is_pin kind.WriteChain = false
+-- the range of a hold
+abbrev pub range_of : HoldRow → Range
+range_of row = whole_range row.at row.len
 
 -- whether a hold has a byte in a page of the span
 abbrev pub overlaps : Range → Hold → Bool
-overlaps span h = share_page h.row.at (h.row.at + h.row.len) span.from span.to
+overlaps span h = share_page (range_of h.row) span
 
 -- whether a hold is a pin that forbids another one on the span
 abbrev pub conflicts : Range → Bool → Hold → Bool
@@ -72,7 +69,7 @@ conflicts span exclusive h = is_pin h.row.kind && (exclusive || h.row.exclusive)
 
 -- whether a hold is a pin through which the page was written, with no set-dirty since
 abbrev pub is_unstamped : ℕ → Hold → Bool
-is_unstamped page h = is_pin h.row.kind && has_page h.touched page
+is_unstamped page h = is_pin h.row.kind && has_touched h.touched page
 
 -- whether a hold ends past a size
 abbrev pub ends_past : ℕ → Hold → Bool
@@ -88,11 +85,11 @@ IsLeast passes holds least = IfSome least (λ id. All (λ h. passes h ≡ true �
 
 -- whether a hold has a byte in the block
 abbrev pub has_block : ℕ → Hold → Bool
-has_block block h = is_member nat_eq (blocks_of h.row.at (h.row.at + h.row.len)) block
+has_block block h = is_member nat_eq (blocks_of (range_of h.row)) block
 
 -- the blocks of each hold in turn
 abbrev pub held_blocks : List Hold → List ℕ
-held_blocks holds = flat_map (λ h. blocks_of h.row.at (h.row.at + h.row.len)) holds
+held_blocks holds = flat_map (λ h. blocks_of (range_of h.row)) holds
 
 -- how many blocks the holds have, each counted once
 abbrev pub active_blocks : List Hold → ℕ

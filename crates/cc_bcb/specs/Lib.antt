@@ -1,3 +1,3 @@
-pub mod Ranges
+pub mod Overlap
 pub mod Touched
 pub mod Holds

@@ -3,12 +3,15 @@ use Rattle.std.specs.Prelude.{ℕ, Option, None, Some, min, max, ◌==◌, Bool,
 use Rattle.std.specs.List.{list_any}
 use Rattle.cc_entry.specs.Place.{Range}
 
-abbrev pub has_page : List ℕ → ℕ → Bool
-has_page touched page = list_any (λ q. q == page) touched
+-- whether the page was touched
+abbrev pub has_touched : List ℕ → ℕ → Bool
+has_touched touched page = list_any (λ q. q == page) touched
 
+-- with one more page
 abbrev pub with_page : List ℕ → ℕ → List ℕ
-with_page touched page = if has_page touched page then touched else touched ++ page ∷ []
+with_page touched page = if has_touched touched page then touched else touched ++ page ∷ []
 
+-- with further pages, one after another
 abbrev pub with_pages : List ℕ → List ℕ → List ℕ
 with_pages touched pages = fold with_page touched pages
 

@@ -1,10 +1,10 @@
 //! How many view blocks the holds have.
 
-ghost use Rattle.std.specs.Prelude.{◌≡◌, ◌+◌, ◌-◌, ◌≤◌, not, min, count_by, nat_eq};
+ghost use Rattle.std.specs.Prelude.{◌≡◌, ◌-◌, ◌≤◌, not, min, count_by, nat_eq};
 ghost use Rattle.std.specs.List.{list_any, range_with_len};
 ghost use Rattle.std.specs.Set.{is_member};
-ghost use Rattle.cc_bcb.specs.Ranges.{blocks_of};
-ghost use Rattle.cc_bcb.specs.Holds.{has_block, active_blocks};
+ghost use Rattle.cc_entry.specs.Pages.{blocks_of};
+ghost use Rattle.cc_bcb.specs.Holds.{range_of, has_block, active_blocks};
 
 use crate::holds::Hold;
 use crate::ranges::end_of;
@@ -26,7 +26,8 @@ pub(crate) fn count_blocks(holds: &[Hold]) -> u32
 
 // How many blocks of a hold no later one has.
 fn further_blocks(row: &HoldRow, later: &[Hold]) -> u32
-    ensures { result ≡ min (count_by (λ b. not (list_any (has_block b) later.now)) (blocks_of row.now.at (row.now.at + row.now.len))) u32.MAX }
+    ensures { result
+        ≡ min (count_by (λ b. not (list_any (has_block b) later.now)) (blocks_of (range_of row.now))) u32.MAX }
 {
     let (first, end) = block_range(row);
     let mut count = 0u32;
@@ -45,7 +46,7 @@ fn is_held(holds: &[Hold], block: u64) -> bool
 }
 
 fn has_block(row: &HoldRow, block: u64) -> bool
-    ensures { result ≡ is_member nat_eq (blocks_of row.now.at (row.now.at + row.now.len)) block }
+    ensures { result ≡ is_member nat_eq (blocks_of (range_of row.now)) block }
 {
     let (first, end) = block_range(row);
     first <= block && block < end
@@ -54,7 +55,7 @@ fn has_block(row: &HoldRow, block: u64) -> bool
 // The hold's first block, and the block after its last one.
 fn block_range(row: &HoldRow) -> (u64, u64)
     ensures in_order { result.0 ≤ result.1 }
-    ensures blocks { range_with_len result.0 (result.1 - result.0) ≡ blocks_of row.now.at (row.now.at + row.now.len) }
+    ensures blocks { range_with_len result.0 (result.1 - result.0) ≡ blocks_of (range_of row.now) }
 {
     if row.len == 0 {
         return (0, 0);

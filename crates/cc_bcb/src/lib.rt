@@ -16,6 +16,3 @@ mod touched;
 pub use holds::{Hold, Holds};
 pub use ranges::overlaps;
 pub use touched::TouchedPages;
-
-#[cfg(test)]
-mod tests;

@@ -2,7 +2,8 @@
 
 ghost use Rattle.std.specs.Prelude.{◌≡◌, ◌≤◌, nat_lt, length, true};
 ghost use Rattle.std.specs.List.{position_or_len};
-ghost use Rattle.cc_bcb.specs.Holds.{overlaps, conflicts, is_unstamped, ends_past, first_id, has_id, is_pin};
+ghost use Rattle.cc_bcb.specs.Holds.{overlaps, conflicts, is_unstamped, ends_past, first_id, has_id};
+ghost use Rattle.cc_entry.specs.Kinds.{is_pin};
 
 use crate::holds::Hold;
 use crate::ranges::{end_of, overlaps};

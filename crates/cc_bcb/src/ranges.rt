@@ -1,7 +1,9 @@
 //! Ranges that share a page.
 
 ghost use Rattle.std.specs.Prelude.{◌≡◌, ◌+◌, ◌↔◌, IsTrue};
-ghost use Rattle.cc_bcb.specs.Ranges.{share_page, HaveBytesInOnePage};
+ghost use Rattle.cc_entry.specs.Pages.{share_page};
+ghost use Rattle.cc_bcb.specs.Holds.{range_of};
+ghost use Rattle.cc_bcb.specs.Overlap.{ends_share_page, HaveBytesInOnePage};
 ghost use Rattle.cc_bcb.specs.Touched.{widened};
 
 use cc_entry::{HoldRow, Span};
@@ -11,15 +13,16 @@ const PAGE_SIZE: u128 = 4096;
 
 /// Whether a hold and a span have bytes in one page.
 pub fn overlaps(row: &HoldRow, span: Span) -> bool
-    ensures value { result ≡ share_page row.now.at (row.now.at + row.now.len) span.from span.to }
-    ensures bytes { IsTrue result ↔ HaveBytesInOnePage row.now.at (row.now.at + row.now.len) span.from span.to }
+    ensures value { result ≡ share_page (range_of row.now) span }
+    ensures bytes { IsTrue result ↔ HaveBytesInOnePage (range_of row.now) span }
 {
     share_page(u128::from(row.at), end_of(row), span.from(), span.to())
 }
 
 // Whether the bytes from `from` to `to` and those from `start` to `end` have a page in common.
 fn share_page(from: u128, to: u128, start: u64, end: u64) -> bool
-    ensures { result ≡ share_page from to start end }
+    ensures { result
+        ≡ ends_share_page (record { from = from; to = to }) (record { from = start; to = end }) }
 {
     let (start, end) = (u128::from(start), u128::from(end));
     from < to

@@ -2,8 +2,8 @@
 
 ghost use Rattle.std.specs.Prelude.{◌≡◌, ◌-◌, ◌≤◌, [], OnOk, OnErr};
 ghost use Rattle.std.specs.List.{range_with_len};
-ghost use Rattle.cc_bcb.specs.Ranges.{pages_of};
-ghost use Rattle.cc_bcb.specs.Touched.{has_page, with_pages};
+ghost use Rattle.cc_entry.specs.Pages.{pages_of};
+ghost use Rattle.cc_bcb.specs.Touched.{has_touched, with_pages};
 
 use cc_entry::{NoMemory, Span};
 use std::alloc::Global;
@@ -36,14 +36,14 @@ impl TouchedPages {
     }
 
     pub fn contains(&self, page: u64) -> bool
-        ensures { result ≡ has_page self.now page }
+        ensures { result ≡ has_touched self.now page }
     {
         self.pages.contains(&page)
     }
 
     /// Adds the pages that have a byte of the span.
     pub fn touch(&mut self, span: Span) -> Result<(), NoMemory>
-        ensures ok { OnOk result (self.new ≡ with_pages self.old (pages_of span.from span.to)) }
+        ensures ok { OnOk result (self.new ≡ with_pages self.old (pages_of span)) }
         ensures err { OnErr result (self.new ≡ self.old) }
     {
         let (from, to) = (span.from(), span.to());
@@ -65,7 +65,8 @@ impl TouchedPages {
 // Adds the pages from `first` up to, and without, `end`.
 fn add_pages(pages: &mut Vec<u64>, first: u64, end: u64) -> Result<(), NoMemory>
     requires { first ≤ end }
-    ensures ok { OnOk result (pages.new.items ≡ with_pages pages.old.items (range_with_len first (end - first))) }
+    ensures ok { OnOk result
+        (pages.new.items ≡ with_pages pages.old.items (range_with_len first (end - first))) }
     ensures err { OnErr result (pages.new.items ≡ pages.old.items) }
 {
     let count = (end - first) as usize;

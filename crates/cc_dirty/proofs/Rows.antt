@@ -10,9 +10,9 @@ use Rattle.std.proofs.lemmas.List.Kept.{AllPairs-filter}
 use Rattle.std.specs.List.{slice_get, filter}
 use Rattle.std.specs.Option.{IsSomeAnd}
 use Rattle.cc_entry.specs.Place.{Page}
-use Rattle.cc_dirty.specs.Order.{precedes, same_page, IsAscending, SplitsAt, is_from}
+use Rattle.cc_dirty.specs.Order.{precedes, same_page, IsAscending, SplitsAt, is_from, is_between}
 use Rattle.cc_dirty.specs.Unwritten.{is_touched}
-use Rattle.cc_dirty.specs.Table.{row_of, KeepsOthers, Sound}
+use Rattle.cc_dirty.specs.Table.{row_of, KeepsOthers, DropsPages, Sound}
 use Rattle.cc_dirty.specs.declared.row.Row.{Row}
 use Rattle.cc_dirty.proofs.Search.{read-at}
 use Rattle.cc_dirty.proofs.Lookup.{find-none, find-at, find-insert, find-insert-other, find-remove, find-remove-other, find-set, find-set-other, fails-from_none, find-filter_kept, find-filter_cut}
@@ -159,10 +159,20 @@ Sound-filter keep rows sound = record {
 from-same : (stream page : ℕ) (a b : Page) → same_page a b ≡ true → is_from stream page a ≡ is_from stream page b
 from-same stream page a b e = grind (arith, nat_tests)
 
-pub row_of-cut : (stream page : ℕ) (rows : List Row) (q : Page) → is_from stream page q ≡ true → row_of (filter (λ r. not (is_from stream page r.page)) rows) q ≡ None
-row_of-cut stream page rows q from =
-    find-filter_cut (λ x. same_page x.page q) (λ r. not (is_from stream page r.page)) (λ x same. ap not (from-same stream page x.page q same ∙ from)) rows
+between-same : (stream from to : ℕ) (a b : Page) → same_page a b ≡ true → is_between stream from to a ≡ is_between stream from to b
+between-same stream from to a b e = grind (arith, nat_tests)
 
-pub row_of-kept : (stream page : ℕ) (rows : List Row) (q : Page) → is_from stream page q ≡ false → row_of (filter (λ r. not (is_from stream page r.page)) rows) q ≡ row_of rows q
-row_of-kept stream page rows q from =
-    find-filter_kept (λ x. same_page x.page q) (λ r. not (is_from stream page r.page)) (λ x same. ap not (from-same stream page x.page q same ∙ from)) rows
+-- a filter on the pages of the rows, by a test that answers alike for the same page
+DropsPages-filter : (picks : Page → Bool) → ((a b : Page) → same_page a b ≡ true → picks a ≡ picks b) → (rows new : List Row)
+    → new ≡ filter (λ r. not (picks r.page)) rows → DropsPages picks rows new
+DropsPages-filter picks alike rows new is = record {
+  rows = is;
+  dropped = λ q picked. ap (λ rs. row_of rs q) is ∙ find-filter_cut (λ x. same_page x.page q) (λ r. not (picks r.page)) (λ x same. ap not (alike x.page q same ∙ picked)) rows;
+  others = λ q left. ap (λ rs. row_of rs q) is ∙ find-filter_kept (λ x. same_page x.page q) (λ r. not (picks r.page)) (λ x same. ap not (alike x.page q same ∙ left)) rows;
+}
+
+pub DropsPages-from : (stream page : ℕ) (rows new : List Row) → new ≡ filter (λ r. not (is_from stream page r.page)) rows → DropsPages (is_from stream page) rows new
+DropsPages-from stream page = DropsPages-filter (is_from stream page) (from-same stream page)
+
+pub DropsPages-between : (stream from to : ℕ) (rows new : List Row) → new ≡ filter (λ r. not (is_between stream from to r.page)) rows → DropsPages (is_between stream from to) rows new
+DropsPages-between stream from to = DropsPages-filter (is_between stream from to) (between-same stream from to)

@@ -13,6 +13,10 @@ precedes a b = nat_lt a.stream b.stream || (a.stream == b.stream && nat_lt a.pag
 abbrev pub is_from : ℕ → ℕ → Page → Bool
 is_from stream number q = q.stream == stream && nat_le number q.page
 
+-- whether a page is of this stream, from a number up to, and without, another one
+abbrev pub is_between : ℕ → ℕ → ℕ → Page → Bool
+is_between stream from to q = is_from stream from q && nat_lt q.page to
+
 -- rows stand in the order of their pages, one for each page
 abbrev pub IsAscending : List Row → Type 0
 IsAscending rows = AllPairs (λ a b. precedes a.page b.page ≡ true) rows

@@ -1,5 +1,5 @@
 -- The dirty page table.
-use Rattle.std.specs.Prelude.{◌≡◌, ℕ, ◌==◌, Bool, true, false, All, List, Option, find}
+use Rattle.std.specs.Prelude.{◌≡◌, ℕ, ◌==◌, Bool, true, false, not, All, List, Option, None, find, filter}
 use Rattle.cc_entry.specs.Place.{Page}
 use Rattle.cc_dirty.specs.Order.{same_page, IsAscending}
 use Rattle.cc_dirty.specs.Unwritten.{is_touched}
@@ -17,6 +17,12 @@ row_of rows page = find (λ r. same_page r.page page) rows
 -- every other page has the row that it had
 abbrev pub KeepsOthers : List Row → List Row → Page → Type 0
 KeepsOthers old new page = (q : Page) → same_page q page ≡ false → row_of new q ≡ row_of old q
+
+-- the pages that are picked lost their rows, and every other page has the row that it had
+pub record DropsPages (picks : Page → Bool) (old new : List Row) : Type 0 where
+  pub rows : new ≡ filter (λ r. not (picks r.page)) old
+  pub dropped : (q : Page) → picks q ≡ true → row_of new q ≡ None
+  pub others : (q : Page) → picks q ≡ false → row_of new q ≡ row_of old q
 
 -- whether a row is of this stream
 abbrev pub is_of : ℕ → Row → Bool

@@ -1,19 +1,9 @@
 -- What is unwritten of a page.
-use Rattle.std.specs.Prelude.{ℕ, Bool, true, false, ◌||◌, Option, None, Some, min, max, if◌then◌else◌}
+use Rattle.std.specs.Prelude.{ℕ, Bool, true, false, ◌||◌, Option, None, Some, if◌then◌else◌}
 use Rattle.cc_dirty.specs.declared.row.Unwritten.{Unwritten}
 use Rattle.cc_dirty.specs.declared.row.Row.{Row}
+use Rattle.cc_entry.specs.Lsns.{joined as joined_lsns, alone}
 use Rattle.cc_entry.specs.Place.{Page}
-
--- the least and the greatest LSN of both
-abbrev pub joined_lsns : Option (ℕ × ℕ) → Option (ℕ × ℕ) → Option (ℕ × ℕ)
-joined_lsns None others = others
-joined_lsns (Some a) None = Some a
-joined_lsns (Some a) (Some b) = Some (min a.0 b.0, max a.1 b.1)
-
--- the LSNs of one touch
-abbrev pub lsns_of : Option ℕ → Option (ℕ × ℕ)
-lsns_of None = None
-lsns_of (Some lsn) = Some (lsn, lsn)
 
 abbrev pub nothing : Unwritten
 nothing = record { touched = false; lsns = None }
@@ -23,7 +13,7 @@ joined a b = record { touched = a.touched || b.touched; lsns = joined_lsns a.lsn
 
 -- with one touch more
 abbrev pub with_touch : Unwritten → Option ℕ → Unwritten
-with_touch u lsn = record { touched = true; lsns = joined_lsns u.lsns (lsns_of lsn) }
+with_touch u lsn = record { touched = true; lsns = joined_lsns u.lsns (alone lsn) }
 
 abbrev pub is_touched : Row → Bool
 is_touched r = r.begun.touched || r.later.touched

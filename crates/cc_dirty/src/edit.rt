@@ -1,12 +1,12 @@
 //! Edits of the rows that keep their order.
 
 ghost use Rattle.std.specs.Prelude.{◌≡◌, ◌+◌, ◌<◌, ◌≤◌, true, None, Some, IfSome, IsSomeAnd, length, slice_get, insert, filter, not, vec_len, vec_capacity};
-ghost use Rattle.cc_dirty.specs.Order.{same_page, is_from, SplitsAt};
+ghost use Rattle.cc_dirty.specs.Order.{same_page, is_from, is_between, SplitsAt};
 ghost use Rattle.cc_dirty.specs.Unwritten.{is_touched};
 ghost use Rattle.cc_dirty.specs.Table.{row_of, KeepsOthers, Sound};
 
 use crate::find::place_of;
-use crate::row::{Row, Unwritten, is_from, same_page};
+use crate::row::{Row, Unwritten, is_between, is_from, same_page};
 use cc_entry::{PageId, StreamId};
 
 /// The place of a page among the rows, and its row there.
@@ -15,7 +15,8 @@ pub(crate) fn find(rows: &[Row], page: PageId) -> (usize, Option<Row>)
     ensures row { result.1 ≡ row_of rows.now page }
     ensures split { SplitsAt rows.now page result.0 }
     ensures within { result.0 ≤ length rows.now }
-    ensures at { IfSome result.1 (λ r. (slice_get rows.now result.0 ≡ Some r) × (same_page r.page page ≡ true)) }
+    ensures at { IfSome result.1
+        (λ r. (slice_get rows.now result.0 ≡ Some r) × (same_page r.page page ≡ true)) }
     ensures touched { IfSome result.1 (λ r. is_touched r ≡ true) }
 {
     let place = place_of(rows, page);
@@ -81,12 +82,22 @@ pub(crate) fn remove(rows: &mut Vec<Row>, place: usize, page: PageId)
 }
 
 /// Takes out the rows of a stream's pages from this number on.
-pub(crate) fn drop_rows(rows: &mut Vec<Row>, stream: StreamId, page: u64)
+pub(crate) fn drop_from(rows: &mut Vec<Row>, stream: StreamId, page: u64)
     ensures rows { rows.new.items ≡ filter (λ r. not (is_from stream page r.page)) rows.old.items }
     ensures len { vec_len rows.new ≤ vec_len rows.old }
     ensures capacity { vec_capacity rows.new ≡ vec_capacity rows.old }
 {
     rows.retain(|row| !is_from(row.page, stream, page));
+}
+
+/// Takes out the rows of a stream's pages from `from` up to, and without, `to`.
+pub(crate) fn drop_between(rows: &mut Vec<Row>, stream: StreamId, from: u64, to: u64)
+    ensures rows { rows.new.items
+        ≡ filter (λ r. not (is_between stream from to r.page)) rows.old.items }
+    ensures len { vec_len rows.new ≤ vec_len rows.old }
+    ensures capacity { vec_capacity rows.new ≡ vec_capacity rows.old }
+{
+    rows.retain(|row| !is_between(row.page, stream, from, to));
 }
 
 // An insert where there is room, which can't fail.

@@ -15,6 +15,3 @@ mod table;
 
 pub use row::{Row, Unwritten};
 pub use table::DirtyTable;
-
-#[cfg(test)]
-mod tests;

@@ -1,20 +1,20 @@
 //! A row of the table.
 
 ghost use Rattle.std.specs.Prelude.{◌≡◌, min, max};
-ghost use Rattle.cc_dirty.specs.Unwritten.{joined_lsns};
-ghost use Rattle.cc_dirty.specs.Order.{precedes, same_page, is_from};
+ghost use Rattle.cc_entry.specs.Lsns.{joined as joined_lsns};
+ghost use Rattle.cc_dirty.specs.Order.{precedes, same_page, is_from, is_between};
 
 use cc_entry::{Lsn, PageId, StreamId};
 
 /// What is unwritten of a page: whether it was touched, and the least and greatest LSN of its stamps.
-#[derive(Clone, Copy, Debug, PartialEq, Eq, Hash)]
+#[derive(Clone, Copy, Debug, PartialEq, Eq)]
 pub struct Unwritten {
     pub touched: bool,
     pub lsns: Option<(Lsn, Lsn)>,
 }
 
 /// A page that is dirty: what an open WriteBegin took of it, and what was touched since.
-#[derive(Clone, Copy, Debug, PartialEq, Eq, Hash)]
+#[derive(Clone, Copy, Debug, PartialEq, Eq)]
 pub struct Row {
     pub page: PageId,
     pub begun: Unwritten,
@@ -153,4 +153,11 @@ pub(crate) fn is_from(page: PageId, stream: StreamId, number: u64) -> bool
     ensures { result ≡ is_from stream number page }
 {
     page.stream().number() == stream.number() && number <= page.page()
+}
+
+/// Whether a page is of this stream, from `from` up to, and without, `to`.
+pub(crate) fn is_between(page: PageId, stream: StreamId, from: u64, to: u64) -> bool
+    ensures { result ≡ is_between stream from to page }
+{
+    is_from(page, stream, from) && page.page() < to
 }

@@ -1,13 +1,12 @@
 //! The table.
 
-ghost use Rattle.std.specs.Prelude.{◌≡◌, ℕ, ◌+◌, ◌<◌, ◌≤◌, ◌⊎◌, [], All, true, false, length, None, Some, IsSome, OnOk, OnErr, count_by, filter, not};
+ghost use Rattle.std.specs.Prelude.{◌≡◌, ◌<◌, ◌≤◌, ◌⊎◌, [], All, true, length, Some, IsSome, OnOk, OnErr, count_by};
 ghost use Rattle.std.specs.Option.{option_map, option_and_then};
-ghost use Rattle.cc_entry.specs.Place.{Page};
-ghost use Rattle.cc_dirty.specs.Order.{IsAscending, is_from};
+ghost use Rattle.cc_dirty.specs.Order.{IsAscending, is_from, is_between};
 ghost use Rattle.cc_dirty.specs.Unwritten.{touched_row, begun_row, ended_row, kept_row, is_touched};
-ghost use Rattle.cc_dirty.specs.Table.{row_of, KeepsOthers, is_of};
+ghost use Rattle.cc_dirty.specs.Table.{row_of, KeepsOthers, DropsPages, is_of};
 
-use crate::edit::{drop_rows, find, insert, remove, replace};
+use crate::edit::{drop_between, drop_from, find, insert, remove, replace};
 use crate::row::Row;
 use cc_entry::{Lsn, NoMemory, PageId, StreamId};
 use std::alloc::Global;
@@ -95,7 +94,8 @@ impl DirtyTable {
 
     /// Notes the WriteEnd of a page.
     pub fn end(&mut self, page: PageId, ok: bool)
-        ensures row { row_of self.new.rows page ≡ option_and_then (λ r. kept_row (ended_row ok r)) (row_of self.old.rows page) }
+        ensures row { row_of self.new.rows page
+            ≡ option_and_then (λ r. kept_row (ended_row ok r)) (row_of self.old.rows page) }
         ensures others { KeepsOthers self.old.rows self.new.rows page }
         ensures capacity { self.new.capacity ≡ self.old.capacity }
     {
@@ -111,11 +111,17 @@ impl DirtyTable {
 
     /// Forgets the pages of a stream from this number on, as their size is cut.
     pub fn drop_from(&mut self, stream: StreamId, page: u64)
-        ensures rows { self.new.rows ≡ filter (λ r. not (is_from stream page r.page)) self.old.rows }
-        ensures cut { (q : Page) → is_from stream page q ≡ true → row_of self.new.rows q ≡ None }
-        ensures others { (q : Page) → is_from stream page q ≡ false → row_of self.new.rows q ≡ row_of self.old.rows q }
+        ensures rows { DropsPages (is_from stream page) self.old.rows self.new.rows }
         ensures capacity { self.new.capacity ≡ self.old.capacity }
     {
-        drop_rows(&mut self.rows, stream, page);
+        drop_from(&mut self.rows, stream, page);
+    }
+
+    /// Forgets the pages of a stream from `from` up to, and without, `to`, as they are thrown away.
+    pub fn drop_span(&mut self, stream: StreamId, from: u64, to: u64)
+        ensures rows { DropsPages (is_between stream from to) self.old.rows self.new.rows }
+        ensures capacity { self.new.capacity ≡ self.old.capacity }
+    {
+        drop_between(&mut self.rows, stream, from, to);
     }
 }

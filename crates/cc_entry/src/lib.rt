@@ -29,6 +29,3 @@ pub use place::{
     DirtyRow, FileId, FileSizes, FileState, Lsn, PageId, Quota, Request, Span, StreamId,
 };
 pub use reply::{Outcome, Reply};
-
-#[cfg(test)]
-mod tests;

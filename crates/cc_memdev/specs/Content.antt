@@ -1,5 +1,5 @@
 -- The pages of a memory disk as plain data.
-use Rattle.std.specs.Prelude.{◌≡◌, ℕ, Bool, true, false, if◌then◌else◌, List, [], ◌∷◌, ◌++◌, map}
+use Rattle.std.specs.Prelude.{◌≡◌, ℕ, Bool, true, false, List, [], ◌∷◌, ◌++◌, map}
 use Rattle.cc_traits.specs.Disk.{Disk, or_alone, page_of, Wrote, WriteFailed}
 
 -- a page that was written: what it holds, and the contents that a crash now can leave, none where that
@@ -38,11 +38,11 @@ disk_over fill opening written = record {
 }
 
 -- a write of a page failed, and the page holds what it held
-pub record ToreInPlace (page : ℕ) (bytes : List ℕ) (old new : Disk) : Type 0 where
+pub record WriteFailedInPlace (page : ℕ) (bytes : List ℕ) (old new : Disk) : Type 0 where
   pub holds : (p : ℕ) → page_of new p ≡ page_of old p
-  pub tore : WriteFailed page bytes old new
+  pub failed : WriteFailed page bytes old new
 
 -- a write of a page ended well, or failed and left what the page holds
 abbrev pub Records : Bool → ℕ → List ℕ → Disk → Disk → Type 0
 Records true page bytes old new = Wrote page bytes old new
-Records false page bytes old new = ToreInPlace page bytes old new
+Records false page bytes old new = WriteFailedInPlace page bytes old new

@@ -21,10 +21,11 @@ pub record LogState : Type 0 where
   pub stop : StopPlan
   pub faults : ℕ
 
--- the bytes that are left, and how many a call gives at most
+-- the bytes that are left, how many were taken, and how many a call gives at most
 pub record SourceState : Type 0 where
   pub left : List ℕ
-  pub piece : ℕ
+  pub taken : ℕ
+  pub chunk : ℕ
   pub takes : CallPlan
   pub faults : ℕ
 

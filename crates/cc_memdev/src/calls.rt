@@ -1,3 +1,5 @@
+//! Which calls on a device are to fail: those that are listed, and those after a stop.
+
 ghost use Rattle.std.specs.Prelude.{◌≡◌, ◌++◌, [], Some, None};
 ghost use Rattle.cc_memdev.specs.Calls.{CallPlan, StopPlan, is_listed, after_call, is_stopped, after_any_call};
 

@@ -1,3 +1,5 @@
+//! The pages of a disk in memory, and what a crash can leave of each.
+
 ghost use Rattle.std.specs.Prelude.{◌≡◌, Bool, [], IfOk, OnOk, OnErr};
 ghost use Rattle.std.specs.Ordering.{nat_cmp};
 ghost use Rattle.std.specs.BTreeMap.{IsOrdered};

@@ -1,8 +1,10 @@
+//! A disk in memory.
+
 ghost use Rattle.std.specs.Prelude.{◌≡◌, ◌+◌, ◌-◌, ◌^◌, ◌↔◌, true, false, [], Some, None, IsOk, IfOk, OnOk, OnErr};
 ghost use Rattle.cc_traits.specs.Stop.{faults_in, OnFailed, OnNoMemory};
 ghost use Rattle.cc_traits.specs.Disk.{Found, page_of, may_of, Wrote, Settled};
 ghost use Rattle.cc_memdev.specs.Calls.{after_call, after_any_call, fails_next};
-ghost use Rattle.cc_memdev.specs.Content.{ToreInPlace};
+ghost use Rattle.cc_memdev.specs.Content.{WriteFailedInPlace};
 ghost use Rattle.cc_memdev.specs.Devices.{DiskState};
 
 use crate::calls::{AllCalls, Calls};
@@ -139,7 +141,7 @@ impl PageDisk for MemDisk {
 
     fn write_page(&mut self, page: u64, bytes: &[u8; 4096]) -> Result<(), Stop>
         ensures wrote { OnOk result (Wrote page bytes.now self.old.disk self.new.disk) }
-        ensures tore { OnFailed result (ToreInPlace page bytes.now self.old.disk self.new.disk) }
+        ensures failed { OnFailed result (WriteFailedInPlace page bytes.now self.old.disk self.new.disk) }
         ensures no_memory { OnNoMemory result (self.new.disk ≡ self.old.disk) }
         ensures state { self.new ≡ record self.old {
           disk = self.new.disk;

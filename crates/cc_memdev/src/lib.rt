@@ -17,6 +17,3 @@ mod stream;
 pub use disk::{DiskFails, MemDisk};
 pub use log::{LogFails, MemLog};
 pub use stream::{MemSink, MemSource};
-
-#[cfg(test)]
-mod tests;

@@ -1,3 +1,5 @@
+//! A log in memory.
+
 ghost use Rattle.std.specs.Prelude.{◌≡◌, ◌+◌, ◌-◌, ◌^◌, ◌↔◌, true, false, max, map, [], ◌∷◌, ◌++◌, Some, None, IsOk, OnOk, OnErr};
 ghost use Rattle.cc_traits.specs.Stop.{faults_in, OnFailed, OnNoMemory};
 ghost use Rattle.cc_memdev.specs.Calls.{after_call, after_any_call, fails_next};
@@ -118,10 +120,10 @@ impl LogFile for MemLog {
 
     ghost faults = { λ l. l.faults };
 
-    fn append(&mut self, lsn: u64, piece: &[u8]) -> Result<(), Stop>
+    fn append(&mut self, lsn: u64, bytes: &[u8]) -> Result<(), Stop>
         ensures appended { OnOk result
             (self.new.log ≡ record self.old.log {
-              entries = self.old.log.entries ++ record { lsn = lsn; bytes = piece.now } ∷ [];
+              entries = self.old.log.entries ++ record { lsn = lsn; bytes = bytes.now } ∷ [];
             }) }
         ensures err { OnErr result (self.new.log ≡ self.old.log) }
         ensures state { self.new ≡ record self.old {
@@ -138,8 +140,8 @@ impl LogFile for MemLog {
         if listed || stopped {
             return Err(self.faults.raise());
         }
-        let bytes = Vec::from_slice(self.alloc, piece)?;
-        self.entries.push((lsn, bytes))?;
+        let kept = Vec::from_slice(self.alloc, bytes)?;
+        self.entries.push((lsn, kept))?;
         Ok(())
     }
 

@@ -1,5 +1,7 @@
+//! A source and a sink of bytes in memory.
+
 ghost use Rattle.std.specs.Prelude.{◌≡◌, ◌+◌, ◌-◌, ◌^◌, ◌<◌, ◌≤◌, ◌↔◌, true, false, min, length, take, drop, vec_len, [], ◌++◌, Some, IsOk, IfOk, OnOk, OnErr};
-ghost use Rattle.cc_traits.specs.Stop.{faults_in, OnFailed, OnNoMemory};
+ghost use Rattle.cc_traits.specs.Stop.{faults_in, taken_in, OnFailed, OnNoMemory};
 ghost use Rattle.cc_memdev.specs.Calls.{after_call, is_listed};
 ghost use Rattle.cc_memdev.specs.Devices.{SourceState, SinkState};
 
@@ -13,7 +15,7 @@ use std::marker::Model;
 pub struct MemSource {
     bytes: Vec<u8>,
     at: usize,
-    piece: usize,
+    chunk: usize,
     takes: Calls,
     faults: Faults,
 }
@@ -23,28 +25,30 @@ impl Model for MemSource {
 
     ghost view = { λ s. record {
       left = drop s.at s.bytes.items;
-      piece = s.piece;
+      taken = s.at;
+      chunk = s.chunk;
       takes = s.takes;
       faults = s.faults;
     } };
 
-    ghost invariant = { λ s. (s.at ≤ vec_len s.bytes) × (0 < s.piece) };
+    ghost invariant = { λ s. (s.at ≤ vec_len s.bytes) × (0 < s.chunk) };
 }
 
 impl MemSource {
-    /// A source of these bytes, which gives at most `piece` of them a call, and fails at the calls
+    /// A source of these bytes, which gives at most `chunk` of them a call, and fails at the calls
     /// with these numbers, counted from 1. It takes no memory.
-    pub fn new(bytes: Vec<u8>, piece: usize, fails: Vec<u64>) -> MemSource
-        requires { 0 < piece }
+    pub fn new(bytes: Vec<u8>, chunk: usize, fails: Vec<u64>) -> MemSource
+        requires { 0 < chunk }
         ensures left { result.left ≡ bytes.items }
-        ensures piece { result.piece ≡ piece }
+        ensures none_taken { result.taken ≡ 0 }
+        ensures chunk { result.chunk ≡ chunk }
         ensures takes { result.takes ≡ record { fails = fails.items; made = 0 } }
         ensures no_fault { result.faults ≡ 0 }
     {
         MemSource {
             bytes,
             at: 0,
-            piece,
+            chunk,
             takes: Calls::new(fails),
             faults: Faults::new(),
         }
@@ -63,14 +67,18 @@ impl Source for MemSource {
 
     ghost faults = { λ s. s.faults };
 
+    ghost taken = { λ s. s.taken };
+
     fn take(&mut self, buf: &mut [u8]) -> Result<usize, Stop>
         ensures amount { IfOk result
-            (λ n. n ≡ min self.old.piece (min (length buf.old) (length self.old.left))) }
+            (λ n. n ≡ min self.old.chunk (min (length buf.old) (length self.old.left))) }
         ensures given { IfOk result (λ n. self.old.left ≡ take n buf.new ++ self.new.left) }
         ensures end { IfOk result (λ n. n ≡ 0 → 0 < length buf.old → self.old.left ≡ []) }
         ensures err { OnErr result (self.new.left ≡ self.old.left) }
+        ensures none_lost { self.new.taken + length self.new.left ≡ self.old.taken + length self.old.left }
         ensures state { self.new ≡ record self.old {
           left = self.new.left;
+          taken = self.old.taken + taken_in result;
           takes = after_call self.old.takes;
           faults = self.old.faults + faults_in result;
         } }
@@ -81,14 +89,14 @@ impl Source for MemSource {
             return Err(self.faults.raise());
         }
         let left = self.bytes.len() - self.at;
-        let n = self.piece.min(buf.len().min(left));
+        let n = self.chunk.min(buf.len().min(left));
         buf[..n].copy_from_slice(&self.bytes[self.at..self.at + n]);
         self.at += n;
         Ok(n)
     }
 }
 
-/// A sink that keeps what it takes, whole pieces at a time.
+/// A sink that keeps what it takes, and takes all that it is given.
 #[derive(Drop)]
 pub struct MemSink {
     taken: Vec<u8>,
@@ -136,12 +144,12 @@ impl Sink for MemSink {
 
     ghost faults = { λ s. s.faults };
 
-    // It takes each piece whole.
+    // It takes all that it is given.
     ghost stalls = { λ _. 0 };
 
-    fn put(&mut self, piece: &[u8]) -> Result<usize, Stop>
-        ensures whole { IfOk result (λ n. n ≡ length piece.now) }
-        ensures taken { OnOk result (self.new.taken ≡ self.old.taken ++ piece.now) }
+    fn put(&mut self, bytes: &[u8]) -> Result<usize, Stop>
+        ensures whole { IfOk result (λ n. n ≡ length bytes.now) }
+        ensures taken { OnOk result (self.new.taken ≡ self.old.taken ++ bytes.now) }
         ensures err { OnErr result (self.new.taken ≡ self.old.taken) }
         ensures state { self.new ≡ record self.old {
           taken = self.new.taken;
@@ -154,7 +162,7 @@ impl Sink for MemSink {
         if self.puts.is_next_listed() {
             return Err(self.faults.raise());
         }
-        self.taken.extend_from_slice(piece)?;
-        Ok(piece.len())
+        self.taken.extend_from_slice(bytes)?;
+        Ok(bytes.len())
     }
 }

@@ -1,11 +1,12 @@
 -- Stamps: the LSNs of changes that are not yet written, and the pages that still owe one.
-use Rattle.std.specs.Prelude.{ℕ, Bool, false, ◌&&◌, ◌==◌, List, [], ◌∷◌, min, max, if◌then◌else◌}
+use Rattle.std.specs.Prelude.{ℕ, Bool, false, ◌&&◌, ◌==◌, List, [], ◌∷◌, if◌then◌else◌}
 use Rattle.std.specs.declared.option.Option.{Option}
 use Rattle.std.specs.declared.option.Option.TheVariants.{Some, None}
 use Rattle.std.specs.List.{list_any, flat_map, filter_map, range_with_len}
 use Rattle.std.specs.Option.{option_map}
 use Rattle.cc_entry.specs.declared.entry.Entry.{Entry}
 use Rattle.cc_entry.specs.Kinds.{is_pin}
+use Rattle.cc_entry.specs.Lsns.{joined, alone}
 use Rattle.cc_entry.specs.declared.place.DirtyRow.{DirtyRow}
 use Rattle.cc_entry.specs.Pages.{has_page, pages_of}
 use Rattle.cc_model.specs.Numbers.{ascending}
@@ -14,17 +15,6 @@ use Rattle.cc_model.specs.Holds.{Hold, holds_of}
 use Rattle.cc_model.specs.Touches.{unwritten, dirty_pages}
 use Rattle.cc_model.specs.Sizes.{Touch}
 use Rattle.cc_model.specs.Settings.{log_of}
-
--- the least and the greatest LSN of two pairs of them, either of which may be missing
-abbrev pub joined : Option (ℕ × ℕ) → Option (ℕ × ℕ) → Option (ℕ × ℕ)
-joined None b = b
-joined (Some a) None = Some a
-joined (Some a) (Some b) = Some (min a.0 b.0, max a.1 b.1)
-
--- an LSN is the least and the greatest of itself
-abbrev pub alone : Option ℕ → Option (ℕ × ℕ)
-alone None = None
-alone (Some lsn) = Some (lsn, lsn)
 
 -- the least and the greatest LSN among touches, where one has an LSN
 abbrev pub lsns_among : List Touch → Option (ℕ × ℕ)

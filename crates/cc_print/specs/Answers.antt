@@ -14,40 +14,44 @@ use Rattle.cc_entry.specs.declared.answer.Answer.TheVariants as answer
 use Rattle.cc_entry.specs.declared.reply.Reply.{Reply}
 use Rattle.cc_entry.specs.declared.reply.Reply.TheVariants as reply
 use Rattle.cc_script.specs.declared.script.StreamLine.{StreamLine}
+use Rattle.cc_print.specs.Append.{◌&◌}
 use Rattle.cc_print.specs.Pieces.{file_text, page_text, bytes_text}
 
 -- the numbers of a refusal, each behind a space
 abbrev pub error_numbers : CcError → List ℕ
 error_numbers error.NotCached = []
-error_numbers (error.BeyondSize n) = codes " " ++ decimal n
-error_numbers (error.BeyondValid n) = codes " " ++ decimal n
-error_numbers (error.TooLong n) = codes " " ++ decimal n
+error_numbers (error.BeyondSize n) = codes " " & decimal n
+error_numbers (error.BeyondValid n) = codes " " & decimal n
+error_numbers (error.TooLong n) = codes " " & decimal n
 error_numbers error.ViewBoundary = []
 error_numbers error.Unaligned = []
 error_numbers error.BadSizes = []
-error_numbers (error.Held n) = codes " " ++ decimal n
-error_numbers (error.Busy n) = codes " " ++ decimal n
-error_numbers (error.NoViews active quota) = codes " " ++ (decimal active ++ (codes " " ++ decimal quota))
-error_numbers (error.NotResident n) = codes " " ++ decimal n
-error_numbers (error.NoVacbs n) = codes " " ++ decimal n
-error_numbers (error.JournalFull n) = codes " " ++ decimal n
-error_numbers (error.ReadFault n) = codes " " ++ decimal n
-error_numbers (error.WriteFault n) = codes " " ++ decimal n
-error_numbers (error.LogFault n) = codes " " ++ decimal n
-error_numbers (error.LogFull n) = codes " " ++ decimal n
+error_numbers (error.Held n) = codes " " & decimal n
+error_numbers (error.Busy n) = codes " " & decimal n
+error_numbers (error.NoViews active quota) = codes " " & decimal active & codes " " & decimal quota
+error_numbers (error.NotResident n) = codes " " & decimal n
+error_numbers (error.NoVacbs n) = codes " " & decimal n
+error_numbers (error.JournalFull n) = codes " " & decimal n
+error_numbers (error.ReadFault n) = codes " " & decimal n
+error_numbers (error.WriteFault n) = codes " " & decimal n
+error_numbers (error.LogFault n) = codes " " & decimal n
+error_numbers (error.LogFull n) = codes " " & decimal n
 error_numbers error.QueueFull = []
 error_numbers error.NoMemory = []
 error_numbers error.BadGranularity = []
-error_numbers (error.NoLog n) = codes " " ++ decimal n
-error_numbers (error.GapTooLong n) = codes " " ++ decimal n
+error_numbers (error.NoLog n) = codes " " & decimal n
+error_numbers (error.Unsettled n) = codes " " & decimal n
+error_numbers (error.Grown n) = codes " " & decimal n
+error_numbers (error.GapTooLong n) = codes " " & decimal n
 
 -- a refusal: its number, its name, then its numbers
 abbrev pub error_text : CcError → List ℕ
-error_text e = codes "error " ++ (decimal (number_of e) ++ (codes " " ++ (name_of e ++ error_numbers e)))
+error_text e = codes "error " & decimal (number_of e) & codes " " & name_of e & error_numbers e
 
 -- a row of the dirty pages of a log
 abbrev pub row_text : List StreamLine → DirtyRow → List ℕ
-row_text streams row = codes "; " ++ (page_text streams row.page ++ (codes " " ++ (decimal row.oldest ++ (codes " " ++ decimal row.newest))))
+row_text streams row =
+    codes "; " & page_text streams row.page & codes " " & decimal row.oldest & codes " " & decimal row.newest
 
 abbrev pub rows_text : List StreamLine → List DirtyRow → List ℕ
 rows_text streams rows = flat_map (λ row. row_text streams row) rows
@@ -56,76 +60,83 @@ abbrev pub counted_rows : List StreamLine → List DirtyRow → List ℕ
 counted_rows streams rows = (codes "ok rows " ++ decimal (length rows)) ++ rows_text streams rows
 
 abbrev pub lsns_text : Option (ℕ × ℕ) → List ℕ
-lsns_text (Some lsns) = codes "ok lsns " ++ (decimal lsns.0 ++ (codes " " ++ decimal lsns.1))
+lsns_text (Some lsns) = codes "ok lsns " & decimal lsns.0 & codes " " & decimal lsns.1
 lsns_text None = codes "ok none"
 
--- the number of a log, or `-`
-abbrev pub log_text : Option ℕ → List ℕ
-log_text (Some handle) = decimal handle
-log_text None = codes "-"
+-- a number, as that of a log or an LSN; `-` where there is none
+abbrev pub number_or_dash : Option ℕ → List ℕ
+number_or_dash (Some n) = decimal n
+number_or_dash None = codes "-"
 
 abbrev pub state_text : FileState → List ℕ
-state_text state = codes "ok state " ++ (decimal state.sizes.allocation ++ (codes " " ++ (decimal state.sizes.size ++ (codes " " ++ (decimal state.sizes.valid ++ (codes " " ++ log_text state.log))))))
+state_text state =
+    codes "ok state " & decimal state.sizes.allocation
+    & codes " " & decimal state.sizes.size
+    & codes " " & decimal state.sizes.valid
+    & codes " " & number_or_dash state.log
 
 -- a read-ahead request: its file, place and length
 abbrev pub request_text : List StreamLine → Request → List ℕ
-request_text streams request = codes "ahead " ++ (file_text streams request.file ++ (codes " " ++ (decimal request.at ++ (codes " " ++ decimal request.len))))
+request_text streams request =
+    codes "ahead " & file_text streams request.file & codes " " & decimal request.at & codes " " & decimal request.len
 
-abbrev pub ahead_text : List StreamLine → Option Request → List ℕ
-ahead_text streams (Some request) = codes "ok " ++ request_text streams request
-ahead_text streams None = codes "ok none"
+-- a read-ahead request with what stands behind it, if there is one
+abbrev pub ahead_text : List StreamLine → Option Request → List ℕ → List ℕ
+ahead_text streams (Some request) behind = codes "ok " & request_text streams request & behind
+ahead_text streams None behind = codes "ok none"
 
-abbrev pub whole_text : Bool → List ℕ
-whole_text true = codes "whole"
-whole_text false = codes "part"
+-- whether every page of a request is resident
+abbrev pub whole_word : Bool → List ℕ
+whole_word true = codes " whole"
+whole_word false = codes " part"
 
 abbrev pub stepped_text : List StreamLine → Option AheadDone → List ℕ
-stepped_text streams (Some done) = codes "ok " ++ (request_text streams done.request ++ (codes " " ++ whole_text done.whole))
-stepped_text streams None = codes "ok none"
+stepped_text streams (Some done) = ahead_text streams (Some done.request) (whole_word done.whole)
+stepped_text streams None = ahead_text streams None []
 
 abbrev pub flag_text : Bool → List ℕ
 flag_text true = codes "ok true"
 flag_text false = codes "ok false"
 
-abbrev pub resident_text : Bool → List ℕ
-resident_text true = codes "ok whole"
-resident_text false = codes "ok part"
-
 -- what a call answered that is done
 abbrev pub reply_text : List StreamLine → Reply → List ℕ
 reply_text streams reply.Unit = codes "ok"
-reply_text streams (reply.Read bytes) = codes "ok " ++ bytes_text bytes
-reply_text streams (reply.Hold id) = codes "ok hold " ++ decimal id
+reply_text streams (reply.Read bytes) = codes "ok " & bytes_text bytes
+reply_text streams (reply.Hold id) = codes "ok hold " & decimal id
 reply_text streams (reply.Flag flag) = flag_text flag
 reply_text streams (reply.Rows rows) = counted_rows streams rows
 reply_text streams (reply.Lsns lsns) = lsns_text lsns
 reply_text streams (reply.State state) = state_text state
-reply_text streams (reply.Ahead ahead) = ahead_text streams ahead
-reply_text streams (reply.Whole whole) = resident_text whole
+reply_text streams (reply.Ahead ahead) = ahead_text streams ahead []
+reply_text streams (reply.Whole whole) = codes "ok" & whole_word whole
 
 -- ids, each behind a space
 abbrev pub more_ids : List ℕ → List ℕ
-more_ids ids = flat_map (λ id. codes " " ++ decimal id) ids
+more_ids ids = flat_map (λ id. codes " " & decimal id) ids
 
 -- the deferred writes that were posted; `-` for none
 abbrev pub ids_text : List ℕ → List ℕ
 ids_text [] = codes "ok posted -"
-ids_text (id ∷ ids) = codes "ok posted" ++ more_ids (id ∷ ids)
+ids_text (id ∷ ids) = codes "ok posted" & more_ids (id ∷ ids)
 
 abbrev pub tick_text : Tick → List ℕ
-tick_text tick = codes "ok tick picked " ++ (decimal (length tick.picked) ++ (codes " written " ++ (decimal tick.written ++ (codes " skipped " ++ (decimal tick.skipped ++ (codes " failed " ++ decimal tick.failed))))))
+tick_text tick =
+    codes "ok tick picked " & decimal (length tick.picked)
+    & codes " written " & decimal tick.written
+    & codes " skipped " & decimal tick.skipped
+    & codes " failed " & decimal tick.failed
 
 -- the answer of a line
 abbrev pub answer_text : List StreamLine → Answer → List ℕ
 answer_text streams (answer.Given r) = reply_text streams r
 answer_text streams (answer.Refused e) = error_text e
-answer_text streams (answer.NcRefused done cause) = error_text cause ++ (codes " done " ++ decimal done)
-answer_text streams (answer.Count bytes) = codes "ok count " ++ decimal bytes
-answer_text streams (answer.NewLsn lsn) = codes "ok lsn " ++ decimal lsn
+answer_text streams (answer.NcRefused done cause) = error_text cause & codes " done " & decimal done
+answer_text streams (answer.Count bytes) = codes "ok count " & decimal bytes
+answer_text streams (answer.NewLsn lsn) = codes "ok lsn " & decimal lsn
 answer_text streams (answer.Ticked tick) = tick_text tick
 answer_text streams (answer.Posts ids) = ids_text ids
-answer_text streams (answer.Deferred id) = codes "ok deferred " ++ decimal id
-answer_text streams (answer.Levels levels) = codes "ok levels " ++ decimal levels
+answer_text streams (answer.Deferred id) = codes "ok deferred " & decimal id
+answer_text streams (answer.Levels levels) = codes "ok levels " & decimal levels
 answer_text streams (answer.Stepped stepped) = stepped_text streams stepped
 answer_text streams answer.NoHold = codes "no hold"
 answer_text streams answer.NotNow = codes "not now"

@@ -10,6 +10,7 @@ use Rattle.cc_entry.specs.declared.entry.End.TheVariants as end
 use Rattle.cc_entry.specs.declared.entry.Entry.{Entry}
 use Rattle.cc_entry.specs.declared.entry.Entry.TheVariants as entry
 use Rattle.cc_script.specs.declared.script.StreamLine.{StreamLine}
+use Rattle.cc_print.specs.Append.{◌&◌}
 use Rattle.cc_print.specs.Pieces.{name_at, page_text, word_if, bytes_text}
 use Rattle.cc_print.specs.Answers.{reply_text, error_text}
 use Rattle.cc_print.specs.Calls.{call_text}
@@ -31,17 +32,30 @@ source_text true = codes "disk"
 source_text false = codes "zero"
 
 abbrev pub called_text : List StreamLine → ℕ → ℕ → Call → Outcome → List ℕ
-called_text streams pass nth call outcome = codes "call " ++ (decimal pass ++ (codes " " ++ (decimal nth ++ (codes " " ++ (call_text streams call ++ (codes " = " ++ outcome_text streams outcome))))))
+called_text streams pass nth call outcome =
+    codes "call " & decimal pass
+    & codes " " & decimal nth
+    & codes " " & call_text streams call
+    & codes " = " & outcome_text streams outcome
 
 abbrev pub appended_text : ℕ → ℕ → ℕ → List ℕ → List ℕ
-appended_text pass handle lsn bytes = codes "append " ++ (decimal pass ++ (codes " " ++ (decimal handle ++ (codes " " ++ (decimal lsn ++ (codes " " ++ bytes_text bytes))))))
+appended_text pass handle lsn bytes =
+    codes "append " & decimal pass
+    & codes " " & decimal handle
+    & codes " " & decimal lsn
+    & codes " " & bytes_text bytes
 
 abbrev pub deferred_text : List StreamLine → ℕ → ℕ → File → ℕ → Bool → List ℕ
-deferred_text streams pass id file pages retrying = codes "defer " ++ (decimal pass ++ (codes " " ++ (decimal id ++ (codes " " ++ (name_at streams file.stream ++ (codes " " ++ (decimal pages ++ word_if retrying (codes " retry"))))))))
+deferred_text streams pass id file pages retrying =
+    codes "defer " & decimal pass
+    & codes " " & decimal id
+    & codes " " & name_at streams file.stream
+    & codes " " & decimal pages
+    & word_if retrying (codes " retry")
 
 -- pages, each behind a semicolon
 abbrev pub pages_text : List StreamLine → List Page → List ℕ
-pages_text streams pages = flat_map (λ page. codes "; " ++ page_text streams page) pages
+pages_text streams pages = flat_map (λ page. codes "; " & page_text streams page) pages
 
 abbrev pub scan_text : List StreamLine → ℕ → List Page → List ℕ
 scan_text streams pass picked = (codes "scan " ++ decimal pass) ++ pages_text streams picked
@@ -49,15 +63,17 @@ scan_text streams pass picked = (codes "scan " ++ decimal pass) ++ pages_text st
 -- one entry of the journal
 abbrev pub entry_text : List StreamLine → Entry → List ℕ
 entry_text streams (entry.Call pass nth stream call outcome) = called_text streams pass nth call outcome
-entry_text streams (entry.PageIn pass page from_disk) = codes "in " ++ (page_text streams page ++ (codes " " ++ source_text from_disk))
-entry_text streams (entry.PageOut pass page) = codes "out " ++ page_text streams page
-entry_text streams (entry.FillFailed pass page) = codes "fillfailed " ++ (decimal pass ++ (codes " " ++ page_text streams page))
-entry_text streams (entry.WriteBegin pass page) = codes "begin " ++ (decimal pass ++ (codes " " ++ page_text streams page))
-entry_text streams (entry.WriteEnd pass page how) = codes "end " ++ (decimal pass ++ (codes " " ++ (page_text streams page ++ (codes " " ++ end_text how))))
-entry_text streams (entry.Sync pass stream how) = codes "sync " ++ (decimal pass ++ (codes " " ++ (name_at streams stream ++ (codes " " ++ end_text how))))
+entry_text streams (entry.PageIn pass page from_disk) = codes "in " & page_text streams page & codes " " & source_text from_disk
+entry_text streams (entry.PageOut pass page) = codes "out " & page_text streams page
+entry_text streams (entry.FillFailed pass page) = codes "fillfailed " & decimal pass & codes " " & page_text streams page
+entry_text streams (entry.WriteBegin pass page) = codes "begin " & decimal pass & codes " " & page_text streams page
+entry_text streams (entry.WriteEnd pass page how) =
+    codes "end " & decimal pass & codes " " & page_text streams page & codes " " & end_text how
+entry_text streams (entry.Sync pass stream how) =
+    codes "sync " & decimal pass & codes " " & name_at streams stream & codes " " & end_text how
 entry_text streams (entry.Append pass handle lsn bytes) = appended_text pass handle lsn bytes
-entry_text streams (entry.Flushed pass handle to) = codes "flushed " ++ (decimal handle ++ (codes " " ++ decimal to))
-entry_text streams (entry.LogFailed pass handle) = codes "logfailed " ++ (decimal pass ++ (codes " " ++ decimal handle))
+entry_text streams (entry.Flushed pass handle to) = codes "flushed " & decimal handle & codes " " & decimal to
+entry_text streams (entry.LogFailed pass handle) = codes "logfailed " & decimal pass & codes " " & decimal handle
 entry_text streams (entry.Defer pass id file pages retrying) = deferred_text streams pass id file pages retrying
-entry_text streams (entry.Posted id) = codes "posted " ++ decimal id
+entry_text streams (entry.Posted id) = codes "posted " & decimal id
 entry_text streams (entry.Scan pass picked) = scan_text streams pass picked

@@ -1,3 +1,4 @@
+pub mod Append
 pub mod Pieces
 pub mod Answers
 pub mod Calls

@@ -6,20 +6,21 @@ use Rattle.cc_entry.specs.declared.entry.Entry.{Entry}
 use Rattle.cc_script.specs.declared.script.StreamLine.{StreamLine}
 use Rattle.cc_script.specs.declared.script.ActionLine.{ActionLine}
 use Rattle.cc_script.specs.declared.script.Script.{Script}
+use Rattle.cc_print.specs.Append.{◌&◌}
 use Rattle.cc_print.specs.declared.table.TableRow.{TableRow}
 use Rattle.cc_print.specs.Pieces.{page_text}
-use Rattle.cc_print.specs.Answers.{answer_text}
+use Rattle.cc_print.specs.Answers.{number_or_dash, answer_text}
 use Rattle.cc_print.specs.Entries.{entry_text}
 use Rattle.cc_print.specs.Trace.{newline, trace_line}
 
 -- a number, a space, a text and a line feed
 abbrev pub numbered : ℕ → List ℕ → List ℕ
-numbered number text = decimal number ++ (codes " " ++ (text ++ newline))
+numbered number text = decimal number & codes " " & text & newline
 
 -- lines under their heading; without lines there is no heading
 abbrev pub section : List ℕ → List ℕ → List ℕ
 section heading [] = []
-section heading (byte ∷ bytes) = heading ++ (newline ++ (byte ∷ bytes))
+section heading (byte ∷ bytes) = heading & newline & (byte ∷ bytes)
 
 -- what a line was answered
 abbrev pub told : List StreamLine → Option LineReply → List ℕ
@@ -36,10 +37,11 @@ setup_lines streams replies = flat_map (λ stream. reply_line streams replies st
 
 -- one line for each action of a caller
 abbrev pub caller_lines : List StreamLine → List ActionLine → List LineReply → ℕ → List ℕ
-caller_lines streams lines replies caller = flat_map (λ action. if action.caller == caller then reply_line streams replies action.line else []) lines
+caller_lines streams lines replies caller =
+    flat_map (λ action. if action.caller == caller then reply_line streams replies action.line else []) lines
 
 abbrev pub caller_heading : ℕ → List ℕ
-caller_heading caller = codes "caller t" ++ decimal caller
+caller_heading caller = codes "caller t" & decimal caller
 
 abbrev pub caller_text : List StreamLine → List ActionLine → List LineReply → ℕ → List ℕ
 caller_text streams lines replies caller = section (caller_heading caller) (caller_lines streams lines replies caller)
@@ -57,13 +59,10 @@ abbrev pub journal_from : List StreamLine → ℕ → List Entry → List ℕ
 journal_from streams place [] = []
 journal_from streams place (entry ∷ entries) = numbered place (entry_text streams entry) ++ journal_from streams (place + 1) entries
 
--- a stamp; `-` where there is none
-abbrev pub stamp_text : Option ℕ → List ℕ
-stamp_text (Some lsn) = decimal lsn
-stamp_text None = codes "-"
-
 abbrev pub table_line : List StreamLine → TableRow → List ℕ
-table_line streams row = page_text streams row.page ++ (codes " " ++ (stamp_text row.oldest ++ (codes " " ++ (stamp_text row.newest ++ newline))))
+table_line streams row =
+    page_text streams row.page & codes " " & number_or_dash row.oldest
+    & codes " " & number_or_dash row.newest & newline
 
 -- one line for each page that is dirty at the end
 abbrev pub table_lines : List StreamLine → List TableRow → List ℕ

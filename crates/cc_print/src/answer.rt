@@ -1,7 +1,7 @@
 //! Answers as they are printed.
 
 ghost use Rattle.std.specs.Prelude.{◌≡◌, ◌++◌, IfOk, OnOk, string_bytes};
-ghost use Rattle.cc_print.specs.Answers.{error_numbers, error_text, row_text, rows_text, counted_rows, lsns_text, log_text, state_text, request_text, ahead_text, stepped_text, reply_text, ids_text, more_ids, tick_text, answer_text};
+ghost use Rattle.cc_print.specs.Answers.{error_numbers, error_text, row_text, rows_text, counted_rows, lsns_text, number_or_dash, state_text, request_text, ahead_text, whole_word, stepped_text, reply_text, ids_text, more_ids, tick_text, answer_text};
 
 use crate::piece::{bytes_text, file_text, number_if, page_text};
 use cc_entry::{AheadDone, Answer, CcError, DirtyRow, FileState, Lsn, Reply, Request, Tick};
@@ -33,6 +33,8 @@ fn error_numbers(alloc: Global, error: CcError) -> Result<String, AllocError>
         | CcError::LogFault { handle: n }
         | CcError::LogFull { handle: n }
         | CcError::NoLog { handle: n }
+        | CcError::Unsettled { page: n }
+        | CcError::Grown { page: n }
         | CcError::GapTooLong { limit: n } => format!(in alloc; " {n}"),
     }
 }
@@ -62,7 +64,8 @@ fn push_rows(
     streams: &[StreamLine],
     rows: &[DirtyRow],
 ) -> Result<(), AllocError>
-    ensures { OnOk result (string_bytes text.new ≡ string_bytes text.old ++ rows_text streams.now rows.now) }
+    ensures { OnOk result
+        (string_bytes text.new ≡ string_bytes text.old ++ rows_text streams.now rows.now) }
 {
     for row in rows {
         let row = row_text(alloc, streams, row)?;
@@ -97,12 +100,32 @@ fn lsns_text(alloc: Global, lsns: Option<(Lsn, Lsn)>) -> Result<String, AllocErr
     }
 }
 
-fn log_text(alloc: Global, log: Option<u8>) -> Result<String, AllocError>
-    ensures { IfOk result (λ text. string_bytes text ≡ log_text log) }
+/// A number, as that of a log or an LSN; `-` where there is none.
+pub(crate) fn number_or_dash(alloc: Global, number: Option<u64>) -> Result<String, AllocError>
+    ensures { IfOk result (λ text. string_bytes text ≡ number_or_dash number) }
+{
+    match number {
+        Some(n) => format!(in alloc; "{n}"),
+        None => String::from_str(alloc, "-"),
+    }
+}
+
+/// The number of an LSN, where there is one.
+pub(crate) fn lsn_number(lsn: Option<Lsn>) -> Option<u64>
+    ensures { result ≡ lsn }
+{
+    match lsn {
+        Some(lsn) => Some(lsn.number()),
+        None => None,
+    }
+}
+
+fn log_number(log: Option<u8>) -> Option<u64>
+    ensures { result ≡ log }
 {
     match log {
-        Some(handle) => format!(in alloc; "{handle}"),
-        None => String::from_str(alloc, "-"),
+        Some(handle) => Some(u64::from(handle)),
+        None => None,
     }
 }
 
@@ -112,7 +135,7 @@ fn state_text(alloc: Global, state: FileState) -> Result<String, AllocError>
     let allocation = state.sizes.allocation;
     let size = state.sizes.size;
     let valid = state.sizes.valid;
-    let log = log_text(alloc, state.log)?;
+    let log = number_or_dash(alloc, log_number(state.log))?;
     format!(in alloc; "ok state {allocation} {size} {valid} {log}")
 }
 
@@ -134,16 +157,23 @@ fn ahead_text(
     alloc: Global,
     streams: &[StreamLine],
     ahead: Option<Request>,
+    behind: &str,
 ) -> Result<String, AllocError>
-    ensures { IfOk result (λ text. string_bytes text ≡ ahead_text streams.now ahead) }
+    ensures { IfOk result (λ text. string_bytes text ≡ ahead_text streams.now ahead behind.now) }
 {
     match ahead {
         Some(request) => {
             let request = request_text(alloc, streams, request)?;
-            format!(in alloc; "ok {request}")
+            format!(in alloc; "ok {request}{behind}")
         }
         None => String::from_str(alloc, "ok none"),
     }
+}
+
+fn whole_word(whole: bool) -> &'static str
+    ensures { result.now ≡ whole_word whole }
+{
+    if whole { " whole" } else { " part" }
 }
 
 fn stepped_text(
@@ -154,12 +184,8 @@ fn stepped_text(
     ensures { IfOk result (λ text. string_bytes text ≡ stepped_text streams.now stepped) }
 {
     match stepped {
-        Some(done) => {
-            let request = request_text(alloc, streams, done.request)?;
-            let how = if done.whole { "whole" } else { "part" };
-            format!(in alloc; "ok {request} {how}")
-        }
-        None => String::from_str(alloc, "ok none"),
+        Some(done) => ahead_text(alloc, streams, Some(done.request), whole_word(done.whole)),
+        None => ahead_text(alloc, streams, None, ""),
     }
 }
 
@@ -183,9 +209,11 @@ pub(crate) fn reply_text(
         Reply::Rows(rows) => counted_rows(alloc, streams, rows.as_slice()),
         Reply::Lsns(lsns) => lsns_text(alloc, *lsns),
         Reply::State(state) => state_text(alloc, *state),
-        Reply::Ahead(ahead) => ahead_text(alloc, streams, *ahead),
-        Reply::Whole(true) => String::from_str(alloc, "ok whole"),
-        Reply::Whole(false) => String::from_str(alloc, "ok part"),
+        Reply::Ahead(ahead) => ahead_text(alloc, streams, *ahead, ""),
+        Reply::Whole(whole) => {
+            let how = whole_word(*whole);
+            format!(in alloc; "ok{how}")
+        }
     }
 }
 

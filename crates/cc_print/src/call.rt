@@ -1,11 +1,11 @@
 //! Calls as they are printed: the verb of the script's line that makes the call, then its arguments.
 
 ghost use Rattle.std.specs.Prelude.{◌≡◌, IfOk, string_bytes};
-ghost use Rattle.cc_print.specs.Calls.{of_file, of_file_number, of_file_numbers, of_file_bytes, of_hold, of_hold_numbers, of_hold_bytes, initialise_text, prepare_text, digit_of, call_text};
+ghost use Rattle.cc_print.specs.Calls.{of_file, of_file_span, of_file_number, of_file_numbers, of_file_bytes, of_hold, of_hold_numbers, of_hold_bytes, initialise_text, prepare_text, digit_of, call_text};
 
-use crate::answer::request_text;
+use crate::answer::{lsn_number, request_text};
 use crate::piece::{bytes_text, file_text, number_if, span_if, word_if};
-use cc_entry::{Bytes, Call, FileId, FileSizes, Lsn, Quota};
+use cc_entry::{Bytes, Call, FileId, FileSizes, Quota, Span};
 use cc_script::StreamLine;
 use std::alloc::{AllocError, Global};
 
@@ -16,10 +16,25 @@ fn of_file(
     file: FileId,
     behind: &str,
 ) -> Result<String, AllocError>
-    ensures { IfOk result (λ text. string_bytes text ≡ of_file verb.now streams.now file behind.now) }
+    ensures { IfOk result
+        (λ text. string_bytes text ≡ of_file verb.now streams.now file behind.now) }
 {
     let file = file_text(alloc, streams, file)?;
     format!(in alloc; "{verb} {file}{behind}")
+}
+
+fn of_file_span(
+    alloc: Global,
+    verb: &str,
+    streams: &[StreamLine],
+    file: FileId,
+    span: Option<Span>,
+) -> Result<String, AllocError>
+    ensures { IfOk result
+        (λ text. string_bytes text ≡ of_file_span verb.now streams.now file span) }
+{
+    let span = span_if(alloc, span)?;
+    of_file(alloc, verb, streams, file, span.as_str())
 }
 
 fn of_file_number(
@@ -29,7 +44,8 @@ fn of_file_number(
     file: FileId,
     number: u64,
 ) -> Result<String, AllocError>
-    ensures { IfOk result (λ text. string_bytes text ≡ of_file_number verb.now streams.now file number) }
+    ensures { IfOk result
+        (λ text. string_bytes text ≡ of_file_number verb.now streams.now file number) }
 {
     let file = file_text(alloc, streams, file)?;
     format!(in alloc; "{verb} {file} {number}")
@@ -43,7 +59,8 @@ fn of_file_numbers(
     numbers: (u64, u64),
     behind: &str,
 ) -> Result<String, AllocError>
-    ensures { IfOk result (λ text. string_bytes text ≡ of_file_numbers verb.now streams.now file numbers.0 numbers.1 behind.now) }
+    ensures { IfOk result
+        (λ text. string_bytes text ≡ of_file_numbers verb.now streams.now file numbers.0 numbers.1 behind.now) }
 {
     let file = file_text(alloc, streams, file)?;
     let first = numbers.0;
@@ -59,7 +76,8 @@ fn of_file_bytes(
     at: u64,
     bytes: &Bytes,
 ) -> Result<String, AllocError>
-    ensures { IfOk result (λ text. string_bytes text ≡ of_file_bytes verb.now streams.now file at bytes.now) }
+    ensures { IfOk result
+        (λ text. string_bytes text ≡ of_file_bytes verb.now streams.now file at bytes.now) }
 {
     let file = file_text(alloc, streams, file)?;
     let bytes = bytes_text(alloc, bytes)?;
@@ -105,7 +123,8 @@ fn initialise_text(
     quota: Quota,
     temporary: bool,
 ) -> Result<String, AllocError>
-    ensures { IfOk result (λ text. string_bytes text ≡ initialise_text streams.now file sizes quota temporary) }
+    ensures { IfOk result
+        (λ text. string_bytes text ≡ initialise_text streams.now file sizes quota temporary) }
 {
     let file = file_text(alloc, streams, file)?;
     let allocation = sizes.allocation;
@@ -124,7 +143,8 @@ fn prepare_text(
     zero: bool,
     exclusive: bool,
 ) -> Result<String, AllocError>
-    ensures { IfOk result (λ text. string_bytes text ≡ prepare_text streams.now file range.0 range.1 zero exclusive) }
+    ensures { IfOk result
+        (λ text. string_bytes text ≡ prepare_text streams.now file range.0 range.1 zero exclusive) }
 {
     let file = file_text(alloc, streams, file)?;
     let at = range.0;
@@ -138,15 +158,6 @@ fn digit_of(is_set: bool) -> u64
     ensures { result ≡ digit_of is_set }
 {
     if is_set { 1 } else { 0 }
-}
-
-fn number_of(lsn: Option<Lsn>) -> Option<u64>
-    ensures { result ≡ lsn }
-{
-    match lsn {
-        Some(lsn) => Some(lsn.number()),
-        None => None,
-    }
 }
 
 /// A call with its arguments. A hold is `#` and its id, and the hold that a call makes has no word.
@@ -213,11 +224,12 @@ pub(crate) fn call_text(
             zero,
             exclusive,
         } => { prepare_text(alloc, streams, *file, (*at, *len), *zero, *exclusive) }
-        Call::MappedRead { hold, at, len } => of_hold_numbers(alloc, "hread", *hold, *at, *len),
-        Call::PinnedRead { hold, at, len } => of_hold_numbers(alloc, "hread", *hold, *at, *len),
+        Call::MappedRead { hold, at, len } | Call::PinnedRead { hold, at, len } => {
+            of_hold_numbers(alloc, "hread", *hold, *at, *len)
+        }
         Call::PinnedWrite { hold, at, bytes } => of_hold_bytes(alloc, "pwrite", *hold, *at, bytes),
         Call::SetDirty { hold, lsn } => {
-            let lsn = number_if(alloc, number_of(*lsn))?;
+            let lsn = number_if(alloc, lsn_number(*lsn))?;
             of_hold(alloc, "stamp", *hold, lsn.as_str())
         }
         Call::EndHold { hold } => of_hold(alloc, "unpin", *hold, ""),
@@ -251,14 +263,9 @@ pub(crate) fn call_text(
             size,
         } => { of_file_numbers(alloc, "sizes", streams, *file, (*allocation, *size), "") }
         Call::State { file } => of_file(alloc, "state", streams, *file, ""),
-        Call::Flush { file, span } => {
-            let span = span_if(alloc, *span)?;
-            of_file(alloc, "flush", streams, *file, span.as_str())
-        }
-        Call::Purge { file, span } => {
-            let span = span_if(alloc, *span)?;
-            of_file(alloc, "purge", streams, *file, span.as_str())
-        }
+        Call::Flush { file, span } => of_file_span(alloc, "flush", streams, *file, *span),
+        Call::Purge { file, span } => of_file_span(alloc, "purge", streams, *file, *span),
+        Call::Discard { file, span } => of_file_span(alloc, "discard", streams, *file, *span),
         Call::SetLog { file, handle } => of_file_number(
             alloc,
             "setlog",

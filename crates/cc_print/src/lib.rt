@@ -19,6 +19,3 @@ mod trace;
 
 pub use table::TableRow;
 pub use text::text_of;
-
-#[cfg(test)]
-mod tests;

@@ -105,61 +105,61 @@ items_read (i ∷ items) before h room =
     rw one (items_read items (before ++ item_bytes i) h.1 (omega (arith, len, now)) ∙ ap Some (append_assoc before (item_bytes i) (items_bytes items)))
 
 -- no item has a comma
-abbrev plain : List ℕ → Bool
-plain text = list_all (λ b. not (b == 44)) text
+abbrev has_no_comma : List ℕ → Bool
+has_no_comma text = list_all (λ b. not (b == 44)) text
 
-plain-append : (a b : List ℕ) → plain a ≡ true → plain b ≡ true → plain (a ++ b) ≡ true
-plain-append [] b g h = h
-plain-append (x ∷ a) b g h = either (x == 44) refl g (λ k. plain-append a b k h)
+has_no_comma-append : (a b : List ℕ) → has_no_comma a ≡ true → has_no_comma b ≡ true → has_no_comma (a ++ b) ≡ true
+has_no_comma-append [] b g h = h
+has_no_comma-append (x ∷ a) b g h = either (x == 44) refl g (λ k. has_no_comma-append a b k h)
   where
-    either : (t : Bool) → (x == 44) ≡ t → (not t && plain a) ≡ true → (plain a ≡ true → plain (a ++ b) ≡ true) → plain (x ∷ a ++ b) ≡ true
+    either : (t : Bool) → (x == 44) ≡ t → (not t && has_no_comma a) ≡ true → (has_no_comma a ≡ true → has_no_comma (a ++ b) ≡ true) → has_no_comma (x ∷ a ++ b) ≡ true
     either true e k more = absurd (cc)
     either false e k more = simp (e, more k)
 
-digits_plain : (ds : List ℕ) → all_ascii_digits ds ≡ true → plain ds ≡ true
-digits_plain [] h = refl
-digits_plain (d ∷ ds) h = either (is_ascii_digit d) refl h (digits_plain ds)
+digits-have_no_comma : (ds : List ℕ) → all_ascii_digits ds ≡ true → has_no_comma ds ≡ true
+digits-have_no_comma [] h = refl
+digits-have_no_comma (d ∷ ds) h = either (is_ascii_digit d) refl h (digits-have_no_comma ds)
   where
-    either : (t : Bool) → is_ascii_digit d ≡ t → (t && all_ascii_digits ds) ≡ true → (all_ascii_digits ds ≡ true → plain ds ≡ true) → plain (d ∷ ds) ≡ true
+    either : (t : Bool) → is_ascii_digit d ≡ t → (t && all_ascii_digits ds) ≡ true → (all_ascii_digits ds ≡ true → has_no_comma ds ≡ true) → has_no_comma (d ∷ ds) ≡ true
     either true e k more =
         let other : (d == 44) ≡ false = grind (arith, nat_tests) in simp (other, more k)
     either false e k more = absurd (cc)
 
-pair_plain : (b : ℕ) → b < 256 → plain (pair_text b) ≡ true
-pair_plain b h =
+pair-has_no_comma : (b : ℕ) → b < 256 → has_no_comma (pair_text b) ≡ true
+pair-has_no_comma b h =
     let high : 48 ≤ digit_glyph true (b / 16) = glyph_low (b / 16) (omega arith) in
     let low : 48 ≤ digit_glyph true (b % 16) = glyph_low (b % 16) (omega arith) in
     let s : (digit_glyph true (b / 16) == 44) ≡ false = grind (arith, nat_tests, high) in
     let t : (digit_glyph true (b % 16) == 44) ≡ false = grind (arith, nat_tests, low) in
     simp (s, t)
 
-pairs_plain : (bytes : List ℕ) → list_all (λ b. nat_lt b 256) bytes ≡ true → plain (flat_map pair_text bytes) ≡ true
-pairs_plain [] h = refl
-pairs_plain (b ∷ bytes) h = either (nat_lt b 256) refl h (pairs_plain bytes)
+pairs-have_no_comma : (bytes : List ℕ) → list_all (λ b. nat_lt b 256) bytes ≡ true → has_no_comma (flat_map pair_text bytes) ≡ true
+pairs-have_no_comma [] h = refl
+pairs-have_no_comma (b ∷ bytes) h = either (nat_lt b 256) refl h (pairs-have_no_comma bytes)
   where
-    either : (t : Bool) → nat_lt b 256 ≡ t → (t && list_all (λ b. nat_lt b 256) bytes) ≡ true → (list_all (λ b. nat_lt b 256) bytes ≡ true → plain (flat_map pair_text bytes) ≡ true) → plain (flat_map pair_text (b ∷ bytes)) ≡ true
-    either true e k more = plain-append (pair_text b) (flat_map pair_text bytes) (pair_plain b (grind (arith, nat_tests))) (more k)
+    either : (t : Bool) → nat_lt b 256 ≡ t → (t && list_all (λ b. nat_lt b 256) bytes) ≡ true → (list_all (λ b. nat_lt b 256) bytes ≡ true → has_no_comma (flat_map pair_text bytes) ≡ true) → has_no_comma (flat_map pair_text (b ∷ bytes)) ≡ true
+    either true e k more = has_no_comma-append (pair_text b) (flat_map pair_text bytes) (pair-has_no_comma b (grind (arith, nat_tests))) (more k)
     either false e k more = absurd (cc)
 
-item_plain : (i : Item) → IsItem i → length (item_bytes i) ≤ 2097152 → plain (item_text i) ≡ true
-item_plain (Pairs bytes) h room = pairs_plain bytes h.1
-item_plain (Times b n) h room =
+item-has_no_comma : (i : Item) → IsItem i → length (item_bytes i) ≤ 2097152 → has_no_comma (item_text i) ≡ true
+item-has_no_comma (Pairs bytes) h room = pairs-have_no_comma bytes h.1
+item-has_no_comma (Times b n) h room =
     let digits : all_ascii_digits (decimal n) ≡ true = digits_decimal (numerals_by_value _ tells_all_ascii_digits) n (omega (arith, length-replicate n b)) in
-    plain-append (pair_text b) (120 ∷ decimal n) (pair_plain b h.0) (digits_plain (decimal n) digits)
+    has_no_comma-append (pair_text b) (120 ∷ decimal n) (pair-has_no_comma b h.0) (digits-have_no_comma (decimal n) digits)
 
-split_front : (xs ys : List ℕ) → plain xs ≡ true → parts 44 (xs ++ 44 ∷ ys) ≡ xs ∷ parts 44 ys
+split_front : (xs ys : List ℕ) → has_no_comma xs ≡ true → parts 44 (xs ++ 44 ∷ ys) ≡ xs ∷ parts 44 ys
 split_front [] ys h = refl
 split_front (x ∷ xs) ys h = either (x == 44) refl h (split_front xs ys)
   where
-    either : (t : Bool) → (x == 44) ≡ t → (not t && plain xs) ≡ true → (plain xs ≡ true → parts 44 (xs ++ 44 ∷ ys) ≡ xs ∷ parts 44 ys) → parts 44 (x ∷ xs ++ 44 ∷ ys) ≡ (x ∷ xs) ∷ parts 44 ys
+    either : (t : Bool) → (x == 44) ≡ t → (not t && has_no_comma xs) ≡ true → (has_no_comma xs ≡ true → parts 44 (xs ++ 44 ∷ ys) ≡ xs ∷ parts 44 ys) → parts 44 (x ∷ xs ++ 44 ∷ ys) ≡ (x ∷ xs) ∷ parts 44 ys
     either true e k more = absurd (cc)
     either false e k more = simp (e, more k)
 
-split_only : (xs : List ℕ) → plain xs ≡ true → parts 44 xs ≡ xs ∷ []
+split_only : (xs : List ℕ) → has_no_comma xs ≡ true → parts 44 xs ≡ xs ∷ []
 split_only [] h = refl
 split_only (x ∷ xs) h = either (x == 44) refl h (split_only xs)
   where
-    either : (t : Bool) → (x == 44) ≡ t → (not t && plain xs) ≡ true → (plain xs ≡ true → parts 44 xs ≡ xs ∷ []) → parts 44 (x ∷ xs) ≡ (x ∷ xs) ∷ []
+    either : (t : Bool) → (x == 44) ≡ t → (not t && has_no_comma xs) ≡ true → (has_no_comma xs ≡ true → parts 44 xs ≡ xs ∷ []) → parts 44 (x ∷ xs) ≡ (x ∷ xs) ∷ []
     either true e k more = absurd (cc)
     either false e k more = simp (e, more k)
 
@@ -167,10 +167,10 @@ split_only (x ∷ xs) h = either (x == 44) refl h (split_only xs)
 parts_joined : (items : List Item) → 0 < length items → AreItems items → length (items_bytes items) ≤ 2097152 → parts 44 (join_with_byte 44 (map item_text items)) ≡ map item_text items
 parts_joined [] some h room = absurd (omega arith)
 parts_joined (i ∷ []) some h room =
-    split_only (item_text i) (item_plain i h.0 (omega (arith, length-append (item_bytes i) [])))
+    split_only (item_text i) (item-has_no_comma i h.0 (omega (arith, length-append (item_bytes i) [])))
 parts_joined (i ∷ j ∷ items) some h room =
     let len : length (item_bytes i ++ items_bytes (j ∷ items)) ≡ length (item_bytes i) + length (items_bytes (j ∷ items)) = length-append (item_bytes i) (items_bytes (j ∷ items)) in
-    split_front (item_text i) (join_with_byte 44 (map item_text (j ∷ items))) (item_plain i h.0 (omega (arith, len)))
+    split_front (item_text i) (join_with_byte 44 (map item_text (j ∷ items))) (item-has_no_comma i h.0 (omega (arith, len)))
     ∙ ap (item_text i ∷◌) (parts_joined (j ∷ items) (omega arith) h.1 (omega (arith, len)))
 
 -- a list of items doesn't begin with `-`

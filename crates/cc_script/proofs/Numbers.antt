@@ -58,8 +58,8 @@ unfolding number_of
 decimal-number_of [] n h = absurd (cc)
 decimal-number_of (d ∷ ds) n h = either (d == 48) (nat_lt 0 (length ds)) refl refl h
   where
-    plain : (get_or (d ∷ ds) 0 0 ≡ 48 → length (d ∷ ds) ≡ 1) → number_onto 0 (d ∷ ds) ≡ Some n → (n < 2 ^ 64) × (d ∷ ds ≡ decimal n)
-    plain lead g =
+    read : (get_or (d ∷ ds) 0 0 ≡ 48 → length (d ∷ ds) ≡ 1) → number_onto 0 (d ∷ ds) ≡ Some n → (n < 2 ^ 64) × (d ∷ ds ≡ decimal n)
+    read lead g =
         let r = read_from 0 n (d ∷ ds) (lit< tt) g in
         let small : read_on 0 (d ∷ ds) < 2 ^ 64 = omega (arith, r.value, r.small) in
         let text : decimal (read_on 0 (d ∷ ds)) ≡ d ∷ ds = decimal-digits_value own (d ∷ ds) r.digits (omega arith) lead small in
@@ -67,8 +67,8 @@ decimal-number_of (d ∷ ds) n h = either (d == 48) (nat_lt 0 (length ds)) refl 
 
     either : (s t : Bool) → (d == 48) ≡ s → nat_lt 0 (length ds) ≡ t → (if s && t then None else number_onto 0 (d ∷ ds)) ≡ Some n → (n < 2 ^ 64) × (d ∷ ds ≡ decimal n)
     either true true e f g = absurd (cc)
-    either true false e f g = plain (λ _. let z : length ds ≡ 0 = grind (arith, nat_tests) in omega (arith, z)) g
-    either false t e f g = plain (λ z. absurd (grind (arith, nat_tests))) g
+    either true false e f g = read (λ _. let z : length ds ≡ 0 = grind (arith, nat_tests) in omega (arith, z)) g
+    either false t e f g = read (λ z. absurd (grind (arith, nat_tests))) g
 
 -- digits without a leading zero are a number's word
 number_of-digits : (ds : List ℕ) → 0 < length ds → (get_or ds 0 0 ≡ 48 → length ds ≡ 1) → all_ascii_digits ds ≡ true → read_on 0 ds < 2 ^ 64 → number_of ds ≡ Some (read_on 0 ds)

@@ -7,6 +7,7 @@ use Rattle.cc_script.specs.declared.script.Offer.{Offer}
 use Rattle.cc_script.specs.declared.script.Script.{Script}
 use Rattle.cc_script.specs.declared.script.StreamLine.{StreamLine}
 use Rattle.cc_script.specs.declared.script.Action.{Action}
+use Rattle.cc_script.specs.declared.script.ActionLine.{ActionLine}
 use Rattle.cc_script.specs.declared.verb.Verb.{Verb}
 use Rattle.cc_script.specs.declared.verb.Verb.TheVariants as verb
 use Rattle.cc_script.specs.declared.reading.Reading.{Reading}
@@ -32,7 +33,9 @@ may_add offer stream r =
 
 unfoldable pub with_stream : Offer → StreamLine → Reading → Option Reading
 with_stream offer stream r =
-    if may_add offer stream r then Some (record r { script = record r.script { streams = r.script.streams ++ stream ∷ [] } }) else None
+    if may_add offer stream r
+    then Some (record r { script = record r.script { streams = r.script.streams ++ stream ∷ [] } })
+    else None
 
 -- stream NAME SIZE VALID
 unfoldable pub stream_of : ℕ → List (List ℕ) → Option StreamLine
@@ -40,7 +43,15 @@ stream_of n ws = do
   name ← next name_of ws
   size ← next (number_between 0 4194304) name.1
   valid ← next number_of size.1
-  ended valid.1 (record { line = n; name = name.0; size = size.0; valid = valid.0; quota = 16; temporary = false; log = None })
+  ended valid.1 (record {
+    line = n;
+    name = name.0;
+    size = size.0;
+    valid = valid.0;
+    quota = 16;
+    temporary = false;
+    log = None;
+  })
 
 -- journal N: at most once, before the first action
 unfoldable pub journal_of : List (List ℕ) → Option ℕ
@@ -50,18 +61,29 @@ journal_of ws = do
 
 unfoldable pub with_journal : ℕ → Reading → Option Reading
 with_journal capacity r =
-    if (length r.script.lines == 0) && not r.has_journal then Some (record r { script = record r.script { journal = capacity }; has_journal = true }) else None
+    if (length r.script.lines == 0) && not r.has_journal
+    then Some (record r { script = record r.script { journal = capacity }; has_journal = true })
+    else None
 
 -- phase: at most 1000 times
 unfoldable pub with_phase : List (List ℕ) → Reading → Option Reading
 with_phase ws r =
-    if (length ws == 0) && nat_le r.script.phases 1000 then Some (record r { script = record r.script { phases = r.script.phases + 1 } }) else None
+    if (length ws == 0) && nat_le r.script.phases 1000
+    then Some (record r { script = record r.script { phases = r.script.phases + 1 } })
+    else None
+
+-- a line of a caller's action, in the phase that is under way
+abbrev pub placed : ℕ → ℕ → Action → Reading → ActionLine
+placed n caller action r = record { line = n; phase = r.script.phases; caller = caller; action = action }
 
 -- an action: all together read and write at most 33554432 bytes
 unfoldable pub with_action : ℕ → ℕ → Action → Reading → Option Reading
 with_action n caller action r =
     if nat_le (r.total + bytes_moved action) 33554432
-    then Some (record r { script = record r.script { lines = r.script.lines ++ record { line = n; phase = r.script.phases; caller = caller; action = action } ∷ [] }; total = r.total + bytes_moved action })
+    then Some (record r {
+      script = record r.script { lines = r.script.lines ++ placed n caller action r ∷ [] };
+      total = r.total + bytes_moved action;
+    })
     else None
 
 unfoldable pub action_line : ℕ → ℕ → Verb → List (List ℕ) → Reading → Option Reading
@@ -97,15 +119,15 @@ called_line offer mode n caller ws r = do
   action_line n caller v.0 v.1 r
 
 -- a line that doesn't begin with a caller word
-unfoldable pub plain_line : Offer → Mode → ℕ → List (List ℕ) → Reading → Option Reading
-plain_line offer mode n ws r = do
+unfoldable pub uncalled_line : Offer → Mode → ℕ → List (List ℕ) → Reading → Option Reading
+uncalled_line offer mode n ws r = do
   v ← next (verb_in offer mode) ws
   verb_line offer n v.0 v.1 r
 
 -- a line, by the caller that its first word names, if any
 abbrev pub line_by : Offer → Mode → ℕ → Option ℕ → List ℕ → List (List ℕ) → Reading → Option Reading
 line_by offer mode n (Some caller) word more r = called_line offer mode n caller more r
-line_by offer mode n None word more r = plain_line offer mode n (word ∷ more) r
+line_by offer mode n None word more r = uncalled_line offer mode n (word ∷ more) r
 
 -- a line of these words; one of no words says nothing
 unfoldable pub words_line : Offer → Mode → ℕ → List (List ℕ) → Reading → Option Reading
@@ -134,7 +156,10 @@ or_wrong n (Some next) go = go next
 -- the lines after the first n; there are at most 65536
 unfoldable pub lines_of : Offer → Mode → ℕ → List (List ℕ) → Reading → Result Script ℕ
 lines_of offer mode n [] r = Ok r.script
-lines_of offer mode n (line ∷ more) r = if nat_lt n 65536 then or_wrong (n + 1) (line_of offer mode (n + 1) line r) (λ next. lines_of offer mode (n + 1) more next) else Err (n + 1)
+lines_of offer mode n (line ∷ more) r =
+    if nat_lt n 65536
+    then or_wrong (n + 1) (line_of offer mode (n + 1) line r) (λ next. lines_of offer mode (n + 1) more next)
+    else Err (n + 1)
 
 -- the script of the bytes, or the first line that is not in the grammar
 unfoldable pub script_of : Offer → Mode → List ℕ → Result Script ℕ

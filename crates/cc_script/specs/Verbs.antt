@@ -1,5 +1,6 @@
 -- The table of the verbs: a verb's text, what offers it, and the modes that it stands in.
-use Rattle.std.specs.Prelude.{ℕ, Bool, true, false, ◌&&◌, Option, Some, None, List, find, codes, if◌then◌else◌, nat_le}
+use Rattle.std.specs.Prelude.{ℕ, Bool, true, false, ◌&&◌, Option, Some, None, List, [], ◌∷◌, find, codes, if◌then◌else◌, nat_le}
+use Rattle.std.specs.List.{list_any}
 use Rattle.std.specs.Str.{bytes_eq}
 use Rattle.cc_script.specs.declared.verb.Verb.{Verb}
 use Rattle.cc_script.specs.declared.verb.Verb.TheVariants as verb
@@ -23,19 +24,18 @@ verb_text verb.State = codes "state"
 verb_text verb.Flush = codes "flush"
 verb_text verb.IsDirtyData = codes "isdirty"
 
--- the verbs that the program offers
+-- what the program offers
+abbrev pub offered : Offer
+offered = offer.Copies
+
+-- the verbs of the offer of copies
+abbrev pub copies_verbs : List (List ℕ)
+copies_verbs = codes "stream" ∷ codes "cread" ∷ codes "cwrite" ∷ []
+
+-- whether an offer has a verb
 abbrev pub is_offered : Offer → Verb → Bool
-is_offered offer.Whole _ = true
-is_offered offer.Copies verb.Stream = true
-is_offered offer.Copies verb.CopyRead = true
-is_offered offer.Copies verb.CopyWrite = true
-is_offered offer.Copies verb.Journal = false
-is_offered offer.Copies verb.Phase = false
-is_offered offer.Copies verb.Zero = false
-is_offered offer.Copies verb.SetSizes = false
-is_offered offer.Copies verb.State = false
-is_offered offer.Copies verb.Flush = false
-is_offered offer.Copies verb.IsDirtyData = false
+is_offered offer.Whole v = true
+is_offered offer.Copies v = list_any (λ word. bytes_eq (verb_text v) word) copies_verbs
 
 -- the modes that a verb stands in
 abbrev pub is_in_mode : Mode → Verb → Bool

@@ -9,7 +9,10 @@ use Rattle.cc_script.specs.Text.{parts}
 -- the number n followed by further decimal digits, while it stays below 2^64
 abbrev pub number_onto : ℕ → List ℕ → Option ℕ
 number_onto n [] = Some n
-number_onto n (d ∷ digits) = if is_ascii_digit d && nat_lt (n * 10 + (d - 48)) (2 ^ 64) then number_onto (n * 10 + (d - 48)) digits else None
+number_onto n (d ∷ digits) =
+    if is_ascii_digit d && nat_lt (n * 10 + (d - 48)) (2 ^ 64)
+    then number_onto (n * 10 + (d - 48)) digits
+    else None
 
 -- a number: decimal, `0` or without a leading zero, below 2^64
 unfoldable pub number_of : List ℕ → Option ℕ

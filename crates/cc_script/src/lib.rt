@@ -27,6 +27,3 @@ pub use read::{OFFERED, read_offered, read_script};
 pub use script::{
     Action, ActionLine, ActionLines, Mode, Offer, Script, ScriptFault, StreamLine, StreamLines,
 };
-
-#[cfg(test)]
-mod tests;

@@ -25,7 +25,9 @@ fn place_of(bytes: &[u8], byte: u8) -> Option<usize>
 /// The first part of a list of bytes, and what stands behind the separator after it.
 #[tactic(auto, using(crate::proofs::Parts::split_found, crate::proofs::Parts::split_none))]
 pub(crate) fn first_part(bytes: &[u8], separator: u8) -> (&[u8], Option<&[u8]>)
-    ensures parts { MatchOption result.1 (parts separator bytes.now ≡ result.0.now ∷ []) (λ rest. parts separator bytes.now ≡ result.0.now ∷ parts separator rest.now) }
+    ensures parts { MatchOption result.1
+        (parts separator bytes.now ≡ result.0.now ∷ [])
+        (λ rest. parts separator bytes.now ≡ result.0.now ∷ parts separator rest.now) }
     ensures shorter { IfSome result.1 (λ rest. length rest.now < length bytes.now) }
     ensures whole { IfNone result.1 (result.0.now ≡ bytes.now) }
 {
@@ -55,7 +57,8 @@ pub(crate) fn first_line(bytes: &[u8]) -> (&[u8], &[u8])
 #[tactic(auto, using(crate::proofs::Parts::words_last, crate::proofs::Parts::words_more))]
 fn first_word(bytes: &[u8]) -> (&[u8], &[u8])
     requires { 0 < length bytes.now }
-    ensures word { words bytes.now ≡ (if nat_lt 0 (length result.0.now) then result.0.now ∷ words result.1.now else words result.1.now) }
+    ensures word { words bytes.now
+        ≡ (if nat_lt 0 (length result.0.now) then result.0.now ∷ words result.1.now else words result.1.now) }
     ensures shorter { length result.1.now < length bytes.now }
 {
     match first_part(bytes, b' ') {

@@ -5,7 +5,8 @@ ghost use Rattle.std.specs.List.{list_all};
 ghost use Rattle.std.specs.Str.Lines.{strip_carriage_return};
 ghost use Rattle.cc_script.specs.Outcome.{Becomes};
 ghost use Rattle.cc_script.specs.Answers.{Reads};
-ghost use Rattle.cc_script.specs.Grammar.{is_printable, caller_in, called_line, plain_line, words_line, text_line, line_of, script_of};
+ghost use Rattle.cc_script.specs.Verbs.{offered};
+ghost use Rattle.cc_script.specs.Grammar.{is_printable, caller_in, called_line, uncalled_line, words_line, text_line, line_of, script_of};
 
 use crate::fault::LineFault;
 use crate::part::{Words, first_line};
@@ -23,7 +24,7 @@ const MOST_LINES: u32 = 65536;
 /// The script that bytes spell with the verbs that the program offers, or the first line that is not
 /// in the grammar.
 pub fn read_script(alloc: Global, bytes: &[u8], mode: Mode) -> Result<Script, ScriptFault>
-    ensures { Reads (script_of OFFERED mode bytes.now) result }
+    ensures { Reads (script_of offered mode bytes.now) result }
 {
     read_offered(alloc, bytes, mode, OFFERED)
 }
@@ -109,7 +110,7 @@ impl Reading {
         };
         match caller_in(offer, word) {
             Some(caller) => self.called(alloc, offer, mode, number, caller, &mut behind),
-            None => self.plain(alloc, offer, mode, number, words),
+            None => self.uncalled(alloc, offer, mode, number, words),
         }
     }
 
@@ -130,8 +131,9 @@ impl Reading {
         self.action(alloc, number, caller, verb, words)
     }
 
-    #[tactic(auto, unfolding(crate::specs::Grammar::plain_line))]
-    fn plain(
+    // The words of a line without a caller word.
+    #[tactic(auto, unfolding(crate::specs::Grammar::uncalled_line))]
+    fn uncalled(
         &mut self,
         alloc: Global,
         offer: Offer,
@@ -139,7 +141,7 @@ impl Reading {
         number: u32,
         words: &mut Words,
     ) -> Result<(), LineFault>
-        ensures { Becomes (plain_line offer mode number words.old self.old) result self.new }
+        ensures { Becomes (uncalled_line offer mode number words.old self.old) result self.new }
     {
         let verb = words.verb(offer, mode).ok_or(LineFault::Syntax)?;
         self.verb(alloc, offer, number, verb, words)

@@ -13,11 +13,15 @@ mod devices;
 #[cfg(test)]
 mod dirty;
 #[cfg(test)]
+mod log;
+#[cfg(test)]
 mod pages;
 #[cfg(test)]
 mod readers;
 #[cfg(test)]
 mod script;
+#[cfg(test)]
+mod sent;
 #[cfg(test)]
 mod text;
 #[cfg(test)]

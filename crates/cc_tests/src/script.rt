@@ -1,1 +1,168 @@
-//! Tests of the script reader.
+//! Tests of the script reader: lines of the grammar and lines outside it, values, and the largest scripts.
+//!
+//! The rows follow the grammar as docs/SCRIPTS.md states it.
+
+use cc_script::{Action, Mode, Offer, Script, ScriptFault, read_offered, read_script};
+use std::alloc::Global;
+use std::test::Fail;
+
+/// The line that is wrong, 0 where none is; none at all where memory ran out.
+fn wrong_line(answer: Result<Script, ScriptFault>) -> Option<u32> {
+    match answer {
+        Ok(_) => Some(0),
+        Err(ScriptFault::Syntax { line }) => Some(line),
+        Err(ScriptFault::NoMemory) => None,
+    }
+}
+
+/// Scripts with every verb offered, each with its first wrong line.
+const WHOLE: [(&str, u32); 34] = [
+    ("", 0),
+    ("# a comment\n\n  \n\r\n  stream   a  8192 8192  \r", 0),
+    (" # no comment", 1),
+    ("#\u{7f}", 1),
+    ("stream a 8192\r 8192", 1),
+    ("stream a 8192\t8192", 1),
+    ("stream abcdefghijklmn16 4194304 18446744073709551615", 0),
+    ("stream abcdefghijklmno17 1 1", 1),
+    ("stream 1a 1 1", 1),
+    ("stream a 4194305 0", 1),
+    ("stream a 1 18446744073709551616", 1),
+    ("stream a 01 0", 1),
+    ("stream a 1", 1),
+    ("stream a 1 1 1", 1),
+    ("stream a 1 1\nstream a 1 1", 2),
+    ("stream a 1 1\nstate a\nstream b 1 1", 3),
+    (
+        "journal 64\nstream a 1 1\nt16 state a\nt1 sizes a 18446744073709551615 4194304",
+        0,
+    ),
+    ("journal 63", 1),
+    ("journal 1048577", 1),
+    ("journal 64\njournal 64", 2),
+    ("stream a 1 1\nt1 phase", 2),
+    ("stream a 1 1\nt17 state a", 2),
+    ("stream a 1 1\nt1 t2 state a", 2),
+    ("stream a 1 1\ncread a 0", 2),
+    ("stream a 1 1\ncread b 0 1", 2),
+    ("stream a 1 1\ncread a:0 0 1", 2),
+    ("stream a 1 1\ncread a 0 2097152\ncread a 0 2097153", 3),
+    (
+        "stream a 1 1\ncwrite a 0 AB\ncwrite a 0 ABCD,00x2\ncwrite a 0 -\ncwrite a 0 AB,",
+        5,
+    ),
+    (
+        "stream a 1 1\ncwrite a 0 ABx2097152\ncwrite a 0 ABx2097152,00",
+        3,
+    ),
+    ("stream a 1 1\ncwrite a 0 ABx0", 2),
+    ("stream a 1 1\ncwrite a 0 ab", 2),
+    ("stream a 1 1\ncwrite a 0 ABCDx2", 2),
+    ("stream a 1 1\nzero a 5 5\nzero a 6 5", 3),
+    ("stream a 1 1\nflush a\nflush a 0 1\nisdirty\nflush a 1", 5),
+];
+
+/// What the program offers: one stream, valid to its end at most, and copies.
+const COPIES: [(&str, u32); 7] = [
+    ("stream a 8192 8192\ncread a 0 1\ncwrite a 0 AB", 0),
+    ("stream a 8192 8193", 1),
+    ("stream a 1 1\nstream b 1 1", 2),
+    ("journal 64", 1),
+    ("stream a 1 1\nphase", 2),
+    ("stream a 1 1\nt1 cread a 0 1", 2),
+    ("stream a 1 1\nflush a", 2),
+];
+
+fn reads(alloc: Global, offer: Offer, mode: Mode, text: &str, line: u32) -> bool {
+    wrong_line(read_offered(alloc, text.as_bytes(), mode, offer)) == Some(line)
+}
+
+/// The first of these scripts that has another wrong line.
+fn mistaken<'a>(alloc: Global, offer: Offer, rows: &[(&'a str, u32)]) -> Option<&'a str> {
+    for &(text, line) in rows {
+        if !reads(alloc, offer, Mode::Run, text, line) {
+            return Some(text);
+        }
+    }
+    None
+}
+
+#[test]
+fn takes_the_lines_of_the_grammar(rt: HostRuntime) {
+    assert_eq!(rt; mistaken(rt.alloc(), Offer::Whole, &WHOLE), None);
+    assert_eq!(rt; mistaken(rt.alloc(), Offer::Copies, &COPIES), None);
+    let phases = "stream a 1 1\nphase\nstate a";
+    assert!(rt; reads(rt.alloc(), Offer::Whole, Mode::Run, phases, 0));
+    assert!(rt; reads(rt.alloc(), Offer::Whole, Mode::Steps, phases, 2));
+}
+
+/// Of a script whose first action is a write: its line, phase, caller, place and length.
+fn first_write(script: &Script) -> Option<(u32, u32, u32, u64, u64)> {
+    let first = script.lines.as_slice().first()?;
+    match &first.action {
+        Action::CopyWrite { at, bytes, .. } => {
+            Some((first.line, first.phase, first.caller, *at, bytes.len()))
+        }
+        _ => None,
+    }
+}
+
+#[test]
+fn keeps_values(rt: HostRuntime) -> Result<(), Fail> {
+    let text = b"# r\n\njournal 64\nstream a 9 7\nphase\nt3 cwrite a 5 AB,00x2\nflush a 1 4\n";
+    let script = read_offered(rt.alloc(), text, Mode::Run, Offer::Whole)
+        .ok()
+        .ok_or("read")?;
+    assert_eq!(rt; first_write(&script), Some((6, 2, 3, 5, 3)));
+    assert_eq!(rt;
+        (script.journal, script.threshold, script.phases),
+        (64, 1024, 2)
+    );
+    Ok(())
+}
+
+/// A script of one text, and another so many times.
+fn repeated(alloc: Global, first: &str, line: &str, count: u32) -> Result<String, Fail> {
+    let mut text = String::from_str(alloc, first)?;
+    for _ in 0..count {
+        text.push_str(line)?;
+    }
+    Ok(text)
+}
+
+/// Whether the program reads a script up to this line.
+fn is_read(alloc: Global, text: &str, line: u32) -> bool {
+    wrong_line(read_script(alloc, text.as_bytes(), Mode::Run)) == Some(line)
+}
+
+#[test]
+fn reads_65535_actions(rt: HostRuntime) -> Result<(), Fail> {
+    let mut text = repeated(rt.alloc(), "stream a 1 1\n", "cread a 0 0\n", 65535)?;
+    assert!(rt; is_read(rt.alloc(), text.as_str(), 0));
+    text.push_str("cread a 0 0\n")?;
+    assert!(rt; is_read(rt.alloc(), text.as_str(), 65537));
+    Ok(())
+}
+
+#[test]
+fn reads_all_bytes_of_writes(rt: HostRuntime) -> Result<(), Fail> {
+    let mut text = repeated(rt.alloc(), "stream a 1 1\n", "cwrite a 0 00x2097152\n", 16)?;
+    assert!(rt; is_read(rt.alloc(), text.as_str(), 0));
+    text.push_str("cread a 0 1\n")?;
+    assert!(rt; is_read(rt.alloc(), text.as_str(), 18));
+    Ok(())
+}
+
+const STREAMS: &str = "stream a 1 1\nstream b 1 1\nstream c 1 1\nstream d 1 1
+stream e 1 1\nstream f 1 1\nstream g 1 1\nstream h 1 1
+stream i 1 1\nstream j 1 1\nstream k 1 1\nstream l 1 1
+stream m 1 1\nstream n 1 1\nstream o 1 1\nstream p 1 1
+";
+
+#[test]
+fn reads_16_streams(rt: HostRuntime) -> Result<(), Fail> {
+    let more = repeated(rt.alloc(), STREAMS, "stream q 1 1\n", 1)?;
+    assert!(rt; reads(rt.alloc(), Offer::Whole, Mode::Run, STREAMS, 0));
+    assert!(rt; reads(rt.alloc(), Offer::Whole, Mode::Run, more.as_str(), 17));
+    Ok(())
+}

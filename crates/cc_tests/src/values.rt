@@ -1,1 +1,40 @@
 //! Tests of values, bytes and errors.
+
+use cc_entry::{Answer, Bytes, Entry, NoMemory};
+use std::test::Fail;
+
+#[test]
+fn bytes_are_kept(rt: HostRuntime) -> Result<(), Fail> {
+    let mut bytes = Bytes::of(rt.alloc(), &[0xAB, 0xAB, 0xCD])?;
+    bytes.append(0xCD, 2)?;
+    let kept = bytes.to_vec(rt.alloc())?;
+    assert_eq!(rt; kept.as_slice(), [0xAB, 0xAB, 0xCD, 0xCD, 0xCD].as_slice());
+    assert!(rt; Bytes::of(rt.alloc(), kept.as_slice())? == bytes);
+    assert!(rt; Bytes::new(rt.alloc()) != bytes);
+    Ok(())
+}
+
+#[test]
+fn bytes_take_5000_appends(rt: HostRuntime) -> Result<(), Fail> {
+    let mut bytes = Bytes::new(rt.alloc());
+    for i in 0..5000u64 {
+        if bytes.len() < 5000 {
+            bytes.append((i % 2) as u8, 1)?;
+        }
+    }
+    assert_eq!(rt; bytes.len(), 5000);
+    Ok(())
+}
+
+/// Takes a value that may cross threads.
+fn crosses<T: Send + Sync>(_value: &T) {}
+
+// These hold every other value.
+#[test]
+fn entries_and_answers_cross_threads(rt: HostRuntime) -> Result<(), Fail> {
+    crosses(&Entry::Posted { id: 1 });
+    crosses(&Answer::NoHold);
+    let text = format!(in rt.alloc(); "{}", NoMemory)?;
+    assert_eq!(rt; text.as_str(), "out of memory");
+    Ok(())
+}

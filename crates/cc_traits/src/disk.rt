@@ -1,3 +1,5 @@
+//! Disks: what one tells of its pages, and what its calls promise.
+
 ghost use Rattle.std.specs.Prelude.{◌≡◌, ℕ, ◌+◌, Option, OnOk, OnErr};
 ghost use Rattle.cc_traits.specs.Stop.{faults_in, OnFailed, OnNoMemory};
 ghost use Rattle.cc_traits.specs.Told.{Both, IfTold};
@@ -27,7 +29,7 @@ pub trait PageDisk: Told + Send {
     fn write_page(&mut self, page: u64, bytes: &[u8; 4096]) -> Result<(), Stop>
         ensures wrote { OnOk result
             (Both (Self.told self.old) (Self.told self.new) (Wrote page bytes.now)) }
-        ensures tore { OnFailed result
+        ensures failed { OnFailed result
             (Both (Self.told self.old) (Self.told self.new) (WriteFailed page bytes.now)) }
         ensures no_memory { OnNoMemory result (Self.told self.new ≡ Self.told self.old) }
         ensures counted { Self.faults self.new ≡ Self.faults self.old + faults_in result };

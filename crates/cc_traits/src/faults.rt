@@ -1,3 +1,5 @@
+//! The count of faults of an object outside.
+
 ghost use Rattle.std.specs.Prelude.{◌≡◌, ℕ, ◌+◌, ◌-◌, ◌^◌, ◌↔◌, IsTrue};
 ghost use Rattle.cc_traits.specs.Stop.{faults_of};
 

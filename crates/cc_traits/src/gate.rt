@@ -1,3 +1,5 @@
+//! The gate that callers pass before and after each of their calls.
+
 /// What callers pass before and after each of their calls. Threads share it, so it can hold back one
 /// of them until another is through; a program's gate returns at once.
 pub trait Gate: Sync {

@@ -27,6 +27,3 @@ pub use post::{PostRoutine, PostedRoutine};
 pub use setup::Setup;
 pub use stop::Stop;
 pub use stream::{Sink, Source};
-
-#[cfg(test)]
-mod tests;

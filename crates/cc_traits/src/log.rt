@@ -1,3 +1,5 @@
+//! Logs: what one tells of its entries, and what its calls promise.
+
 ghost use Rattle.std.specs.Prelude.{◌≡◌, ℕ, ◌+◌, ◌-◌, ◌^◌, Option, OnOk, OnErr};
 ghost use Rattle.cc_traits.specs.Stop.{faults_in, OnFailed, OnNoMemory};
 ghost use Rattle.cc_traits.specs.Told.{Both};
@@ -14,9 +16,9 @@ pub trait LogFile: Drop {
     ghost faults: { Self → ℕ };
 
     /// Puts one entry behind the others.
-    fn append(&mut self, lsn: u64, piece: &[u8]) -> Result<(), Stop>
+    fn append(&mut self, lsn: u64, bytes: &[u8]) -> Result<(), Stop>
         ensures appended { OnOk result
-            (Both (told self.old) (told self.new) (Appended lsn piece.now)) }
+            (Both (told self.old) (told self.new) (Appended lsn bytes.now)) }
         ensures failed { OnFailed result (Both (told self.old) (told self.new) Kept) }
         ensures no_memory { OnNoMemory result (told self.new ≡ told self.old) }
         ensures counted { faults self.new ≡ faults self.old + faults_in result };
@@ -36,8 +38,8 @@ impl LogFile for Box<dyn LogFile + Send> {
 
     ghost faults = { λ b. (LogFile-box b).faults b.value };
 
-    fn append(&mut self, lsn: u64, piece: &[u8]) -> Result<(), Stop> {
-        (**self).append(lsn, piece)
+    fn append(&mut self, lsn: u64, bytes: &[u8]) -> Result<(), Stop> {
+        (**self).append(lsn, bytes)
     }
 
     fn flush(&mut self, lsn: u64) -> Result<(), Stop> {

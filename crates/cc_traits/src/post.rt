@@ -1,3 +1,5 @@
+//! The routines that are posted when a deferred write may go.
+
 ghost use Rattle.std.specs.Prelude.{◌≡◌, Bool, true, false};
 
 /// What the throttle posts when a deferred write may go.

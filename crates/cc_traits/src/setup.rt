@@ -1,3 +1,5 @@
+//! What the cache is made from: disks, logs, and how much room there is.
+
 ghost use Rattle.std.specs.Prelude.{◌≤◌, vec_len};
 
 use crate::log::LogFile;

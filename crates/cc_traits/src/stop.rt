@@ -1,3 +1,5 @@
+//! Why a call on an object outside gave up.
+
 ghost use Rattle.std.specs.Prelude.{◌≡◌};
 ghost use Rattle.cc_traits.specs.declared.stop.Stop.TheVariants.{NoMemory};
 

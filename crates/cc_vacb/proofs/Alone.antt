@@ -2,7 +2,8 @@
 use Rattle.std.proofs.Common.{◌≡◌, ℕ, suc, zero, ◌+◌, ◌-◌, ◌%◌, ◌^◌, ◌<◌, ◌≤◌, List, [], ◌∷◌, ◌++◌, Option, Some, None, refl, ap, sym, subst, ◌∙◌, arith}
 use Rattle.cc_vacb.specs.declared.slots.Slot.TheVariants.{Empty}
 use Rattle.cc_vacb.specs.Block.{Block, blank_block, used_slots}
-use Rattle.cc_vacb.specs.Index.{block_in, slot_in, entry_in, count_in, levels_of, width_of}
+use Rattle.cc_vacb.specs.Index.{block_in, slot_in, entry_in, count_in, width_of}
+use Rattle.cc_vacb.specs.Levels.{levels_of}
 use Rattle.cc_vacb.specs.Tree.{IsTree, used_at, IsIndex}
 use Rattle.cc_vacb.proofs.Put.{Node≢Empty, View≢Empty, Some≢None}
 use Rattle.cc_vacb.proofs.Count.{only_at_none, count_in-used}

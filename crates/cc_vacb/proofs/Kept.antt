@@ -3,7 +3,8 @@ use Rattle.std.proofs.Common.{◌≡◌, ℕ, suc, ◌+◌, ◌-◌, ◌*◌, �
 use Rattle.cc_vacb.specs.Block.{Block}
 use Rattle.cc_vacb.specs.Slots.{view_of}
 use Rattle.cc_vacb.specs.declared.slots.Slot.TheVariants.{Node}
-use Rattle.cc_vacb.specs.Index.{block_in, slot_in, entry_in, count_in, levels_of, width_of, StartsBelow, digits_of, led_by, IsLeastLevels}
+use Rattle.cc_vacb.specs.Index.{block_in, slot_in, entry_in, count_in, width_of, StartsBelow, digits_of, led_by}
+use Rattle.cc_vacb.specs.Levels.{levels_of, IsLeastLevels}
 use Rattle.cc_vacb.specs.Tree.{IsTree, IsIndex, PutsView, TakesView, ChangesTop, EntriesBelow}
 use Rattle.cc_vacb.proofs.Put.{Some≢None}
 use Rattle.cc_vacb.proofs.Count.{count_in-used}

@@ -1,3 +1,4 @@
+-- What a walk along digits answers, by what it finds a level above.
 use Rattle.std.proofs.Common.{◌≡◌, ℕ, suc, zero, ◌-◌, ◌/◌, ◌%◌, ◌<◌, ◌==◌, if◌then◌else◌, List, Some, None, refl, ap, arith}
 use Rattle.std.specs.Prelude.{option_and_then}
 use native.Mathlib.Numerals.{unary_clauses}

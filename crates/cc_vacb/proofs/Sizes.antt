@@ -5,7 +5,8 @@ use Rattle.std.proofs.lemmas.Nat.{div_below}
 use Rattle.std.proofs.Math.Nat.{pow-le-pow_right}
 use native.Mathlib.Numerals.{unary_clauses}
 use Rattle.std.specs.Prelude.{nat_le}
-use Rattle.cc_vacb.specs.Index.{levels_of, width_of, IsLeastLevels, StartsBelow}
+use Rattle.cc_vacb.specs.Index.{width_of, StartsBelow}
+use Rattle.cc_vacb.specs.Levels.{levels_of, IsLeastLevels}
 
 -- which range a size is in, by its levels
 pub data SizeIn (size : ℕ) : ℕ → Type 0 where

@@ -1,3 +1,4 @@
+-- An index block as contracts see it.
 use Rattle.std.specs.Prelude.{ℕ, List, [], replicate, count_by}
 use Rattle.cc_vacb.specs.declared.slots.Slot.{Slot}
 use Rattle.cc_vacb.specs.declared.slots.Slot.TheVariants.{Empty}

@@ -1,8 +1,10 @@
-use Rattle.std.specs.Prelude.{ℕ, ◌+◌, ◌-◌, ◌*◌, ◌/◌, ◌%◌, ◌^◌, ◌<◌, ◌≤◌, ◌==◌, zero, suc, if◌then◌else◌, nat_le, List, [], ◌∷◌, ◌++◌, length, slice_index_or, Option, Some, None, option_and_then, sum_by}
+-- The view index as contracts see it, and where the digits of a block's number lead in it.
+use Rattle.std.specs.Prelude.{ℕ, ◌-◌, ◌*◌, ◌/◌, ◌%◌, ◌^◌, ◌<◌, ◌==◌, zero, suc, if◌then◌else◌, nat_le, List, [], ◌∷◌, ◌++◌, length, slice_index_or, Option, Some, None, option_and_then, sum_by}
 use Rattle.cc_vacb.specs.declared.slots.Slot.{Slot}
 use Rattle.cc_vacb.specs.declared.slots.Slot.TheVariants.{Empty, Node, View}
 use Rattle.cc_vacb.specs.Slots.{child_of, view_of}
 use Rattle.cc_vacb.specs.Block.{Block, used_slots, no_block}
+use Rattle.cc_vacb.specs.Levels.{levels_of}
 
 -- an index: the size of its stream in bytes, and its index blocks, of which the first is the root
 pub record Index : Type 0 where
@@ -27,17 +29,6 @@ entry_in blocks depth block = option_and_then (λ node. view_of (slot_in blocks 
 unfoldable pub count_in : List Block → ℕ
 count_in blocks = sum_by (λ b. if b.height == 0 then used_slots b else 0) blocks
 
--- the least number of levels of 128 slots whose entries cover the size, at most seven for a size below 2^64
-unfoldable pub levels_of : ℕ → ℕ
-levels_of size =
-    if nat_le size (2 ^ 25) then 1
-    else if nat_le size (2 ^ 32) then 2
-    else if nat_le size (2 ^ 39) then 3
-    else if nat_le size (2 ^ 46) then 4
-    else if nat_le size (2 ^ 53) then 5
-    else if nat_le size (2 ^ 60) then 6
-    else 7
-
 -- up to 1 MiB the index is one block of four slots
 unfoldable pub width_of : ℕ → ℕ
 width_of size = if nat_le size (2 ^ 20) then 4 else 128
@@ -55,12 +46,6 @@ block_count index = length index.blocks
 
 abbrev pub slot_at : Index → ℕ → ℕ → Slot
 slot_at index node i = slot_in index.blocks node i
-
--- a number is the least count of levels whose slots cover the size
-pub record IsLeastLevels (size levels : ℕ) : Type 0 where
-  pub some : 1 ≤ levels
-  pub covers : size ≤ 2 ^ (18 + 7 * levels)
-  pub least : (fewer : ℕ) → 1 ≤ fewer → size ≤ 2 ^ (18 + 7 * fewer) → levels ≤ fewer
 
 -- the digits of a number in base 128, the most significant first
 unfoldable pub digits_of : ℕ → ℕ → List ℕ

@@ -1,4 +1,5 @@
 pub mod Slots
 pub mod Block
+pub mod Levels
 pub mod Index
 pub mod Tree

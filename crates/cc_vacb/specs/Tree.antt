@@ -1,8 +1,10 @@
+-- What the tree of index blocks keeps true, and what each change of it leaves.
 use Rattle.std.specs.Prelude.{ℕ, ◌+◌, ◌-◌, ◌^◌, ◌*◌, ◌%◌, ◌<◌, ◌≤◌, ◌≡◌, ◌≢◌, ◌==◌, ◌⊎◌, suc, if◌then◌else◌, Some, None, is_some, List, length, slice_set, sum_by}
 use Rattle.cc_vacb.specs.declared.slots.Slot.{Slot}
 use Rattle.cc_vacb.specs.declared.slots.Slot.TheVariants.{Empty, Node, View}
 use Rattle.cc_vacb.specs.Block.{Block, used_slots}
-use Rattle.cc_vacb.specs.Index.{block_in, slot_in, entry_in, levels_of, width_of, StartsBelow}
+use Rattle.cc_vacb.specs.Index.{block_in, slot_in, entry_in, width_of, StartsBelow}
+use Rattle.cc_vacb.specs.Levels.{levels_of}
 
 unfoldable pub blocks_at : ℕ → List Block → ℕ
 blocks_at height blocks = sum_by (λ b. if b.height == height then 1 else 0) blocks

@@ -1,3 +1,5 @@
+//! An index block.
+
 ghost use Rattle.std.specs.Prelude.{◌≡◌, ℕ, ◌==◌, ◌<◌, ◌-◌, ◌++◌, IfOk, OnOk, OnErr, length, take, replicate, slice_index_or, slice_set};
 ghost use Rattle.cc_vacb.specs.declared.slots.Slot.TheVariants.{Empty};
 ghost use Rattle.cc_vacb.specs.Block.{blank_block, used_slots};

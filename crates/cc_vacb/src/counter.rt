@@ -1,3 +1,5 @@
+//! The count of the index blocks that look-ups visit.
+
 ghost use Rattle.std.specs.Prelude.{◌≡◌, ℕ, ◌+◌, ◌<◌};
 
 use std::marker::Model;

@@ -1,7 +1,12 @@
-ghost use Rattle.std.specs.Prelude.{◌≡◌, ◌≢◌, ℕ, ◌+◌, ◌*◌, ◌-◌, ◌^◌, ◌<◌, ◌≤◌, IfOk, OnOk, OnErr, OnSome, IsSome, is_some, if◌then◌else◌, None, Some};
-ghost use Rattle.cc_vacb.specs.Index.{StartsBelow, entry_at, entry_count, block_count, slot_at, levels_of, width_of, IsLeastLevels, digits_of, led_by};
-ghost use Rattle.cc_vacb.specs.Slots.{view_of};
-ghost use Rattle.cc_vacb.specs.declared.slots.Slot.TheVariants.{Node};
+//! The index of a stream: its size, and the tree of its index blocks.
+//!
+//! Whoever is lent an index shared reads an index block by `slot` alone, which counts it: so a bound
+//! on the steps of a look-up bounds all the index blocks that it visits. The calls that change the
+//! index look up uncounted.
+
+ghost use Rattle.std.specs.Prelude.{◌≡◌, ◌≢◌, ℕ, ◌+◌, ◌*◌, ◌-◌, ◌^◌, ◌<◌, ◌≤◌, IfOk, OnOk, OnErr, IsSome, is_some, if◌then◌else◌, None, Some};
+ghost use Rattle.cc_vacb.specs.Index.{StartsBelow, entry_at, entry_count, block_count, slot_at};
+ghost use Rattle.cc_vacb.specs.Levels.{levels_of, IsLeastLevels};
 
 use crate::blocks::IndexBlock;
 use crate::counter::{Ledger, Steps};
@@ -55,19 +60,6 @@ impl ViewIndex {
             size,
             blocks,
         })
-    }
-
-    /// The view of a block. An index block that is visited is a step.
-    pub fn get<L: Ledger>(&self, block: u64, steps: &mut Steps<L>) -> Option<u16>
-        requires { StartsBelow block self.now.size }
-        ensures value { result ≡ entry_at self.now block }
-        ensures at_most { steps.new ≤ steps.old + levels_of self.now.size }
-        ensures where_found { OnSome result (steps.new ≡ steps.old + levels_of self.now.size) }
-        ensures by_digits { result ≡ view_of
-            (led_by (slot_at self.now) (Node 0) (digits_of (levels_of self.now.size) block)) }
-    {
-        let top = levels::top_for(self.size);
-        tree::get_view(&self.blocks, top, block, steps)
     }
 
     pub fn put(&mut self, block: u64, view: u16) -> Result<(), NoMemory>
@@ -146,13 +138,20 @@ impl ViewIndex {
         self.blocks.len() as u32
     }
 
-    /// A slot of an index block. The root has the number 0.
-    pub fn slot(&self, node: u32, i: u8) -> Slot
-        requires node_in { node < block_count self.now }
-        requires slot_in { i < width_of self.now.size }
-        ensures { result ≡ slot_at self.now node i }
+    /// A slot of an index block, empty where there is none. The root has the number 0. To read one is a
+    /// step.
+    pub fn slot<L: Ledger>(&self, node: u32, i: u8, steps: &mut Steps<L>) -> Slot
+        ensures value { result ≡ slot_at self.now node i }
+        ensures counted { steps.new ≡ steps.old + 1 }
     {
+        steps.tick();
         tree::slot_in(&self.blocks, node, i)
+    }
+
+    pub(crate) fn size(&self) -> u64
+        ensures { result ≡ self.now.size }
+    {
+        self.size
     }
 }
 

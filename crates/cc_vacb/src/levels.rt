@@ -1,7 +1,10 @@
-ghost use Rattle.std.specs.Prelude.{◌≡◌, ℕ, ◌+◌, ◌≤◌};
-ghost use Rattle.cc_vacb.specs.Index.{levels_of, width_of};
+//! How many levels an index has, and how many slots its root.
 
-#[tactic(auto, unfolding(crate::specs::Index::levels_of))]
+ghost use Rattle.std.specs.Prelude.{◌≡◌, ℕ, ◌+◌, ◌≤◌};
+ghost use Rattle.cc_vacb.specs.Index.{width_of};
+ghost use Rattle.cc_vacb.specs.Levels.{levels_of};
+
+#[tactic(auto, unfolding(crate::specs::Levels::levels_of))]
 pub(crate) fn levels_for(size: u64) -> u8
     ensures { result ≡ levels_of size }
 {

@@ -1,3 +1,5 @@
+//! Levels put above the root, and taken away.
+
 ghost use Rattle.std.specs.Prelude.{◌≡◌, ℕ, ◌+◌, ◌-◌, ◌^◌, ◌<◌, ◌≤◌, length, IfOk, OnOk, OnErr};
 ghost use Rattle.cc_vacb.specs.Block.{used_slots};
 ghost use Rattle.cc_vacb.specs.Index.{block_in};

@@ -1,3 +1,5 @@
+//! A slot of an index block.
+
 ghost use Rattle.std.specs.Prelude.{◌≡◌};
 
 /// What a slot of an index block holds.

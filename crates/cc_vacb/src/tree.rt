@@ -1,4 +1,6 @@
-ghost use Rattle.std.specs.Prelude.{◌≡◌, ℕ, ◌+◌, ◌*◌, ◌/◌, ◌%◌, ◌<◌, ◌≤◌, ◌^◌, ◌-◌, ◌≢◌, length, IfOk, OnOk, OnErr, OnSome};
+//! The tree of index blocks: looked up, grown along a path, and pruned.
+
+ghost use Rattle.std.specs.Prelude.{◌≡◌, ℕ, ◌+◌, ◌*◌, ◌/◌, ◌%◌, ◌<◌, ◌≤◌, ◌^◌, ◌-◌, ◌≢◌, length, IfOk, OnOk, OnErr};
 ghost use Rattle.cc_vacb.specs.Block.{used_slots};
 ghost use Rattle.cc_vacb.specs.Index.{reach, slot_in, block_in, entry_in};
 ghost use Rattle.cc_vacb.specs.Tree.{put_slot, IsTree, FilledBut, ExtendsTo, Relinked, RemovesBlock, TreeKept, PutsView, TakesView};
@@ -6,7 +8,6 @@ ghost use Rattle.cc_vacb.specs.declared.slots.Slot.TheVariants.{Node};
 ghost use Rattle.std.specs.Vec.{vec_len, vec_capacity};
 
 use crate::blocks::IndexBlock;
-use crate::counter::{Ledger, Steps};
 use crate::slots::Slot;
 use std::alloc::{AllocError, Global};
 
@@ -17,51 +18,6 @@ pub(crate) fn slot_in(blocks: &[IndexBlock], node: u32, i: u8) -> Slot
     match blocks.get(node as usize) {
         Some(block) => block.slot(i),
         None => Slot::Empty,
-    }
-}
-
-// A walk as by `find`, which counts the index blocks that it visits.
-#[tactic(auto, using(crate::proofs::Reach::reaching))]
-fn visit<L: Ledger>(
-    blocks: &[IndexBlock],
-    depth: u8,
-    prefix: u64,
-    steps: &mut Steps<L>,
-) -> Option<u32>
-    ensures value { result ≡ reach blocks.now depth prefix }
-    ensures at_most { steps.new ≤ steps.old + depth }
-    ensures where_found { OnSome result (steps.new ≡ steps.old + depth) }
-{
-    if depth == 0 {
-        return if prefix == 0 { Some(0) } else { None };
-    }
-    match visit(blocks, depth - 1, prefix / 128, steps) {
-        Some(node) => {
-            steps.tick();
-            slot_in(blocks, node, (prefix % 128) as u8).child()
-        }
-        None => None,
-    }
-}
-
-// The view of a block of the stream.
-#[tactic(auto, using(crate::proofs::Reach::reaching))]
-pub(crate) fn get_view<L: Ledger>(
-    blocks: &[IndexBlock],
-    top: u8,
-    block: u64,
-    steps: &mut Steps<L>,
-) -> Option<u16>
-    ensures value { result ≡ entry_in blocks.now top block }
-    ensures at_most { steps.new ≤ steps.old + top + 1 }
-    ensures where_found { OnSome result (steps.new ≡ steps.old + top + 1) }
-{
-    match visit(blocks, top, block / 128, steps) {
-        Some(node) => {
-            steps.tick();
-            slot_in(blocks, node, (block % 128) as u8).view()
-        }
-        None => None,
     }
 }
 

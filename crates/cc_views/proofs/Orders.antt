@@ -1,3 +1,4 @@
+-- Orders of use: where a block stands in them, and what a use or a new block leaves.
 use Rattle.std.proofs.Common.{◌≡◌, ℕ, ◌+◌, ◌-◌, ◌<◌, ◌≤◌, zero, suc, Bool, true, false, cond, nat_eq, if◌then◌else◌, List, [], ◌∷◌, ◌++◌, length, drop, slice_get, position, Option, None, Some, is_some, unwrap_or, refl, sym, ap, subst, ◌∙◌, true≢false, arith, drop-cons}
 use Rattle.std.proofs.lemmas.Bool.{eqb-true}
 use Rattle.std.proofs.lemmas.Option.{slice_get_within, get_or_from_slice_get}
@@ -9,7 +10,7 @@ use Rattle.indexmap.specs.IndexMap.{move_index, set_value_at, insert_entry}
 use Rattle.indexmap.proofs.MapLemmas.{Found-position, Missing-position, remove_entry-first, insert_entry-first, index-first, some_index}
 use Rattle.indexmap.proofs.RemoveLemmas.{moved_last, own_first}
 use Rattle.cc_vacb.specs.Index.{Index}
-use Rattle.cc_views.specs.Views.{Pages, Mapped, blocks_of, frames_at, without, used, with_frames, first_not_in}
+use Rattle.cc_views.specs.Views.{Pages, Mapped, mapped_blocks, frames_at, without, used, with_frames, first_not_in}
 use Rattle.cc_views.specs.Indexed.{IsIndexed}
 
 pub none_from : {A : Type 0} (o : Option A) → is_some o ≡ false → o ≡ None
@@ -92,7 +93,7 @@ moved es block i p =
     ∙ sym (ap (λ o. option_map_or (λ frames. without es block ++ (block, frames) ∷ []) o es) (f.value ∙ a.at_value))
 
 -- a use of a block that has no place
-pub unused : (m : Mapped) (block : ℕ) → position (nat_eq block) (blocks_of m) ≡ None → m ≡ put_views m (used m.views block)
+pub unused : (m : Mapped) (block : ℕ) → position (nat_eq block) (mapped_blocks m) ≡ None → m ≡ put_views m (used m.views block)
 unused m block p = ap (put_views m) (sym (ap (λ o. option_map_or (λ frames. without m.views block ++ (block, frames) ∷ []) o m.views) (Missing-position (nat_eq block) m.views p).value))
 
 -- the first that is not kept, from one place on

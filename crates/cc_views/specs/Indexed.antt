@@ -1,3 +1,4 @@
+-- What the mapped blocks and the view index have to do with each other.
 use Rattle.std.specs.Prelude.{◌≡◌, ℕ, ◌≤◌, nat_eq, List, is_some}
 use Rattle.std.specs.Map.{lookup}
 use Rattle.cc_vacb.specs.Index.{Index, entry_at}

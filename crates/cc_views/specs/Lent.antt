@@ -1,3 +1,4 @@
+-- What a change of lent frames leaves.
 use Rattle.std.specs.Prelude.{ℕ, Option}
 use Rattle.std.specs.Borrow.{Fml, MutBor, LendsIf}
 use Rattle.cc_pages.specs.contracts.frames.Frames.{the_row as frames_row}

@@ -1,13 +1,14 @@
+-- The mapped view blocks of a stream in order of use.
 use Rattle.std.specs.Prelude.{◌≡◌, ℕ, ◌≤◌, if◌then◌else◌, nat_eq, List, [], ◌∷◌, ◌++◌, length, Option, None, Some, IsSome}
 use Rattle.std.specs.List.{IsDistinct, list_any}
 use Rattle.std.specs.Map.{keys_of, lookup, remove_entry, set_value}
 use Rattle.std.specs.Option.{option_map_or}
-use Rattle.cc_pages.specs.Pages.{page_at}
+use Rattle.cc_pages.specs.Pages.{Page, page_at}
 use Rattle.cc_vacb.specs.Index.{StartsBelow}
 
--- the pages of a view block
+-- the pages of a view block, each there, owned or shared, or none
 abbrev pub Pages : Type 0
-Pages = List (Option (List ℕ))
+Pages = List (Option Page)
 
 -- the mapped blocks of a stream with their frames, from the least to the most recently used
 pub record Mapped : Type 0 where
@@ -15,13 +16,15 @@ pub record Mapped : Type 0 where
   pub quota : ℕ
   pub size : ℕ
 
-abbrev pub blocks_of : Mapped → List ℕ
-blocks_of m = keys_of m.views
+-- the mapped blocks, from the least to the most recently used
+abbrev pub mapped_blocks : Mapped → List ℕ
+mapped_blocks m = keys_of m.views
 
 -- the frames of a block, or none where it is not mapped
 abbrev pub frames_at : Mapped → ℕ → Option Pages
 frames_at m block = lookup (nat_eq block) m.views
 
+-- the views without a block
 abbrev pub without : List (ℕ × Pages) → ℕ → List (ℕ × Pages)
 without views block = remove_entry (nat_eq block) views
 
@@ -46,6 +49,6 @@ first_not_in kept (block ∷ blocks) = if list_any (λ k. nat_eq k block) kept t
 
 -- no block is mapped twice, each starts below the size, and there are at most as many as the quota
 pub record IsSound (m : Mapped) : Type 0 where
-  pub distinct : IsDistinct nat_eq (blocks_of m)
+  pub distinct : IsDistinct nat_eq (mapped_blocks m)
   pub below : (block : ℕ) → IsSome (frames_at m block) → StartsBelow block m.size
   pub within : length m.views ≤ m.quota

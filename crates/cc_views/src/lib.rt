@@ -8,6 +8,3 @@
 mod views;
 
 pub use views::Views;
-
-#[cfg(test)]
-mod tests;

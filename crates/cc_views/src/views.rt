@@ -3,8 +3,9 @@
 ghost use Rattle.std.specs.Prelude.{◌≡◌, ℕ, ◌+◌, ◌<◌, ◌≤◌, [], length, IsSome, IsTrue, position, slice_get, nat_eq, IfOk, OnOk, OnErr, None, Some, is_some};
 ghost use Rattle.std.specs.Option.{option_copied, option_copied_mut};
 ghost use Rattle.std.specs.Borrow.{sem};
-ghost use Rattle.cc_vacb.specs.Index.{StartsBelow, Index, entry_at, levels_of, IsLeastLevels};
-ghost use Rattle.cc_views.specs.Views.{blocks_of, frames_at, without, used, MapsLast, first_not_in, IsSound};
+ghost use Rattle.cc_vacb.specs.Index.{StartsBelow, Index, entry_at};
+ghost use Rattle.cc_vacb.specs.Levels.{levels_of, IsLeastLevels};
+ghost use Rattle.cc_views.specs.Views.{mapped_blocks, frames_at, without, used, MapsLast, first_not_in, IsSound};
 
 use cc_entry::{NoMemory, Quota};
 use cc_pages::Frames;
@@ -147,7 +148,7 @@ impl Views {
 
     /// The least recently used block that is not among the kept ones.
     pub fn oldest_of(&self, kept: &[u64]) -> Option<u64>
-        ensures oldest { result ≡ first_not_in kept.now (blocks_of self.now) }
+        ensures oldest { result ≡ first_not_in kept.now (mapped_blocks self.now) }
         ensures sound { IsSound self.now }
     {
         for place in 0..self.order.len() {
@@ -161,7 +162,7 @@ impl Views {
 
     fn block_at(&self, place: usize) -> u64
         requires { place < length self.now.views }
-        ensures { slice_get (blocks_of self.now) place ≡ Some result }
+        ensures { slice_get (mapped_blocks self.now) place ≡ Some result }
     {
         match self.order.get_index(place) {
             Some((block, _)) => *block,
@@ -172,7 +173,7 @@ impl Views {
     // Where a mapped block stands in the order. The index has the place that it had as it was mapped,
     // and only if another block stands there now is it looked up by its hash.
     fn place_of(&self, block: u64) -> Option<usize>
-        ensures { result ≡ position (nat_eq block) (blocks_of self.now) }
+        ensures { result ≡ position (nat_eq block) (mapped_blocks self.now) }
     {
         match self.view_of(block) {
             Some(view) => {
@@ -187,7 +188,7 @@ impl Views {
     }
 
     fn is_at(&self, place: usize, block: u64) -> bool
-        ensures { IsTrue result → slice_get (blocks_of self.now) place ≡ Some block }
+        ensures { IsTrue result → slice_get (mapped_blocks self.now) place ≡ Some block }
     {
         match self.order.get_index(place) {
             Some((there, _)) => *there == block,

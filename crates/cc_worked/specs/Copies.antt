@@ -83,3 +83,12 @@ zeroed =
     ∷ answers 1 3 (call.CopyRead a 4999 3 true) (reply.Read (90 ∷ 0 ∷ 0 ∷ []))
     ∷ answers 1 4 (call.CopyRead a 5999 3 true) (reply.Read (0 ∷ 171 ∷ 0 ∷ []))
     ∷ [])
+
+-- a zeroing that starts past the valid data length is refused
+abbrev pub zeroing_past_valid : List Entry
+zeroing_past_valid =
+    reverse (opened 8192 5000 ∷ refused 1 1 (call.Zero a (record { from = 5001; to = 6000 })) (error.BeyondValid 5000) ∷ [])
+
+-- wrong: it is done
+abbrev pub hole_before_zeros : List Entry
+hole_before_zeros = reverse (opened 8192 5000 ∷ read_in 1 1 ∷ done 1 1 (call.Zero a (record { from = 5001; to = 6000 })) ∷ [])

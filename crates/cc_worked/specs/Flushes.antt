@@ -4,6 +4,7 @@ use Rattle.std.specs.declared.option.Option.TheVariants.{Some, None}
 use Rattle.cc_entry.specs.Place.{Range}
 use Rattle.cc_entry.specs.declared.call.Call.TheVariants as call
 use Rattle.cc_entry.specs.declared.reply.Reply.TheVariants as reply
+use Rattle.cc_entry.specs.declared.error.CcError.{CcError}
 use Rattle.cc_entry.specs.declared.error.CcError.TheVariants as error
 use Rattle.cc_entry.specs.declared.entry.End.TheVariants as how
 use Rattle.cc_entry.specs.declared.entry.Entry.{Entry}
@@ -99,3 +100,30 @@ sync_fault_of p =
     ∷ entry.Sync 1 0 how.Failed
     ∷ refused 1 1 (call.Flush a (Some (record { from = 8192; to = 8192 }))) (error.WriteFault p)
     ∷ [])
+
+-- The first pin owes its stamp to the second page, the second and the third one theirs to the first.
+abbrev pub three_owe : List Entry
+three_owe =
+    opened 8192 8192
+    ∷ read_in 1 0
+    ∷ read_in 1 1
+    ∷ answers 1 1 (call.PinRead a 4096 16 false) (reply.Hold 1)
+    ∷ answers 1 2 (call.PinRead a 0 16 false) (reply.Hold 2)
+    ∷ answers 2 1 (call.PinRead a 8 16 false) (reply.Hold 3)
+    ∷ done 1 3 (call.PinnedWrite 1 4096 (171 ∷ []))
+    ∷ done 2 2 (call.PinnedWrite 3 8 (171 ∷ []))
+    ∷ done 1 4 (call.PinnedWrite 2 0 (171 ∷ []))
+    ∷ []
+
+-- a flush of both pages is told the least pin of the first, one of the second page the pin of that
+abbrev pub least_page_told : List Entry
+least_page_told =
+    reverse (
+    three_owe
+    ++ refused 3 1 (call.Flush a None) (error.Busy 2)
+    ∷ refused 3 2 (call.Flush a (Some second_page)) (error.Busy 1)
+    ∷ [])
+
+-- wrong: it is told the least pin of all, or a later pin of the first page
+abbrev pub another_told : CcError → List Entry
+another_told cause = reverse (three_owe ++ refused 3 1 (call.Flush a None) cause ∷ [])

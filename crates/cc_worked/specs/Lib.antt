@@ -19,3 +19,9 @@ pub mod Pins
 pub mod Reopening
 pub mod Refusals
 pub mod Views
+pub mod Untold
+pub mod Discards
+pub mod DiscardRefusals
+pub mod Crashes
+pub mod Room
+pub mod Seen

@@ -96,3 +96,21 @@ lsns_told oldest newest =
     ∷ done 1 5 (call.SetDirty 1 (Some 6))
     ∷ answers 1 6 (call.LsnForFile a) (reply.Lsns (Some (oldest, newest)))
     ∷ [])
+
+-- a pin of a page that is valid up to 5000
+abbrev pub pinned_around_valid : List Entry
+pinned_around_valid = opened 8192 5000 ∷ read_in 1 1 ∷ answers 1 1 (call.PinRead a 4096 4096 false) (reply.Hold 1) ∷ []
+
+-- a pinned write that starts past the valid data length is refused, one that starts there is done
+abbrev pub pinned_write_at_valid : List Entry
+pinned_write_at_valid =
+    reverse (
+    pinned_around_valid
+    ++ refused 1 2 (call.PinnedWrite 1 5001 (171 ∷ [])) (error.BeyondValid 5000)
+    ∷ done 1 3 (call.PinnedWrite 1 5000 (171 ∷ []))
+    ∷ answers 1 4 (call.PinnedRead 1 4999 3) (reply.Read (90 ∷ 171 ∷ 0 ∷ []))
+    ∷ [])
+
+-- wrong: it is done past the valid data length
+abbrev pub hole_under_pin : List Entry
+hole_under_pin = reverse (pinned_around_valid ++ done 1 2 (call.PinnedWrite 1 5001 (171 ∷ [])) ∷ [])

@@ -61,3 +61,19 @@ step_without_page = reverse (asked ++ answers 1 6 (call.AheadStep second_page) (
 -- wrong: the step gives up although the object is open and its blocks fit
 abbrev pub step_given_up : List Entry
 step_given_up = reverse (asked ++ answers 1 6 (call.AheadStep second_page) (reply.Whole false) ∷ [])
+
+-- the queue is full as the read that goes on asks, and has room as it asks again
+abbrev pub queue_full : List Entry
+queue_full =
+    reverse (
+    two_reads
+    ++ refused 1 5 (call.AskAhead a 20 10) error.QueueFull
+    ∷ answers 1 6 (call.AskAhead a 20 10) (reply.Ahead (Some second_page))
+    ∷ [])
+
+-- wrong: the queue is full for a read that asks for nothing, or for a call that never asks
+abbrev pub full_for_a_jump : List Entry
+full_for_a_jump = reverse (two_reads ++ refused 1 5 (call.AskAhead a 100 10) error.QueueFull ∷ [])
+
+abbrev pub full_for_a_copy : List Entry
+full_for_a_copy = reverse (two_reads ++ refused 1 5 (call.CopyRead a 20 10 true) error.QueueFull ∷ [])

@@ -85,3 +85,7 @@ written pass p = begins pass p ∷ ends pass p ∷ []
 -- the disk of stream 0 is synced
 abbrev pub synced : ℕ → Entry
 synced pass = entry.Sync pass 0 how.Good
+
+-- all pages of stream 0 are discarded
+abbrev pub discarded : ℕ → ℕ → Entry
+discarded pass nth = done pass nth (call.Discard a None)

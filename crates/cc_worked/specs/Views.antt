@@ -1,5 +1,5 @@
 -- View blocks: the quota of a stream, the pool of views, and ranges within a block.
-use Rattle.std.specs.Prelude.{ℕ, List, [], ◌∷◌, ◌++◌, ◌+◌, ◌*◌, true, false, reverse, map, flat_map}
+use Rattle.std.specs.Prelude.{ℕ, List, [], ◌∷◌, ◌++◌, ◌+◌, ◌*◌, true, false, reverse, map, flat_map, replicate}
 use Rattle.std.specs.List.{range_with_len}
 use Rattle.std.specs.declared.option.Option.TheVariants.{Some, None}
 use Rattle.cc_entry.specs.Place.{File}
@@ -7,10 +7,11 @@ use Rattle.cc_entry.specs.declared.call.Call.{Call}
 use Rattle.cc_entry.specs.declared.call.Call.TheVariants as call
 use Rattle.cc_entry.specs.declared.reply.Reply.TheVariants as reply
 use Rattle.cc_entry.specs.declared.reply.Outcome.TheVariants as outcome
+use Rattle.cc_entry.specs.declared.error.CcError.{CcError}
 use Rattle.cc_entry.specs.declared.error.CcError.TheVariants as error
 use Rattle.cc_entry.specs.declared.entry.Entry.{Entry}
 use Rattle.cc_entry.specs.declared.entry.Entry.TheVariants as entry
-use Rattle.cc_worked.specs.Values.{a, sized, opened, done, answers, refused, read_in, goes_out}
+use Rattle.cc_worked.specs.Values.{a, sized, opened, done, answers, refused, read_in, goes_out, begins}
 
 -- a hold of one byte in each of the first eight blocks of a stream with a quota of eight
 abbrev pub eight_held : List Entry
@@ -34,6 +35,30 @@ block_taken_over =
 -- wrong: a page of a ninth block comes in
 abbrev pub quota_exceeded : List Entry
 quota_exceeded = reverse (eight_held ++ read_in 1 512 ∷ [])
+
+-- A read in the ninth block that may not wait, a map of it, and a store and a noncached write of its first
+-- page are refused; a read that may not wait and needs no further block is answered.
+abbrev pub no_view_left : List Entry
+no_view_left =
+    reverse (
+    eight_held
+    ++ refused 1 9 (call.CopyRead a 2097152 1 false) (error.NoViews 8 8)
+    ∷ refused 1 10 (call.Map a 2097152 1) (error.NoViews 8 8)
+    ∷ refused 1 11 (call.NcStore a 512 (replicate 4096 205)) (error.NoViews 8 8)
+    ∷ refused 1 12 (call.NcWrite a 512) (error.NoViews 8 8)
+    ∷ answers 1 13 (call.CopyRead a 0 1 false) (reply.Read (90 ∷ []))
+    ∷ [])
+
+-- wrong: the read is told the page that is not there
+abbrev pub page_before_view : CcError → List Entry
+page_before_view cause = reverse (eight_held ++ refused 1 9 (call.CopyRead a 2097152 1 false) cause ∷ [])
+
+-- wrong: a page of the ninth block is stored, or mapped
+abbrev pub ninth_stored : List Entry
+ninth_stored = reverse (eight_held ++ done 1 9 (call.NcStore a 512 (replicate 4096 205)) ∷ begins 1 512 ∷ [])
+
+abbrev pub ninth_mapped : List Entry
+ninth_mapped = reverse (eight_held ++ answers 1 9 (call.Map a 2097152 1) (reply.Hold 9) ∷ [])
 
 -- the first object of a stream
 abbrev pub first_of : ℕ → File

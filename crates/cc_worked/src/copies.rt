@@ -5,7 +5,7 @@ ghost use Rattle.cc_model.specs.Allowed.{IsAllowed};
 ghost use Rattle.cc_model.specs.Covered.{IsCovered};
 ghost use Rattle.cc_entry.specs.declared.error.CcError.TheVariants.{BeyondSize, BeyondValid};
 ghost use Rattle.cc_worked.specs.Values.{setup};
-ghost use Rattle.cc_worked.specs.Copies.{read_around, disk_past_valid, disk_under_write, zero_page, zero_page_read, read_to_size, read_past_size, write_past_size, write_past_valid, hole_in_valid, too_long, zeroed};
+ghost use Rattle.cc_worked.specs.Copies.{read_around, disk_past_valid, disk_under_write, zero_page, zero_page_read, read_to_size, read_past_size, write_past_size, write_past_valid, hole_in_valid, too_long, zeroed, zeroing_past_valid, hole_before_zeros};
 
 /// A copied write at the valid data length, and a read of both sides of it: past the valid data length
 /// bytes read as zeros.
@@ -58,4 +58,12 @@ pub fn zeroing_raises_valid_length()
     ensures legal { IsLegal setup zeroed }
     ensures allowed { IsAllowed setup zeroed }
     ensures covered { IsCovered zeroed }
+{}
+
+/// A zeroing starts at or below the valid data length.
+pub fn zeroing_leaves_no_hole()
+    ensures legal { IsLegal setup zeroing_past_valid }
+    ensures allowed { IsAllowed setup zeroing_past_valid }
+    ensures covered { IsCovered zeroing_past_valid }
+    ensures no_hole { IsLegal setup hole_before_zeros → ⊥ }
 {}

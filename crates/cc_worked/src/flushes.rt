@@ -3,8 +3,9 @@
 ghost use Rattle.cc_model.specs.Legal.{IsLegal};
 ghost use Rattle.cc_model.specs.Allowed.{IsAllowed};
 ghost use Rattle.cc_model.specs.Covered.{IsCovered};
+ghost use Rattle.cc_entry.specs.declared.error.CcError.TheVariants.{Busy};
 ghost use Rattle.cc_worked.specs.Values.{setup};
-ghost use Rattle.cc_worked.specs.Flushes.{later_change_left, synced_after_call, seen_change_left, other_syncs, flush_by_other_syncs, span_flushed, half_flushed, flushed_beside_pin, barred_beside_pin, unstamped_written, sync_fault_of};
+ghost use Rattle.cc_worked.specs.Flushes.{later_change_left, synced_after_call, seen_change_left, other_syncs, flush_by_other_syncs, span_flushed, half_flushed, flushed_beside_pin, barred_beside_pin, unstamped_written, sync_fault_of, least_page_told, another_told};
 
 /// A flush is done though another caller changed the page after the flusher's last call, but not where
 /// the change came before.
@@ -55,4 +56,13 @@ pub fn sync_fault_is_of_first_page()
     ensures allowed { IsAllowed setup (sync_fault_of 2) }
     ensures covered { IsCovered (sync_fault_of 2) }
     ensures not_of_another { IsLegal setup (sync_fault_of 0) → ⊥ }
+{}
+
+/// Of several pins that owe a stamp a flush is told the least one of the least page.
+pub fn flush_is_told_least_page()
+    ensures legal { IsLegal setup least_page_told }
+    ensures allowed { IsAllowed setup least_page_told }
+    ensures covered { IsCovered least_page_told }
+    ensures not_least_pin { IsLegal setup (another_told (Busy 1)) → ⊥ }
+    ensures not_later_pin { IsLegal setup (another_told (Busy 3)) → ⊥ }
 {}

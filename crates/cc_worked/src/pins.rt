@@ -4,7 +4,7 @@ ghost use Rattle.cc_model.specs.Legal.{IsLegal};
 ghost use Rattle.cc_model.specs.Allowed.{IsAllowed};
 ghost use Rattle.cc_model.specs.Covered.{IsCovered};
 ghost use Rattle.cc_worked.specs.Values.{setup};
-ghost use Rattle.cc_worked.specs.Pins.{barred_by_page, map_pinned, later_hold_named, map_written, written_past_pin, pin_read_as_map, repin_stamped, shared_pins, empty_hold_bars_size, empty_hold_bars_purge, lsns_told};
+ghost use Rattle.cc_worked.specs.Pins.{barred_by_page, map_pinned, later_hold_named, map_written, written_past_pin, pin_read_as_map, repin_stamped, shared_pins, empty_hold_bars_size, empty_hold_bars_purge, lsns_told, pinned_write_at_valid, hole_under_pin};
 
 /// An exclusive pin bars each pin of its page, and no copied write.
 pub fn exclusive_pin_bars_its_page()
@@ -45,4 +45,12 @@ pub fn lsns_of_all_pages()
     ensures covered { IsCovered (lsns_told 5 7) }
     ensures not_of_last_stamps { IsLegal setup (lsns_told 5 6) → ⊥ }
     ensures not_of_first_page { IsLegal setup (lsns_told 6 7) → ⊥ }
+{}
+
+/// A pinned write starts at or below the valid data length, and raises it.
+pub fn pinned_write_leaves_no_hole()
+    ensures legal { IsLegal setup pinned_write_at_valid }
+    ensures allowed { IsAllowed setup pinned_write_at_valid }
+    ensures covered { IsCovered pinned_write_at_valid }
+    ensures no_hole { IsLegal setup hole_under_pin → ⊥ }
 {}

@@ -2,14 +2,14 @@ use Rattle.std.proofs.Common.{◌≡◌, ◌≤◌, ◌∙◌, ℕ, ◌+◌, ◌
 use Rattle.std.proofs.lemmas.List.{take-append-drop, take_at, drop-drop, length-take-le}
 use Rattle.cc_memdev.proofs.stream.MemSourceSource.take.Goals as goal
 
--- the bytes from a place on are the piece that was copied from there, whatever else the buffer has, and
--- those after it
-given : (bytes piece rest : List ℕ) (at n : ℕ) → piece ≡ take (at + n - at) (drop at bytes) → length piece ≡ n → drop at bytes ≡ take n (piece ++ rest) ++ drop (at + n) bytes
-given bytes piece rest at n e len =
+-- the bytes from a place on are those that were copied from there, whatever else the buffer has, and
+-- those after them
+given : (bytes copied rest : List ℕ) (at n : ℕ) → copied ≡ take (at + n - at) (drop at bytes) → length copied ≡ n → drop at bytes ≡ take n (copied ++ rest) ++ drop (at + n) bytes
+given bytes copied rest at n e len =
     let more : at + n - at ≡ n = omega arith in
-    let p : piece ≡ take n (drop at bytes) = e ∙ ap (λ k. take k (drop at bytes)) more in
-    let front : take n (piece ++ rest) ≡ take n (drop at bytes) = take_at piece rest n len ∙ p in
-    sym (take-append-drop n (drop at bytes)) ∙ ap (λ xs. xs ++ drop n (drop at bytes)) (sym front) ∙ ap (λ xs. take n (piece ++ rest) ++ xs) (drop-drop n at bytes)
+    let p : copied ≡ take n (drop at bytes) = e ∙ ap (λ k. take k (drop at bytes)) more in
+    let front : take n (copied ++ rest) ≡ take n (drop at bytes) = take_at copied rest n len ∙ p in
+    sym (take-append-drop n (drop at bytes)) ∙ ap (λ xs. xs ++ drop n (drop at bytes)) (sym front) ∙ ap (λ xs. take n (copied ++ rest) ++ xs) (drop-drop n at bytes)
 
 pub returns-clause-given : goal.returns-clause-given
 returns-clause-given c =

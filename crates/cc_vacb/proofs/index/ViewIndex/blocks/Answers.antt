@@ -1,5 +1,6 @@
 use Rattle.std.proofs.Common.{◌+◌, ◌*◌, ◌≤◌, subst, arith}
-use Rattle.cc_vacb.specs.Index.{Index, levels_of, entry_count}
+use Rattle.cc_vacb.specs.Index.{Index, entry_count}
+use Rattle.cc_vacb.specs.Levels.{levels_of}
 use Rattle.cc_vacb.proofs.Kept.{index_bound}
 use Rattle.cc_vacb.proofs.index.ViewIndex.blocks.Goals as goal
 

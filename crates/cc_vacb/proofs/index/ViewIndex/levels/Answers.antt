@@ -1,5 +1,6 @@
 use Rattle.std.proofs.Common.{ap, subst}
-use Rattle.cc_vacb.specs.Index.{Index, IsLeastLevels}
+use Rattle.cc_vacb.specs.Index.{Index}
+use Rattle.cc_vacb.specs.Levels.{IsLeastLevels}
 use Rattle.cc_vacb.proofs.Kept.{levels_least}
 use Rattle.cc_vacb.proofs.index.ViewIndex.levels.Goals as goal
 
