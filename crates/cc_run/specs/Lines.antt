@@ -20,7 +20,8 @@ pub record Serves (u : Setup) (asked : Action) (told : Answer) (old new : List E
 
 -- whatever the caller's next lines leave, these lines left what they did before
 abbrev pub RanBefore : Setup → List (Action × Answer) → List Entry → List Entry → Type 0
-RanBefore u lines old new = (limit : ℕ) (more : List (Action × Answer)) (end : List Entry) → Ran u limit 1 [] more new end → Ran u limit 1 [] (lines ++ more) old end
+RanBefore u lines old new =
+    (limit : ℕ) (more : List (Action × Answer)) (end : List Entry) → Ran u limit 1 [] more new end → Ran u limit 1 [] (lines ++ more) old end
 
 -- each of the lines has its reply behind those that were there, and its calls ran
 pub record ServedLines (u : Setup) (lines : List ActionLine) (before after : List LineReply) (old new : List Entry) : Type 0 where
