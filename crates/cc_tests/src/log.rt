@@ -18,7 +18,10 @@ fn a_log_gives_lsns_until_none_is_left(rt: HostRuntime) -> Result<(), Fail> {
     assert_eq!(rt; log.flushed(), 0);
     assert_eq!(rt; log.flush(last), Ok(()));
     assert_eq!(rt; log.floor(), 1 << 62);
-    assert_eq!(rt; log.append(b"c").map(Lsn::number), Err(CcError::LogFull { handle: 2 }));
+    assert_eq!(rt;
+        log.append(b"c").map(Lsn::number),
+        Err(CcError::LogFull { handle: 2 })
+    );
     assert_eq!(rt; log.end().entries().len(), 1);
     Ok(())
 }
