@@ -8,7 +8,7 @@ use std::error::Error;
 use std::fmt;
 
 /// Memory ran out. What the call was to change is as it was.
-#[derive(Clone, Copy, Debug, PartialEq, Eq, Hash)]
+#[derive(Clone, Copy, Debug, PartialEq, Eq)]
 pub struct NoMemory;
 
 impl fmt::Display for NoMemory {
@@ -33,7 +33,7 @@ impl<T: Drop> From<AllocFailed<T>> for NoMemory {
 
 /// The refusals of the calls. Sizes, places and lengths are in bytes; a page is the page's number in
 /// its stream; an id is that of a hold.
-#[derive(Clone, Copy, Debug, PartialEq, Eq, Hash)]
+#[derive(Clone, Copy, Debug, PartialEq, Eq)]
 pub enum CcError {
     /// The file object has no private cache map.
     NotCached,

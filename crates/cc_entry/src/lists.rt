@@ -6,7 +6,7 @@ use crate::place::{DirtyRow, PageId};
 use std::marker::Model;
 
 /// A list of pages.
-#[derive(Clone, Debug, Drop)]
+#[derive(Debug, Drop)]
 pub struct Pages {
     items: Vec<PageId>,
 }
@@ -57,7 +57,7 @@ impl PartialEq for Pages {
 }
 
 /// Rows of the dirty page table.
-#[derive(Clone, Debug, Drop)]
+#[derive(Debug, Drop)]
 pub struct Rows {
     items: Vec<DirtyRow>,
 }
@@ -108,7 +108,7 @@ impl PartialEq for Rows {
 }
 
 /// Numbers of deferred writes.
-#[derive(Clone, Debug, Drop)]
+#[derive(Debug, Drop)]
 pub struct Ids {
     items: Vec<u64>,
 }

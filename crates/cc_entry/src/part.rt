@@ -15,7 +15,7 @@ enum Kind {
 }
 
 /// A part has one byte at least.
-#[derive(Clone, Debug, Drop)]
+#[derive(Debug, Drop)]
 pub(crate) struct Part {
     kind: Kind,
 }

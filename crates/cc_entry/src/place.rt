@@ -5,7 +5,7 @@ ghost use Rattle.std.specs.Prelude.{◌≡◌, ◌<◌, ◌≤◌, ◌^◌, ◌�
 use std::marker::Model;
 
 /// A stream, numbered 0 to 15. All file objects of one file share its stream.
-#[derive(Clone, Copy, Debug, PartialEq, Eq, PartialOrd, Ord, Hash)]
+#[derive(Clone, Copy, Debug, PartialEq, Eq)]
 pub struct StreamId {
     number: u8,
 }
@@ -43,7 +43,7 @@ impl StreamId {
 }
 
 /// One file object of a stream, numbered 0 to 15: what an open of the file gave.
-#[derive(Clone, Copy, Debug, PartialEq, Eq, PartialOrd, Ord, Hash)]
+#[derive(Clone, Copy, Debug, PartialEq, Eq)]
 pub struct FileId {
     stream: StreamId,
     object: u8,
@@ -91,7 +91,7 @@ impl FileId {
 }
 
 /// A page of a stream, of 4096 bytes; its number lies below 2^51.
-#[derive(Clone, Copy, Debug, PartialEq, Eq, PartialOrd, Ord, Hash)]
+#[derive(Clone, Copy, Debug, PartialEq, Eq)]
 pub struct PageId {
     stream: StreamId,
     page: u64,
@@ -138,7 +138,7 @@ impl PageId {
 }
 
 /// A log sequence number, 1 to 2^62.
-#[derive(Clone, Copy, Debug, PartialEq, Eq, PartialOrd, Ord, Hash)]
+#[derive(Clone, Copy, Debug, PartialEq, Eq)]
 pub struct Lsn {
     number: u64,
 }
@@ -177,7 +177,7 @@ impl Lsn {
 }
 
 /// The bytes of a stream from `from` up to, and without, `to`.
-#[derive(Clone, Copy, Debug, PartialEq, Eq, PartialOrd, Ord, Hash)]
+#[derive(Clone, Copy, Debug, PartialEq, Eq)]
 pub struct Span {
     from: u64,
     to: u64,
@@ -227,7 +227,7 @@ impl Span {
 }
 
 /// How many view blocks of a stream may be mapped, 8 to 64.
-#[derive(Clone, Copy, Debug, PartialEq, Eq, PartialOrd, Ord, Hash)]
+#[derive(Clone, Copy, Debug, PartialEq, Eq)]
 pub struct Quota {
     blocks: u8,
 }
@@ -267,7 +267,7 @@ impl Quota {
 
 /// The three sizes of a stream in bytes: what is allocated, its end, and the valid data length, past
 /// which every byte reads as zero.
-#[derive(Clone, Copy, Debug, PartialEq, Eq, Hash)]
+#[derive(Clone, Copy, Debug, PartialEq, Eq)]
 pub struct FileSizes {
     pub allocation: u64,
     pub size: u64,
@@ -275,14 +275,14 @@ pub struct FileSizes {
 }
 
 /// What a stream's `file_state` answers: its sizes and the log it writes to.
-#[derive(Clone, Copy, Debug, PartialEq, Eq, Hash)]
+#[derive(Clone, Copy, Debug, PartialEq, Eq)]
 pub struct FileState {
     pub sizes: FileSizes,
     pub log: Option<u8>,
 }
 
 /// A read-ahead request: `len` bytes of the file object's stream from `at` on.
-#[derive(Clone, Copy, Debug, PartialEq, Eq, Hash)]
+#[derive(Clone, Copy, Debug, PartialEq, Eq)]
 pub struct Request {
     pub file: FileId,
     pub at: u64,
@@ -290,7 +290,7 @@ pub struct Request {
 }
 
 /// A row of the dirty page table: a page, and the least and greatest LSN not yet written to it.
-#[derive(Clone, Copy, Debug, PartialEq, Eq, Hash)]
+#[derive(Clone, Copy, Debug, PartialEq, Eq)]
 pub struct DirtyRow {
     pub page: PageId,
     pub oldest: Lsn,

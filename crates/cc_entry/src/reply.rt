@@ -6,7 +6,7 @@ use crate::lists::Rows;
 use crate::place::{FileState, Lsn, Request};
 
 /// What a call that is done answers.
-#[derive(Clone, Debug, Drop, PartialEq)]
+#[derive(Debug, Drop, PartialEq)]
 pub enum Reply {
     Unit,
     /// The bytes that were read.
@@ -26,7 +26,7 @@ pub enum Reply {
 }
 
 /// How a call ended.
-#[derive(Clone, Debug, Drop, PartialEq)]
+#[derive(Debug, Drop, PartialEq)]
 pub enum Outcome {
     Done(Reply),
     Failed(CcError),

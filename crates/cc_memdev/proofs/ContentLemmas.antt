@@ -1,6 +1,6 @@
 -- What the pages that were written say of the disk: by look-ups in the map that has them.
 use Rattle.std.proofs.Common.{◌≡◌, ℕ, ◌+◌, ◌<◌, ◌≤◌, ◌==◌, length, get_or, drop, Bool, true, false, cond, if◌then◌else◌, List, [], ◌∷◌, ◌++◌, map, Option, Some, None, refl, sym, ◌∙◌, ap, arith}
-use Rattle.std.specs.Ordering.{nat_cmp, eq_by_cmp}
+use Rattle.std.specs.Ordering.{nat_cmp}
 use Rattle.std.specs.Cmp.{nat_cmp_total, eq_by_cmp_equiv}
 use Rattle.std.specs.List.Sorted.{IsStrictlySortedBy}
 use Rattle.std.specs.Map.{keys_of, lookup}
@@ -13,9 +13,9 @@ use Rattle.std.proofs.lemmas.Map.Made.{lookup-map_values}
 use Rattle.std.proofs.lemmas.Map.Keys.{IsDistinct-from_sorted, sorted_tail}
 use Rattle.std.proofs.lemmas.List.{append-nil, at_drop_more, at_drop_all}
 use Rattle.std.proofs.lemmas.Bool.{eqb-true, eq-eqb}
-use Rattle.cc_traits.specs.Disk.{Disk, blank_page, last_content, contents, or_alone, page_of, may_of, Wrote, WriteFailed, Settled}
-use Rattle.cc_traits.proofs.DiskLemmas.{last_content-append, contents-append, contents-one, Wrote-by_contents, WriteFailed-by_contents, Settled-by_contents}
-use Rattle.cc_memdev.specs.Content.{PageContents, noted, recorded, settled_page, holds_of, may_list, disk_over, WriteFailedInPlace, Records}
+use Rattle.cc_traits.specs.Disk.{Disk, blank_page, last_content, contents, or_alone, page_of, may_of, Settled}
+use Rattle.cc_traits.proofs.DiskLemmas.{last_content-append, contents-append, Wrote-by_contents, WriteFailed-by_contents, Settled-by_contents}
+use Rattle.cc_memdev.specs.Content.{PageContents, recorded, settled_page, holds_of, may_list, disk_over, Records}
 
 abbrev pub Pages : Type 0
 Pages = List (ℕ × PageContents)

@@ -1,5 +1,5 @@
 -- The pages of a memory disk as plain data.
-use Rattle.std.specs.Prelude.{◌≡◌, ℕ, Bool, true, false, if◌then◌else◌, List, [], ◌∷◌, ◌++◌, map}
+use Rattle.std.specs.Prelude.{◌≡◌, ℕ, Bool, true, false, List, [], ◌∷◌, ◌++◌, map}
 use Rattle.cc_traits.specs.Disk.{Disk, or_alone, page_of, Wrote, WriteFailed}
 
 -- a page that was written: what it holds, and the contents that a crash now can leave, none where that

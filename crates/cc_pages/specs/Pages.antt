@@ -1,25 +1,60 @@
 -- The pages of a view block as contracts see them.
-use Rattle.std.specs.Prelude.{◌≡◌, ◌≢◌, ℕ, ◌+◌, List, ◌++◌, Option, None, length, map, take, drop, slice_index_or}
+use Rattle.std.specs.Prelude.{◌≡◌, ◌≢◌, ℕ, ◌+◌, Bool, true, false, List, ◌++◌, Option, None, Some, length, map, take, drop, slice_index_or}
 use Rattle.std.specs.Option.{option_map}
-use Rattle.std.specs.declared.alloc.Global.{Global}
-use Rattle.std.specs.declared.boxed.Box.{Box}
+use Rattle.cc_pages.specs.declared.frames.Kept.{Kept}
+use Rattle.cc_pages.specs.declared.frames.Kept.TheVariants as kept
+use Rattle.cc_pages.specs.declared.frames.Frame.{Frame}
 
--- the bytes of page i of a block, or none where the block has no such page
-abbrev pub page_at : List (Option (List ℕ)) → ℕ → Option (List ℕ)
+-- a page: its bytes, and whether it is owned, or shared with the snapshots that were made of it
+pub record Page : Type 0 where
+  pub bytes : List ℕ
+  pub owned : Bool
+
+-- page i of a block, or none where the block has no such page
+abbrev pub page_at : List (Option Page) → ℕ → Option Page
 page_at pages i = slice_index_or pages i None
+
+-- its bytes
+abbrev pub bytes_at : List (Option Page) → ℕ → Option (List ℕ)
+bytes_at pages i = option_map (λ (page : Page). page.bytes) (page_at pages i)
+
+-- whether page i is there and owned
+abbrev pub is_owned : Option Page → Bool
+is_owned None = false
+is_owned (Some page) = page.owned
+
+-- a page with these bytes that is owned, and one that is shared
+abbrev pub owned : List ℕ → Page
+owned bytes = record { bytes = bytes; owned = true }
+
+abbrev pub shared : List ℕ → Page
+shared bytes = record { bytes = bytes; owned = false }
 
 -- the bytes of a page after bytes are written into it at a place
 abbrev pub overwritten : List ℕ → ℕ → List ℕ → List ℕ
 overwritten page at bytes = take at page ++ bytes ++ drop (at + length bytes) page
 
 -- every page but page i is as it was
-abbrev pub KeepsOthers : List (Option (List ℕ)) → List (Option (List ℕ)) → ℕ → Type 0
+abbrev pub KeepsOthers : List (Option Page) → List (Option Page) → ℕ → Type 0
 KeepsOthers old new i = (k : ℕ) → k ≢ i → page_at new k ≡ page_at old k
 
--- the bytes in a slot
-abbrev pub page_in : Option (Box (List ℕ) Global) → Option (List ℕ)
-page_in slot = option_map (λ (frame : Box (List ℕ) Global). frame.value) slot
+-- A snapshot was made of a page: it has the page's bytes, and the page is shared. Where there is no page,
+-- there is no snapshot.
+abbrev pub Snapshot : Option Page → Option Page → Option Frame → Type 0
+Snapshot None new None = new ≡ None
+Snapshot None new (Some frame) = ⊥
+Snapshot (Some page) new None = ⊥
+Snapshot (Some page) new (Some frame) = (frame ≡ page.bytes) × (new ≡ Some (shared page.bytes))
 
--- the bytes in the slots, page by page
-abbrev pub pages_in : List (Option (Box (List ℕ) Global)) → List (Option (List ℕ))
+-- the page that is kept so
+abbrev pub page_of : Kept → Page
+page_of (kept.Owned frame) = owned frame.value
+page_of (kept.Shared frame) = shared frame.value
+
+-- the page in a slot
+abbrev pub page_in : Option Kept → Option Page
+page_in slot = option_map page_of slot
+
+-- the pages in the slots
+abbrev pub pages_in : List (Option Kept) → List (Option Page)
 pages_in slots = map page_in slots

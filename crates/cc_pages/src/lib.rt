@@ -1,9 +1,11 @@
 //! The frames of one view block: 64 pages of 4096 bytes, each there or not.
 //!
 //! A call changes the page that it names and no other, and a page that finds no memory leaves the
-//! frames as they were. The views of a stream stand above; below is the standard library alone.
+//! frames as they were. A page is owned, or shared with snapshots of it, which keep the bytes of their
+//! moment while the page goes on: a page that is written to the disk is snapshot first. Only an owned
+//! page is changed. The views of a stream stand above; below is the standard library alone.
 #![tactic(auto)]
 
 mod frames;
 
-pub use frames::{Frames, NoMemory, PAGE_SIZE, PAGES};
+pub use frames::{Frame, Frames, NoMemory, PAGE_SIZE, PAGES};

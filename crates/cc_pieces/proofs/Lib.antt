@@ -1,3 +1,4 @@
-pub mod Pieces
-pub mod Lines
+pub mod LineSteps
 pub mod PlainReads
+pub mod OneCaller
+pub mod Words

@@ -1,5 +1,6 @@
 -- A copied read in a good journal answers the plain file's bytes.
-use Rattle.std.proofs.Common.{◌≡◌, ℕ, Bool, List, [], ◌∷◌, ◌++◌, Some}
+use Rattle.std.specs.Prelude.{◌≡◌, ℕ, Bool, List, ◌∷◌, ◌++◌}
+use Rattle.std.specs.declared.option.Option.TheVariants.{Some}
 use Rattle.cc_entry.specs.Place.{File}
 use Rattle.cc_entry.specs.declared.call.Call.TheVariants as call
 use Rattle.cc_entry.specs.declared.reply.Reply.TheVariants as reply
@@ -7,25 +8,25 @@ use Rattle.cc_entry.specs.declared.reply.Outcome.TheVariants as outcome
 use Rattle.cc_entry.specs.declared.answer.Answer.TheVariants as answer
 use Rattle.cc_entry.specs.declared.entry.Entry.{Entry}
 use Rattle.cc_entry.specs.declared.entry.Entry.TheVariants as entry
+use Rattle.cc_script.specs.declared.script.Action.TheVariants as action
 use Rattle.cc_model.specs.Setup.{Setup}
 use Rattle.cc_model.specs.History.{history}
 use Rattle.cc_model.specs.Replies.{Reads}
 use Rattle.cc_model.specs.Legal.{IsLegal, IsLegalEntry}
 use Rattle.cc_model.specs.Good.{IsGood}
-use Rattle.cc_pieces.specs.Pieces.{Left}
+use Rattle.cc_effects.proofs.FrontLaws.{legal-tail}
+use Rattle.cc_pieces.specs.Bindings.{Binding}
+use Rattle.cc_pieces.specs.Runs.{Explains}
 
--- what stands below a legal journal's newest entries is legal
-legal-tail : (u : Setup) (later past : List Entry) → IsLegal u (later ++ past) → IsLegal u past
-unfolding IsLegal
-legal-tail u [] past legal = legal
-legal-tail u (e ∷ later) past legal = legal-tail u later past legal.1
-
-read-legal : (u : Setup) (caller nth : ℕ) (file : File) (at len : ℕ) (wait : Bool) (bytes : List ℕ) (front : List Entry) → IsLegal u (entry.Call caller nth (Some file.stream) (call.CopyRead file at len wait) (outcome.Done (reply.Read bytes)) ∷ front) → Reads (u.opening file.stream) (history front file.stream) at len (reply.Read bytes)
+read-legal : (u : Setup) (me nth : ℕ) (file : File) (at len : ℕ) (wait : Bool) (bytes : List ℕ) (front : List Entry) → IsLegal u (entry.Call me nth (Some file.stream) (call.CopyRead file at len wait) (outcome.Done (reply.Read bytes)) ∷ front) → Reads (u.opening file.stream) (history front file.stream) at len (reply.Read bytes)
 unfolding IsLegal IsLegalEntry
-read-legal u caller nth file at len wait bytes front legal = legal.0.1
+read-legal u me nth file at len wait bytes front legal = legal.0.1
 
-pub read-plain : (u : Setup) (caller : ℕ) (file : File) (at len : ℕ) (wait : Bool) (bytes : List ℕ) (during before later : List Entry) → IsGood u (later ++ (during ++ before)) → Left caller (call.CopyRead file at len wait) (answer.Given (reply.Read bytes)) during before → (nth : ℕ) × (rest : List Entry) × (during ≡ entry.Call caller nth (Some file.stream) (call.CopyRead file at len wait) (outcome.Done (reply.Read bytes)) ∷ rest) × Reads (u.opening file.stream) (history (rest ++ before) file.stream) at len (reply.Read bytes)
-read-plain u caller file at len wait bytes during before later good left =
-    let tail : IsLegal u (during ++ before) = legal-tail u later (during ++ before) good.legal in
-    let placed : IsLegal u (entry.Call caller left.nth (Some file.stream) (call.CopyRead file at len wait) (outcome.Done (reply.Read bytes)) ∷ (left.rest ++ before)) = rw left.placed at tail in
-    (left.nth, left.rest, left.placed, read-legal u caller left.nth file at len wait bytes (left.rest ++ before) placed)
+pub read-plain : (u : Setup) (limit me : ℕ) (bindings : List Binding) (file : File) (at len : ℕ) (wait : Bool) (bytes : List ℕ) (old new newer : List Entry) → IsGood u (newer ++ new) → Explains u limit me bindings (action.CopyRead file at len wait) (answer.Given (reply.Read bytes)) old new → (nth : ℕ) × (later : List Entry) × (earlier : List Entry) × (new ≡ later ++ (entry.Call me nth (Some file.stream) (call.CopyRead file at len wait) (outcome.Done (reply.Read bytes)) ∷ (earlier ++ old))) × Reads (u.opening file.stream) (history (earlier ++ old) file.stream) at len (reply.Read bytes)
+read-plain u limit me bindings file at len wait bytes old new newer good explains =
+    let done = explains.served in
+    let placed = done.placed in
+    let tail : IsLegal u new = legal-tail u newer new good.legal in
+    let grew : new ≡ placed.later ++ (entry.Call me placed.nth (Some file.stream) (call.CopyRead file at len wait) (outcome.Done (reply.Read bytes)) ∷ (done.earlier ++ old)) = rw placed.filed at placed.grew in
+    let front : IsLegal u (entry.Call me placed.nth (Some file.stream) (call.CopyRead file at len wait) (outcome.Done (reply.Read bytes)) ∷ (done.earlier ++ old)) = legal-tail u placed.later _ (rw grew at tail) in
+    (placed.nth, placed.later, done.earlier, grew, read-legal u me placed.nth file at len wait bytes (done.earlier ++ old) front)

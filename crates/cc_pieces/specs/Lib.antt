@@ -1,5 +1,13 @@
-pub mod Calls
-pub mod Pieces
+-- In the order in which the definitions build on each other.
+pub mod Bindings
+pub mod Answered
+pub mod HoldLines
+pub mod Shim
+pub mod Served
+pub mod Rooms
 pub mod Runs
+pub mod Openings
+pub mod Phases
+pub mod Explained
 pub mod Table
 pub mod Failures

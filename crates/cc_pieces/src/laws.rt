@@ -1,41 +1,82 @@
-//! How a caller's run grows, and what a read in it answers. Each function does nothing: its contract is the
-//! law.
+//! How a caller's run grows, what a read in it answers, and which holds words name. Each function does
+//! nothing: its contract is the law.
 
-ghost use Rattle.std.specs.Prelude.{◌≡◌, ℕ, Bool, Some, List, [], ◌∷◌, ◌++◌};
+ghost use Rattle.std.specs.Prelude.{◌≡◌, ℕ, Bool, Some, None, List, [], ◌∷◌, ◌++◌};
+ghost use Rattle.cc_entry.specs.Kinds.{is_map, is_pin};
+ghost use Rattle.cc_entry.specs.declared.hold.HoldKind.TheVariants as kind;
+ghost use Rattle.cc_entry.specs.declared.error.CcError.{CcError};
 ghost use Rattle.cc_entry.specs.Place.{File};
-ghost use Rattle.cc_entry.specs.declared.call.Call.{Call};
 ghost use Rattle.cc_entry.specs.declared.call.Call.TheVariants as call;
 ghost use Rattle.cc_entry.specs.declared.reply.Reply.TheVariants as reply;
 ghost use Rattle.cc_entry.specs.declared.reply.Outcome.TheVariants as outcome;
+ghost use Rattle.cc_entry.specs.declared.answer.Answer.{Answer};
 ghost use Rattle.cc_entry.specs.declared.answer.Answer.TheVariants as answer;
+ghost use Rattle.cc_entry.specs.declared.entry.Entry.{Entry};
 ghost use Rattle.cc_entry.specs.declared.entry.Entry.TheVariants as entry;
+ghost use Rattle.cc_script.specs.declared.script.Action.{Action};
+ghost use Rattle.cc_script.specs.declared.script.Action.TheVariants as action;
 ghost use Rattle.cc_model.specs.Setup.{Setup};
 ghost use Rattle.cc_model.specs.History.{history};
 ghost use Rattle.cc_model.specs.Replies.{Reads};
 ghost use Rattle.cc_model.specs.Good.{IsGood};
-ghost use Rattle.cc_entry.specs.declared.answer.Answer.{Answer};
-ghost use Rattle.cc_entry.specs.declared.entry.Entry.{Entry};
-ghost use Rattle.cc_pieces.specs.Pieces.{Left, Explains, IsIdle};
-ghost use Rattle.cc_pieces.specs.Runs.{Ran};
+ghost use Rattle.cc_effects.specs.Moments.{IsIdle};
+ghost use Rattle.cc_pieces.specs.Bindings.{Binding, bound, pinned, hold_named, OnHold};
+ghost use Rattle.cc_pieces.specs.HoldLines.{HeldReadLine, PinnedWriteLine};
+ghost use Rattle.cc_pieces.specs.Runs.{Explains, Ran, bindings_of};
 
-/// A caller's run goes on by a call that explains its answer.
+/// What explains a line explains it in every longer stretch in which the caller placed nothing else.
+pub fn pieces_stay_explained()
+    ensures after { (u : Setup) (limit me : ℕ) (bindings : List Binding) (asked : Action) (told : Answer)
+        (old new newer : List Entry) →
+        Explains u limit me bindings asked told old new → IsIdle me new newer → Explains u limit me bindings asked told old newer }
+    ensures before { (u : Setup) (limit me : ℕ) (bindings : List Binding) (asked : Action) (told : Answer)
+        (older old new : List Entry) →
+        IsIdle me older old → Explains u limit me bindings asked told old new → Explains u limit me bindings asked told older new }
+{}
+
+/// A caller's run goes on by a line that a piece explains, with the bindings that its lines so far made.
 pub fn one_more_piece()
-    ensures { (caller : ℕ) (asked : List (Call × Answer)) (call : Call) (answer : Answer) (old between new : List Entry) →
-        Ran caller asked old between → Explains caller call answer between new → Ran caller (asked ++ (call, answer) ∷ []) old new }
+    ensures { (u : Setup) (limit me : ℕ) (bindings : List Binding) (lines : List (Action × Answer)) (asked : Action) (told : Answer)
+        (old between new : List Entry) →
+        Ran u limit me bindings lines old between → Explains u limit me (bindings_of bindings lines) asked told between new →
+        Ran u limit me bindings (lines ++ (asked, told) ∷ []) old new }
 {}
 
 /// What other callers place behind a caller's run changes nothing of it.
 pub fn others_go_on()
-    ensures { (caller : ℕ) (asked : List (Call × Answer)) (old between new : List Entry) →
-        Ran caller asked old between → IsIdle caller between new → Ran caller asked old new }
+    ensures { (u : Setup) (limit me : ℕ) (bindings : List Binding) (lines : List (Action × Answer))
+        (old between new : List Entry) →
+        Ran u limit me bindings lines old between → IsIdle me between new → Ran u limit me bindings lines old new }
 {}
 
-/// In a good journal, a line that a copied read answered with bytes has its entry at the end of its piece,
-/// and the bytes are the plain file's at that place (`CcCopyRead`).
+/// In a good journal, a line that a copied read answered with bytes has its entry in its piece, and the bytes
+/// are the plain file's at that place (`CcCopyRead`).
 pub fn reads_answer_the_plain_file()
-    ensures { (u : Setup) (caller : ℕ) (file : File) (at len : ℕ) (wait : Bool) (bytes : List ℕ) (during before later : List Entry) →
-        IsGood u (later ++ (during ++ before)) → Left caller (call.CopyRead file at len wait) (answer.Given (reply.Read bytes)) during before →
-        (nth : ℕ) × (rest : List Entry)
-        × (during ≡ entry.Call caller nth (Some file.stream) (call.CopyRead file at len wait) (outcome.Done (reply.Read bytes)) ∷ rest)
-        × Reads (u.opening file.stream) (history (rest ++ before) file.stream) at len (reply.Read bytes) }
+    ensures { (u : Setup) (limit me : ℕ) (bindings : List Binding) (file : File) (at len : ℕ) (wait : Bool) (bytes : List ℕ)
+        (old new newer : List Entry) →
+        IsGood u (newer ++ new) →
+        Explains u limit me bindings (action.CopyRead file at len wait) (answer.Given (reply.Read bytes)) old new →
+        (nth : ℕ) × (later : List Entry) × (earlier : List Entry)
+        × (new ≡ later
+        ++ (entry.Call me nth (Some file.stream) (call.CopyRead file at len wait) (outcome.Done (reply.Read bytes))
+        ∷ (earlier ++ old)))
+        × Reads (u.opening file.stream) (history (earlier ++ old) file.stream) at len (reply.Read bytes) }
+{}
+
+/// A word names the hold that its line made, of the kind that the hold is now; a refused line binds nothing.
+pub fn words_name_holds()
+    ensures made { (name : List ℕ) (id : ℕ) → hold_named (bound name kind.Map (answer.Given (reply.Hold id)) []) name is_map ≡ Some id }
+    ensures of_its_kind { (name : List ℕ) (id : ℕ) → hold_named (bound name kind.Map (answer.Given (reply.Hold id)) []) name is_pin ≡ None }
+    ensures pinned { (name : List ℕ) (id : ℕ) →
+        hold_named (pinned name (answer.Given (reply.Hold id)) (bound name kind.Map (answer.Given (reply.Hold id)) [])) name is_pin ≡ Some id }
+    ensures refused { (name : List ℕ) (e : CcError) → hold_named (bound name kind.Map (answer.Refused e) []) name is_map ≡ None }
+{}
+
+/// A line on a word that names no hold of the kind that it needs is answered so, and leaves nothing.
+pub fn lines_without_hold_leave_nothing()
+    ensures read { (u : Setup) (me : ℕ) (name : List ℕ) (at len : ℕ) (told : Answer) (old new : List Entry) →
+        HeldReadLine u me [] name at len told old new → (told ≡ answer.NoHold) × IsIdle me old new }
+    ensures write { (u : Setup) (me : ℕ) (name bytes : List ℕ) (id at : ℕ) (told : Answer) (old new : List Entry) →
+        PinnedWriteLine u me (bound name kind.Map (answer.Given (reply.Hold id)) []) name at bytes told old new →
+        (told ≡ answer.NoHold) × IsIdle me old new }
 {}

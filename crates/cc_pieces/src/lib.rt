@@ -1,14 +1,20 @@
 //! How the journal of a run explains what the lines of its script were answered.
 //!
-//! Each line makes one call. The call has a piece of the journal: the entries of its caller from the
-//! moment in which the call began up to its own entry, which has the answer as its outcome. The pieces
-//! of a caller follow each other in the order of its lines, and nothing else in the journal is the
-//! caller's. Here is also the table of the pages that are dirty at the end. All of it is definitions, in
-//! specs/; the functions have no body, and their contracts are laws.
+//! Each line makes one call, or several of which each depends on the answers before it. What they left, from
+//! the moment in which the line began to that in which it was answered, is the line's piece. The pieces of a
+//! caller follow each other in the order of its lines; a word of a line that names a hold is bound by what the
+//! caller's earlier lines were answered; phases follow each other; and nothing else in the journal is the
+//! caller's. Here is also the table of the pages that are dirty at the end. All of it is definitions, in specs/,
+//! which `specs/Lib.antt` lists in the order in which they build on each other; the functions have no body, and
+//! their contracts are laws.
 //!
-//! It stands above the script, the text and what a journal means, and below the runs.
+//! What one call leaves is told by `cc_effects`, on which this crate stands, beside the script and the text; the
+//! runs stand above it.
 #![tactic(auto)]
 
 mod laws;
 
-pub use laws::{one_more_piece, others_go_on, reads_answer_the_plain_file};
+pub use laws::{
+    lines_without_hold_leave_nothing, one_more_piece, others_go_on, pieces_stay_explained,
+    reads_answer_the_plain_file, words_name_holds,
+};

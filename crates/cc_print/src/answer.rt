@@ -64,7 +64,8 @@ fn push_rows(
     streams: &[StreamLine],
     rows: &[DirtyRow],
 ) -> Result<(), AllocError>
-    ensures { OnOk result (string_bytes text.new ≡ string_bytes text.old ++ rows_text streams.now rows.now) }
+    ensures { OnOk result
+        (string_bytes text.new ≡ string_bytes text.old ++ rows_text streams.now rows.now) }
 {
     for row in rows {
         let row = row_text(alloc, streams, row)?;

@@ -16,7 +16,8 @@ fn of_file(
     file: FileId,
     behind: &str,
 ) -> Result<String, AllocError>
-    ensures { IfOk result (λ text. string_bytes text ≡ of_file verb.now streams.now file behind.now) }
+    ensures { IfOk result
+        (λ text. string_bytes text ≡ of_file verb.now streams.now file behind.now) }
 {
     let file = file_text(alloc, streams, file)?;
     format!(in alloc; "{verb} {file}{behind}")
@@ -29,7 +30,8 @@ fn of_file_span(
     file: FileId,
     span: Option<Span>,
 ) -> Result<String, AllocError>
-    ensures { IfOk result (λ text. string_bytes text ≡ of_file_span verb.now streams.now file span) }
+    ensures { IfOk result
+        (λ text. string_bytes text ≡ of_file_span verb.now streams.now file span) }
 {
     let span = span_if(alloc, span)?;
     of_file(alloc, verb, streams, file, span.as_str())
@@ -42,7 +44,8 @@ fn of_file_number(
     file: FileId,
     number: u64,
 ) -> Result<String, AllocError>
-    ensures { IfOk result (λ text. string_bytes text ≡ of_file_number verb.now streams.now file number) }
+    ensures { IfOk result
+        (λ text. string_bytes text ≡ of_file_number verb.now streams.now file number) }
 {
     let file = file_text(alloc, streams, file)?;
     format!(in alloc; "{verb} {file} {number}")
@@ -56,7 +59,8 @@ fn of_file_numbers(
     numbers: (u64, u64),
     behind: &str,
 ) -> Result<String, AllocError>
-    ensures { IfOk result (λ text. string_bytes text ≡ of_file_numbers verb.now streams.now file numbers.0 numbers.1 behind.now) }
+    ensures { IfOk result
+        (λ text. string_bytes text ≡ of_file_numbers verb.now streams.now file numbers.0 numbers.1 behind.now) }
 {
     let file = file_text(alloc, streams, file)?;
     let first = numbers.0;
@@ -72,7 +76,8 @@ fn of_file_bytes(
     at: u64,
     bytes: &Bytes,
 ) -> Result<String, AllocError>
-    ensures { IfOk result (λ text. string_bytes text ≡ of_file_bytes verb.now streams.now file at bytes.now) }
+    ensures { IfOk result
+        (λ text. string_bytes text ≡ of_file_bytes verb.now streams.now file at bytes.now) }
 {
     let file = file_text(alloc, streams, file)?;
     let bytes = bytes_text(alloc, bytes)?;
@@ -118,7 +123,8 @@ fn initialise_text(
     quota: Quota,
     temporary: bool,
 ) -> Result<String, AllocError>
-    ensures { IfOk result (λ text. string_bytes text ≡ initialise_text streams.now file sizes quota temporary) }
+    ensures { IfOk result
+        (λ text. string_bytes text ≡ initialise_text streams.now file sizes quota temporary) }
 {
     let file = file_text(alloc, streams, file)?;
     let allocation = sizes.allocation;
@@ -137,7 +143,8 @@ fn prepare_text(
     zero: bool,
     exclusive: bool,
 ) -> Result<String, AllocError>
-    ensures { IfOk result (λ text. string_bytes text ≡ prepare_text streams.now file range.0 range.1 zero exclusive) }
+    ensures { IfOk result
+        (λ text. string_bytes text ≡ prepare_text streams.now file range.0 range.1 zero exclusive) }
 {
     let file = file_text(alloc, streams, file)?;
     let at = range.0;

@@ -41,7 +41,8 @@ fn called_text(
     call: &Call,
     outcome: &Outcome,
 ) -> Result<String, AllocError>
-    ensures { IfOk result (λ text. string_bytes text ≡ called_text streams.now number.0 number.1 call.now outcome.now) }
+    ensures { IfOk result
+        (λ text. string_bytes text ≡ called_text streams.now number.0 number.1 call.now outcome.now) }
 {
     let pass = number.0;
     let nth = number.1;
@@ -72,7 +73,8 @@ fn deferred_text(
     pages: u64,
     retrying: bool,
 ) -> Result<String, AllocError>
-    ensures { IfOk result (λ text. string_bytes text ≡ deferred_text streams.now number.0 number.1 file pages retrying) }
+    ensures { IfOk result
+        (λ text. string_bytes text ≡ deferred_text streams.now number.0 number.1 file pages retrying) }
 {
     let pass = number.0;
     let id = number.1;
@@ -87,7 +89,8 @@ fn push_pages(
     streams: &[StreamLine],
     pages: &[PageId],
 ) -> Result<(), AllocError>
-    ensures { OnOk result (string_bytes text.new ≡ string_bytes text.old ++ pages_text streams.now pages.now) }
+    ensures { OnOk result
+        (string_bytes text.new ≡ string_bytes text.old ++ pages_text streams.now pages.now) }
 {
     for &page in pages {
         let page = page_text(alloc, streams, page)?;

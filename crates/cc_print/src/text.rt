@@ -22,7 +22,8 @@ fn numbered(alloc: Global, number: u64, text: &str) -> Result<String, AllocError
 }
 
 fn push_section(text: &mut String, heading: &str, lines: &str) -> Result<(), AllocError>
-    ensures { OnOk result (string_bytes text.new ≡ string_bytes text.old ++ section heading.now lines.now) }
+    ensures { OnOk result
+        (string_bytes text.new ≡ string_bytes text.old ++ section heading.now lines.now) }
 {
     if !lines.is_empty() {
         text.push_str(heading)?;
@@ -71,7 +72,8 @@ fn caller_lines(
     replies: &Replies,
     caller: u32,
 ) -> Result<String, AllocError>
-    ensures { IfOk result (λ text. string_bytes text ≡ caller_lines streams.now lines.now replies.now caller) }
+    ensures { IfOk result
+        (λ text. string_bytes text ≡ caller_lines streams.now lines.now replies.now caller) }
 {
     let mut text = String::new(alloc);
     for action in lines {
@@ -97,7 +99,8 @@ fn push_each_caller(
     replies: &Replies,
     callers: &[u32],
 ) -> Result<(), AllocError>
-    ensures { OnOk result (string_bytes text.new ≡ string_bytes text.old ++ each_caller streams.now lines.now replies.now callers.now) }
+    ensures { OnOk result
+        (string_bytes text.new ≡ string_bytes text.old ++ each_caller streams.now lines.now replies.now callers.now) }
 {
     for &caller in callers {
         let heading = caller_heading(alloc, caller)?;
@@ -115,7 +118,8 @@ fn push_callers(
     lines: &[ActionLine],
     replies: &Replies,
 ) -> Result<(), AllocError>
-    ensures { OnOk result (string_bytes text.new ≡ string_bytes text.old ++ callers_text streams.now lines.now replies.now) }
+    ensures { OnOk result
+        (string_bytes text.new ≡ string_bytes text.old ++ callers_text streams.now lines.now replies.now) }
 {
     push_each_caller(alloc, text, streams, lines, replies, &CALLERS)
 }
@@ -174,7 +178,8 @@ fn whole_text(
     journal: &[Entry],
     table: &[TableRow],
 ) -> Result<String, AllocError>
-    ensures { IfOk result (λ text. string_bytes text ≡ text_of script.now replies.now journal.now table.now) }
+    ensures { IfOk result
+        (λ text. string_bytes text ≡ text_of script.now replies.now journal.now table.now) }
 {
     let streams = script.streams.as_slice();
     let replies = Replies::new(alloc, replies)?;

@@ -101,6 +101,7 @@ place_in-holding (Some (Did pass (call.SetSizes file allocation size) reply)) h 
 place_in-holding (Some (Did pass (call.State file) reply)) h id = refl
 place_in-holding (Some (Did pass (call.Flush file span) reply)) h id = refl
 place_in-holding (Some (Did pass (call.Purge file span) reply)) h id = refl
+place_in-holding (Some (Did pass (call.Discard file span) reply)) h id = refl
 place_in-holding (Some (Did pass (call.SetLog file handle) reply)) h id = refl
 place_in-holding (Some (Did pass (call.DirtyPages handle) reply)) h id = refl
 place_in-holding (Some (Did pass (call.LsnForFile file) reply)) h id = refl

@@ -1,12 +1,14 @@
+-- Lemmas on what a reader answers after one entry more, each before those that cite it.
+pub mod ReaderSteps
 pub mod RefusalReads
 pub mod HoldReads
 pub mod BarReads
 pub mod AbsentReads
 pub mod QuotaReads
-pub mod ReaderSteps
 pub mod HoldPlaces
 pub mod TouchReads
 pub mod DirtyReads
 pub mod SizeReads
-pub mod ByteReads
 pub mod ResidentReads
+pub mod TransferSteps
+pub mod ByteReads

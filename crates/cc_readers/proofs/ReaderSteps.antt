@@ -8,7 +8,7 @@ use Rattle.std.proofs.lemmas.List.{reverse-append, take_more}
 use Rattle.cc_entry.specs.declared.entry.Entry.{Entry}
 use Rattle.cc_readers.specs.declared.events.Event.{Event}
 use Rattle.cc_model.specs.History.{Effect, Did, CameIn, WentOut, Began, Ended, Synced, effect_of, history}
-use Rattle.cc_model.specs.Acts.{Act, act_of, Opens, Closes, Resizes, Writes, Zeroes, Stores, Stamps, Looks}
+use Rattle.cc_model.specs.Acts.{Act, act_of, Opens, Closes, Resizes, Writes, Zeroes, Stores, Stamps, Discards, Looks}
 use Rattle.cc_model.specs.Objects.{objects}
 use Rattle.cc_readers.specs.Events.{event_of, event_of_act, effects, objects_after}
 
@@ -35,6 +35,7 @@ objects-event (Some (Did pass call reply)) h = go (act_of call) refl
     go (Zeroes from to) is = rw (is, objects) refl
     go (Stores page bytes) is = rw (is, objects) refl
     go (Stamps hold lsn) is = rw (is, objects) refl
+    go (Discards span) is = rw (is, objects) refl
     go Looks is = rw (is, objects) refl
 objects-event (Some (CameIn pass page from_disk)) h = refl
 objects-event (Some (WentOut pass page)) h = refl

@@ -8,7 +8,7 @@ use Rattle.cc_entry.specs.declared.error.CcError.{CcError}
 use Rattle.cc_entry.specs.declared.entry.Entry.{Entry}
 use Rattle.cc_model.specs.Setup.{Setup}
 use Rattle.cc_model.specs.History.{Effect, Did, CameIn, WentOut, Began, Ended, Synced, effect_of, history}
-use Rattle.cc_model.specs.Acts.{Act, act_of, Opens, Closes, Resizes, Writes, Zeroes, Stores, Stamps, Looks}
+use Rattle.cc_model.specs.Acts.{Act, act_of, Opens, Closes, Resizes, Writes, Zeroes, Stores, Stamps, Discards, Looks}
 use Rattle.cc_model.specs.Objects.{had_map}
 use Rattle.cc_readers.specs.Events.{event_of, event_of_act, effects}
 use Rattle.cc_entry.specs.declared.call.Call.{Call}
@@ -30,6 +30,7 @@ had-event (Some (Did pass call reply)) h = go (act_of call) refl
     go (Zeroes from to) is = rw (is, had_map) refl
     go (Stores page bytes) is = rw (is, had_map) refl
     go (Stamps hold lsn) is = rw (is, had_map) refl
+    go (Discards span) is = rw (is, had_map) refl
     go Looks is = rw (is, had_map) refl
 had-event (Some (CameIn pass page from_disk)) h = refl
 had-event (Some (WentOut pass page)) h = refl

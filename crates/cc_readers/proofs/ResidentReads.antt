@@ -1,5 +1,5 @@
 -- Whether a page of a stream is resident after an entry.
-use Rattle.std.specs.Prelude.{◌≡◌, ℕ, ◌*◌, true, false, nat_lt, List, [], ◌∷◌, ◌++◌, refl}
+use Rattle.std.specs.Prelude.{◌≡◌, ℕ, ◌*◌, true, false, not, nat_lt, List, [], ◌∷◌, ◌++◌, refl}
 use Rattle.std.specs.declared.option.Option.{Option}
 use Rattle.std.specs.declared.option.Option.TheVariants.{Some, None}
 use Rattle.std.specs.List.{cons_option}
@@ -7,8 +7,9 @@ use Rattle.std.proofs.Common.{ap, sym, ◌∙◌}
 use Rattle.cc_entry.specs.declared.entry.Entry.{Entry}
 use Rattle.cc_model.specs.Numbers.{is_among}
 use Rattle.cc_model.specs.History.{Effect, Did, CameIn, WentOut, Began, Ended, Synced, effect_of, history}
-use Rattle.cc_model.specs.Acts.{Act, act_of, Opens, Closes, Resizes, Writes, Zeroes, Stores, Stamps, Looks}
+use Rattle.cc_model.specs.Acts.{Act, act_of, Opens, Closes, Resizes, Writes, Zeroes, Stores, Stamps, Discards, Looks}
 use Rattle.cc_model.specs.Objects.{objects, truncation}
+use Rattle.cc_model.specs.Ranges.{span_has}
 use Rattle.cc_model.specs.Touches.{size_of, is_mapped}
 use Rattle.cc_model.specs.Residency.{below, moved_by, residents, is_resident}
 use Rattle.cc_readers.specs.Events.{event_of, event_of_act, effects}
@@ -33,6 +34,7 @@ moved (Did pass call reply) h p pages = go (act_of call) refl
     go (Zeroes from to) is = rw (is, moved_by) refl
     go (Stores page bytes) is = rw (is, moved_by) (among-in page p pages)
     go (Stamps hold lsn) is = rw (is, moved_by) refl
+    go (Discards span) is = rw (is, moved_by) (among-filtered (λ q. not (span_has span q)) p pages)
     go Looks is = rw (is, moved_by) refl
 moved (CameIn pass page from_disk) h p pages = among-in page p pages
 moved (WentOut pass page) h p pages = among-without page p pages

@@ -8,7 +8,7 @@ use Rattle.std.proofs.lemmas.Bool.{leb-true, leb-false}
 use Rattle.std.proofs.lemmas.List.{take-append-le, length-append, take_all, get_or_append_left, get_or_push}
 use Rattle.cc_entry.specs.declared.entry.Entry.{Entry}
 use Rattle.cc_model.specs.History.{Effect, Did, CameIn, WentOut, Began, Ended, Synced, effect_of, history}
-use Rattle.cc_model.specs.Acts.{Act, act_of, Opens, Closes, Resizes, Writes, Zeroes, Stores, Stamps, Looks}
+use Rattle.cc_model.specs.Acts.{Act, act_of, Opens, Closes, Resizes, Writes, Zeroes, Stores, Stamps, Discards, Looks}
 use Rattle.cc_model.specs.Objects.{objects, truncation}
 use Rattle.cc_model.specs.Sizes.{Sizes, resized_by}
 use Rattle.cc_model.specs.Touches.{sizes, size_of, valid_of, is_mapped}
@@ -41,6 +41,7 @@ size_by (Writes at bytes) h = refl
 size_by (Zeroes from to) h = refl
 size_by (Stores page bytes) h = refl
 size_by (Stamps hold lsn) h = refl
+size_by (Discards span) h = refl
 size_by Looks h = refl
 
 valid_by : (a : Act) (h : List Effect) → (sizes_by a h).valid ≡ valid_after (event_of_act a) h
@@ -52,6 +53,7 @@ valid_by (Writes at bytes) h = refl
 valid_by (Zeroes from to) h = refl
 valid_by (Stores page bytes) h = refl
 valid_by (Stamps hold lsn) h = refl
+valid_by (Discards span) h = refl
 valid_by Looks h = refl
 
 pub size-event : (o : Option Effect) (h : List Effect) → size_of (cons_option o h) ≡ size_after (event_of o) h

@@ -13,10 +13,11 @@ use Rattle.cc_readers.specs.declared.touches.Touching.TheVariants as touching
 use Rattle.cc_entry.specs.Pages.{has_page}
 use Rattle.cc_model.specs.Numbers.{is_among, without}
 use Rattle.cc_model.specs.History.{Effect, Did, CameIn, WentOut, Began, Ended, Synced, effect_of, history}
-use Rattle.cc_model.specs.Acts.{Act, act_of, Opens, Closes, Resizes, Writes, Zeroes, Stores, Stamps, Looks}
+use Rattle.cc_model.specs.Acts.{Act, act_of, Opens, Closes, Resizes, Writes, Zeroes, Stores, Stamps, Discards, Looks}
 use Rattle.cc_model.specs.Objects.{objects, truncation}
 use Rattle.cc_model.specs.Holds.{holds_of, hold_at}
-use Rattle.cc_model.specs.Sizes.{cut_if, touched_if, stored_range, hold_has, ended_ok}
+use Rattle.cc_model.specs.Ranges.{span_has}
+use Rattle.cc_model.specs.Sizes.{cut_if, dropped_if, touched_if, stored_range, hold_has, ended_ok}
 use Rattle.cc_model.specs.Touches.{touches, size_of}
 use Rattle.cc_readers.specs.Events.{event_of, event_of_act, effects, cut_by, touch_if, touching_of, touches_after, AreSizes}
 use Rattle.cc_laws.proofs.ActSteps.{touches_by, touches-done}
@@ -34,6 +35,10 @@ adds : (has : Bool) (lsn : Option ℕ) (ended : Bool) (h : List Effect) (p : ℕ
 adds true lsn ended h p = refl
 adds false lsn ended h p = refl
 
+drops : (has : Bool) (ended : Bool) (h : List Effect) (p : ℕ) → dropped_if has (touches ended h p) ≡ touches_after (if has then touching.Cuts else touching.Rests) ended h p
+drops true ended h p = refl
+drops false ended h p = refl
+
 by_act : (a : Act) (ended : Bool) (h : List Effect) (p : ℕ) → touches_by ended a h p ≡ touches_after (touching_of (event_of_act a) h p) ended h p
 by_act (Opens file given quota temporary) ended h p = refl
 by_act (Closes file None) ended h p = refl
@@ -43,6 +48,7 @@ by_act (Writes at bytes) ended h p = adds (has_page (record { from = at; to = at
 by_act (Zeroes from to) ended h p = adds (has_page (record { from = from; to = to }) p) None ended h p
 by_act (Stores page bytes) ended h p = adds (has_page (stored_range page (size_of h)) p) None ended h p
 by_act (Stamps hold lsn) ended h p = adds (hold_has (hold_at (holds_of h) hold) p) lsn ended h p
+by_act (Discards span) ended h p = drops (span_has span p) ended h p
 by_act Looks ended h p = refl
 
 began : (b ended : Bool) (pass page : ℕ) (h : List Effect) (p : ℕ) → (page == p) ≡ b → touches ended (Began pass page ∷ h) p ≡ touches_after (if page == p then touching.Begins else touching.Rests) ended h p

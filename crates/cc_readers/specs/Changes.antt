@@ -7,10 +7,12 @@ use Rattle.cc_readers.specs.declared.events.Event.TheVariants as event
 use Rattle.cc_entry.specs.Pages.{has_byte}
 use Rattle.cc_model.specs.History.{Effect, Did}
 use Rattle.cc_model.specs.Acts.{Act, act_of, Writes, Zeroes, Stores}
-use Rattle.cc_model.specs.Objects.{objects, truncation}
+use Rattle.cc_model.specs.Objects.{objects}
+use Rattle.cc_model.specs.Ranges.{span_has}
 use Rattle.cc_model.specs.Sizes.{stored_range}
 use Rattle.cc_model.specs.Touches.{size_of}
 use Rattle.cc_model.specs.Bytes.{page_size}
+use Rattle.cc_readers.specs.Events.{truncation_by}
 
 -- the pages of a disk whose bytes all have this value
 unfoldable pub filled : ℕ → ℕ → List ℕ
@@ -39,8 +41,9 @@ left_by (Some to) p was = nat_lt (4096 * p) to && was
 -- it was resident then
 abbrev pub resident_after : Event → List Effect → ℕ → Bool → Bool
 resident_after (event.Closes object truncate) h p was =
-    left_by (truncation (objects h) (size_of h) (record { stream = 0; object = object }) truncate) p was
+    left_by (truncation_by object truncate (objects h) (size_of h)) p was
 resident_after (event.Resizes size) h p was = left_by (Some size) p was
+resident_after (event.Discards span) h p was = not (span_has span p) && was
 resident_after (event.Stores page) h p was = page == p || was
 resident_after (event.CameIn page) h p was = page == p || was
 resident_after (event.WentOut page) h p was = not (page == p) && was

@@ -1,4 +1,4 @@
--- What an effect does to the sizes and to the dirty and resident pages of a stream, without the bytes.
+-- What an effect does to the sizes, pages and holds of a stream, without the bytes.
 use Rattle.std.specs.Prelude.{◌≡◌, ℕ, suc, ◌+◌, ◌*◌, ◌<◌, ◌≤◌, ◌==◌, ◌&&◌, nat_le, Bool, true, List, [], ◌∷◌, length, reverse, take, min, max, slice_index, if◌then◌else◌}
 use Rattle.std.specs.declared.option.Option.{Option}
 use Rattle.std.specs.declared.option.Option.TheVariants.{Some, None}
@@ -14,10 +14,11 @@ use Rattle.cc_readers.specs.declared.touches.Touching.{Touching}
 use Rattle.cc_readers.specs.declared.touches.Touching.TheVariants as touching
 use Rattle.cc_entry.specs.Pages.{has_page, pages_of}
 use Rattle.cc_model.specs.Numbers.{without}
-use Rattle.cc_model.specs.History.{Effect, Did, CameIn, WentOut, Began, Ended, Synced, history}
-use Rattle.cc_model.specs.Acts.{Act, act_of, Opens, Closes, Resizes, Writes, Zeroes, Stores, Stamps, Looks}
+use Rattle.cc_model.specs.History.{Effect, Did, CameIn, WentOut, Began, Ended, Synced, effect_of, history}
+use Rattle.cc_model.specs.Acts.{Act, act_of, Opens, Closes, Resizes, Writes, Zeroes, Stores, Stamps, Discards, Looks}
 use Rattle.cc_model.specs.Objects.{objects, truncation}
 use Rattle.cc_model.specs.Holds.{Hold, holds_of, id_of, hold_at}
+use Rattle.cc_model.specs.Ranges.{span_has}
 use Rattle.cc_model.specs.Sizes.{Touch, stored_range, hold_has, hold_pages, ended_ok}
 use Rattle.cc_model.specs.Touches.{touches, size_of, valid_of, is_mapped}
 
@@ -30,6 +31,7 @@ event_of_act (Writes at bytes) = event.Changes at (at + length bytes)
 event_of_act (Zeroes from to) = event.Changes from to
 event_of_act (Stores page bytes) = event.Stores page
 event_of_act (Stamps hold lsn) = event.Stamps hold lsn
+event_of_act (Discards span) = event.Discards span
 event_of_act Looks = event.Rests
 
 -- what an effect does, where there is one
@@ -41,6 +43,15 @@ event_of (Some (WentOut pass page)) = event.WentOut page
 event_of (Some (Began pass page)) = event.Began page
 event_of (Some (Ended pass page how)) = event.Ended page (ended_ok how)
 event_of (Some (Synced pass how)) = event.Rests
+
+-- what an entry does to a stream
+abbrev pub event_in : Entry → ℕ → Event
+event_in e s = event_of (effect_of e s)
+
+-- where the bytes end that an event changes, 0 where it changes none
+abbrev pub end_of : Event → ℕ
+end_of (event.Changes from to) = to
+end_of other = 0
 
 -- the effects on a stream of a journal that has its oldest entry first; they are newest first
 abbrev pub effects : List Entry → ℕ → List Effect
@@ -84,6 +95,10 @@ place_after (holding.Repins made named) holds id =
 place_after (holding.Ends ended) holds id = if ended == id then None else place_in holds id
 place_after holding.Rests holds id = place_in holds id
 
+-- the size that an uninitialise of the object sets, where it sets one, given the objects and the size
+abbrev pub truncation_by : ℕ → Option ℕ → List ℕ → ℕ → Option ℕ
+truncation_by object truncate opened size = truncation opened size (record { stream = 0; object = object }) truncate
+
 -- what a size step does to a page, where there is one
 abbrev pub cut_by : Option ℕ → ℕ → Touching
 cut_by None p = touching.Rests
@@ -96,13 +111,14 @@ touch_if has lsn = if has then touching.Touches lsn else touching.Rests
 -- what an event does to the touches of a page that are unwritten, given the stream before it
 abbrev pub touching_of : Event → List Effect → ℕ → Touching
 touching_of (event.Closes object truncate) h p =
-    cut_by (truncation (objects h) (size_of h) (record { stream = 0; object = object }) truncate) p
+    cut_by (truncation_by object truncate (objects h) (size_of h)) p
 touching_of (event.Resizes size) h p = cut_by (Some size) p
 touching_of (event.Changes from to) h p = touch_if (has_page (record { from = from; to = to }) p) None
 touching_of (event.Stores page) h p = touch_if (has_page (stored_range page (size_of h)) p) None
 touching_of (event.Stamps hold lsn) h p = touch_if (hold_has (hold_at (holds_of h) hold) p) lsn
+touching_of (event.Discards span) h p = if span_has span p then touching.Cuts else touching.Rests
 touching_of (event.Began page) h p = if page == p then touching.Begins else touching.Rests
-touching_of (event.Ended page good) h p = if page == p && good then touching.Ends else touching.Rests
+touching_of (event.Ended page ok) h p = if page == p && ok then touching.Ends else touching.Rests
 touching_of other h p = touching.Rests
 
 -- the unwritten touches after that
@@ -124,7 +140,7 @@ touched_pages other h = []
 abbrev pub size_after : Event → List Effect → ℕ
 size_after (event.Opens object size valid) h = if is_mapped h then size_of h else size
 size_after (event.Closes object truncate) h =
-    elim (truncation (objects h) (size_of h) (record { stream = 0; object = object }) truncate) [ None ↦ size_of h | Some to ↦ to ]
+    elim (truncation_by object truncate (objects h) (size_of h)) [ None ↦ size_of h | Some to ↦ to ]
 size_after (event.Resizes size) h = size
 size_after other h = size_of h
 
@@ -132,7 +148,7 @@ size_after other h = size_of h
 abbrev pub valid_after : Event → List Effect → ℕ
 valid_after (event.Opens object size valid) h = if is_mapped h then valid_of h else valid
 valid_after (event.Closes object truncate) h =
-    elim (truncation (objects h) (size_of h) (record { stream = 0; object = object }) truncate) [ None ↦ valid_of h | Some to ↦ min (valid_of h) to ]
+    elim (truncation_by object truncate (objects h) (size_of h)) [ None ↦ valid_of h | Some to ↦ min (valid_of h) to ]
 valid_after (event.Resizes size) h = min (valid_of h) size
 valid_after (event.Changes from to) h = max (valid_of h) to
 valid_after (event.Stores page) h = max (valid_of h) (stored_range page (size_of h)).to

@@ -2,12 +2,15 @@
 use Rattle.std.specs.Prelude.{ℕ, ◌+◌, ◌==◌, Bool, true, false, not, List, [], ◌∷◌, length, map}
 use Rattle.std.specs.declared.option.Option.{Option}
 use Rattle.std.specs.declared.option.Option.TheVariants.{Some, None}
+use Rattle.std.specs.Option.{option_map}
 use Rattle.std.specs.List.{filter}
 use Rattle.cc_entry.specs.Place.{File, Range}
 use Rattle.cc_entry.specs.declared.call.Call.{Call}
 use Rattle.cc_entry.specs.declared.call.Call.TheVariants as call
+use Rattle.cc_entry.specs.declared.hold.HoldKind.{HoldKind}
 use Rattle.cc_entry.specs.declared.hold.HoldKind.TheVariants as kind
 use Rattle.cc_readers.specs.declared.holds.Reach.{Reach}
+use Rattle.cc_readers.specs.declared.holds.Owed.{Owed}
 use Rattle.cc_readers.specs.declared.holds.OpenHold.{OpenHold}
 use Rattle.cc_readers.specs.declared.holds.Change.{Change}
 use Rattle.cc_readers.specs.declared.holds.Change.TheVariants as change
@@ -17,6 +20,14 @@ use Rattle.cc_model.specs.Holds.{Hold, hold_at, changed_at, made, repinned, held
 -- the range of a reader's
 abbrev pub range_of_reach : Reach → Range
 range_of_reach reach = record { from = reach.from; to = reach.to }
+
+-- the same, where there is one
+abbrev pub range_if : Option Reach → Option Range
+range_if reach = option_map range_of_reach reach
+
+-- the range of bytes for which a stamp is owed
+abbrev pub range_owed : Owed → Range
+range_owed owed = record { from = owed.at; to = owed.at + owed.len }
 
 -- the hold that a reader's stands for
 abbrev pub hold_of : OpenHold → Hold
@@ -28,7 +39,24 @@ hold_of it = record {
   len = it.len;
   kind = it.kind;
   exclusive = it.exclusive;
-  owed = map range_of_reach it.owed.items;
+  owed = map range_owed it.owed.items;
+}
+
+-- the holds that a reader's stand for
+abbrev pub holds_in : List OpenHold → List Hold
+holds_in holds = map hold_of holds
+
+-- a hold that owes no stamp, given its file object, its place and its length
+abbrev pub new_hold : ℕ → ℕ → File × ℕ × ℕ → HoldKind → Bool → Hold
+new_hold id pass place its_kind exclusive = record {
+  id = id;
+  pass = pass;
+  file = place.0;
+  at = place.1;
+  len = place.2;
+  kind = its_kind;
+  exclusive = exclusive;
+  owed = [];
 }
 
 -- the holds that one stands for, where there is one
@@ -43,7 +71,7 @@ spot_of hold = (hold.file, hold.at, hold.len)
 -- the same holds with those of this id changed
 abbrev pub changed_by : Change → ℕ → List Hold → List Hold
 changed_by (change.Pins exclusive) id holds = changed_at id (λ it. record it { kind = kind.Pin; exclusive = exclusive }) holds
-changed_by (change.Owes from to) id holds = changed_at id (λ it. record it { owed = record { from = from; to = to } ∷ it.owed }) holds
+changed_by (change.Owes at len) id holds = changed_at id (λ it. record it { owed = record { from = at; to = at + len } ∷ it.owed }) holds
 changed_by change.Stamps id holds = changed_at id (λ it. record it { owed = [] }) holds
 changed_by change.Ends id holds = filter (λ it. not (it.id == id)) holds
 
@@ -69,7 +97,7 @@ made_by pass other id = pin_by pass other id
 -- the other holds after it: those before it, as it changed them, and a repin of one
 abbrev pub changed_after : ℕ → Call → ℕ → List Hold → List Hold
 changed_after pass (call.PinMapped hold exclusive) id holds = changed_by (change.Pins exclusive) hold holds
-changed_after pass (call.PinnedWrite hold at bytes) id holds = changed_by (change.Owes at (at + length bytes)) hold holds
+changed_after pass (call.PinnedWrite hold at bytes) id holds = changed_by (change.Owes at (length bytes)) hold holds
 changed_after pass (call.SetDirty hold lsn) id holds = changed_by change.Stamps hold holds
 changed_after pass (call.EndHold hold) id holds = changed_by change.Ends hold holds
 changed_after pass (call.Repin hold) id holds = repinned id pass (hold_at holds hold) holds

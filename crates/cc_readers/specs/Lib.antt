@@ -1,3 +1,4 @@
+-- What the contracts of the readers cite.
 pub mod Events
 pub mod MapReads
 pub mod HoldReads
@@ -6,3 +7,5 @@ pub mod QuotaReads
 pub mod ViewReads
 pub mod RefusalReads
 pub mod Changes
+pub mod TransferReads
+pub mod ByteOrigins

@@ -1,5 +1,5 @@
--- The reasons for a refusal in two parts, in their order.
-use Rattle.std.specs.Prelude.{List, [], ◌∷◌}
+-- The reasons for a refusal in two parts, in their order, and when a reader's refusal is exact.
+use Rattle.std.specs.Prelude.{◌≡◌, ℕ, ◌<◌, ◌^◌, List, [], ◌∷◌}
 use Rattle.std.specs.declared.option.Option.{Option}
 use Rattle.cc_entry.specs.declared.call.Call.{Call}
 use Rattle.cc_entry.specs.declared.error.CcError.{CcError}
@@ -13,6 +13,8 @@ use Rattle.cc_model.specs.Ranges.{range_of}
 use Rattle.cc_model.specs.Reasons.{not_cached, cached_file, too_long, view_boundary, bad_sizes, bad_granularity, no_log, beyond_size, beyond_valid}
 use Rattle.cc_model.specs.Conflicts.{held, busy}
 use Rattle.cc_model.specs.Views.{viewed, no_views, no_vacbs, not_resident}
+use Rattle.cc_model.specs.Discards.{unsettled, grown}
+use Rattle.cc_model.specs.Refusals.{first_of, refusal}
 
 -- those in the arguments of a call, and in the sizes, maps and logs that it meets
 abbrev pub argument_reasons : Setup → List Effect → Call → List (Option CcError)
@@ -27,12 +29,28 @@ argument_reasons u h call =
     ∷ beyond_valid (valid_of h) call
     ∷ []
 
--- those in open holds, view blocks, the pool of views and resident pages
+-- by the view blocks of a call's range
+abbrev pub no_views_for : List Effect → Call → Option CcError
+no_views_for h call = no_views h (viewed h call (range_of (size_of h) call))
+
+-- those in open holds, view blocks, the pool of views, resident pages and images
 abbrev pub use_reasons : List Entry → List Effect → Call → List (Option CcError)
 use_reasons past h call =
     held h call
     ∷ busy (holds_of h) call
-    ∷ no_views h (viewed h call (range_of (size_of h) call))
+    ∷ no_views_for h call
     ∷ no_vacbs past h call
     ∷ not_resident h call
+    ∷ unsettled h call
+    ∷ grown h call
     ∷ []
+
+-- the first reason of the first part, where there are so many logs and the valid data length is below 2 ^ 64
+abbrev pub IsFirstInArguments : ℕ → List Effect → Call → Option CcError → Type 0
+IsFirstInArguments logs h call refused =
+    (u : Setup) → u.logs ≡ logs → valid_of h < 2 ^ 64 → refused ≡ first_of (argument_reasons u h call)
+
+-- the refusal, likewise
+abbrev pub IsRefusal : ℕ → List Entry → List Effect → Call → Option CcError → Type 0
+IsRefusal logs past h call refused =
+    (u : Setup) → u.logs ≡ logs → valid_of h < 2 ^ 64 → refused ≡ refusal u past h call

@@ -1,15 +1,15 @@
 //! Reasons for a refusal that lie in the view blocks of open holds and of a range.
 
-ghost use Rattle.std.specs.Prelude.{◌≡◌, ◌++◌, map, nat_eq, nat_lt, IfOk};
+ghost use Rattle.std.specs.Prelude.{◌≡◌, ◌+◌, ◌≤◌, ◌^◌, ◌++◌, nat_eq, IfOk};
+ghost use Rattle.std.specs.List.{range_with_len};
 ghost use Rattle.std.specs.Set.{is_member, unique_keys};
 ghost use Rattle.cc_entry.specs.Pages.{blocks_of};
 ghost use Rattle.cc_model.specs.Holds.{held_blocks};
 ghost use Rattle.cc_model.specs.Views.{active_blocks, needed_blocks};
-ghost use Rattle.cc_model.specs.Reasons.{refuse_if};
-ghost use Rattle.cc_readers.specs.HoldReads.{hold_of, range_of_reach};
+ghost use Rattle.cc_readers.specs.ViewReads.{over_quota};
+ghost use Rattle.cc_readers.specs.HoldReads.{holds_in, range_of_reach};
 
 use crate::holds::{OpenHold, Reach};
-use crate::pins::pages_before;
 use crate::reasons::refuse;
 use cc_entry::{CcError, NoMemory};
 use std::alloc::Global;
@@ -23,12 +23,30 @@ fn blocks_before(alloc: Global, range: Reach, after: Vec<u128>) -> Result<Vec<u1
     }
     let first = range.from / 262_144;
     let count = (range.to - 1) / 262_144 + 1 - first;
-    pages_before(alloc, first, count, after)
+    numbers_before(alloc, first, count, after)
+}
+
+// So many numbers from a first one on, before others.
+fn numbers_before(
+    alloc: Global,
+    first: u128,
+    count: u128,
+    after: Vec<u128>,
+) -> Result<Vec<u128>, NoMemory>
+    requires { first + count ≤ 2 ^ 127 }
+    ensures { IfOk result (λ numbers. numbers.items ≡ range_with_len first count ++ after.items) }
+{
+    if count == 0 {
+        return Ok(after);
+    }
+    let mut numbers = numbers_before(alloc, first + 1, count - 1, after)?;
+    numbers.insert(0, first)?;
+    Ok(numbers)
 }
 
 // The view blocks in which open holds have bytes, before others.
 fn held_before(alloc: Global, holds: &[OpenHold], after: Vec<u128>) -> Result<Vec<u128>, NoMemory>
-    ensures { IfOk result (λ blocks. blocks.items ≡ held_blocks (map hold_of holds.now) ++ after.items) }
+    ensures { IfOk result (λ blocks. blocks.items ≡ held_blocks (holds_in holds.now) ++ after.items) }
 {
     let Some((first, rest)) = holds.split_first() else {
         return Ok(after);
@@ -69,7 +87,7 @@ fn distinct(alloc: Global, blocks: &[u128]) -> Result<Vec<u128>, NoMemory>
 
 // How many distinct blocks open holds have.
 fn active(alloc: Global, holds: &[OpenHold]) -> Result<u64, NoMemory>
-    ensures { IfOk result (λ count. count ≡ active_blocks (map hold_of holds.now)) }
+    ensures { IfOk result (λ count. count ≡ active_blocks (holds_in holds.now)) }
 {
     let blocks = held_before(alloc, holds, Vec::new(alloc))?;
     let each = distinct(alloc, &blocks)?;
@@ -78,7 +96,7 @@ fn active(alloc: Global, holds: &[OpenHold]) -> Result<u64, NoMemory>
 
 // How many they have together with a range.
 fn needed(alloc: Global, holds: &[OpenHold], range: Reach) -> Result<u64, NoMemory>
-    ensures { IfOk result (λ count. count ≡ needed_blocks (map hold_of holds.now) (range_of_reach range)) }
+    ensures { IfOk result (λ count. count ≡ needed_blocks (holds_in holds.now) (range_of_reach range)) }
 {
     let own = blocks_before(alloc, range, Vec::new(alloc))?;
     let blocks = held_before(alloc, holds, own)?;
@@ -93,7 +111,7 @@ pub fn by_quota(
     quota: u8,
     range: Reach,
 ) -> Result<Option<CcError>, NoMemory>
-    ensures { IfOk result (λ refused. refused ≡ refuse_if (nat_lt quota (needed_blocks (map hold_of holds.now) (range_of_reach range))) (CcError.NoViews (active_blocks (map hold_of holds.now)) quota)) }
+    ensures { IfOk result (λ refused. refused ≡ over_quota (holds_in holds.now) quota (range_of_reach range)) }
 {
     let active = active(alloc, holds)?;
     let needed = needed(alloc, holds, range)?;

@@ -1,20 +1,42 @@
-//! The bytes of a stream over a disk whose bytes all have one value, and what a read answers.
+//! The bytes of a stream over a disk whose opening bytes all have one value, and what a read answers.
 
 ghost use Rattle.std.specs.Prelude.{◌≡◌, ◌+◌, IfOk, length, slice_index};
 ghost use Rattle.cc_model.specs.Acts.{act_of, Writes, Zeroes, Stores};
-ghost use Rattle.cc_model.specs.Bytes.{content, byte_of, answer};
+ghost use Rattle.cc_model.specs.Bytes.{byte_of, answer};
+ghost use Rattle.cc_readers.specs.ByteOrigins.{byte_from, look};
 ghost use Rattle.cc_readers.specs.Changes.{filled, change_by, change_of};
 ghost use Rattle.cc_readers.specs.Events.{effects, AreSizes};
 ghost use Rattle.cc_model.specs.History.{effect_of};
 ghost use Rattle.cc_entry.specs.Pages.{has_byte};
 ghost use Rattle.cc_model.specs.Touches.{valid_of};
 
+use crate::dirty::is_unwritten;
+use crate::events::{Event, event_on};
 use crate::sizes::{sizes, valid_with};
-use crate::touches::stored_end;
+use crate::touches::{span_has, stored_end};
+use crate::transfers::ended_from;
 use cc_entry::{Bytes, Call, Entry, NoMemory, Outcome, StreamId};
 use std::alloc::Global;
 
-/// The byte at a place, over a disk that holds `fill` everywhere.
+/// Where a byte comes from.
+#[derive(Clone, Copy)]
+pub enum Origin {
+    /// What the last change or discard that covers it gave.
+    Changes,
+    /// The disk, where `ended` says whether the page's transfer ended ok later.
+    Disk { ended: bool },
+}
+
+/// What an entry tells of a byte that is looked for.
+#[derive(Clone, Copy)]
+pub enum Found {
+    /// Its value.
+    Byte(u8),
+    /// It is the one that this origin has after the entries before.
+    Before(Origin),
+}
+
+/// The byte at a place, over a disk that opened with `fill` everywhere.
 pub fn byte(
     alloc: Global,
     journal: &[Entry],
@@ -26,10 +48,10 @@ pub fn byte(
 {
     let found = sizes(alloc, journal, stream)?;
     let valid = valid_with(alloc, journal, &found, stream)?;
-    Ok(byte_at(journal, &found, valid, stream, fill, at))
+    byte_at(alloc, journal, &found, valid, stream, fill, at)
 }
 
-/// What a read of `len` bytes from `at` on answers, over a disk that holds `fill` everywhere.
+/// What a read of `len` bytes from `at` on answers, over a disk that opened with `fill` everywhere.
 pub fn answer(
     alloc: Global,
     journal: &[Entry],
@@ -46,36 +68,127 @@ pub fn answer(
     let end = at.saturating_add(len).min(size);
     let mut bytes = Vec::new(alloc);
     for i in at..end {
-        let byte = byte_at(journal, &found, valid, stream, fill, i);
+        let byte = byte_at(alloc, journal, &found, valid, stream, fill, i)?;
         bytes.push(byte)?;
     }
     Ok(bytes)
 }
 
 // The byte at a place, given the sizes and the valid data length.
-fn byte_at(journal: &[Entry], sizes: &[u64], valid: u128, stream: StreamId, fill: u8, at: u64) -> u8
+fn byte_at(
+    alloc: Global,
+    journal: &[Entry],
+    sizes: &[u64],
+    valid: u128,
+    stream: StreamId,
+    fill: u8,
+    at: u64,
+) -> Result<u8, NoMemory>
     requires sizes { AreSizes sizes.now journal.now stream }
     requires valid { valid ≡ valid_of (effects journal.now stream) }
-    ensures { result ≡ byte_of (filled fill) (effects journal.now stream) at }
+    ensures { IfOk result (λ byte. byte ≡ byte_of (filled fill) (effects journal.now stream) at) }
 {
     if u128::from(at) < valid {
-        content_at(journal, sizes, stream, fill, at)
+        byte_from(alloc, journal, sizes, stream, fill, Origin::Changes, at)
     } else {
-        0
+        Ok(0)
     }
 }
 
-// What the last change of a byte gave it.
-fn content_at(journal: &[Entry], sizes: &[u64], stream: StreamId, fill: u8, at: u64) -> u8
+// The byte that an origin has after a journal.
+fn byte_from(
+    alloc: Global,
+    journal: &[Entry],
+    sizes: &[u64],
+    stream: StreamId,
+    fill: u8,
+    origin: Origin,
+    at: u64,
+) -> Result<u8, NoMemory>
     requires { AreSizes sizes.now journal.now stream }
-    ensures { result ≡ content (filled fill) (effects journal.now stream) at }
+    ensures { IfOk result (λ byte. byte ≡ byte_from origin (filled fill) (effects journal.now stream) at) }
 {
     let Some((last, rest)) = journal.split_last() else {
-        return fill;
+        return Ok(fill);
     };
-    match change_on(last, stream, sizes[rest.len()], at) {
-        Some(byte) => byte,
-        None => content_at(rest, sizes, stream, fill, at),
+    match look(alloc, last, rest, sizes, stream, origin, at)? {
+        Found::Byte(byte) => Ok(byte),
+        Found::Before(origin) => byte_from(alloc, rest, sizes, stream, fill, origin, at),
+    }
+}
+
+// What an entry tells of the byte that an origin has, given the entries before it.
+fn look(
+    alloc: Global,
+    last: &Entry,
+    rest: &[Entry],
+    sizes: &[u64],
+    stream: StreamId,
+    origin: Origin,
+    at: u64,
+) -> Result<Found, NoMemory>
+    requires { AreSizes sizes.now rest.now stream }
+    ensures { IfOk result (λ found. found ≡ look origin (effect_of last.now stream) (effects rest.now stream) at) }
+{
+    match origin {
+        Origin::Changes => look_in_changes(alloc, last, rest, sizes, stream, at),
+        Origin::Disk { ended } => look_on_disk(alloc, last, rest, sizes, stream, ended, at),
+    }
+}
+
+// The same, looking for what the last change or discard gave.
+fn look_in_changes(
+    alloc: Global,
+    last: &Entry,
+    rest: &[Entry],
+    sizes: &[u64],
+    stream: StreamId,
+    at: u64,
+) -> Result<Found, NoMemory>
+    requires { AreSizes sizes.now rest.now stream }
+    ensures { IfOk result (λ found. found ≡ look Origin.Changes (effect_of last.now stream) (effects rest.now stream) at) }
+{
+    match event_on(last, stream) {
+        Event::Discards { span } => {
+            let page = u128::from(at / 4096);
+            let dirty = is_unwritten(alloc, rest, sizes, stream, page, false)?;
+            if span_has(span, page) && dirty {
+                Ok(Found::Before(Origin::Disk { ended: false }))
+            } else {
+                Ok(Found::Before(Origin::Changes))
+            }
+        }
+        _ => match change_on(last, stream, sizes[rest.len()], at) {
+            Some(byte) => Ok(Found::Byte(byte)),
+            None => Ok(Found::Before(Origin::Changes)),
+        },
+    }
+}
+
+// The same, looking for what the disk holds, where `ended` says whether the page's transfer ended ok after
+// the entry.
+fn look_on_disk(
+    alloc: Global,
+    last: &Entry,
+    rest: &[Entry],
+    sizes: &[u64],
+    stream: StreamId,
+    ended: bool,
+    at: u64,
+) -> Result<Found, NoMemory>
+    requires { AreSizes sizes.now rest.now stream }
+    ensures { IfOk result (λ found. found ≡ look (Origin.Disk ended) (effect_of last.now stream) (effects rest.now stream) at) }
+{
+    match ended_from(event_on(last, stream), at / 4096, ended) {
+        Some(ended) => Ok(Found::Before(Origin::Disk { ended })),
+        None => {
+            let valid = valid_with(alloc, rest, sizes, stream)?;
+            if u128::from(at) < valid {
+                Ok(Found::Before(Origin::Changes))
+            } else {
+                Ok(Found::Byte(0))
+            }
+        }
     }
 }
 
@@ -149,6 +262,7 @@ fn change(call: &Call, size: u64, i: u64) -> Option<u8>
         | Call::State { .. }
         | Call::Flush { .. }
         | Call::Purge { .. }
+        | Call::Discard { .. }
         | Call::SetLog { .. }
         | Call::DirtyPages { .. }
         | Call::LsnForFile { .. }

@@ -2,30 +2,29 @@
 
 ghost use Rattle.std.specs.Prelude.{◌≡◌, map, IfOk};
 ghost use Rattle.std.specs.List.{list_any};
-ghost use Rattle.std.specs.Option.{option_map};
 ghost use Rattle.cc_entry.specs.Pages.{pages_of, has_page};
 ghost use Rattle.cc_model.specs.Holds.{holds_of, least_id, lesser};
 ghost use Rattle.cc_model.specs.Ranges.{span_has};
 ghost use Rattle.cc_entry.specs.Kinds.{is_pin};
 ghost use Rattle.cc_readers.specs.Events.{effects};
-ghost use Rattle.cc_model.specs.Conflicts.{held, held_by};
-ghost use Rattle.cc_readers.specs.HoldReads.{hold_of, range_of_reach};
+ghost use Rattle.cc_model.specs.Conflicts.{has_page_of, held, held_by};
+ghost use Rattle.cc_readers.specs.HoldReads.{hold_of, range_of_reach, range_owed, holds_in, range_if};
 ghost use Rattle.cc_readers.specs.BarReads.{bars_by};
 
-use crate::holds::{OpenHold, Reach, open_holds};
+use crate::holds::{OpenHold, Owed, Reach, open_holds};
 use crate::maps::{open_objects, others};
 use crate::touches::range_has;
 use cc_entry::{Call, CcError, Entry, FileId, HoldKind, NoMemory, Span, StreamId};
 use std::alloc::Global;
 
 /// What an open hold may be in the way of.
-#[derive(Clone, Copy, Debug, PartialEq, Eq)]
+#[derive(Clone, Copy)]
 pub enum Bar {
     /// The end of the map.
     Any,
     /// A size.
     EndsPast { size: u64 },
-    /// A purge of a span, or of the whole stream.
+    /// A purge or a discard of a span, or of the whole stream.
     Purge { span: Option<Reach> },
     /// A pin of a range.
     Pin { range: Reach, exclusive: bool },
@@ -33,9 +32,9 @@ pub enum Bar {
     Write { page: u128 },
 }
 
-/// Whether a range has bytes in a page of a span, where none is the whole stream.
-pub fn shares_page(span: Option<Reach>, range: Reach) -> bool
-    ensures { result ≡ list_any (span_has (option_map range_of_reach span)) (pages_of (range_of_reach range)) }
+// Whether a range has bytes in a page of another one, where none is the whole stream.
+fn shares_page(span: Option<Reach>, range: Reach) -> bool
+    ensures { result ≡ list_any (span_has (range_if span)) (pages_of (range_of_reach range)) }
 {
     if range.from >= range.to {
         return false;
@@ -51,9 +50,9 @@ pub fn shares_page(span: Option<Reach>, range: Reach) -> bool
     false
 }
 
-/// Whether a page is of a span, where none is the whole stream.
+/// Whether a page is of a range, where none is the whole stream.
 pub fn has(span: Option<Reach>, page: u128) -> bool
-    ensures { result ≡ span_has (option_map range_of_reach span) page }
+    ensures { result ≡ span_has (range_if span) page }
 {
     match span {
         Some(span) => range_has(span.from, span.to, page),
@@ -61,14 +60,15 @@ pub fn has(span: Option<Reach>, page: u128) -> bool
     }
 }
 
-// Whether one of the ranges has the page.
-fn have_page(ranges: &[Reach], page: u128) -> bool
-    ensures { result ≡ list_any (λ r. has_page r page) (map range_of_reach ranges.now) }
+// Whether some bytes for which a stamp is owed are in the page.
+fn have_page(owed: &[Owed], page: u128) -> bool
+    ensures { result ≡ list_any (λ r. has_page r page) (map range_owed owed.now) }
 {
-    let Some((first, rest)) = ranges.split_first() else {
+    let Some((first, rest)) = owed.split_first() else {
         return false;
     };
-    if range_has(first.from, first.to, page) {
+    let from = u128::from(first.at);
+    if range_has(from, from + u128::from(first.len), page) {
         return true;
     }
     have_page(rest, page)
@@ -105,7 +105,7 @@ fn bars(hold: &OpenHold, bar: Bar) -> bool
 
 /// The least id of the holds that are in the way.
 pub fn least_in_the_way(holds: &[OpenHold], bar: Bar) -> Option<u64>
-    ensures { result ≡ least_id (bars_by bar) (map hold_of holds.now) }
+    ensures { result ≡ least_id (bars_by bar) (holds_in holds.now) }
 {
     let Some((first, rest)) = holds.split_first() else {
         return None;
@@ -138,9 +138,9 @@ fn held_at(id: Option<u64>) -> Option<CcError>
     }
 }
 
-/// The span of a call.
+/// The range of a span.
 pub fn reach_of(span: Option<Span>) -> Option<Reach>
-    ensures { option_map range_of_reach result ≡ span }
+    ensures { range_if result ≡ span }
 {
     match span {
         Some(span) => Some(Reach {
@@ -151,6 +151,14 @@ pub fn reach_of(span: Option<Span>) -> Option<Reach>
     }
 }
 
+// The refusal of a purge or a discard by a hold that has a page of its span.
+fn by_span(holds: &[OpenHold], span: Option<Span>) -> Option<CcError>
+    ensures { result ≡ held_by (least_id (has_page_of span) (holds_in holds.now)) }
+{
+    let span = reach_of(span);
+    held_at(least_in_the_way(holds, Bar::Purge { span }))
+}
+
 // The refusal of an uninitialise of the last object, while a hold is open.
 fn by_last(
     alloc: Global,
@@ -159,7 +167,7 @@ fn by_last(
     holds: &[OpenHold],
     file: FileId,
 ) -> Result<Option<CcError>, NoMemory>
-    requires { map hold_of holds.now ≡ holds_of (effects journal.now stream) }
+    requires { holds_in holds.now ≡ holds_of (effects journal.now stream) }
     ensures { IfOk result (λ refused. refused ≡ held (effects journal.now stream) (Call.Uninitialise file None)) }
 {
     let found = open_objects(alloc, journal, stream)?;
@@ -170,7 +178,7 @@ fn by_last(
     Ok(held_at(least_in_the_way(holds, Bar::Any)))
 }
 
-/// The refusal of a call that open holds bar: a set of sizes, the last uninitialise, a purge.
+/// The refusal of a call that open holds bar: a set of sizes, the last uninitialise, a purge, a discard.
 pub fn by_holds(
     alloc: Global,
     journal: &[Entry],
@@ -185,10 +193,8 @@ pub fn by_holds(
             Ok(held_at(least_in_the_way(&holds, Bar::EndsPast { size: *size })))
         }
         Call::Uninitialise { file, .. } => by_last(alloc, journal, stream, &holds, *file),
-        Call::Purge { span, .. } => {
-            let span = reach_of(*span);
-            Ok(held_at(least_in_the_way(&holds, Bar::Purge { span })))
-        }
+        Call::Purge { span, .. } => Ok(by_span(&holds, *span)),
+        Call::Discard { span, .. } => Ok(by_span(&holds, *span)),
         _ => Ok(None),
     }
 }

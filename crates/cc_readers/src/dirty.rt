@@ -1,21 +1,20 @@
-//! Which pages of a stream are dirty, given its sizes before each entry.
+//! Which pages of a stream are dirty, given its sizes before each entry, and whether it has a map.
 
-ghost use Rattle.std.specs.Prelude.{◌≡◌, not, false, IfOk};
-ghost use Rattle.std.specs.List.{list_any};
-ghost use Rattle.cc_entry.specs.Pages.{pages_of};
+ghost use Rattle.std.specs.Prelude.{◌≡◌, ◌++◌, not, IfOk};
+ghost use Rattle.std.specs.List.{list_any, filter};
 ghost use Rattle.cc_model.specs.Numbers.{is_empty};
-ghost use Rattle.cc_model.specs.Touches.{touches, touched, is_dirty, is_mapped};
-ghost use Rattle.cc_model.specs.History.{effect_of};
-ghost use Rattle.cc_readers.specs.Events.{effects, event_of, touched_pages, AreSizes};
+ghost use Rattle.cc_model.specs.Touches.{touches, touched, is_dirty, dirty_pages, is_mapped};
+ghost use Rattle.cc_readers.specs.Events.{effects, event_in, touched_pages, AreSizes};
 
 use crate::events::{Event, event_on};
 use crate::maps::{hold_place, open_objects};
+use crate::pages::{range_before, sorted};
 use crate::touches::{Touching, touching_by};
 use cc_entry::{Entry, NoMemory, StreamId};
 use std::alloc::Global;
 
 /// Whether a page has a touch that is neither written nor cut, where `ended` says whether its transfer
-/// ended well after the journal's last entry.
+/// ended ok after the journal's last entry.
 pub fn is_unwritten(
     alloc: Global,
     journal: &[Entry],
@@ -45,86 +44,19 @@ pub fn is_unwritten(
     }
 }
 
-/// Whether a page of the range is dirty.
-pub fn is_range_dirty(
+/// The dirty pages of a stream, ascending.
+pub fn dirty_pages(
     alloc: Global,
     journal: &[Entry],
     sizes: &[u64],
     stream: StreamId,
-    from: u128,
-    to: u128,
-) -> Result<bool, NoMemory>
+) -> Result<Vec<u64>, NoMemory>
     requires { AreSizes sizes.now journal.now stream }
-    ensures { IfOk result (λ dirty. dirty ≡ list_any (is_dirty (effects journal.now stream)) (pages_of (record { from = from; to = to }))) }
+    ensures { IfOk result (λ pages. pages.items ≡ dirty_pages (effects journal.now stream)) }
 {
-    if from >= to {
-        return Ok(false);
-    }
-    let end = (to - 1) / 4096 + 1;
-    let mut page = from / 4096;
-    while page < end {
-        if is_unwritten(alloc, journal, sizes, stream, page, false)? {
-            return Ok(true);
-        }
-        page += 1;
-    }
-    Ok(false)
-}
-
-// Whether a page is dirty that an entry touched, given the entries before it.
-fn is_touch_dirty(
-    alloc: Global,
-    journal: &[Entry],
-    sizes: &[u64],
-    stream: StreamId,
-    last: &Entry,
-    rest: &[Entry],
-) -> Result<bool, NoMemory>
-    requires { AreSizes sizes.now journal.now stream }
-    ensures { IfOk result (λ dirty. dirty ≡ list_any (is_dirty (effects journal.now stream)) (touched_pages (event_of (effect_of last.now stream)) (effects rest.now stream))) }
-{
-    match event_on(last, stream) {
-        Event::Changes { from, to } => is_range_dirty(alloc, journal, sizes, stream, from, to),
-        Event::Stores { page } => {
-            let from = 4096 * u128::from(page);
-            is_range_dirty(alloc, journal, sizes, stream, from, from + 4096)
-        }
-        Event::Stamps { hold, .. } => match hold_place(rest, stream, hold) {
-            Some((at, len)) => {
-                let from = u128::from(at);
-                is_range_dirty(alloc, journal, sizes, stream, from, from + u128::from(len))
-            }
-            None => Ok(false),
-        },
-        Event::Rests
-        | Event::Opens { .. }
-        | Event::Closes { .. }
-        | Event::Resizes { .. }
-        | Event::CameIn { .. }
-        | Event::WentOut { .. }
-        | Event::Began { .. }
-        | Event::Ended { .. } => Ok(false),
-    }
-}
-
-// Whether a page is dirty that some entry of `among` touched.
-fn is_any_dirty(
-    alloc: Global,
-    journal: &[Entry],
-    sizes: &[u64],
-    stream: StreamId,
-    among: &[Entry],
-) -> Result<bool, NoMemory>
-    requires { AreSizes sizes.now journal.now stream }
-    ensures { IfOk result (λ dirty. dirty ≡ list_any (is_dirty (effects journal.now stream)) (touched (effects among.now stream))) }
-{
-    let Some((last, rest)) = among.split_last() else {
-        return Ok(false);
-    };
-    if is_touch_dirty(alloc, journal, sizes, stream, last, rest)? {
-        return Ok(true);
-    }
-    is_any_dirty(alloc, journal, sizes, stream, rest)
+    let touched = touched(alloc, journal, stream)?;
+    let each = sorted(alloc, &touched)?;
+    dirty_among(alloc, journal, sizes, stream, &each)
 }
 
 /// Whether the stream has a shared cache map.
@@ -141,5 +73,94 @@ pub fn has_map(
     if found.len() > 0 {
         return Ok(true);
     }
-    is_any_dirty(alloc, journal, sizes, stream, journal)
+    let touched = touched(alloc, journal, stream)?;
+    is_any_dirty(alloc, journal, sizes, stream, &touched)
+}
+
+// Every page that was ever touched, with repeats.
+fn touched(alloc: Global, journal: &[Entry], stream: StreamId) -> Result<Vec<u64>, NoMemory>
+    ensures { IfOk result (λ pages. pages.items ≡ touched (effects journal.now stream)) }
+{
+    let Some((last, rest)) = journal.split_last() else {
+        return Ok(Vec::new(alloc));
+    };
+    let before = touched(alloc, rest, stream)?;
+    touched_then(alloc, last, rest, stream, before)
+}
+
+// The pages that an entry touched, given the entries before it, before others.
+fn touched_then(
+    alloc: Global,
+    last: &Entry,
+    rest: &[Entry],
+    stream: StreamId,
+    before: Vec<u64>,
+) -> Result<Vec<u64>, NoMemory>
+    ensures { IfOk result (λ pages. pages.items ≡ touched_pages (event_in last.now stream) (effects rest.now stream) ++ before.items) }
+{
+    match event_on(last, stream) {
+        Event::Changes { from, to } => range_before(alloc, from, to, before),
+        Event::Stores { page } => {
+            let mut then = before;
+            then.insert(0, page)?;
+            Ok(then)
+        }
+        Event::Stamps { hold, .. } => match hold_place(rest, stream, hold) {
+            Some((at, len)) => {
+                let from = u128::from(at);
+                range_before(alloc, from, from + u128::from(len), before)
+            }
+            None => Ok(before),
+        },
+        Event::Rests
+        | Event::Opens { .. }
+        | Event::Closes { .. }
+        | Event::Resizes { .. }
+        | Event::Discards { .. }
+        | Event::CameIn { .. }
+        | Event::WentOut { .. }
+        | Event::Began { .. }
+        | Event::Ended { .. } => Ok(before),
+    }
+}
+
+// Whether one of the pages is dirty.
+fn is_any_dirty(
+    alloc: Global,
+    journal: &[Entry],
+    sizes: &[u64],
+    stream: StreamId,
+    pages: &[u64],
+) -> Result<bool, NoMemory>
+    requires { AreSizes sizes.now journal.now stream }
+    ensures { IfOk result (λ any. any ≡ list_any (is_dirty (effects journal.now stream)) pages.now) }
+{
+    let Some((first, rest)) = pages.split_first() else {
+        return Ok(false);
+    };
+    if is_unwritten(alloc, journal, sizes, stream, u128::from(*first), false)? {
+        return Ok(true);
+    }
+    is_any_dirty(alloc, journal, sizes, stream, rest)
+}
+
+// Those of the pages that are dirty.
+fn dirty_among(
+    alloc: Global,
+    journal: &[Entry],
+    sizes: &[u64],
+    stream: StreamId,
+    pages: &[u64],
+) -> Result<Vec<u64>, NoMemory>
+    requires { AreSizes sizes.now journal.now stream }
+    ensures { IfOk result (λ dirty. dirty.items ≡ filter (is_dirty (effects journal.now stream)) pages.now) }
+{
+    let Some((first, rest)) = pages.split_first() else {
+        return Ok(Vec::new(alloc));
+    };
+    let mut dirty = dirty_among(alloc, journal, sizes, stream, rest)?;
+    if is_unwritten(alloc, journal, sizes, stream, u128::from(*first), false)? {
+        dirty.insert(0, *first)?;
+    }
+    Ok(dirty)
 }

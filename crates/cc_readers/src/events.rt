@@ -1,16 +1,16 @@
-//! What an entry does to the pages and sizes of a stream, without the bytes.
+//! What an entry does to the sizes, pages and holds of a stream, without the bytes.
 
-ghost use Rattle.std.specs.Prelude.{◌≡◌, ◌+◌};
+ghost use Rattle.std.specs.Prelude.{◌≡◌, ◌+◌, ◌≤◌, ◌^◌};
 ghost use Rattle.cc_model.specs.Acts.{act_of};
 ghost use Rattle.cc_model.specs.History.{effect_of};
-ghost use Rattle.cc_readers.specs.Events.{event_of_act, event_of, holding_of_call, holding_of};
+ghost use Rattle.cc_readers.specs.Events.{event_of_act, event_in, end_of, holding_of_call, holding_of};
 ghost use Rattle.cc_model.specs.Holds.{id_of};
 ghost use Rattle.cc_model.specs.Sizes.{ended_ok};
 
-use cc_entry::{Call, End, Entry, Lsn, Outcome, Reply, StreamId};
+use cc_entry::{Call, End, Entry, Lsn, Outcome, Reply, Span, StreamId};
 
 /// What an effect on a stream does to its sizes and its dirty and resident pages.
-#[derive(Clone, Copy, Debug, PartialEq, Eq)]
+#[derive(Clone, Copy)]
 pub enum Event {
     /// Nothing.
     Rests,
@@ -26,19 +26,22 @@ pub enum Event {
     Stores { page: u64 },
     /// The pages of a pin are made dirty.
     Stamps { hold: u64, lsn: Option<Lsn> },
+    /// The pages of the span go unwritten, all of them where there is none.
+    Discards { span: Option<Span> },
     /// A page becomes resident.
     CameIn { page: u64 },
     /// A page stops being resident.
     WentOut { page: u64 },
     /// A page's transfer to the disk begins.
     Began { page: u64 },
-    /// That transfer ended, well or not.
-    Ended { page: u64, good: bool },
+    /// That transfer ended ok, or not.
+    Ended { page: u64, ok: bool },
 }
 
 /// What a call does once it is done.
 pub fn act(call: &Call) -> Event
-    ensures { result ≡ event_of_act (act_of call.now) }
+    ensures what { result ≡ event_of_act (act_of call.now) }
+    ensures within { end_of result ≤ 2 ^ 65 }
 {
     match call {
         Call::Initialise { file, sizes, .. } => Event::Opens {
@@ -69,6 +72,7 @@ pub fn act(call: &Call) -> Event
         Call::MdlStore { at, bytes, .. } => changes(*at, bytes.len()),
         Call::NcStore { page, .. } => Event::Stores { page: *page },
         Call::SetSizes { size, .. } => Event::Resizes { size: *size },
+        Call::Discard { span, .. } => Event::Discards { span: *span },
         Call::CopyRead { .. }
         | Call::Map { .. }
         | Call::PinRead { .. }
@@ -101,7 +105,8 @@ pub fn act(call: &Call) -> Event
 
 // A change of `len` bytes from `at` on.
 fn changes(at: u64, len: u64) -> Event
-    ensures { result ≡ Event.Changes at (at + len) }
+    ensures what { result ≡ Event.Changes at (at + len) }
+    ensures within { end_of result ≤ 2 ^ 65 }
 {
     Event::Changes {
         from: u128::from(at),
@@ -111,7 +116,8 @@ fn changes(at: u64, len: u64) -> Event
 
 /// What an entry does to a stream.
 pub fn event_on(entry: &Entry, stream: StreamId) -> Event
-    ensures { result ≡ event_of (effect_of entry.now stream) }
+    ensures what { result ≡ event_in entry.now stream }
+    ensures within { end_of result ≤ 2 ^ 65 }
 {
     match entry {
         Entry::Call {
@@ -151,7 +157,7 @@ pub fn event_on(entry: &Entry, stream: StreamId) -> Event
             if page.stream().number() == stream.number() {
                 Event::Ended {
                     page: page.page(),
-                    good: ended_well(*how),
+                    ok: is_ok(*how),
                 }
             } else {
                 Event::Rests
@@ -169,8 +175,8 @@ pub fn event_on(entry: &Entry, stream: StreamId) -> Event
     }
 }
 
-// Whether a transfer ended well.
-fn ended_well(how: End) -> bool
+// Whether a transfer ended ok.
+fn is_ok(how: End) -> bool
     ensures { result ≡ ended_ok how }
 {
     match how {
@@ -180,7 +186,7 @@ fn ended_well(how: End) -> bool
 }
 
 /// What an effect on a stream does to the places of its open holds.
-#[derive(Clone, Copy, Debug, PartialEq, Eq)]
+#[derive(Clone, Copy)]
 pub enum Holding {
     /// Nothing.
     Rests,
@@ -244,6 +250,7 @@ fn holding_by(call: &Call, id: u64) -> Holding
         | Call::State { .. }
         | Call::Flush { .. }
         | Call::Purge { .. }
+        | Call::Discard { .. }
         | Call::SetLog { .. }
         | Call::DirtyPages { .. }
         | Call::LsnForFile { .. }

@@ -1,24 +1,31 @@
 //! The open holds of a stream.
 
-ghost use Rattle.std.specs.Prelude.{◌≡◌, ◌∷◌, [], map, IfOk};
+ghost use Rattle.std.specs.Prelude.{◌≡◌, ◌∷◌, [], IfOk};
 ghost use Rattle.std.specs.Option.{option_map};
 ghost use Rattle.cc_model.specs.History.{effect_of};
 ghost use Rattle.cc_model.specs.Holds.{holds_of, held_after, hold_at, repinned};
 ghost use Rattle.cc_readers.specs.Events.{effects};
-ghost use Rattle.cc_readers.specs.HoldReads.{hold_of, spot_of, kept_hold, pin_by, made_by, changed_by, changed_after, held_by_effect};
+ghost use Rattle.cc_readers.specs.HoldReads.{hold_of, holds_in, new_hold, spot_of, kept_hold, pin_by, made_by, changed_by, changed_after, held_by_effect};
 
 use crate::events::id_in;
 use cc_entry::{Call, Entry, FileId, HoldKind, NoMemory, Outcome, StreamId};
 use std::alloc::Global;
 
 /// The bytes from `from` up to, and without, `to`.
-#[derive(Clone, Copy, Debug, PartialEq, Eq)]
+#[derive(Clone, Copy)]
 pub struct Reach {
     pub from: u128,
     pub to: u128,
 }
 
-/// An open hold, with the ranges for which it owes a stamp.
+/// Bytes for which a pin owes a stamp.
+#[derive(Clone, Copy)]
+pub struct Owed {
+    pub at: u64,
+    pub len: u64,
+}
+
+/// An open hold, with what it owes a stamp for.
 #[derive(Drop)]
 pub struct OpenHold {
     pub id: u64,
@@ -28,16 +35,16 @@ pub struct OpenHold {
     pub len: u64,
     pub kind: HoldKind,
     pub exclusive: bool,
-    pub owed: Vec<Reach>,
+    pub owed: Vec<Owed>,
 }
 
 /// What a call does to the open hold that it names.
-#[derive(Clone, Copy, Debug, PartialEq, Eq)]
+#[derive(Clone, Copy)]
 pub enum Change {
     /// It becomes a pin.
     Pins { exclusive: bool },
-    /// It owes a stamp for a range.
-    Owes { from: u128, to: u128 },
+    /// It owes a stamp for so many bytes from a place on.
+    Owes { at: u64, len: u64 },
     /// It owes none.
     Stamps,
     /// It ends.
@@ -50,7 +57,7 @@ pub fn open_holds(
     journal: &[Entry],
     stream: StreamId,
 ) -> Result<Vec<OpenHold>, NoMemory>
-    ensures { IfOk result (λ found. map hold_of found.items ≡ holds_of (effects journal.now stream)) }
+    ensures { IfOk result (λ found. holds_in found.items ≡ holds_of (effects journal.now stream)) }
 {
     let Some((last, rest)) = journal.split_last() else {
         return Ok(Vec::new(alloc));
@@ -66,7 +73,7 @@ fn holds_then(
     last: &Entry,
     stream: StreamId,
 ) -> Result<Vec<OpenHold>, NoMemory>
-    ensures { IfOk result (λ then. map hold_of then.items ≡ held_by_effect (effect_of last.now stream) (map hold_of before.items)) }
+    ensures { IfOk result (λ then. holds_in then.items ≡ held_by_effect (effect_of last.now stream) (holds_in before.items)) }
 {
     match last {
         Entry::Call {
@@ -99,7 +106,7 @@ fn holds_then(
 }
 
 // A hold that owes no stamp, given its range and its kind.
-fn plain(
+fn new_hold(
     alloc: Global,
     id: u64,
     pass: u32,
@@ -107,7 +114,7 @@ fn plain(
     kind: HoldKind,
     exclusive: bool,
 ) -> OpenHold
-    ensures { hold_of result ≡ record { id = id; pass = pass; file = place.0; at = place.1; len = place.2; kind = kind; exclusive = exclusive; owed = [] } }
+    ensures { hold_of result ≡ new_hold id pass place kind exclusive }
 {
     OpenHold {
         id,
@@ -123,7 +130,7 @@ fn plain(
 
 // The holds with one more.
 fn with(mut holds: Vec<OpenHold>, hold: OpenHold) -> Result<Vec<OpenHold>, NoMemory>
-    ensures { IfOk result (λ then. map hold_of then.items ≡ hold_of hold ∷ map hold_of holds.items) }
+    ensures { IfOk result (λ then. holds_in then.items ≡ hold_of hold ∷ holds_in holds.items) }
 {
     holds.insert(0, hold)?;
     Ok(holds)
@@ -137,7 +144,7 @@ fn holds_after(
     call: &Call,
     id: u64,
 ) -> Result<Vec<OpenHold>, NoMemory>
-    ensures { IfOk result (λ then. map hold_of then.items ≡ held_after pass call.now id (map hold_of before.items)) }
+    ensures { IfOk result (λ then. holds_in then.items ≡ held_after pass call.now id (holds_in before.items)) }
 {
     let then = holds_changed(alloc, before, pass, call, id)?;
     match hold_made(alloc, pass, call, id)? {
@@ -153,15 +160,15 @@ fn hold_made(alloc: Global, pass: u32, call: &Call, id: u64) -> Result<Option<Op
     match call {
         Call::Map { file, at, len } => {
             let place = (*file, *at, *len);
-            Ok(Some(plain(alloc, id, pass, place, HoldKind::Map, false)))
+            Ok(Some(new_hold(alloc, id, pass, place, HoldKind::Map, false)))
         }
         Call::MdlRead { file, at, len } => {
             let place = (*file, *at, *len);
-            Ok(Some(plain(alloc, id, pass, place, HoldKind::ReadChain, false)))
+            Ok(Some(new_hold(alloc, id, pass, place, HoldKind::ReadChain, false)))
         }
         Call::MdlWrite { file, at, len } => {
             let place = (*file, *at, *len);
-            Ok(Some(plain(alloc, id, pass, place, HoldKind::WriteChain, false)))
+            Ok(Some(new_hold(alloc, id, pass, place, HoldKind::WriteChain, false)))
         }
         Call::PinRead { .. } | Call::PreparePin { .. } => pin_made(alloc, pass, call, id),
         _ => Ok(None),
@@ -180,7 +187,7 @@ fn pin_made(alloc: Global, pass: u32, call: &Call, id: u64) -> Result<Option<Ope
             exclusive,
         } => {
             let place = (*file, *at, *len);
-            Ok(Some(plain(alloc, id, pass, place, HoldKind::Pin, *exclusive)))
+            Ok(Some(new_hold(alloc, id, pass, place, HoldKind::Pin, *exclusive)))
         }
         Call::PreparePin {
             file,
@@ -190,11 +197,9 @@ fn pin_made(alloc: Global, pass: u32, call: &Call, id: u64) -> Result<Option<Ope
             exclusive,
         } => {
             let place = (*file, *at, *len);
-            let mut made = plain(alloc, id, pass, place, HoldKind::Pin, *exclusive);
+            let mut made = new_hold(alloc, id, pass, place, HoldKind::Pin, *exclusive);
             if *zero {
-                let from = u128::from(*at);
-                let to = from + u128::from(*len);
-                made.owed.push(Reach { from, to })?;
+                made.owed.push(Owed { at: *at, len: *len })?;
             }
             Ok(Some(made))
         }
@@ -210,7 +215,7 @@ fn holds_changed(
     call: &Call,
     id: u64,
 ) -> Result<Vec<OpenHold>, NoMemory>
-    ensures { IfOk result (λ then. map hold_of then.items ≡ changed_after pass call.now id (map hold_of before.items)) }
+    ensures { IfOk result (λ then. holds_in then.items ≡ changed_after pass call.now id (holds_in before.items)) }
 {
     match call {
         Call::PinMapped { hold, exclusive } => {
@@ -218,9 +223,11 @@ fn holds_changed(
             changed(alloc, before, *hold, Change::Pins { exclusive })
         }
         Call::PinnedWrite { hold, at, bytes } => {
-            let from = u128::from(*at);
-            let to = from + u128::from(bytes.len());
-            changed(alloc, before, *hold, Change::Owes { from, to })
+            let owes = Change::Owes {
+                at: *at,
+                len: bytes.len(),
+            };
+            changed(alloc, before, *hold, owes)
         }
         Call::SetDirty { hold, .. } => changed(alloc, before, *hold, Change::Stamps),
         Call::EndHold { hold } => changed(alloc, before, *hold, Change::Ends),
@@ -237,20 +244,20 @@ fn repin(
     pass: u32,
     of: u64,
 ) -> Result<Vec<OpenHold>, NoMemory>
-    ensures { IfOk result (λ then. map hold_of then.items ≡ repinned id pass (hold_at (map hold_of before.items) of) (map hold_of before.items)) }
+    ensures { IfOk result (λ then. holds_in then.items ≡ repinned id pass (hold_at (holds_in before.items) of) (holds_in before.items)) }
 {
     let Some(place) = place_at(&before, of) else {
         return Ok(before);
     };
     with(
         before,
-        plain(alloc, id, pass, place, HoldKind::Repin, false),
+        new_hold(alloc, id, pass, place, HoldKind::Repin, false),
     )
 }
 
 /// The file object, the place and the length of the first hold of this id.
 pub fn place_at(holds: &[OpenHold], id: u64) -> Option<(FileId, u64, u64)>
-    ensures { result ≡ option_map spot_of (hold_at (map hold_of holds.now) id) }
+    ensures { result ≡ option_map spot_of (hold_at (holds_in holds.now) id) }
 {
     let Some((first, rest)) = holds.split_first() else {
         return None;
@@ -268,7 +275,7 @@ fn changed(
     id: u64,
     change: Change,
 ) -> Result<Vec<OpenHold>, NoMemory>
-    ensures { IfOk result (λ then. map hold_of then.items ≡ changed_by change id (map hold_of holds.items)) }
+    ensures { IfOk result (λ then. holds_in then.items ≡ changed_by change id (holds_in holds.items)) }
 {
     let Some(last) = holds.pop() else {
         return Ok(holds);
@@ -298,8 +305,8 @@ fn one_changed(
             hold.exclusive = exclusive;
             Ok(Some(hold))
         }
-        Change::Owes { from, to } => {
-            hold.owed.insert(0, Reach { from, to })?;
+        Change::Owes { at, len } => {
+            hold.owed.insert(0, Owed { at, len })?;
             Ok(Some(hold))
         }
         Change::Stamps => {

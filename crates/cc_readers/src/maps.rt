@@ -37,6 +37,7 @@ fn objects_then(alloc: Global, before: Vec<u8>, event: Event) -> Result<Vec<u8>,
         | Event::Changes { .. }
         | Event::Stores { .. }
         | Event::Stamps { .. }
+        | Event::Discards { .. }
         | Event::CameIn { .. }
         | Event::WentOut { .. }
         | Event::Began { .. }

@@ -66,6 +66,7 @@ pub fn by_view(call: &Call) -> Option<CcError>
     }
 }
 
+// Whether a granularity is a power of two from 4096 to 1048576.
 fn is_power(bytes: u64) -> bool
     ensures { result ≡ is_granularity bytes }
 {
@@ -190,6 +191,7 @@ fn needed_file(call: &Call) -> Option<FileId>
         | Call::State { file }
         | Call::Flush { file, .. }
         | Call::Purge { file, .. }
+        | Call::Discard { file, .. }
         | Call::SetLog { file, .. }
         | Call::LsnForFile { file }
         | Call::SetGranularity { file, .. }

@@ -1,16 +1,13 @@
 //! The refusal of a call: the first of its reasons, in their order.
 
-ghost use Rattle.std.specs.Prelude.{◌≡◌, ◌<◌, ◌^◌, reverse, IfOk};
-ghost use Rattle.cc_model.specs.Setup.{Setup};
-ghost use Rattle.cc_model.specs.Touches.{size_of, valid_of};
-ghost use Rattle.cc_model.specs.Ranges.{range_of};
-ghost use Rattle.cc_model.specs.Views.{viewed, no_views};
-ghost use Rattle.cc_model.specs.Refusals.{first_of, refusal};
+ghost use Rattle.std.specs.Prelude.{◌≡◌, reverse, IfOk};
+ghost use Rattle.cc_model.specs.Refusals.{first_of};
 ghost use Rattle.cc_readers.specs.Events.{effects};
-ghost use Rattle.cc_readers.specs.RefusalReads.{argument_reasons, use_reasons};
+ghost use Rattle.cc_readers.specs.RefusalReads.{no_views_for, use_reasons, IsFirstInArguments, IsRefusal};
 
 use crate::blocks::by_quota;
 use crate::conflicts::by_holds;
+use crate::discards::{by_growth, by_images};
 use crate::holds::open_holds;
 use crate::needs::range_viewed;
 use crate::pins::by_pins;
@@ -42,7 +39,7 @@ pub fn by_views(
     stream: StreamId,
     call: &Call,
 ) -> Result<Option<CcError>, NoMemory>
-    ensures { IfOk result (λ refused. refused ≡ no_views (effects journal.now stream) (viewed (effects journal.now stream) call.now (range_of (size_of (effects journal.now stream)) call.now))) }
+    ensures { IfOk result (λ refused. refused ≡ no_views_for (effects journal.now stream) call.now) }
 {
     let size = size(alloc, journal, stream)?;
     let Some(range) = range_viewed(alloc, journal, stream, size, call)? else {
@@ -62,7 +59,7 @@ fn by_arguments(
     logs: u8,
     call: &Call,
 ) -> Result<Option<CcError>, NoMemory>
-    ensures { IfOk result (λ refused. (u : Setup) → u.logs ≡ logs → valid_of (effects journal.now stream) < 2 ^ 64 → refused ≡ first_of (argument_reasons u (effects journal.now stream) call.now)) }
+    ensures { IfOk result (IsFirstInArguments logs (effects journal.now stream) call.now) }
 {
     let size = size(alloc, journal, stream)?;
     let valid = valid(alloc, journal, stream)?;
@@ -79,8 +76,8 @@ fn by_arguments(
     Ok(first_in(&reasons))
 }
 
-// The first reason that lies in open holds, view blocks, the pool of views or resident pages. It goes
-// over the pages of the range, which is short where no reason before these holds.
+// The first reason that lies in open holds, view blocks, the pool of views, resident pages or images. It
+// goes over the pages of the range, which is short where no reason before these holds.
 fn by_use(
     alloc: Global,
     journal: &[Entry],
@@ -96,6 +93,8 @@ fn by_use(
         by_views(alloc, journal, stream, call)?,
         by_pool(alloc, journal, stream, call)?,
         by_residents(alloc, journal, stream, call)?,
+        by_images(alloc, journal, stream, call)?,
+        by_growth(alloc, journal, stream, call)?,
     ];
     Ok(first_in(&reasons))
 }
@@ -109,7 +108,7 @@ pub fn refusal(
     logs: u8,
     call: &Call,
 ) -> Result<Option<CcError>, NoMemory>
-    ensures { IfOk result (λ refused. (u : Setup) → u.logs ≡ logs → valid_of (effects journal.now stream) < 2 ^ 64 → refused ≡ refusal u (reverse journal.now) (effects journal.now stream) call.now) }
+    ensures { IfOk result (IsRefusal logs (reverse journal.now) (effects journal.now stream) call.now) }
 {
     match by_arguments(alloc, journal, stream, logs, call)? {
         Some(refused) => Ok(Some(refused)),

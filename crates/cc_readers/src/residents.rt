@@ -2,15 +2,14 @@
 
 ghost use Rattle.std.specs.Prelude.{◌≡◌, IfOk};
 ghost use Rattle.cc_readers.specs.Changes.{left_by, resident_after};
-ghost use Rattle.cc_readers.specs.Events.{effects, event_of, AreSizes};
-ghost use Rattle.cc_model.specs.History.{effect_of};
+ghost use Rattle.cc_readers.specs.Events.{effects, event_in, AreSizes};
 ghost use Rattle.cc_model.specs.Residency.{is_resident};
 ghost use Rattle.cc_model.specs.Touches.{size_of};
 
 use crate::dirty::has_map;
 use crate::events::{Event, event_on};
 use crate::sizes::sizes;
-use crate::touches::truncation_at;
+use crate::touches::{span_has, truncation_at};
 use cc_entry::{Entry, NoMemory, StreamId};
 use std::alloc::Global;
 
@@ -60,7 +59,7 @@ fn resident_then(
     was: bool,
 ) -> Result<bool, NoMemory>
     requires { size ≡ size_of (effects rest.now stream) }
-    ensures { IfOk result (λ resident. resident ≡ resident_after (event_of (effect_of last.now stream)) (effects rest.now stream) page was) }
+    ensures { IfOk result (λ resident. resident ≡ resident_after (event_in last.now stream) (effects rest.now stream) page was) }
 {
     match event_on(last, stream) {
         Event::Closes { object, truncate } => {
@@ -71,6 +70,7 @@ fn resident_then(
         Event::Stores { page: stored } => Ok(stored == page || was),
         Event::CameIn { page: came } => Ok(came == page || was),
         Event::WentOut { page: gone } => Ok(gone != page && was),
+        Event::Discards { span } => Ok(!span_has(span, u128::from(page)) && was),
         Event::Rests
         | Event::Opens { .. }
         | Event::Changes { .. }

@@ -1,9 +1,8 @@
 //! The size and the valid data length of a stream, and whether a page is dirty.
 
 ghost use Rattle.std.specs.Prelude.{◌≡◌, ◌+◌, IfOk, length, vec_len};
-ghost use Rattle.cc_model.specs.History.{effect_of};
 ghost use Rattle.cc_model.specs.Touches.{size_of, valid_of, is_dirty};
-ghost use Rattle.cc_readers.specs.Events.{effects, event_of, size_after, valid_after, AreSizes};
+ghost use Rattle.cc_readers.specs.Events.{effects, event_in, size_after, valid_after, AreSizes};
 
 use crate::dirty::{has_map, is_unwritten};
 use crate::events::{Event, event_on};
@@ -36,7 +35,7 @@ fn size_then(
     stream: StreamId,
 ) -> Result<u64, NoMemory>
     requires { AreSizes sizes.now rest.now stream }
-    ensures { IfOk result (λ size. size ≡ size_after (event_of (effect_of last.now stream)) (effects rest.now stream)) }
+    ensures { IfOk result (λ size. size ≡ size_after (event_in last.now stream) (effects rest.now stream)) }
 {
     let size = sizes[rest.len()];
     match event_on(last, stream) {
@@ -58,6 +57,7 @@ fn size_then(
         | Event::Changes { .. }
         | Event::Stores { .. }
         | Event::Stamps { .. }
+        | Event::Discards { .. }
         | Event::CameIn { .. }
         | Event::WentOut { .. }
         | Event::Began { .. }
@@ -122,7 +122,7 @@ fn valid_then(
 ) -> Result<u128, NoMemory>
     requires sizes { AreSizes sizes.now rest.now stream }
     requires before { before ≡ valid_of (effects rest.now stream) }
-    ensures { IfOk result (λ valid. valid ≡ valid_after (event_of (effect_of last.now stream)) (effects rest.now stream)) }
+    ensures { IfOk result (λ valid. valid ≡ valid_after (event_in last.now stream) (effects rest.now stream)) }
 {
     let size = sizes[rest.len()];
     match event_on(last, stream) {
@@ -144,6 +144,7 @@ fn valid_then(
         Event::Stores { page } => Ok(before.max(stored_end(page, size))),
         Event::Rests
         | Event::Stamps { .. }
+        | Event::Discards { .. }
         | Event::CameIn { .. }
         | Event::WentOut { .. }
         | Event::Began { .. }

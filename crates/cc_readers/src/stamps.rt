@@ -1,8 +1,9 @@
 //! The least and the greatest LSN that are stamped on a page and not yet written.
 
-ghost use Rattle.std.specs.Prelude.{◌≡◌, IfOk};
+ghost use Rattle.std.specs.Prelude.{◌≡◌, min, max, IfOk};
 ghost use Rattle.cc_model.specs.Touches.{touches};
-ghost use Rattle.cc_model.specs.Stamps.{least_of, greatest_of, least_lsn, greatest_lsn, oldest_of, newest_of};
+ghost use Rattle.cc_entry.specs.Lsns.{joined, alone};
+ghost use Rattle.cc_model.specs.Stamps.{lsns_among, lsns_of};
 ghost use Rattle.cc_readers.specs.Events.{effects, AreSizes};
 
 use crate::sizes::sizes;
@@ -10,126 +11,86 @@ use crate::touches::{Touching, touching_by};
 use cc_entry::{Entry, Lsn, NoMemory, StreamId};
 use std::alloc::Global;
 
-/// The least LSN of a page.
-pub fn oldest(
+/// The least and the greatest LSN of a page.
+pub fn lsns(
     alloc: Global,
     journal: &[Entry],
     stream: StreamId,
     page: u64,
-) -> Result<Option<Lsn>, NoMemory>
-    ensures { IfOk result (λ lsn. lsn ≡ oldest_of (effects journal.now stream) page) }
+) -> Result<Option<(Lsn, Lsn)>, NoMemory>
+    ensures { IfOk result (λ lsns. lsns ≡ lsns_of (effects journal.now stream) page) }
 {
     let found = sizes(alloc, journal, stream)?;
-    least_unwritten(alloc, journal, &found, stream, u128::from(page), false)
+    lsns_unwritten(alloc, journal, &found, stream, u128::from(page), false)
 }
 
-/// The greatest LSN of a page.
-pub fn newest(
-    alloc: Global,
-    journal: &[Entry],
-    stream: StreamId,
-    page: u64,
-) -> Result<Option<Lsn>, NoMemory>
-    ensures { IfOk result (λ lsn. lsn ≡ newest_of (effects journal.now stream) page) }
-{
-    let found = sizes(alloc, journal, stream)?;
-    greatest_unwritten(alloc, journal, &found, stream, u128::from(page), false)
-}
-
-// The least LSN of the touches that are neither written nor cut.
-fn least_unwritten(
+// Those of the touches that are neither written nor cut, where `ended` says whether the page's transfer
+// ended ok after the journal's last entry.
+fn lsns_unwritten(
     alloc: Global,
     journal: &[Entry],
     sizes: &[u64],
     stream: StreamId,
     page: u128,
     ended: bool,
-) -> Result<Option<Lsn>, NoMemory>
+) -> Result<Option<(Lsn, Lsn)>, NoMemory>
     requires { AreSizes sizes.now journal.now stream }
-    ensures { IfOk result (λ lsn. lsn ≡ least_lsn (touches ended (effects journal.now stream) page)) }
+    ensures { IfOk result (λ lsns. lsns ≡ lsns_among (touches ended (effects journal.now stream) page)) }
 {
     let Some((last, rest)) = journal.split_last() else {
         return Ok(None);
     };
     match touching_by(alloc, last, rest, sizes[rest.len()], stream, page)? {
-        Touching::Rests => least_unwritten(alloc, rest, sizes, stream, page, ended),
+        Touching::Rests => lsns_unwritten(alloc, rest, sizes, stream, page, ended),
         Touching::Touches(lsn) => {
-            let before = least_unwritten(alloc, rest, sizes, stream, page, ended)?;
-            Ok(least(lsn, before))
+            let before = lsns_unwritten(alloc, rest, sizes, stream, page, ended)?;
+            Ok(joined(alone(lsn), before))
         }
         Touching::Cuts => Ok(None),
         Touching::Begins => {
             if ended {
                 Ok(None)
             } else {
-                least_unwritten(alloc, rest, sizes, stream, page, ended)
+                lsns_unwritten(alloc, rest, sizes, stream, page, ended)
             }
         }
-        Touching::Ends => least_unwritten(alloc, rest, sizes, stream, page, true),
+        Touching::Ends => lsns_unwritten(alloc, rest, sizes, stream, page, true),
     }
 }
 
-fn least(a: Option<Lsn>, b: Option<Lsn>) -> Option<Lsn>
-    ensures { result ≡ least_of a b }
+// The least and the greatest of one LSN.
+fn alone(lsn: Option<Lsn>) -> Option<(Lsn, Lsn)>
+    ensures { result ≡ alone lsn }
 {
-    let Some(x) = a else {
-        return b;
-    };
-    let Some(y) = b else {
-        return a;
-    };
-    if x.number() <= y.number() {
-        Some(x)
-    } else {
-        Some(y)
+    match lsn {
+        Some(lsn) => Some((lsn, lsn)),
+        None => None,
     }
 }
 
-// The greatest LSN of the touches that are neither written nor cut.
-fn greatest_unwritten(
-    alloc: Global,
-    journal: &[Entry],
-    sizes: &[u64],
-    stream: StreamId,
-    page: u128,
-    ended: bool,
-) -> Result<Option<Lsn>, NoMemory>
-    requires { AreSizes sizes.now journal.now stream }
-    ensures { IfOk result (λ lsn. lsn ≡ greatest_lsn (touches ended (effects journal.now stream) page)) }
+// The least and the greatest of two pairs.
+fn joined(a: Option<(Lsn, Lsn)>, b: Option<(Lsn, Lsn)>) -> Option<(Lsn, Lsn)>
+    ensures { result ≡ joined a b }
 {
-    let Some((last, rest)) = journal.split_last() else {
-        return Ok(None);
-    };
-    match touching_by(alloc, last, rest, sizes[rest.len()], stream, page)? {
-        Touching::Rests => greatest_unwritten(alloc, rest, sizes, stream, page, ended),
-        Touching::Touches(lsn) => {
-            let before = greatest_unwritten(alloc, rest, sizes, stream, page, ended)?;
-            Ok(greatest(lsn, before))
-        }
-        Touching::Cuts => Ok(None),
-        Touching::Begins => {
-            if ended {
-                Ok(None)
-            } else {
-                greatest_unwritten(alloc, rest, sizes, stream, page, ended)
-            }
-        }
-        Touching::Ends => greatest_unwritten(alloc, rest, sizes, stream, page, true),
+    match a {
+        Some((least, greatest)) => match b {
+            Some((low, high)) => Some((the_lesser(least, low), the_greater(greatest, high))),
+            None => Some((least, greatest)),
+        },
+        None => b,
     }
 }
 
-fn greatest(a: Option<Lsn>, b: Option<Lsn>) -> Option<Lsn>
-    ensures { result ≡ greatest_of a b }
+// The lesser of two LSNs.
+fn the_lesser(a: Lsn, b: Lsn) -> Lsn
+    ensures { result ≡ min a b }
 {
-    let Some(x) = a else {
-        return b;
-    };
-    let Some(y) = b else {
-        return a;
-    };
-    if y.number() <= x.number() {
-        Some(x)
-    } else {
-        Some(y)
-    }
+    if a.number() <= b.number() { a } else { b }
+}
+
+// The greater of two LSNs.
+fn the_greater(a: Lsn, b: Lsn) -> Lsn
+    ensures { result ≡ max a b }
+{
+    if b.number() <= a.number() { a } else { b }
 }

@@ -1,30 +1,30 @@
 //! What an entry does to the unwritten touches of a page.
 
 ghost use Rattle.std.specs.Prelude.{◌≡◌, IfOk};
-ghost use Rattle.cc_model.specs.History.{effect_of};
-ghost use Rattle.cc_model.specs.Objects.{objects, truncation};
+ghost use Rattle.cc_model.specs.Objects.{objects};
+ghost use Rattle.cc_model.specs.Ranges.{span_has};
 ghost use Rattle.cc_entry.specs.Pages.{has_page};
 ghost use Rattle.cc_model.specs.Sizes.{stored_range};
 ghost use Rattle.cc_model.specs.Touches.{size_of};
-ghost use Rattle.cc_readers.specs.Events.{effects, event_of, cut_by, touch_if, touching_of};
+ghost use Rattle.cc_readers.specs.Events.{effects, event_in, truncation_by, cut_by, touch_if, touching_of};
 
 use crate::events::{Event, event_on};
 use crate::maps::{hold_place, open_objects, others};
-use cc_entry::{Entry, Lsn, NoMemory, StreamId};
+use cc_entry::{Entry, Lsn, NoMemory, Span, StreamId};
 use std::alloc::Global;
 
 /// What an event does to the touches of a page that are neither written nor cut.
-#[derive(Clone, Copy, Debug, PartialEq, Eq)]
+#[derive(Clone, Copy)]
 pub enum Touching {
     /// Nothing.
     Rests,
     /// A touch is added, with this LSN or without.
     Touches(Option<Lsn>),
-    /// A size step takes the page away.
+    /// A size step or a discard takes the page away.
     Cuts,
     /// The page's transfer begins.
     Begins,
-    /// The page's transfer ends well.
+    /// The page's transfer ends ok.
     Ends,
 }
 
@@ -38,7 +38,7 @@ pub fn touching_by(
     page: u128,
 ) -> Result<Touching, NoMemory>
     requires { size ≡ size_of (effects rest.now stream) }
-    ensures { IfOk result (λ what. what ≡ touching_of (event_of (effect_of last.now stream)) (effects rest.now stream) page) }
+    ensures { IfOk result (λ what. what ≡ touching_of (event_in last.now stream) (effects rest.now stream) page) }
 {
     match event_on(last, stream) {
         Event::Closes { object, truncate } => {
@@ -52,6 +52,13 @@ pub fn touching_by(
             Ok(touch(range_has(from, stored_end(stored, size), page), None))
         }
         Event::Stamps { hold, lsn } => Ok(stamp(rest, stream, hold, lsn, page)),
+        Event::Discards { span } => {
+            if span_has(span, page) {
+                Ok(Touching::Cuts)
+            } else {
+                Ok(Touching::Rests)
+            }
+        }
         Event::Began { page: begun } => {
             if u128::from(begun) == page {
                 Ok(Touching::Begins)
@@ -59,8 +66,8 @@ pub fn touching_by(
                 Ok(Touching::Rests)
             }
         }
-        Event::Ended { page: ended, good } => {
-            if u128::from(ended) == page && good {
+        Event::Ended { page: ended, ok } => {
+            if u128::from(ended) == page && ok {
                 Ok(Touching::Ends)
             } else {
                 Ok(Touching::Rests)
@@ -94,7 +101,7 @@ pub fn truncation_at(
     object: u8,
     truncate: Option<u64>,
 ) -> Result<Option<u64>, NoMemory>
-    ensures { IfOk result (λ to. to ≡ truncation (objects (effects rest.now stream)) size (record { stream = 0; object = object }) truncate) }
+    ensures { IfOk result (λ to. to ≡ truncation_by object truncate (objects (effects rest.now stream)) size) }
 {
     let Some(to) = truncate else {
         return Ok(None);
@@ -110,7 +117,7 @@ pub fn truncation_at(
     if to < size { Ok(Some(to)) } else { Ok(None) }
 }
 
-// What a size step does to a page.
+// What a size step does to a page, where there is one.
 fn cut_at(to: Option<u64>, page: u128) -> Touching
     ensures { result ≡ cut_by to page }
 {
@@ -126,6 +133,7 @@ fn cut_at(to: Option<u64>, page: u128) -> Touching
     }
 }
 
+// What a touch with this LSN does to a page, where it has the page.
 fn touch(has: bool, lsn: Option<Lsn>) -> Touching
     ensures { result ≡ touch_if has lsn }
 {
@@ -144,6 +152,16 @@ pub fn range_has(from: u128, to: u128, page: u128) -> bool
         from / 4096 <= page && page <= (to - 1) / 4096
     } else {
         false
+    }
+}
+
+/// Whether a page is of a span, where none is the whole stream.
+pub fn span_has(span: Option<Span>, page: u128) -> bool
+    ensures { result ≡ span_has span page }
+{
+    match span {
+        Some(span) => range_has(u128::from(span.from()), u128::from(span.to()), page),
+        None => true,
     }
 }
 

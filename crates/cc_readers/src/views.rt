@@ -1,17 +1,15 @@
 //! Reasons for a refusal that lie in the pool of views and in resident pages.
 
 ghost use Rattle.std.specs.Prelude.{◌≡◌, ◌≤◌, not, IfOk, reverse};
-ghost use Rattle.std.specs.List.{find};
 ghost use Rattle.std.specs.Option.{option_map};
 ghost use Rattle.cc_model.specs.History.{effect_of};
-ghost use Rattle.cc_entry.specs.Pages.{pages_of};
 ghost use Rattle.cc_model.specs.Ranges.{cut_range};
 ghost use Rattle.cc_model.specs.Residency.{is_resident};
 ghost use Rattle.cc_model.specs.Settings.{quota_of};
-ghost use Rattle.cc_model.specs.Touches.{size_of};
 ghost use Rattle.cc_model.specs.Cache.{views_of, views_taken};
 ghost use Rattle.cc_readers.specs.Events.{effects, AreSizes};
 ghost use Rattle.cc_model.specs.Views.{no_vacbs, not_resident};
+ghost use Rattle.cc_readers.specs.ViewReads.{first_absent, read_refusal};
 ghost use Rattle.cc_readers.specs.QuotaReads.{quota_asked, quota_given};
 
 use crate::dirty::has_map;
@@ -157,7 +155,7 @@ pub fn first_absent(
     from: u64,
     to: u64,
 ) -> Result<Option<u64>, NoMemory>
-    ensures { IfOk result (λ page. page ≡ find (λ p. not (is_resident (effects journal.now stream) p)) (pages_of (record { from = from; to = to }))) }
+    ensures { IfOk result (λ page. page ≡ first_absent (effects journal.now stream) (record { from = from; to = to })) }
 {
     if from >= to {
         return Ok(None);
@@ -202,7 +200,7 @@ fn absent_in(
     at: u64,
     len: u64,
 ) -> Result<Option<CcError>, NoMemory>
-    ensures { IfOk result (λ refused. refused ≡ option_map (λ p. CcError.NotResident p) (find (λ p. not (is_resident (effects journal.now stream) p)) (pages_of (cut_range (size_of (effects journal.now stream)) at len)))) }
+    ensures { IfOk result (λ refused. refused ≡ read_refusal (effects journal.now stream) at len) }
 {
     let size = size(alloc, journal, stream)?;
     let to = end_within(size, at, len);

@@ -51,7 +51,7 @@ read a 1
 ",
 };
 
-const WRITE_AT_VALID: Row = Row {
+pub(crate) const WRITE_AT_VALID: Row = Row {
     script: "stream a 8192 5000
 cwrite a 5000 AB
 cread a 4999 3

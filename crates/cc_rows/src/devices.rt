@@ -1,11 +1,14 @@
-ghost use Rattle.std.specs.Prelude.{◌≡◌, ◌+◌, ◌++◌, min, length, take, All, None, Some, IsOk, IfOk, OnErr};
-ghost use Rattle.cc_traits.specs.Stop.{faults_in, stalls_in};
+//! Devices of the tests: a sink that takes a few bytes a call, a source of line feeds and a disk that tells
+//! nothing.
+
+ghost use Rattle.std.specs.Prelude.{◌≡◌, ◌+◌, ◌-◌, ◌≤◌, ◌++◌, min, length, take, All, None, Some, IsOk, IfOk, OnErr};
+ghost use Rattle.cc_traits.specs.Stop.{faults_in, stalls_in, taken_in};
 
 use cc_memdev::MemSink;
-use cc_traits::{Sink, Source, Stop};
+use cc_traits::{Faults, PageDisk, Sink, Source, Stop, Told};
 
-/// A sink that takes at most `most` bytes a call, and counts the calls that took nothing of a piece that
-/// is not empty.
+/// A sink that takes at most `most` bytes a call, and counts the calls that took nothing where there were
+/// bytes.
 #[derive(Drop)]
 pub struct NarrowSink {
     pub most: usize,
@@ -20,16 +23,16 @@ impl Sink for NarrowSink {
 
     ghost stalls = { λ sink. sink.stalls };
 
-    fn put(&mut self, piece: &[u8]) -> Result<usize, Stop>
-        ensures amount { IfOk result (λ n. n ≡ min (length piece.now) self.old.most) }
-        ensures taken { IfOk result (λ n. self.new.inner.taken ≡ self.old.inner.taken ++ take n piece.now) }
+    fn put(&mut self, bytes: &[u8]) -> Result<usize, Stop>
+        ensures amount { IfOk result (λ n. n ≡ min (length bytes.now) self.old.most) }
+        ensures taken { IfOk result (λ n. self.new.inner.taken ≡ self.old.inner.taken ++ take n bytes.now) }
         ensures err { OnErr result (self.new.inner.taken ≡ self.old.inner.taken) }
         ensures counted { self.new.inner.faults ≡ self.old.inner.faults + faults_in result }
         ensures most { self.new.most ≡ self.old.most }
-        ensures stalled { self.new.stalls ≡ self.old.stalls + stalls_in piece.now result }
+        ensures stalled { self.new.stalls ≡ self.old.stalls + stalls_in bytes.now result }
     {
-        let front = piece.len().min(self.most);
-        if front == 0 && !piece.is_empty() {
+        let front = bytes.len().min(self.most);
+        if front == 0 && !bytes.is_empty() {
             // A count at its end cannot rise.
             if self.stalls == u64::MAX {
                 return Err(Stop::NoMemory);
@@ -37,14 +40,26 @@ impl Sink for NarrowSink {
             self.stalls += 1;
             return Ok(0);
         }
-        self.inner.put(&piece[..front])
+        self.inner.put(&bytes[..front])
     }
 }
 
-/// A source of line feeds, which keeps only how many are left.
+/// A source of line feeds, which keeps only how many there were and how many are left.
 #[derive(Drop)]
 pub struct LineFeeds {
+    pub all: usize,
     pub left: usize,
+    ghost not_more: { left ≤ all },
+}
+
+impl LineFeeds {
+    /// So many line feeds.
+    pub fn new(all: usize) -> LineFeeds
+        ensures all { result.all ≡ all }
+        ensures left { result.left ≡ all }
+    {
+        LineFeeds { all, left: all }
+    }
 }
 
 impl Source for LineFeeds {
@@ -52,16 +67,52 @@ impl Source for LineFeeds {
 
     ghost faults = { λ _. 0 };
 
+    ghost taken = { λ source. source.all - source.left };
+
     fn take(&mut self, buf: &mut [u8]) -> Result<usize, Stop>
         ensures never_fails { IsOk result }
         ensures len { length buf.new ≡ length buf.old }
         ensures amount { IfOk result (λ n. n ≡ min (length buf.old) self.old.left) }
         ensures feeds { IfOk result (λ n. All (λ b. b ≡ 10) (take n buf.new)) }
         ensures left { IfOk result (λ n. self.old.left ≡ n + self.new.left) }
+        ensures measured { self.new.all - self.new.left ≡ (self.old.all - self.old.left) + taken_in result }
     {
         let given = buf.len().min(self.left);
         buf[..given].fill(b'\n');
         self.left -= given;
         Ok(given)
+    }
+}
+
+/// A disk of one byte that tells nothing, as a file does, and whose first reads fail.
+#[derive(Drop)]
+pub struct UntoldDisk {
+    pub fill: u8,
+    pub fails: u32,
+    pub faults: Faults,
+}
+
+impl Told for UntoldDisk {
+    ghost told = { λ _. None };
+
+    ghost faults = { λ disk. disk.faults };
+}
+
+impl PageDisk for UntoldDisk {
+    fn read_page(&mut self, _page: u64, out: &mut [u8; 4096]) -> Result<(), Stop> {
+        if self.fails > 0 {
+            self.fails -= 1;
+            return Err(self.faults.raise());
+        }
+        *out = [self.fill; 4096];
+        Ok(())
+    }
+
+    fn write_page(&mut self, _page: u64, _bytes: &[u8; 4096]) -> Result<(), Stop> {
+        Err(self.faults.raise())
+    }
+
+    fn sync(&mut self) -> Result<(), Stop> {
+        Ok(())
     }
 }

@@ -1,6 +1,9 @@
-//! A disk whose reads fail.
+//! Disks whose reads fail, and one that tells nothing.
 
+use crate::UntoldDisk;
+use crate::copies::WRITE_AT_VALID;
 use crate::program::{Row, disk, run_over};
+use cc_traits::Faults;
 use std::test::Fail;
 
 const READ_AFTER_A_FAULT: Row = Row {
@@ -90,5 +93,20 @@ fn the_second_read_fails(rt: HostRuntime) -> Result<(), Fail> {
     let row = SECOND_PAGE_FAILS;
     let seen = run_over(rt.alloc(), row.script, disk(rt.alloc(), &[2])?)?;
     assert_eq!(rt; (seen.status, seen.text.as_str()), (0, row.text));
+    Ok(())
+}
+
+// A disk that tells nothing serves like one that tells its pages.
+#[test]
+fn a_disk_that_tells_nothing(rt: HostRuntime) -> Result<(), Fail> {
+    for (fails, row) in [(0, WRITE_AT_VALID), (1, READ_AFTER_A_FAULT)] {
+        let disk = UntoldDisk {
+            fill: 0x5A,
+            fails,
+            faults: Faults::new(),
+        };
+        let seen = run_over(rt.alloc(), row.script, disk)?;
+        assert_eq!(rt; (seen.status, seen.text.as_str()), (0, row.text), "{fails}");
+    }
     Ok(())
 }

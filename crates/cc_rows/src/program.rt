@@ -2,7 +2,7 @@
 
 use cc_memdev::{DiskFails, MemDisk, MemSink, MemSource};
 use cc_run::{Ended, cache_main};
-use cc_traits::{Gate, Sink, Source};
+use cc_traits::{Gate, PageDisk, Sink, Source};
 use std::alloc::{AllocError, Global};
 
 /// A gate that holds nobody back.
@@ -38,12 +38,17 @@ pub(crate) fn disk(alloc: Global, reads: &[u64]) -> Result<MemDisk, AllocError> 
     Ok(MemDisk::new(alloc, 0x5A, fails))
 }
 
+/// No disk.
+pub(crate) fn no_disk() -> Option<MemDisk> {
+    None
+}
+
 /// A sink that takes all.
 pub(crate) fn sink(alloc: Global) -> MemSink {
     MemSink::new(alloc, Vec::new(alloc))
 }
 
-/// The script in one piece.
+/// The script as a source that gives up to 4096 bytes a call.
 pub(crate) fn source(alloc: Global, script: &str) -> Result<MemSource, AllocError> {
     let bytes = script.as_bytes().to_vec(alloc)?;
     Ok(MemSource::new(bytes, 4096, Vec::new(alloc)))
@@ -55,12 +60,12 @@ pub(crate) fn text_of(alloc: Global, sink: &MemSink) -> Result<String, AllocErro
 }
 
 /// Runs the program, and answers its status.
-pub(crate) fn status_of<S: Source, K: Sink>(
+pub(crate) fn status_of<S: Source, K: Sink, D: PageDisk + Drop>(
     alloc: Global,
     words: &[&str],
     source: &mut S,
     sink: &mut K,
-    disk: Option<MemDisk>,
+    disk: Option<D>,
 ) -> Result<u8, AllocError> {
     let mut own = Vec::new(alloc);
     for word in words {
@@ -68,7 +73,7 @@ pub(crate) fn status_of<S: Source, K: Sink>(
     }
     let mut disks = Vec::new(alloc);
     if let Some(disk) = disk {
-        disks.push(disk)?;
+        disks.push(disk).map_err(|_| AllocError)?;
     }
     let Ended {
         status,
@@ -94,7 +99,11 @@ pub(crate) fn status_of<S: Source, K: Sink>(
 }
 
 /// Runs a script over a disk.
-pub(crate) fn run_over(alloc: Global, script: &str, disk: MemDisk) -> Result<Seen, AllocError> {
+pub(crate) fn run_over<D: PageDisk + Drop>(
+    alloc: Global,
+    script: &str,
+    disk: D,
+) -> Result<Seen, AllocError> {
     let mut source = source(alloc, script)?;
     let mut sink = sink(alloc);
     let status = status_of(alloc, &["run", "s"], &mut source, &mut sink, Some(disk))?;

@@ -1,6 +1,6 @@
 //! The exit statuses, and what of the text goes out.
 
-use crate::program::{disk, sink, source, status_of, text_of};
+use crate::program::{disk, no_disk, sink, source, status_of, text_of};
 use crate::{LineFeeds, NarrowSink};
 use cc_memdev::{MemSink, MemSource};
 use cc_traits::Source;
@@ -50,7 +50,7 @@ fn wrong_words(rt: HostRuntime) -> Result<(), Fail> {
     for words in lists {
         let mut source = failing_source(alloc)?;
         let mut sink = sink(alloc);
-        let status = status_of(alloc, words, &mut source, &mut sink, None)?;
+        let status = status_of(alloc, words, &mut source, &mut sink, no_disk())?;
         let text = text_of(alloc, &sink)?;
         assert_eq!(rt; (status, text.as_str()), (1, USAGE), "{words:?}");
         assert_eq!(rt; source.faults(), 0);
@@ -59,7 +59,7 @@ fn wrong_words(rt: HostRuntime) -> Result<(), Fail> {
 }
 
 #[test]
-fn no_disk(rt: HostRuntime) -> Result<(), Fail> {
+fn too_few_disks(rt: HostRuntime) -> Result<(), Fail> {
     let alloc = rt.alloc();
     for (script, status, text) in [
         (SCRIPT, 7, "too few devices\n"),
@@ -67,7 +67,13 @@ fn no_disk(rt: HostRuntime) -> Result<(), Fail> {
         ("", 0, ""),
     ] {
         let mut sink = sink(alloc);
-        let ended = status_of(alloc, &RUN, &mut source(alloc, script)?, &mut sink, None)?;
+        let ended = status_of(
+            alloc,
+            &RUN,
+            &mut source(alloc, script)?,
+            &mut sink,
+            no_disk(),
+        )?;
         let printed = text_of(alloc, &sink)?;
         assert_eq!(rt; (ended, printed.as_str()), (status, text), "{script}");
     }
@@ -81,7 +87,7 @@ fn a_source_that_fails(rt: HostRuntime) -> Result<(), Fail> {
         let bytes = SCRIPT.as_bytes().to_vec(alloc)?;
         let mut source = MemSource::new(bytes, 7, vec![in alloc; take]?);
         let mut sink = sink(alloc);
-        let status = status_of(alloc, &RUN, &mut source, &mut sink, None)?;
+        let status = status_of(alloc, &RUN, &mut source, &mut sink, no_disk())?;
         let text = text_of(alloc, &sink)?;
         assert_eq!(rt; (status, text.as_str()), (3, "script read fault\n"));
         assert_eq!(rt; source.faults(), 1);
@@ -90,16 +96,16 @@ fn a_source_that_fails(rt: HostRuntime) -> Result<(), Fail> {
 }
 
 #[test]
-fn a_source_in_pieces(rt: HostRuntime) -> Result<(), Fail> {
+fn a_source_in_chunks(rt: HostRuntime) -> Result<(), Fail> {
     let alloc = rt.alloc();
-    for piece in [1, 7] {
+    for chunk in [1, 7] {
         let bytes = SCRIPT.as_bytes().to_vec(alloc)?;
-        let mut source = MemSource::new(bytes, piece, Vec::new(alloc));
+        let mut source = MemSource::new(bytes, chunk, Vec::new(alloc));
         let mut sink = sink(alloc);
         let disk = disk(alloc, &[])?;
         let status = status_of(alloc, &RUN, &mut source, &mut sink, Some(disk))?;
         let text = text_of(alloc, &sink)?;
-        assert_eq!(rt; (status, text.as_str()), (0, TEXT), "{piece}");
+        assert_eq!(rt; (status, text.as_str()), (0, TEXT), "{chunk}");
     }
     Ok(())
 }
@@ -108,17 +114,17 @@ fn a_source_in_pieces(rt: HostRuntime) -> Result<(), Fail> {
 #[test]
 fn line_feeds(rt: HostRuntime) -> Result<(), Fail> {
     let alloc = rt.alloc();
-    for (left, status, text) in [
+    for (many, status, text) in [
         (65536, 0, ""),
         (65537, 2, "syntax at line 65537\n"),
         (16777216, 2, "syntax at line 65537\n"),
         (16777217, 5, "script too long\n"),
     ] {
-        let mut source = LineFeeds { left };
+        let mut source = LineFeeds::new(many);
         let mut sink = sink(alloc);
-        let ended = status_of(alloc, &RUN, &mut source, &mut sink, None)?;
+        let ended = status_of(alloc, &RUN, &mut source, &mut sink, no_disk())?;
         let printed = text_of(alloc, &sink)?;
-        assert_eq!(rt; (ended, printed.as_str()), (status, text), "{left}");
+        assert_eq!(rt; (ended, printed.as_str()), (status, text), "{many}");
     }
     Ok(())
 }
@@ -168,7 +174,7 @@ fn status_at_failing_sink<S: Source>(
     source: &mut S,
 ) -> Result<u8, AllocError> {
     let mut sink = narrow_sink(alloc, 4096, 1)?;
-    status_of(alloc, words, source, &mut sink, None)
+    status_of(alloc, words, source, &mut sink, no_disk())
 }
 
 // Where the text of a fault cannot be written, the status stays.
@@ -180,7 +186,7 @@ fn a_fault_whose_text_is_not_written(rt: HostRuntime) -> Result<(), Fail> {
     let mut wrong = source(alloc, "cread a 0 1\n")?;
     assert_eq!(rt; status_at_failing_sink(alloc, &RUN, &mut wrong)?, 2);
     assert_eq!(rt; status_at_failing_sink(alloc, &RUN, &mut failing)?, 3);
-    let mut long = LineFeeds { left: 16777217 };
+    let mut long = LineFeeds::new(16777217);
     assert_eq!(rt; status_at_failing_sink(alloc, &RUN, &mut long)?, 5);
     let mut whole = source(alloc, SCRIPT)?;
     assert_eq!(rt; status_at_failing_sink(alloc, &RUN, &mut whole)?, 7);

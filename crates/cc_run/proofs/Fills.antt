@@ -9,7 +9,7 @@ use Rattle.cc_entry.specs.declared.entry.Entry.{Entry}
 use Rattle.cc_entry.specs.declared.entry.Entry.TheVariants as entry
 use Rattle.cc_model.specs.Faults.{faults_since, is_failed_read, ReadFailed}
 use Rattle.cc_laws.proofs.PassSteps.{faults_since-fault}
-use Rattle.cc_run.specs.Pieces.{IsFill, Filled, Went}
+use Rattle.cc_run.specs.Fills.{IsFill, Filled, Went}
 use Rattle.cc_run.specs.Caches.{Keeps}
 use Rattle.cc_run.specs.declared.cache.Cache.{Cache}
 
@@ -36,6 +36,8 @@ went-more from to (Err (error.ReadFault page)) a b c first second = record {
   before = second.before;
   filled = filled-more from to a b second.before first second.filled;
   within = second.within;
+  absent = second.absent;
+  below = second.below;
   failed = second.failed;
 }
 went-more from to (Err e) a b c first second = filled-more from to a b c first second

@@ -1,15 +1,16 @@
 pub mod GoodSteps
 pub mod Lists
+pub mod AgreeSteps
 pub mod StandsSteps
 pub mod Refused
 pub mod CallSteps
 pub mod Opening
 pub mod Fills
 pub mod Stops
-pub mod PlainSteps
 pub mod Ascending
 pub mod Rows
 pub mod Told
+pub mod Left
 pub mod LineSteps
 pub mod FailureSteps
 pub mod Explained

@@ -1,7 +1,6 @@
--- What the calls of the first caller left explains their answers.
-use Rattle.std.proofs.Common.{◌≡◌, ◌≢◌, ℕ, zero, suc, ◌+◌, ◌*◌, ◌<◌, true, List, [], ◌∷◌, ◌++◌, length, refl, sym, ◌∙◌, ap, arith, get_or, append_assoc, append-nil, Some, Result, Ok, Err}
+-- The lines of the first caller, one after the other.
+use Rattle.std.proofs.Common.{◌≡◌, ℕ, zero, suc, ◌<◌, Bool, true, false, cond, List, [], ◌∷◌, ◌++◌, length, refl, sym, ◌∙◌, ap, arith, get_or, append_assoc, append-nil}
 use Rattle.std.specs.List.{AllByRecursion}
-use Rattle.std.proofs.lemmas.Bool.{lt-ltb, eq-eqb, ne_eqb}
 use Rattle.std.proofs.lemmas.List.{map-append, length-map}
 use Rattle.cc_entry.specs.declared.call.Call.{Call}
 use Rattle.cc_entry.specs.declared.error.CcError.{CcError}
@@ -9,135 +8,106 @@ use Rattle.cc_entry.specs.declared.error.CcError.TheVariants as error
 use Rattle.cc_entry.specs.declared.reply.Reply.{Reply}
 use Rattle.cc_entry.specs.declared.reply.Outcome.TheVariants as outcome
 use Rattle.cc_entry.specs.declared.answer.Answer.{Answer}
+use Rattle.cc_entry.specs.declared.answer.Answer.TheVariants as answer
 use Rattle.cc_entry.specs.declared.answer.LineReply.{LineReply}
 use Rattle.cc_entry.specs.declared.entry.Entry.{Entry}
-use Rattle.cc_entry.specs.declared.entry.Entry.TheVariants as entry
+use Rattle.cc_script.specs.declared.script.Action.{Action}
+use Rattle.cc_script.specs.declared.script.Action.TheVariants as action
 use Rattle.cc_script.specs.declared.script.ActionLine.{ActionLine}
-use Rattle.cc_model.specs.Acts.{file_of}
-use Rattle.cc_model.specs.History.{history}
-use Rattle.cc_entry.specs.Pages.{has_page}
-use Rattle.cc_model.specs.Ranges.{range_of}
-use Rattle.cc_model.specs.Touches.{size_of}
-use Rattle.cc_laws.proofs.HistorySteps.{history-page_in}
-use Rattle.cc_laws.proofs.SizeSteps.{sizes-came_in}
-use Rattle.cc_pieces.specs.Calls.{call_of, calls_of_lines}
-use Rattle.cc_pieces.specs.Pieces.{reaches, Fills, Others, Explains, IsIdle}
-use Rattle.cc_pieces.proofs.Pieces.{idle-none, idle-more, ran-more}
-use Rattle.cc_pieces.proofs.Lines.{calls_of_lines-own}
-use Rattle.cc_run.specs.Stands.{first_object}
-use Rattle.cc_run.specs.Pieces.{IsFill, IsWithin, Answered, answer_of}
+use Rattle.cc_model.specs.Setup.{Setup}
+use Rattle.cc_effects.specs.Moments.{Others, IsIdle}
+use Rattle.cc_effects.specs.Calls.{CallLeft}
+use Rattle.cc_pieces.specs.Rooms.{HadNoRoom}
+use Rattle.cc_pieces.specs.Served.{Served, bindings_after}
+use Rattle.cc_pieces.specs.Runs.{Ran, asked_of}
+use Rattle.cc_pieces.specs.Phases.{is_of_phase}
+use Rattle.cc_run.specs.Fills.{LeftAlone, HasRoom}
+use Rattle.cc_run.specs.Served.{IsServedLine}
 use Rattle.cc_run.specs.Lines.{Serves, ServedLines}
 
--- the size stays while pages come in
-size-fills : (from to : ℕ) (fills old : List Entry) → AllByRecursion (IsFill from to) fills → size_of (history (fills ++ old) 0) ≡ size_of (history old 0)
-size-fills from to [] old all = refl
-size-fills from to (entry.PageIn pass page from_disk ∷ fills) old all =
-    let step = history-page_in pass page from_disk (fills ++ old) 0 (eq-eqb page.stream 0 all.0.1) in
-    rw (step, size_of, sizes-came_in pass page.page from_disk (history (fills ++ old) 0)) (size-fills from to fills old all.1)
-size-fills from to (other ∷ fills) old all = absurd all.0
+-- a refusal that is not for want of room needs no reason of it
+had_no_room : (u : Setup) (limit : ℕ) (e : CcError) (old new : List Entry) → HasRoom e → HadNoRoom u limit (answer.Refused e) old new
+had_no_room u limit (error.JournalFull entries) old new room = absurd room
+had_no_room u limit e old new room = tt
 
--- a page with a byte of the range
-within-page : (from to p : ℕ) → IsWithin from to p → has_page (record { from = from; to = to }) p ≡ true
-within-page from to p w = rw (lt-ltb from to w.0, lt-ltb from (4096 * p + 4096) w.1, lt-ltb (4096 * p) to w.2) refl
-
-module _ (call : Call) (size from to : ℕ) (of_first : file_of call ≡ Some first_object) (ranged : range_of size call ≡ Some (record { from = from; to = to })) where
-  reached : (stream p : ℕ) (past : List Entry) → stream ≡ 0 → size_of (history past 0) ≡ size → IsWithin from to p → reaches call (record { stream = stream; page = p }) past ≡ true
-  reached stream p past first same w = rw (of_first, first, same, ranged) (within-page from to p w)
-
-  fills-filled : (fills old : List Entry) → AllByRecursion (IsFill from to) fills → size_of (history old 0) ≡ size → Fills 1 call fills old
-  fills-filled [] old all same = tt
-  fills-filled (entry.PageIn pass page from_disk ∷ fills) old all same =
-      ((λ is. reached page.stream page.page (fills ++ old) all.0.1 (size-fills from to fills old all.1 ∙ same) all.0.2), fills-filled fills old all.1 same)
-  fills-filled (other ∷ fills) old all same = absurd all.0
-
-  explains-answered : {T : Type 0} (reply_of : T → Reply) (nth : ℕ) (old new : List Entry) (r : Result T CcError) → Answered from to reply_of call nth old new r → size_of (history old 0) ≡ size → Explains 1 call (answer_of reply_of r) old new
-  explains-answered reply_of nth old new (Ok value) a same = record {
-    during = entry.Call 1 nth (Some 0) call (outcome.Done (reply_of value)) ∷ a.filled.fills;
-    grew = a.placed ∙ ap (λ l. entry.Call 1 nth (Some 0) call (outcome.Done (reply_of value)) ∷ l) a.filled.grew;
-    left = record { nth = nth; rest = a.filled.fills; filled = fills-filled a.filled.fills old a.filled.all same; placed = rw of_first refl };
-  }
-  explains-answered reply_of nth old new (Err error.NoMemory) a same = record {
-    during = a.fills;
-    grew = a.grew;
-    left = fills-filled a.fills old a.all same;
-  }
-  explains-answered reply_of nth old new (Err (error.ReadFault page)) a same = record {
-    during = entry.Call 1 nth (Some 0) call (outcome.Failed (error.ReadFault page)) ∷ entry.FillFailed 1 (record { stream = 0; page = page }) ∷ a.faulted.filled.fills;
-    grew = a.placed ∙ ap (λ l. entry.Call 1 nth (Some 0) call (outcome.Failed (error.ReadFault page)) ∷ l) (a.faulted.failed ∙ ap (λ l. entry.FillFailed 1 (record { stream = 0; page = page }) ∷ l) a.faulted.filled.grew);
-    left = record {
-      nth = nth;
-      stream = 0;
-      since = [];
-      rest = a.faulted.filled.fills;
-      filled = fills-filled a.faulted.filled.fills old a.faulted.filled.all same;
-      reached = reached 0 page (a.faulted.filled.fills ++ old) refl (size-fills from to a.faulted.filled.fills old a.faulted.filled.all ∙ same) a.faulted.within;
-      others = tt;
-      placed = rw of_first refl;
-    };
-  }
-  explains-answered reply_of nth old new (Err e) a same = record {
-    during = entry.Call 1 nth (Some 0) call (outcome.Failed e) ∷ a.filled.fills;
-    grew = a.placed ∙ ap (λ l. entry.Call 1 nth (Some 0) call (outcome.Failed e) ∷ l) a.filled.grew;
-    left = record { nth = nth; rest = a.filled.fills; filled = fills-filled a.filled.fills old a.filled.all same; placed = rw of_first refl };
-  }
-
--- no other caller's entry is among them
-others-fills : (from to caller : ℕ) (fills : List Entry) → caller ≢ 1 → AllByRecursion (IsFill from to) fills → Others caller fills
-others-fills from to caller [] other all = tt
-others-fills from to caller (entry.PageIn pass page from_disk ∷ fills) other all =
-    (rw all.0.0 (ne_eqb 1 caller (λ e. other (sym e))), others-fills from to caller fills other all.1)
-others-fills from to caller (e ∷ fills) other all = absurd all.0
-
-idle-answered : {T : Type 0} (from to : ℕ) (call : Call) (reply_of : T → Reply) (nth : ℕ) (old new : List Entry) (r : Result T CcError) → Answered from to reply_of call nth old new r → (caller : ℕ) → caller ≢ 1 → IsIdle caller old new
-idle-answered from to call reply_of nth old new (Ok value) a caller other = record {
-  during = entry.Call 1 nth (Some 0) call (outcome.Done (reply_of value)) ∷ a.filled.fills;
-  grew = a.placed ∙ ap (λ l. entry.Call 1 nth (Some 0) call (outcome.Done (reply_of value)) ∷ l) a.filled.grew;
-  others = (ne_eqb 1 caller (λ e. other (sym e)), others-fills from to caller a.filled.fills other a.filled.all);
-}
-idle-answered from to call reply_of nth old new (Err error.NoMemory) a caller other = record {
-  during = a.fills;
-  grew = a.grew;
-  others = others-fills from to caller a.fills other a.all;
-}
-idle-answered from to call reply_of nth old new (Err (error.ReadFault page)) a caller other = record {
-  during = entry.Call 1 nth (Some 0) call (outcome.Failed (error.ReadFault page)) ∷ entry.FillFailed 1 (record { stream = 0; page = page }) ∷ a.faulted.filled.fills;
-  grew = a.placed ∙ ap (λ l. entry.Call 1 nth (Some 0) call (outcome.Failed (error.ReadFault page)) ∷ l) (a.faulted.failed ∙ ap (λ l. entry.FillFailed 1 (record { stream = 0; page = page }) ∷ l) a.faulted.filled.grew);
-  others = (ne_eqb 1 caller (λ e. other (sym e)), (ne_eqb 1 caller (λ e. other (sym e)), others-fills from to caller a.faulted.filled.fills other a.faulted.filled.all));
-}
-idle-answered from to call reply_of nth old new (Err e) a caller other = record {
-  during = entry.Call 1 nth (Some 0) call (outcome.Failed e) ∷ a.filled.fills;
-  grew = a.placed ∙ ap (λ l. entry.Call 1 nth (Some 0) call (outcome.Failed e) ∷ l) a.filled.grew;
-  others = (ne_eqb 1 caller (λ e. other (sym e)), others-fills from to caller a.filled.fills other a.filled.all);
+-- a line whose call left what explains its answer
+pub serves-given : (u : Setup) (asked : Action) (it : Call) (reply : Reply) (old new : List Entry) → (CallLeft u 1 it (outcome.Done reply) old new → Served u 1 [] asked (answer.Given reply) old new) → LeftAlone u it (outcome.Done reply) old new → Serves u asked (answer.Given reply) old new
+serves-given u asked it reply old new served w = record {
+  explained = λ limit. record { served = served w.left; room = tt };
+  alone = w.alone;
 }
 
-pub serves-answered : {T : Type 0} (call : Call) (size from to : ℕ) → file_of call ≡ Some first_object → range_of size call ≡ Some (record { from = from; to = to }) → (reply_of : T → Reply) (nth : ℕ) (old new : List Entry) (r : Result T CcError) → Answered from to reply_of call nth old new r → size_of (history old 0) ≡ size → Serves call (answer_of reply_of r) old new
-serves-answered call size from to of_first ranged reply_of nth old new r a same = record {
-  explained = explains-answered call size from to of_first ranged reply_of nth old new r a same;
-  alone = idle-answered from to call reply_of nth old new r a;
+pub serves-refused : (u : Setup) (asked : Action) (it : Call) (e : CcError) (old new : List Entry) → (CallLeft u 1 it (outcome.Failed e) old new → Served u 1 [] asked (answer.Refused e) old new) → HasRoom e → LeftAlone u it (outcome.Failed e) old new → Serves u asked (answer.Refused e) old new
+serves-refused u asked it e old new served room w = record {
+  explained = λ limit. record { served = served w.left; room = had_no_room u limit e old new room };
+  alone = w.alone;
 }
+
+pub idle-none : (me : ℕ) (past : List Entry) → IsIdle me past past
+idle-none me past = record { during = []; grew = refl; others = tt }
+
+others-append : (me : ℕ) (xs ys : List Entry) → Others me xs → Others me ys → Others me (xs ++ ys)
+others-append me [] ys a b = b
+others-append me (x ∷ xs) ys a b = (a.0, others-append me xs ys a.1 b)
+
+idle-more : (me : ℕ) (a b c : List Entry) → IsIdle me a b → IsIdle me b c → IsIdle me a c
+idle-more me a b c first second = record {
+  during = second.during ++ first.during;
+  grew = second.grew ∙ (ap (λ l. second.during ++ l) first.grew ∙ sym (append_assoc second.during first.during a));
+  others = others-append me second.during first.during second.others first.others;
+}
+
+-- one line more, of those that pass a test
+asked_of-more : (test : ActionLine → Bool) (lines : List ActionLine) (answers : List LineReply) (line : ActionLine) (reply : LineReply) → length lines ≡ length answers → test line ≡ true → asked_of test (lines ++ line ∷ []) (answers ++ reply ∷ []) ≡ asked_of test lines answers ++ (line.action, reply.answer) ∷ []
+asked_of-more test [] [] line reply same is = rw is refl
+asked_of-more test [] (a ∷ answers) line reply same is = absurd (omega (arith, same))
+asked_of-more test (l ∷ lines) [] line reply same is = absurd (omega (arith, same))
+asked_of-more test (l ∷ lines) (a ∷ answers) line reply same is =
+    go (test l) (asked_of-more test lines answers line reply (omega (arith, same)) is)
+  where
+    go : (b : Bool) → asked_of test (lines ++ line ∷ []) (answers ++ reply ∷ []) ≡ asked_of test lines answers ++ (line.action, reply.answer) ∷ [] → cond b ((l.action, a.answer) ∷ asked_of test (lines ++ line ∷ []) (answers ++ reply ∷ [])) (asked_of test (lines ++ line ∷ []) (answers ++ reply ∷ [])) ≡ cond b ((l.action, a.answer) ∷ asked_of test lines answers) (asked_of test lines answers) ++ (line.action, reply.answer) ∷ []
+    go true rest = ap (λ more. (l.action, a.answer) ∷ more) rest
+    go false rest = rest
+
+-- no line binds a word
+bindings-stay : (asked : Action) (told : Answer) → bindings_after asked told [] ≡ []
+bindings-stay (action.CopyRead file at len wait) told = refl
+bindings-stay other told = refl
 
 -- before the first line
-pub served-none : (replies : List LineReply) (past : List Entry) → ServedLines [] replies replies past past
-served-none replies past = record {
+pub served-none : (u : Setup) (replies : List LineReply) (past : List Entry) → ServedLines u [] replies replies past past
+served-none u replies past = record {
   answers = [];
   grew = sym (append-nil replies);
   lines_are = refl;
-  ran = idle-none 1 past;
-  alone = λ caller other. idle-none caller past;
+  ran = λ limit more end ran. ran;
+  alone = λ me other. idle-none me past;
 }
 
 -- one more line
-pub served-more : (lines : List ActionLine) (line : ActionLine) (before after : List LineReply) (answer : Answer) (old between new : List Entry) → ServedLines lines before after old between → line.caller ≡ 1 → Serves (call_of line.action) answer between new → ServedLines (lines ++ line ∷ []) before (after ++ record { line = line.line; answer = answer } ∷ []) old new
-served-more lines line before after answer old between new served own serves = record {
+pub served-more : (u : Setup) (lines : List ActionLine) (line : ActionLine) (before after : List LineReply) (answer : Answer) (old between new : List Entry) → ServedLines u lines before after old between → IsServedLine line → Serves u line.action answer between new → ServedLines u (lines ++ line ∷ []) before (after ++ record { line = line.line; answer = answer } ∷ []) old new
+served-more u lines line before after answer old between new served own serves = record {
   answers = served.answers ++ record { line = line.line; answer = answer } ∷ [];
   grew = ap (λ l. l ++ record { line = line.line; answer = answer } ∷ []) served.grew ∙ append_assoc before served.answers (record { line = line.line; answer = answer } ∷ []);
   lines_are = map-append (λ r. r.line) served.answers _ ∙ (ap (λ l. l ++ line.line ∷ []) served.lines_are ∙ sym (map-append (λ l. l.line) lines (line ∷ [])));
-  ran = rw (calls_of_lines-own 1 lines served.answers line (record { line = line.line; answer = answer }) same (eq-eqb line.caller 1 own)) (ran-more 1 (calls_of_lines 1 lines served.answers) (call_of line.action) answer old between new served.ran serves.explained);
-  alone = λ caller other. idle-more caller old between new (served.alone caller other) (serves.alone caller other);
+  ran = λ limit more end ran.
+      let then : Ran u limit 1 [] ((line.action, answer) ∷ more) between end = (new, serves.explained limit, rw (bindings-stay line.action answer) ran) in
+      let grown = asked_of-more (is_of_phase 1 1) lines served.answers line (record { line = line.line; answer = answer }) same is_own in
+      let split = append_assoc (asked_of (is_of_phase 1 1) lines served.answers) ((line.action, answer) ∷ []) more in
+      rw (grown, split) (served.ran limit ((line.action, answer) ∷ more) end then);
+  alone = λ me other. idle-more me old between new (served.alone me other) (serves.alone me other);
 }
   where
     same : length lines ≡ length served.answers
     same = sym (length-map lines (λ l. l.line)) ∙ (ap length (sym served.lines_are) ∙ length-map served.answers (λ r. r.line))
+
+    is_own : is_of_phase 1 1 line ≡ true
+    is_own = rw (own.caller, own.phase) refl
+
+-- a fact of each element, and of one more
+pub all-more : {X : Type 0} (P : X → Type 0) (xs : List X) (x : X) → AllByRecursion P xs → P x → AllByRecursion P (xs ++ x ∷ [])
+all-more P [] x all one = (one, tt)
+all-more P (y ∷ ys) x all one = (all.0, all-more P ys x all.1 one)
 
 -- a fact of each element, of one
 pub all-at : {X : Type 0} (P : X → Type 0) (xs : List X) (i : ℕ) (d : X) → i < length xs → AllByRecursion P xs → P (get_or xs i d)

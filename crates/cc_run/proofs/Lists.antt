@@ -5,6 +5,7 @@ use Rattle.std.specs.List.{list_all, range_with_len, IsDistinct, AllByRecursion}
 use Rattle.std.specs.Set.{unique_keys, distinct_count, is_member}
 use Rattle.std.proofs.lemmas.Map.Steps.{length-le_from_distinct_below}
 use Rattle.std.proofs.Math.Seq.{drop-cons}
+use Rattle.cc_run.specs.Stands.{flag_at}
 
 -- a number that is kept once is in the list
 is_member-unique : (xs : List ℕ) (q : ℕ) → is_member eqb (unique_keys eqb xs) q ≡ true → is_member eqb xs q ≡ true
@@ -78,3 +79,9 @@ list-map f (x ∷ xs) a same =
     let rest : xs ≡ map f (range_with_len (a + 1) (length xs)) =
     list-map f xs (a + 1) (λ k low. same (suc k) (omega arith) ∙ ap f (omega arith)) in
     ap (λ y. y ∷ xs) first ∙ ap (λ ys. f a ∷ ys) rest
+
+-- a flag that is set is that of a page of the list
+pub flag-below : (flags : List Bool) (p : ℕ) → flag_at flags p ≡ true → p < length flags
+flag-below [] p f = absurd (cc)
+flag-below (x ∷ xs) zero f = omega arith
+flag-below (x ∷ xs) (suc p) f = omega (arith, flag-below xs p f)

@@ -1,5 +1,5 @@
 -- The list of pages stands for its past once the first object was initialised.
-use Rattle.std.proofs.Common.{◌≡◌, ℕ, zero, suc, replicate, ◌/◌, ◌^◌, ◌≤◌, Bool, true, false, nat_lt, nat_le, List, [], ◌∷◌, reverse, refl, sym, arith, Option, Some, None}
+use Rattle.std.proofs.Common.{◌≡◌, ℕ, zero, suc, replicate, ◌/◌, ◌^◌, ◌≤◌, Bool, true, false, nat_lt, nat_le, List, [], ◌∷◌, reverse, refl, arith, Option, Some, None}
 use Rattle.std.proofs.lemmas.Bool.{lt-ltb, le-leb}
 use Rattle.cc_entry.specs.declared.call.Call.TheVariants as call
 use Rattle.cc_entry.specs.declared.reply.Reply.TheVariants as reply
@@ -11,10 +11,9 @@ use Rattle.cc_model.specs.Setup.{Setup}
 use Rattle.cc_model.specs.History.{history}
 use Rattle.cc_model.specs.Objects.{objects, had_map}
 use Rattle.cc_model.specs.Holds.{holds_of}
-use Rattle.cc_model.specs.Touches.{touched, sizes}
+use Rattle.cc_model.specs.Touches.{touched}
 use Rattle.cc_model.specs.Bytes.{content}
 use Rattle.cc_model.specs.Settings.{quota_of}
-use Rattle.cc_model.specs.Residency.{residents}
 use Rattle.cc_model.specs.Images.{open_of}
 use Rattle.cc_model.specs.Cache.{views_taken}
 use Rattle.cc_model.specs.Passes.{calls_of}
@@ -25,6 +24,7 @@ use Rattle.cc_model.specs.Allowed.{IsAllowed, IsAllowedSoFar}
 use Rattle.cc_model.specs.Good.{IsGood}
 use Rattle.cc_run.specs.Stands.{Stands, flag_at, first_object, opening_of}
 use Rattle.cc_run.proofs.GoodSteps.{good-call}
+use Rattle.cc_run.proofs.AgreeSteps.{agrees-opened}
 
 -- the empty journal is good
 pub good-empty : (u : Setup) → IsGood u []
@@ -44,9 +44,9 @@ opening_admitted u size valid below small =
     let third : nat_lt size (2 ^ 63) ≡ true = lt-ltb size (2 ^ 63) (omega arith) in
     rw (first, second, third) refl
 
-pub stands-opened : {u : Setup} {told : Option Disk} (size valid : ℕ) (bytes : List ℕ) (resident : List Bool) → valid ≤ size → size ≤ 4194304 → u.opening 0 ≡ opening_of told → ((p : ℕ) → flag_at resident p ≡ false) → Stands u told size valid 0 bytes resident (entry.Call 0 1 (Some 0) (call.Initialise first_object (record { allocation = size; size = size; valid = valid }) 16 false) (outcome.Done reply.Unit) ∷ [])
-unfolding history objects had_map touched holds_of sizes quota_of open_of residents content calls_of
-stands-opened {u = u} size valid bytes resident below small opening clear =
+pub stands-opened : {u : Setup} {told : Option Disk} (size valid : ℕ) (bytes : List ℕ) (resident dirty : List Bool) → valid ≤ size → size ≤ 4194304 → u.opening 0 ≡ opening_of told → ((p : ℕ) → flag_at resident p ≡ false) → ((p : ℕ) → flag_at dirty p ≡ false) → Stands u told size valid 0 bytes resident dirty (entry.Call 0 1 (Some 0) (call.Initialise first_object (record { allocation = size; size = size; valid = valid }) 16 false) (outcome.Done reply.Unit) ∷ [])
+unfolding history objects had_map touched holds_of quota_of open_of content calls_of
+stands-opened {u = u} size valid bytes resident dirty below small opening clear clean =
     record {
       good = good-call u 0 1 (Some 0) (call.Initialise first_object (record { allocation = size; size = size; valid = valid }) 16 false) (outcome.Done reply.Unit) [] refl (opening_admitted u size valid below small, refl) (record {
         number = refl;
@@ -54,15 +54,14 @@ stands-opened {u = u} size valid bytes resident below small opening clear =
         may_end = (tt, tt);
       }) (good-empty u);
       opening = opening;
-      objects_are = refl;
-      sizes_are = refl;
+      agrees = agrees-opened size valid resident dirty clear clean;
       no_hold = refl;
       quota_is = refl;
       no_transfer = refl;
       calls_are = refl;
-      resident_are = λ p. sym (clear p);
       bytes_are = λ disk is i flag. absurd (cc (clear (i / 4096)));
-      unwritten = λ disk is i flag. refl;
+      opening_bytes = λ disk is i flag. refl;
+      zeros = λ i flag past_valid. absurd (cc (clear (i / 4096)));
     }
 
 -- flags that are all clear are clear at every page

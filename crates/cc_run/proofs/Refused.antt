@@ -26,7 +26,7 @@ blocks_of-within r small = distinct_count-below (blocks_of r) 16 (λ q m. by (na
     by true some q m = let low : r.from < r.to = ltb-true r.from r.to some in omega (arith, is_member-range _ _ q m)
     by false none q m = absurd (cc)
 
-module _ {u : Setup} {told : Option Disk} {size valid calls : ℕ} {bytes : List ℕ} {resident : List Bool} {past : List Entry} (s : Stands u told size valid calls bytes resident past) (small : size ≤ 4194304) where
+module _ {u : Setup} {told : Option Disk} {size valid calls : ℕ} {bytes : List ℕ} {resident dirty : List Bool} {past : List Entry} (s : Stands u told size valid calls bytes resident dirty past) (small : size ≤ 4194304) where
   -- the blocks of a range within the stream fit its quota
   fits_quota : (r : Range) → r.to ≤ 4194304 → nat_lt 16 (distinct_count eqb (blocks_of r)) ≡ false
   fits_quota r ends = le-ltb 16 _ (blocks_of-within r ends)
@@ -36,40 +36,40 @@ module _ {u : Setup} {told : Option Disk} {size valid calls : ℕ} {bytes : List
   read_admitted at len short =
       let not_long : nat_lt 1048576 len ≡ false = le-ltb 1048576 len short in
       let fits = fits_quota (cut_range size at len) (omega arith) in
-      rw (s.objects_are, not_long, s.quota_is, s.no_hold, size_of, s.sizes_are, fits) refl
+      rw (s.agrees.objects_are, not_long, s.quota_is, s.no_hold, size_of, s.agrees.sizes_are, fits) refl
 
   pub read_too_long : (at len : ℕ) → 1048576 < len → refusal u past (history past 0) (call.CopyRead first_object at len true) ≡ Some (error.TooLong 1048576)
   unfolding refusal
   read_too_long at len long =
       let too_long : nat_lt 1048576 len ≡ true = lt-ltb 1048576 len long in
-      rw (s.objects_are, too_long) refl
+      rw (s.agrees.objects_are, too_long) refl
 
-  pub write_admitted : (at : ℕ) (piece : List ℕ) → length piece ≤ 1048576 → at + length piece ≤ size → at ≤ valid → refusal u past (history past 0) (call.CopyWrite first_object at piece) ≡ None
+  pub write_admitted : (at : ℕ) (written : List ℕ) → length written ≤ 1048576 → at + length written ≤ size → at ≤ valid → refusal u past (history past 0) (call.CopyWrite first_object at written) ≡ None
   unfolding refusal
-  write_admitted at piece short within below =
-      let not_long : nat_lt 1048576 (length piece) ≡ false = le-ltb 1048576 _ short in
-      let not_past : nat_lt size (at + length piece) ≡ false = le-ltb size _ within in
+  write_admitted at written short within below =
+      let not_long : nat_lt 1048576 (length written) ≡ false = le-ltb 1048576 _ short in
+      let not_past : nat_lt size (at + length written) ≡ false = le-ltb size _ within in
       let not_above : nat_lt valid at ≡ false = le-ltb valid at below in
-      let fits = fits_quota (whole_range at (length piece)) (omega arith) in
-      rw (s.objects_are, not_long, size_of, valid_of, s.sizes_are, not_past, not_above, s.quota_is, s.no_hold, fits) refl
+      let fits = fits_quota (whole_range at (length written)) (omega arith) in
+      rw (s.agrees.objects_are, not_long, size_of, valid_of, s.agrees.sizes_are, not_past, not_above, s.quota_is, s.no_hold, fits) refl
 
-  pub write_too_long : (at : ℕ) (piece : List ℕ) → 1048576 < length piece → refusal u past (history past 0) (call.CopyWrite first_object at piece) ≡ Some (error.TooLong 1048576)
+  pub write_too_long : (at : ℕ) (written : List ℕ) → 1048576 < length written → refusal u past (history past 0) (call.CopyWrite first_object at written) ≡ Some (error.TooLong 1048576)
   unfolding refusal
-  write_too_long at piece long =
-      let too_long : nat_lt 1048576 (length piece) ≡ true = lt-ltb 1048576 _ long in
-      rw (s.objects_are, too_long) refl
+  write_too_long at written long =
+      let too_long : nat_lt 1048576 (length written) ≡ true = lt-ltb 1048576 _ long in
+      rw (s.agrees.objects_are, too_long) refl
 
-  pub write_past_size : (at : ℕ) (piece : List ℕ) → length piece ≤ 1048576 → size < at + length piece → refusal u past (history past 0) (call.CopyWrite first_object at piece) ≡ Some (error.BeyondSize size)
+  pub write_past_size : (at : ℕ) (written : List ℕ) → length written ≤ 1048576 → size < at + length written → refusal u past (history past 0) (call.CopyWrite first_object at written) ≡ Some (error.BeyondSize size)
   unfolding refusal
-  write_past_size at piece short past_end =
-      let not_long : nat_lt 1048576 (length piece) ≡ false = le-ltb 1048576 _ short in
-      let ends_past : nat_lt size (at + length piece) ≡ true = lt-ltb size _ past_end in
-      rw (s.objects_are, not_long, size_of, s.sizes_are, ends_past) refl
+  write_past_size at written short past_end =
+      let not_long : nat_lt 1048576 (length written) ≡ false = le-ltb 1048576 _ short in
+      let ends_past : nat_lt size (at + length written) ≡ true = lt-ltb size _ past_end in
+      rw (s.agrees.objects_are, not_long, size_of, s.agrees.sizes_are, ends_past) refl
 
-  pub write_past_valid : (at : ℕ) (piece : List ℕ) → length piece ≤ 1048576 → at + length piece ≤ size → valid < at → refusal u past (history past 0) (call.CopyWrite first_object at piece) ≡ Some (error.BeyondValid valid)
+  pub write_past_valid : (at : ℕ) (written : List ℕ) → length written ≤ 1048576 → at + length written ≤ size → valid < at → refusal u past (history past 0) (call.CopyWrite first_object at written) ≡ Some (error.BeyondValid valid)
   unfolding refusal
-  write_past_valid at piece short within above =
-      let not_long : nat_lt 1048576 (length piece) ≡ false = le-ltb 1048576 _ short in
-      let not_past : nat_lt size (at + length piece) ≡ false = le-ltb size _ within in
+  write_past_valid at written short within above =
+      let not_long : nat_lt 1048576 (length written) ≡ false = le-ltb 1048576 _ short in
+      let not_past : nat_lt size (at + length written) ≡ false = le-ltb size _ within in
       let starts_past : nat_lt valid at ≡ true = lt-ltb valid at above in
-      rw (s.objects_are, not_long, size_of, valid_of, s.sizes_are, not_past, starts_past) refl
+      rw (s.agrees.objects_are, not_long, size_of, valid_of, s.agrees.sizes_are, not_past, starts_past) refl

@@ -1,17 +1,16 @@
 -- What each exit status says, and when it comes.
-use Rattle.std.proofs.Common.{◌≡◌, ◌≢◌, ℕ, ◌<◌, ◌≤◌, true, false, List, [], length, reverse, is_some, IfSome, Option, Some, None, Result, Ok, Err, ◌⊎◌, inl, inr, refl, sym, ◌∙◌, ap, arith}
+use Rattle.std.proofs.Common.{◌≡◌, ◌≢◌, ℕ, ◌<◌, ◌≤◌, true, false, List, [], ◌++◌, length, length-append, append-nil, reverse, is_some, IfSome, Option, Some, None, Result, Ok, Err, ◌⊎◌, inl, inr, refl, sym, ◌∙◌, ap, arith}
 use Rattle.cc_entry.specs.declared.answer.LineReply.{LineReply}
 use Rattle.cc_entry.specs.declared.entry.Entry.{Entry}
-use Rattle.cc_traits.specs.Told.{IfTold}
+use Rattle.cc_traits.specs.Told.{Both, IfTold, Gave}
 use Rattle.cc_script.specs.declared.script.Script.{Script}
 use Rattle.cc_script.specs.declared.script.Mode.TheVariants as mode
 use Rattle.cc_script.specs.declared.script.Offer.TheVariants as offer
 use Rattle.cc_script.specs.Grammar.{script_of}
 use Rattle.cc_print.specs.Text.{text_of}
-use Rattle.cc_pieces.specs.Runs.{IsExplained}
 use Rattle.cc_pieces.specs.Table.{table_of}
 use Rattle.cc_run.specs.Words.{is_run}
-use Rattle.cc_run.specs.Ends.{Input, Output, status_of, IsCause, IsTaken, IsWrong, IsTooLong, HasTooFewDisks, HasFailed, Spells, IsPut, IsRun, IsEnded}
+use Rattle.cc_run.specs.Ends.{Input, Output, status_of, IsCause, IsRead, IsWrong, WasTaken, TookMany, HasTooFewDisks, HasFailed, Spells, IsPut, IsRun, IsEnded}
 use Rattle.cc_run.specs.Complete.{Comes}
 use Rattle.cc_run.specs.declared.no_run.NoRun.{NoRun}
 use Rattle.cc_run.specs.declared.no_run.NoRun.TheVariants as no_run
@@ -21,15 +20,29 @@ told-same : (left : Option (List ℕ)) (told bytes : List ℕ) → left ≡ Some
 told-same None told bytes is all = absurd (cc is)
 told-same (Some l) told bytes is all = all ∙ (cc is)
 
-taken-few : (left after : Option (List ℕ)) (told : List ℕ) → left ≡ Some told → IsTaken left after → length told ≤ 16777216
-taken-few None after told is taken = absurd (cc is)
-taken-few (Some l) None told is taken = absurd taken
-taken-few (Some l) (Some a) told is taken = let same : l ≡ told = cc is in rw same at taken.1
+-- a source that was read to its end told as many bytes as were taken from it
+read-count : (left after : Option (List ℕ)) (told bytes : List ℕ) → left ≡ Some told → Both left after (Gave bytes) → IfTold after (λ rest. rest ≡ []) → length told ≡ length bytes
+read-count None after told bytes is gave end = absurd (cc is)
+read-count (Some l) None told bytes is gave end = absurd gave
+read-count (Some l) (Some a) told bytes is gave end =
+    let same : l ≡ told = cc is in
+    ap length (sym same ∙ (gave ∙ (ap (λ rest. bytes ++ rest) end ∙ append-nil bytes)))
 
-long-many : (left after : Option (List ℕ)) (told : List ℕ) → left ≡ Some told → IsTooLong left after → 16777216 < length told
-long-many None after told is long = absurd (cc is)
-long-many (Some l) None told is long = absurd long
-long-many (Some l) (Some a) told is long = let same : l ≡ told = cc is in omega (arith, long, ap length same)
+-- at most as many bytes were taken as a source told
+taken-count : (left after : Option (List ℕ)) (told bytes : List ℕ) → left ≡ Some told → Both left after (Gave bytes) → length bytes ≤ length told
+taken-count None after told bytes is gave = absurd (cc is)
+taken-count (Some l) None told bytes is gave = absurd gave
+taken-count (Some l) (Some a) told bytes is gave =
+    let same : l ≡ told = cc is in
+    omega (arith, ap length (sym same ∙ gave), length-append bytes a)
+
+-- a source that was read to its end told few bytes
+read-few : (i : Input) (told : List ℕ) → WasTaken i.left i.left_after i.taken i.taken_after → i.left ≡ Some told → IsRead i → length told ≤ 16777216
+read-few i told w is read = omega (arith, read-count i.left i.left_after told w.bytes is w.front read.end, w.count, read.few)
+
+-- where many bytes were taken, a source told many
+many-told : (i : Input) (told : List ℕ) → WasTaken i.left i.left_after i.taken i.taken_after → i.left ≡ Some told → TookMany i → 16777216 < length told
+many-told i told w is many = omega (arith, taken-count i.left i.left_after told w.bytes is w.front, w.count, many)
 
 wrong-is : (left : Option (List ℕ)) (told : List ℕ) (line : ℕ) → left ≡ Some told → IsWrong left line → script_of offer.Copies mode.Run told ≡ Err line
 wrong-is left told line is w = rw (told-same left told w.bytes is w.all) at w.wrong
@@ -84,10 +97,10 @@ module _ (i : Input) (o : Output) (script : Option Script) (replies : List LineR
       by no_run.ReadFault is cause = cause.1
       by other is cause = absurd (cc is)
 
-  pub too_long-at : status ≡ 5 → IsTooLong i.left i.left_after
-  too_long-at = cause-at 5 (IsTooLong i.left i.left_after) by (λ e. absurd (cc e)) (λ e. absurd (cc e)) (λ e. absurd (cc e))
+  pub too_long-at : status ≡ 5 → TookMany i
+  too_long-at = cause-at 5 (TookMany i) by (λ e. absurd (cc e)) (λ e. absurd (cc e)) (λ e. absurd (cc e))
     where
-      by : (why : NoRun) → 5 ≡ status_of why → IsCause i why → IsTooLong i.left i.left_after
+      by : (why : NoRun) → 5 ≡ status_of why → IsCause i why → TookMany i
       by no_run.TooLong is cause = cause.1
       by other is cause = absurd (cc is)
 
@@ -99,8 +112,8 @@ module _ (i : Input) (o : Output) (script : Option Script) (replies : List LineR
       by other is cause = absurd (cc is)
 
   -- only a failed sink leaves a text unprinted at status 4
-  pub unwritten-at : status ≡ 4 → HasFailed o
-  unwritten-at is = go script ended
+  pub write_fault-at : status ≡ 4 → HasFailed o
+  write_fault-at is = go script ended
     where
       none : (why : NoRun) → 4 ≡ status_of why → HasFailed o
       none no_run.Usage at = absurd (cc at)
@@ -151,13 +164,6 @@ module _ (i : Input) (o : Output) (script : Option Script) (replies : List LineR
       go None e = tt
       go (Some one) e = e.spelled
 
-  pub explained-at : IfSome script (λ made. IsExplained made.streams made.lines replies (reverse journal))
-  explained-at = go script ended
-    where
-      go : (s : Option Script) → IsEnded i o s replies journal status → IfSome s (λ made. IsExplained made.streams made.lines replies (reverse journal))
-      go None e = tt
-      go (Some one) e = e.explained
-
   pub empty-at : script ≡ None → journal ≡ []
   empty-at is = go script ended is
     where
@@ -184,42 +190,56 @@ module _ (i : Input) (o : Output) (script : Option Script) (replies : List LineR
       go None e = at e.2.why e.2.status_is (by e.2.why e.2.cause)
       go (Some one) e = run one e
 
-  pub syntax-always : (bytes : List ℕ) (line : ℕ) → Comes i bytes → script_of offer.Copies mode.Run bytes ≡ Err line → (status ≡ 2) ⊎ (status ≡ 6)
-  syntax-always bytes line comes wrong = refused-at 2 by run
+  pub syntax-always : WasTaken i.left i.left_after i.taken i.taken_after → (bytes : List ℕ) (line : ℕ) → Comes i bytes → script_of offer.Copies mode.Run bytes ≡ Err line → (status ≡ 2) ⊎ (status ≡ 6)
+  syntax-always w bytes line comes wrong = refused-at 2 by run
     where
       by : (why : NoRun) → IsCause i why → (status_of why ≡ 2) ⊎ (status_of why ≡ 6)
       by no_run.Usage cause = absurd (cc (cause, comes.words))
       by (no_run.Syntax l) cause = inl refl
       by no_run.ReadFault cause = absurd (omega (arith, cause.1, comes.no_fault))
-      by no_run.TooLong cause = absurd (omega (arith, long-many i.left i.left_after bytes comes.told cause.1, comes.short))
+      by no_run.TooLong cause = absurd (omega (arith, many-told i bytes w comes.told cause.1, comes.short))
       by no_run.NoMemory cause = inr refl
       by no_run.TooFewDevices cause = absurd (not-both _ cause.1.script line (spells-is i.left bytes cause.1.script comes.told cause.1.spelled) wrong)
 
       run : (made : Script) → IsRun i o made replies journal status → (status ≡ 2) ⊎ (status ≡ 6)
       run made e = absurd (not-both _ made line (spells-is i.left bytes made comes.told e.spelled) wrong)
 
-  pub too_long-always : (bytes : List ℕ) → is_run i.words ≡ true → i.left ≡ Some bytes → i.faults_after ≡ i.faults → 16777216 < length bytes → (status ≡ 5) ⊎ (status ≡ 6)
-  too_long-always bytes words told no_fault many = refused-at 5 by run
+  pub too_long-always : (is_run i.words ≡ false → i.taken_after ≡ i.taken) → TookMany i → (status ≡ 5) ⊎ (status ≡ 6)
+  too_long-always untouched many = refused-at 5 by run
+    where
+      by : (why : NoRun) → IsCause i why → (status_of why ≡ 5) ⊎ (status_of why ≡ 6)
+      by no_run.Usage cause = absurd (omega (arith, untouched cause, many))
+      by (no_run.Syntax l) cause = absurd (omega (arith, cause.0.few, many))
+      by no_run.ReadFault cause = absurd (omega (arith, cause.2, many))
+      by no_run.TooLong cause = inl refl
+      by no_run.NoMemory cause = inr refl
+      by no_run.TooFewDevices cause = absurd (omega (arith, cause.0.few, many))
+
+      run : (made : Script) → IsRun i o made replies journal status → (status ≡ 5) ⊎ (status ≡ 6)
+      run made e = absurd (omega (arith, e.read.few, many))
+
+  pub too_long-told : WasTaken i.left i.left_after i.taken i.taken_after → (bytes : List ℕ) → is_run i.words ≡ true → i.left ≡ Some bytes → i.faults_after ≡ i.faults → 16777216 < length bytes → (status ≡ 5) ⊎ (status ≡ 6)
+  too_long-told w bytes words told no_fault many = refused-at 5 by run
     where
       by : (why : NoRun) → IsCause i why → (status_of why ≡ 5) ⊎ (status_of why ≡ 6)
       by no_run.Usage cause = absurd (cc (cause, words))
-      by (no_run.Syntax l) cause = absurd (omega (arith, taken-few i.left i.left_after bytes told cause.0.taken, many))
+      by (no_run.Syntax l) cause = absurd (omega (arith, read-few i bytes w told cause.0, many))
       by no_run.ReadFault cause = absurd (omega (arith, cause.1, no_fault))
       by no_run.TooLong cause = inl refl
       by no_run.NoMemory cause = inr refl
-      by no_run.TooFewDevices cause = absurd (omega (arith, taken-few i.left i.left_after bytes told cause.0.taken, many))
+      by no_run.TooFewDevices cause = absurd (omega (arith, read-few i bytes w told cause.0, many))
 
       run : (made : Script) → IsRun i o made replies journal status → (status ≡ 5) ⊎ (status ≡ 6)
-      run made e = absurd (omega (arith, taken-few i.left i.left_after bytes told e.read.taken, many))
+      run made e = absurd (omega (arith, read-few i bytes w told e.read, many))
 
-  pub too_few-always : (bytes : List ℕ) (made : Script) → Comes i bytes → script_of offer.Copies mode.Run bytes ≡ Ok made → i.disks < length made.streams → (status ≡ 7) ⊎ (status ≡ 6)
-  too_few-always bytes made comes spelled few = refused-at 7 by run
+  pub too_few-always : WasTaken i.left i.left_after i.taken i.taken_after → (bytes : List ℕ) (made : Script) → Comes i bytes → script_of offer.Copies mode.Run bytes ≡ Ok made → i.disks < length made.streams → (status ≡ 7) ⊎ (status ≡ 6)
+  too_few-always w bytes made comes spelled few = refused-at 7 by run
     where
       by : (why : NoRun) → IsCause i why → (status_of why ≡ 7) ⊎ (status_of why ≡ 6)
       by no_run.Usage cause = absurd (cc (cause, comes.words))
       by (no_run.Syntax l) cause = absurd (not-both _ made l spelled (wrong-is i.left bytes l comes.told cause.1))
       by no_run.ReadFault cause = absurd (omega (arith, cause.1, comes.no_fault))
-      by no_run.TooLong cause = absurd (omega (arith, long-many i.left i.left_after bytes comes.told cause.1, comes.short))
+      by no_run.TooLong cause = absurd (omega (arith, many-told i bytes w comes.told cause.1, comes.short))
       by no_run.NoMemory cause = inr refl
       by no_run.TooFewDevices cause = inl refl
 
@@ -228,14 +248,14 @@ module _ (i : Input) (o : Output) (script : Option Script) (replies : List LineR
           let same : one ≡ made = one-script _ one made (spells-is i.left bytes one comes.told e.spelled) spelled in
           absurd (omega (arith, few, e.enough, ap (λ s. length s.streams) same))
 
-  pub complete : (bytes : List ℕ) (made : Script) → Comes i bytes → script_of offer.Copies mode.Run bytes ≡ Ok made → length made.streams ≤ i.disks → o.faults_after ≡ o.faults → o.stalls_after ≡ o.stalls → (status ≡ 0) ⊎ (status ≡ 6)
-  complete bytes made comes spelled enough calm steady = refused-at 0 by run
+  pub complete : WasTaken i.left i.left_after i.taken i.taken_after → (bytes : List ℕ) (made : Script) → Comes i bytes → script_of offer.Copies mode.Run bytes ≡ Ok made → length made.streams ≤ i.disks → o.faults_after ≡ o.faults → o.stalls_after ≡ o.stalls → (status ≡ 0) ⊎ (status ≡ 6)
+  complete w bytes made comes spelled enough calm steady = refused-at 0 by run
     where
       by : (why : NoRun) → IsCause i why → (status_of why ≡ 0) ⊎ (status_of why ≡ 6)
       by no_run.Usage cause = absurd (cc (cause, comes.words))
       by (no_run.Syntax l) cause = absurd (not-both _ made l spelled (wrong-is i.left bytes l comes.told cause.1))
       by no_run.ReadFault cause = absurd (omega (arith, cause.1, comes.no_fault))
-      by no_run.TooLong cause = absurd (omega (arith, long-many i.left i.left_after bytes comes.told cause.1, comes.short))
+      by no_run.TooLong cause = absurd (omega (arith, many-told i bytes w comes.told cause.1, comes.short))
       by no_run.NoMemory cause = inr refl
       by no_run.TooFewDevices cause =
           let same : cause.1.script ≡ made = one-script _ cause.1.script made (spells-is i.left bytes cause.1.script comes.told cause.1.spelled) spelled in

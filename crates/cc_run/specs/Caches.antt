@@ -11,17 +11,17 @@ use Rattle.cc_traits.specs.Disk.{Disk}
 use Rattle.cc_model.specs.Setup.{Setup}
 use Rattle.cc_model.specs.Faults.{faults_since, is_failed_read}
 use Rattle.cc_run.specs.Past.{Past}
-use Rattle.cc_run.specs.Stands.{Stands, flag_at, first_object}
-use Rattle.cc_run.specs.Plain.{IsPlain}
+use Rattle.cc_run.specs.Stands.{Agrees, Stands, flag_at, first_object}
 use Rattle.cc_run.specs.declared.cache.Cache.{Cache}
 
 -- the cache, over a disk that tells this, stands for the past that its journal has
 abbrev pub CacheStands : Setup → Option Disk → Cache → Type 0
-CacheStands u told c = Stands u told c.size c.valid c.calls c.bytes.items c.resident.items c.journal.entries
+CacheStands u told c =
+    Stands u told c.size c.valid c.calls c.bytes.items c.resident.items c.dirty.items c.journal.entries
 
--- the cache has the size and the dirty pages that its journal says
-abbrev pub IsPlainCache : Cache → Type 0
-IsPlainCache c = IsPlain c.size c.dirty.items c.journal.entries
+-- the cache has the sizes and the resident and dirty pages that its journal says
+abbrev pub CacheAgrees : Cache → Type 0
+CacheAgrees c = Agrees c.size c.valid c.resident.items c.dirty.items c.journal.entries
 
 -- a step that only brings pages in keeps the rest
 pub record Keeps (old new : Cache) : Type 0 where
@@ -59,9 +59,9 @@ WriteStopped size valid at len j (error.BeyondValid end) =
     (end ≡ valid) × (len ≤ 1048576) × (at + len ≤ size) × (valid < at) × (0 < j.room)
 WriteStopped size valid at len j e = ⊥
 
--- A piece was written into the cache, whose journal does not have its entry yet: with that entry it
--- stands again.
-abbrev pub IsChanged : Setup → Option Disk → Cache → Cache → ℕ → List ℕ → Type 0
-IsChanged u told old new at piece =
-    Stands u told new.size new.valid (suc new.calls) new.bytes.items new.resident.items
-    (entry.Call 1 (suc new.calls) (Some 0) (call.CopyWrite first_object at piece) (outcome.Done reply.Unit) ∷ new.journal.entries)
+-- Bytes were written into the cache, whose journal does not have the write's entry yet: with that entry it
+-- stands.
+abbrev pub StandsWithWrite : Setup → Option Disk → Cache → ℕ → List ℕ → Type 0
+StandsWithWrite u told c at bytes =
+    Stands u told c.size c.valid (suc c.calls) c.bytes.items c.resident.items c.dirty.items
+    (entry.Call 1 (suc c.calls) (Some 0) (call.CopyWrite first_object at bytes) (outcome.Done reply.Unit) ∷ c.journal.entries)

@@ -1,12 +1,12 @@
--- When each exit status is sure to come, where the source tells its bytes: that status, or 6 for want of
--- memory.
+-- When each exit status is sure to come: that status, or 6 for want of memory. A source that tells nothing
+-- says so of the count of its bytes alone.
 use Rattle.std.specs.Prelude.{◌≡◌, ◌<◌, ◌≤◌, ◌⊎◌, true, List, ℕ, length, Some, Result, Ok, Err}
 use Rattle.cc_script.specs.declared.script.Script.{Script}
 use Rattle.cc_script.specs.declared.script.Mode.TheVariants as mode
 use Rattle.cc_script.specs.declared.script.Offer.TheVariants as offer
 use Rattle.cc_script.specs.Grammar.{script_of}
 use Rattle.cc_run.specs.Words.{is_run}
-use Rattle.cc_run.specs.Ends.{Input, Output}
+use Rattle.cc_run.specs.Ends.{Input, Output, TookMany}
 
 -- The words are right, and these bytes, no more than a script may have, come from a source without a fault.
 pub record Comes (i : Input) (bytes : List ℕ) : Type 0 where
@@ -27,15 +27,23 @@ EndsWith status expected = (status ≡ expected) ⊎ (status ≡ 6)
 abbrev pub SyntaxAlways : Input → ℕ → Type 0
 SyntaxAlways i status = (bytes : List ℕ) (line : ℕ) → Comes i bytes → spelled_by bytes ≡ Err line → EndsWith status 2
 
--- more bytes than a script may have are 5
+-- more bytes taken than a script may have are 5
 abbrev pub TooLongAlways : Input → ℕ → Type 0
-TooLongAlways i status = (bytes : List ℕ) → is_run i.words ≡ true → i.left ≡ Some bytes → i.faults_after ≡ i.faults → 16777216 < length bytes → EndsWith status 5
+TooLongAlways i status = TookMany i → EndsWith status 5
+
+-- where the source tells its bytes and does not fail, more of them than a script may have are 5
+abbrev pub TooLongTold : Input → ℕ → Type 0
+TooLongTold i status =
+    (bytes : List ℕ) → is_run i.words ≡ true → i.left ≡ Some bytes → i.faults_after ≡ i.faults → 16777216 < length bytes → EndsWith status 5
 
 -- more streams than disks are 7
 abbrev pub TooFewAlways : Input → ℕ → Type 0
-TooFewAlways i status = (bytes : List ℕ) (script : Script) → Comes i bytes → spelled_by bytes ≡ Ok script → i.disks < length script.streams → EndsWith status 7
+TooFewAlways i status =
+    (bytes : List ℕ) (script : Script) → Comes i bytes → spelled_by bytes ≡ Ok script → i.disks < length script.streams → EndsWith status 7
 
 -- A script of the grammar, with a disk for each stream, over a sink that does not fail and takes something
--- of each piece, is 0.
+-- wherever there are bytes, is 0.
 abbrev pub Completes : Input → Output → ℕ → Type 0
-Completes i o status = (bytes : List ℕ) (script : Script) → Comes i bytes → spelled_by bytes ≡ Ok script → length script.streams ≤ i.disks → o.faults_after ≡ o.faults → o.stalls_after ≡ o.stalls → EndsWith status 0
+Completes i o status =
+    (bytes : List ℕ) (script : Script) → Comes i bytes → spelled_by bytes ≡ Ok script → length script.streams ≤ i.disks →
+    o.faults_after ≡ o.faults → o.stalls_after ≡ o.stalls → EndsWith status 0

@@ -7,13 +7,29 @@ use Rattle.cc_model.specs.Images.{image}
 use Rattle.cc_pieces.specs.Failures.{failures}
 
 -- nothing was written back, so the image of each page is the opening page
-abbrev pub IsUnwritten : List Entry → Type 0
-IsUnwritten past = (pages : ℕ → List ℕ) (s p : ℕ) → image pages (history past s) p ≡ Some (pages p)
+abbrev pub IsUnchanged : List Entry → Type 0
+IsUnchanged past = (pages : ℕ → List ℕ) (s p : ℕ) → image pages (history past s) p ≡ Some (pages p)
 
--- As many disks come back, in their order. Each tells what it told, and its count of faults rose at least
--- by the failures of its stream's disk that the past shows. Where it tells its pages, it holds the image of
--- each page whose image is known.
-pub record DisksAre {D : Type 0} (told : D → Option Disk) (faults : D → ℕ) (past : List Entry) (old new : List D) : Type 0 where
+-- a relation of each disk as it was handed in and as it came back, with the number of its stream
+abbrev pub Pairwise : {D : Type 0} → (ℕ → D → D → Type 0) → List D → List D → Type 0
+Pairwise {D} R old new = (s : ℕ) (before after : D) → slice_get old s ≡ Some before → slice_get new s ≡ Some after → R s before after
+
+-- where a disk tells its pages before and after, it holds the image of each page whose image is known
+abbrev pub HoldsImages : {D : Type 0} → (D → Option Disk) → List Entry → ℕ → D → D → Type 0
+HoldsImages told past s before after =
+    (opening held : Disk) → told before ≡ Some opening → told after ≡ Some held → (p : ℕ) (bytes : List ℕ) →
+    image (page_of opening) (history past s) p ≡ Some bytes → page_of held p ≡ bytes
+
+-- as many disks come back, in their order; each tells what it told, and holds its images
+pub record DisksAre {D : Type 0} (told : D → Option Disk) (past : List Entry) (old new : List D) : Type 0 where
   pub count : length new ≡ length old
-  pub each : (s : ℕ) (before after : D) → slice_get old s ≡ Some before → slice_get new s ≡ Some after → (told after ≡ told before) × (faults before + failures s past ≤ faults after)
-  pub holds : (s : ℕ) (before after : D) (opening held : Disk) → slice_get old s ≡ Some before → slice_get new s ≡ Some after → told before ≡ Some opening → told after ≡ Some held → (p : ℕ) (bytes : List ℕ) → image (page_of opening) (history past s) p ≡ Some bytes → page_of held p ≡ bytes
+  pub same : Pairwise (λ s before after. told after ≡ told before) old new
+  pub holds : Pairwise (HoldsImages told past) old new
+
+-- no disk's count of faults fell
+abbrev pub HaveRisen : {D : Type 0} → (D → ℕ) → List D → List D → Type 0
+HaveRisen faults old new = Pairwise (λ s before after. faults before ≤ faults after) old new
+
+-- each disk's count of faults rose by the failures of its stream's disk that the past shows
+abbrev pub AreCounted : {D : Type 0} → (D → ℕ) → List Entry → List D → List D → Type 0
+AreCounted faults past old new = Pairwise (λ s before after. faults after ≡ faults before + failures s past) old new

@@ -2,13 +2,12 @@
 use Rattle.std.specs.Prelude.{◌≡◌, ℕ, ◌+◌, ◌<◌, ◌≤◌, Bool, true, false, List, [], ◌∷◌, ◌++◌, length, reverse, codes, decimal, Ok, Err, Option, Some, None, ◌⊎◌}
 use Rattle.cc_entry.specs.declared.answer.LineReply.{LineReply}
 use Rattle.cc_entry.specs.declared.entry.Entry.{Entry}
-use Rattle.cc_traits.specs.Told.{Both, IfTold, Took}
+use Rattle.cc_traits.specs.Told.{Both, IfTold, Gave, Took}
 use Rattle.cc_script.specs.declared.script.Script.{Script}
 use Rattle.cc_script.specs.declared.script.Mode.TheVariants as mode
 use Rattle.cc_script.specs.declared.script.Offer.TheVariants as offer
 use Rattle.cc_script.specs.Grammar.{script_of}
 use Rattle.cc_print.specs.Text.{text_of}
-use Rattle.cc_pieces.specs.Runs.{IsExplained}
 use Rattle.cc_pieces.specs.Table.{table_of}
 use Rattle.cc_run.specs.Words.{is_run}
 use Rattle.cc_run.specs.declared.no_run.NoRun.{NoRun}
@@ -43,33 +42,59 @@ fault_text no_run.TooLong = codes "script too long" ++ line_feed
 fault_text no_run.NoMemory = []
 fault_text no_run.TooFewDevices = codes "too few devices" ++ line_feed
 
--- What went into the program: its words; what the source told of the bytes that were left, before and
--- after, and its count of faults; and the number of disks.
+-- What went into the program: its words; of the source, before and after, what it told of the bytes that
+-- were left, its count of faults and how many bytes were taken from it; and the number of disks.
 pub record Input : Type 0 where
   pub words : List (List ℕ)
   pub left : Option (List ℕ)
   pub left_after : Option (List ℕ)
   pub faults : ℕ
   pub faults_after : ℕ
+  pub taken : ℕ
+  pub taken_after : ℕ
   pub disks : ℕ
 
-abbrev pub input : List (List ℕ) → Option (List ℕ) → Option (List ℕ) → ℕ → ℕ → ℕ → Input
-input words left left_after faults faults_after disks =
-    record { words = words; left = left; left_after = left_after; faults = faults; faults_after = faults_after; disks = disks }
+-- the input of a source that tells so
+abbrev pub input : {S : Type 0} → (S → Option (List ℕ)) → (S → ℕ) → (S → ℕ) → List (List ℕ) → S → S → ℕ → Input
+input told faults taken words old new disks =
+    record {
+      words = words;
+      left = told old;
+      left_after = told new;
+      faults = faults old;
+      faults_after = faults new;
+      taken = taken old;
+      taken_after = taken new;
+      disks = disks;
+    }
 
 -- What came out of it: what the sink told of the bytes that it took, before and after, and its counts of
--- faults and of calls that took nothing of a piece that is not empty.
+-- faults and of calls that took nothing where there were bytes.
 pub record Output : Type 0 where
-  pub taken : Option (List ℕ)
-  pub taken_after : Option (List ℕ)
+  pub printed : Option (List ℕ)
+  pub printed_after : Option (List ℕ)
   pub faults : ℕ
   pub faults_after : ℕ
   pub stalls : ℕ
   pub stalls_after : ℕ
 
-abbrev pub output : Option (List ℕ) → Option (List ℕ) → ℕ → ℕ → ℕ → ℕ → Output
-output taken taken_after faults faults_after stalls stalls_after =
-    record { taken = taken; taken_after = taken_after; faults = faults; faults_after = faults_after; stalls = stalls; stalls_after = stalls_after }
+-- the output to a sink that tells so
+abbrev pub output : {K : Type 0} → (K → Option (List ℕ)) → (K → ℕ) → (K → ℕ) → K → K → Output
+output told faults stalls old new =
+    record {
+      printed = told old;
+      printed_after = told new;
+      faults = faults old;
+      faults_after = faults new;
+      stalls = stalls old;
+      stalls_after = stalls new;
+    }
+
+-- Some bytes were taken: the front of those that were left, where the source told them.
+pub record WasTaken (left left_after : Option (List ℕ)) (taken taken_after : ℕ) : Type 0 where
+  pub bytes : List ℕ
+  pub count : taken_after ≡ taken + length bytes
+  pub front : Both left left_after (Gave bytes)
 
 -- some bytes, all that were left where the source told them, spell the script
 pub record Spells (left : Option (List ℕ)) (script : Script) : Type 0 where
@@ -83,21 +108,17 @@ pub record IsWrong (left : Option (List ℕ)) (line : ℕ) : Type 0 where
   pub all : IfTold left (λ told. bytes ≡ told)
   pub wrong : script_of offer.Copies mode.Run bytes ≡ Err line
 
--- the source was taken to its end, and had no more bytes than a script may have
-abbrev pub IsTaken : Option (List ℕ) → Option (List ℕ) → Type 0
-IsTaken left left_after = Both left left_after (λ before after. (after ≡ []) × (length before ≤ 16777216))
-
 -- no more bytes were taken than a script may have
-abbrev pub IsWithin : Option (List ℕ) → Option (List ℕ) → Type 0
-IsWithin left left_after = Both left left_after (λ before after. length before ≤ 16777216 + length after)
+abbrev pub TookFew : Input → Type 0
+TookFew i = i.taken_after ≤ i.taken + 16777216
 
 -- more were taken
-abbrev pub IsTooLong : Option (List ℕ) → Option (List ℕ) → Type 0
-IsTooLong left left_after = Both left left_after (λ before after. 16777216 + length after < length before)
+abbrev pub TookMany : Input → Type 0
+TookMany i = i.taken + 16777216 < i.taken_after
 
 -- never more than one byte more is taken
-abbrev pub IsBounded : Option (List ℕ) → Option (List ℕ) → Type 0
-IsBounded left left_after = Both left left_after (λ before after. length before ≤ 16777217 + length after)
+abbrev pub TookNoMore : Input → Type 0
+TookNoMore i = i.taken_after ≤ i.taken + 16777217
 
 -- a script of the bytes has more streams than there are disks
 pub record HasTooFewDisks (i : Input) : Type 0 where
@@ -108,15 +129,16 @@ pub record HasTooFewDisks (i : Input) : Type 0 where
 -- the words were right, and the source was taken to its end without a fault
 pub record IsRead (i : Input) : Type 0 where
   pub words : is_run i.words ≡ true
-  pub taken : IsTaken i.left i.left_after
+  pub end : IfTold i.left_after (λ rest. rest ≡ [])
+  pub few : TookFew i
   pub no_fault : i.faults_after ≡ i.faults
 
 -- why no run was made; want of memory may come at any point
 abbrev pub IsCause : Input → NoRun → Type 0
 IsCause i no_run.Usage = is_run i.words ≡ false
 IsCause i (no_run.Syntax line) = IsRead i × IsWrong i.left line
-IsCause i no_run.ReadFault = (is_run i.words ≡ true) × (i.faults < i.faults_after) × IsWithin i.left i.left_after
-IsCause i no_run.TooLong = (is_run i.words ≡ true) × IsTooLong i.left i.left_after
+IsCause i no_run.ReadFault = (is_run i.words ≡ true) × (i.faults < i.faults_after) × TookFew i
+IsCause i no_run.TooLong = (is_run i.words ≡ true) × TookMany i
 IsCause i no_run.NoMemory = Unit {0}
 IsCause i no_run.TooFewDevices = IsRead i × HasTooFewDisks i
 
@@ -127,17 +149,17 @@ pub record TookPart (text old new : List ℕ) : Type 0 where
   pub text_is : text ≡ part ++ rest
   pub taken : new ≡ old ++ part
 
--- the sink failed, or took nothing of a piece that is not empty
+-- the sink failed, or took nothing where there were bytes
 abbrev pub HasFailed : Output → Type 0
 HasFailed o = (o.faults < o.faults_after) ⊎ (o.stalls < o.stalls_after)
 
 -- the sink took a text whole
 abbrev pub IsPut : Output → List ℕ → Type 0
-IsPut o text = Both o.taken o.taken_after (Took text)
+IsPut o text = Both o.printed o.printed_after (Took text)
 
 -- the sink took the front of a text
 abbrev pub IsPartPut : Output → List ℕ → Type 0
-IsPartPut o text = Both o.taken o.taken_after (TookPart text)
+IsPartPut o text = Both o.printed o.printed_after (TookPart text)
 
 -- The text of the fault was taken whole, or its front where the sink failed. Where memory was wanting,
 -- the front of some text was.
@@ -165,11 +187,16 @@ pub record IsRun (i : Input) (o : Output) (script : Script) (replies : List Line
   pub read : IsRead i
   pub spelled : Spells i.left script
   pub enough : length script.streams ≤ i.disks
-  pub explained : IsExplained script.streams script.lines replies (reverse journal)
   pub printed : IsPrinted o (text_of script replies journal (table_of (reverse journal))) status
 
--- How the program ended: without a run it gives back no script, reply or entry; with one, it gives back the
--- script, and replies that the journal explains.
+-- How the program ended: without a run it gives back no script, reply or entry; with one, the script.
 abbrev pub IsEnded : Input → Output → Option Script → List LineReply → List Entry → ℕ → Type 0
 IsEnded i o None replies journal status = (replies ≡ []) × (journal ≡ []) × IsRefused i o status
 IsEnded i o (Some script) replies journal status = IsRun i o script replies journal status
+
+-- some run of the program ended so
+pub record HasEnded (i : Input) (o : Output) (status : ℕ) : Type 0 where
+  pub script : Option Script
+  pub replies : List LineReply
+  pub journal : List Entry
+  pub ended : IsEnded i o script replies journal status

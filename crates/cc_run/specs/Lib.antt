@@ -1,8 +1,7 @@
 pub mod Past
 pub mod Stands
-pub mod Plain
 pub mod Rows
-pub mod Pieces
+pub mod Fills
 pub mod Caches
 pub mod Served
 pub mod Lines

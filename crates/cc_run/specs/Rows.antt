@@ -2,5 +2,5 @@
 use Rattle.std.specs.Prelude.{ℕ, None}
 use Rattle.cc_print.specs.declared.table.TableRow.{TableRow}
 
-abbrev pub plain_row : ℕ → TableRow
-plain_row p = record { page = record { stream = 0; page = p }; oldest = None; newest = None }
+abbrev pub unstamped_row : ℕ → TableRow
+unstamped_row p = record { page = record { stream = 0; page = p }; oldest = None; newest = None }

@@ -14,8 +14,10 @@ IsCopy (action.CopyRead file at len wait) = (file ≡ first_object) × (wait ≡
 IsCopy (action.CopyWrite file at bytes) = file ≡ first_object
 IsCopy other = ⊥
 
-abbrev pub IsServedLine : ActionLine → Type 0
-IsServedLine line = (line.caller ≡ 1) × IsCopy line.action
+pub record IsServedLine (line : ActionLine) : Type 0 where
+  pub caller : line.caller ≡ 1
+  pub phase : line.phase ≡ 1
+  pub copy : IsCopy line.action
 
 pub record IsServedStream (stream : StreamLine) : Type 0 where
   pub in_order : stream.valid ≤ stream.size

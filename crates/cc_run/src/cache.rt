@@ -1,4 +1,4 @@
-//! The cache of one stream, on a plain list of pages.
+//! The cache of one stream, on a list of its pages.
 //!
 //! It serves the copied reads and writes of one caller. Each page that a call needs is brought in by
 //! itself, and nothing is written back. Each step places the entries of what it did, and the cache goes
@@ -8,7 +8,7 @@ ghost use Rattle.cc_entry.specs.declared.call.Call.TheVariants as call;
 ghost use Rattle.cc_run.specs.Stands.{first_object as the_first_object, opening_entry};
 ghost use Rattle.std.specs.Prelude.{◌≢◌, ◌||◌, ◌≡◌, ℕ, suc, ◌≤◌, ◌<◌, ◌+◌, ◌-◌, ◌*◌, ◌^◌, List, ◌∷◌, [], length, vec_len, OnOk, OnErr, IfOk, IfErr, Option, Some, None, min, max, true, false, slice_index};
 
-use crate::frames::{mark, put_frame, put_piece};
+use crate::frames::{mark, put_bytes, put_frame};
 use crate::journal::Journal;
 use crate::places::{first_object, page_of_stream};
 use crate::table::rows_of;
@@ -114,7 +114,6 @@ impl Cache {
         ensures stands { IfOk result (λ cache. (u : Setup) → (told : Option Disk) → u.opening 0 ≡ opening_of told → CacheStands u told cache) }
         ensures calls { IfOk result (λ cache. cache.calls ≡ 0) }
         ensures placed { IfOk result (λ cache. cache.journal.entries ≡ opening_entry size valid ∷ []) }
-        ensures plain { IfOk result IsPlainCache }
     {
         let pages = size.div_ceil(PAGE) as usize;
         let mut journal = Journal::new(alloc);
@@ -144,7 +143,7 @@ impl Cache {
 
     /// The rows of the dirty pages.
     pub fn table(&self, alloc: Global) -> Result<Vec<TableRow>, NoMemory>
-        ensures { IfOk result (λ rows. IsPlainCache self.now → rows.items ≡ table_of self.now.journal.entries) }
+        ensures { IfOk result (λ rows. CacheAgrees self.now → rows.items ≡ table_of self.now.journal.entries) }
     {
         rows_of(alloc, &self.dirty)
     }
@@ -162,11 +161,11 @@ impl Cache {
     ghost use Rattle.cc_traits.specs.Disk.{Disk};
     ghost use Rattle.cc_model.specs.Setup.{Setup};
     ghost use Rattle.cc_entry.specs.Pages.{has_page};
-    ghost use Rattle.cc_run.specs.Stands.{flag_at, opening_of, AllFlagged, IsPiece};
+    ghost use Rattle.cc_run.specs.Stands.{flag_at, opening_of, AllFlagged, IsPart};
     ghost use Rattle.cc_pieces.specs.Table.{table_of};
     ghost use Rattle.cc_pieces.specs.Failures.{failures};
-    ghost use Rattle.cc_run.specs.Pieces.{IsWithin, Went, Answered, calls_after};
-    ghost use Rattle.cc_run.specs.Caches.{CacheStands, IsPlainCache, Keeps, FillStopped, ReadStopped, WriteStopped, IsChanged};
+    ghost use Rattle.cc_run.specs.Fills.{IsPageOf, Went, LeftAlone, HasRoom, outcome_of, calls_after};
+    ghost use Rattle.cc_run.specs.Caches.{CacheStands, CacheAgrees, Keeps, FillStopped, ReadStopped, WriteStopped, StandsWithWrite};
 
     /// Brings a page of the stream in, where it is not resident.
     fn bring_in<D: PageDisk>(&mut self, disk: &mut D, page: u64) -> Result<(), CcError>
@@ -174,8 +173,8 @@ impl Cache {
         ensures stands { (u : Setup) → CacheStands u (D.told disk.old) self.old → CacheStands u (D.told disk.new) self.new }
         ensures told { D.told disk.new ≡ D.told disk.old }
         ensures counted { D.faults disk.new + failures 0 self.old.journal.entries ≡ D.faults disk.old + failures 0 self.new.journal.entries }
-        ensures plain { IsPlainCache self.old → IsPlainCache self.new }
-        ensures filled { (from to : ℕ) → IsWithin from to page → Went from to result self.old.journal.entries self.new.journal.entries }
+        ensures filled { (u : Setup) → CacheStands u (D.told disk.old) self.old → (from to : ℕ) → IsPageOf from to page →
+            Went from to result self.old.journal.entries self.new.journal.entries }
         ensures keeps { Keeps self.old self.new }
         ensures resident { OnOk result (flag_at self.new.resident.items page ≡ true) }
         ensures stopped { IfErr result (FillStopped self.new.journal) }
@@ -217,8 +216,8 @@ impl Cache {
         ensures stands { (u : Setup) → CacheStands u (D.told disk.old) self.old → CacheStands u (D.told disk.new) self.new }
         ensures told { D.told disk.new ≡ D.told disk.old }
         ensures counted { D.faults disk.new + failures 0 self.old.journal.entries ≡ D.faults disk.old + failures 0 self.new.journal.entries }
-        ensures plain { IsPlainCache self.old → IsPlainCache self.new }
-        ensures filled { Went at end result self.old.journal.entries self.new.journal.entries }
+        ensures filled { (u : Setup) → CacheStands u (D.told disk.old) self.old →
+            Went at end result self.old.journal.entries self.new.journal.entries }
         ensures keeps { Keeps self.old self.new }
         ensures resident { OnOk result (AllFlagged self.new.resident.items at end) }
         ensures stopped { IfErr result (FillStopped self.new.journal) }
@@ -260,17 +259,17 @@ impl Cache {
     /// The bytes from one place up to another, twice: for the caller and for the journal.
     fn answer(&self, alloc: Global, at: u64, end: u64) -> Result<(Bytes, Bytes), CcError>
         requires { end ≤ self.now.size }
-        ensures answered { IfOk result (λ both. IsPiece self.now.bytes.items at end both.0) }
+        ensures answered { IfOk result (λ both. IsPart self.now.bytes.items at end both.0) }
         ensures same { IfOk result (λ both. both.1 ≡ both.0) }
         ensures err { IfErr result (λ e. e ≡ CcError.NoMemory) }
     {
-        let piece: &[u8] = if at < end {
+        let part: &[u8] = if at < end {
             &self.bytes[at as usize..end as usize]
         } else {
             &[]
         };
-        let for_caller = Bytes::of(alloc, piece)?;
-        let for_journal = Bytes::of(alloc, piece)?;
+        let for_caller = Bytes::of(alloc, part)?;
+        let for_journal = Bytes::of(alloc, part)?;
         Ok((for_caller, for_journal))
     }
 
@@ -285,12 +284,12 @@ impl Cache {
         ensures stands { (u : Setup) → CacheStands u (D.told disk.old) self.old → CacheStands u (D.told disk.new) self.new }
         ensures told { D.told disk.new ≡ D.told disk.old }
         ensures counted { D.faults disk.new + failures 0 self.old.journal.entries ≡ D.faults disk.old + failures 0 self.new.journal.entries }
-        ensures plain { IsPlainCache self.old → IsPlainCache self.new }
-        ensures filled { Went at (min (at + len) self.old.size) result self.old.journal.entries self.new.journal.entries }
+        ensures filled { (u : Setup) → CacheStands u (D.told disk.old) self.old →
+            Went at (min (at + len) self.old.size) result self.old.journal.entries self.new.journal.entries }
         ensures keeps { Keeps self.old self.new }
         ensures short { OnOk result (len ≤ 1048576) }
         ensures resident { OnOk result (AllFlagged self.new.resident.items at (min (at + len) self.new.size)) }
-        ensures answered { IfOk result (λ both. IsPiece self.new.bytes.items at (min (at + len) self.new.size) both.0) }
+        ensures answered { IfOk result (λ both. IsPart self.new.bytes.items at (min (at + len) self.new.size) both.0) }
         ensures same { IfOk result (λ both. both.1 ≡ both.0) }
         ensures room { OnOk result (0 < self.new.journal.room) }
         ensures stopped { IfErr result (ReadStopped len self.new.journal) }
@@ -317,9 +316,11 @@ impl Cache {
         requires { self.old.calls < 2 ^ 32 - 1 }
         ensures stands { (u : Setup) → CacheStands u (D.told disk.old) self.old → CacheStands u (D.told disk.new) self.new }
         ensures told { D.told disk.new ≡ D.told disk.old }
-        ensures plain { IsPlainCache self.old → IsPlainCache self.new }
         ensures counted { D.faults disk.new + failures 0 self.old.journal.entries ≡ D.faults disk.old + failures 0 self.new.journal.entries }
-        ensures answered { Answered at (min (at + len) self.old.size) (λ bytes. reply.Read bytes) (call.CopyRead the_first_object at len true) (suc self.old.calls) self.old.journal.entries self.new.journal.entries result }
+        ensures left { (u : Setup) → CacheStands u (D.told disk.old) self.old →
+            LeftAlone u (call.CopyRead the_first_object at len true) (outcome_of (λ bytes. reply.Read bytes) result)
+            self.old.journal.entries self.new.journal.entries }
+        ensures room { IfErr result HasRoom }
         ensures calls { self.new.calls ≡ calls_after self.old.calls result }
         ensures size { self.new.size ≡ self.old.size }
     {
@@ -339,21 +340,22 @@ impl Cache {
     }
 
     /// All of a copied write but its entry.
-    fn write<D: PageDisk>(&mut self, disk: &mut D, at: u64, piece: &[u8]) -> Result<(), CcError>
+    fn write<D: PageDisk>(&mut self, disk: &mut D, at: u64, bytes: &[u8]) -> Result<(), CcError>
         ensures stands { OnErr result ((u : Setup) → CacheStands u (D.told disk.old) self.old → CacheStands u (D.told disk.new) self.new) }
         ensures told { D.told disk.new ≡ D.told disk.old }
         ensures counted { D.faults disk.new + failures 0 self.old.journal.entries ≡ D.faults disk.old + failures 0 self.new.journal.entries }
-        ensures plain { IsPlainCache self.old → IsPlainCache self.new }
-        ensures filled { Went at (at + length piece.now) result self.old.journal.entries self.new.journal.entries }
-        ensures within { OnOk result (at + length piece.now ≤ self.old.size) }
+        ensures filled { (u : Setup) → CacheStands u (D.told disk.old) self.old →
+            Went at (at + length bytes.now) result self.old.journal.entries self.new.journal.entries }
+        ensures within { OnOk result (at + length bytes.now ≤ self.old.size) }
         ensures same { self.new.calls ≡ self.old.calls }
         ensures size { self.new.size ≡ self.old.size }
-        ensures written { OnOk result ((u : Setup) → CacheStands u (D.told disk.old) self.old → IsChanged u (D.told disk.new) self.old self.new at piece.now) }
+        ensures written { OnOk result ((u : Setup) → CacheStands u (D.told disk.old) self.old →
+            StandsWithWrite u (D.told disk.new) self.new at bytes.now) }
         ensures room { OnOk result (0 < self.new.journal.room) }
-        ensures stopped { IfErr result (WriteStopped self.new.size self.new.valid at (length piece.now) self.new.journal) }
+        ensures stopped { IfErr result (WriteStopped self.new.size self.new.valid at (length bytes.now) self.new.journal) }
     {
         self.journal.reserve(1)?;
-        let len = piece.len() as u64;
+        let len = bytes.len() as u64;
         if len > MOST {
             return Err(CcError::TooLong { limit: MOST });
         }
@@ -365,8 +367,9 @@ impl Cache {
         }
         self.bring_range(disk, at, at + len)?;
         self.journal.reserve(1)?;
-        put_piece(&mut self.bytes, at as usize, piece);
+        put_bytes(&mut self.bytes, at as usize, bytes);
         self.valid = self.valid.max(at + len);
+        self.mark_written(at, len);
         Ok(())
     }
 
@@ -399,17 +402,22 @@ impl Cache {
         requires { self.old.calls < 2 ^ 32 - 1 }
         ensures stands { (u : Setup) → CacheStands u (D.told disk.old) self.old → CacheStands u (D.told disk.new) self.new }
         ensures told { D.told disk.new ≡ D.told disk.old }
-        ensures plain { IsPlainCache self.old → IsPlainCache self.new }
         ensures counted { D.faults disk.new + failures 0 self.old.journal.entries ≡ D.faults disk.old + failures 0 self.new.journal.entries }
-        ensures answered { Answered at (at + length bytes.now) (λ done. reply.Unit) (call.CopyWrite the_first_object at bytes.now) (suc self.old.calls) self.old.journal.entries self.new.journal.entries result }
+        ensures left { (u : Setup) → CacheStands u (D.told disk.old) self.old →
+            LeftAlone u (call.CopyWrite the_first_object at bytes.now) (outcome_of (λ done. reply.Unit) result)
+            self.old.journal.entries self.new.journal.entries }
+        ensures room { IfErr result HasRoom }
         ensures calls { self.new.calls ≡ calls_after self.old.calls result }
         ensures size { self.new.size ≡ self.old.size }
     {
-        let piece = bytes.to_vec(alloc)?;
-        let kept = Bytes::of(alloc, &piece)?;
-        match self.write(disk, at, &piece) {
+        let Ok(listed) = bytes.to_vec(alloc) else {
+            return Err(CcError::NoMemory);
+        };
+        let Ok(kept) = Bytes::of(alloc, &listed) else {
+            return Err(CcError::NoMemory);
+        };
+        match self.write(disk, at, &listed) {
             Ok(()) => {
-                self.mark_written(at, piece.len() as u64);
                 self.place(write_call(at, kept), Outcome::Done(Reply::Unit));
                 Ok(())
             }

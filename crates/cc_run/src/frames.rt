@@ -1,4 +1,4 @@
-//! Bytes in and out of the plain list of pages.
+//! Bytes into the list of pages.
 
 ghost use Rattle.std.specs.Prelude.{◌≡◌, ℕ, ◌≤◌, ◌<◌, ◌+◌, ◌-◌, true, length, slice_index, nat_lt, if◌then◌else◌, vec_len};
 ghost use Rattle.cc_run.specs.Stands.{flag_at};
@@ -21,16 +21,16 @@ pub fn put_frame(bytes: &mut Vec<u8>, frame: &[u8; 4096], at: usize, valid: u64)
     }
 }
 
-/// Writes a piece over the bytes from `at` on.
-pub fn put_piece(bytes: &mut Vec<u8>, at: usize, piece: &[u8])
-    requires { at + length piece.now ≤ vec_len bytes.old }
+/// Writes bytes over those from a place on.
+pub fn put_bytes(bytes: &mut Vec<u8>, at: usize, over: &[u8])
+    requires { at + length over.now ≤ vec_len bytes.old }
     ensures len { vec_len bytes.new ≡ vec_len bytes.old }
-    ensures inside { (i : ℕ) → at ≤ i → i < at + length piece.now → slice_index bytes.new.items i ≡ slice_index piece.now (i - at) }
+    ensures inside { (i : ℕ) → at ≤ i → i < at + length over.now → slice_index bytes.new.items i ≡ slice_index over.now (i - at) }
     ensures below { (i : ℕ) → i < at → slice_index bytes.new.items i ≡ slice_index bytes.old.items i }
-    ensures above { (i : ℕ) → at + length piece.now ≤ i → slice_index bytes.new.items i ≡ slice_index bytes.old.items i }
+    ensures above { (i : ℕ) → at + length over.now ≤ i → slice_index bytes.new.items i ≡ slice_index bytes.old.items i }
 {
-    for i in 0..piece.len() {
-        bytes[at + i] = piece[i];
+    for i in 0..over.len() {
+        bytes[at + i] = over[i];
     }
 }
 

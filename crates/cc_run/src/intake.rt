@@ -1,8 +1,8 @@
 //! The bytes of the script, from the source.
 
-ghost use Rattle.std.specs.Prelude.{◌≡◌, ◌<◌, ◌≤◌, ◌+◌, IfOk, OnOk, IsErrOf, vec_len};
+ghost use Rattle.std.specs.Prelude.{◌≡◌, ◌<◌, ◌≤◌, ◌+◌, [], IfOk, OnOk, IsErrOf, vec_len};
 ghost use Rattle.cc_traits.specs.Told.{IfTold};
-ghost use Rattle.cc_run.specs.Ends.{IsTaken, IsWithin, IsTooLong, IsBounded};
+ghost use Rattle.cc_run.specs.Ends.{WasTaken};
 ghost use Rattle.cc_run.specs.declared.intake.IntakeError.TheVariants as unread;
 
 use cc_traits::{Source, Stop};
@@ -25,12 +25,14 @@ pub enum IntakeError {
 /// All the bytes up to the source's end.
 pub fn take_all<S: Source>(alloc: Global, source: &mut S) -> Result<Vec<u8>, IntakeError>
     ensures all { IfOk result (λ bytes. IfTold (S.told source.old) (λ left. bytes.items ≡ left)) }
-    ensures taken { OnOk result (IsTaken (S.told source.old) (S.told source.new)) }
+    ensures end { OnOk result (IfTold (S.told source.new) (λ rest. rest ≡ [])) }
     ensures no_fault { OnOk result (S.faults source.new ≡ S.faults source.old) }
     ensures failed { IsErrOf result IntakeError.Failed → S.faults source.old < S.faults source.new }
-    ensures within { IsErrOf result IntakeError.Failed → IsWithin (S.told source.old) (S.told source.new) }
-    ensures long { IsErrOf result IntakeError.TooLong → IsTooLong (S.told source.old) (S.told source.new) }
-    ensures bounded { IsBounded (S.told source.old) (S.told source.new) }
+    ensures few { OnOk result (S.taken source.new ≤ S.taken source.old + 16777216) }
+    ensures few_at_fault { IsErrOf result IntakeError.Failed → S.taken source.new ≤ S.taken source.old + 16777216 }
+    ensures long { IsErrOf result IntakeError.TooLong → S.taken source.old + 16777216 < S.taken source.new }
+    ensures bounded { S.taken source.new ≤ S.taken source.old + 16777217 }
+    ensures given { WasTaken (S.told source.old) (S.told source.new) (S.taken source.old) (S.taken source.new) }
 {
     let mut bytes = Vec::new(alloc);
     let mut buffer = [0; 4096];

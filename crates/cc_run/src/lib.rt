@@ -2,7 +2,7 @@
 //!
 //! One direction: the words of the command line, the script's bytes from a source, the script, the run,
 //! the text, the exit status. What is here is the first path: one caller's copied reads and writes of one
-//! stream, served on a plain list of pages over any disk. Whatever is handed in, the journal that comes
+//! stream, served on a list of pages over any disk. Whatever is handed in, the journal that comes
 //! back is good, it explains the answer of every line, and the text is that of both; each exit status has
 //! its cause. How the pages are kept is said in `cache` alone.
 //!
@@ -25,6 +25,3 @@ mod words;
 
 pub use no_run::NoRun;
 pub use top::{Ended, cache_main};
-
-#[cfg(test)]
-mod tests;

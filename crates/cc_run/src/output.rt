@@ -10,7 +10,7 @@ use cc_traits::{Sink, Stop};
 /// Why a text was not put out whole.
 #[derive(Clone, Copy, Debug, PartialEq, Eq)]
 pub enum OutputError {
-    /// The sink failed, or took nothing of a piece that is not empty.
+    /// The sink failed, or took nothing where there were bytes.
     Failed,
     /// No memory was found; what was put before is out.
     NoMemory,

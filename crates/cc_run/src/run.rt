@@ -4,14 +4,13 @@ ghost use Rattle.std.specs.Prelude.{◌≡◌, ◌≢◌, ℕ, ◌∷◌, ◌++�
 ghost use Rattle.std.specs.List.{AllByRecursion};
 ghost use Rattle.cc_model.specs.Setup.{Setup};
 ghost use Rattle.cc_model.specs.Good.{IsGood};
-ghost use Rattle.cc_pieces.specs.Calls.{call_of};
-ghost use Rattle.cc_pieces.specs.Runs.{IsExplained};
+ghost use Rattle.cc_pieces.specs.Explained.{IsExplained};
 ghost use Rattle.cc_pieces.specs.Table.{table_of};
 ghost use Rattle.cc_pieces.specs.Failures.{failures};
 ghost use Rattle.cc_run.specs.Stands.{opening_of};
 ghost use Rattle.cc_run.specs.Served.{IsServedStream, IsServedLine, IsCopy};
-ghost use Rattle.cc_run.specs.Disks.{IsUnwritten};
-ghost use Rattle.cc_run.specs.Lines.{Serves, ServedLines};
+ghost use Rattle.cc_run.specs.Disks.{IsUnchanged};
+ghost use Rattle.cc_run.specs.Lines.{Serves, ServedLines, one_phase, lines_answered};
 
 use crate::cache::Cache;
 use cc_entry::{Answer, Entry, LineReply, NoMemory, Reply};
@@ -43,12 +42,13 @@ pub fn run_stream<D: PageDisk>(
     requires stream { IsServedStream stream.now }
     requires lines { AllByRecursion IsServedLine lines.now }
     ensures good { IfOk result (λ ran. (u : Setup) → u.opening 0 ≡ opening_of (D.told disk.old) → IsGood u (reverse ran.journal.items)) }
-    ensures explained { IfOk result (λ ran. IsExplained (stream.now ∷ []) lines.now ran.replies.items (reverse ran.journal.items)) }
+    ensures explained { IfOk result (λ ran. (u : Setup) → u.opening 0 ≡ opening_of (D.told disk.old) →
+        IsExplained u (one_phase (stream.now ∷ []) lines.now) (lines_answered ran.replies.items) (reverse ran.journal.items)) }
     ensures table { IfOk result (λ ran. ran.table.items ≡ table_of (reverse ran.journal.items)) }
     ensures told { D.told disk.new ≡ D.told disk.old }
     ensures counted { IfOk result (λ ran. D.faults disk.new ≡ D.faults disk.old + failures 0 (reverse ran.journal.items)) }
     ensures risen { D.faults disk.old ≤ D.faults disk.new }
-    ensures unwritten { IfOk result (λ ran. IsUnwritten (reverse ran.journal.items)) }
+    ensures unchanged { IfOk result (λ ran. IsUnchanged (reverse ran.journal.items)) }
     ensures others { IfOk result (λ ran. (s : ℕ) → s ≢ 0 → failures s (reverse ran.journal.items) ≡ 0) }
 {
     let mut replies = Vec::new(alloc);
@@ -68,7 +68,7 @@ pub fn run_stream<D: PageDisk>(
     })
 }
 
-ghost use Rattle.cc_run.specs.Caches.{CacheStands, IsPlainCache};
+ghost use Rattle.cc_run.specs.Caches.{CacheStands};
 
 /// Serves the lines, and puts the answer of each behind the replies.
 fn serve_lines<D: PageDisk>(
@@ -81,10 +81,10 @@ fn serve_lines<D: PageDisk>(
     requires lines { AllByRecursion IsServedLine lines.now }
     requires calls { cache.old.calls ≡ 0 }
     ensures stands { (u : Setup) → CacheStands u (D.told disk.old) cache.old → CacheStands u (D.told disk.new) cache.new }
-    ensures plain { IsPlainCache cache.old → IsPlainCache cache.new }
     ensures told { D.told disk.new ≡ D.told disk.old }
     ensures counted { D.faults disk.new + failures 0 cache.old.journal.entries ≡ D.faults disk.old + failures 0 cache.new.journal.entries }
-    ensures served { OnOk result (IsPlainCache cache.old → ServedLines lines.now replies.old.items replies.new.items cache.old.journal.entries cache.new.journal.entries) }
+    ensures served { OnOk result ((u : Setup) → CacheStands u (D.told disk.old) cache.old →
+        ServedLines u lines.now replies.old.items replies.new.items cache.old.journal.entries cache.new.journal.entries) }
 {
     if lines.len() > MOST_LINES {
         return Err(NoMemory);
@@ -105,10 +105,10 @@ fn serve<D: PageDisk>(alloc: Global, cache: &mut Cache, disk: &mut D, action: &A
     requires copy { IsCopy action.now }
     requires calls { cache.old.calls < 2 ^ 32 - 1 }
     ensures stands { (u : Setup) → CacheStands u (D.told disk.old) cache.old → CacheStands u (D.told disk.new) cache.new }
-    ensures plain { IsPlainCache cache.old → IsPlainCache cache.new }
     ensures told { D.told disk.new ≡ D.told disk.old }
     ensures counted { D.faults disk.new + failures 0 cache.old.journal.entries ≡ D.faults disk.old + failures 0 cache.new.journal.entries }
-    ensures explained { IsPlainCache cache.old → Serves (call_of action.now) result cache.old.journal.entries cache.new.journal.entries }
+    ensures explained { (u : Setup) → CacheStands u (D.told disk.old) cache.old →
+        Serves u action.now result cache.old.journal.entries cache.new.journal.entries }
     ensures calls { cache.new.calls ≤ cache.old.calls + 1 }
 {
     match action {

@@ -42,16 +42,18 @@ fn is_served_stream(stream: &StreamLine) -> bool
 fn are_served(lines: &[ActionLine]) -> bool
     ensures { result ≡ true → AllByRecursion IsServedLine lines.now }
 {
-    match lines {
-        [] => true,
-        [line, rest @ ..] => is_served_line(line) && are_served(rest),
+    for line in lines {
+        if !is_served_line(line) {
+            return false;
+        }
     }
+    true
 }
 
 fn is_served_line(line: &ActionLine) -> bool
     ensures { result ≡ true → IsServedLine line.now }
 {
-    line.caller == 1 && is_copy(&line.action)
+    line.caller == 1 && line.phase == 1 && is_copy(&line.action)
 }
 
 fn is_copy(action: &Action) -> bool

@@ -1,21 +1,21 @@
 //! The top call: words, script, run, text, status, in this order.
 
-ghost use Rattle.std.specs.Prelude.{◌≡◌, ◌⊎◌, ◌<◌, List, slice_get, ◌≤◌, ◌+◌, ℕ, [], Some, None, true, false, is_some, reverse, map, length, string_bytes, vec_len, IfSome, IfOk, IfErr, OnOk, OnErr};
+ghost use Rattle.std.specs.Prelude.{◌≡◌, ◌⊎◌, ◌<◌, List, ◌≤◌, ◌+◌, ℕ, [], Some, None, true, false, is_some, reverse, map, length, string_bytes, vec_len, IfSome, IfOk, IfErr, OnOk, OnErr};
 ghost use Rattle.cc_model.specs.Setup.{Setup};
 ghost use Rattle.cc_model.specs.Good.{IsGood};
 ghost use Rattle.cc_script.specs.declared.script.Script.{Script as TheScript};
-ghost use Rattle.cc_pieces.specs.Runs.{IsExplained};
+ghost use Rattle.cc_pieces.specs.Explained.{IsExplained};
 ghost use Rattle.cc_pieces.specs.Table.{table_of};
 ghost use Rattle.cc_print.specs.Text.{text_of as the_text_of};
 ghost use Rattle.cc_traits.specs.Told.{Both, Took};
 ghost use Rattle.cc_run.specs.Opens.{OpensWith};
 ghost use Rattle.cc_run.specs.Served.{IsServed};
-ghost use Rattle.cc_run.specs.Ends.{Input, input, output, IsCause, IsRefused, IsEnded, IsRead, Spells, IsWrong, IsTooLong, IsBounded, HasTooFewDisks, IsFaultPut, IsPrinted};
-ghost use Rattle.cc_run.specs.Complete.{EndsWith, SyntaxAlways, TooLongAlways, TooFewAlways, Completes};
+ghost use Rattle.cc_run.specs.Ends.{Input, input, output, IsCause, IsRefused, IsEnded, IsRead, Spells, IsWrong, WasTaken, HasTooFewDisks, IsFaultPut, IsPrinted};
+ghost use Rattle.cc_run.specs.Complete.{EndsWith, SyntaxAlways, TooLongAlways, TooLongTold, TooFewAlways, Completes};
 ghost use Rattle.cc_run.specs.declared.no_run.NoRun.TheVariants as no_run;
-ghost use Rattle.cc_pieces.specs.Failures.{failures};
-ghost use Rattle.cc_run.specs.Disks.{DisksAre};
+ghost use Rattle.cc_run.specs.Disks.{DisksAre, AreCounted, HaveRisen};
 ghost use Rattle.cc_run.specs.Words.{is_run};
+ghost use Rattle.cc_run.specs.Lines.{given_of, lines_answered};
 
 use crate::intake::{IntakeError, take_all};
 use crate::no_run::{NoRun, syntax_text};
@@ -63,7 +63,7 @@ struct Report {
 /// memory is wanting, that.
 fn put_fault<K: Sink>(alloc: Global, out: &mut K, why: NoRun) -> NoRun
     ensures kept { (result ≡ why) ⊎ (result ≡ NoRun.NoMemory) }
-    ensures put { IsFaultPut (output (K.told out.old) (K.told out.new) (K.faults out.old) (K.faults out.new) (K.stalls out.old) (K.stalls out.new)) result }
+    ensures put { IsFaultPut (output K.told K.faults K.stalls out.old out.new) result }
 {
     let put = match why {
         NoRun::Syntax { line } => match syntax_text(alloc, line) {
@@ -83,7 +83,7 @@ fn refused<K: Sink>(alloc: Global, out: &mut K, why: NoRun) -> Report
     ensures script { result.script ≡ None }
     ensures replies { result.replies.items ≡ [] }
     ensures journal { result.journal.items ≡ [] }
-    ensures refused { (i : Input) → IsCause i why → IsRefused i (output (K.told out.old) (K.told out.new) (K.faults out.old) (K.faults out.new) (K.stalls out.old) (K.stalls out.new)) result.status }
+    ensures refused { (i : Input) → IsCause i why → IsRefused i (output K.told K.faults K.stalls out.old out.new) result.status }
 {
     let why = put_fault(alloc, out, why);
     Report {
@@ -101,11 +101,13 @@ fn prepare<S: Source>(
     source: &mut S,
     disks: usize,
 ) -> Result<Script, NoRun>
-    ensures read { OnOk result (IsRead (input (map string_bytes words.now) (S.told source.old) (S.told source.new) (S.faults source.old) (S.faults source.new) disks)) }
+    ensures read { OnOk result (IsRead (input S.told S.faults S.taken (map string_bytes words.now) source.old source.new disks)) }
     ensures spelled { IfOk result (Spells (S.told source.old)) }
-    ensures bounded { IsBounded (S.told source.old) (S.told source.new) }
+    ensures untouched { is_run (map string_bytes words.now) ≡ false → source.new ≡ source.old }
+    ensures given { WasTaken (S.told source.old) (S.told source.new) (S.taken source.old) (S.taken source.new) }
+    ensures bounded { S.taken source.new ≤ S.taken source.old + 16777217 }
     ensures enough { IfOk result (λ script. length script.streams ≤ disks) }
-    ensures cause { IfErr result (IsCause (input (map string_bytes words.now) (S.told source.old) (S.told source.new) (S.faults source.old) (S.faults source.new) disks)) }
+    ensures cause { IfErr result (IsCause (input S.told S.faults S.taken (map string_bytes words.now) source.old source.new disks)) }
 {
     if command_of(words).is_none() {
         return Err(NoRun::Usage);
@@ -135,10 +137,13 @@ fn run_script<D: PageDisk>(
 ) -> Result<RunResult, NoMemory>
     requires { length script.now.streams ≤ vec_len disks.old }
     ensures good { IfOk result (λ ran. (u : Setup) → OpensWith u D.told disks.old.items → IsGood u (reverse ran.journal.items)) }
-    ensures explained { IfOk result (λ ran. IsExplained script.now.streams script.now.lines ran.replies.items (reverse ran.journal.items)) }
+    ensures explained { IfOk result (λ ran. (u : Setup) → OpensWith u D.told disks.old.items →
+        IsExplained u (given_of script.now) (lines_answered ran.replies.items) (reverse ran.journal.items)) }
     ensures table { IfOk result (λ ran. ran.table.items ≡ table_of (reverse ran.journal.items)) }
-    ensures disks { IfOk result (λ ran. DisksAre D.told D.faults (reverse ran.journal.items) disks.old.items disks.new.items) }
-    ensures kept { OnErr result (DisksAre D.told D.faults [] disks.old.items disks.new.items) }
+    ensures disks { IfOk result (λ ran. DisksAre D.told (reverse ran.journal.items) disks.old.items disks.new.items) }
+    ensures counted { IfOk result (λ ran. AreCounted D.faults (reverse ran.journal.items) disks.old.items disks.new.items) }
+    ensures kept { OnErr result (DisksAre D.told [] disks.old.items disks.new.items) }
+    ensures risen { HaveRisen D.faults disks.old.items disks.new.items }
 {
     if !is_served(script) {
         return Err(NoMemory);
@@ -158,7 +163,9 @@ fn run_script<D: PageDisk>(
 /// where memory was wanting.
 fn print<K: Sink>(alloc: Global, out: &mut K, script: &Script, ran: &RunResult) -> u8
     requires { ran.now.table.items ≡ table_of (reverse ran.now.journal.items) }
-    ensures { IsPrinted (output (K.told out.old) (K.told out.new) (K.faults out.old) (K.faults out.new) (K.stalls out.old) (K.stalls out.new)) (the_text_of script.now ran.now.replies.items ran.now.journal.items (table_of (reverse ran.now.journal.items))) result }
+    ensures { IsPrinted (output K.told K.faults K.stalls out.old out.new)
+        (the_text_of script.now ran.now.replies.items ran.now.journal.items (table_of (reverse ran.now.journal.items)))
+        result }
 {
     match text_of(alloc, script, &ran.replies, &ran.journal, &ran.table) {
         Ok(text) => match put_all(out, &text) {
@@ -169,6 +176,7 @@ fn print<K: Sink>(alloc: Global, out: &mut K, script: &Script, ran: &RunResult) 
         Err(_) => 6,
     }
 }
+
 /// Reads the script and runs it.
 fn conduct<S: Source, K: Sink, D: PageDisk>(
     alloc: Global,
@@ -178,9 +186,18 @@ fn conduct<S: Source, K: Sink, D: PageDisk>(
     disks: &mut Vec<D>,
 ) -> Report
     ensures good { (u : Setup) → OpensWith u D.told disks.old.items → IsGood u (reverse result.journal.items) }
-    ensures ended { IsEnded (input (map string_bytes words.now) (S.told source.old) (S.told source.new) (S.faults source.old) (S.faults source.new) (length disks.old.items)) (output (K.told out.old) (K.told out.new) (K.faults out.old) (K.faults out.new) (K.stalls out.old) (K.stalls out.new)) result.script result.replies.items result.journal.items result.status }
-    ensures bounded { IsBounded (S.told source.old) (S.told source.new) }
-    ensures disks { DisksAre D.told D.faults (reverse result.journal.items) disks.old.items disks.new.items }
+    ensures ended { IsEnded
+        (input S.told S.faults S.taken (map string_bytes words.now) source.old source.new (length disks.old.items))
+        (output K.told K.faults K.stalls out.old out.new)
+        result.script result.replies.items result.journal.items result.status }
+    ensures explained { IfSome result.script (λ made. (u : Setup) → OpensWith u D.told disks.old.items →
+        IsExplained u (given_of made) (lines_answered result.replies.items) (reverse result.journal.items)) }
+    ensures untouched { is_run (map string_bytes words.now) ≡ false → source.new ≡ source.old }
+    ensures given { WasTaken (S.told source.old) (S.told source.new) (S.taken source.old) (S.taken source.new) }
+    ensures bounded { S.taken source.new ≤ S.taken source.old + 16777217 }
+    ensures disks { DisksAre D.told (reverse result.journal.items) disks.old.items disks.new.items }
+    ensures counted { is_some result.script ≡ true → AreCounted D.faults (reverse result.journal.items) disks.old.items disks.new.items }
+    ensures risen { HaveRisen D.faults disks.old.items disks.new.items }
 {
     let script = match prepare(alloc, words, source, disks.len()) {
         Ok(prepared) => prepared,
@@ -219,28 +236,53 @@ pub fn cache_main<S: Source, K: Sink, D: PageDisk, P: Gate>(
     _gate: &P,
 ) -> Ended<D>
     ensures good { (u : Setup) → OpensWith u D.told disks.items → IsGood u (reverse result.journal.items) }
-    ensures ended { IsEnded (input (map string_bytes words.now) (S.told script.old) (S.told script.new) (S.faults script.old) (S.faults script.new) (length disks.items)) (output (K.told out.old) (K.told out.new) (K.faults out.old) (K.faults out.new) (K.stalls out.old) (K.stalls out.new)) result.script result.replies.items result.journal.items result.status }
+    ensures ended { IsEnded
+        (input S.told S.faults S.taken (map string_bytes words.now) script.old script.new (length disks.items))
+        (output K.told K.faults K.stalls out.old out.new)
+        result.script result.replies.items result.journal.items result.status }
     ensures usage { result.status ≡ 1 → is_run (map string_bytes words.now) ≡ false }
     ensures usage_always { is_run (map string_bytes words.now) ≡ false → EndsWith result.status 1 }
+    ensures untouched { is_run (map string_bytes words.now) ≡ false → script.new ≡ script.old }
     ensures syntax { result.status ≡ 2 → (line : ℕ) × IsWrong (S.told script.old) line }
+    ensures syntax_always { SyntaxAlways
+        (input S.told S.faults S.taken (map string_bytes words.now) script.old script.new (length disks.items))
+        result.status }
     ensures read_fault { result.status ≡ 3 → S.faults script.old < S.faults script.new }
-    ensures unwritten { result.status ≡ 4 → (K.faults out.old < K.faults out.new) ⊎ (K.stalls out.old < K.stalls out.new) }
-    ensures too_long { result.status ≡ 5 → IsTooLong (S.told script.old) (S.told script.new) }
-    ensures too_few { result.status ≡ 7 → HasTooFewDisks (input (map string_bytes words.now) (S.told script.old) (S.told script.new) (S.faults script.old) (S.faults script.new) (length disks.items)) }
-    ensures syntax_always { SyntaxAlways (input (map string_bytes words.now) (S.told script.old) (S.told script.new) (S.faults script.old) (S.faults script.new) (length disks.items)) result.status }
-    ensures too_long_always { TooLongAlways (input (map string_bytes words.now) (S.told script.old) (S.told script.new) (S.faults script.old) (S.faults script.new) (length disks.items)) result.status }
-    ensures too_few_always { TooFewAlways (input (map string_bytes words.now) (S.told script.old) (S.told script.new) (S.faults script.old) (S.faults script.new) (length disks.items)) result.status }
-    ensures complete { Completes (input (map string_bytes words.now) (S.told script.old) (S.told script.new) (S.faults script.old) (S.faults script.new) (length disks.items)) (output (K.told out.old) (K.told out.new) (K.faults out.old) (K.faults out.new) (K.stalls out.old) (K.stalls out.new)) result.status }
+    ensures write_fault { result.status ≡ 4 →
+        (K.faults out.old < K.faults out.new) ⊎ (K.stalls out.old < K.stalls out.new) }
+    ensures too_long { result.status ≡ 5 → S.taken script.old + 16777216 < S.taken script.new }
+    ensures too_long_always { TooLongAlways
+        (input S.told S.faults S.taken (map string_bytes words.now) script.old script.new (length disks.items))
+        result.status }
+    ensures too_long_told { TooLongTold
+        (input S.told S.faults S.taken (map string_bytes words.now) script.old script.new (length disks.items))
+        result.status }
+    ensures too_few { result.status ≡ 7 → HasTooFewDisks
+        (input S.told S.faults S.taken (map string_bytes words.now) script.old script.new (length disks.items)) }
+    ensures too_few_always { TooFewAlways
+        (input S.told S.faults S.taken (map string_bytes words.now) script.old script.new (length disks.items))
+        result.status }
+    ensures complete { Completes
+        (input S.told S.faults S.taken (map string_bytes words.now) script.old script.new (length disks.items))
+        (output K.told K.faults K.stalls out.old out.new)
+        result.status }
+    ensures given { WasTaken (S.told script.old) (S.told script.new) (S.taken script.old) (S.taken script.new) }
+    ensures bounded { S.taken script.new ≤ S.taken script.old + 16777217 }
     ensures made { (result.status ≡ 0) ⊎ (result.status ≡ 4) → is_some result.script ≡ true }
     ensures spelled { IfSome result.script (Spells (S.told script.old)) }
-    ensures explained { IfSome result.script (λ made. IsExplained made.streams made.lines result.replies.items (reverse result.journal.items)) }
+    ensures explained { IfSome result.script (λ made. (u : Setup) → OpensWith u D.told disks.items →
+        IsExplained u (given_of made)
+        (record { replies = result.replies.items; ticked = result.ticks.items; stepped = result.aheads.items })
+        (reverse result.journal.items)) }
     ensures empty { result.script ≡ None → result.journal.items ≡ [] }
-    ensures printed { result.status ≡ 0 → IfSome result.script (λ made. Both (K.told out.old) (K.told out.new) (Took (the_text_of made result.replies.items result.journal.items (table_of (reverse result.journal.items))))) }
-    ensures bounded { IsBounded (S.told script.old) (S.told script.new) }
+    ensures printed { result.status ≡ 0 → IfSome result.script (λ made. Both (K.told out.old) (K.told out.new)
+        (Took (the_text_of made result.replies.items result.journal.items (table_of (reverse result.journal.items))))) }
     ensures ticks { result.ticks.items ≡ [] }
     ensures aheads { result.aheads.items ≡ [] }
-    ensures disks { DisksAre D.told D.faults (reverse result.journal.items) disks.items result.disks.items }
-    ensures no_fault { (s : ℕ) (before after : D) → slice_get disks.items s ≡ Some before → slice_get result.disks.items s ≡ Some after → D.faults after ≡ D.faults before → failures s (reverse result.journal.items) ≡ 0 }
+    ensures disks { DisksAre D.told (reverse result.journal.items) disks.items result.disks.items }
+    ensures counted { is_some result.script ≡ true →
+        AreCounted D.faults (reverse result.journal.items) disks.items result.disks.items }
+    ensures risen { HaveRisen D.faults disks.items result.disks.items }
     ensures logs { result.logs ≡ logs }
     ensures posts { result.posts ≡ posts }
 {

@@ -13,6 +13,8 @@ mod devices;
 #[cfg(test)]
 mod dirty;
 #[cfg(test)]
+mod log;
+#[cfg(test)]
 mod pages;
 #[cfg(test)]
 mod readers;

@@ -73,58 +73,51 @@ const COPIES: [(&str, u32); 7] = [
     ("stream a 1 1\nflush a", 2),
 ];
 
+fn reads(alloc: Global, offer: Offer, mode: Mode, text: &str, line: u32) -> bool {
+    wrong_line(read_offered(alloc, text.as_bytes(), mode, offer)) == Some(line)
+}
+
+/// The first of these scripts that has another wrong line.
+fn mistaken<'a>(alloc: Global, offer: Offer, rows: &[(&'a str, u32)]) -> Option<&'a str> {
+    for &(text, line) in rows {
+        if !reads(alloc, offer, Mode::Run, text, line) {
+            return Some(text);
+        }
+    }
+    None
+}
+
 #[test]
 fn takes_the_lines_of_the_grammar(rt: HostRuntime) {
-    for (text, line) in WHOLE {
-        let read = read_offered(rt.alloc(), text.as_bytes(), Mode::Run, Offer::Whole);
-        assert_eq!(rt; wrong_line(read), Some(line), "{text}");
-    }
-    for (text, line) in COPIES {
-        let read = read_script(rt.alloc(), text.as_bytes(), Mode::Run);
-        assert_eq!(rt; wrong_line(read), Some(line), "{text}");
-    }
-    let phases = b"stream a 1 1\nphase\nstate a";
-    for (mode, line) in [(Mode::Run, 0), (Mode::Steps, 2)] {
-        let read = read_offered(rt.alloc(), phases, mode, Offer::Whole);
-        assert_eq!(rt; wrong_line(read), Some(line));
+    assert_eq!(rt; mistaken(rt.alloc(), Offer::Whole, &WHOLE), None);
+    assert_eq!(rt; mistaken(rt.alloc(), Offer::Copies, &COPIES), None);
+    let phases = "stream a 1 1\nphase\nstate a";
+    assert!(rt; reads(rt.alloc(), Offer::Whole, Mode::Run, phases, 0));
+    assert!(rt; reads(rt.alloc(), Offer::Whole, Mode::Steps, phases, 2));
+}
+
+/// Of a script whose first action is a write: its line, phase, caller, place and length.
+fn first_write(script: &Script) -> Option<(u32, u32, u32, u64, u64)> {
+    let first = script.lines.as_slice().first()?;
+    match &first.action {
+        Action::CopyWrite { at, bytes, .. } => {
+            Some((first.line, first.phase, first.caller, *at, bytes.len()))
+        }
+        _ => None,
     }
 }
 
 #[test]
 fn keeps_values(rt: HostRuntime) -> Result<(), Fail> {
-    let text = b"# r\n\njournal 64\nstream a 9 7\nt3 cwrite a 5 AB,00x2\nphase\nflush a 1 4\n";
+    let text = b"# r\n\njournal 64\nstream a 9 7\nphase\nt3 cwrite a 5 AB,00x2\nflush a 1 4\n";
     let script = read_offered(rt.alloc(), text, Mode::Run, Offer::Whole)
         .ok()
         .ok_or("read")?;
+    assert_eq!(rt; first_write(&script), Some((6, 2, 3, 5, 3)));
     assert_eq!(rt;
         (script.journal, script.threshold, script.phases),
         (64, 1024, 2)
     );
-    let [stream] = script.streams.as_slice() else {
-        return Err("one stream".into());
-    };
-    assert_eq!(rt; stream.name.as_str(), "a");
-    assert_eq!(rt;
-        (
-            stream.line,
-            stream.size,
-            stream.valid,
-            stream.quota.blocks()
-        ),
-        (4, 9, 7, 16)
-    );
-    let [write, flush] = script.lines.as_slice() else {
-        return Err("two actions".into());
-    };
-    assert_eq!(rt; (write.line, write.caller, write.phase), (5, 3, 1));
-    let Action::CopyWrite { at, bytes, .. } = &write.action else {
-        return Err("a write".into());
-    };
-    assert_eq!(rt;
-        (*at, bytes.len(), bytes.get(0), bytes.get(2)),
-        (5, 3, Some(0xAB), Some(0))
-    );
-    assert_eq!(rt; (flush.line, flush.caller, flush.phase), (7, 1, 2));
     Ok(())
 }
 
@@ -137,22 +130,39 @@ fn repeated(alloc: Global, first: &str, line: &str, count: u32) -> Result<String
     Ok(text)
 }
 
+/// Whether the program reads a script up to this line.
+fn is_read(alloc: Global, text: &str, line: u32) -> bool {
+    wrong_line(read_script(alloc, text.as_bytes(), Mode::Run)) == Some(line)
+}
+
 #[test]
-fn reads_the_largest_scripts(rt: HostRuntime) -> Result<(), Fail> {
-    let most = repeated(rt.alloc(), "stream a 1 1\n", "cread a 0 0\n", 65535)?;
-    let more = repeated(rt.alloc(), most.as_str(), "cread a 0 0\n", 1)?;
-    let all_bytes = repeated(rt.alloc(), "stream a 1 1\n", "cwrite a 0 00x2097152\n", 16)?;
-    let past = repeated(rt.alloc(), all_bytes.as_str(), "cread a 0 1\n", 1)?;
-    for (text, line) in [(most, 0), (more, 65537), (all_bytes, 0), (past, 18)] {
-        let read = read_script(rt.alloc(), text.as_bytes(), Mode::Run);
-        assert_eq!(rt; wrong_line(read), Some(line));
-    }
-    let header =
-        "stream a 1 1\nstream b 1 1\nstream c 1 1\nstream d 1 1\nstream e 1 1\nstream f 1 1\nstream g 1 1\nstream h 1 1\nstream i 1 1\nstream j 1 1\nstream k 1 1\nstream l 1 1\nstream m 1 1\nstream n 1 1\nstream o 1 1\nstream p 1 1\n";
-    let streams = repeated(rt.alloc(), header, "stream q 1 1\n", 1)?;
-    for (text, line) in [(header, 0), (streams.as_str(), 17)] {
-        let read = read_offered(rt.alloc(), text.as_bytes(), Mode::Run, Offer::Whole);
-        assert_eq!(rt; wrong_line(read), Some(line));
-    }
+fn reads_65535_actions(rt: HostRuntime) -> Result<(), Fail> {
+    let mut text = repeated(rt.alloc(), "stream a 1 1\n", "cread a 0 0\n", 65535)?;
+    assert!(rt; is_read(rt.alloc(), text.as_str(), 0));
+    text.push_str("cread a 0 0\n")?;
+    assert!(rt; is_read(rt.alloc(), text.as_str(), 65537));
+    Ok(())
+}
+
+#[test]
+fn reads_all_bytes_of_writes(rt: HostRuntime) -> Result<(), Fail> {
+    let mut text = repeated(rt.alloc(), "stream a 1 1\n", "cwrite a 0 00x2097152\n", 16)?;
+    assert!(rt; is_read(rt.alloc(), text.as_str(), 0));
+    text.push_str("cread a 0 1\n")?;
+    assert!(rt; is_read(rt.alloc(), text.as_str(), 18));
+    Ok(())
+}
+
+const STREAMS: &str = "stream a 1 1\nstream b 1 1\nstream c 1 1\nstream d 1 1
+stream e 1 1\nstream f 1 1\nstream g 1 1\nstream h 1 1
+stream i 1 1\nstream j 1 1\nstream k 1 1\nstream l 1 1
+stream m 1 1\nstream n 1 1\nstream o 1 1\nstream p 1 1
+";
+
+#[test]
+fn reads_16_streams(rt: HostRuntime) -> Result<(), Fail> {
+    let more = repeated(rt.alloc(), STREAMS, "stream q 1 1\n", 1)?;
+    assert!(rt; reads(rt.alloc(), Offer::Whole, Mode::Run, STREAMS, 0));
+    assert!(rt; reads(rt.alloc(), Offer::Whole, Mode::Run, more.as_str(), 17));
     Ok(())
 }

@@ -1,13 +1,7 @@
 //! Tests of values, bytes and errors.
 
-use cc_entry::{
-    Answer, Bytes, Call, CcError, Entry, Ids, LineReply, NoMemory, Outcome, PageId, Pages, Reply,
-    Rows, StreamId,
-};
+use cc_entry::{Answer, Bytes, Entry, NoMemory};
 use std::test::Fail;
-
-/// Takes a value that may cross threads.
-fn crosses<T: Send + Sync>(_value: &T) {}
 
 #[test]
 fn bytes_are_kept(rt: HostRuntime) -> Result<(), Fail> {
@@ -29,5 +23,18 @@ fn bytes_take_5000_appends(rt: HostRuntime) -> Result<(), Fail> {
         }
     }
     assert_eq!(rt; bytes.len(), 5000);
+    Ok(())
+}
+
+/// Takes a value that may cross threads.
+fn crosses<T: Send + Sync>(_value: &T) {}
+
+// These hold every other value.
+#[test]
+fn entries_and_answers_cross_threads(rt: HostRuntime) -> Result<(), Fail> {
+    crosses(&Entry::Posted { id: 1 });
+    crosses(&Answer::NoHold);
+    let text = format!(in rt.alloc(); "{}", NoMemory)?;
+    assert_eq!(rt; text.as_str(), "out of memory");
     Ok(())
 }

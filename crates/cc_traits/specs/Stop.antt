@@ -1,5 +1,5 @@
 -- How a call on an object outside ends, and what the object's count of faults makes of it.
-use Rattle.std.specs.Prelude.{ℕ, zero, List, [], ◌∷◌, Result, Ok, Err}
+use Rattle.std.specs.Prelude.{ℕ, zero, List, ◌∷◌, Result, Ok, Err}
 use Rattle.cc_traits.specs.declared.stop.Stop.{Stop}
 use Rattle.cc_traits.specs.declared.stop.Stop.TheVariants.{Failed, NoMemory}
 

@@ -138,7 +138,8 @@ impl ViewIndex {
         self.blocks.len() as u32
     }
 
-    /// A slot of an index block, empty where there is none; the root has the number 0. A step.
+    /// A slot of an index block, empty where there is none. The root has the number 0. To read one is a
+    /// step.
     pub fn slot<L: Ledger>(&self, node: u32, i: u8, steps: &mut Steps<L>) -> Slot
         ensures value { result ≡ slot_at self.now node i }
         ensures counted { steps.new ≡ steps.old + 1 }

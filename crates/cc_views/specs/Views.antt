@@ -3,12 +3,12 @@ use Rattle.std.specs.Prelude.{◌≡◌, ℕ, ◌≤◌, if◌then◌else◌, na
 use Rattle.std.specs.List.{IsDistinct, list_any}
 use Rattle.std.specs.Map.{keys_of, lookup, remove_entry, set_value}
 use Rattle.std.specs.Option.{option_map_or}
-use Rattle.cc_pages.specs.Pages.{page_at}
+use Rattle.cc_pages.specs.Pages.{Page, page_at}
 use Rattle.cc_vacb.specs.Index.{StartsBelow}
 
--- the pages of a view block, each its bytes or none
+-- the pages of a view block, each there, owned or shared, or none
 abbrev pub Pages : Type 0
-Pages = List (Option (List ℕ))
+Pages = List (Option Page)
 
 -- the mapped blocks of a stream with their frames, from the least to the most recently used
 pub record Mapped : Type 0 where

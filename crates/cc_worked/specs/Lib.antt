@@ -25,3 +25,7 @@ pub mod DiscardRefusals
 pub mod Crashes
 pub mod Room
 pub mod Seen
+pub mod PiecesReads
+pub mod PiecesWrites
+pub mod PiecesNoncached
+pub mod PiecesWithoutEntry

@@ -5,16 +5,47 @@
 //! `cache_main`, which keeps every promise.
 #![tactic(auto)]
 
+ghost use Rattle.std.specs.Prelude.{◌≡◌, map, string_bytes, IfOk, OnErr};
+ghost use Rattle.std.specs.Process.{exit_status};
+ghost use Rattle.cc_run.specs.Ends.{input, output, HasEnded};
+
 mod outside;
 
-use cc_memdev::{DiskFails, LogFails, MemDisk, MemLog};
+use cc_filedev::{Output, PlaceOf, ScriptFile};
 use cc_run::{Ended, cache_main};
-use cc_traits::{LogFile, PostRoutine};
-use outside::{Free, Output, Routine, ScriptFile};
+use cc_traits::{LogFile, PostRoutine, Sink, Source};
+use outside::{Free, Routine, devices, log};
 use std::alloc::{AllocError, Global};
 use std::env;
 use std::io::ErrorKind;
 use std::process::ExitCode;
+
+fn main(rt: HostRuntime) -> ExitCode {
+    exit_code(start(rt))
+}
+
+/// The program's end with its status, or with the status of want of memory.
+fn exit_code(status: Result<u8, AllocError>) -> ExitCode
+    ensures ended { IfOk status (λ number. exit_status result ≡ number) }
+    ensures no_memory { OnErr status (exit_status result ≡ 6) }
+{
+    match status {
+        Ok(status) => ExitCode::from(status),
+        Err(_) => ExitCode::from(6),
+    }
+}
+
+/// Runs the words of the command line over the file that they name and standard output.
+fn start(rt: HostRuntime) -> Result<u8, AllocError> {
+    let words = words_of(rt)?;
+    let path = match words.get(1) {
+        Some(path) => path.as_str(),
+        None => "",
+    };
+    let mut script = ScriptFile::new(PlaceOf { files: &rt, path });
+    let mut out = Output::new(&rt);
+    run(rt.alloc(), &words, &mut script, &mut out)
+}
 
 /// The words of the command line without the program's name; none where one is not text.
 fn words_of(rt: HostRuntime) -> Result<Vec<String>, AllocError> {
@@ -33,39 +64,17 @@ fn words_of(rt: HostRuntime) -> Result<Vec<String>, AllocError> {
     }
 }
 
-/// A disk for each stream that a script can have.
-fn disks(alloc: Global) -> Result<Vec<MemDisk>, AllocError> {
-    let mut disks = Vec::new(alloc);
-    for _ in 0..16 {
-        let fails = DiskFails {
-            reads: Vec::new(alloc),
-            writes: Vec::new(alloc),
-            syncs: Vec::new(alloc),
-        };
-        disks
-            .push(MemDisk::new(alloc, 0x5A, fails))
-            .map_err(|_| AllocError)?;
-    }
-    Ok(disks)
-}
-
-/// A log that a script can name.
-fn log(alloc: Global) -> MemLog {
-    let fails = LogFails {
-        appends: Vec::new(alloc),
-        flushes: Vec::new(alloc),
-    };
-    MemLog::new(alloc, fails)
-}
-
-/// Runs the program, and answers its status.
-fn run(rt: HostRuntime) -> Result<u8, AllocError> {
-    let alloc = rt.alloc();
-    let words = words_of(rt)?;
-    let path = match words.get(1) {
-        Some(path) => path.as_str(),
-        None => "",
-    };
+/// Runs the words over sixteen disks, and answers the status of the run.
+fn run<S: Source, K: Sink>(
+    alloc: Global,
+    words: &[String],
+    script: &mut S,
+    out: &mut K,
+) -> Result<u8, AllocError>
+    ensures { IfOk result (HasEnded
+        (input S.told S.faults S.taken (map string_bytes words.now) script.old script.new 16)
+        (output K.told K.faults K.stalls out.old out.new)) }
+{
     // The boxes are made here, since a function must not give a `dyn` that it made.
     let mut logs = Vec::new(alloc);
     for _ in 0..4 {
@@ -77,8 +86,7 @@ fn run(rt: HostRuntime) -> Result<u8, AllocError> {
         let boxed: Box<dyn PostRoutine + Send> = Box::new(alloc, Routine::new())?;
         posts.push(boxed).map_err(|_| AllocError)?;
     }
-    let mut script = ScriptFile::new(&rt, path);
-    let mut out = Output::new(&rt);
+    let disks = devices(alloc)?;
     let Ended {
         status,
         script: _script,
@@ -89,22 +97,6 @@ fn run(rt: HostRuntime) -> Result<u8, AllocError> {
         disks: _disks,
         logs: _logs,
         posts: _posts,
-    } = cache_main(
-        alloc,
-        &words,
-        &mut script,
-        &mut out,
-        disks(alloc)?,
-        logs,
-        posts,
-        &Free,
-    );
+    } = cache_main(alloc, words, script, out, disks, logs, posts, &Free);
     Ok(status)
-}
-
-fn main(rt: HostRuntime) -> ExitCode {
-    match run(rt) {
-        Ok(status) => ExitCode::from(status),
-        Err(_) => ExitCode::from(6),
-    }
 }

@@ -1,89 +1,44 @@
-//! The script's file, standard output, and routines and a gate that do nothing.
+//! Disks as they are handed in, and routines, a log and a gate that do nothing of their own.
 
-ghost use Rattle.std.specs.Prelude.{◌≡◌, None, false};
+ghost use Rattle.std.specs.Prelude.{◌≡◌, false, replicate, IfOk};
+ghost use Rattle.ntcache.specs.Edge.{new_disk, new_log};
 
-use cc_traits::{Faults, Gate, PostRoutine, Sink, Source, Stop};
-use std::fs;
-use std::fs::Files;
-use std::io::{Print, Read};
+use cc_memdev::{DiskFails, LogFails, MemDisk, MemLog};
+use cc_traits::{Gate, PostRoutine};
+use std::alloc::{AllocError, Global};
 
-/// The file of the script, opened when its first bytes are taken.
-#[derive(Drop)]
-pub struct ScriptFile<'a, R: Files> {
-    files: &'a R,
-    path: &'a str,
-    file: Option<R::File>,
-    faults: Faults,
-}
-
-impl<'a, R: Files> ScriptFile<'a, R> {
-    pub fn new(files: &'a R, path: &'a str) -> ScriptFile<'a, R>
-        ensures { result.faults ≡ 0 }
-    {
-        ScriptFile {
-            files,
-            path,
-            file: None,
-            faults: Faults::new(),
-        }
+/// A disk for each stream that a script can have, with 5A in each byte.
+pub fn devices(alloc: Global) -> Result<Vec<MemDisk>, AllocError>
+    ensures { IfOk result (λ disks. disks.items ≡ replicate 16 new_disk) }
+{
+    let mut disks = Vec::with_capacity(alloc, 16)?;
+    for made in 0..16usize {
+        disks.push_reserved(device(alloc));
     }
+    Ok(disks)
 }
 
-impl<'a, R: Files> Source for ScriptFile<'a, R> {
-    ghost told = { λ _. None };
-
-    ghost faults = { λ source. source.faults };
-
-    fn take(&mut self, buf: &mut [u8]) -> Result<usize, Stop> {
-        if self.file.is_none() {
-            match fs::open(self.files, self.path) {
-                Ok(file) => self.file = Some(file),
-                Err(_) => return Err(self.faults.raise()),
-            }
-        }
-        match &mut self.file {
-            Some(file) => match file.read(buf) {
-                Ok(taken) => Ok(taken),
-                Err(_) => Err(self.faults.raise()),
-            },
-            None => Ok(0),
-        }
-    }
+/// A disk with 5A in each byte, none of whose calls is to fail.
+fn device(alloc: Global) -> MemDisk
+    ensures { result ≡ new_disk }
+{
+    let fails = DiskFails {
+        reads: Vec::new(alloc),
+        writes: Vec::new(alloc),
+        syncs: Vec::new(alloc),
+    };
+    MemDisk::new(alloc, 0x5A, fails)
 }
 
-/// Standard output.
-#[derive(Drop)]
-pub struct Output<'a, R: Print> {
-    out: &'a R,
-    faults: Faults,
-}
-
-impl<'a, R: Print> Output<'a, R> {
-    pub fn new(out: &'a R) -> Output<'a, R>
-        ensures { result.faults ≡ 0 }
-    {
-        Output {
-            out,
-            faults: Faults::new(),
-        }
-    }
-}
-
-impl<'a, R: Print> Sink for Output<'a, R> {
-    ghost told = { λ _. None };
-
-    ghost faults = { λ sink. sink.faults };
-
-    // A call that wrote nothing counts as a fault.
-    ghost stalls = { λ _. 0 };
-
-    fn put(&mut self, piece: &[u8]) -> Result<usize, Stop> {
-        match self.out.write_some(piece) {
-            Ok(0) if !piece.is_empty() => Err(self.faults.raise()),
-            Ok(taken) => Ok(taken),
-            Err(_) => Err(self.faults.raise()),
-        }
-    }
+/// A log that a script can name, empty, none of whose calls is to fail.
+pub fn log(alloc: Global) -> MemLog
+    ensures { result ≡ new_log }
+{
+    let fails = LogFails {
+        appends: Vec::new(alloc),
+        flushes: Vec::new(alloc),
+    };
+    MemLog::new(alloc, fails)
 }
 
 /// A post routine that notes that it was posted.

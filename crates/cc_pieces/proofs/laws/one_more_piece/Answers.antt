@@ -1,4 +1,4 @@
-use Rattle.cc_pieces.proofs.Pieces.{ran-more}
+use Rattle.cc_pieces.proofs.LineSteps.{ran-more}
 use Rattle.cc_pieces.proofs.laws.one_more_piece.Goals as goal
 
 pub returns : goal.returns

@@ -3,12 +3,12 @@ use Rattle.cc_model.specs.Bytes.{byte_of}
 use Rattle.cc_readers.specs.Changes.{filled}
 use Rattle.cc_readers.specs.Events.{effects}
 use Rattle.cc_readers.proofs.ByteReads.{read_more, read_done, size_now}
-use Rattle.cc_laws.proofs.readers.bytes.answer.Goals as goal
+use Rattle.cc_readers.proofs.bytes.answer.Goals as goal
 
 pub loop-i-preserved : goal.loop-i-preserved
 loop-i-preserved c =
-    read_more (byte_of (filled c.args.fill) (effects c.args.journal.now c.args.stream)) c.args.at c.loop-i.i c.min-end.result c.byte_at-byte.result c.loop-i.bytes.items _
-    c.loop-i.auto.i c.loop-i-test.true c.loop-i.invariant c.byte_at-byte.ensures c.in_ok-push.ensures.items
+    read_more (byte_of (filled c.args.fill) (effects c.args.journal.now c.args.stream)) c.args.at c.loop-i.i c.min-end.result c.in_ok-byte.byte c.loop-i.bytes.items _
+    c.loop-i.auto.i c.loop-i-test.true c.loop-i.invariant c.in_ok-byte.ensures c.in_ok-push.ensures.items
 
 pub returns : goal.returns
 returns c =

@@ -3,7 +3,7 @@ use Rattle.std.specs.List.{range_with_len}
 use Rattle.cc_model.specs.Bytes.{byte_of}
 use Rattle.cc_readers.specs.Changes.{filled}
 use Rattle.cc_readers.specs.Events.{effects}
-use Rattle.cc_laws.proofs.readers.bytes.answer.Given as goal
+use Rattle.cc_readers.proofs.bytes.answer.Given as goal
 
 abbrev pub invariant-loop-i : goal.invariant-loop-i
 invariant-loop-i l = l.bytes.items ≡ map (byte_of (filled l.fill) (effects l.journal l.stream)) (range_with_len l.at (min l.i l.end - l.at))

@@ -1,5 +1,5 @@
 use Rattle.std.proofs.Common.{length}
-use Rattle.cc_laws.proofs.readers.conflicts.+have_page.Given as goal
+use Rattle.cc_readers.proofs.conflicts.+have_page.Given as goal
 
 abbrev pub decreases-have_page : goal.decreases-have_page
-decreases-have_page l = length l.ranges.now
+decreases-have_page l = length l.owed.now

@@ -3,7 +3,7 @@ use Rattle.std.specs.Option.{option_map}
 use Rattle.cc_model.specs.Ranges.{span_has}
 use Rattle.cc_readers.specs.HoldReads.{range_of_reach}
 use Rattle.cc_readers.proofs.BarReads.{any_next}
-use Rattle.cc_laws.proofs.readers.conflicts.shares_page.Goals as goal
+use Rattle.cc_readers.proofs.conflicts.shares_page.Goals as goal
 
 pub loop-page-preserved : goal.loop-page-preserved
 loop-page-preserved c =

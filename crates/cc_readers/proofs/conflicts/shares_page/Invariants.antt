@@ -4,7 +4,7 @@ use Rattle.std.specs.Option.{option_map}
 use Rattle.cc_entry.specs.Pages.{pages_of}
 use Rattle.cc_model.specs.Ranges.{span_has}
 use Rattle.cc_readers.specs.HoldReads.{range_of_reach}
-use Rattle.cc_laws.proofs.readers.conflicts.shares_page.Given as goal
+use Rattle.cc_readers.proofs.conflicts.shares_page.Given as goal
 
 abbrev pub invariant-loop-page : goal.invariant-loop-page
 invariant-loop-page l =

@@ -1,5 +1,5 @@
 use Rattle.std.proofs.Common.{length}
-use Rattle.cc_laws.proofs.readers.dirty.+is_any_dirty.Given as goal
+use Rattle.cc_readers.proofs.dirty.+is_any_dirty.Given as goal
 
 abbrev pub decreases-is_any_dirty : goal.decreases-is_any_dirty
-decreases-is_any_dirty l = length l.among.now
+decreases-is_any_dirty l = length l.pages.now

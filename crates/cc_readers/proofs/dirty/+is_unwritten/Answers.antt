@@ -4,7 +4,7 @@ use Rattle.cc_readers.specs.declared.touches.Touching.TheVariants as touching
 use Rattle.cc_model.specs.Numbers.{is_empty}
 use Rattle.cc_model.specs.Sizes.{Touch}
 use Rattle.cc_readers.proofs.TouchReads.{touches_back, touches_none, begins_ended, begins_open}
-use Rattle.cc_laws.proofs.readers.dirty.+is_unwritten.Goals as goal
+use Rattle.cc_readers.proofs.dirty.+is_unwritten.Goals as goal
 
 pub returns-in_default : goal.returns-in_default
 returns-in_default t c = sym (ap (λ (ts : List Touch). not (is_empty ts)) (touches_none c.args.journal.now c.args.stream c.args.ended c.args.page (nil_from_length _ c.in_default.ensures.cases)))

@@ -1,5 +1,5 @@
 use Rattle.std.proofs.Common.{length}
-use Rattle.cc_laws.proofs.readers.holds.+changed.Given as goal
+use Rattle.cc_readers.proofs.holds.+changed.Given as goal
 
 abbrev pub decreases-changed : goal.decreases-changed
 decreases-changed l = length l.holds.items

@@ -4,7 +4,7 @@ use Rattle.cc_model.specs.History.{effect_of}
 use Rattle.cc_model.specs.Holds.{Hold}
 use Rattle.cc_readers.specs.HoldReads.{hold_of, held_by_effect}
 use Rattle.cc_readers.proofs.HoldReads.{holds_back, holds_none}
-use Rattle.cc_laws.proofs.readers.holds.+open_holds.Goals as goal
+use Rattle.cc_readers.proofs.holds.+open_holds.Goals as goal
 
 pub returns-in_default : goal.returns-in_default
 returns-in_default t c = ap (map hold_of) c.new.ensures.items ∙ sym (holds_none _ _ (nil_from_length _ c.in_default.ensures.cases))

@@ -4,7 +4,7 @@ use Rattle.cc_readers.specs.declared.holds.OpenHold.{OpenHold}
 use Rattle.cc_model.specs.Holds.{Hold}
 use Rattle.cc_readers.specs.HoldReads.{hold_of, kept_hold, changed_after}
 use Rattle.cc_readers.proofs.HoldReads.{held_parts}
-use Rattle.cc_laws.proofs.readers.holds.holds_after.Goals as goal
+use Rattle.cc_readers.proofs.holds.holds_after.Goals as goal
 
 pub returns-in-Some : goal.returns-in-Some
 returns-in-Some c =

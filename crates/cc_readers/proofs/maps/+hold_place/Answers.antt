@@ -3,7 +3,7 @@ use Rattle.std.proofs.lemmas.List.{nil_from_length}
 use Rattle.cc_model.specs.Holds.{holds_of}
 use Rattle.cc_readers.specs.Events.{effects}
 use Rattle.cc_readers.proofs.HoldPlaces.{choose_same, choose_other, place_in_back, place_in_none, place_after-repins, place_after-repins_none}
-use Rattle.cc_laws.proofs.readers.maps.+hold_place.Goals as goal
+use Rattle.cc_readers.proofs.maps.+hold_place.Goals as goal
 
 pub returns-in_default : goal.returns-in_default
 returns-in_default t c = sym (place_in_none _ _ _ (nil_from_length _ c.in_default.ensures.cases))

@@ -5,7 +5,7 @@ use Rattle.cc_model.specs.Ranges.{cut_range}
 use Rattle.cc_model.specs.Residency.{is_resident}
 use Rattle.cc_readers.specs.Events.{effects}
 use Rattle.cc_readers.proofs.AbsentReads.{absent_none, absent_some}
-use Rattle.cc_laws.proofs.readers.needs.range_absent.Goals as goal
+use Rattle.cc_readers.proofs.needs.range_absent.Goals as goal
 
 pub returns-in-Some : goal.returns-in-Some
 returns-in-Some c =

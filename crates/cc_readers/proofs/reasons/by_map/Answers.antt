@@ -5,7 +5,7 @@ use Rattle.cc_entry.specs.declared.error.CcError.TheVariants as error
 use Rattle.cc_model.specs.Numbers.{is_among}
 use Rattle.cc_readers.specs.Events.{effects}
 use Rattle.cc_model.specs.Reasons.{not_cached, refuse_if}
-use Rattle.cc_laws.proofs.readers.reasons.by_map.Goals as goal
+use Rattle.cc_readers.proofs.reasons.by_map.Goals as goal
 
 pub returns : goal.returns
 returns c =

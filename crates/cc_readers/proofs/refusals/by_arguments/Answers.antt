@@ -2,7 +2,7 @@ use Rattle.std.proofs.Common.{ℕ, ◌<◌, ◌^◌, refl, ap, subst, sym, ◌�
 use Rattle.cc_model.specs.Reasons.{beyond_size, beyond_valid}
 use Rattle.cc_model.specs.Refusals.{first_of}
 use Rattle.cc_readers.proofs.RefusalReads.{same_reasons}
-use Rattle.cc_laws.proofs.readers.refusals.by_arguments.Goals as goal
+use Rattle.cc_readers.proofs.refusals.by_arguments.Goals as goal
 
 pub returns : goal.returns
 returns c = λ u logs small.

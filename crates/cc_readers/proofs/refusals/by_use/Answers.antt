@@ -5,7 +5,7 @@ use Rattle.cc_model.specs.Conflicts.{busy}
 use Rattle.cc_model.specs.Refusals.{first_of}
 use Rattle.cc_readers.specs.HoldReads.{hold_of}
 use Rattle.cc_readers.proofs.RefusalReads.{same_reasons}
-use Rattle.cc_laws.proofs.readers.refusals.by_use.Goals as goal
+use Rattle.cc_readers.proofs.refusals.by_use.Goals as goal
 
 pub returns : goal.returns
 returns c =
@@ -19,4 +19,6 @@ returns c =
     (same_reasons by_pins
     (same_reasons c.in_ok-by_views.ensures
     (same_reasons c.in_ok-by_pool.ensures
-    (same_reasons c.in_ok-by_residents.ensures refl)))))
+    (same_reasons c.in_ok-by_residents.ensures
+    (same_reasons c.in_ok-by_images.ensures
+    (same_reasons c.in_ok-by_growth.ensures refl)))))))

@@ -7,7 +7,7 @@ use Rattle.cc_model.specs.Refusals.{first_of, refusal}
 use Rattle.cc_readers.specs.Events.{effects}
 use Rattle.cc_readers.specs.RefusalReads.{use_reasons}
 use Rattle.cc_readers.proofs.RefusalReads.{refusal_early, refusal_late}
-use Rattle.cc_laws.proofs.readers.refusals.refusal.Goals as goal
+use Rattle.cc_readers.proofs.refusals.refusal.Goals as goal
 
 pub returns-in-Some : goal.returns-in-Some
 returns-in-Some c = λ u logs small.

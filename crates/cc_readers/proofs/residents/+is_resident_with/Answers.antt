@@ -4,7 +4,7 @@ use Rattle.cc_model.specs.History.{effect_of}
 use Rattle.cc_readers.specs.Events.{effects, event_of}
 use Rattle.cc_readers.specs.Changes.{resident_after}
 use Rattle.cc_readers.proofs.ResidentReads.{resident_back, resident_none, resident_unmapped}
-use Rattle.cc_laws.proofs.readers.residents.+is_resident_with.Goals as goal
+use Rattle.cc_readers.proofs.residents.+is_resident_with.Goals as goal
 
 pub returns-in_default : goal.returns-in_default
 returns-in_default t c = sym (resident_none c.args.journal.now c.args.stream c.args.page (nil_from_length _ c.in_default.ensures.cases))

@@ -2,7 +2,7 @@ use Rattle.std.proofs.Common.{ℕ, List, [], ◌∷◌, ◌++◌, sym, ◌∙◌
 use Rattle.std.proofs.lemmas.List.{nil_from_length}
 use Rattle.cc_readers.specs.Events.{AreSizes}
 use Rattle.cc_readers.proofs.SizeReads.{sizes_more, sizes_none}
-use Rattle.cc_laws.proofs.readers.sizes.+sizes.Goals as goal
+use Rattle.cc_readers.proofs.sizes.+sizes.Goals as goal
 
 pub returns-in_default-clause-each : goal.returns-in_default-clause-each
 returns-in_default-clause-each t c =

@@ -1,5 +1,5 @@
 use Rattle.std.proofs.Common.{length}
-use Rattle.cc_laws.proofs.readers.sizes.+sizes.Given as goal
+use Rattle.cc_readers.proofs.sizes.+sizes.Given as goal
 
 abbrev pub decreases-sizes : goal.decreases-sizes
 decreases-sizes l = length l.journal.now

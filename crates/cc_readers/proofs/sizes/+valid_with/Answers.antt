@@ -1,7 +1,7 @@
 use Rattle.std.proofs.Common.{◌≡◌, ℕ, IfOk, sym, subst}
 use Rattle.std.proofs.lemmas.List.{nil_from_length}
 use Rattle.cc_readers.proofs.SizeReads.{valid_back, valid_none}
-use Rattle.cc_laws.proofs.readers.sizes.+valid_with.Goals as goal
+use Rattle.cc_readers.proofs.sizes.+valid_with.Goals as goal
 
 pub returns-in_default : goal.returns-in_default
 returns-in_default t c = sym (valid_none c.args.journal.now c.args.stream (nil_from_length _ c.in_default.ensures.cases))

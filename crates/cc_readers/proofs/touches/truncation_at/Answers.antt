@@ -3,7 +3,7 @@ use Rattle.cc_model.specs.Numbers.{is_among, without}
 use Rattle.cc_model.specs.Objects.{objects}
 use Rattle.cc_readers.specs.Events.{effects}
 use Rattle.cc_readers.proofs.TouchReads.{counts}
-use Rattle.cc_laws.proofs.readers.touches.truncation_at.Goals as goal
+use Rattle.cc_readers.proofs.touches.truncation_at.Goals as goal
 
 pub returns-then-to-size : goal.returns-then-to-size
 returns-then-to-size c =

@@ -3,7 +3,7 @@ use Rattle.std.specs.declared.option.Option.TheVariants.{Some, None}
 use Rattle.std.proofs.lemmas.List.{nil_from_length}
 use Rattle.cc_readers.specs.Events.{effects}
 use Rattle.cc_readers.proofs.QuotaReads.{quota_back, quota_none, quota_kept, quota_made}
-use Rattle.cc_laws.proofs.readers.views.+quota.Goals as goal
+use Rattle.cc_readers.proofs.views.+quota.Goals as goal
 
 pub returns-in_default : goal.returns-in_default
 returns-in_default t c = sym (quota_none c.args.journal.now c.args.stream (nil_from_length _ c.in_default.ensures.cases))

@@ -6,7 +6,7 @@ use Rattle.cc_entry.specs.Pages.{pages_of}
 use Rattle.cc_model.specs.Ranges.{cut_range}
 use Rattle.cc_model.specs.Residency.{is_resident}
 use Rattle.cc_readers.specs.Events.{effects}
-use Rattle.cc_laws.proofs.readers.views.absent_in.Goals as goal
+use Rattle.cc_readers.proofs.views.absent_in.Goals as goal
 
 pub returns : goal.returns
 returns c =

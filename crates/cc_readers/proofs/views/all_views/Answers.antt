@@ -3,7 +3,7 @@ use Rattle.std.specs.List.{range_with_len, fold}
 use Rattle.cc_model.specs.Cache.{views_of, views_taken}
 use Rattle.cc_readers.specs.Events.{effects}
 use Rattle.cc_readers.proofs.QuotaReads.{fold_more, fold_done}
-use Rattle.cc_laws.proofs.readers.views.all_views.Goals as goal
+use Rattle.cc_readers.proofs.views.all_views.Goals as goal
 
 pub returns : goal.returns
 unfolding views_taken

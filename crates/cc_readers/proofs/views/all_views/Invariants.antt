@@ -2,7 +2,7 @@ use Rattle.std.proofs.Common.{◌≡◌, ◌+◌, ◌-◌, ◌*◌, ◌≤◌}
 use Rattle.std.specs.List.{range_with_len, fold}
 use Rattle.cc_model.specs.Cache.{views_of}
 use Rattle.cc_readers.specs.Events.{effects}
-use Rattle.cc_laws.proofs.readers.views.all_views.Given as goal
+use Rattle.cc_readers.proofs.views.all_views.Given as goal
 
 abbrev pub invariant-loop-n : goal.invariant-loop-n
 invariant-loop-n l = record {

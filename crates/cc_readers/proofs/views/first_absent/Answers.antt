@@ -2,7 +2,7 @@ use Rattle.std.proofs.Common.{◌+◌, ◌-◌, ◌/◌, not, sym, ◌∙◌}
 use Rattle.cc_model.specs.Residency.{is_resident}
 use Rattle.cc_readers.specs.Events.{effects}
 use Rattle.cc_readers.proofs.AbsentReads.{find_here, find_next}
-use Rattle.cc_laws.proofs.readers.views.first_absent.Goals as goal
+use Rattle.cc_readers.proofs.views.first_absent.Goals as goal
 
 pub loop-page-preserved : goal.loop-page-preserved
 loop-page-preserved c =

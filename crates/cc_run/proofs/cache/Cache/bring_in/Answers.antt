@@ -1,25 +1,29 @@
 use Rattle.std.proofs.Common.{◌≡◌, ◌+◌, ◌*◌, ◌<◌, arith, add-zero, ap, sym, ◌∙◌, refl, false, length, nat_lt, ◌∷◌}
 use Rattle.std.proofs.lemmas.List.{get_or_default}
 use Rattle.cc_entry.specs.declared.entry.Entry.TheVariants as entry
+use Rattle.cc_model.specs.Touches.{valid_of}
 use Rattle.cc_run.specs.Stands.{flag_at}
 use Rattle.cc_run.proofs.Fills.{filled-none, filled-one, faulted}
 use Rattle.cc_traits.specs.Stop.{faults_of}
 use Rattle.cc_run.proofs.FailureSteps.{failures-page_in, failures-fill_failed}
-use Rattle.cc_run.proofs.PlainSteps.{plain-page_in, plain-fill_failed}
 use Rattle.cc_run.proofs.StandsSteps.{stands-fill_failed, stands-page_in, IsFound, IsPut}
 use Rattle.cc_run.proofs.cache.Cache.bring_in.Goals as goal
 use Rattle.cc_run.proofs.cache.Cache.bring_in.Goals.{then-from_disk+in-Ok, else-from_disk}
 
 pub returns-in-Err-Failed-clause-stands : goal.returns-in-Err-Failed-clause-stands
 returns-in-Err-Failed-clause-stands g c =
-    λ u s. rw (c.push.ensures.entries, c.reserve.ensures.entries, c.read_page.ensures.stays) (stands-fill_failed _ s)
+    λ u s. rw (c.push.ensures.entries, c.reserve.ensures.entries, c.read_page.ensures.stays, c.page_of_stream-place.ensures) (stands-fill_failed c.args.page s)
 
 pub returns-in-Err-Failed-clause-filled : goal.returns-in-Err-Failed-clause-filled
-returns-in-Err-Failed-clause-filled g c = λ from to within.
+returns-in-Err-Failed-clause-filled g c = λ u s from to within.
+    let absent : flag_at c.args.self.now.resident.items c.args.page ≡ false =
+    get_or_default c.args.self.now.resident.items c.args.page false c.index.result.now (omega arith) ∙ (sym c.index.ensures ∙ c.if-index.false) in
     record {
       before = c.args.self.now.journal.entries;
       filled = filled-none from to c.args.self.now.journal.entries;
       within = within;
+      absent = s.agrees.resident_are c.args.page ∙ absent;
+      below = rw (valid_of, s.agrees.sizes_are) (omega (arith, c.if-from_disk.true));
       failed = c.push.ensures.entries ∙ rw (c.reserve.ensures.entries, c.page_of_stream-place.ensures) refl;
     }
 
@@ -45,16 +49,8 @@ returns-clause-stands g c = λ u s.
     (stands-page_in c.args.page c.if-from_disk.frame c.put_frame.new.bytes.items s (omega arith) inside absent c.requires both.1 put)
 
 pub returns-clause-filled : goal.returns-clause-filled
-returns-clause-filled g c = λ from to within.
+returns-clause-filled g c = λ u s from to within.
     filled-one from to (entry.PageIn 1 (record { stream = 0; page = c.args.page }) (nat_lt (4096 * c.args.page) c.args.self.now.valid)) _ _ (refl, refl, within) (c.push-2.ensures.entries ∙ rw (c.reserve.ensures.entries, c.page_of_stream-place.ensures) refl)
-
-pub returns-clause-plain : goal.returns-clause-plain
-returns-clause-plain g c = λ plain.
-    rw (c.push-2.ensures.entries, c.reserve.ensures.entries, c.page_of_stream-place.ensures) (plain-page_in c.args.page (nat_lt (4096 * c.args.page) c.args.self.now.valid) plain)
-
-pub returns-in-Err-Failed-clause-plain : goal.returns-in-Err-Failed-clause-plain
-returns-in-Err-Failed-clause-plain g c = λ plain.
-    rw (c.push.ensures.entries, c.reserve.ensures.entries, c.page_of_stream-place.ensures) (plain-fill_failed c.args.page plain)
 
 pub returns-clause-counted : goal.returns-clause-counted
 returns-clause-counted g c =

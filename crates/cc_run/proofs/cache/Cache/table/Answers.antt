@@ -3,4 +3,4 @@ use Rattle.cc_run.proofs.Rows.{rows-table, if_ok-more}
 use Rattle.cc_run.proofs.cache.Cache.table.Goals as goal
 
 pub returns : goal.returns
-returns c = if_ok-more c.rows_of.result (λ rows is plain. (rw c.deref.ensures.value at is) ∙ rows-table plain) c.rows_of.ensures
+returns c = if_ok-more c.rows_of.result (λ rows is agrees. (rw c.deref.ensures.value at is) ∙ rows-table agrees) c.rows_of.ensures

@@ -1,0 +1,91 @@
+-- What a line left, by its answer: a line of one call, and the lines of the calls without an entry.
+use Rattle.std.specs.Prelude.{ℕ, Bool, List, [], ◌∷◌, Ok, Err}
+use Rattle.std.specs.declared.option.Option.TheVariants.{Some, None}
+use Rattle.cc_entry.specs.Place.{File}
+use Rattle.cc_entry.specs.declared.call.Call.{Call}
+use Rattle.cc_entry.specs.declared.error.CcError.{CcError}
+use Rattle.cc_entry.specs.declared.reply.Reply.TheVariants as reply
+use Rattle.cc_entry.specs.declared.reply.Outcome.TheVariants as outcome
+use Rattle.cc_entry.specs.declared.answer.Answer.{Answer}
+use Rattle.cc_entry.specs.declared.answer.Answer.TheVariants as answer
+use Rattle.cc_entry.specs.declared.entry.Entry.{Entry}
+use Rattle.cc_model.specs.Setup.{Setup}
+use Rattle.cc_effects.specs.Moments.{Between}
+use Rattle.cc_effects.specs.Calls.{CallLeft}
+use Rattle.cc_effects.specs.LogCalls.{AppendLeft, LogFlushLeft}
+use Rattle.cc_effects.specs.Throttle.{DeferLeft, PostLeft}
+use Rattle.cc_effects.specs.PageWrites.{TickLeft}
+use Rattle.cc_effects.specs.ReadAhead.{AheadLeft}
+use Rattle.cc_effects.specs.Levels.{LevelsLeft}
+use Rattle.cc_effects.specs.Noncached.{NcReadLeft, NcWriteLeft}
+
+-- a call with an entry of its own
+abbrev pub CallAnswered : Setup → ℕ → Call → Answer → Between
+CallAnswered u me it (answer.Given r) old new = CallLeft u me it (outcome.Done r) old new
+CallAnswered u me it (answer.Refused e) old new = CallLeft u me it (outcome.Failed e) old new
+CallAnswered u me it other old new = ⊥
+
+-- an append to a log
+abbrev pub AppendAnswered : Setup → ℕ → ℕ → List ℕ → Answer → Between
+AppendAnswered u me handle bytes (answer.NewLsn lsn) old new = AppendLeft u me handle bytes (Ok lsn) old new
+AppendAnswered u me handle bytes (answer.Refused e) old new = AppendLeft u me handle bytes (Err e) old new
+AppendAnswered u me handle bytes other old new = ⊥
+
+-- a flush of a log
+abbrev pub LogFlushAnswered : Setup → ℕ → ℕ → ℕ → Answer → Between
+LogFlushAnswered u me handle lsn (answer.Given reply.Unit) old new = LogFlushLeft {T = Unit {0}} u me handle lsn (Ok tt) old new
+LogFlushAnswered u me handle lsn (answer.Refused e) old new = LogFlushLeft {T = Unit {0}} u me handle lsn (Err e) old new
+LogFlushAnswered u me handle lsn other old new = ⊥
+
+-- a deferral
+abbrev pub DeferAnswered : ℕ → File → ℕ → Bool → Answer → Between
+DeferAnswered me file bytes retrying (answer.Deferred id) old new = DeferLeft me file bytes retrying (Ok id) old new
+DeferAnswered me file bytes retrying (answer.Refused e) old new = DeferLeft me file bytes retrying (Err e) old new
+DeferAnswered me file bytes retrying other old new = ⊥
+
+-- so many posts with these numbers, and then one that found nothing to post
+abbrev pub PostsLeft : Setup → ℕ → List ℕ → Between
+PostsLeft u me [] old new = PostLeft u me (Ok None) old new
+PostsLeft u me (id ∷ ids) old new = (between : List Entry) × PostLeft u me (Ok (Some id)) old between × PostsLeft u me ids between new
+
+-- so many posts, and then one that was refused
+abbrev pub PostsRefused : Setup → ℕ → List ℕ → CcError → Between
+PostsRefused u me [] e old new = PostLeft u me (Err e) old new
+PostsRefused u me (id ∷ ids) e old new =
+    (between : List Entry) × PostLeft u me (Ok (Some id)) old between × PostsRefused u me ids e between new
+
+-- posts until there is nothing to post, or one is refused, which is told alone
+abbrev pub PostsAnswered : Setup → ℕ → Answer → Between
+PostsAnswered u me (answer.Posts ids) old new = PostsLeft u me ids old new
+PostsAnswered u me (answer.Refused e) old new = (ids : List ℕ) × PostsRefused u me ids e old new
+PostsAnswered u me other old new = ⊥
+
+-- a tick
+abbrev pub TickAnswered : ℕ → Answer → Between
+TickAnswered me (answer.Ticked tick) old new = TickLeft me (Ok tick) old new
+TickAnswered me (answer.Refused e) old new = TickLeft me (Err e) old new
+TickAnswered me other old new = ⊥
+
+-- a read-ahead step
+abbrev pub AheadAnswered : Setup → ℕ → Answer → Between
+AheadAnswered u me (answer.Stepped step) old new = AheadLeft u me (Ok step) old new
+AheadAnswered u me (answer.Refused e) old new = AheadLeft u me (Err e) old new
+AheadAnswered u me other old new = ⊥
+
+-- a question for the levels of a view index, over the levels of each size
+abbrev pub LevelsAnswered : (ℕ → ℕ) → ℕ → File → Answer → Between
+LevelsAnswered levels me file (answer.Levels n) old new = LevelsLeft levels me file (Ok n) old new
+LevelsAnswered levels me file (answer.Refused e) old new = LevelsLeft levels me file (Err e) old new
+LevelsAnswered levels me file other old new = ⊥
+
+-- a noncached read
+abbrev pub NcReadAnswered : Setup → ℕ → File → ℕ → ℕ → Answer → Between
+NcReadAnswered u me file at len (answer.Given (reply.Read bytes)) old new = NcReadLeft u me file at len (Ok bytes) old new
+NcReadAnswered u me file at len (answer.NcRefused done cause) old new = NcReadLeft u me file at len (Err (done, cause)) old new
+NcReadAnswered u me file at len other old new = ⊥
+
+-- a noncached write
+abbrev pub NcWriteAnswered : Setup → ℕ → File → ℕ → List ℕ → Answer → Between
+NcWriteAnswered u me file at bytes (answer.Count n) old new = NcWriteLeft u me file at bytes (Ok n) old new
+NcWriteAnswered u me file at bytes (answer.NcRefused done cause) old new = NcWriteLeft u me file at bytes (Err (done, cause)) old new
+NcWriteAnswered u me file at bytes other old new = ⊥

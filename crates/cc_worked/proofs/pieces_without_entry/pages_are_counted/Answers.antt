@@ -1,0 +1,65 @@
+-- The begin and the end of the page's transfer, and the scan before them.
+use Rattle.std.specs.Prelude.{◌≡◌, [], ◌∷◌, refl}
+use Rattle.std.proofs.Common.{arith, sym}
+use Rattle.std.proofs.lemmas.List.{append_cancel_right}
+use Rattle.cc_effects.specs.Asked.{Writes}
+use Rattle.cc_effects.specs.PageWrites.{Written}
+use Rattle.cc_effects.proofs.WorkSteps.{works-others}
+use Rattle.cc_worked.specs.Values.{page}
+use Rattle.cc_worked.specs.PiecesWithoutEntry.{dirty, page_is_written, page_fails}
+use Rattle.cc_worked.proofs.PiecesOpened.{computed, not_so}
+use Rattle.cc_worked.proofs.pieces_without_entry.pages_are_counted.Goals as goal
+
+pub returns-clause-written : goal.returns-clause-written
+unfolding computed
+returns-clause-written c = record {
+  during = page_is_written;
+  grew = refl;
+  works = record { each = ((λ is. refl), ((λ is. refl), tt)); one_sync = omega arith; whole = refl };
+  memory = refl;
+  became = refl;
+}
+
+pub returns-clause-failed : goal.returns-clause-failed
+unfolding computed
+returns-clause-failed c = record {
+  during = page_fails;
+  grew = refl;
+  works = record { each = ((λ is. refl), ((λ is. refl), tt)); one_sync = omega arith; whole = refl };
+  memory = refl;
+  became = refl;
+}
+
+pub returns-clause-skipped : goal.returns-clause-skipped
+unfolding computed
+returns-clause-skipped c = record {
+  during = [];
+  grew = refl;
+  works = works-others 17 (Writes (page 1 ∷ [])) [] dirty tt;
+  memory = refl;
+  became = record { untouched = refl; moment = record { moment = dirty; later = []; since = []; ends = refl; begins = refl; holds = refl } };
+}
+
+pub returns-clause-not_written : goal.returns-clause-not_written
+returns-clause-not_written c left =
+    let during : page_fails ≡ left.during = append_cancel_right page_fails left.during dirty left.grew in
+    not_so (rw (sym during) at left.became)
+
+pub returns-clause-ticked : goal.returns-clause-ticked
+unfolding computed
+returns-clause-ticked c = record {
+  during = page_is_written;
+  scanned = record {
+    before = [];
+    grew = refl;
+    quiet = tt;
+    works = record { each = ((λ is. refl), ((λ is. refl), tt)); one_sync = omega arith; whole = refl };
+  };
+  memory = refl;
+  ends = Written ∷ [];
+  became = (refl, tt);
+  written = refl;
+  skipped = refl;
+  failed = refl;
+  by_logs = omega arith;
+}

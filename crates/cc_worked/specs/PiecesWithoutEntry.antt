@@ -1,0 +1,54 @@
+-- What the calls without an entry of their own leave: logs, deferrals and posts, pages and ticks, read-ahead
+-- steps. Each stretch has its newest entry first, and stands on a past.
+use Rattle.std.specs.Prelude.{List, [], ◌∷◌, true, false}
+use Rattle.cc_entry.specs.declared.answer.Tick.{Tick}
+use Rattle.cc_entry.specs.declared.place.Request.{Request}
+use Rattle.cc_entry.specs.declared.call.Call.TheVariants as call
+use Rattle.cc_entry.specs.declared.reply.Reply.TheVariants as reply
+use Rattle.cc_entry.specs.declared.entry.Entry.{Entry}
+use Rattle.cc_entry.specs.declared.entry.Entry.TheVariants as entry
+use Rattle.cc_worked.specs.Values.{a, page, opened, done, answers, read_in, begins, ends, fails}
+
+-- a log was flushed to LSN 3
+abbrev pub flushed_to_three : List Entry
+flushed_to_three = entry.Flushed 2 0 3 ∷ opened 8192 8192 ∷ []
+
+abbrev pub appended : List Entry
+appended = entry.Append 1 0 4 (1 ∷ []) ∷ []
+
+abbrev pub log_fails : List Entry
+log_fails = entry.LogFailed 1 0 ∷ []
+
+-- a write of 4097 bytes is deferred, and posted by whom it may concern
+abbrev pub deferred : List Entry
+deferred = entry.Defer 1 1 a 2 false ∷ []
+
+abbrev pub posted : List Entry
+posted = entry.Posted 1 ∷ []
+
+-- a dirty page
+abbrev pub dirty : List Entry
+dirty = done 1 1 (call.CopyWrite a 0 (171 ∷ [])) ∷ read_in 1 0 ∷ opened 8192 8192 ∷ []
+
+abbrev pub page_is_written : List Entry
+page_is_written = ends 17 0 ∷ begins 17 0 ∷ []
+
+abbrev pub page_fails : List Entry
+page_fails = fails 17 0 ∷ begins 17 0 ∷ []
+
+-- the page is written by the lazy writer: it was picked
+abbrev pub scanned : List Entry
+scanned = entry.Scan 17 (page 0 ∷ []) ∷ []
+
+abbrev pub page_of_tick : List Entry
+page_of_tick = ends 17 0 ∷ begins 17 0 ∷ scanned
+
+abbrev pub one_written : Tick
+one_written = record { picked = page 0 ∷ []; written = 1; skipped = 0; failed = 0 }
+
+-- a request for the second page, and its step
+abbrev pub request : Request
+request = record { file = a; at = 4096; len = 4096 }
+
+abbrev pub step : List Entry
+step = answers 18 1 (call.AheadStep request) (reply.Whole true) ∷ read_in 18 1 ∷ []

@@ -1,0 +1,35 @@
+//! What noncached calls leave between two moments, and the end of a repin with write through.
+
+ghost use Rattle.std.specs.Prelude.{◌++◌, [], true, Ok, Err};
+ghost use Rattle.cc_entry.specs.declared.reply.Reply.TheVariants as reply;
+ghost use Rattle.cc_entry.specs.declared.error.CcError.TheVariants as error;
+ghost use Rattle.cc_entry.specs.declared.reply.Outcome.TheVariants as outcome;
+ghost use Rattle.cc_effects.specs.Noncached.{NcReadLeft, IsPageWritten, TransferRefused};
+ghost use Rattle.cc_effects.specs.Repins.{UnpinLeft};
+ghost use Rattle.cc_worked.specs.Values.{setup, a};
+ghost use Rattle.cc_worked.specs.PiecesReads.{two_pages};
+ghost use Rattle.cc_worked.specs.PiecesNoncached.{some_bytes, page_is_written, transfer_fails, transfer_wants_memory, misaligned, repinned, written_through, hold_alone};
+
+/// A page of a noncached write is stored and written; where the transfer fails the store stands and the end
+/// of the write tells it; where it finds no memory the write has no end.
+pub fn noncached_page_is_stored_and_written()
+    ensures written { IsPageWritten 1 a 0 some_bytes 4096 two_pages (page_is_written ++ two_pages) }
+    ensures failed { TransferRefused 1 a 0 some_bytes (error.WriteFault 0) two_pages (transfer_fails ++ two_pages) }
+    ensures no_memory { TransferRefused 1 a 0 some_bytes error.NoMemory two_pages (transfer_wants_memory ++ two_pages) }
+    ensures told_alone { TransferRefused 1 a 0 some_bytes (error.WriteFault 1) two_pages (transfer_fails ++ two_pages) → ⊥ }
+{}
+
+/// A noncached call of no bytes leaves nothing; one that is not of whole pages is refused with an entry for
+/// its first page, and by no other length.
+pub fn noncached_call_is_of_whole_pages()
+    ensures nothing { NcReadLeft setup 1 a 4096 0 (Ok []) two_pages two_pages }
+    ensures refused { NcReadLeft setup 1 a 1 4096 (Err (0, error.Unaligned)) two_pages (misaligned ++ two_pages) }
+    ensures not_answered { NcReadLeft setup 1 a 1 4096 (Ok []) two_pages (misaligned ++ two_pages) → ⊥ }
+    ensures not_so_called { NcReadLeft setup 1 a 1 4096 (Err (0, error.TooLong 65536)) two_pages (misaligned ++ two_pages) → ⊥ }
+{}
+
+/// The end of a repin with write through ends the hold whatever the flush of its range answers.
+pub fn repin_ends_whatever_comes()
+    ensures done { UnpinLeft setup 1 2 true (outcome.Done reply.Unit) repinned (written_through ++ repinned) }
+    ensures no_memory { UnpinLeft setup 1 2 true (outcome.Failed error.NoMemory) repinned (hold_alone ++ repinned) }
+{}
