@@ -4,45 +4,7 @@ use Rattle.std.proofs.lemmas.Bool.{ltb-true, ltb-false, eqb-true, eqb-false, eq-
 use Rattle.std.specs.List.{range_with_len, AllByRecursion, filter}
 use Rattle.cc_model.specs.Numbers.{is_among, placed, ascending}
 use Rattle.cc_laws.proofs.BlockLists.{is_among-filter}
-
--- each number of a list is greater
-abbrev pub Above : ℕ → List ℕ → Type 0
-Above n ns = AllByRecursion (λ m. n < m) ns
-
-abbrev pub Rises : List ℕ → Type 0
-Rises [] = Unit {0}
-Rises (n ∷ ns) = Above n ns × Rises ns
-
-above-less : (k n : ℕ) (ns : List ℕ) → k < n → Above n ns → Above k ns
-above-less k n [] less above = tt
-above-less k n (m ∷ ns) less above = let first : n < m = above.0 in (omega (arith, first, less), above-less k n ns less above.1)
-
-above-placed : (k n : ℕ) (ns : List ℕ) → k < n → Above k ns → Above k (placed n ns)
-above-placed k n [] less above = (less, tt)
-above-placed k n (m ∷ ns) less above = go (nat_lt n m) (m == n) (above-placed k n ns less above.1)
-  where
-    go : (t u : Bool) → Above k (placed n ns) → Above k (cond t (n ∷ m ∷ ns) (cond u (m ∷ ns) (m ∷ placed n ns)))
-    go true u rest = (less, above)
-    go false true rest = above
-    go false false rest = (above.0, rest)
-
-rises-placed : (n : ℕ) (ns : List ℕ) → Rises ns → Rises (placed n ns)
-rises-placed n [] rises = (tt, tt)
-rises-placed n (m ∷ ns) rises = go (nat_lt n m) refl (m == n) refl (rises-placed n ns rises.1)
-  where
-    below : (a b : ℕ) → a ≤ b → (a ≡ b → ⊥) → a < b
-    below a b low apart = omega arith
-
-    go : (t : Bool) → nat_lt n m ≡ t → (u : Bool) → (m == n) ≡ u → Rises (placed n ns) → Rises (cond t (n ∷ m ∷ ns) (cond u (m ∷ ns) (m ∷ placed n ns)))
-    go true is u same rest = let less : n < m = ltb-true n m is in ((less, above-less n m ns less rises.0), rises)
-    go false is true same rest = rises
-    go false is false same rest =
-        let less : m < n = below m n (ltb-false n m is) (eqb-false m n same) in
-        (above-placed m n ns less rises.0, rest)
-
-pub rises-ascending : (ns : List ℕ) → Rises (ascending ns)
-rises-ascending [] = tt
-rises-ascending (n ∷ ns) = rises-placed n (ascending ns) (rises-ascending ns)
+use Rattle.cc_laws.proofs.BlockPages.{Above, Rises, rises-ascending, rises-filter}
 
 above-range : (k a n : ℕ) → k < a → Above k (range_with_len a n)
 above-range k a zero less = tt
@@ -51,22 +13,6 @@ above-range k a (suc n) less = (less, above-range k (a + 1) n (omega (arith, les
 pub rises-range : (a n : ℕ) → Rises (range_with_len a n)
 rises-range a zero = tt
 rises-range a (suc n) = (above-range a (a + 1) n (omega arith), rises-range (a + 1) n)
-
-above-filter : (test : ℕ → Bool) (k : ℕ) (ns : List ℕ) → Above k ns → Above k (filter test ns)
-above-filter test k [] above = tt
-above-filter test k (n ∷ ns) above = go (test n) (above-filter test k ns above.1)
-  where
-    go : (t : Bool) → Above k (filter test ns) → Above k (cond t (n ∷ filter test ns) (filter test ns))
-    go true rest = (above.0, rest)
-    go false rest = rest
-
-pub rises-filter : (test : ℕ → Bool) (ns : List ℕ) → Rises ns → Rises (filter test ns)
-rises-filter test [] rises = tt
-rises-filter test (n ∷ ns) rises = go (test n) (rises-filter test ns rises.1)
-  where
-    go : (t : Bool) → Rises (filter test ns) → Rises (cond t (n ∷ filter test ns) (filter test ns))
-    go true rest = (above-filter test n ns rises.0, rest)
-    go false rest = rest
 
 -- a number is not among greater ones
 not_above : (n : ℕ) (ns : List ℕ) → Above n ns → is_among n ns ≡ false
