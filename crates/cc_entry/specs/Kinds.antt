@@ -16,3 +16,24 @@ is_pin kind.Pin = true
 is_pin kind.Repin = false
 is_pin kind.ReadChain = false
 is_pin kind.WriteChain = false
+
+abbrev pub is_repin : HoldKind → Bool
+is_repin kind.Map = false
+is_repin kind.Pin = false
+is_repin kind.Repin = true
+is_repin kind.ReadChain = false
+is_repin kind.WriteChain = false
+
+abbrev pub is_read_chain : HoldKind → Bool
+is_read_chain kind.Map = false
+is_read_chain kind.Pin = false
+is_read_chain kind.Repin = false
+is_read_chain kind.ReadChain = true
+is_read_chain kind.WriteChain = false
+
+abbrev pub is_write_chain : HoldKind → Bool
+is_write_chain kind.Map = false
+is_write_chain kind.Pin = false
+is_write_chain kind.Repin = false
+is_write_chain kind.ReadChain = false
+is_write_chain kind.WriteChain = true

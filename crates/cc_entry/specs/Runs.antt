@@ -10,7 +10,9 @@ spelled (run ∷ runs) = replicate run.count run.byte ++ spelled runs
 -- one byte more before runs, which joins the first run where that repeats the byte
 abbrev pub joined : ℕ → List Run → List Run
 joined byte [] = record { byte = byte; count = 1 } ∷ []
-joined byte (run ∷ runs) = if run.byte == byte then record run { count = run.count + 1 } ∷ runs else record { byte = byte; count = 1 } ∷ run ∷ runs
+joined byte (run ∷ runs) =
+    if run.byte == byte then record run { count = run.count + 1 } ∷ runs
+    else record { byte = byte; count = 1 } ∷ run ∷ runs
 
 -- the longest runs of equal bytes in a list of bytes
 abbrev pub runs_of : List ℕ → List Run

@@ -14,7 +14,7 @@ use std::alloc::Global;
 use std::marker::Model;
 
 /// A list of bytes, of fewer than 2^64.
-#[derive(Clone, Debug, Drop)]
+#[derive(Debug, Drop)]
 pub struct Bytes {
     parts: Vec<Part>,
     len: u64,

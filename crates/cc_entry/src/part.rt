@@ -15,7 +15,7 @@ enum Kind {
 }
 
 /// A part has one byte at least.
-#[derive(Clone, Debug, Drop)]
+#[derive(Debug, Drop)]
 pub(crate) struct Part {
     kind: Kind,
 }
@@ -112,9 +112,9 @@ impl Part {
         if i >= self.len() {
             return None;
         }
-        match self.kind {
+        match &self.kind {
             Kind::Few { bytes, .. } => Some(bytes[i as usize]),
-            Kind::Run { byte, .. } => Some(byte),
+            Kind::Run { byte, .. } => Some(*byte),
         }
     }
 
@@ -125,11 +125,11 @@ impl Part {
         ensures ended { slice_get self.now (at + result) ≢ Some byte }
         ensures within { at + result ≤ length self.now }
     {
-        match self.kind {
+        match &self.kind {
             Kind::Few { len, bytes } => {
-                end_of_same(&bytes[..len as usize], at as usize, byte) as u64 - at
+                end_of_same(&bytes[..*len as usize], at as usize, byte) as u64 - at
             }
-            Kind::Run { byte: same, count } if same == byte => count - at,
+            Kind::Run { byte: same, count } if *same == byte => *count - at,
             Kind::Run { .. } => 0,
         }
     }
@@ -139,11 +139,11 @@ impl Part {
         requires fits { length bytes.old.items + length self.now < 2 ^ 64 }
         ensures { OnOk result (bytes.new.items ≡ bytes.old.items ++ self.now) }
     {
-        match self.kind {
-            Kind::Few { len, bytes: few } => bytes.extend_from_slice(&few[..len as usize])?,
+        match &self.kind {
+            Kind::Few { len, bytes: few } => bytes.extend_from_slice(&few[..*len as usize])?,
             Kind::Run { byte, count } => {
-                let len = bytes.len() + count as usize;
-                bytes.resize(len, byte)?;
+                let len = bytes.len() + *count as usize;
+                bytes.resize(len, *byte)?;
             }
         }
         Ok(())

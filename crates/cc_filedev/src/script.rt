@@ -20,14 +20,8 @@ pub trait Place: Drop {
 /// A path among files.
 #[derive(Drop)]
 pub struct PlaceOf<'a, R: Files> {
-    files: &'a R,
-    path: &'a str,
-}
-
-impl<'a, R: Files> PlaceOf<'a, R> {
-    pub fn new(files: &'a R, path: &'a str) -> PlaceOf<'a, R> {
-        PlaceOf { files, path }
-    }
+    pub files: &'a R,
+    pub path: &'a str,
 }
 
 impl<'a, R: Files> Place for PlaceOf<'a, R> {

@@ -17,7 +17,8 @@ use Rattle.cc_model.specs.Objects.{objects, truncation}
 use Rattle.cc_model.specs.Sizes.{Touch, touched_if, hold_has, ended_ok}
 use Rattle.cc_model.specs.Ranges.{span_has}
 use Rattle.cc_model.specs.Touches.{touches, size_of}
-use Rattle.cc_model.specs.Stamps.{joined, alone, lsns_among, lsns_of, is_unstamped}
+use Rattle.cc_entry.specs.Lsns.{joined, alone}
+use Rattle.cc_model.specs.Stamps.{lsns_among, lsns_of, is_unstamped}
 use Rattle.cc_laws.proofs.HoldSteps.{holds_of-came_in, holds_of-went_out, holds_of-began, holds_of-ended, holds_of-synced, changes_holds, holds_of-other}
 use Rattle.cc_laws.proofs.TouchSteps.{touches-opens, touches-closes, touches-resizes, touches-writes, touches-zeroes, touches-stores, touches-stamps, touches-discards, touches-looks, touches-came_in, touches-went_out, touches-began_open, touches-ended_bad, touches-ended_other, touches-synced}
 

@@ -20,7 +20,8 @@ use Rattle.cc_model.specs.Reasons.{not_cached, cached_file, in_order, bad_sizes,
 use Rattle.cc_model.specs.Discards.{unsettled}
 use Rattle.cc_model.specs.Refusals.{refusal}
 use Rattle.cc_model.specs.Legal.{IsAdmitted}
-use Rattle.cc_model.specs.Filing.{is_write_chain, serves, serves_range, IsFiled}
+use Rattle.cc_entry.specs.Kinds.{is_write_chain}
+use Rattle.cc_model.specs.Filing.{serves, serves_range, IsFiled}
 use Rattle.cc_entry.specs.Kinds.{is_pin}
 use Rattle.cc_laws.proofs.UnrefusedCalls.{unrefused, refuse_if-none}
 use Rattle.cc_laws.proofs.LeastPages.{unsettled-none}

@@ -18,7 +18,10 @@ unfoldable mutual
   content pages (Did pass call reply ∷ h) i =
       elim (act_of call) [
         | Writes at bytes ↦
-            elim (has_byte (record { from = at; to = at + length bytes }) i) [ true ↦ slice_index bytes (i - at) | false ↦ content pages h i ]
+            elim (has_byte (record { from = at; to = at + length bytes }) i) [
+              | true ↦ slice_index bytes (i - at)
+              | false ↦ content pages h i
+            ]
         | Zeroes from to ↦ elim (has_byte (record { from = from; to = to }) i) [ true ↦ 0 | false ↦ content pages h i ]
         | Stores page bytes ↦
             elim (has_byte (stored_range page (size_of h)) i) [

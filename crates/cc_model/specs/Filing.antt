@@ -4,25 +4,10 @@ use Rattle.std.specs.declared.option.Option.{Option}
 use Rattle.std.specs.declared.option.Option.TheVariants.{Some, None}
 use Rattle.cc_entry.specs.Place.{File}
 use Rattle.cc_entry.specs.declared.hold.HoldKind.{HoldKind}
-use Rattle.cc_entry.specs.declared.hold.HoldKind.TheVariants as kind
 use Rattle.cc_entry.specs.declared.call.Call.{Call}
 use Rattle.cc_entry.specs.declared.call.Call.TheVariants as call
 use Rattle.cc_model.specs.Holds.{Hold, hold_at}
-use Rattle.cc_entry.specs.Kinds.{is_map, is_pin}
-
-abbrev pub is_read_chain : HoldKind → Bool
-is_read_chain kind.ReadChain = true
-is_read_chain kind.Map = false
-is_read_chain kind.Pin = false
-is_read_chain kind.Repin = false
-is_read_chain kind.WriteChain = false
-
-abbrev pub is_write_chain : HoldKind → Bool
-is_write_chain kind.WriteChain = true
-is_write_chain kind.Map = false
-is_write_chain kind.Pin = false
-is_write_chain kind.Repin = false
-is_write_chain kind.ReadChain = false
+use Rattle.cc_entry.specs.Kinds.{is_map, is_pin, is_read_chain, is_write_chain}
 
 -- whether an open hold was made by the pass and is of a kind
 abbrev pub serves : ℕ → (HoldKind → Bool) → Option Hold → Bool

@@ -68,7 +68,8 @@ abbrev pub IsFailure : Setup → List Entry → ℕ → Option ℕ → Call → 
 IsFailure u past pass stream call (error.ReadFault page) =
     (list_any (is_failed_read page) (faults_since past pass) ≡ true) × NothingElse u past pass stream call
 IsFailure u past pass stream call (error.WriteFault page) =
-    ((list_any (is_failed_write page) (faults_since past pass) || (list_any is_failed_sync (faults_since past pass) && page == first_page call)) ≡ true)
+    ((list_any (is_failed_write page) (faults_since past pass)
+    || (list_any is_failed_sync (faults_since past pass) && page == first_page call)) ≡ true)
     × NothingElse u past pass stream call
 IsFailure u past pass stream call (error.LogFault handle) =
     (list_any (is_failed_log handle) (faults_since past pass) ≡ true) × NothingElse u past pass stream call

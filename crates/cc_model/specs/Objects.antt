@@ -33,4 +33,5 @@ had_map (other ∷ h) = had_map h
 -- truncate, where the object is open and the last, and the truncate is below the size.
 abbrev pub truncation : List ℕ → ℕ → File → Option ℕ → Option ℕ
 truncation opened size file None = None
-truncation opened size file (Some to) = if is_among file.object opened && (is_empty (without file.object opened) && nat_lt to size) then Some to else None
+truncation opened size file (Some to) =
+    if is_among file.object opened && (is_empty (without file.object opened) && nat_lt to size) then Some to else None

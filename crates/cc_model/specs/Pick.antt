@@ -49,4 +49,6 @@ unfoldable pub pick : Setup → List Entry → List Page
 pick u past =
     let pages = lazy_pages past in
     let last = cursor past in
-    take (pick_count u.threshold (length pages) (last_total past)) (filter (is_after last) pages ++ filter (λ page. not (is_after last page)) pages)
+    take
+    (pick_count u.threshold (length pages) (last_total past))
+    (filter (is_after last) pages ++ filter (λ page. not (is_after last page)) pages)

@@ -51,7 +51,8 @@ PostsLeft u me (id ∷ ids) old new = (between : List Entry) × PostLeft u me (O
 -- so many posts, and then one that was refused
 abbrev pub PostsRefused : Setup → ℕ → List ℕ → CcError → Between
 PostsRefused u me [] e old new = PostLeft u me (Err e) old new
-PostsRefused u me (id ∷ ids) e old new = (between : List Entry) × PostLeft u me (Ok (Some id)) old between × PostsRefused u me ids e between new
+PostsRefused u me (id ∷ ids) e old new =
+    (between : List Entry) × PostLeft u me (Ok (Some id)) old between × PostsRefused u me ids e between new
 
 -- posts until there is nothing to post, or one is refused, which is told alone
 abbrev pub PostsAnswered : Setup → ℕ → Answer → Between

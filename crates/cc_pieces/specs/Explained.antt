@@ -49,5 +49,6 @@ pub record IsExplained (u : Setup) (given : Given) (told : Answered) (past : Lis
   pub opened : Opened u 0 given.streams setup [] begun
   pub alone : (me : ℕ) → me ≢ 0 → IsIdle me [] begun
   pub ran :
-      PhasesRan u (record { lines = given.lines; answers = answers; ticks = given.ticks; aheads = given.aheads }) 1 given.phases told.ticked told.stepped begun past
+      PhasesRan u (record { lines = given.lines; answers = answers; ticks = given.ticks; aheads = given.aheads })
+      1 given.phases told.ticked told.stepped begun past
   pub posted_once : IsDistinct nat_eq (posted_in given.lines answers)

@@ -2,27 +2,18 @@
 use Rattle.std.specs.Prelude.{ℕ, Bool, true, false, ◌||◌, List}
 use Rattle.std.specs.declared.option.Option.{Option}
 use Rattle.std.specs.declared.option.Option.TheVariants.{Some, None}
-use Rattle.cc_entry.specs.Kinds.{is_map, is_pin}
+use Rattle.cc_entry.specs.Kinds.{is_map, is_pin, is_repin, is_read_chain, is_write_chain}
 use Rattle.cc_entry.specs.declared.hold.HoldKind.{HoldKind}
-use Rattle.cc_entry.specs.declared.hold.HoldKind.TheVariants as kind
 use Rattle.cc_entry.specs.declared.call.Call.{Call}
 use Rattle.cc_entry.specs.declared.call.Call.TheVariants as call
 use Rattle.cc_entry.specs.declared.reply.Outcome.TheVariants as outcome
 use Rattle.cc_entry.specs.declared.answer.Answer.{Answer}
 use Rattle.cc_entry.specs.declared.answer.Answer.TheVariants as answer
 use Rattle.cc_model.specs.Setup.{Setup}
-use Rattle.cc_model.specs.Filing.{is_read_chain, is_write_chain}
 use Rattle.cc_effects.specs.Moments.{Between}
 use Rattle.cc_effects.specs.Repins.{UnpinLeft}
 use Rattle.cc_pieces.specs.Bindings.{Binding, hold_named, OnHold}
 use Rattle.cc_pieces.specs.Answered.{CallAnswered}
-
-abbrev pub is_repin : HoldKind → Bool
-is_repin kind.Map = false
-is_repin kind.Pin = false
-is_repin kind.Repin = true
-is_repin kind.ReadChain = false
-is_repin kind.WriteChain = false
 
 -- one call on the hold
 abbrev pub HoldLine : Setup → ℕ → List Binding → List ℕ → (HoldKind → Bool) → (ℕ → Call) → Answer → Between

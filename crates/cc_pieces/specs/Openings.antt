@@ -25,7 +25,8 @@ first_object_of s = record { stream = s; object = 0 }
 -- the first object of the stream of this number is initialised
 abbrev pub opening_call : ℕ → StreamLine → Call
 opening_call s stream =
-    call.Initialise (first_object_of s) (record { allocation = stream.size; size = stream.size; valid = stream.valid }) stream.quota stream.temporary
+    call.Initialise (first_object_of s) (record { allocation = stream.size; size = stream.size; valid = stream.valid })
+    stream.quota stream.temporary
 
 -- A stream's line with such a log, or none. Its answer is that of the first call that is refused, else that of
 -- the last.

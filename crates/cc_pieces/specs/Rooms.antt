@@ -23,7 +23,8 @@ HadNoRoom u limit other old new = Unit {0}
 abbrev pub is_alone : ℕ → List ActionLine → Bool
 is_alone phase [] = true
 is_alone phase (line ∷ lines) =
-    if line.phase == phase then list_all (λ other. if other.phase == phase then other.caller == line.caller else true) lines else is_alone phase lines
+    if line.phase == phase then list_all (λ other. if other.phase == phase then other.caller == line.caller else true) lines
+    else is_alone phase lines
 
 -- With how much room a line may find the journal full. Each call asks less than 4 entries, and where callers
 -- or workers run beside one another, what their calls have under way is not in the journal.

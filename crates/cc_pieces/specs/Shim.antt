@@ -136,11 +136,13 @@ HeldPartsLeft u me file path parts at len (Err e) old new =
 
 -- a read that went by a path, with the bytes that it answered
 abbrev pub PathReadLeft : Setup → ℕ → File → ReadPath → ℕ → ℕ → Result (List ℕ) CcError → Between
-PathReadLeft u me file Cached at len (Ok bytes) old new = CallLeft u me (call.CopyRead file at len true) (outcome.Done (reply.Read bytes)) old new
+PathReadLeft u me file Cached at len (Ok bytes) old new =
+    CallLeft u me (call.CopyRead file at len true) (outcome.Done (reply.Read bytes)) old new
 PathReadLeft u me file Cached at len (Err e) old new = CallLeft u me (call.CopyRead file at len true) (outcome.Failed e) old new
 PathReadLeft u me file Mapped at len answered old new = HeldPartsLeft u me file (mapped_path file) parts_of at len answered old new
 PathReadLeft u me file Pinned at len answered old new = HeldPartsLeft u me file (pinned_path file) parts_of at len answered old new
-PathReadLeft u me file Descriptor at len answered old new = HeldPartsLeft u me file (descriptor_path file) whole_part at len answered old new
+PathReadLeft u me file Descriptor at len answered old new =
+    HeldPartsLeft u me file (descriptor_path file) whole_part at len answered old new
 PathReadLeft u me file Noncached at len (Ok bytes) old new = NcReadLeft u me file at len (Ok bytes) old new
 PathReadLeft u me file Noncached at len (Err e) old new = (done : ℕ) × NcReadLeft u me file at len (Err (done, e)) old new
 
@@ -209,7 +211,8 @@ WriteTested u me file at bytes false answered old new = ShortWriteLeft u me file
 
 -- a write that extends the stream
 abbrev pub WriteAnswered : Setup → ℕ → File → ℕ → List ℕ → Answer → Between
-WriteAnswered u me file at bytes (answer.Given reply.Unit) old new = WriteTested u me file at bytes (nat_lt 1048576 (length bytes)) (Ok tt) old new
+WriteAnswered u me file at bytes (answer.Given reply.Unit) old new =
+    WriteTested u me file at bytes (nat_lt 1048576 (length bytes)) (Ok tt) old new
 WriteAnswered u me file at bytes (answer.Refused e) old new = WriteTested u me file at bytes (nat_lt 1048576 (length bytes)) (Err e) old new
 WriteAnswered u me file at bytes other old new = ⊥
 

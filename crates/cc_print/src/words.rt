@@ -1,6 +1,6 @@
 //! The words that lines are made of: names, files, pages, numbers that may be absent, bytes.
 
-ghost use Rattle.std.specs.Prelude.{◌≡◌, ◌<◌, ◌++◌, true, IfOk, OnOk, string_bytes};
+ghost use Rattle.std.specs.Prelude.{◌≡◌, ◌<◌, ◌++◌, true, IfOk, OnOk, codes, decimal, string_bytes};
 ghost use Rattle.std.specs.Fmt.{digit_glyph};
 ghost use Rattle.cc_print.specs.Words.{name_at, file_text, page_text, word_if, number_if, span_if, hex_pair, run_text, more_runs, bytes_text};
 
@@ -96,14 +96,21 @@ fn push_pair(text: &mut String, byte: u8) -> Result<(), AllocError>
     Ok(())
 }
 
+// Apart from `push_run`, which most bytes go through without it.
+#[inline(never)]
+fn push_count(alloc: Global, text: &mut String, count: u64) -> Result<(), AllocError>
+    ensures { OnOk result (string_bytes text.new ≡ string_bytes text.old ++ (codes "x" ++ decimal count)) }
+{
+    let times = format!(in alloc; "x{count}")?;
+    text.push_str(times.as_str())
+}
+
 fn push_run(alloc: Global, text: &mut String, run: Run) -> Result<(), AllocError>
     ensures { OnOk result (string_bytes text.new ≡ string_bytes text.old ++ run_text run) }
 {
     push_pair(text, run.byte)?;
     if run.count != 1 {
-        let count = run.count;
-        let times = format!(in alloc; "x{count}")?;
-        text.push_str(times.as_str())?;
+        push_count(alloc, text, run.count)?;
     }
     Ok(())
 }

@@ -18,11 +18,11 @@ use Rattle.cc_model.specs.Bytes.{content, on_disk, byte_of, answer, page_size}
 use Rattle.cc_readers.specs.Events.{event_of_act, effects, AreSizes}
 use Rattle.cc_readers.specs.Changes.{filled, change_by}
 use Rattle.cc_readers.specs.declared.events.Event.TheVariants as event
-use Rattle.cc_readers.specs.declared.bytes.Source.{Source}
-use Rattle.cc_readers.specs.declared.bytes.Source.TheVariants as source
+use Rattle.cc_readers.specs.declared.bytes.Origin.{Origin}
+use Rattle.cc_readers.specs.declared.bytes.Origin.TheVariants as origin
 use Rattle.cc_readers.specs.declared.bytes.Found.{Found}
 use Rattle.cc_readers.specs.declared.bytes.Found.TheVariants as found
-use Rattle.cc_readers.specs.ByteSources.{byte_from, look_in_changes, look_on_disk, look}
+use Rattle.cc_readers.specs.ByteOrigins.{byte_from, look_in_changes, look_on_disk, look}
 use Rattle.cc_laws.proofs.ActSteps.{content_by, content-done}
 use Rattle.cc_readers.proofs.ReaderSteps.{effects_back}
 use Rattle.cc_readers.proofs.TouchReads.{size_at}
@@ -37,7 +37,7 @@ chosen : (pages : ℕ → List ℕ) (h : List Effect) (i : ℕ) (b : Bool) (byte
 chosen pages h i true byte = refl
 chosen pages h i false byte = refl
 
-discarded : (pages : ℕ → List ℕ) (h : List Effect) (i : ℕ) (b : Bool) → (elim b as (λ x. ℕ) [ true ↦ on_disk pages false h i | false ↦ content pages h i ]) ≡ byte_by (if b then found.Before (source.Disk false) else found.Before source.Changes) pages h i
+discarded : (pages : ℕ → List ℕ) (h : List Effect) (i : ℕ) (b : Bool) → (elim b as (λ x. ℕ) [ true ↦ on_disk pages false h i | false ↦ content pages h i ]) ≡ byte_by (if b then found.Before (origin.Disk false) else found.Before origin.Changes) pages h i
 discarded pages h i true = refl
 discarded pages h i false = refl
 
@@ -58,33 +58,33 @@ on_disk-began pages ended pass page h i true true is below = rw (is, below, on_d
 on_disk-began pages ended pass page h i true false is below = rw (is, below, on_disk) refl
 on_disk-began pages ended pass page h i false valid is below = rw (is, on_disk) refl
 
-byte-event : (pages : ℕ → List ℕ) (it : Source) (o : Option Effect) (h : List Effect) (i : ℕ) → byte_from it pages (cons_option o h) i ≡ byte_by (look it o h i) pages h i
+byte-event : (pages : ℕ → List ℕ) (it : Origin) (o : Option Effect) (h : List Effect) (i : ℕ) → byte_from it pages (cons_option o h) i ≡ byte_by (look it o h i) pages h i
 unfolding content on_disk
-byte-event pages source.Changes None h i = refl
-byte-event pages source.Changes (Some (Did pass call reply)) h i = content-done pages pass call reply h i ∙ by_act pages (act_of call) h i
-byte-event pages source.Changes (Some (CameIn pass page from_disk)) h i = refl
-byte-event pages source.Changes (Some (WentOut pass page)) h i = refl
-byte-event pages source.Changes (Some (Began pass page)) h i = refl
-byte-event pages source.Changes (Some (Ended pass page how)) h i = refl
-byte-event pages source.Changes (Some (Synced pass how)) h i = refl
-byte-event pages (source.Disk ended) None h i = refl
-byte-event pages (source.Disk ended) (Some (Did pass call reply)) h i = sym (ap (λ (o : Option Bool). byte_by (look_on_disk o h i) pages h i) (not_transferred (act_of call) (i / 4096) ended))
-byte-event pages (source.Disk ended) (Some (CameIn pass page from_disk)) h i = refl
-byte-event pages (source.Disk ended) (Some (WentOut pass page)) h i = refl
-byte-event pages (source.Disk ended) (Some (Began pass page)) h i = on_disk-began pages ended pass page h i (ended && page == i / 4096) (nat_lt i (valid_of h)) refl refl
-byte-event pages (source.Disk ended) (Some (Ended pass page how)) h i = refl
-byte-event pages (source.Disk ended) (Some (Synced pass how)) h i = refl
+byte-event pages origin.Changes None h i = refl
+byte-event pages origin.Changes (Some (Did pass call reply)) h i = content-done pages pass call reply h i ∙ by_act pages (act_of call) h i
+byte-event pages origin.Changes (Some (CameIn pass page from_disk)) h i = refl
+byte-event pages origin.Changes (Some (WentOut pass page)) h i = refl
+byte-event pages origin.Changes (Some (Began pass page)) h i = refl
+byte-event pages origin.Changes (Some (Ended pass page how)) h i = refl
+byte-event pages origin.Changes (Some (Synced pass how)) h i = refl
+byte-event pages (origin.Disk ended) None h i = refl
+byte-event pages (origin.Disk ended) (Some (Did pass call reply)) h i = sym (ap (λ (o : Option Bool). byte_by (look_on_disk o h i) pages h i) (not_transferred (act_of call) (i / 4096) ended))
+byte-event pages (origin.Disk ended) (Some (CameIn pass page from_disk)) h i = refl
+byte-event pages (origin.Disk ended) (Some (WentOut pass page)) h i = refl
+byte-event pages (origin.Disk ended) (Some (Began pass page)) h i = on_disk-began pages ended pass page h i (ended && page == i / 4096) (nat_lt i (valid_of h)) refl refl
+byte-event pages (origin.Disk ended) (Some (Ended pass page how)) h i = refl
+byte-event pages (origin.Disk ended) (Some (Synced pass how)) h i = refl
 
-pub byte_back : (pages : ℕ → List ℕ) (journal rest : List Entry) (last : Entry) (s i : ℕ) (it : Source) (tells : Found) → journal ≡ rest ++ last ∷ [] → tells ≡ look it (effect_of last s) (effects rest s) i → byte_from it pages (effects journal s) i ≡ byte_by tells pages (effects rest s) i
+pub byte_back : (pages : ℕ → List ℕ) (journal rest : List Entry) (last : Entry) (s i : ℕ) (it : Origin) (tells : Found) → journal ≡ rest ++ last ∷ [] → tells ≡ look it (effect_of last s) (effects rest s) i → byte_from it pages (effects journal s) i ≡ byte_by tells pages (effects rest s) i
 byte_back pages journal rest last s i it tells is gives =
     ap (λ (h : List Effect). byte_from it pages h i) (effects_back journal rest last s is)
     ∙ (byte-event pages it (effect_of last s) (effects rest s) i
     ∙ ap (λ (f : Found). byte_by f pages (effects rest s) i) (sym gives))
 
-pub byte_none : (journal : List Entry) (s fill i : ℕ) (it : Source) → journal ≡ [] → byte_from it (filled fill) (effects journal s) i ≡ fill
+pub byte_none : (journal : List Entry) (s fill i : ℕ) (it : Origin) → journal ≡ [] → byte_from it (filled fill) (effects journal s) i ≡ fill
 unfolding content on_disk history filled page_size
-byte_none journal s fill i source.Changes is = rw is (get_or-replicate 4096 (i % 4096) fill 0 (omega arith))
-byte_none journal s fill i (source.Disk ended) is = rw is (get_or-replicate 4096 (i % 4096) fill 0 (omega arith))
+byte_none journal s fill i origin.Changes is = rw is (get_or-replicate 4096 (i % 4096) fill 0 (omega arith))
+byte_none journal s fill i (origin.Disk ended) is = rw is (get_or-replicate 4096 (i % 4096) fill 0 (omega arith))
 
 -- a read goes on by the byte at i, and ends where the bytes do
 

@@ -8,4 +8,4 @@ pub mod ViewReads
 pub mod RefusalReads
 pub mod Changes
 pub mod TransferReads
-pub mod ByteSources
+pub mod ByteOrigins

@@ -1,13 +1,13 @@
 //! Reasons for a refusal that lie in the view blocks of open holds and of a range.
 
-ghost use Rattle.std.specs.Prelude.{◌≡◌, ◌+◌, ◌≤◌, ◌^◌, ◌++◌, map, nat_eq, IfOk};
+ghost use Rattle.std.specs.Prelude.{◌≡◌, ◌+◌, ◌≤◌, ◌^◌, ◌++◌, nat_eq, IfOk};
 ghost use Rattle.std.specs.List.{range_with_len};
 ghost use Rattle.std.specs.Set.{is_member, unique_keys};
 ghost use Rattle.cc_entry.specs.Pages.{blocks_of};
 ghost use Rattle.cc_model.specs.Holds.{held_blocks};
 ghost use Rattle.cc_model.specs.Views.{active_blocks, needed_blocks};
 ghost use Rattle.cc_readers.specs.ViewReads.{over_quota};
-ghost use Rattle.cc_readers.specs.HoldReads.{hold_of, holds_in, range_of_reach};
+ghost use Rattle.cc_readers.specs.HoldReads.{holds_in, range_of_reach};
 
 use crate::holds::{OpenHold, Reach};
 use crate::reasons::refuse;
@@ -46,7 +46,7 @@ fn numbers_before(
 
 // The view blocks in which open holds have bytes, before others.
 fn held_before(alloc: Global, holds: &[OpenHold], after: Vec<u128>) -> Result<Vec<u128>, NoMemory>
-    ensures { IfOk result (λ blocks. blocks.items ≡ held_blocks (map hold_of holds.now) ++ after.items) }
+    ensures { IfOk result (λ blocks. blocks.items ≡ held_blocks (holds_in holds.now) ++ after.items) }
 {
     let Some((first, rest)) = holds.split_first() else {
         return Ok(after);
@@ -87,7 +87,7 @@ fn distinct(alloc: Global, blocks: &[u128]) -> Result<Vec<u128>, NoMemory>
 
 // How many distinct blocks open holds have.
 fn active(alloc: Global, holds: &[OpenHold]) -> Result<u64, NoMemory>
-    ensures { IfOk result (λ count. count ≡ active_blocks (map hold_of holds.now)) }
+    ensures { IfOk result (λ count. count ≡ active_blocks (holds_in holds.now)) }
 {
     let blocks = held_before(alloc, holds, Vec::new(alloc))?;
     let each = distinct(alloc, &blocks)?;
@@ -96,7 +96,7 @@ fn active(alloc: Global, holds: &[OpenHold]) -> Result<u64, NoMemory>
 
 // How many they have together with a range.
 fn needed(alloc: Global, holds: &[OpenHold], range: Reach) -> Result<u64, NoMemory>
-    ensures { IfOk result (λ count. count ≡ needed_blocks (map hold_of holds.now) (range_of_reach range)) }
+    ensures { IfOk result (λ count. count ≡ needed_blocks (holds_in holds.now) (range_of_reach range)) }
 {
     let own = blocks_before(alloc, range, Vec::new(alloc))?;
     let blocks = held_before(alloc, holds, own)?;

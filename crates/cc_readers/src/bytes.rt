@@ -3,7 +3,7 @@
 ghost use Rattle.std.specs.Prelude.{◌≡◌, ◌+◌, IfOk, length, slice_index};
 ghost use Rattle.cc_model.specs.Acts.{act_of, Writes, Zeroes, Stores};
 ghost use Rattle.cc_model.specs.Bytes.{byte_of, answer};
-ghost use Rattle.cc_readers.specs.ByteSources.{byte_from, look};
+ghost use Rattle.cc_readers.specs.ByteOrigins.{byte_from, look};
 ghost use Rattle.cc_readers.specs.Changes.{filled, change_by, change_of};
 ghost use Rattle.cc_readers.specs.Events.{effects, AreSizes};
 ghost use Rattle.cc_model.specs.History.{effect_of};
@@ -18,9 +18,9 @@ use crate::transfers::ended_from;
 use cc_entry::{Bytes, Call, Entry, NoMemory, Outcome, StreamId};
 use std::alloc::Global;
 
-/// What has a byte.
+/// Where a byte comes from.
 #[derive(Clone, Copy)]
-pub enum Source {
+pub enum Origin {
     /// What the last change or discard that covers it gave.
     Changes,
     /// The disk, where `ended` says whether the page's transfer ended ok later.
@@ -32,8 +32,8 @@ pub enum Source {
 pub enum Found {
     /// Its value.
     Byte(u8),
-    /// It is the one that this source has after the entries before.
-    Before(Source),
+    /// It is the one that this origin has after the entries before.
+    Before(Origin),
 }
 
 /// The byte at a place, over a disk that opened with `fill` everywhere.
@@ -89,50 +89,50 @@ fn byte_at(
     ensures { IfOk result (λ byte. byte ≡ byte_of (filled fill) (effects journal.now stream) at) }
 {
     if u128::from(at) < valid {
-        byte_from(alloc, journal, sizes, stream, fill, Source::Changes, at)
+        byte_from(alloc, journal, sizes, stream, fill, Origin::Changes, at)
     } else {
         Ok(0)
     }
 }
 
-// The byte that a source has after a journal.
+// The byte that an origin has after a journal.
 fn byte_from(
     alloc: Global,
     journal: &[Entry],
     sizes: &[u64],
     stream: StreamId,
     fill: u8,
-    source: Source,
+    origin: Origin,
     at: u64,
 ) -> Result<u8, NoMemory>
     requires { AreSizes sizes.now journal.now stream }
-    ensures { IfOk result (λ byte. byte ≡ byte_from source (filled fill) (effects journal.now stream) at) }
+    ensures { IfOk result (λ byte. byte ≡ byte_from origin (filled fill) (effects journal.now stream) at) }
 {
     let Some((last, rest)) = journal.split_last() else {
         return Ok(fill);
     };
-    match look(alloc, last, rest, sizes, stream, source, at)? {
+    match look(alloc, last, rest, sizes, stream, origin, at)? {
         Found::Byte(byte) => Ok(byte),
-        Found::Before(source) => byte_from(alloc, rest, sizes, stream, fill, source, at),
+        Found::Before(origin) => byte_from(alloc, rest, sizes, stream, fill, origin, at),
     }
 }
 
-// What an entry tells of the byte that a source has, given the entries before it.
+// What an entry tells of the byte that an origin has, given the entries before it.
 fn look(
     alloc: Global,
     last: &Entry,
     rest: &[Entry],
     sizes: &[u64],
     stream: StreamId,
-    source: Source,
+    origin: Origin,
     at: u64,
 ) -> Result<Found, NoMemory>
     requires { AreSizes sizes.now rest.now stream }
-    ensures { IfOk result (λ found. found ≡ look source (effect_of last.now stream) (effects rest.now stream) at) }
+    ensures { IfOk result (λ found. found ≡ look origin (effect_of last.now stream) (effects rest.now stream) at) }
 {
-    match source {
-        Source::Changes => look_in_changes(alloc, last, rest, sizes, stream, at),
-        Source::Disk { ended } => look_on_disk(alloc, last, rest, sizes, stream, ended, at),
+    match origin {
+        Origin::Changes => look_in_changes(alloc, last, rest, sizes, stream, at),
+        Origin::Disk { ended } => look_on_disk(alloc, last, rest, sizes, stream, ended, at),
     }
 }
 
@@ -146,21 +146,21 @@ fn look_in_changes(
     at: u64,
 ) -> Result<Found, NoMemory>
     requires { AreSizes sizes.now rest.now stream }
-    ensures { IfOk result (λ found. found ≡ look Source.Changes (effect_of last.now stream) (effects rest.now stream) at) }
+    ensures { IfOk result (λ found. found ≡ look Origin.Changes (effect_of last.now stream) (effects rest.now stream) at) }
 {
     match event_on(last, stream) {
         Event::Discards { span } => {
             let page = u128::from(at / 4096);
             let dirty = is_unwritten(alloc, rest, sizes, stream, page, false)?;
             if span_has(span, page) && dirty {
-                Ok(Found::Before(Source::Disk { ended: false }))
+                Ok(Found::Before(Origin::Disk { ended: false }))
             } else {
-                Ok(Found::Before(Source::Changes))
+                Ok(Found::Before(Origin::Changes))
             }
         }
         _ => match change_on(last, stream, sizes[rest.len()], at) {
             Some(byte) => Ok(Found::Byte(byte)),
-            None => Ok(Found::Before(Source::Changes)),
+            None => Ok(Found::Before(Origin::Changes)),
         },
     }
 }
@@ -177,14 +177,14 @@ fn look_on_disk(
     at: u64,
 ) -> Result<Found, NoMemory>
     requires { AreSizes sizes.now rest.now stream }
-    ensures { IfOk result (λ found. found ≡ look (Source.Disk ended) (effect_of last.now stream) (effects rest.now stream) at) }
+    ensures { IfOk result (λ found. found ≡ look (Origin.Disk ended) (effect_of last.now stream) (effects rest.now stream) at) }
 {
     match ended_from(event_on(last, stream), at / 4096, ended) {
-        Some(ended) => Ok(Found::Before(Source::Disk { ended })),
+        Some(ended) => Ok(Found::Before(Origin::Disk { ended })),
         None => {
             let valid = valid_with(alloc, rest, sizes, stream)?;
             if u128::from(at) < valid {
-                Ok(Found::Before(Source::Changes))
+                Ok(Found::Before(Origin::Changes))
             } else {
                 Ok(Found::Byte(0))
             }

@@ -2,14 +2,13 @@
 
 ghost use Rattle.std.specs.Prelude.{◌≡◌, map, IfOk};
 ghost use Rattle.std.specs.List.{list_any};
-ghost use Rattle.std.specs.Option.{option_map};
 ghost use Rattle.cc_entry.specs.Pages.{pages_of, has_page};
 ghost use Rattle.cc_model.specs.Holds.{holds_of, least_id, lesser};
 ghost use Rattle.cc_model.specs.Ranges.{span_has};
 ghost use Rattle.cc_entry.specs.Kinds.{is_pin};
 ghost use Rattle.cc_readers.specs.Events.{effects};
 ghost use Rattle.cc_model.specs.Conflicts.{has_page_of, held, held_by};
-ghost use Rattle.cc_readers.specs.HoldReads.{hold_of, range_of_reach, range_owed};
+ghost use Rattle.cc_readers.specs.HoldReads.{hold_of, range_of_reach, range_owed, holds_in, range_if};
 ghost use Rattle.cc_readers.specs.BarReads.{bars_by};
 
 use crate::holds::{OpenHold, Owed, Reach, open_holds};
@@ -35,7 +34,7 @@ pub enum Bar {
 
 // Whether a range has bytes in a page of another one, where none is the whole stream.
 fn shares_page(span: Option<Reach>, range: Reach) -> bool
-    ensures { result ≡ list_any (span_has (option_map range_of_reach span)) (pages_of (range_of_reach range)) }
+    ensures { result ≡ list_any (span_has (range_if span)) (pages_of (range_of_reach range)) }
 {
     if range.from >= range.to {
         return false;
@@ -53,7 +52,7 @@ fn shares_page(span: Option<Reach>, range: Reach) -> bool
 
 /// Whether a page is of a range, where none is the whole stream.
 pub fn has(span: Option<Reach>, page: u128) -> bool
-    ensures { result ≡ span_has (option_map range_of_reach span) page }
+    ensures { result ≡ span_has (range_if span) page }
 {
     match span {
         Some(span) => range_has(span.from, span.to, page),
@@ -106,7 +105,7 @@ fn bars(hold: &OpenHold, bar: Bar) -> bool
 
 /// The least id of the holds that are in the way.
 pub fn least_in_the_way(holds: &[OpenHold], bar: Bar) -> Option<u64>
-    ensures { result ≡ least_id (bars_by bar) (map hold_of holds.now) }
+    ensures { result ≡ least_id (bars_by bar) (holds_in holds.now) }
 {
     let Some((first, rest)) = holds.split_first() else {
         return None;
@@ -141,7 +140,7 @@ fn held_at(id: Option<u64>) -> Option<CcError>
 
 /// The range of a span.
 pub fn reach_of(span: Option<Span>) -> Option<Reach>
-    ensures { option_map range_of_reach result ≡ span }
+    ensures { range_if result ≡ span }
 {
     match span {
         Some(span) => Some(Reach {
@@ -154,7 +153,7 @@ pub fn reach_of(span: Option<Span>) -> Option<Reach>
 
 // The refusal of a purge or a discard by a hold that has a page of its span.
 fn by_span(holds: &[OpenHold], span: Option<Span>) -> Option<CcError>
-    ensures { result ≡ held_by (least_id (has_page_of span) (map hold_of holds.now)) }
+    ensures { result ≡ held_by (least_id (has_page_of span) (holds_in holds.now)) }
 {
     let span = reach_of(span);
     held_at(least_in_the_way(holds, Bar::Purge { span }))
@@ -168,7 +167,7 @@ fn by_last(
     holds: &[OpenHold],
     file: FileId,
 ) -> Result<Option<CcError>, NoMemory>
-    requires { map hold_of holds.now ≡ holds_of (effects journal.now stream) }
+    requires { holds_in holds.now ≡ holds_of (effects journal.now stream) }
     ensures { IfOk result (λ refused. refused ≡ held (effects journal.now stream) (Call.Uninitialise file None)) }
 {
     let found = open_objects(alloc, journal, stream)?;

@@ -1,6 +1,6 @@
 //! The open holds of a stream.
 
-ghost use Rattle.std.specs.Prelude.{◌≡◌, ◌∷◌, [], map, IfOk};
+ghost use Rattle.std.specs.Prelude.{◌≡◌, ◌∷◌, [], IfOk};
 ghost use Rattle.std.specs.Option.{option_map};
 ghost use Rattle.cc_model.specs.History.{effect_of};
 ghost use Rattle.cc_model.specs.Holds.{holds_of, held_after, hold_at, repinned};
@@ -57,7 +57,7 @@ pub fn open_holds(
     journal: &[Entry],
     stream: StreamId,
 ) -> Result<Vec<OpenHold>, NoMemory>
-    ensures { IfOk result (λ found. map hold_of found.items ≡ holds_of (effects journal.now stream)) }
+    ensures { IfOk result (λ found. holds_in found.items ≡ holds_of (effects journal.now stream)) }
 {
     let Some((last, rest)) = journal.split_last() else {
         return Ok(Vec::new(alloc));
@@ -130,7 +130,7 @@ fn new_hold(
 
 // The holds with one more.
 fn with(mut holds: Vec<OpenHold>, hold: OpenHold) -> Result<Vec<OpenHold>, NoMemory>
-    ensures { IfOk result (λ then. map hold_of then.items ≡ hold_of hold ∷ map hold_of holds.items) }
+    ensures { IfOk result (λ then. holds_in then.items ≡ hold_of hold ∷ holds_in holds.items) }
 {
     holds.insert(0, hold)?;
     Ok(holds)
@@ -144,7 +144,7 @@ fn holds_after(
     call: &Call,
     id: u64,
 ) -> Result<Vec<OpenHold>, NoMemory>
-    ensures { IfOk result (λ then. map hold_of then.items ≡ held_after pass call.now id (map hold_of before.items)) }
+    ensures { IfOk result (λ then. holds_in then.items ≡ held_after pass call.now id (holds_in before.items)) }
 {
     let then = holds_changed(alloc, before, pass, call, id)?;
     match hold_made(alloc, pass, call, id)? {
@@ -215,7 +215,7 @@ fn holds_changed(
     call: &Call,
     id: u64,
 ) -> Result<Vec<OpenHold>, NoMemory>
-    ensures { IfOk result (λ then. map hold_of then.items ≡ changed_after pass call.now id (map hold_of before.items)) }
+    ensures { IfOk result (λ then. holds_in then.items ≡ changed_after pass call.now id (holds_in before.items)) }
 {
     match call {
         Call::PinMapped { hold, exclusive } => {
@@ -257,7 +257,7 @@ fn repin(
 
 /// The file object, the place and the length of the first hold of this id.
 pub fn place_at(holds: &[OpenHold], id: u64) -> Option<(FileId, u64, u64)>
-    ensures { result ≡ option_map spot_of (hold_at (map hold_of holds.now) id) }
+    ensures { result ≡ option_map spot_of (hold_at (holds_in holds.now) id) }
 {
     let Some((first, rest)) = holds.split_first() else {
         return None;
@@ -275,7 +275,7 @@ fn changed(
     id: u64,
     change: Change,
 ) -> Result<Vec<OpenHold>, NoMemory>
-    ensures { IfOk result (λ then. map hold_of then.items ≡ changed_by change id (map hold_of holds.items)) }
+    ensures { IfOk result (λ then. holds_in then.items ≡ changed_by change id (holds_in holds.items)) }
 {
     let Some(last) = holds.pop() else {
         return Ok(holds);

@@ -1,11 +1,10 @@
 //! The range of a call, and whether its view blocks have to be mapped.
 
 ghost use Rattle.std.specs.Prelude.{◌≡◌, IfOk};
-ghost use Rattle.std.specs.Option.{option_map};
 ghost use Rattle.cc_model.specs.Ranges.{range_of, cut_range};
 ghost use Rattle.cc_model.specs.Views.{viewed};
 ghost use Rattle.cc_readers.specs.Events.{effects};
-ghost use Rattle.cc_readers.specs.HoldReads.{range_of_reach, range_if};
+ghost use Rattle.cc_readers.specs.HoldReads.{range_if};
 ghost use Rattle.cc_readers.specs.ViewReads.{whole_in, cut_in, stored_in, absent_in};
 
 use crate::holds::Reach;
@@ -16,7 +15,7 @@ use std::alloc::Global;
 
 // So many bytes from a place on.
 fn whole(at: u64, len: u64) -> Option<Reach>
-    ensures { option_map range_of_reach result ≡ whole_in at len }
+    ensures { range_if result ≡ whole_in at len }
 {
     let from = u128::from(at);
     let to = from + u128::from(len);
@@ -25,7 +24,7 @@ fn whole(at: u64, len: u64) -> Option<Reach>
 
 // The same as far as they lie below the size.
 fn cut(size: u64, at: u64, len: u64) -> Option<Reach>
-    ensures { option_map range_of_reach result ≡ cut_in size at len }
+    ensures { range_if result ≡ cut_in size at len }
 {
     let from = u128::from(at);
     let to = u128::from(end_within(size, at, len));
@@ -34,7 +33,7 @@ fn cut(size: u64, at: u64, len: u64) -> Option<Reach>
 
 // The bytes of a noncached page.
 fn stored(page: u64, size: u64) -> Option<Reach>
-    ensures { option_map range_of_reach result ≡ stored_in page size }
+    ensures { range_if result ≡ stored_in page size }
 {
     let from = 4096 * u128::from(page);
     let to = stored_end(page, size);
@@ -43,7 +42,7 @@ fn stored(page: u64, size: u64) -> Option<Reach>
 
 /// The range of a call: the bytes whose pages it needs.
 pub fn range_in(size: u64, call: &Call) -> Option<Reach>
-    ensures { option_map range_of_reach result ≡ range_of size call.now }
+    ensures { range_if result ≡ range_of size call.now }
 {
     match call {
         Call::CopyRead { at, len, .. } => cut(size, *at, *len),
@@ -98,7 +97,7 @@ fn range_absent(
     at: u64,
     len: u64,
 ) -> Result<Option<Reach>, NoMemory>
-    ensures { IfOk result (λ range. option_map range_of_reach range ≡ absent_in (effects journal.now stream) (cut_range size at len)) }
+    ensures { IfOk result (λ range. range_if range ≡ absent_in (effects journal.now stream) (cut_range size at len)) }
 {
     let to = end_within(size, at, len);
     match first_absent(alloc, journal, stream, at, to)? {

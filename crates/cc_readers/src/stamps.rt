@@ -2,7 +2,8 @@
 
 ghost use Rattle.std.specs.Prelude.{◌≡◌, min, max, IfOk};
 ghost use Rattle.cc_model.specs.Touches.{touches};
-ghost use Rattle.cc_model.specs.Stamps.{joined, alone, lsns_among, lsns_of};
+ghost use Rattle.cc_entry.specs.Lsns.{joined, alone};
+ghost use Rattle.cc_model.specs.Stamps.{lsns_among, lsns_of};
 ghost use Rattle.cc_readers.specs.Events.{effects, AreSizes};
 
 use crate::sizes::sizes;

@@ -1,27 +1,21 @@
 -- The run of one stream explains the answers of all its lines.
-use Rattle.std.proofs.Common.{◌≡◌, ◌≢◌, ℕ, ◌==◌, ◌&&◌, Bool, true, false, List, [], ◌∷◌, append-nil, arith, refl, sym, ap, slice_get, Option, Some, None, inl}
-use Rattle.std.specs.List.{AllByRecursion, IsDistinct}
-use Rattle.std.proofs.lemmas.Bool.{eqb-true, eqb-false, ne_eqb}
-use Rattle.cc_entry.specs.declared.answer.Answer.{Answer}
+use Rattle.std.proofs.Common.{◌≡◌, List, [], ◌∷◌, arith, refl, sym, ap, slice_get, Option, Some, None}
+use Rattle.std.specs.List.{AllByRecursion}
+use Rattle.std.proofs.lemmas.Bool.{ne_eqb}
 use Rattle.cc_entry.specs.declared.answer.Answer.TheVariants as answer
 use Rattle.cc_entry.specs.declared.answer.LineReply.{LineReply}
 use Rattle.cc_entry.specs.declared.reply.Reply.TheVariants as reply
 use Rattle.cc_entry.specs.declared.reply.Outcome.TheVariants as outcome
 use Rattle.cc_entry.specs.declared.entry.Entry.{Entry}
 use Rattle.cc_entry.specs.declared.entry.Entry.TheVariants as entry
-use Rattle.cc_script.specs.declared.script.Action.{Action}
-use Rattle.cc_script.specs.declared.script.Action.TheVariants as action
 use Rattle.cc_script.specs.declared.script.ActionLine.{ActionLine}
 use Rattle.cc_script.specs.declared.script.Script.{Script}
 use Rattle.cc_script.specs.declared.script.StreamLine.{StreamLine}
 use Rattle.cc_model.specs.Setup.{Setup}
 use Rattle.cc_effects.proofs.Stretches.{idle-none}
-use Rattle.cc_pieces.specs.Served.{posted_by}
-use Rattle.cc_pieces.specs.Runs.{Ran, asked_of}
-use Rattle.cc_pieces.specs.Rooms.{is_alone, room_limit}
 use Rattle.cc_pieces.specs.Openings.{opening_call, Opens, LoggedOpening}
-use Rattle.cc_pieces.specs.Phases.{is_of_phase, is_before_phase, PhaseRan}
-use Rattle.cc_pieces.specs.Explained.{IsExplained, posted_in}
+use Rattle.cc_pieces.specs.Explained.{IsExplained}
+use Rattle.cc_pieces.proofs.OneCaller.{IsFirst, explained-one}
 use Rattle.cc_run.specs.Stands.{opening_entry}
 use Rattle.cc_run.specs.Served.{IsServed, IsServedStream, IsServedLine, HasNoHeader}
 use Rattle.cc_run.specs.Lines.{ServedLines, given_of, one_phase, lines_answered}
@@ -52,7 +46,7 @@ stream-opened u stream served = record { opened = rw served.unlogged opened; roo
         grew = ap (λ e. e ∷ []) (opening-is stream served);
         quiet = tt;
         filed = refl;
-        works = record { each = tt; one_sync = omega arith; ended = refl };
+        works = record { each = tt; one_sync = omega arith; whole = refl };
       };
       unstopped = refl;
       has_done = tt;

@@ -1,6 +1,6 @@
 -- What a copied read or write of the first object left in the journal.
-use Rattle.std.proofs.Common.{◌≡◌, ◌≢◌, ℕ, ◌+◌, ◌*◌, true, false, List, [], ◌∷◌, ◌++◌, refl, sym, ◌∙◌, ap, arith, Some, Err, inl}
-use Rattle.std.specs.List.{AllByRecursion, count_by}
+use Rattle.std.proofs.Common.{◌≡◌, ◌≢◌, ℕ, ◌+◌, ◌*◌, true, false, List, [], ◌∷◌, ◌++◌, refl, sym, ◌∙◌, ap, arith, Some, None, Err, inl}
+use Rattle.std.specs.List.{AllByRecursion}
 use Rattle.std.proofs.lemmas.Bool.{lt-ltb, eq-eqb, ne_eqb}
 use Rattle.cc_entry.specs.Place.{Page}
 use Rattle.cc_entry.specs.Pages.{has_page}
@@ -167,8 +167,8 @@ module _ (u : Setup) (it : Call) (size from to : ℕ) (of_first : file_of it ≡
             filed = filed _;
             works = record {
               each = ((λ is. rw (← w.filled.grew) (may_fail page old before w same)), each-fills w.filled.fills old w.filled.all same);
-              one_sync = omega (arith, no_sync-fills from to w.filled.fills w.filled.all);
-              ended = whole-fills from to w.filled.fills w.filled.all;
+              one_sync = rw (no_sync-fills from to w.filled.fills w.filled.all) (omega arith);
+              whole = whole-fills from to w.filled.fills w.filled.all;
             };
           };
           listed = listed;

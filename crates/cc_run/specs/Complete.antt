@@ -33,13 +33,17 @@ TooLongAlways i status = TookMany i → EndsWith status 5
 
 -- where the source tells its bytes and does not fail, more of them than a script may have are 5
 abbrev pub TooLongTold : Input → ℕ → Type 0
-TooLongTold i status = (bytes : List ℕ) → is_run i.words ≡ true → i.left ≡ Some bytes → i.faults_after ≡ i.faults → 16777216 < length bytes → EndsWith status 5
+TooLongTold i status =
+    (bytes : List ℕ) → is_run i.words ≡ true → i.left ≡ Some bytes → i.faults_after ≡ i.faults → 16777216 < length bytes → EndsWith status 5
 
 -- more streams than disks are 7
 abbrev pub TooFewAlways : Input → ℕ → Type 0
-TooFewAlways i status = (bytes : List ℕ) (script : Script) → Comes i bytes → spelled_by bytes ≡ Ok script → i.disks < length script.streams → EndsWith status 7
+TooFewAlways i status =
+    (bytes : List ℕ) (script : Script) → Comes i bytes → spelled_by bytes ≡ Ok script → i.disks < length script.streams → EndsWith status 7
 
 -- A script of the grammar, with a disk for each stream, over a sink that does not fail and takes something
 -- wherever there are bytes, is 0.
 abbrev pub Completes : Input → Output → ℕ → Type 0
-Completes i o status = (bytes : List ℕ) (script : Script) → Comes i bytes → spelled_by bytes ≡ Ok script → length script.streams ≤ i.disks → o.faults_after ≡ o.faults → o.stalls_after ≡ o.stalls → EndsWith status 0
+Completes i o status =
+    (bytes : List ℕ) (script : Script) → Comes i bytes → spelled_by bytes ≡ Ok script → length script.streams ≤ i.disks →
+    o.faults_after ≡ o.faults → o.stalls_after ≡ o.stalls → EndsWith status 0

@@ -16,7 +16,9 @@ Pairwise {D} R old new = (s : ℕ) (before after : D) → slice_get old s ≡ So
 
 -- where a disk tells its pages before and after, it holds the image of each page whose image is known
 abbrev pub HoldsImages : {D : Type 0} → (D → Option Disk) → List Entry → ℕ → D → D → Type 0
-HoldsImages told past s before after = (opening held : Disk) → told before ≡ Some opening → told after ≡ Some held → (p : ℕ) (bytes : List ℕ) → image (page_of opening) (history past s) p ≡ Some bytes → page_of held p ≡ bytes
+HoldsImages told past s before after =
+    (opening held : Disk) → told before ≡ Some opening → told after ≡ Some held → (p : ℕ) (bytes : List ℕ) →
+    image (page_of opening) (history past s) p ≡ Some bytes → page_of held p ≡ bytes
 
 -- as many disks come back, in their order; each tells what it told, and holds its images
 pub record DisksAre {D : Type 0} (told : D → Option Disk) (past : List Entry) (old new : List D) : Type 0 where

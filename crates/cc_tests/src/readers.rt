@@ -18,90 +18,106 @@ fn stream() -> Result<StreamId, Fail> {
     Ok(StreamId::new(0).ok_or("stream")?)
 }
 
-fn file() -> Result<FileId, Fail> {
-    Ok(FileId::new(0, 0).ok_or("file")?)
+fn file(object: u8) -> Result<FileId, Fail> {
+    Ok(FileId::new(0, object).ok_or("file")?)
 }
 
 fn page(number: u64) -> Result<PageId, Fail> {
     Ok(PageId::new(stream()?, number).ok_or("page")?)
 }
 
-fn done(call: Call, reply: Reply) -> Entry {
-    Entry::Call {
+fn done(journal: &mut Vec<Entry>, call: Call, reply: Reply) -> Result<(), Fail> {
+    journal.push(Entry::Call {
         pass: 1,
         nth: 1,
         stream: StreamId::new(0),
         call,
         outcome: Outcome::Done(reply),
-    }
+    })?;
+    Ok(())
 }
 
-// Two pages, valid up to a place.
-fn opened(valid: u64) -> Result<Entry, Fail> {
+// A journal of one entry: a stream of two pages is initialised, valid up to a place.
+fn opened(alloc: Global, valid: u64) -> Result<Vec<Entry>, Fail> {
+    let sizes = FileSizes {
+        allocation: 8192,
+        size: 8192,
+        valid,
+    };
     let call = Call::Initialise {
-        file: file()?,
-        sizes: FileSizes {
-            allocation: 8192,
-            size: 8192,
-            valid,
-        },
-        quota: Quota::new(1).ok_or("quota")?,
+        file: file(0)?,
+        sizes,
+        quota: Quota::new(8).ok_or("quota")?,
         temporary: false,
     };
-    Ok(done(call, Reply::Unit))
+    let mut journal = Vec::new(alloc);
+    done(&mut journal, call, Reply::Unit)?;
+    Ok(journal)
 }
 
-fn came_in(number: u64) -> Result<Entry, Fail> {
-    Ok(Entry::PageIn {
-        pass: 1,
-        page: page(number)?,
-        from_disk: true,
-    })
-}
-
-fn write(alloc: Global, at: u64, byte: u8) -> Result<Call, Fail> {
+fn write(alloc: Global, object: u8, at: u64, byte: u8) -> Result<Call, Fail> {
     Ok(Call::CopyWrite {
-        file: file()?,
+        file: file(object)?,
         at,
         bytes: Bytes::of(alloc, &[byte])?,
     })
 }
 
-fn written(alloc: Global, at: u64, byte: u8) -> Result<Entry, Fail> {
-    Ok(done(write(alloc, at, byte)?, Reply::Unit))
+// The page of a place comes in, and the byte there is written.
+fn written(alloc: Global, journal: &mut Vec<Entry>, at: u64, byte: u8) -> Result<(), Fail> {
+    journal.push(Entry::PageIn {
+        pass: 1,
+        page: page(at / 4096)?,
+        from_disk: true,
+    })?;
+    done(journal, write(alloc, 0, at, byte)?, Reply::Unit)
 }
 
-fn closed(truncate: Option<u64>) -> Result<Entry, Fail> {
-    let call = Call::Uninitialise {
-        file: file()?,
-        truncate,
-    };
-    Ok(done(call, Reply::Unit))
+fn begun(journal: &mut Vec<Entry>) -> Result<(), Fail> {
+    journal.push(Entry::WriteBegin {
+        pass: 2,
+        page: page(0)?,
+    })?;
+    Ok(())
+}
+
+fn ended(journal: &mut Vec<Entry>, how: End) -> Result<(), Fail> {
+    journal.push(Entry::WriteEnd {
+        pass: 2,
+        page: page(0)?,
+        how,
+    })?;
+    Ok(())
 }
 
 fn pin() -> Result<Call, Fail> {
     Ok(Call::PinRead {
-        file: file()?,
+        file: file(0)?,
         at: 0,
         len: 16,
         exclusive: true,
     })
 }
 
-fn stamped(lsn: u64) -> Result<Entry, Fail> {
-    let lsn = Lsn::new(lsn).ok_or("lsn")?;
-    let call = Call::SetDirty {
-        hold: 1,
-        lsn: Some(lsn),
-    };
-    Ok(done(call, Reply::Unit))
+fn stamped(journal: &mut Vec<Entry>, lsn: u64) -> Result<(), Fail> {
+    let lsn = Some(Lsn::new(lsn).ok_or("lsn")?);
+    done(journal, Call::SetDirty { hold: 1, lsn }, Reply::Unit)
 }
 
 fn discard() -> Result<Call, Fail> {
     Ok(Call::Discard {
-        file: file()?,
+        file: file(0)?,
         span: None,
     })
+}
+
+fn is_refused(
+    alloc: Global,
+    journal: &[Entry],
+    call: Call,
+    want: Option<CcError>,
+) -> Result<bool, Fail> {
+    Ok(refusal(alloc, journal, stream()?, 0, &call)? == want)
 }
 
 // The disk opened with 5A. Past the valid data length every byte is zero; a write of one byte raises it.
@@ -109,34 +125,31 @@ fn discard() -> Result<Call, Fail> {
 fn reads_a_write(rt: HostRuntime) -> Result<(), Fail> {
     let alloc = rt.alloc();
     let a = stream()?;
-    let journal = [opened(5000)?, came_in(1)?, written(alloc, 5000, 0xAB)?];
+    let mut journal = opened(alloc, 5000)?;
+    written(alloc, &mut journal, 5000, 0xAB)?;
     let read = answer(alloc, &journal, a, 0x5A, 4999, 3)?;
-    assert_eq!(rt; read.as_slice(), [0x5A, 0xAB, 0].as_slice());
-    assert_eq!(rt; answer(alloc, &journal, a, 0x5A, 9000, 4)?.len(), 0);
-    assert_eq!(rt; valid(alloc, &journal, a)?, 5001);
+    assert!(rt; read.as_slice() == [0x5A, 0xAB, 0].as_slice());
+    assert!(rt; valid(alloc, &journal, a)? == 5001);
     assert!(rt; is_page_dirty(alloc, &journal, a, 1)?);
     assert!(rt; is_page_resident(alloc, &journal, a, 1)?);
-    assert!(rt; !is_page_resident(alloc, &journal, a, 0)?);
     Ok(())
 }
 
-// The last close keeps the map while a page is dirty. Where it truncates, that page is cut and the map
-// goes, and with it the page.
+// The last close keeps the map while a page is dirty; where it truncates, the page is cut.
 #[test]
 fn reads_a_close(rt: HostRuntime) -> Result<(), Fail> {
     let alloc = rt.alloc();
     let a = stream()?;
-    for (truncate, left, mapped) in [(None, 8192, true), (Some(4096), 4096, false)] {
-        let journal = [
-            opened(5000)?,
-            came_in(1)?,
-            written(alloc, 5000, 0xAB)?,
-            closed(truncate)?,
-        ];
-        assert_eq!(rt; size(alloc, &journal, a)?, left);
-        assert_eq!(rt; is_page_resident(alloc, &journal, a, 1)?, mapped);
-        assert_eq!(rt; open_objects(alloc, &journal, a)?.len(), 0);
-    }
+    let mut journal = opened(alloc, 5000)?;
+    written(alloc, &mut journal, 5000, 0xAB)?;
+    let call = Call::Uninitialise {
+        file: file(0)?,
+        truncate: Some(4096),
+    };
+    done(&mut journal, call, Reply::Unit)?;
+    assert!(rt; size(alloc, &journal, a)? == 4096);
+    assert!(rt; !is_page_resident(alloc, &journal, a, 1)?);
+    assert!(rt; open_objects(alloc, &journal, a)?.len() == 0);
     Ok(())
 }
 
@@ -145,22 +158,17 @@ fn reads_a_close(rt: HostRuntime) -> Result<(), Fail> {
 fn reads_stamps(rt: HostRuntime) -> Result<(), Fail> {
     let alloc = rt.alloc();
     let a = stream()?;
-    for (how, least) in [(End::Good, 2), (End::Failed, 1)] {
-        let page = page(0)?;
-        let journal = [
-            opened(8192)?,
-            came_in(0)?,
-            done(pin()?, Reply::Hold(1)),
-            stamped(1)?,
-            Entry::WriteBegin { pass: 2, page },
-            stamped(2)?,
-            Entry::WriteEnd { pass: 2, page, how },
-        ];
-        let (oldest, newest) = lsns(alloc, &journal, a, 0)?.ok_or("no LSN")?;
-        assert_eq!(rt; oldest.number(), least);
-        assert_eq!(rt; newest.number(), 2);
-        assert_eq!(rt; open_holds(alloc, &journal, a)?.len(), 1);
-    }
+    let mut journal = opened(alloc, 8192)?;
+    done(&mut journal, pin()?, Reply::Hold(1))?;
+    stamped(&mut journal, 1)?;
+    begun(&mut journal)?;
+    stamped(&mut journal, 2)?;
+    let (oldest, newest) = lsns(alloc, &journal, a, 0)?.ok_or("no LSN")?;
+    assert!(rt; oldest.number() == 1 && newest.number() == 2);
+    ended(&mut journal, End::Good)?;
+    let (oldest, newest) = lsns(alloc, &journal, a, 0)?.ok_or("no LSN")?;
+    assert!(rt; oldest.number() == 2 && newest.number() == 2);
+    assert!(rt; open_holds(alloc, &journal, a)?.len() == 1);
     Ok(())
 }
 
@@ -169,88 +177,52 @@ fn reads_stamps(rt: HostRuntime) -> Result<(), Fail> {
 fn reads_a_discard(rt: HostRuntime) -> Result<(), Fail> {
     let alloc = rt.alloc();
     let a = stream()?;
-    let page = page(0)?;
-    let journal = [
-        opened(8192)?,
-        came_in(0)?,
-        written(alloc, 0, 0xAB)?,
-        Entry::WriteBegin { pass: 2, page },
-        written(alloc, 0, 0xCD)?,
-        Entry::WriteEnd {
-            pass: 2,
-            page,
-            how: End::Good,
-        },
-        done(discard()?, Reply::Unit),
-    ];
-    assert_eq!(rt; byte(alloc, &journal[..6], a, 0x5A, 0)?, 0xCD);
-    assert_eq!(rt; byte(alloc, &journal, a, 0x5A, 0)?, 0xAB);
-    assert_eq!(rt; byte(alloc, &journal, a, 0x5A, 1)?, 0x5A);
+    let mut journal = opened(alloc, 8192)?;
+    written(alloc, &mut journal, 0, 0xAB)?;
+    begun(&mut journal)?;
+    written(alloc, &mut journal, 0, 0xCD)?;
+    ended(&mut journal, End::Good)?;
+    assert!(rt; byte(alloc, &journal, a, 0x5A, 0)? == 0xCD);
+    done(&mut journal, discard()?, Reply::Unit)?;
+    assert!(rt; byte(alloc, &journal, a, 0x5A, 0)? == 0xAB);
+    assert!(rt; byte(alloc, &journal, a, 0x5A, 1)? == 0x5A);
     assert!(rt; !is_page_dirty(alloc, &journal, a, 0)?);
     assert!(rt; !is_page_resident(alloc, &journal, a, 0)?);
     Ok(())
 }
 
-// A discard is refused while a hold is open, where the last transfer of a dirty page failed, and where a
-// dirty page has bytes that the disk never held.
+// A discard is refused where the last transfer of a dirty page failed, and where a dirty page has bytes
+// that the disk never held.
 #[test]
 fn reads_refusals_of_a_discard(rt: HostRuntime) -> Result<(), Fail> {
     let alloc = rt.alloc();
-    let a = stream()?;
-    let page = page(0)?;
-    let discard = discard()?;
-    let held = [opened(8192)?, came_in(0)?, done(pin()?, Reply::Hold(1))];
-    let refused = refusal(alloc, &held, a, 0, &discard)?;
-    assert_eq!(rt; refused, Some(CcError::Held { id: 1 }));
-    let failed = [
-        opened(8192)?,
-        came_in(0)?,
-        written(alloc, 0, 0xAB)?,
-        Entry::WriteBegin { pass: 2, page },
-        Entry::WriteEnd {
-            pass: 2,
-            page,
-            how: End::Failed,
-        },
-    ];
-    let refused = refusal(alloc, &failed, a, 0, &discard)?;
-    assert_eq!(rt; refused, Some(CcError::Unsettled { page: 0 }));
-    assert_eq!(rt; refusal(alloc, &failed[..3], a, 0, &discard)?, None);
-    let grown = [opened(5000)?, came_in(1)?, written(alloc, 5000, 0xAB)?];
-    let refused = refusal(alloc, &grown, a, 0, &discard)?;
-    assert_eq!(rt; refused, Some(CcError::Grown { page: 1 }));
+    let mut journal = opened(alloc, 8192)?;
+    written(alloc, &mut journal, 0, 0xAB)?;
+    assert!(rt; is_refused(alloc, &journal, discard()?, None)?);
+    begun(&mut journal)?;
+    ended(&mut journal, End::Failed)?;
+    let unsettled = Some(CcError::Unsettled { page: 0 });
+    assert!(rt; is_refused(alloc, &journal, discard()?, unsettled)?);
+    let mut journal = opened(alloc, 5000)?;
+    written(alloc, &mut journal, 5000, 0xAB)?;
+    let grown = Some(CcError::Grown { page: 1 });
+    assert!(rt; is_refused(alloc, &journal, discard()?, grown)?);
     Ok(())
 }
 
-// Several reasons hold of most of these calls; the first of their order is the answer.
+// More than one reason holds of the first two of these calls; the first of their order is the answer.
 #[test]
 fn reads_the_first_refusal(rt: HostRuntime) -> Result<(), Fail> {
     let alloc = rt.alloc();
-    let journal = [opened(5000)?, done(pin()?, Reply::Hold(1))];
-    let other = Call::CopyWrite {
-        file: FileId::new(0, 1).ok_or("file")?,
-        at: 9000,
-        bytes: Bytes::of(alloc, &[0xAB])?,
-    };
-    let read = Call::CopyRead {
-        file: file()?,
-        at: 4000,
-        len: 200,
-        wait: false,
-    };
-    let size = 8192;
-    for (call, want) in [
-        (other, CcError::NotCached),
-        (write(alloc, 9000, 0xAB)?, CcError::BeyondSize { size }),
-        (
-            write(alloc, 6000, 0xAB)?,
-            CcError::BeyondValid { valid: 5000 },
-        ),
-        (pin()?, CcError::Busy { id: 1 }),
-        (read, CcError::NotResident { page: 0 }),
-    ] {
-        let refused = refusal(alloc, &journal, stream()?, 0, &call)?;
-        assert_eq!(rt; refused, Some(want));
-    }
+    let mut journal = opened(alloc, 5000)?;
+    done(&mut journal, pin()?, Reply::Hold(1))?;
+    let not_cached = Some(CcError::NotCached);
+    assert!(rt; is_refused(alloc, &journal, write(alloc, 1, 9000, 0xAB)?, not_cached)?);
+    let beyond_size = Some(CcError::BeyondSize { size: 8192 });
+    assert!(rt; is_refused(alloc, &journal, write(alloc, 0, 9000, 0xAB)?, beyond_size)?);
+    let held = Some(CcError::Held { id: 1 });
+    assert!(rt; is_refused(alloc, &journal, discard()?, held)?);
+    let busy = Some(CcError::Busy { id: 1 });
+    assert!(rt; is_refused(alloc, &journal, pin()?, busy)?);
     Ok(())
 }

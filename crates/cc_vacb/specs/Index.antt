@@ -20,7 +20,8 @@ slot_in blocks node i = slice_index_or (block_in blocks node).slots i Empty
 -- the index block that the digits of a prefix lead to from the root, through so many levels
 unfoldable pub reach : List Block → ℕ → ℕ → Option ℕ
 reach blocks zero prefix = if prefix == 0 then Some 0 else None
-reach blocks (suc depth) prefix = option_and_then (λ node. child_of (slot_in blocks node (prefix % 128))) (reach blocks depth (prefix / 128))
+reach blocks (suc depth) prefix =
+    option_and_then (λ node. child_of (slot_in blocks node (prefix % 128))) (reach blocks depth (prefix / 128))
 
 unfoldable pub entry_in : List Block → ℕ → ℕ → Option ℕ
 entry_in blocks depth block = option_and_then (λ node. view_of (slot_in blocks node (block % 128))) (reach blocks depth (block / 128))

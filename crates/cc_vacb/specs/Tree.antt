@@ -25,7 +25,8 @@ pub record IsTree (top : ℕ) (blocks : List Block) : Type 0 where
   pub root_prefix : (block_in blocks 0).prefix ≡ 0
   pub below_top : (node : ℕ) → 0 < node → node < length blocks → (block_in blocks node).height < top
   pub leads : (node i child : ℕ) → slot_in blocks node i ≡ Node child → Leads blocks node i child
-  pub has_parent : (child : ℕ) → 0 < child → child < length blocks → (node : ℕ) × (slot_in blocks node ((block_in blocks child).prefix % 128) ≡ Node child)
+  pub has_parent : (child : ℕ) → 0 < child → child < length blocks →
+      (node : ℕ) × (slot_in blocks node ((block_in blocks child).prefix % 128) ≡ Node child)
   pub views : (node i view : ℕ) → slot_in blocks node i ≡ View view → (block_in blocks node).height ≡ 0
   pub wide : (node : ℕ) → 0 < node → node < length blocks → length (block_in blocks node).slots ≡ 128
   pub root_wide : length (block_in blocks 0).slots ≤ 128
@@ -43,7 +44,8 @@ abbrev pub FilledBut : ℕ → List Block → Type 0
 FilledBut other blocks = (node : ℕ) → 0 < node → node < length blocks → node ≢ other → 0 < used_slots (block_in blocks node)
 
 abbrev pub put_slot : List Block → ℕ → ℕ → Slot → List Block
-put_slot blocks node i slot = slice_set blocks node (record (block_in blocks node) { slots = slice_set (block_in blocks node).slots i slot })
+put_slot blocks node i slot =
+    slice_set blocks node (record (block_in blocks node) { slots = slice_set (block_in blocks node).slots i slot })
 
 -- the blocks with what was missing on the way to a block: no entry is changed by it
 pub record ExtendsTo (top depth prefix : ℕ) (old new : List Block) (node : ℕ) : Type 0 where
@@ -76,7 +78,9 @@ LeadsElsewhere freed last slot = (child : ℕ) → slot ≡ Node child → (chil
 pub record Relinked (freed last parent : ℕ) (old new : List Block) : Type 0 where
   pub len : length new ≡ length old
   pub place : (node : ℕ) → SamePlace (block_in old node) (block_in new node)
-  pub back : (node i : ℕ) (slot : Slot) → slot_in new node i ≡ slot → slot ≢ Empty → ((last ≢ freed) × (slot ≡ Node freed) × (slot_in old node i ≡ Node last)) ⊎ ((slot_in old node i ≡ slot) × LeadsElsewhere freed last slot)
+  pub back : (node i : ℕ) (slot : Slot) → slot_in new node i ≡ slot → slot ≢ Empty →
+      ((last ≢ freed) × (slot ≡ Node freed) × (slot_in old node i ≡ Node last))
+      ⊎ ((slot_in old node i ≡ slot) × LeadsElsewhere freed last slot)
   pub forth : (node i : ℕ) (slot : Slot) → slot_in old node i ≡ slot → LeadsElsewhere freed last slot → slot_in new node i ≡ slot
   pub forth_last : (node i : ℕ) → last ≢ freed → slot_in old node i ≡ Node last → slot_in new node i ≡ Node freed
   pub used : (node : ℕ) → node ≢ parent → used_slots (block_in new node) ≡ used_slots (block_in old node)

@@ -1,6 +1,6 @@
--- What the program hands to the top call: disks that nobody has used.
+-- What the program hands to the top call: disks and logs that nobody has used.
 use Rattle.std.specs.Prelude.{[], None}
-use Rattle.cc_memdev.specs.Devices.{DiskState}
+use Rattle.cc_memdev.specs.Devices.{DiskState, LogState}
 
 -- a disk in memory whose bytes are 5A and none of whose calls is to fail, as it is made
 abbrev pub new_disk : DiskState
@@ -10,6 +10,17 @@ new_disk =
       reads = record { fails = []; made = 0 };
       writes = record { fails = []; made = 0 };
       syncs = record { fails = []; made = 0 };
+      stop = record { after = None; made = 0 };
+      faults = 0;
+    }
+
+-- a log in memory without entries, none of whose calls is to fail, as it is made
+abbrev pub new_log : LogState
+new_log =
+    record {
+      log = record { entries = []; durable = 0 };
+      appends = record { fails = []; made = 0 };
+      flushes = record { fails = []; made = 0 };
       stop = record { after = None; made = 0 };
       faults = 0;
     }

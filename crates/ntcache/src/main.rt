@@ -42,7 +42,7 @@ fn start(rt: HostRuntime) -> Result<u8, AllocError> {
         Some(path) => path.as_str(),
         None => "",
     };
-    let mut script = ScriptFile::new(PlaceOf::new(&rt, path));
+    let mut script = ScriptFile::new(PlaceOf { files: &rt, path });
     let mut out = Output::new(&rt);
     run(rt.alloc(), &words, &mut script, &mut out)
 }

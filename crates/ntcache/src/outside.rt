@@ -1,7 +1,7 @@
 //! Disks as they are handed in, and routines, a log and a gate that do nothing of their own.
 
 ghost use Rattle.std.specs.Prelude.{◌≡◌, false, replicate, IfOk};
-ghost use Rattle.ntcache.specs.Edge.{new_disk};
+ghost use Rattle.ntcache.specs.Edge.{new_disk, new_log};
 
 use cc_memdev::{DiskFails, LogFails, MemDisk, MemLog};
 use cc_traits::{Gate, PostRoutine};
@@ -30,8 +30,10 @@ fn device(alloc: Global) -> MemDisk
     MemDisk::new(alloc, 0x5A, fails)
 }
 
-/// A log that a script can name.
-pub fn log(alloc: Global) -> MemLog {
+/// A log that a script can name, empty, none of whose calls is to fail.
+pub fn log(alloc: Global) -> MemLog
+    ensures { result ≡ new_log }
+{
     let fails = LogFails {
         appends: Vec::new(alloc),
         flushes: Vec::new(alloc),

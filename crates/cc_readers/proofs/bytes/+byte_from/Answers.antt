@@ -6,17 +6,17 @@ use Rattle.cc_readers.proofs.ByteReads.{byte_back, byte_none}
 use Rattle.cc_readers.proofs.bytes.+byte_from.Goals as goal
 
 pub returns-in_default : goal.returns-in_default
-returns-in_default t c = sym (byte_none _ _ c.args.fill c.args.at c.args.source (nil_from_length _ c.in_default.ensures.cases))
+returns-in_default t c = sym (byte_none _ _ c.args.fill c.args.at c.args.origin (nil_from_length _ c.in_default.ensures.cases))
 
 pub returns-in-Byte : goal.returns-in-Byte
 returns-in-Byte t c =
-    sym (byte_back (filled c.args.fill) _ _ _ _ c.args.at c.args.source (found.Byte c.in-Byte.byte) c.in-Some.ensures.cases.0
+    sym (byte_back (filled c.args.fill) _ _ _ _ c.args.at c.args.origin (found.Byte c.in-Byte.byte) c.in-Some.ensures.cases.0
     (sym c.in-Byte.is ∙ c.in_ok-byte.ensures))
 
 pub returns-in-Before : goal.returns-in-Before
 returns-in-Before t c =
     let P : ℕ → Type 0 = λ n. IfOk c.byte_from.result (λ byte. byte ≡ n) in
     subst P
-    (sym (byte_back (filled c.args.fill) _ _ _ _ c.args.at c.args.source (found.Before c.in-Before.source) c.in-Some.ensures.cases.0
+    (sym (byte_back (filled c.args.fill) _ _ _ _ c.args.at c.args.origin (found.Before c.in-Before.origin) c.in-Some.ensures.cases.0
     (sym c.in-Before.is ∙ c.in_ok-byte.ensures)))
     c.byte_from.ensures

@@ -2,7 +2,8 @@ use Rattle.std.proofs.Common.{◌≡◌, ℕ, List, IfOk, sym, ◌∙◌, ap, su
 use Rattle.std.specs.declared.option.Option.{Option}
 use Rattle.std.proofs.lemmas.List.{nil_from_length}
 use Rattle.cc_readers.specs.declared.touches.Touching.TheVariants as touching
-use Rattle.cc_model.specs.Stamps.{joined, alone, lsns_among}
+use Rattle.cc_entry.specs.Lsns.{joined, alone}
+use Rattle.cc_model.specs.Stamps.{lsns_among}
 use Rattle.cc_model.specs.Sizes.{Touch}
 use Rattle.cc_readers.proofs.TouchReads.{touches_back, touches_none, begins_ended, begins_open}
 use Rattle.cc_readers.proofs.stamps.+lsns_unwritten.Goals as goal

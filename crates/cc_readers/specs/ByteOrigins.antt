@@ -4,8 +4,8 @@ use Rattle.std.specs.declared.option.Option.{Option}
 use Rattle.std.specs.declared.option.Option.TheVariants.{Some, None}
 use Rattle.cc_readers.specs.declared.events.Event.{Event}
 use Rattle.cc_readers.specs.declared.events.Event.TheVariants as event
-use Rattle.cc_readers.specs.declared.bytes.Source.{Source}
-use Rattle.cc_readers.specs.declared.bytes.Source.TheVariants as source
+use Rattle.cc_readers.specs.declared.bytes.Origin.{Origin}
+use Rattle.cc_readers.specs.declared.bytes.Origin.TheVariants as origin
 use Rattle.cc_readers.specs.declared.bytes.Found.{Found}
 use Rattle.cc_readers.specs.declared.bytes.Found.TheVariants as found
 use Rattle.cc_model.specs.History.{Effect}
@@ -16,23 +16,23 @@ use Rattle.cc_readers.specs.Events.{event_of}
 use Rattle.cc_readers.specs.Changes.{change_of}
 use Rattle.cc_readers.specs.TransferReads.{ended_before}
 
--- the byte at i that a source has
-abbrev pub byte_from : Source → (ℕ → List ℕ) → List Effect → ℕ → ℕ
-byte_from source.Changes pages h i = content pages h i
-byte_from (source.Disk ended) pages h i = on_disk pages ended h i
+-- the byte at i that an origin has
+abbrev pub byte_from : Origin → (ℕ → List ℕ) → List Effect → ℕ → ℕ
+byte_from origin.Changes pages h i = content pages h i
+byte_from (origin.Disk ended) pages h i = on_disk pages ended h i
 
 -- what an event tells of the last change or discard, given the change that it makes and the stream before it
 abbrev pub look_in_changes : Event → Option ℕ → List Effect → ℕ → Found
 look_in_changes (event.Discards span) change h i =
-    if span_has span (i / 4096) && is_dirty h (i / 4096) then found.Before (source.Disk false) else found.Before source.Changes
-look_in_changes other change h i = elim change [ None ↦ found.Before source.Changes | Some byte ↦ found.Byte byte ]
+    if span_has span (i / 4096) && is_dirty h (i / 4096) then found.Before (origin.Disk false) else found.Before origin.Changes
+look_in_changes other change h i = elim change [ None ↦ found.Before origin.Changes | Some byte ↦ found.Byte byte ]
 
 -- what an event tells of the disk's byte, given whether a transfer of its page ended ok later
 abbrev pub look_on_disk : Option Bool → List Effect → ℕ → Found
-look_on_disk None h i = if nat_lt i (valid_of h) then found.Before source.Changes else found.Byte 0
-look_on_disk (Some ended) h i = found.Before (source.Disk ended)
+look_on_disk None h i = if nat_lt i (valid_of h) then found.Before origin.Changes else found.Byte 0
+look_on_disk (Some ended) h i = found.Before (origin.Disk ended)
 
--- what an effect tells of the byte that a source has, where there is one, given the stream before it
-abbrev pub look : Source → Option Effect → List Effect → ℕ → Found
-look source.Changes o h i = look_in_changes (event_of o) (change_of o (size_of h) i) h i
-look (source.Disk ended) o h i = look_on_disk (ended_before (event_of o) (i / 4096) ended) h i
+-- what an effect tells of the byte that an origin has, where there is one, given the stream before it
+abbrev pub look : Origin → Option Effect → List Effect → ℕ → Found
+look origin.Changes o h i = look_in_changes (event_of o) (change_of o (size_of h) i) h i
+look (origin.Disk ended) o h i = look_on_disk (ended_before (event_of o) (i / 4096) ended) h i
