@@ -1,10 +1,10 @@
 -- Ascending lists of numbers: two with the same numbers are the same.
 use Rattle.std.proofs.Common.{◌≡◌, ℕ, zero, suc, ◌+◌, ◌<◌, ◌≤◌, Bool, true, false, cond, ◌||◌, ◌&&◌, ◌==◌, nat_lt, List, [], ◌∷◌, refl, sym, ◌∙◌, ap, arith}
-use Rattle.std.proofs.lemmas.Bool.{ltb-true, ltb-false, eqb-true, eqb-false, eq-eqb, ne_eqb}
-use Rattle.std.specs.List.{range_with_len, AllByRecursion, filter}
+use Rattle.std.proofs.lemmas.Bool.{eqb-true, eqb-false, eq-eqb, ne_eqb}
+use Rattle.std.specs.List.{range_with_len, filter}
 use Rattle.cc_model.specs.Numbers.{is_among, placed, ascending}
 use Rattle.cc_laws.proofs.BlockLists.{is_among-filter}
-use Rattle.cc_laws.proofs.BlockPages.{Above, Rises, above-less, rises-ascending, rises-filter}
+use Rattle.cc_laws.proofs.BlockPages.{Above, Rises, rises-ascending, rises-filter}
 
 above-range : (k a n : ℕ) → k < a → Above k (range_with_len a n)
 above-range k a zero less = tt

@@ -1,5 +1,5 @@
 -- The lines of the first caller, one after the other.
-use Rattle.std.proofs.Common.{◌≡◌, ℕ, zero, suc, ◌<◌, Bool, true, false, cond, List, [], ◌∷◌, ◌++◌, length, refl, sym, ◌∙◌, ap, arith, get_or, append_assoc, append-nil}
+use Rattle.std.proofs.Common.{◌≡◌, ℕ, zero, suc, ◌<◌, true, List, [], ◌∷◌, ◌++◌, length, refl, sym, ◌∙◌, ap, arith, get_or, append_assoc, append-nil}
 use Rattle.std.specs.List.{AllByRecursion}
 use Rattle.std.proofs.lemmas.List.{map-append, length-map}
 use Rattle.cc_entry.specs.declared.call.Call.{Call}
@@ -15,12 +15,13 @@ use Rattle.cc_script.specs.declared.script.Action.{Action}
 use Rattle.cc_script.specs.declared.script.Action.TheVariants as action
 use Rattle.cc_script.specs.declared.script.ActionLine.{ActionLine}
 use Rattle.cc_model.specs.Setup.{Setup}
-use Rattle.cc_effects.specs.Moments.{Others, IsIdle}
+use Rattle.cc_effects.proofs.Stretches.{idle-none, idle-then}
 use Rattle.cc_effects.specs.Calls.{CallLeft}
 use Rattle.cc_pieces.specs.Rooms.{HadNoRoom}
 use Rattle.cc_pieces.specs.Served.{Served, bindings_after}
-use Rattle.cc_pieces.specs.Runs.{Ran, asked_of}
+use Rattle.cc_pieces.specs.Runs.{asked_of, bindings_of}
 use Rattle.cc_pieces.specs.Phases.{is_of_phase}
+use Rattle.cc_pieces.proofs.LineSteps.{ran-more, asked-own}
 use Rattle.cc_run.specs.Fills.{LeftAlone, HasRoom}
 use Rattle.cc_run.specs.Served.{IsServedLine}
 use Rattle.cc_run.specs.Lines.{Serves, ServedLines}
@@ -43,36 +44,14 @@ serves-refused u asked it e old new served room w = record {
   alone = w.alone;
 }
 
-pub idle-none : (me : ℕ) (past : List Entry) → IsIdle me past past
-idle-none me past = record { during = []; grew = refl; others = tt }
-
-others-append : (me : ℕ) (xs ys : List Entry) → Others me xs → Others me ys → Others me (xs ++ ys)
-others-append me [] ys a b = b
-others-append me (x ∷ xs) ys a b = (a.0, others-append me xs ys a.1 b)
-
-idle-more : (me : ℕ) (a b c : List Entry) → IsIdle me a b → IsIdle me b c → IsIdle me a c
-idle-more me a b c first second = record {
-  during = second.during ++ first.during;
-  grew = second.grew ∙ (ap (λ l. second.during ++ l) first.grew ∙ sym (append_assoc second.during first.during a));
-  others = others-append me second.during first.during second.others first.others;
-}
-
--- one line more, of those that pass a test
-asked_of-more : (test : ActionLine → Bool) (lines : List ActionLine) (answers : List LineReply) (line : ActionLine) (reply : LineReply) → length lines ≡ length answers → test line ≡ true → asked_of test (lines ++ line ∷ []) (answers ++ reply ∷ []) ≡ asked_of test lines answers ++ (line.action, reply.answer) ∷ []
-asked_of-more test [] [] line reply same is = rw is refl
-asked_of-more test [] (a ∷ answers) line reply same is = absurd (omega (arith, same))
-asked_of-more test (l ∷ lines) [] line reply same is = absurd (omega (arith, same))
-asked_of-more test (l ∷ lines) (a ∷ answers) line reply same is =
-    go (test l) (asked_of-more test lines answers line reply (omega (arith, same)) is)
-  where
-    go : (b : Bool) → asked_of test (lines ++ line ∷ []) (answers ++ reply ∷ []) ≡ asked_of test lines answers ++ (line.action, reply.answer) ∷ [] → cond b ((l.action, a.answer) ∷ asked_of test (lines ++ line ∷ []) (answers ++ reply ∷ [])) (asked_of test (lines ++ line ∷ []) (answers ++ reply ∷ [])) ≡ cond b ((l.action, a.answer) ∷ asked_of test lines answers) (asked_of test lines answers) ++ (line.action, reply.answer) ∷ []
-    go true rest = ap (λ more. (l.action, a.answer) ∷ more) rest
-    go false rest = rest
-
 -- no line binds a word
 bindings-stay : (asked : Action) (told : Answer) → bindings_after asked told [] ≡ []
 bindings-stay (action.CopyRead file at len wait) told = refl
 bindings-stay other told = refl
+
+bindings-none : (lines : List (Action × Answer)) → bindings_of [] lines ≡ []
+bindings-none [] = refl
+bindings-none (line ∷ lines) = rw (bindings-stay line.0 line.1) (bindings-none lines)
 
 -- before the first line
 pub served-none : (u : Setup) (replies : List LineReply) (past : List Entry) → ServedLines u [] replies replies past past
@@ -80,7 +59,7 @@ served-none u replies past = record {
   answers = [];
   grew = sym (append-nil replies);
   lines_are = refl;
-  ran = λ limit more end ran. ran;
+  ran = λ limit. idle-none 1 past;
   alone = λ me other. idle-none me past;
 }
 
@@ -90,12 +69,12 @@ served-more u lines line before after answer old between new served own serves =
   answers = served.answers ++ record { line = line.line; answer = answer } ∷ [];
   grew = ap (λ l. l ++ record { line = line.line; answer = answer } ∷ []) served.grew ∙ append_assoc before served.answers (record { line = line.line; answer = answer } ∷ []);
   lines_are = map-append (λ r. r.line) served.answers _ ∙ (ap (λ l. l ++ line.line ∷ []) served.lines_are ∙ sym (map-append (λ l. l.line) lines (line ∷ [])));
-  ran = λ limit more end ran.
-      let then : Ran u limit 1 [] ((line.action, answer) ∷ more) between end = (new, serves.explained limit, rw (bindings-stay line.action answer) ran) in
-      let grown = asked_of-more (is_of_phase 1 1) lines served.answers line (record { line = line.line; answer = answer }) same is_own in
-      let split = append_assoc (asked_of (is_of_phase 1 1) lines served.answers) ((line.action, answer) ∷ []) more in
-      rw (grown, split) (served.ran limit ((line.action, answer) ∷ more) end then);
-  alone = λ me other. idle-more me old between new (served.alone me other) (serves.alone me other);
+  ran = λ limit.
+      let asked = asked_of (is_of_phase 1 1) lines served.answers in
+      let explains = rw (← bindings-none asked) at (serves.explained limit) in
+      rw (asked-own (is_of_phase 1 1) lines served.answers line (record { line = line.line; answer = answer }) same is_own)
+      (ran-more u limit 1 [] asked line.action answer old between new (served.ran limit) explains);
+  alone = λ me other. idle-then me old between new (served.alone me other) (serves.alone me other);
 }
   where
     same : length lines ≡ length served.answers

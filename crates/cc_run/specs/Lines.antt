@@ -18,17 +18,12 @@ pub record Serves (u : Setup) (asked : Action) (told : Answer) (old new : List E
   pub explained : (limit : ℕ) → Explains u limit 1 [] asked told old new
   pub alone : (me : ℕ) → me ≢ 1 → IsIdle me old new
 
--- whatever the caller's next lines leave, these lines left what they did before
-abbrev pub RanBefore : Setup → List (Action × Answer) → List Entry → List Entry → Type 0
-RanBefore u lines old new =
-    (limit : ℕ) (more : List (Action × Answer)) (end : List Entry) → Ran u limit 1 [] more new end → Ran u limit 1 [] (lines ++ more) old end
-
 -- each of the lines has its reply behind those that were there, and its calls ran
 pub record ServedLines (u : Setup) (lines : List ActionLine) (before after : List LineReply) (old new : List Entry) : Type 0 where
   pub answers : List LineReply
   pub grew : after ≡ before ++ answers
   pub lines_are : answered_lines answers ≡ map (λ line. line.line) lines
-  pub ran : RanBefore u (asked_of (is_of_phase 1 1) lines answers) old new
+  pub ran : (limit : ℕ) → Ran u limit 1 [] (asked_of (is_of_phase 1 1) lines answers) old new
   pub alone : (me : ℕ) → me ≢ 1 → IsIdle me old new
 
 -- what a script gives a run

@@ -3,7 +3,7 @@ use Rattle.cc_pieces.specs.Failures.{failures}
 use Rattle.cc_run.specs.Stands.{opening_entry, setup_over}
 use Rattle.cc_run.specs.Lines.{ServedLines}
 use Rattle.cc_run.proofs.DiskSteps.{unchanged-agrees}
-use Rattle.cc_run.proofs.Explained.{opened_reply, explained-one}
+use Rattle.cc_run.proofs.Explained.{opened_reply, explained-stream}
 use Rattle.cc_run.proofs.FailureSteps.{failures-none, failures-call}
 use Rattle.cc_run.proofs.run.run_stream.Goals as goal
 
@@ -19,7 +19,7 @@ returns-clause-explained g c = λ u opening.
     let begun = c.in_ok-cache.ensures.stands u (g.D.Told.told c.args.disk.now) opening in
     let served : ServedLines u c.args.lines.now (opened_reply c.args.stream.now ∷ []) c.serve_lines.new.replies.items (opening_entry c.args.stream.now.size c.args.stream.now.valid ∷ []) c.serve_lines.new.cache.journal.entries =
     rw (first, c.in_ok-cache.ensures.placed) at (c.in_ok-serve_lines.ensures.served u begun) in
-    rw (c.into_entries-journal.ensures, c.into_journal.ensures) (explained-one u c.args.stream.now c.args.lines.now c.serve_lines.new.replies.items c.serve_lines.new.cache.journal.entries c.requires.stream c.requires.lines served)
+    rw (c.into_entries-journal.ensures, c.into_journal.ensures) (explained-stream u c.args.stream.now c.args.lines.now c.serve_lines.new.replies.items c.serve_lines.new.cache.journal.entries c.requires.stream c.requires.lines served)
 
 pub returns-clause-counted : goal.returns-clause-counted
 returns-clause-counted g c =
