@@ -3,10 +3,10 @@
 use Rattle.std.specs.Prelude.{◌≡◌, ℕ, ◌<◌, ◌≤◌, Bool, true, false, not, ◌||◌, nat_lt, List, [], ◌∷◌, ◌++◌, length, refl, ◌⊎◌}
 use Rattle.std.specs.declared.option.Option.{Option}
 use Rattle.std.specs.declared.option.Option.TheVariants.{Some, None}
-use Rattle.std.specs.List.{list_all, cons_option}
+use Rattle.std.specs.List.{list_all, list_any, cons_option}
 use Rattle.std.proofs.Common.{ap, ◌∙◌, inl, inr, arith, append_assoc}
 use Rattle.std.proofs.lemmas.Bool.{and_parts, ltb-true, lt-ltb}
-use Rattle.cc_entry.specs.Place.{Range}
+use Rattle.cc_entry.specs.Place.{Page, Range}
 use Rattle.cc_entry.specs.declared.call.Call.{Call}
 use Rattle.cc_entry.specs.declared.call.Call.TheVariants as call
 use Rattle.cc_entry.specs.declared.error.CcError.{CcError}
@@ -19,18 +19,19 @@ use Rattle.cc_entry.specs.declared.entry.Entry.{Entry}
 use Rattle.cc_entry.specs.declared.entry.Entry.TheVariants as entry
 use Rattle.cc_model.specs.Setup.{Setup}
 use Rattle.cc_model.specs.History.{Effect, history, effect_of}
-use Rattle.cc_model.specs.Sizes.{Touch}
+use Rattle.cc_model.specs.Sizes.{Touch, ended_ok}
 use Rattle.cc_model.specs.Ranges.{span_has}
 use Rattle.cc_model.specs.Touches.{unwritten, dirty_pages}
 use Rattle.cc_model.specs.Refusals.{refusal}
 use Rattle.cc_model.specs.Legal.{stream_history}
-use Rattle.cc_effects.specs.Moments.{Others, IsIdle}
+use Rattle.cc_effects.specs.Moments.{own, Others, IsIdle}
 use Rattle.cc_effects.specs.Asked.{Calls}
 use Rattle.cc_effects.specs.Places.{Works, syncs_of}
 use Rattle.cc_effects.specs.Stops.{IsUnstopped}
 use Rattle.cc_effects.specs.Refusals.{may_want}
-use Rattle.cc_effects.specs.Calls.{IsUnderWay, IsPlaced, IsSynced, HasDone, IsDone, IsRefused, IsOvertaken, IsFaulted, CameSoFar, IsUnplaced, CallLeft}
-use Rattle.cc_effects.proofs.Stretches.{others-append, grew-after, some-after, some-before}
+use Rattle.cc_effects.specs.Calls.{IsUnderWay, IsPlaced, IsSynced, WasWritten, has_no_write, HasDone, IsDone, IsRefused, IsOvertaken, IsFaulted, CameSoFar, IsUnplaced, CallLeft}
+use Rattle.cc_effects.specs.PageWrites.{is_end_of}
+use Rattle.cc_effects.proofs.Stretches.{own-append, others-append, grew-after, some-after, some-before}
 use Rattle.cc_effects.proofs.WorkSteps.{works-others, works-append, works-after, unsynced-others, unstopped-others, unstopped-append, unstopped-after, stopped-before, stopped-after}
 
 -- what joins a call from before: such work, without a sync, by which nothing stopped it
@@ -101,13 +102,29 @@ synced-before me s span during gap older p = record {
   after = p.after;
   before = p.before ++ gap;
   split = ap (λ l. l ++ gap) p.split ∙ append_assoc p.after (entry.Sync me s how.Good ∷ p.before) gap;
+  quiet = p.quiet;
   settled =
       rw (append_assoc p.before gap older)
       (settled-of (length (history (gap ++ older) s)) (length (history older s)) (history (p.before ++ (gap ++ older)) s) span (dirty_pages (history (p.before ++ (gap ++ older)) s)) (history-longer gap older s) p.settled);
 }
 
+-- a page that was written is, in each longer stretch
+any-longer : (test : Entry → Bool) (xs ys : List Entry) → list_any test xs ≡ true → list_any test (xs ++ ys) ≡ true
+any-longer test [] ys is = absurd (cc)
+any-longer test (x ∷ xs) ys is = by (test x) is (any-longer test xs ys)
+  where
+    by : (t : Bool) → (t || list_any test xs) ≡ true → (list_any test xs ≡ true → list_any test (xs ++ ys) ≡ true) → (t || list_any test (xs ++ ys)) ≡ true
+    by true one rest = refl
+    by false one rest = rest one
+
+written-before : (me : ℕ) (page : Page) (during gap older : List Entry) → WasWritten me page during (gap ++ older) → WasWritten me page (during ++ gap) older
+written-before me page during gap older (inl ended) = inl (rw (own-append me during gap) (any-longer (is_end_of ended_ok page) (own me during) (own me gap) ended))
+written-before me page during gap older (inr some) =
+    inr (rw (append_assoc during gap older) (some-before (λ moment. has_no_write page moment ≡ true) older gap (during ++ (gap ++ older)) some))
+
 pub done-before : (me : ℕ) (it : Call) (during gap older : List Entry) → HasDone me it during (gap ++ older) → HasDone me it (during ++ gap) older
 done-before me (call.Flush file span) during gap older has = synced-before me file.stream span during gap older has
+done-before me (call.NcRead file number) during gap older has = written-before me (record { stream = file.stream; page = number }) during gap older has
 done-before me (call.NcStore file page bytes) during gap older has = has
 done-before me (call.NcWrite file page) during gap older has = has
 done-before me other during gap older has = tt

@@ -1,13 +1,18 @@
 -- Each entry of a pass in a stretch that a call explains is licensed by the call; a call has its entry, and a
 -- fault its own.
-use Rattle.std.specs.Prelude.{◌≡◌, ℕ, Bool, true, false, List, [], ◌∷◌, ◌++◌, refl}
+use Rattle.std.specs.Prelude.{◌≡◌, ℕ, ◌==◌, Bool, true, false, List, [], ◌∷◌, ◌++◌, refl, ◌⊎◌}
 use Rattle.std.specs.List.{list_any}
 use Rattle.std.proofs.Common.{sym, ap, ◌∙◌, inl, inr, append_assoc, eq-eqb}
 use Rattle.std.proofs.lemmas.List.{append_cancel_right}
 use Rattle.std.proofs.lemmas.Bool.{or_left, or_right}
+use Rattle.std.specs.declared.option.Option.{Option}
+use Rattle.cc_entry.specs.Place.{File, Range}
 use Rattle.cc_entry.specs.declared.call.Call.{Call}
+use Rattle.cc_entry.specs.declared.call.Call.TheVariants as call
 use Rattle.cc_entry.specs.declared.error.CcError.{CcError}
 use Rattle.cc_entry.specs.declared.error.CcError.TheVariants as error
+use Rattle.cc_entry.specs.declared.reply.Reply.{Reply}
+use Rattle.cc_entry.specs.declared.entry.End.TheVariants as how
 use Rattle.cc_entry.specs.declared.reply.Outcome.{Outcome}
 use Rattle.cc_entry.specs.declared.reply.Outcome.TheVariants as outcome
 use Rattle.cc_entry.specs.declared.entry.Entry.{Entry}
@@ -18,13 +23,13 @@ use Rattle.cc_model.specs.Passes.{is_mine}
 use Rattle.cc_effects.specs.Moments.{own, EachOwn, PlacedOnly, AtSome}
 use Rattle.cc_effects.specs.Asked.{Calls}
 use Rattle.cc_effects.specs.Places.{MayPlace}
-use Rattle.cc_effects.specs.Calls.{IsPlaced, IsFaulted, IsUnplaced, CallLeft, leaves_entry}
+use Rattle.cc_effects.specs.Calls.{IsPlaced, IsDone, IsFaulted, IsUnplaced, CallLeft, leaves_entry}
 use Rattle.cc_effects.specs.Licences.{IsLicensed, is_call, is_told, shows_fault}
 use Rattle.cc_effects.proofs.Stretches.{own-append, own-others, each-others, each-append, each-implies}
 use Rattle.cc_effects.proofs.FrontLaws.{placed-of}
 
 -- the stretch in which the entry of a call stands
-placed-split : (me : ℕ) (it : Call) (answered : Outcome) (earlier during old : List Entry) (p : IsPlaced me it answered earlier old (during ++ old)) → during ≡ p.later ++ (entry.Call me p.nth p.stream it answered ∷ earlier)
+pub placed-split : (me : ℕ) (it : Call) (answered : Outcome) (earlier during old : List Entry) (p : IsPlaced me it answered earlier old (during ++ old)) → during ≡ p.later ++ (entry.Call me p.nth p.stream it answered ∷ earlier)
 placed-split me it answered earlier during old p =
     append_cancel_right during (p.later ++ (entry.Call me p.nth p.stream it answered ∷ earlier)) old
     (p.grew ∙ sym (append_assoc p.later (entry.Call me p.nth p.stream it answered ∷ earlier) old))
@@ -105,3 +110,40 @@ some-here Holds old some =
     last-empty : (xs ys : List Entry) → xs ++ ys ≡ [] → ys ≡ []
     last-empty [] ys is = is
     last-empty (x ∷ xs) ys is = absurd (cc)
+
+-- where one entry was placed, there are two moments
+pub some-one : (Holds : List Entry → Type 0) (e : Entry) (old : List Entry) → AtSome Holds old (e ∷ old) → Holds old ⊎ Holds (e ∷ old)
+some-one Holds e old some = by some.later some.since some.ends some.begins (append_cancel_right (e ∷ []) (some.later ++ some.since) old behind)
+  where
+    behind : e ∷ old ≡ (some.later ++ some.since) ++ old
+    behind = some.ends ∙ (ap (λ l. some.later ++ l) some.begins ∙ sym (append_assoc some.later some.since old))
+
+    nothing : (xs ys : List Entry) → [] ≡ xs ++ ys → ys ≡ []
+    nothing [] ys is = sym is
+    nothing (x ∷ xs) ys is = absurd (cc)
+
+    tail_of : (x : Entry) (xs : List Entry) → e ∷ [] ≡ x ∷ xs → [] ≡ xs
+    tail_of x [] is = refl
+    tail_of x (y ∷ ys) is = absurd (cc)
+
+    by : (later since : List Entry) → e ∷ old ≡ later ++ some.moment → some.moment ≡ since ++ old → e ∷ [] ≡ later ++ since → Holds old ⊎ Holds (e ∷ old)
+    by [] since ends begins split = inr (rw ends some.holds)
+    by (x ∷ later) since ends begins split =
+        let none : since ≡ [] = nothing later since (tail_of x (later ++ since) split) in
+        let here : some.moment ≡ old = begins ∙ ap (λ l. l ++ old) none in
+        inl (rw here at some.holds)
+
+-- a flush that is done placed nothing between its sync and its entry
+pub sync-last : (me : ℕ) (file : File) (span : Option Range) (r : Reply) (during old : List Entry) → IsDone me (call.Flush file span) r old (during ++ old) → (nth : ℕ) × (stream : Option ℕ) × (before : List Entry) × (own me during ≡ entry.Call me nth stream (call.Flush file span) (outcome.Done r) ∷ entry.Sync me file.stream how.Good ∷ before)
+sync-last me file span r during old left =
+    let p = left.placed in
+    let mine : (me == me) ≡ true = eq-eqb me me refl in
+    let behind : own me left.earlier ≡ entry.Sync me file.stream how.Good ∷ own me left.has_done.before =
+    ap (own me) left.has_done.split
+    ∙ (own-append me left.has_done.after (entry.Sync me file.stream how.Good ∷ left.has_done.before) ∙ rw (own-others me left.has_done.after left.has_done.quiet, mine) refl) in (
+      p.nth,
+      p.stream,
+      own me left.has_done.before,
+      ap (own me) (placed-split me (call.Flush file span) (outcome.Done r) left.earlier during old p)
+          ∙ (own-append me p.later (entry.Call me p.nth p.stream (call.Flush file span) (outcome.Done r) ∷ left.earlier) ∙ rw (own-others me p.later p.quiet, mine, behind) refl),
+    )

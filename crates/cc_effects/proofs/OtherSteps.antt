@@ -1,5 +1,5 @@
 -- The same for the calls without an entry: logs, deferrals and posts, pages and ticks, read-ahead, levels.
-use Rattle.std.specs.Prelude.{◌≡◌, ℕ, ◌≤◌, ◌^◌, Bool, true, false, List, ◌∷◌, ◌++◌, length, Option, Result, Ok, Err, ◌⊎◌}
+use Rattle.std.specs.Prelude.{◌≡◌, ℕ, ◌≤◌, ◌<◌, ◌^◌, Bool, true, false, List, ◌∷◌, ◌++◌, length, Option, Result, Ok, Err, ◌⊎◌}
 use Rattle.std.specs.declared.option.Option.TheVariants.{Some, None}
 use Rattle.std.proofs.Common.{ap, ◌∙◌, inl, inr}
 use Rattle.cc_entry.specs.Place.{File}
@@ -36,7 +36,8 @@ append-refused-after : (u : Setup) (me handle : ℕ) (e : CcError) (old new newe
 append-refused-after u me handle (error.NoLog missing) old new newer left idle = (left.0, left.1, idle-then me old new newer left.2 idle)
 append-refused-after u me handle (error.LogFull full) old new newer left idle =
     (left.0, at-after (λ moment. floor_of moment handle ≡ 2 ^ 62) me old new newer left.1 idle, idle-then me old new newer left.2 idle)
-append-refused-after u me handle (error.LogFault failed) old new newer left idle = (left.0, only-after me _ old new newer left.1 idle)
+append-refused-after u me handle (error.LogFault failed) old new newer left idle =
+    (left.0, at-after (λ moment. floor_of moment handle < 2 ^ 62) me old new newer left.1 idle, (left.2.0, only-after me _ old new newer left.2.1 idle))
 append-refused-after u me handle (error.JournalFull entries) old new newer left idle = idle-then me old new newer left idle
 append-refused-after u me handle error.NoMemory old new newer left idle = idle-then me old new newer left idle
 append-refused-after u me handle other old new newer left idle = absurd left
@@ -45,48 +46,51 @@ append-refused-before : (u : Setup) (me handle : ℕ) (e : CcError) (older old n
 append-refused-before u me handle (error.NoLog missing) older old new idle left = (left.0, left.1, idle-then me older old new idle left.2)
 append-refused-before u me handle (error.LogFull full) older old new idle left =
     (left.0, at-before (λ moment. floor_of moment handle ≡ 2 ^ 62) me older old new idle left.1, idle-then me older old new idle left.2)
-append-refused-before u me handle (error.LogFault failed) older old new idle left = (left.0, only-before me _ older old new idle left.1)
+append-refused-before u me handle (error.LogFault failed) older old new idle left =
+    (left.0, at-before (λ moment. floor_of moment handle < 2 ^ 62) me older old new idle left.1, (left.2.0, only-before me _ older old new idle left.2.1))
 append-refused-before u me handle (error.JournalFull entries) older old new idle left = idle-then me older old new idle left
 append-refused-before u me handle error.NoMemory older old new idle left = idle-then me older old new idle left
 append-refused-before u me handle other older old new idle left = absurd left
 
 pub append-after : (u : Setup) (me handle : ℕ) (bytes : List ℕ) (answered : Result ℕ CcError) (old new newer : List Entry) → AppendLeft u me handle bytes answered old new → IsIdle me new newer → AppendLeft u me handle bytes answered old newer
-append-after u me handle bytes (Ok lsn) old new newer left idle = only-after me _ old new newer left idle
+append-after u me handle bytes (Ok lsn) old new newer left idle = (left.0, only-after me _ old new newer left.1 idle)
 append-after u me handle bytes (Err e) old new newer left idle = append-refused-after u me handle e old new newer left idle
 
 pub append-before : (u : Setup) (me handle : ℕ) (bytes : List ℕ) (answered : Result ℕ CcError) (older old new : List Entry) → IsIdle me older old → AppendLeft u me handle bytes answered old new → AppendLeft u me handle bytes answered older new
-append-before u me handle bytes (Ok lsn) older old new idle left = only-before me _ older old new idle left
+append-before u me handle bytes (Ok lsn) older old new idle left = (left.0, only-before me _ older old new idle left.1)
 append-before u me handle bytes (Err e) older old new idle left = append-refused-before u me handle e older old new idle left
 
-flush-refused-after : (u : Setup) (me handle : ℕ) (e : CcError) (old new newer : List Entry) → FlushRefused u me handle e old new → IsIdle me new newer → FlushRefused u me handle e old newer
-flush-refused-after u me handle (error.NoLog missing) old new newer left idle = (left.0, left.1, idle-then me old new newer left.2 idle)
-flush-refused-after u me handle (error.LogFault failed) old new newer left idle = (left.0, only-after me _ old new newer left.1 idle)
-flush-refused-after u me handle (error.JournalFull entries) old new newer left idle = idle-then me old new newer left idle
-flush-refused-after u me handle error.NoMemory old new newer left idle = idle-then me old new newer left idle
-flush-refused-after u me handle other old new newer left idle = absurd left
+flush-refused-after : (u : Setup) (me handle lsn : ℕ) (e : CcError) (old new newer : List Entry) → FlushRefused u me handle lsn e old new → IsIdle me new newer → FlushRefused u me handle lsn e old newer
+flush-refused-after u me handle lsn (error.NoLog missing) old new newer left idle = (left.0, left.1, idle-then me old new newer left.2 idle)
+flush-refused-after u me handle lsn (error.LogFault failed) old new newer left idle =
+    (left.0, at-after (λ moment. flushed_to moment handle < lsn) me old new newer left.1 idle, (left.2.0, only-after me _ old new newer left.2.1 idle))
+flush-refused-after u me handle lsn (error.JournalFull entries) old new newer left idle = idle-then me old new newer left idle
+flush-refused-after u me handle lsn error.NoMemory old new newer left idle = idle-then me old new newer left idle
+flush-refused-after u me handle lsn other old new newer left idle = absurd left
 
-flush-refused-before : (u : Setup) (me handle : ℕ) (e : CcError) (older old new : List Entry) → IsIdle me older old → FlushRefused u me handle e old new → FlushRefused u me handle e older new
-flush-refused-before u me handle (error.NoLog missing) older old new idle left = (left.0, left.1, idle-then me older old new idle left.2)
-flush-refused-before u me handle (error.LogFault failed) older old new idle left = (left.0, only-before me _ older old new idle left.1)
-flush-refused-before u me handle (error.JournalFull entries) older old new idle left = idle-then me older old new idle left
-flush-refused-before u me handle error.NoMemory older old new idle left = idle-then me older old new idle left
-flush-refused-before u me handle other older old new idle left = absurd left
+flush-refused-before : (u : Setup) (me handle lsn : ℕ) (e : CcError) (older old new : List Entry) → IsIdle me older old → FlushRefused u me handle lsn e old new → FlushRefused u me handle lsn e older new
+flush-refused-before u me handle lsn (error.NoLog missing) older old new idle left = (left.0, left.1, idle-then me older old new idle left.2)
+flush-refused-before u me handle lsn (error.LogFault failed) older old new idle left =
+    (left.0, at-before (λ moment. flushed_to moment handle < lsn) me older old new idle left.1, (left.2.0, only-before me _ older old new idle left.2.1))
+flush-refused-before u me handle lsn (error.JournalFull entries) older old new idle left = idle-then me older old new idle left
+flush-refused-before u me handle lsn error.NoMemory older old new idle left = idle-then me older old new idle left
+flush-refused-before u me handle lsn other older old new idle left = absurd left
 
 pub log-flush-after : {T : Type 0} (u : Setup) (me handle lsn : ℕ) (answered : Result T CcError) (old new newer : List Entry) → LogFlushLeft u me handle lsn answered old new → IsIdle me new newer → LogFlushLeft u me handle lsn answered old newer
-log-flush-after u me handle lsn (Ok done) old new newer left idle = by left
+log-flush-after u me handle lsn (Ok done) old new newer left idle = (left.0, by left.1)
   where
     by : PlacedOnly me (entry.Flushed me handle lsn) old new ⊎ WasFlushed me handle lsn old new → PlacedOnly me (entry.Flushed me handle lsn) old newer ⊎ WasFlushed me handle lsn old newer
     by (inl only) = inl (only-after me _ old new newer only idle)
     by (inr was) = inr (record { idle = idle-then me old new newer was.idle idle; reached = at-after (λ moment. lsn ≤ flushed_to moment handle) me old new newer was.reached idle })
-log-flush-after u me handle lsn (Err e) old new newer left idle = flush-refused-after u me handle e old new newer left idle
+log-flush-after u me handle lsn (Err e) old new newer left idle = flush-refused-after u me handle lsn e old new newer left idle
 
 pub log-flush-before : {T : Type 0} (u : Setup) (me handle lsn : ℕ) (answered : Result T CcError) (older old new : List Entry) → IsIdle me older old → LogFlushLeft u me handle lsn answered old new → LogFlushLeft u me handle lsn answered older new
-log-flush-before u me handle lsn (Ok done) older old new idle left = by left
+log-flush-before u me handle lsn (Ok done) older old new idle left = (left.0, by left.1)
   where
     by : PlacedOnly me (entry.Flushed me handle lsn) old new ⊎ WasFlushed me handle lsn old new → PlacedOnly me (entry.Flushed me handle lsn) older new ⊎ WasFlushed me handle lsn older new
     by (inl only) = inl (only-before me _ older old new idle only)
     by (inr was) = inr (record { idle = idle-then me older old new idle was.idle; reached = at-before (λ moment. lsn ≤ flushed_to moment handle) me older old new idle was.reached })
-log-flush-before u me handle lsn (Err e) older old new idle left = flush-refused-before u me handle e older old new idle left
+log-flush-before u me handle lsn (Err e) older old new idle left = flush-refused-before u me handle lsn e older old new idle left
 
 closed-after : (me : ℕ) (file : File) (old new newer : List Entry) → WasNotCached me file old new → IsIdle me new newer → WasNotCached me file old newer
 closed-after me file old new newer left idle = record {

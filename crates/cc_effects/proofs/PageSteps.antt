@@ -50,9 +50,9 @@ became-before me page NotWritten during gap older others is = rw (own-before me 
 became-before me page NotLogged during gap older others is = log-failed-before me page during gap older is
 
 -- what may stand where room or memory were wanting, with others' entries after, and before
-so-after : (me : ℕ) (e : CcError) (gap during : List Entry) → Others me gap → CutOffSo me e during → CutOffSo me e (gap ++ during)
-so-after me error.NoMemory gap during others (inl memory) = inl (rw (own-after me gap during others) memory)
-so-after me error.NoMemory gap during others (inr wanted) = inr (record {
+so-after : (me : ℕ) (pages : List Page) (e : CcError) (gap during : List Entry) → Others me gap → CutOffSo me pages e during → CutOffSo me pages e (gap ++ during)
+so-after me pages error.NoMemory gap during others (inl memory) = inl (rw (own-after me gap during others) memory)
+so-after me pages error.NoMemory gap during others (inr wanted) = inr (record {
   since = gap ++ wanted.since;
   want = wanted.want;
   before = wanted.before;
@@ -62,11 +62,11 @@ so-after me error.NoMemory gap during others (inr wanted) = inr (record {
   quiet = others-append me gap wanted.since others wanted.quiet;
   memory = wanted.memory;
 })
-so-after me other gap during others memory = rw (own-after me gap during others) memory
+so-after me pages other gap during others so = rw (own-after me gap during others) so
 
-so-before : (me : ℕ) (e : CcError) (during gap : List Entry) → Others me gap → CutOffSo me e during → CutOffSo me e (during ++ gap)
-so-before me error.NoMemory during gap others (inl memory) = inl (rw (own-before me during gap others) memory)
-so-before me error.NoMemory during gap others (inr wanted) = inr (record {
+so-before : (me : ℕ) (pages : List Page) (e : CcError) (during gap : List Entry) → Others me gap → CutOffSo me pages e during → CutOffSo me pages e (during ++ gap)
+so-before me pages error.NoMemory during gap others (inl memory) = inl (rw (own-before me during gap others) memory)
+so-before me pages error.NoMemory during gap others (inr wanted) = inr (record {
   since = wanted.since;
   want = wanted.want;
   before = wanted.before ++ gap;
@@ -76,14 +76,14 @@ so-before me error.NoMemory during gap others (inr wanted) = inr (record {
   quiet = wanted.quiet;
   memory = rw (own-before me wanted.before gap others) wanted.memory;
 })
-so-before me other during gap others memory = rw (own-before me during gap others) memory
+so-before me pages other during gap others so = rw (own-before me during gap others) so
 
 cut-off-after : (me : ℕ) (pages : List Page) (e : CcError) (old new newer : List Entry) → IsCutOff me pages e old new → IsIdle me new newer → IsCutOff me pages e old newer
 cut-off-after me pages e old new newer left idle = record {
   during = idle.during ++ left.during;
   grew = grew-after idle.during left.during old new newer idle.grew left.grew;
   works = works-after me (Writes pages) idle.during left.during old idle.others left.works;
-  so = so-after me e idle.during left.during idle.others left.so;
+  so = so-after me pages e idle.during left.during idle.others left.so;
 }
 
 cut-off-before : (me : ℕ) (pages : List Page) (e : CcError) (gap older new : List Entry) → Others me gap → IsCutOff me pages e (gap ++ older) new → IsCutOff me pages e older new
@@ -91,7 +91,7 @@ cut-off-before me pages e gap older new others left = record {
   during = left.during ++ gap;
   grew = rw (append_assoc left.during gap older) left.grew;
   works = works-append me (Writes pages) left.during gap older left.works (works-others me (Writes pages) gap older others) (unsynced-others me gap others);
-  so = so-before me e left.during gap others left.so;
+  so = so-before me pages e left.during gap others left.so;
 }
 
 pub write-after : (me : ℕ) (page : Page) (answered : Result PageWrite CcError) (old new newer : List Entry) → PageWriteLeft me page answered old new → IsIdle me new newer → PageWriteLeft me page answered old newer
@@ -100,6 +100,7 @@ write-after me page (Ok written) old new newer left idle = record {
   grew = grew-after idle.during left.during old new newer idle.grew left.grew;
   works = works-after me (Writes (page ∷ [])) idle.during left.during old idle.others left.works;
   memory = rw (own-after me idle.during left.during idle.others) left.memory;
+  once = rw (own-after me idle.during left.during idle.others) left.once;
   became = became-after me page written idle.during left.during old idle.others left.became;
 }
 write-after me page (Err (error.JournalFull entries)) old new newer left idle = cut-off-after me (page ∷ []) (error.JournalFull entries) old new newer left idle
@@ -112,6 +113,7 @@ write-behind me page (Ok written) gap older new others left = record {
   grew = rw (append_assoc left.during gap older) left.grew;
   works = works-append me (Writes (page ∷ [])) left.during gap older left.works (works-others me (Writes (page ∷ [])) gap older others) (unsynced-others me gap others);
   memory = rw (own-before me left.during gap others) left.memory;
+  once = rw (own-before me left.during gap others) left.once;
   became = became-before me page written left.during gap older others left.became;
 }
 write-behind me page (Err (error.JournalFull entries)) gap older new others left = cut-off-before me (page ∷ []) (error.JournalFull entries) gap older new others left
@@ -147,13 +149,14 @@ scanned-before me picked during gap older new others has = record {
 cut-tick-after : (me : ℕ) (e : CcError) (old new newer : List Entry) → TickCutOff me e old new → IsIdle me new newer → TickCutOff me e old newer
 cut-tick-after me e old new newer (inl was) idle = inl (idle-then me old new newer was idle)
 cut-tick-after me e old new newer (inr has) idle =
-    inr (has.0, idle.during ++ has.1, scanned-after me has.0 idle.during has.1 old new newer idle.others idle.grew has.2, so-after me e idle.during has.1 idle.others has.3)
+    inr (has.0, idle.during ++ has.1, scanned-after me has.0 idle.during has.1 old new newer idle.others idle.grew has.2, so-after me has.0 e idle.during has.1 idle.others has.3)
 
 pub tick-after : (me : ℕ) (answered : Result Tick CcError) (old new newer : List Entry) → TickLeft me answered old new → IsIdle me new newer → TickLeft me answered old newer
 tick-after me (Ok tick) old new newer left idle = record {
   during = idle.during ++ left.during;
   scanned = scanned-after me tick.picked idle.during left.during old new newer idle.others idle.grew left.scanned;
   memory = rw (own-after me idle.during left.during idle.others) left.memory;
+  once = rw (own-after me idle.during left.during idle.others) left.once;
   ends = left.ends;
   became = became-all-after me tick.picked left.ends idle.during left.during (entry.Scan me tick.picked ∷ (left.scanned.before ++ old)) idle.others left.became;
   written = left.written;
@@ -175,6 +178,7 @@ tick-behind me tick gap older new others left = record {
   during = left.during;
   scanned = scanned-before me tick.picked left.during gap older new others left.scanned;
   memory = left.memory;
+  once = left.once;
   ends = left.ends;
   became = rw (append_assoc left.scanned.before gap older) left.became;
   written = left.written;

@@ -67,27 +67,27 @@ whole-append None (entry.WriteBegin pass page ∷ xs) ys a b = absurd (cc)
 whole-append (Some after) (entry.WriteBegin pass page ∷ xs) ys a b =
     both (is_same_page page after) (are_whole None xs) (are_whole None (xs ++ ys)) a (λ is. whole-append None xs ys is b)
 whole-append None (entry.PageIn pass page from_disk ∷ xs) ys a b = whole-append None xs ys a b
-whole-append (Some after) (entry.PageIn pass page from_disk ∷ xs) ys a b = whole-append (Some after) xs ys a b
+whole-append (Some after) (entry.PageIn pass page from_disk ∷ xs) ys a b = absurd (cc)
 whole-append None (entry.PageOut pass page ∷ xs) ys a b = whole-append None xs ys a b
-whole-append (Some after) (entry.PageOut pass page ∷ xs) ys a b = whole-append (Some after) xs ys a b
+whole-append (Some after) (entry.PageOut pass page ∷ xs) ys a b = absurd (cc)
 whole-append None (entry.FillFailed pass page ∷ xs) ys a b = whole-append None xs ys a b
-whole-append (Some after) (entry.FillFailed pass page ∷ xs) ys a b = whole-append (Some after) xs ys a b
+whole-append (Some after) (entry.FillFailed pass page ∷ xs) ys a b = absurd (cc)
 whole-append None (entry.Sync pass stream how ∷ xs) ys a b = whole-append None xs ys a b
-whole-append (Some after) (entry.Sync pass stream how ∷ xs) ys a b = whole-append (Some after) xs ys a b
+whole-append (Some after) (entry.Sync pass stream how ∷ xs) ys a b = absurd (cc)
 whole-append None (entry.Append pass handle lsn bytes ∷ xs) ys a b = whole-append None xs ys a b
-whole-append (Some after) (entry.Append pass handle lsn bytes ∷ xs) ys a b = whole-append (Some after) xs ys a b
+whole-append (Some after) (entry.Append pass handle lsn bytes ∷ xs) ys a b = absurd (cc)
 whole-append None (entry.Flushed pass handle to ∷ xs) ys a b = whole-append None xs ys a b
-whole-append (Some after) (entry.Flushed pass handle to ∷ xs) ys a b = whole-append (Some after) xs ys a b
+whole-append (Some after) (entry.Flushed pass handle to ∷ xs) ys a b = absurd (cc)
 whole-append None (entry.LogFailed pass handle ∷ xs) ys a b = whole-append None xs ys a b
-whole-append (Some after) (entry.LogFailed pass handle ∷ xs) ys a b = whole-append (Some after) xs ys a b
+whole-append (Some after) (entry.LogFailed pass handle ∷ xs) ys a b = absurd (cc)
 whole-append None (entry.Defer pass id file pages retrying ∷ xs) ys a b = whole-append None xs ys a b
-whole-append (Some after) (entry.Defer pass id file pages retrying ∷ xs) ys a b = whole-append (Some after) xs ys a b
+whole-append (Some after) (entry.Defer pass id file pages retrying ∷ xs) ys a b = absurd (cc)
 whole-append None (entry.Posted id ∷ xs) ys a b = whole-append None xs ys a b
-whole-append (Some after) (entry.Posted id ∷ xs) ys a b = whole-append (Some after) xs ys a b
+whole-append (Some after) (entry.Posted id ∷ xs) ys a b = absurd (cc)
 whole-append None (entry.Scan pass picked ∷ xs) ys a b = whole-append None xs ys a b
-whole-append (Some after) (entry.Scan pass picked ∷ xs) ys a b = whole-append (Some after) xs ys a b
+whole-append (Some after) (entry.Scan pass picked ∷ xs) ys a b = absurd (cc)
 whole-append None (entry.Call pass nth stream call ended ∷ xs) ys a b = whole-append None xs ys a b
-whole-append (Some after) (entry.Call pass nth stream call ended ∷ xs) ys a b = whole-append (Some after) xs ys a b
+whole-append (Some after) (entry.Call pass nth stream call ended ∷ xs) ys a b = absurd (cc)
 
 -- two stretches of work are one, where the first has no sync
 pub works-append : (me : ℕ) (work : Work) (later during old : List Entry) → Works me work later (during ++ old) → Works me work during old → syncs_of me during ≡ [] → Works me work (later ++ during) old

@@ -2,7 +2,7 @@
 use Rattle.std.specs.Prelude.{ℕ, Bool, true, false, not, ◌&&◌, ◌||◌, ◌==◌, List}
 use Rattle.std.specs.declared.option.Option.{Option}
 use Rattle.std.specs.declared.option.Option.TheVariants.{Some, None}
-use Rattle.std.specs.List.{list_any, find}
+use Rattle.std.specs.List.{list_any, list_all, find, range_with_len}
 use Rattle.cc_entry.specs.Place.{File, Page, Range}
 use Rattle.cc_entry.specs.Pages.{has_page, block_of, blocks_of}
 use Rattle.cc_entry.specs.declared.call.Call.{Call}
@@ -13,9 +13,9 @@ use Rattle.cc_model.specs.History.{Effect, history}
 use Rattle.cc_model.specs.Acts.{file_of}
 use Rattle.cc_model.specs.Holds.{holds_of, held_blocks}
 use Rattle.cc_model.specs.Ranges.{range_of, span_has}
-use Rattle.cc_model.specs.Touches.{size_of}
+use Rattle.cc_model.specs.Touches.{size_of, dirty_pages}
 use Rattle.cc_model.specs.Settings.{quota_of}
-use Rattle.cc_model.specs.Residency.{block_is_mapped, mapped_blocks, order_of_use}
+use Rattle.cc_model.specs.Residency.{is_resident, block_is_mapped, mapped_blocks, order_of_use}
 use Rattle.cc_model.specs.Passes.{store_of, is_same_page, is_the_page, is_written_since}
 
 -- what is under way: a call that has an entry of its own, or the writing of pages that the lazy writer
@@ -111,18 +111,33 @@ abbrev pub may_write : Work → Page → List Entry → Bool
 may_write (Calls it) page past = is_in_the_way it page past || asks_write it page past
 may_write (Writes pages) page past = list_any (is_same_page page) pages
 
+-- Whether a page is the next to go of those that go together: all of them are written, and no lesser one is
+-- resident.
+abbrev pub goes_next : List Effect → (ℕ → Bool) → ℕ → Bool
+goes_next h together p =
+    list_all (λ q. not (together q)) (dirty_pages h)
+    && list_all (λ q. not (together q && is_resident h q)) (range_with_len 0 p)
+
 -- Whether a page's going out is what a call of the pass asks for: a purge takes out the pages of its span,
 -- and a noncached write the page that it stored, once that is on the disk.
 abbrev pub asks_out : ℕ → Call → Page → List Entry → Bool
-asks_out me (call.Purge file span) page past = file.stream == page.stream && span_has span page.page
+asks_out me (call.Purge file span) page past =
+    (file.stream == page.stream && span_has span page.page)
+    && goes_next (history past page.stream) (λ q. span_has span q) page.page
 asks_out me (call.NcWrite file number) page past =
     (file.stream == page.stream && number == page.page)
     && (is_the_page page (store_of past me) && is_written_since past me page)
 asks_out me other page past = false
 
+-- whether a page goes now to make room for a call, as the next of its block
+abbrev pub makes_way : Call → Page → List Entry → Bool
+makes_way it page past =
+    is_in_the_way it page past
+    && goes_next (history past page.stream) (λ q. block_of q == block_of page.page) page.page
+
 -- whether what is under way may take a page out
 abbrev pub may_take_out : ℕ → Work → Page → List Entry → Bool
-may_take_out me (Calls it) page past = is_in_the_way it page past || asks_out me it page past
+may_take_out me (Calls it) page past = makes_way it page past || asks_out me it page past
 may_take_out me (Writes pages) page past = false
 
 -- whether what is under way may bring a page in: one of the range as it is now

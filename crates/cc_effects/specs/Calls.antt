@@ -1,8 +1,8 @@
 -- What a call leaves that has an entry of its own, by what it was answered.
-use Rattle.std.specs.Prelude.{◌≡◌, ℕ, Bool, true, false, List, [], ◌∷◌, ◌++◌, length, ◌⊎◌}
+use Rattle.std.specs.Prelude.{◌≡◌, ℕ, Bool, true, false, not, ◌||◌, List, [], ◌∷◌, ◌++◌, length, ◌⊎◌}
 use Rattle.std.specs.declared.option.Option.{Option}
 use Rattle.std.specs.declared.option.Option.TheVariants.{Some, None}
-use Rattle.cc_entry.specs.Place.{Range}
+use Rattle.cc_entry.specs.Place.{Page, Range}
 use Rattle.cc_entry.specs.declared.call.Call.{Call}
 use Rattle.cc_entry.specs.declared.call.Call.TheVariants as call
 use Rattle.cc_entry.specs.declared.error.CcError.{CcError}
@@ -17,6 +17,9 @@ use Rattle.cc_model.specs.Setup.{Setup}
 use Rattle.cc_model.specs.History.{history}
 use Rattle.cc_model.specs.Acts.{file_of}
 use Rattle.cc_model.specs.Holds.{holds_of}
+use Rattle.cc_model.specs.Sizes.{ended_ok}
+use Rattle.cc_model.specs.Touches.{is_dirty}
+use Rattle.cc_model.specs.Stamps.{is_unstamped}
 use Rattle.cc_model.specs.Faults.{Fault, fault_of}
 use Rattle.cc_model.specs.Refusals.{refusal}
 use Rattle.cc_model.specs.Legal.{stream_history}
@@ -25,6 +28,7 @@ use Rattle.cc_model.specs.Filing.{IsFiled}
 use Rattle.cc_effects.specs.Moments.{Others, AtSome, Between}
 use Rattle.cc_effects.specs.Asked.{Calls}
 use Rattle.cc_effects.specs.Places.{Works, syncs_of}
+use Rattle.cc_effects.specs.PageWrites.{has_end}
 use Rattle.cc_effects.specs.Stops.{IsUnstopped, IsStopped, IsToldBy, may_give_up}
 use Rattle.cc_effects.specs.Refusals.{may_refuse, may_want}
 
@@ -49,18 +53,30 @@ pub record IsPlaced (me : ℕ) (it : Call) (ended : Outcome) (earlier old new : 
   pub filed : IsFiled (holds_of (stream_history (earlier ++ old) stream)) me stream it (file_of it)
   pub works : Works me (Calls it) earlier old
 
--- A good sync of the pass, at which each touch of a page of the span that was there at the moment `old` is
+-- A good sync of the pass, the last that it placed, at which each touch of a page of the span that was there at the moment `old` is
 -- written or cut.
 pub record IsSynced (me s : ℕ) (span : Option Range) (during old : List Entry) : Type 0 where
   pub after : List Entry
   pub before : List Entry
   pub split : during ≡ after ++ entry.Sync me s how.Good ∷ before
+  pub quiet : Others me after
   pub settled : settled_since (length (history old s)) (history (before ++ old) s) span ≡ true
 
--- What a call that is done had to do before. A noncached store and the end of that write are parts of one
+-- whether a page has no bytes that could be written: it is not dirty, or it is Unstamped
+abbrev pub has_no_write : Page → List Entry → Bool
+has_no_write page past =
+    let h = history past page.stream in not (is_dirty h page.page) || is_unstamped h page.page
+
+-- a page was written well, or had no bytes that could be written at a moment
+abbrev pub WasWritten : ℕ → Page → List Entry → List Entry → Type 0
+WasWritten me page during old =
+    (has_end ended_ok me page during ≡ true) ⊎ AtSome (λ moment. has_no_write page moment ≡ true) old (during ++ old)
+
+-- What a call that is done had to do before: a flush synced, and a noncached read had its page written. A noncached store and the end of that write are parts of one
 -- call, and are done by no other.
 abbrev pub HasDone : ℕ → Call → List Entry → List Entry → Type 0
 HasDone me (call.Flush file span) during old = IsSynced me file.stream span during old
+HasDone me (call.NcRead file number) during old = WasWritten me (record { stream = file.stream; page = number }) during old
 HasDone me (call.NcStore file page bytes) during old = ⊥
 HasDone me (call.NcWrite file page) during old = ⊥
 HasDone me other during old = Unit {0}

@@ -1,5 +1,5 @@
 -- What the lazy writer leaves: the writing of one page, and a tick. Neither has a call's entry.
-use Rattle.std.specs.Prelude.{◌≡◌, ℕ, ◌≤◌, Bool, true, false, not, ◌&&◌, ◌||◌, List, [], ◌∷◌, ◌++◌, Result, Ok, Err, ◌⊎◌}
+use Rattle.std.specs.Prelude.{◌≡◌, ℕ, ◌≤◌, ◌<◌, Bool, true, false, not, ◌&&◌, ◌||◌, List, [], ◌∷◌, ◌++◌, length, Result, Ok, Err, ◌⊎◌}
 use Rattle.std.specs.declared.option.Option.TheVariants.{Some}
 use Rattle.std.specs.List.{list_any, count_by}
 use Rattle.cc_entry.specs.Place.{Page}
@@ -68,12 +68,23 @@ BecameOf me page NotLogged during old = HasLogFailed me page during old
 abbrev pub HadMemory : ℕ → List Entry → Type 0
 HadMemory me during = list_any found_no_memory (own me during) ≡ false
 
+-- whether an entry is the last that the writing of a page places: the end of its transfer, or its log's failure
+abbrev pub ends_page : Entry → Bool
+ends_page (entry.WriteEnd pass page how) = true
+ends_page (entry.LogFailed pass handle) = true
+ends_page other = false
+
+-- how many pages the pass came to the end of
+abbrev pub pages_ended : ℕ → List Entry → ℕ
+pages_ended me during = count_by ends_page (own me during)
+
 -- one page was to be written, and this became of it
 pub record PageLeft (me : ℕ) (page : Page) (written : PageWrite) (old new : List Entry) : Type 0 where
   pub during : List Entry
   pub grew : new ≡ during ++ old
   pub works : Works me (Writes (page ∷ [])) during old
   pub memory : HadMemory me during
+  pub once : pages_ended me during ≤ 1
   pub became : BecameOf me page written during old
 
 -- A transfer of the pass found no memory: it placed nothing after, and no transfer had found none before.
@@ -87,17 +98,18 @@ pub record WantedMemory (me : ℕ) (during : List Entry) : Type 0 where
   pub quiet : Others me since
   pub memory : HadMemory me before
 
--- what may stand where the journal had no room, and where memory was wanting
-abbrev pub CutOffSo : ℕ → CcError → List Entry → Type 0
-CutOffSo me error.NoMemory during = HadMemory me during ⊎ WantedMemory me during
-CutOffSo me other during = HadMemory me during
+-- What may stand where memory was wanting, and where the journal had no room: then a page is left, whose entries
+-- found none.
+abbrev pub CutOffSo : ℕ → List Page → CcError → List Entry → Type 0
+CutOffSo me pages error.NoMemory during = HadMemory me during ⊎ WantedMemory me during
+CutOffSo me pages other during = HadMemory me during × (pages_ended me during < length pages)
 
 -- room or memory were wanting while pages were written
 pub record IsCutOff (me : ℕ) (pages : List Page) (e : CcError) (old new : List Entry) : Type 0 where
   pub during : List Entry
   pub grew : new ≡ during ++ old
   pub works : Works me (Writes pages) during old
-  pub so : CutOffSo me e during
+  pub so : CutOffSo me pages e during
 
 -- the writing of one page
 abbrev pub PageWriteLeft : ℕ → Page → Result PageWrite CcError → Between
@@ -152,6 +164,7 @@ pub record HasTicked (me : ℕ) (tick : Tick) (old new : List Entry) : Type 0 wh
   pub during : List Entry
   pub scanned : HasScanned me tick.picked during old new
   pub memory : HadMemory me during
+  pub once : pages_ended me during ≤ length tick.picked
   pub ends : List PageWrite
   pub became : BecameOfAll me tick.picked ends during (entry.Scan me tick.picked ∷ (scanned.before ++ old))
   pub written : tick.written ≡ count_by is_written ends
@@ -163,7 +176,7 @@ pub record HasTicked (me : ℕ) (tick : Tick) (old new : List Entry) : Type 0 wh
 abbrev pub TickCutOff : ℕ → CcError → Between
 TickCutOff me e old new =
     IsIdle me old new
-    ⊎ ((picked : List Page) × (during : List Entry) × HasScanned me picked during old new × CutOffSo me e during)
+    ⊎ ((picked : List Page) × (during : List Entry) × HasScanned me picked during old new × CutOffSo me picked e during)
 
 -- a tick of the lazy writer
 abbrev pub TickLeft : ℕ → Result Tick CcError → Between

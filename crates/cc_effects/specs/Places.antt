@@ -13,7 +13,7 @@ use Rattle.cc_model.specs.Settings.{log_of}
 use Rattle.cc_model.specs.Residency.{is_resident}
 use Rattle.cc_model.specs.Images.{open_of}
 use Rattle.cc_model.specs.Logs.{flushed_to}
-use Rattle.cc_model.specs.Stamps.{newest_of}
+use Rattle.cc_model.specs.Stamps.{newest_of, is_unstamped}
 use Rattle.cc_model.specs.Passes.{is_same_page}
 use Rattle.cc_effects.specs.Moments.{own, EachOwn, AtSome}
 use Rattle.cc_effects.specs.Asked.{Work, Calls, Writes, brings_in, reads_noncached, reaches, may_bring_in, may_take_out, may_write, may_sync, stores}
@@ -36,12 +36,13 @@ MayFailToRead (Calls it) old page past =
     (may_read it page past ≡ true) × AtSome (λ moment. reaches it page moment ≡ true) old past
 MayFailToRead (Writes pages) old page past = ⊥
 
--- a page that is to be written, or stored by a noncached write, has this log, and this LSN as the newest stamped
--- on it
+-- A page that is to be written, or stored by a noncached write, has this log, and this LSN as the newest
+-- stamped on it. It is not Unstamped, for such a page is not written.
 pub record AsksLog (work : Work) (handle to : ℕ) (past : List Entry) : Type 0 where
   pub page : Page
   pub writes : (may_write work page past || stores work page past) ≡ true
   pub log : log_of (history past page.stream) ≡ Some handle
+  pub stamped : is_unstamped (history past page.stream) page.page ≡ false
   pub newest : newest_of (history past page.stream) page.page ≡ Some to
 
 -- a log failed as it was to be flushed to such an LSN, to which it was not flushed before
@@ -77,8 +78,8 @@ abbrev pub syncs_of : ℕ → List Entry → List Entry
 syncs_of me during = filter is_sync (own me during)
 
 -- Whether each transfer that entries of one pass, newest first, speak of stands there whole: a begin is
--- followed by the end of its page, with no other begin or end between. The page is that of an end whose begin
--- is still to come.
+-- followed by the end of its page, with no other entry between. The page is that of an end whose begin is still
+-- to come.
 abbrev pub are_whole : Option Page → List Entry → Bool
 are_whole None [] = true
 are_whole (Some page) [] = false
@@ -86,7 +87,8 @@ are_whole None (entry.WriteEnd pass page how ∷ earlier) = are_whole (Some page
 are_whole (Some after) (entry.WriteEnd pass page how ∷ earlier) = false
 are_whole None (entry.WriteBegin pass page ∷ earlier) = false
 are_whole (Some after) (entry.WriteBegin pass page ∷ earlier) = is_same_page page after && are_whole None earlier
-are_whole ended (other ∷ earlier) = are_whole ended earlier
+are_whole None (other ∷ earlier) = are_whole None earlier
+are_whole (Some after) (other ∷ earlier) = false
 
 -- The entries of the pass in a stretch are such entries, with one sync at most, and each of its transfers
 -- stands there whole.

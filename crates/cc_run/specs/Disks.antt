@@ -33,3 +33,7 @@ HaveRisen faults old new = Pairwise (λ s before after. faults before ≤ faults
 -- each disk's count of faults rose by the failures of its stream's disk that the past shows
 abbrev pub AreCounted : {D : Type 0} → (D → ℕ) → List Entry → List D → List D → Type 0
 AreCounted faults past old new = Pairwise (λ s before after. faults after ≡ faults before + failures s past) old new
+
+-- between two moments a disk's count of faults rose by the failures of the first stream's disk that were placed
+abbrev pub FailuresAreCounted : {D : Type 0} → (D → ℕ) → D → D → List Entry → List Entry → Type 0
+FailuresAreCounted faults before after old new = faults after + failures 0 old ≡ faults before + failures 0 new

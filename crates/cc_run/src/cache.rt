@@ -111,7 +111,8 @@ impl Cache {
     pub fn open(alloc: Global, size: u64, valid: u64) -> Result<Cache, NoMemory>
         requires in_order { valid ≤ size }
         requires small { size ≤ 4194304 }
-        ensures stands { IfOk result (λ cache. (u : Setup) → (told : Option Disk) → u.opening 0 ≡ opening_of told → CacheStands u told cache) }
+        ensures stands { IfOk result (λ cache.
+            (u : Setup) → (told : Option Disk) → u.opening 0 ≡ opening_of told → CacheStands u told cache) }
         ensures calls { IfOk result (λ cache. cache.calls ≡ 0) }
         ensures placed { IfOk result (λ cache. cache.journal.entries ≡ opening_entry size valid ∷ []) }
     {
@@ -163,7 +164,7 @@ impl Cache {
     ghost use Rattle.cc_entry.specs.Pages.{has_page};
     ghost use Rattle.cc_run.specs.Stands.{flag_at, opening_of, AllFlagged, IsPart};
     ghost use Rattle.cc_pieces.specs.Table.{table_of};
-    ghost use Rattle.cc_pieces.specs.Failures.{failures};
+    ghost use Rattle.cc_run.specs.Disks.{FailuresAreCounted};
     ghost use Rattle.cc_run.specs.Fills.{IsPageOf, Went, LeftAlone, HasRoom, outcome_of, calls_after};
     ghost use Rattle.cc_run.specs.Caches.{CacheStands, CacheAgrees, Keeps, FillStopped, ReadStopped, WriteStopped, StandsWithWrite};
 
@@ -172,7 +173,7 @@ impl Cache {
         requires { 4096 * page < self.old.size }
         ensures stands { (u : Setup) → CacheStands u (D.told disk.old) self.old → CacheStands u (D.told disk.new) self.new }
         ensures told { D.told disk.new ≡ D.told disk.old }
-        ensures counted { D.faults disk.new + failures 0 self.old.journal.entries ≡ D.faults disk.old + failures 0 self.new.journal.entries }
+        ensures counted { FailuresAreCounted D.faults disk.old disk.new self.old.journal.entries self.new.journal.entries }
         ensures filled { (u : Setup) → CacheStands u (D.told disk.old) self.old → (from to : ℕ) → IsPageOf from to page →
             Went from to result self.old.journal.entries self.new.journal.entries }
         ensures keeps { Keeps self.old self.new }
@@ -215,7 +216,7 @@ impl Cache {
         requires { end ≤ self.old.size }
         ensures stands { (u : Setup) → CacheStands u (D.told disk.old) self.old → CacheStands u (D.told disk.new) self.new }
         ensures told { D.told disk.new ≡ D.told disk.old }
-        ensures counted { D.faults disk.new + failures 0 self.old.journal.entries ≡ D.faults disk.old + failures 0 self.new.journal.entries }
+        ensures counted { FailuresAreCounted D.faults disk.old disk.new self.old.journal.entries self.new.journal.entries }
         ensures filled { (u : Setup) → CacheStands u (D.told disk.old) self.old →
             Went at end result self.old.journal.entries self.new.journal.entries }
         ensures keeps { Keeps self.old self.new }
@@ -283,7 +284,7 @@ impl Cache {
     ) -> Result<(Bytes, Bytes), CcError>
         ensures stands { (u : Setup) → CacheStands u (D.told disk.old) self.old → CacheStands u (D.told disk.new) self.new }
         ensures told { D.told disk.new ≡ D.told disk.old }
-        ensures counted { D.faults disk.new + failures 0 self.old.journal.entries ≡ D.faults disk.old + failures 0 self.new.journal.entries }
+        ensures counted { FailuresAreCounted D.faults disk.old disk.new self.old.journal.entries self.new.journal.entries }
         ensures filled { (u : Setup) → CacheStands u (D.told disk.old) self.old →
             Went at (min (at + len) self.old.size) result self.old.journal.entries self.new.journal.entries }
         ensures keeps { Keeps self.old self.new }
@@ -316,7 +317,7 @@ impl Cache {
         requires { self.old.calls < 2 ^ 32 - 1 }
         ensures stands { (u : Setup) → CacheStands u (D.told disk.old) self.old → CacheStands u (D.told disk.new) self.new }
         ensures told { D.told disk.new ≡ D.told disk.old }
-        ensures counted { D.faults disk.new + failures 0 self.old.journal.entries ≡ D.faults disk.old + failures 0 self.new.journal.entries }
+        ensures counted { FailuresAreCounted D.faults disk.old disk.new self.old.journal.entries self.new.journal.entries }
         ensures left { (u : Setup) → CacheStands u (D.told disk.old) self.old →
             LeftAlone u (call.CopyRead the_first_object at len true) (outcome_of (λ bytes. reply.Read bytes) result)
             self.old.journal.entries self.new.journal.entries }
@@ -343,7 +344,7 @@ impl Cache {
     fn write<D: PageDisk>(&mut self, disk: &mut D, at: u64, bytes: &[u8]) -> Result<(), CcError>
         ensures stands { OnErr result ((u : Setup) → CacheStands u (D.told disk.old) self.old → CacheStands u (D.told disk.new) self.new) }
         ensures told { D.told disk.new ≡ D.told disk.old }
-        ensures counted { D.faults disk.new + failures 0 self.old.journal.entries ≡ D.faults disk.old + failures 0 self.new.journal.entries }
+        ensures counted { FailuresAreCounted D.faults disk.old disk.new self.old.journal.entries self.new.journal.entries }
         ensures filled { (u : Setup) → CacheStands u (D.told disk.old) self.old →
             Went at (at + length bytes.now) result self.old.journal.entries self.new.journal.entries }
         ensures within { OnOk result (at + length bytes.now ≤ self.old.size) }
@@ -376,7 +377,8 @@ impl Cache {
     /// Marks every page with a byte from a place on as dirty.
     fn mark_written(&mut self, at: u64, len: u64)
         requires { at + len ≤ self.old.size }
-        ensures marked { (p : ℕ) → flag_at self.new.dirty.items p ≡ (has_page (record { from = at; to = at + len }) p || flag_at self.old.dirty.items p) }
+        ensures marked { (p : ℕ) → flag_at self.new.dirty.items p ≡
+            (has_page (record { from = at; to = at + len }) p || flag_at self.old.dirty.items p) }
         ensures size { self.new.size ≡ self.old.size }
         ensures valid { self.new.valid ≡ self.old.valid }
         ensures calls { self.new.calls ≡ self.old.calls }
@@ -402,7 +404,7 @@ impl Cache {
         requires { self.old.calls < 2 ^ 32 - 1 }
         ensures stands { (u : Setup) → CacheStands u (D.told disk.old) self.old → CacheStands u (D.told disk.new) self.new }
         ensures told { D.told disk.new ≡ D.told disk.old }
-        ensures counted { D.faults disk.new + failures 0 self.old.journal.entries ≡ D.faults disk.old + failures 0 self.new.journal.entries }
+        ensures counted { FailuresAreCounted D.faults disk.old disk.new self.old.journal.entries self.new.journal.entries }
         ensures left { (u : Setup) → CacheStands u (D.told disk.old) self.old →
             LeftAlone u (call.CopyWrite the_first_object at bytes.now) (outcome_of (λ done. reply.Unit) result)
             self.old.journal.entries self.new.journal.entries }

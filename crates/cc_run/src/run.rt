@@ -9,7 +9,7 @@ ghost use Rattle.cc_pieces.specs.Table.{table_of};
 ghost use Rattle.cc_pieces.specs.Failures.{failures};
 ghost use Rattle.cc_run.specs.Stands.{opening_of};
 ghost use Rattle.cc_run.specs.Served.{IsServedStream, IsServedLine, IsCopy};
-ghost use Rattle.cc_run.specs.Disks.{IsUnchanged};
+ghost use Rattle.cc_run.specs.Disks.{IsUnchanged, FailuresAreCounted};
 ghost use Rattle.cc_run.specs.Lines.{Serves, ServedLines, one_phase, lines_answered};
 
 use crate::cache::Cache;
@@ -82,7 +82,7 @@ fn serve_lines<D: PageDisk>(
     requires calls { cache.old.calls ≡ 0 }
     ensures stands { (u : Setup) → CacheStands u (D.told disk.old) cache.old → CacheStands u (D.told disk.new) cache.new }
     ensures told { D.told disk.new ≡ D.told disk.old }
-    ensures counted { D.faults disk.new + failures 0 cache.old.journal.entries ≡ D.faults disk.old + failures 0 cache.new.journal.entries }
+    ensures counted { FailuresAreCounted D.faults disk.old disk.new cache.old.journal.entries cache.new.journal.entries }
     ensures served { OnOk result ((u : Setup) → CacheStands u (D.told disk.old) cache.old →
         ServedLines u lines.now replies.old.items replies.new.items cache.old.journal.entries cache.new.journal.entries) }
 {
@@ -106,7 +106,7 @@ fn serve<D: PageDisk>(alloc: Global, cache: &mut Cache, disk: &mut D, action: &A
     requires calls { cache.old.calls < 2 ^ 32 - 1 }
     ensures stands { (u : Setup) → CacheStands u (D.told disk.old) cache.old → CacheStands u (D.told disk.new) cache.new }
     ensures told { D.told disk.new ≡ D.told disk.old }
-    ensures counted { D.faults disk.new + failures 0 cache.old.journal.entries ≡ D.faults disk.old + failures 0 cache.new.journal.entries }
+    ensures counted { FailuresAreCounted D.faults disk.old disk.new cache.old.journal.entries cache.new.journal.entries }
     ensures explained { (u : Setup) → CacheStands u (D.told disk.old) cache.old →
         Serves u action.now result cache.old.journal.entries cache.new.journal.entries }
     ensures calls { cache.new.calls ≤ cache.old.calls + 1 }

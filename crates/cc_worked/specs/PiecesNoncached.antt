@@ -2,7 +2,9 @@
 -- first, and stands on a past.
 use Rattle.std.specs.Prelude.{ℕ, List, [], ◌∷◌, false}
 use Rattle.std.specs.declared.option.Option.TheVariants.{Some, None}
+use Rattle.cc_entry.specs.declared.call.Call.{Call}
 use Rattle.cc_entry.specs.declared.call.Call.TheVariants as call
+use Rattle.cc_entry.specs.declared.reply.Reply.{Reply}
 use Rattle.cc_entry.specs.declared.reply.Reply.TheVariants as reply
 use Rattle.cc_entry.specs.declared.error.CcError.TheVariants as error
 use Rattle.cc_entry.specs.declared.entry.End.TheVariants as how
@@ -32,6 +34,20 @@ transfer_wants_memory = entry.WriteEnd 1 (page 0) how.NoMemory ∷ stored
 -- a place that is no multiple of a page
 abbrev pub misaligned : List Entry
 misaligned = refused 1 1 (call.NcRead a 0) error.Unaligned ∷ []
+
+-- a noncached read of a dirty page
+abbrev pub first_read : Call
+first_read = call.NcRead a 0
+
+abbrev pub a_page : Reply
+a_page = reply.Read some_bytes
+
+abbrev pub read_through : List Entry
+read_through = answers 1 3 first_read a_page ∷ ends 1 0 ∷ begins 1 0 ∷ []
+
+-- wrong: the page was not written
+abbrev pub read_around : List Entry
+read_around = answers 1 3 first_read a_page ∷ []
 
 -- a repin of a pinned page that was stamped
 abbrev pub repinned : List Entry

@@ -16,6 +16,10 @@ flushed_to_three = entry.Flushed 2 0 3 ∷ opened 8192 8192 ∷ []
 abbrev pub appended : List Entry
 appended = entry.Append 1 0 4 (1 ∷ []) ∷ []
 
+-- wrong: the fifth log of four
+abbrev pub appended_nowhere : List Entry
+appended_nowhere = entry.Append 1 4 1 (1 ∷ []) ∷ []
+
 abbrev pub log_fails : List Entry
 log_fails = entry.LogFailed 1 0 ∷ []
 
@@ -35,6 +39,10 @@ page_is_written = ends 17 0 ∷ begins 17 0 ∷ []
 
 abbrev pub page_fails : List Entry
 page_fails = fails 17 0 ∷ begins 17 0 ∷ []
+
+-- wrong: it is written again after it failed
+abbrev pub page_is_written_twice : List Entry
+page_is_written_twice = ends 17 0 ∷ begins 17 0 ∷ page_fails
 
 -- the page is written by the lazy writer: it was picked
 abbrev pub scanned : List Entry

@@ -43,6 +43,10 @@ other_is_written = done 1 3 first_page ∷ synced 1 ∷ ends 1 1 ∷ begins 1 1 
 abbrev pub write_of_another_fails : List Entry
 write_of_another_fails = refused 1 3 first_page (error.WriteFault 0) ∷ fails 2 0 ∷ begins 2 0 ∷ []
 
+-- wrong: the page is written again after the sync
+abbrev pub written_after_sync : List Entry
+written_after_sync = done 1 3 first_page ∷ ends 1 0 ∷ begins 1 0 ∷ synced 1 ∷ ends 1 0 ∷ begins 1 0 ∷ []
+
 -- a purge writes the dirty pages, and takes all out
 abbrev pub all_pages : Call
 all_pages = call.Purge a None
@@ -50,6 +54,15 @@ all_pages = call.Purge a None
 abbrev pub pages_are_purged : List Entry
 pages_are_purged =
     done 1 3 all_pages ∷ goes_out 1 1 ∷ goes_out 1 0 ∷ ends 1 1 ∷ begins 1 1 ∷ ends 1 0 ∷ begins 1 0 ∷ []
+
+-- wrong: the second page goes before the first, and the first goes before the second is written
+abbrev pub greatest_goes_first : List Entry
+greatest_goes_first =
+    done 1 3 all_pages ∷ goes_out 1 0 ∷ goes_out 1 1 ∷ ends 1 1 ∷ begins 1 1 ∷ ends 1 0 ∷ begins 1 0 ∷ []
+
+abbrev pub out_before_all_written : List Entry
+out_before_all_written =
+    done 1 3 all_pages ∷ goes_out 1 1 ∷ ends 1 1 ∷ begins 1 1 ∷ goes_out 1 0 ∷ ends 1 0 ∷ begins 1 0 ∷ []
 
 -- wrong: a purge of the first page takes the other one out
 abbrev pub first_alone : Call
@@ -68,6 +81,10 @@ stamped_twice =
     ∷ done 0 2 (call.SetLog a 0)
     ∷ opened 8192 8192
     ∷ []
+
+-- the page is written through its pin after that, and not stamped again
+abbrev pub written_again : List Entry
+written_again = done 1 4 (call.PinnedWrite 1 0 (171 ∷ [])) ∷ stamped_twice
 
 abbrev pub log_goes_first : List Entry
 log_goes_first = done 1 4 first_page ∷ synced 1 ∷ ends 1 0 ∷ begins 1 0 ∷ entry.Flushed 1 0 2 ∷ []

@@ -4,11 +4,13 @@ ghost use Rattle.std.specs.Prelude.{◌++◌, [], true, Ok, Err};
 ghost use Rattle.cc_entry.specs.declared.reply.Reply.TheVariants as reply;
 ghost use Rattle.cc_entry.specs.declared.error.CcError.TheVariants as error;
 ghost use Rattle.cc_entry.specs.declared.reply.Outcome.TheVariants as outcome;
+ghost use Rattle.cc_effects.specs.Calls.{CallLeft};
 ghost use Rattle.cc_effects.specs.Noncached.{NcReadLeft, IsPageWritten, TransferRefused};
 ghost use Rattle.cc_effects.specs.Repins.{UnpinLeft};
 ghost use Rattle.cc_worked.specs.Values.{setup, a};
 ghost use Rattle.cc_worked.specs.PiecesReads.{two_pages};
-ghost use Rattle.cc_worked.specs.PiecesNoncached.{some_bytes, page_is_written, transfer_fails, transfer_wants_memory, misaligned, repinned, written_through, hold_alone};
+ghost use Rattle.cc_worked.specs.PiecesWrites.{both_dirty};
+ghost use Rattle.cc_worked.specs.PiecesNoncached.{some_bytes, page_is_written, transfer_fails, transfer_wants_memory, misaligned, first_read, a_page, read_through, read_around, repinned, written_through, hold_alone};
 
 /// A page of a noncached write is stored and written; where the transfer fails the store stands and the end
 /// of the write tells it; where it finds no memory the write has no end.
@@ -26,6 +28,12 @@ pub fn noncached_call_is_of_whole_pages()
     ensures refused { NcReadLeft setup 1 a 1 4096 (Err (0, error.Unaligned)) two_pages (misaligned ++ two_pages) }
     ensures not_answered { NcReadLeft setup 1 a 1 4096 (Ok []) two_pages (misaligned ++ two_pages) → ⊥ }
     ensures not_so_called { NcReadLeft setup 1 a 1 4096 (Err (0, error.TooLong 65536)) two_pages (misaligned ++ two_pages) → ⊥ }
+{}
+
+/// A noncached read writes its page before it reads the disk, where the page is dirty.
+pub fn noncached_read_writes_its_page()
+    ensures done { CallLeft setup 1 first_read (outcome.Done a_page) both_dirty (read_through ++ both_dirty) }
+    ensures not_around { CallLeft setup 1 first_read (outcome.Done a_page) both_dirty (read_around ++ both_dirty) → ⊥ }
 {}
 
 /// The end of a repin with write through ends the hold whatever the flush of its range answers.

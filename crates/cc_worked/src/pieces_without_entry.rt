@@ -9,16 +9,18 @@ ghost use Rattle.cc_effects.specs.ReadAhead.{AheadLeft};
 ghost use Rattle.cc_effects.specs.Levels.{LevelsLeft};
 ghost use Rattle.cc_worked.specs.Values.{setup, a, page};
 ghost use Rattle.cc_worked.specs.PiecesReads.{two_pages};
-ghost use Rattle.cc_worked.specs.PiecesWithoutEntry.{flushed_to_three, appended, log_fails, deferred, posted, dirty, page_is_written, page_fails, page_of_tick, one_written, request, step};
+ghost use Rattle.cc_worked.specs.PiecesWithoutEntry.{flushed_to_three, appended, appended_nowhere, log_fails, deferred, posted, dirty, page_is_written, page_fails, page_is_written_twice, page_of_tick, one_written, request, step};
 
-/// An append leaves its entry and answers its LSN; a flush leaves one only where the log was not flushed so
-/// far; a log that fails leaves that; there are four logs.
+/// An append leaves its entry and answers its LSN; a flush leaves one, and can fail, only where the log was not
+/// flushed so far; a log that fails leaves that; there are four logs.
 pub fn log_calls_leave_one_entry()
     ensures appended { AppendLeft setup 1 0 (1 ∷ []) (Ok 4) flushed_to_three (appended ++ flushed_to_three) }
     ensures no_other_lsn { AppendLeft setup 1 0 (1 ∷ []) (Ok 3) flushed_to_three (appended ++ flushed_to_three) → ⊥ }
     ensures log_failed { AppendLeft setup 1 0 (1 ∷ []) (Err (error.LogFault 0)) flushed_to_three (log_fails ++ flushed_to_three) }
     ensures no_log { AppendLeft setup 1 4 (1 ∷ []) (Err (error.NoLog 4)) two_pages two_pages }
     ensures there_is_a_log { AppendLeft setup 1 3 (1 ∷ []) (Err (error.NoLog 3)) two_pages two_pages → ⊥ }
+    ensures no_such_log { AppendLeft setup 1 4 (1 ∷ []) (Ok 1) two_pages (appended_nowhere ++ two_pages) → ⊥ }
+    ensures flushed_so_far { LogFlushLeft {T = ℕ} setup 1 0 2 (Err (error.LogFault 0)) flushed_to_three (log_fails ++ flushed_to_three) → ⊥ }
     ensures flushed_before { LogFlushLeft {T = ℕ} setup 1 0 2 (Ok 0) flushed_to_three flushed_to_three }
 {}
 
@@ -30,13 +32,15 @@ pub fn deferrals_and_posts()
     ensures none { PostLeft setup 1 (Ok None) two_pages two_pages }
 {}
 
-/// A page is written, skipped or not written by what the pass placed; a tick counts the pages that it picked,
-/// and writes no other.
+/// A page is written once, skipped or not written by what the pass placed, and the journal is full only where
+/// something was still to be placed; a tick counts the pages that it picked, and writes no other.
 pub fn pages_are_counted()
     ensures written { PageWriteLeft 17 (page 0) (Ok Written) dirty (page_is_written ++ dirty) }
     ensures failed { PageWriteLeft 17 (page 0) (Ok NotWritten) dirty (page_fails ++ dirty) }
     ensures skipped { PageWriteLeft 17 (page 1) (Ok Skipped) dirty dirty }
     ensures not_written { PageWriteLeft 17 (page 0) (Ok Written) dirty (page_fails ++ dirty) → ⊥ }
+    ensures not_twice { PageWriteLeft 17 (page 0) (Ok Written) dirty (page_is_written_twice ++ dirty) → ⊥ }
+    ensures not_full { PageWriteLeft 17 (page 0) (Err (error.JournalFull 5)) dirty (page_is_written ++ dirty) → ⊥ }
     ensures ticked { TickLeft 17 (Ok one_written) dirty (page_of_tick ++ dirty) }
 {}
 

@@ -34,7 +34,7 @@ ended = record {
 pub returns-clause-done : goal.returns-clause-done
 unfolding computed repin
 returns-clause-done c =
-    (hold_alone ++ repinned, repin, ended, done_by 1 6 (Some 0) (call.Flush a (Some (record { from = 0; to = 16 }))) reply.Unit (synced 1 ∷ ends 1 0 ∷ begun 1 0 ∷ []) (hold_alone ++ repinned) (record { each = ((λ is. refl), ((λ is. refl), ((λ is. refl), tt))); one_sync = omega arith; whole = refl }) refl refl (record { after = []; before = ends 1 0 ∷ begun 1 0 ∷ []; split = refl; settled = refl }))
+    (hold_alone ++ repinned, repin, ended, done_by 1 6 (Some 0) (call.Flush a (Some (record { from = 0; to = 16 }))) reply.Unit (synced 1 ∷ ends 1 0 ∷ begun 1 0 ∷ []) (hold_alone ++ repinned) (record { each = ((λ is. refl), ((λ is. refl), ((λ is. refl), tt))); one_sync = omega arith; whole = refl }) refl refl (record { after = []; before = ends 1 0 ∷ begun 1 0 ∷ []; split = refl; quiet = tt; settled = refl }))
 
 pub returns-clause-no_memory : goal.returns-clause-no_memory
 unfolding computed repin

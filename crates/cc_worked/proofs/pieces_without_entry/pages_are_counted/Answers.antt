@@ -1,12 +1,12 @@
 -- The begin and the end of the page's transfer, and the scan before them.
-use Rattle.std.specs.Prelude.{◌≡◌, [], ◌∷◌, refl}
+use Rattle.std.specs.Prelude.{◌≡◌, ◌≤◌, ◌<◌, [], ◌∷◌, refl}
 use Rattle.std.proofs.Common.{arith, sym}
 use Rattle.std.proofs.lemmas.List.{append_cancel_right}
 use Rattle.cc_effects.specs.Asked.{Writes}
 use Rattle.cc_effects.specs.PageWrites.{Written}
 use Rattle.cc_effects.proofs.WorkSteps.{works-others}
 use Rattle.cc_worked.specs.Values.{page}
-use Rattle.cc_worked.specs.PiecesWithoutEntry.{dirty, page_is_written, page_fails}
+use Rattle.cc_worked.specs.PiecesWithoutEntry.{dirty, page_is_written, page_fails, page_is_written_twice}
 use Rattle.cc_worked.proofs.PiecesOpened.{computed, not_so}
 use Rattle.cc_worked.proofs.pieces_without_entry.pages_are_counted.Goals as goal
 
@@ -17,6 +17,7 @@ returns-clause-written c = record {
   grew = refl;
   works = record { each = ((λ is. refl), ((λ is. refl), tt)); one_sync = omega arith; whole = refl };
   memory = refl;
+  once = omega arith;
   became = refl;
 }
 
@@ -27,6 +28,7 @@ returns-clause-failed c = record {
   grew = refl;
   works = record { each = ((λ is. refl), ((λ is. refl), tt)); one_sync = omega arith; whole = refl };
   memory = refl;
+  once = omega arith;
   became = refl;
 }
 
@@ -37,6 +39,7 @@ returns-clause-skipped c = record {
   grew = refl;
   works = works-others 17 (Writes (page 1 ∷ [])) [] dirty tt;
   memory = refl;
+  once = omega arith;
   became = record { untouched = refl; moment = record { moment = dirty; later = []; since = []; ends = refl; begins = refl; holds = refl } };
 }
 
@@ -44,6 +47,18 @@ pub returns-clause-not_written : goal.returns-clause-not_written
 returns-clause-not_written c left =
     let during : page_fails ≡ left.during = append_cancel_right page_fails left.during dirty left.grew in
     not_so (rw (sym during) at left.became)
+
+pub returns-clause-not_twice : goal.returns-clause-not_twice
+returns-clause-not_twice c left =
+    let during : page_is_written_twice ≡ left.during = append_cancel_right page_is_written_twice left.during dirty left.grew in
+    let twice : 2 ≤ 1 = rw (sym during) at left.once in
+    omega (arith, twice)
+
+pub returns-clause-not_full : goal.returns-clause-not_full
+returns-clause-not_full c left =
+    let during : page_is_written ≡ left.during = append_cancel_right page_is_written left.during dirty left.grew in
+    let left_over : 1 < 1 = rw (sym during) at left.so.1 in
+    omega (arith, left_over)
 
 pub returns-clause-ticked : goal.returns-clause-ticked
 unfolding computed
@@ -56,6 +71,7 @@ returns-clause-ticked c = record {
     works = record { each = ((λ is. refl), ((λ is. refl), tt)); one_sync = omega arith; whole = refl };
   };
   memory = refl;
+  once = omega arith;
   ends = Written ∷ [];
   became = (refl, tt);
   written = refl;

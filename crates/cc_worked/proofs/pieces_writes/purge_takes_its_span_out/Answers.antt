@@ -7,7 +7,7 @@ use Rattle.cc_entry.specs.declared.reply.Outcome.TheVariants as outcome
 use Rattle.cc_effects.proofs.Starts.{done_by}
 use Rattle.cc_effects.proofs.Licences.{licensed}
 use Rattle.cc_worked.specs.Values.{setup, begins, ends, goes_out}
-use Rattle.cc_worked.specs.PiecesWrites.{both_dirty, all_pages, first_alone, other_goes_out}
+use Rattle.cc_worked.specs.PiecesWrites.{both_dirty, all_pages, greatest_goes_first, out_before_all_written, first_alone, other_goes_out}
 use Rattle.cc_worked.proofs.PiecesOpened.{computed, neither, not_so}
 use Rattle.cc_worked.proofs.pieces_writes.purge_takes_its_span_out.Goals as goal
 
@@ -15,6 +15,16 @@ pub returns-clause-done : goal.returns-clause-done
 unfolding computed
 returns-clause-done c =
     done_by 1 3 (Some 0) all_pages reply.Unit (goes_out 1 1 ∷ goes_out 1 0 ∷ ends 1 1 ∷ begins 1 1 ∷ ends 1 0 ∷ begins 1 0 ∷ []) both_dirty (record { each = ((λ is. refl), ((λ is. refl), ((λ is. refl), ((λ is. refl), ((λ is. refl), ((λ is. refl), tt)))))); one_sync = omega arith; whole = refl }) refl refl tt
+
+pub returns-clause-least_first : goal.returns-clause-least_first
+unfolding computed
+returns-clause-least_first c left =
+    neither (λ is. is) not_so ((licensed setup 1 all_pages (outcome.Done reply.Unit) greatest_goes_first both_dirty left refl).1.1.0 refl)
+
+pub returns-clause-written_before : goal.returns-clause-written_before
+unfolding computed
+returns-clause-written_before c left =
+    neither (λ is. is) not_so ((licensed setup 1 all_pages (outcome.Done reply.Unit) out_before_all_written both_dirty left refl).1.1.1.1.0 refl)
 
 pub returns-clause-no_other : goal.returns-clause-no_other
 unfolding computed
