@@ -54,6 +54,10 @@ read_that_syncs = answers 1 1 first_byte a_byte ∷ synced 1 ∷ read_in 1 0 ∷
 abbrev pub page_alone : List Entry
 page_alone = read_in 1 0 ∷ []
 
+-- the read of the page fails, and nothing follows
+abbrev pub fill_alone : List Entry
+fill_alone = entry.FillFailed 1 (page 0) ∷ []
+
 -- the disk fails to read the page
 abbrev pub fill_fails : List Entry
 fill_fails = refused 1 1 first_byte (error.ReadFault 0) ∷ entry.FillFailed 1 (page 0) ∷ []

@@ -7,7 +7,7 @@ ghost use Rattle.cc_effects.specs.Throttle.{DeferLeft, PostLeft};
 ghost use Rattle.cc_effects.specs.PageWrites.{PageWriteLeft, TickLeft, Written, Skipped, NotWritten};
 ghost use Rattle.cc_effects.specs.ReadAhead.{AheadLeft};
 ghost use Rattle.cc_effects.specs.Levels.{LevelsLeft};
-ghost use Rattle.cc_worked.specs.Values.{setup, a, page};
+ghost use Rattle.cc_worked.specs.Values.{setup, with_threshold, a, page};
 ghost use Rattle.cc_worked.specs.PiecesReads.{two_pages};
 ghost use Rattle.cc_worked.specs.PiecesWithoutEntry.{flushed_to_three, appended, appended_nowhere, log_fails, deferred, posted, dirty, page_is_written, page_fails, page_is_written_twice, page_of_tick, one_written, request, step};
 
@@ -30,6 +30,8 @@ pub fn deferrals_and_posts()
     ensures counted { DeferLeft 1 a 4096 false (Ok 1) two_pages (deferred ++ two_pages) → ⊥ }
     ensures posted { PostLeft setup 1 (Ok (Some 1)) (deferred ++ two_pages) (posted ++ (deferred ++ two_pages)) }
     ensures none { PostLeft setup 1 (Ok None) two_pages two_pages }
+    ensures held_back { PostLeft (with_threshold 1) 1 (Ok None) (deferred ++ two_pages) (deferred ++ two_pages) }
+    ensures not_held_back { PostLeft setup 1 (Ok None) (deferred ++ two_pages) (deferred ++ two_pages) → ⊥ }
 {}
 
 /// A page is written once, skipped or not written by what the pass placed, and the journal is full only where

@@ -1,10 +1,12 @@
 -- The pages are counted up; the post stands in the stretch.
-use Rattle.std.specs.Prelude.{◌≡◌, false, List, [], ◌∷◌, refl}
+use Rattle.std.specs.Prelude.{◌≡◌, true, false, List, [], ◌∷◌, ◌++◌, refl}
 use Rattle.cc_entry.specs.declared.entry.Entry.{Entry}
 use Rattle.cc_entry.specs.declared.entry.Entry.TheVariants as entry
+use Rattle.cc_model.specs.Throttle.{queue}
+use Rattle.cc_effects.specs.Throttle.{MayNotPost}
 use Rattle.cc_effects.proofs.Stretches.{idle-none}
-use Rattle.cc_effects.proofs.Licences.{only-own}
-use Rattle.cc_worked.specs.Values.{a}
+use Rattle.cc_effects.proofs.Licences.{only-own, some-here}
+use Rattle.cc_worked.specs.Values.{a, setup}
 use Rattle.cc_worked.specs.PiecesReads.{two_pages}
 use Rattle.cc_worked.specs.PiecesWithoutEntry.{deferred, posted}
 use Rattle.cc_worked.proofs.PiecesOpened.{computed}
@@ -30,3 +32,17 @@ returns-clause-posted c = record {
 pub returns-clause-none : goal.returns-clause-none
 unfolding computed
 returns-clause-none c = record { idle = idle-none 1 two_pages; nothing = record { moment = two_pages; later = []; since = []; ends = refl; begins = refl; holds = tt } }
+
+pub returns-clause-held_back : goal.returns-clause-held_back
+unfolding computed
+returns-clause-held_back c = record {
+  idle = idle-none 1 (deferred ++ two_pages);
+  nothing = record { moment = deferred ++ two_pages; later = []; since = []; ends = refl; begins = refl; holds = refl };
+}
+
+pub returns-clause-not_held_back : goal.returns-clause-not_held_back
+unfolding computed
+returns-clause-not_held_back c left = goes (some-here (λ moment. MayNotPost setup moment (queue moment)) (deferred ++ two_pages) left.nothing)
+  where
+    goes : true ≡ false → ⊥
+    goes same = absurd (cc)
