@@ -29,3 +29,4 @@ pub mod PiecesReads
 pub mod PiecesWrites
 pub mod PiecesNoncached
 pub mod PiecesWithoutEntry
+pub mod PiecesLines

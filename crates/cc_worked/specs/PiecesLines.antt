@@ -1,0 +1,34 @@
+-- What lines leave: on holds, of the shim, and of the two workers. Each stretch has its newest entry first, and
+-- stands on a past.
+use Rattle.std.specs.Prelude.{ℕ, List, [], ◌∷◌}
+use Rattle.std.specs.declared.option.Option.TheVariants.{None}
+use Rattle.cc_entry.specs.declared.hold.HoldKind.TheVariants as kind
+use Rattle.cc_entry.specs.declared.call.Call.TheVariants as call
+use Rattle.cc_entry.specs.declared.reply.Reply.TheVariants as reply
+use Rattle.cc_entry.specs.declared.answer.Answer.TheVariants as answer
+use Rattle.cc_entry.specs.declared.entry.Entry.{Entry}
+use Rattle.cc_entry.specs.declared.answer.LineReply.{LineReply}
+use Rattle.cc_pieces.specs.Bindings.{Binding}
+use Rattle.cc_worked.specs.Values.{a, opened, done, answers, read_in}
+use Rattle.cc_worked.specs.PiecesWithoutEntry.{one_written}
+
+-- the word of a hold, and the caller's one binding, of it to a map
+abbrev pub word : List ℕ
+word = 104 ∷ []
+
+abbrev pub one_map : List Binding
+one_map = record { name = word; id = 1; kind = kind.Map } ∷ []
+
+-- a page is mapped, and the map ends
+abbrev pub mapped : List Entry
+mapped = answers 1 1 (call.Map a 0 16) (reply.Hold 1) ∷ read_in 1 0 ∷ opened 8192 8192 ∷ []
+
+abbrev pub map_ends : List Entry
+map_ends = done 1 2 (call.EndHold 1) ∷ []
+
+-- a tick's answer in a phase, and a step that found no request
+abbrev pub tick_in : ℕ → LineReply
+tick_in phase = record { line = phase; answer = answer.Ticked one_written }
+
+abbrev pub no_request : LineReply
+no_request = record { line = 1; answer = answer.Stepped None }
