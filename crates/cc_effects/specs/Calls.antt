@@ -53,8 +53,8 @@ pub record IsPlaced (me : ℕ) (it : Call) (ended : Outcome) (earlier old new : 
   pub filed : IsFiled (holds_of (stream_history (earlier ++ old) stream)) me stream it (file_of it)
   pub works : Works me (Calls it) earlier old
 
--- A good sync of the pass, the last that it placed, at which each touch of a page of the span that was there at the moment `old` is
--- written or cut.
+-- A good sync of the pass, the last that it placed, at which each touch of a page of the span that was there at
+-- the moment `old` is written or cut.
 pub record IsSynced (me s : ℕ) (span : Option Range) (during old : List Entry) : Type 0 where
   pub after : List Entry
   pub before : List Entry
@@ -72,8 +72,8 @@ abbrev pub WasWritten : ℕ → Page → List Entry → List Entry → Type 0
 WasWritten me page during old =
     (has_end ended_ok me page during ≡ true) ⊎ AtSome (λ moment. has_no_write page moment ≡ true) old (during ++ old)
 
--- What a call that is done had to do before: a flush synced, and a noncached read had its page written. A noncached store and the end of that write are parts of one
--- call, and are done by no other.
+-- What a call that is done had to do before: a flush synced, and a noncached read had its page written. A noncached
+-- store and the end of that write are parts of one call, and are done by no other.
 abbrev pub HasDone : ℕ → Call → List Entry → List Entry → Type 0
 HasDone me (call.Flush file span) during old = IsSynced me file.stream span during old
 HasDone me (call.NcRead file number) during old = WasWritten me (record { stream = file.stream; page = number }) during old

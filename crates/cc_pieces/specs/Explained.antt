@@ -37,8 +37,8 @@ pub record Answered : Type 0 where
 
 -- A script and its answers are explained by a past: each line has one reply, in the script's order, the
 -- streams' first. The pass that sets the run up, 0, opened the streams before all else; then the phases ran,
--- each caller made the calls of its lines, and no other pass placed anything; a post is no pass's. No deferred write was posted in two
--- answers.
+-- each caller made the calls of its lines, and no other pass placed anything; a post is no pass's. No deferred
+-- write was posted in two answers.
 pub record IsExplained (u : Setup) (given : Given) (told : Answered) (past : List Entry) : Type 0 where
   pub setup : List LineReply
   pub answers : List LineReply
