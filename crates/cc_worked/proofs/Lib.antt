@@ -1,2 +1,4 @@
 pub mod Opened
 pub mod PiecesOpened
+pub mod Ticks
+pub mod Marks

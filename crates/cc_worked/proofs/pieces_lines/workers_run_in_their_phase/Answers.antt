@@ -2,36 +2,18 @@
 use Rattle.std.specs.Prelude.{◌≡◌, ℕ, List, [], ◌∷◌, ◌++◌, refl}
 use Rattle.std.proofs.Common.{arith}
 use Rattle.cc_entry.specs.declared.answer.LineReply.{LineReply}
-use Rattle.cc_effects.specs.PageWrites.{Written}
 use Rattle.cc_effects.proofs.Stretches.{idle-none}
 use Rattle.cc_worked.specs.PiecesReads.{two_pages}
-use Rattle.cc_worked.specs.PiecesWithoutEntry.{dirty, page_is_written, page_of_tick}
+use Rattle.cc_worked.specs.PiecesWithoutEntry.{dirty, page_of_tick}
 use Rattle.cc_worked.specs.PiecesLines.{no_request}
-use Rattle.cc_worked.proofs.PiecesOpened.{computed}
+use Rattle.cc_worked.proofs.Ticks.{ticked}
 use Rattle.cc_worked.proofs.pieces_lines.workers_run_in_their_phase.Goals as goal
 
 pub returns-clause-ticked : goal.returns-clause-ticked
-unfolding computed
 returns-clause-ticked c = (
   page_of_tick ++ dirty,
   refl,
-  record {
-    during = page_is_written;
-    scanned = record {
-      before = [];
-      grew = refl;
-      quiet = tt;
-      works = record { each = ((λ is. refl), ((λ is. refl), tt)); one_sync = omega arith; whole = refl };
-    };
-    memory = refl;
-    once = omega arith;
-    ends = Written ∷ [];
-    became = (refl, tt);
-    written = refl;
-    skipped = refl;
-    failed = refl;
-    by_logs = omega arith;
-  },
+  ticked,
   tt,
   idle-none 17 (page_of_tick ++ dirty),
 )

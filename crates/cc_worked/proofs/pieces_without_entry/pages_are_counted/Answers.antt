@@ -3,11 +3,11 @@ use Rattle.std.specs.Prelude.{◌≡◌, ◌≤◌, ◌<◌, [], ◌∷◌, refl
 use Rattle.std.proofs.Common.{arith, sym}
 use Rattle.std.proofs.lemmas.List.{append_cancel_right}
 use Rattle.cc_effects.specs.Asked.{Writes}
-use Rattle.cc_effects.specs.PageWrites.{Written}
 use Rattle.cc_effects.proofs.WorkSteps.{works-others}
 use Rattle.cc_worked.specs.Values.{page}
 use Rattle.cc_worked.specs.PiecesWithoutEntry.{dirty, page_is_written, page_fails, page_is_written_twice}
 use Rattle.cc_worked.proofs.PiecesOpened.{computed, not_so}
+use Rattle.cc_worked.proofs.Ticks.{ticked}
 use Rattle.cc_worked.proofs.pieces_without_entry.pages_are_counted.Goals as goal
 
 pub returns-clause-written : goal.returns-clause-written
@@ -61,21 +61,4 @@ returns-clause-not_full c left =
     omega (arith, left_over)
 
 pub returns-clause-ticked : goal.returns-clause-ticked
-unfolding computed
-returns-clause-ticked c = record {
-  during = page_is_written;
-  scanned = record {
-    before = [];
-    grew = refl;
-    quiet = tt;
-    works = record { each = ((λ is. refl), ((λ is. refl), tt)); one_sync = omega arith; whole = refl };
-  };
-  memory = refl;
-  once = omega arith;
-  ends = Written ∷ [];
-  became = (refl, tt);
-  written = refl;
-  skipped = refl;
-  failed = refl;
-  by_logs = omega arith;
-}
+returns-clause-ticked c = ticked
