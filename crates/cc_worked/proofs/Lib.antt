@@ -2,3 +2,5 @@ pub mod Opened
 pub mod PiecesOpened
 pub mod Ticks
 pub mod Marks
+pub mod ShimMarks
+pub mod StateAsked

@@ -1,11 +1,12 @@
 -- What a pass did by the entries that no call places on its way: the ends of its calls, its appends, its
 -- deferrals and its scans. They tell which calls a line made, and in which order.
-use Rattle.std.specs.Prelude.{◌≡◌, ℕ, ◌==◌, Bool, true, false, List, [], ◌∷◌, ◌++◌, Result, Ok, Err, refl, ◌⊎◌, if◌then◌else◌, map}
+use Rattle.std.specs.Prelude.{◌≡◌, ℕ, ◌==◌, Bool, true, false, List, [], ◌∷◌, ◌++◌, Ok, Err, refl, if◌then◌else◌, map}
 use Rattle.std.proofs.Common.{sym, ap, ◌∙◌, inl, inr, append_assoc, append-nil, eq-eqb}
 use Rattle.std.proofs.lemmas.List.{append_cancel_right}
 use Rattle.cc_entry.specs.Place.{Page}
 use Rattle.cc_entry.specs.declared.call.Call.{Call}
 use Rattle.cc_entry.specs.declared.error.CcError.{CcError}
+use Rattle.cc_entry.specs.declared.error.CcError.TheVariants as error
 use Rattle.cc_entry.specs.declared.reply.Reply.TheVariants as reply
 use Rattle.cc_entry.specs.declared.reply.Outcome.{Outcome}
 use Rattle.cc_entry.specs.declared.reply.Outcome.TheVariants as outcome
@@ -16,8 +17,7 @@ use Rattle.cc_model.specs.Passes.{is_mine}
 use Rattle.cc_effects.specs.Moments.{Others, IsIdle, PlacedOnly, EachOwn}
 use Rattle.cc_effects.specs.Asked.{Work, Calls}
 use Rattle.cc_effects.specs.Places.{MayPlace}
-use Rattle.cc_effects.specs.Calls.{IsPlaced, CallLeft, leaves_entry}
-use Rattle.cc_effects.specs.LogCalls.{AppendLeft}
+use Rattle.cc_effects.specs.Calls.{IsPlaced, IsUnplaced, CallLeft, leaves_entry}
 use Rattle.cc_effects.proofs.FrontLaws.{placed-of}
 use Rattle.cc_pieces.specs.Shim.{CallsLeft}
 
@@ -122,6 +122,21 @@ marked-call u me it answered old new left leaves =
     let p = placed-of u me it answered old new left leaves in
     marked-placed me it answered p.0 old new p.1
 
+marked-unplaced : (me : ℕ) (it : Call) (e : CcError) (old new : List Entry) → IsUnplaced me it e old new → Marked me [] old new
+marked-unplaced me it e old new left =
+    record { during = left.during; grew = left.grew; same = marks-works me (Calls it) left.during old left.works.each }
+
+-- the mark of a call, where it leaves an entry
+abbrev pub end_of : Call → Outcome → List Mark
+end_of it answered = if leaves_entry answered then Ended it answered ∷ [] else []
+
+-- a call leaves its end alone, or nothing where it leaves no entry
+pub marked-left : (u : Setup) (me : ℕ) (it : Call) (answered : Outcome) (old new : List Entry) → CallLeft u me it answered old new → Marked me (end_of it answered) old new
+marked-left u me it (outcome.Done r) old new left = marked-call u me it (outcome.Done r) old new left refl
+marked-left u me it (outcome.Failed (error.JournalFull entries)) old new left = marked-unplaced me it (error.JournalFull entries) old new left
+marked-left u me it (outcome.Failed error.NoMemory) old new left = marked-unplaced me it error.NoMemory old new left
+marked-left u me it (outcome.Failed e) old new left = marked-call u me it (outcome.Failed e) old new left refl
+
 -- calls that are all done leave the end of each, in their order
 abbrev pub done_marks : List Call → List Mark
 done_marks calls = map (λ it. Ended it (outcome.Done reply.Unit)) calls
@@ -132,6 +147,25 @@ marked-calls u me (it ∷ more) old new left =
     marked-then me (Ended it (outcome.Done reply.Unit) ∷ []) (done_marks more) old left.0 new
     (marked-call u me it (outcome.Done reply.Unit) old left.0 left.1 refl)
     (marked-calls u me more left.0 new left.2)
+
+-- Calls of which one is refused leave the ends of those before it, and its own where it has one.
+pub record Cut (calls : List Call) (e : CcError) (all : List Mark) : Type 0 where
+  pub before : List Call
+  pub it : Call
+  pub after : List Call
+  pub split : calls ≡ before ++ it ∷ after
+  pub same : all ≡ done_marks before ++ end_of it (outcome.Failed e)
+
+pub marked-cut : (u : Setup) (me : ℕ) (calls : List Call) (e : CcError) (old new : List Entry) → CallsLeft u me calls (Err e) old new → (all : List Mark) × Cut calls e all × Marked me all old new
+marked-cut u me [] e old new left = absurd left
+marked-cut u me (it ∷ more) e old new (inl left) =
+    (end_of it (outcome.Failed e), record { before = []; it = it; after = more; split = refl; same = refl }, marked-left u me it (outcome.Failed e) old new left)
+marked-cut u me (it ∷ more) e old new (inr left) =
+    let rest = marked-cut u me more e left.0 new left.2 in (
+      Ended it (outcome.Done reply.Unit) ∷ rest.0,
+      record { before = it ∷ rest.1.before; it = rest.1.it; after = rest.1.after; split = ap (λ l. it ∷ l) rest.1.split; same = ap (λ l. Ended it (outcome.Done reply.Unit) ∷ l) rest.1.same },
+      marked-then me (Ended it (outcome.Done reply.Unit) ∷ []) rest.0 old left.0 new (marked-call u me it (outcome.Done reply.Unit) old left.0 left.1 refl) rest.2,
+    )
 
 -- what a concrete stretch shows
 pub shows : (me : ℕ) (all : List Mark) (piece old : List Entry) → Marked me all old (piece ++ old) → marks me piece ≡ all

@@ -30,3 +30,4 @@ pub mod PiecesWrites
 pub mod PiecesNoncached
 pub mod PiecesWithoutEntry
 pub mod PiecesLines
+pub mod PiecesShim
