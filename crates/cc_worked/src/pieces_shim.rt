@@ -5,11 +5,13 @@ ghost use Rattle.cc_entry.specs.declared.error.CcError.TheVariants as error;
 ghost use Rattle.cc_entry.specs.declared.reply.Reply.TheVariants as reply;
 ghost use Rattle.cc_entry.specs.declared.answer.Answer.TheVariants as answer;
 ghost use Rattle.cc_entry.specs.declared.entry.Entry.{Entry};
-ghost use Rattle.cc_pieces.specs.Shim.{WriteAnswered};
+ghost use Rattle.cc_pieces.specs.Shim.{WriteAnswered, UpdateAnswered};
 ghost use Rattle.cc_worked.specs.Values.{setup, a};
-ghost use Rattle.cc_worked.specs.PiecesReads.{one_valid};
+ghost use Rattle.cc_worked.specs.PiecesReads.{one_valid, two_pages};
 ghost use Rattle.cc_worked.specs.PiecesShim.{grows, stops_short, leaves_gap, zeroes_last, asks_nothing};
 ghost use Rattle.cc_worked.specs.PiecesShim.{asked, extension_is_refused, goes_on, state_is_refused};
+ghost use Rattle.cc_worked.specs.PiecesShim.{logged, logged_state, its_record, turned_record, updates_with, updates_unlogged, stamps_first, stays_pinned};
+ghost use Rattle.cc_worked.specs.PiecesShim.{nothing_changes, unlogged_state, nothing_behind, log_fails, log_fails_pinned, changes_all_the_same, record_alone, pin_is_refused};
 
 /// A write asks the sizes, extends the stream, zeroes the gap behind the valid data length and writes, in this
 /// order, and is done by no fewer calls.
@@ -37,4 +39,30 @@ pub fn write_keeps_to_its_limits()
     ensures not_written { (bytes : List ℕ) → 1048576 < length bytes → (new : List Entry) → WriteAnswered setup 1 a 0 bytes (answer.Given reply.Unit) one_valid new → ⊥ }
     ensures gap_too_long { WriteAnswered setup 1 a 67112961 (171 ∷ []) (answer.Refused (error.GapTooLong 67108864)) one_valid (asked ++ one_valid) }
     ensures not_too_long { WriteAnswered setup 1 a 67112960 (171 ∷ []) (answer.Refused (error.GapTooLong 67108864)) one_valid (asked ++ one_valid) → ⊥ }
+{}
+
+/// An update pins its range, appends its record, changes the bytes and stamps them with the record's LSN, in
+/// this order, and lets the range go.
+pub fn update_has_its_record()
+    ensures done { UpdateAnswered setup 1 a 258 (171 ∷ []) (answer.NewLsn 1) (logged 8192) (updates_with its_record 1 ++ logged 8192) }
+    ensures no_other_answer { UpdateAnswered setup 1 a 258 (171 ∷ []) (answer.NewLsn 2) (logged 8192) (updates_with its_record 1 ++ logged 8192) → ⊥ }
+    ensures no_other_stamp { UpdateAnswered setup 1 a 258 (171 ∷ []) (answer.NewLsn 1) (logged 8192) (updates_with its_record 2 ++ logged 8192) → ⊥ }
+    ensures no_other_record { UpdateAnswered setup 1 a 258 (171 ∷ []) (answer.NewLsn 1) (logged 8192) (updates_with turned_record 1 ++ logged 8192) → ⊥ }
+    ensures logged { UpdateAnswered setup 1 a 258 (171 ∷ []) (answer.NewLsn 1) (logged 8192) (updates_unlogged ++ logged 8192) → ⊥ }
+    ensures record_first { UpdateAnswered setup 1 a 258 (171 ∷ []) (answer.NewLsn 1) (logged 8192) (stamps_first ++ logged 8192) → ⊥ }
+    ensures let_go { UpdateAnswered setup 1 a 258 (171 ∷ []) (answer.NewLsn 1) (logged 8192) (stays_pinned ++ logged 8192) → ⊥ }
+{}
+
+/// An update that is refused lets its range go; without a log, behind the valid data length, and where the log
+/// fails, nothing is changed; where memory is wanting after the record, that stands alone.
+pub fn refused_update_changes_nothing()
+    ensures no_log { UpdateAnswered setup 1 a 258 (171 ∷ []) (answer.Refused (error.NoLog 255)) two_pages (nothing_changes unlogged_state ++ two_pages) }
+    ensures behind_valid { UpdateAnswered setup 1 a 4097 (171 ∷ []) (answer.Refused (error.BeyondValid 4096)) (logged 4096) (nothing_behind ++ logged 4096) }
+    ensures log_failed { UpdateAnswered setup 1 a 258 (171 ∷ []) (answer.Refused (error.LogFault 0)) (logged 8192) (log_fails ++ logged 8192) }
+    ensures no_memory { UpdateAnswered setup 1 a 258 (171 ∷ []) (answer.Refused error.NoMemory) (logged 8192) (record_alone ++ logged 8192) }
+    ensures pin_refused { UpdateAnswered setup 1 a 258 (171 ∷ []) (answer.Refused (error.Busy 1)) (logged 8192) (pin_is_refused ++ logged 8192) }
+    ensures there_is_a_log { UpdateAnswered setup 1 a 258 (171 ∷ []) (answer.Refused (error.NoLog 255)) (logged 8192) (nothing_changes (logged_state 8192) ++ logged 8192) → ⊥ }
+    ensures not_behind_valid { UpdateAnswered setup 1 a 258 (171 ∷ []) (answer.Refused (error.BeyondValid 8192)) (logged 8192) (nothing_changes (logged_state 8192) ++ logged 8192) → ⊥ }
+    ensures let_go { UpdateAnswered setup 1 a 258 (171 ∷ []) (answer.Refused (error.LogFault 0)) (logged 8192) (log_fails_pinned ++ logged 8192) → ⊥ }
+    ensures not_changed { UpdateAnswered setup 1 a 258 (171 ∷ []) (answer.Refused (error.LogFault 0)) (logged 8192) (changes_all_the_same ++ logged 8192) → ⊥ }
 {}
