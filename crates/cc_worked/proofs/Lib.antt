@@ -4,4 +4,6 @@ pub mod Ticks
 pub mod Marks
 pub mod ShimMarks
 pub mod UpdateMarks
+pub mod PartMarks
+pub mod HeldParts
 pub mod StateAsked

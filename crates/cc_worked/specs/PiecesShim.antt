@@ -1,6 +1,6 @@
 -- What lines of the shim leave: writes, updates, and reads that hold what they read. Each stretch has its newest
 -- entry first, and stands on a past.
-use Rattle.std.specs.Prelude.{ℕ, List, [], ◌∷◌, true, false}
+use Rattle.std.specs.Prelude.{ℕ, ◌+◌, Bool, true, false, List, [], ◌∷◌, ◌++◌}
 use Rattle.std.specs.declared.option.Option.TheVariants.{Some, None}
 use Rattle.cc_entry.specs.declared.place.FileState.{FileState}
 use Rattle.cc_entry.specs.declared.call.Call.{Call}
@@ -157,3 +157,83 @@ record_alone = unpins 3 ∷ entry.Append 1 0 1 its_record ∷ pinned_and_asked (
 -- the pin is refused
 abbrev pub pin_is_refused : List Entry
 pin_is_refused = refused 1 1 pins (error.Busy 1) ∷ []
+
+-- a range is held by a call, read by a call on its hold, and let go: three calls from this number on
+abbrev pub holds : ℕ → ℕ → Call → Call → List ℕ → List Entry
+holds nth id make look bytes =
+    done 1 (nth + 2) (call.EndHold id)
+    ∷ answers 1 (nth + 1) look (reply.Read bytes)
+    ∷ answers 1 nth make (reply.Hold id)
+    ∷ []
+
+-- the same of mapped bytes, with their page
+abbrev pub maps : ℕ → ℕ → ℕ → ℕ → ℕ → List ℕ → List Entry
+maps nth id at len p bytes = holds nth id (call.Map a at len) (call.MappedRead id at len) bytes ++ read_in 1 p ∷ []
+
+-- what a stream of such a size without a log tells of itself, as the first call
+abbrev pub says : ℕ → List Entry
+says size = answers 1 1 (call.State a) (reply.State (record { sizes = sized size size; log = None })) ∷ []
+
+-- a read of two bytes from the last one on: that one is held
+abbrev pub reads_last : List Entry
+reads_last = maps 2 1 8191 1 1 (90 ∷ []) ++ says 8192
+
+-- wrong: two are held; the hold stays; it is not read
+abbrev pub reads_past : List Entry
+reads_past = maps 2 1 8191 2 1 (90 ∷ []) ++ says 8192
+
+abbrev pub stays_mapped : List Entry
+stays_mapped =
+    answers 1 3 (call.MappedRead 1 8191 1) (reply.Read (90 ∷ [])) ∷ answers 1 2 (call.Map a 8191 1) (reply.Hold 1) ∷ read_in 1 1 ∷ says 8192
+
+-- two view blocks
+abbrev pub two_blocks : List Entry
+two_blocks = opened 524288 524288 ∷ []
+
+-- a read of the last byte of the first and the first of the second: each is mapped
+abbrev pub reads_both : List Entry
+reads_both = maps 5 2 262144 1 64 (90 ∷ []) ++ (maps 2 1 262143 1 63 (90 ∷ []) ++ says 524288)
+
+-- wrong: one alone is; both are at once
+abbrev pub reads_first : List Entry
+reads_first = maps 2 1 262143 1 63 (90 ∷ []) ++ says 524288
+
+abbrev pub reads_at_once : List Entry
+reads_at_once = maps 2 1 262143 2 63 (90 ∷ 90 ∷ []) ++ says 524288
+
+-- the same two bytes pinned, shared or not, and by a chain
+abbrev pub pins_both : Bool → List Entry
+pins_both exclusive =
+    holds 5 2 (call.PinRead a 262144 1 exclusive) (call.PinnedRead 2 262144 1) (90 ∷ [])
+    ++ (read_in 1 64 ∷ (holds 2 1 (call.PinRead a 262143 1 exclusive) (call.PinnedRead 1 262143 1) (90 ∷ []) ++ read_in 1 63 ∷ says 524288))
+
+abbrev pub chains_both : List Entry
+chains_both = holds 2 1 (call.MdlRead a 262143 2) (call.MdlBytes 1 262143 2) (90 ∷ 90 ∷ []) ++ read_in 1 64 ∷ read_in 1 63 ∷ says 524288
+
+-- wrong: a chain for each block
+abbrev pub chains_twice : List Entry
+chains_twice =
+    holds 5 2 (call.MdlRead a 262144 1) (call.MdlBytes 2 262144 1) (90 ∷ [])
+    ++ (read_in 1 64 ∷ (holds 2 1 (call.MdlRead a 262143 1) (call.MdlBytes 1 262143 1) (90 ∷ []) ++ read_in 1 63 ∷ says 524288))
+
+-- wrong: a chain of no byte
+abbrev pub chains_none : List Entry
+chains_none = holds 2 1 (call.MdlRead a 8192 0) (call.MdlBytes 1 8192 0) [] ++ says 8192
+
+-- the first map is refused; wrong: the second byte is read all the same
+abbrev pub map_is_refused : List Entry
+map_is_refused = refused 1 2 (call.Map a 262143 1) (error.NoViews 0 16) ∷ says 524288
+
+abbrev pub reads_on : List Entry
+reads_on = maps 3 1 262144 1 64 (90 ∷ []) ++ map_is_refused
+
+-- memory is wanting for the bytes of a range that is held, and the hold ends; wrong: it stays
+abbrev pub held_unread : List Entry
+held_unread = answers 1 2 (call.Map a 8191 1) (reply.Hold 1) ∷ read_in 1 1 ∷ says 8192
+
+abbrev pub ends_unread : List Entry
+ends_unread = done 1 3 (call.EndHold 1) ∷ held_unread
+
+-- a page of a noncached read is refused
+abbrev pub page_is_refused : List Entry
+page_is_refused = refused 1 1 (call.NcRead a 0) error.NotCached ∷ []

@@ -1,17 +1,19 @@
 //! What lines of the shim leave between two moments: writes, updates, and reads that hold what they read.
 
-ghost use Rattle.std.specs.Prelude.{ℕ, ◌<◌, List, ◌++◌, [], ◌∷◌, length};
+ghost use Rattle.std.specs.Prelude.{ℕ, ◌<◌, true, false, List, ◌++◌, [], ◌∷◌, length};
 ghost use Rattle.cc_entry.specs.declared.error.CcError.TheVariants as error;
 ghost use Rattle.cc_entry.specs.declared.reply.Reply.TheVariants as reply;
 ghost use Rattle.cc_entry.specs.declared.answer.Answer.TheVariants as answer;
 ghost use Rattle.cc_entry.specs.declared.entry.Entry.{Entry};
-ghost use Rattle.cc_pieces.specs.Shim.{WriteAnswered, UpdateAnswered};
+ghost use Rattle.cc_pieces.specs.Shim.{Mapped, Pinned, Descriptor, Noncached, ReadAnswered, WriteAnswered, UpdateAnswered};
 ghost use Rattle.cc_worked.specs.Values.{setup, a};
 ghost use Rattle.cc_worked.specs.PiecesReads.{one_valid, two_pages};
 ghost use Rattle.cc_worked.specs.PiecesShim.{grows, stops_short, leaves_gap, zeroes_last, asks_nothing};
 ghost use Rattle.cc_worked.specs.PiecesShim.{asked, extension_is_refused, goes_on, state_is_refused};
 ghost use Rattle.cc_worked.specs.PiecesShim.{logged, logged_state, its_record, turned_record, updates_with, updates_unlogged, stamps_first, stays_pinned};
 ghost use Rattle.cc_worked.specs.PiecesShim.{nothing_changes, unlogged_state, nothing_behind, log_fails, log_fails_pinned, changes_all_the_same, record_alone, pin_is_refused};
+ghost use Rattle.cc_worked.specs.PiecesShim.{two_blocks, says, reads_last, reads_past, stays_mapped, reads_both, reads_first, reads_at_once, pins_both, chains_both, chains_twice, chains_none};
+ghost use Rattle.cc_worked.specs.PiecesShim.{map_is_refused, reads_on, held_unread, ends_unread, page_is_refused};
 
 /// A write asks the sizes, extends the stream, zeroes the gap behind the valid data length and writes, in this
 /// order, and is done by no fewer calls.
@@ -65,4 +67,33 @@ pub fn refused_update_changes_nothing()
     ensures not_behind_valid { UpdateAnswered setup 1 a 258 (171 ∷ []) (answer.Refused (error.BeyondValid 8192)) (logged 8192) (nothing_changes (logged_state 8192) ++ logged 8192) → ⊥ }
     ensures let_go { UpdateAnswered setup 1 a 258 (171 ∷ []) (answer.Refused (error.LogFault 0)) (logged 8192) (log_fails_pinned ++ logged 8192) → ⊥ }
     ensures not_changed { UpdateAnswered setup 1 a 258 (171 ∷ []) (answer.Refused (error.LogFault 0)) (logged 8192) (changes_all_the_same ++ logged 8192) → ⊥ }
+{}
+
+/// A read that holds what it reads cuts its range at the size, holds the part in each view block, reads it and
+/// lets it go; by a descriptor it holds all at once, and what has no byte not at all.
+pub fn held_read_goes_by_parts()
+    ensures cut { ReadAnswered setup 1 a Mapped 8191 2 (answer.Given (reply.Read (90 ∷ []))) two_pages (reads_last ++ two_pages) }
+    ensures both { ReadAnswered setup 1 a Mapped 262143 2 (answer.Given (reply.Read (90 ∷ 90 ∷ []))) two_blocks (reads_both ++ two_blocks) }
+    ensures pinned { ReadAnswered setup 1 a Pinned 262143 2 (answer.Given (reply.Read (90 ∷ 90 ∷ []))) two_blocks (pins_both false ++ two_blocks) }
+    ensures chained { ReadAnswered setup 1 a Descriptor 262143 2 (answer.Given (reply.Read (90 ∷ 90 ∷ []))) two_blocks (chains_both ++ two_blocks) }
+    ensures nothing { ReadAnswered setup 1 a Descriptor 8192 1 (answer.Given (reply.Read [])) two_pages (says 8192 ++ two_pages) }
+    ensures not_past_size { ReadAnswered setup 1 a Mapped 8191 2 (answer.Given (reply.Read (90 ∷ []))) two_pages (reads_past ++ two_pages) → ⊥ }
+    ensures let_go { ReadAnswered setup 1 a Mapped 8191 2 (answer.Given (reply.Read (90 ∷ []))) two_pages (stays_mapped ++ two_pages) → ⊥ }
+    ensures no_part_left_out { ReadAnswered setup 1 a Mapped 262143 2 (answer.Given (reply.Read (90 ∷ 90 ∷ []))) two_blocks (reads_first ++ two_blocks) → ⊥ }
+    ensures not_at_once { ReadAnswered setup 1 a Mapped 262143 2 (answer.Given (reply.Read (90 ∷ 90 ∷ []))) two_blocks (reads_at_once ++ two_blocks) → ⊥ }
+    ensures no_other_bytes { ReadAnswered setup 1 a Mapped 262143 2 (answer.Given (reply.Read (90 ∷ 91 ∷ []))) two_blocks (reads_both ++ two_blocks) → ⊥ }
+    ensures shared { ReadAnswered setup 1 a Pinned 262143 2 (answer.Given (reply.Read (90 ∷ 90 ∷ []))) two_blocks (pins_both true ++ two_blocks) → ⊥ }
+    ensures one_chain { ReadAnswered setup 1 a Descriptor 262143 2 (answer.Given (reply.Read (90 ∷ 90 ∷ []))) two_blocks (chains_twice ++ two_blocks) → ⊥ }
+    ensures no_empty_chain { ReadAnswered setup 1 a Descriptor 8192 1 (answer.Given (reply.Read [])) two_pages (chains_none ++ two_pages) → ⊥ }
+{}
+
+/// Such a read ends at its first refusal, and what it held is let go; the noncached path alone wants whole pages.
+pub fn held_read_ends_at_a_refusal()
+    ensures refused { ReadAnswered setup 1 a Mapped 262143 2 (answer.Refused (error.NoViews 0 16)) two_blocks (map_is_refused ++ two_blocks) }
+    ensures no_memory { ReadAnswered setup 1 a Mapped 8191 2 (answer.Refused error.NoMemory) two_pages (ends_unread ++ two_pages) }
+    ensures unaligned { ReadAnswered setup 1 a Noncached 1 4096 (answer.Refused error.Unaligned) two_pages two_pages }
+    ensures noncached { ReadAnswered setup 1 a Noncached 0 4096 (answer.Refused error.NotCached) [] page_is_refused }
+    ensures no_more { ReadAnswered setup 1 a Mapped 262143 2 (answer.Refused (error.NoViews 0 16)) two_blocks (reads_on ++ two_blocks) → ⊥ }
+    ensures let_go { ReadAnswered setup 1 a Mapped 8191 2 (answer.Refused error.NoMemory) two_pages (held_unread ++ two_pages) → ⊥ }
+    ensures any_place { ReadAnswered setup 1 a Mapped 1 4096 (answer.Refused error.Unaligned) two_pages two_pages → ⊥ }
 {}
