@@ -6,4 +6,6 @@ pub mod ShimMarks
 pub mod UpdateMarks
 pub mod PartMarks
 pub mod HeldParts
+pub mod RunMarks
+pub mod RunsRight
 pub mod StateAsked

@@ -31,3 +31,4 @@ pub mod PiecesNoncached
 pub mod PiecesWithoutEntry
 pub mod PiecesLines
 pub mod PiecesShim
+pub mod PiecesRuns

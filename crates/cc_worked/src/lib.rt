@@ -25,6 +25,7 @@ pub mod pages;
 pub mod pieces_lines;
 pub mod pieces_noncached;
 pub mod pieces_reads;
+pub mod pieces_runs;
 pub mod pieces_shim;
 pub mod pieces_without_entry;
 pub mod pieces_writes;

@@ -1,0 +1,171 @@
+-- What runs leave: the lines of the streams, the lines of a caller, phases, and what a run is asked after it. Each
+-- stretch has its newest entry first, and stands on a past.
+use Rattle.std.specs.Prelude.{ℕ, List, [], ◌∷◌, ◌++◌, true, false}
+use Rattle.std.specs.declared.option.Option.{Option}
+use Rattle.std.specs.declared.option.Option.TheVariants.{Some, None}
+use Rattle.cc_entry.specs.Place.{Page}
+use Rattle.cc_entry.specs.declared.place.FileState.{FileState}
+use Rattle.cc_entry.specs.declared.call.Call.{Call}
+use Rattle.cc_entry.specs.declared.call.Call.TheVariants as call
+use Rattle.cc_entry.specs.declared.reply.Reply.TheVariants as reply
+use Rattle.cc_entry.specs.declared.reply.Outcome.TheVariants as outcome
+use Rattle.cc_entry.specs.declared.error.CcError.TheVariants as error
+use Rattle.cc_entry.specs.declared.answer.Answer.{Answer}
+use Rattle.cc_entry.specs.declared.answer.Answer.TheVariants as answer
+use Rattle.cc_entry.specs.declared.answer.LineReply.{LineReply}
+use Rattle.cc_entry.specs.declared.entry.End.TheVariants as how
+use Rattle.cc_entry.specs.declared.entry.Entry.{Entry}
+use Rattle.cc_entry.specs.declared.entry.Entry.TheVariants as entry
+use Rattle.cc_script.specs.declared.script.Action.{Action}
+use Rattle.cc_script.specs.declared.script.Action.TheVariants as action
+use Rattle.cc_script.specs.declared.script.ActionLine.{ActionLine}
+use Rattle.cc_script.specs.declared.script.StreamLine.{StreamLine}
+use Rattle.cc_print.specs.declared.table.TableRow.{TableRow}
+use Rattle.cc_model.specs.Setup.{Setup}
+use Rattle.cc_pieces.specs.Phases.{Plan}
+use Rattle.cc_pieces.specs.Explained.{Given, Answered}
+use Rattle.cc_worked.specs.Values.{setup, a, b, page, sized, done, answers, refused, read_in, begins, ends, fails}
+use Rattle.cc_worked.specs.PiecesReads.{a_byte, page_comes_in}
+
+-- a stream of two pages with such a log, or none
+abbrev pub stream_with : Option ℕ → StreamLine
+stream_with log = record { line = 1; name = 97 ∷ []; size = 8192; valid = 8192; quota = 16; temporary = false; log = log }
+
+-- its first object is initialised as the call of the pass, and given its log
+abbrev pub initialises : Call
+initialises = call.Initialise a (sized 8192 8192) 16 false
+
+abbrev pub opens : List Entry
+opens = done 0 1 initialises ∷ []
+
+abbrev pub opens_with : ℕ → List Entry
+opens_with handle = done 0 2 (call.SetLog a handle) ∷ opens
+
+-- wrong: another caller opens it
+abbrev pub caller_opens : List Entry
+caller_opens = done 1 1 initialises ∷ []
+
+-- there are too few views; wrong: the log is set all the same
+abbrev pub opening_is_refused : List Entry
+opening_is_refused = refused 0 1 initialises (error.NoVacbs 3) ∷ []
+
+abbrev pub log_all_the_same : List Entry
+log_all_the_same = done 0 2 (call.SetLog a 0) ∷ opening_is_refused
+
+-- a second stream opens after the first; wrong: under the first one's number
+abbrev pub opens_both : List Entry
+opens_both = entry.Call 0 2 (Some 1) (call.Initialise b (sized 8192 8192) 16 false) (outcome.Done reply.Unit) ∷ opens
+
+abbrev pub opens_first_twice : List Entry
+opens_first_twice = done 0 2 initialises ∷ opens
+
+-- the reply of a line that had no more to say
+abbrev pub unit_at : ℕ → LineReply
+unit_at line = record { line = line; answer = answer.Given reply.Unit }
+
+-- a journal of so many entries at most
+abbrev pub of_capacity : ℕ → Setup
+of_capacity n = record setup { capacity = n }
+
+-- the answer that the journal is full
+abbrev pub full_at : ℕ → Answer
+full_at entries = answer.Refused (error.JournalFull entries)
+
+-- a caller reads the first byte, and then asks for the sizes
+abbrev pub two_full : FileState
+two_full = record { sizes = sized 8192 8192; log = None }
+
+abbrev pub reads : Action
+reads = action.CopyRead a 0 1 true
+
+abbrev pub asks : Action
+asks = action.State a
+
+abbrev pub reads_and_asks : List Entry
+reads_and_asks = answers 1 2 (call.State a) (reply.State two_full) ∷ page_comes_in
+
+-- wrong: it asks first; it asks once more
+abbrev pub asks_and_reads : List Entry
+asks_and_reads =
+    answers 1 2 (call.CopyRead a 0 1 true) a_byte ∷ read_in 1 0 ∷ answers 1 1 (call.State a) (reply.State two_full) ∷ []
+
+abbrev pub asks_twice : List Entry
+asks_twice = answers 1 3 (call.State a) (reply.State two_full) ∷ reads_and_asks
+
+-- the two lines with their answers
+abbrev pub two_lines : List (Action × Answer)
+two_lines = (reads, answer.Given a_byte) ∷ (asks, answer.Given (reply.State two_full)) ∷ []
+
+-- A script of three lines: a caller reads in the first phase and asks in the second, where another caller
+-- asks too.
+abbrev pub line_of : ℕ → ℕ → ℕ → Action → ActionLine
+line_of line phase caller it = record { line = line; phase = phase; caller = caller; action = it }
+
+abbrev pub of_one : List ActionLine
+of_one = line_of 2 1 1 reads ∷ line_of 3 2 1 asks ∷ []
+
+abbrev pub of_two : List ActionLine
+of_two = line_of 2 1 1 reads ∷ line_of 3 1 2 asks ∷ []
+
+abbrev pub of_one_answered : List LineReply
+of_one_answered =
+    record { line = 2; answer = answer.Given a_byte } ∷ record { line = 3; answer = answer.Given (reply.State two_full) } ∷ []
+
+-- a plan of those lines with so many ticks and steps
+abbrev pub plan_with : ℕ → ℕ → Plan
+plan_with ticks aheads = record { lines = of_one; answers = of_one_answered; ticks = ticks; aheads = aheads }
+
+-- wrong: a caller that has no line places something
+abbrev pub stranger_beside : List Entry
+stranger_beside = read_in 2 1 ∷ page_comes_in
+
+-- a run of those lines on one stream, and what it answered, the lines in such an order
+abbrev pub given : Given
+given = record { streams = stream_with None ∷ []; lines = of_one; phases = 2; ticks = 0; aheads = 0 }
+
+abbrev pub told_by : List LineReply → Answered
+told_by replies = record { replies = replies; ticked = []; stepped = [] }
+
+abbrev pub all_replies : List LineReply
+all_replies = unit_at 1 ∷ of_one_answered
+
+-- wrong: the line of the stream comes last, a line has no reply
+abbrev pub stream_last : List LineReply
+stream_last = of_one_answered ++ unit_at 1 ∷ []
+
+abbrev pub one_unanswered : List LineReply
+one_unanswered = unit_at 1 ∷ record { line = 2; answer = answer.Given a_byte } ∷ []
+
+-- a page is stamped with LSN 1 and with LSN 2, and another is written to
+abbrev pub two_dirty : List Entry
+two_dirty =
+    done 1 4 (call.CopyWrite a 4096 (171 ∷ []))
+    ∷ read_in 1 1
+    ∷ done 1 3 (call.SetDirty 1 (Some 2))
+    ∷ done 1 2 (call.SetDirty 1 (Some 1))
+    ∷ answers 1 1 (call.PinRead a 0 16 false) (reply.Hold 1)
+    ∷ read_in 1 0
+    ∷ done 0 2 (call.SetLog a 0)
+    ∷ opens
+
+-- the first of them is written
+abbrev pub one_dirty : List Entry
+one_dirty = ends 17 0 ∷ begins 17 0 ∷ entry.Flushed 17 0 2 ∷ two_dirty
+
+abbrev pub stamped_row : TableRow
+stamped_row = record { page = page 0; oldest = Some 1; newest = Some 2 }
+
+abbrev pub unstamped_row : TableRow
+unstamped_row = record { page = page 1; oldest = None; newest = None }
+
+-- a read, a write and a sync fail, another write finds no memory, and a read of another stream fails
+abbrev pub three_fail : List Entry
+three_fail =
+    entry.Sync 1 0 how.Failed
+    ∷ fails 1 0
+    ∷ begins 1 0
+    ∷ entry.FillFailed 1 (page 1)
+    ∷ entry.FillFailed 1 (record { stream = 1; page = 0 })
+    ∷ entry.WriteEnd 1 (page 0) how.NoMemory
+    ∷ begins 1 0
+    ∷ []

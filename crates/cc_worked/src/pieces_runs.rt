@@ -1,0 +1,97 @@
+//! What runs leave between two moments: the lines of the streams, those of a caller, and phases; and what a run is
+//! asked after it.
+
+ghost use Rattle.std.specs.Prelude.{◌≡◌, ◌++◌, [], ◌∷◌, Some, None};
+ghost use Rattle.cc_entry.specs.declared.error.CcError.TheVariants as error;
+ghost use Rattle.cc_entry.specs.declared.reply.Reply.TheVariants as reply;
+ghost use Rattle.cc_entry.specs.declared.answer.Answer.TheVariants as answer;
+ghost use Rattle.cc_pieces.specs.Openings.{Opens, Opened};
+ghost use Rattle.cc_pieces.specs.Rooms.{HadNoRoom, is_alone, room_limit};
+ghost use Rattle.cc_pieces.specs.Runs.{Explains, Ran};
+ghost use Rattle.cc_pieces.specs.Phases.{PhaseRan, PhasesRan};
+ghost use Rattle.cc_pieces.specs.Explained.{IsExplained};
+ghost use Rattle.cc_pieces.specs.Table.{table_of};
+ghost use Rattle.cc_pieces.specs.Failures.{failures};
+ghost use Rattle.cc_worked.specs.Values.{setup};
+ghost use Rattle.cc_worked.specs.PiecesReads.{two_pages, a_byte, page_comes_in, page_alone};
+ghost use Rattle.cc_worked.specs.PiecesRuns.{stream_with, opens, opens_with, caller_opens, opening_is_refused, log_all_the_same};
+ghost use Rattle.cc_worked.specs.PiecesRuns.{opens_both, opens_first_twice, unit_at, of_capacity, full_at};
+ghost use Rattle.cc_worked.specs.PiecesRuns.{reads, asks, two_full, reads_and_asks, asks_and_reads, asks_twice, two_lines};
+ghost use Rattle.cc_worked.specs.PiecesRuns.{of_one, of_two, of_one_answered, plan_with, stranger_beside};
+ghost use Rattle.cc_worked.specs.PiecesRuns.{given, told_by, all_replies, stream_last, one_unanswered};
+ghost use Rattle.cc_worked.specs.PiecesRuns.{two_dirty, one_dirty, stamped_row, unstamped_row, three_fail};
+
+/// The line of a stream is answered when its first object is initialised, by pass 0, and has its log; the streams
+/// open in their order.
+pub fn streams_are_opened()
+    ensures opened { Opens setup 0 (stream_with None) (answer.Given reply.Unit) [] opens }
+    ensures with_log { Opens setup 0 (stream_with (Some 3)) (answer.Given reply.Unit) [] (opens_with 3) }
+    ensures refused { Opens setup 0 (stream_with (Some 3)) (answer.Refused (error.NoVacbs 3)) [] opening_is_refused }
+    ensures both { Opened setup 0 (stream_with None ∷ stream_with None ∷ []) (unit_at 1 ∷ unit_at 2 ∷ []) [] opens_both }
+    ensures not_without_log { Opens setup 0 (stream_with (Some 3)) (answer.Given reply.Unit) [] opens → ⊥ }
+    ensures no_other_log { Opens setup 0 (stream_with (Some 3)) (answer.Given reply.Unit) [] (opens_with 2) → ⊥ }
+    ensures no_log_unasked { Opens setup 0 (stream_with None) (answer.Given reply.Unit) [] (opens_with 3) → ⊥ }
+    ensures by_no_caller { Opens setup 0 (stream_with None) (answer.Given reply.Unit) [] caller_opens → ⊥ }
+    ensures no_more { Opens setup 0 (stream_with (Some 0)) (answer.Refused (error.NoVacbs 3)) [] log_all_the_same → ⊥ }
+    ensures not_full { Opens setup 0 (stream_with None) (full_at 0) [] [] → ⊥ }
+    ensures by_their_number { Opened setup 0 (stream_with None ∷ stream_with None ∷ []) (unit_at 1 ∷ unit_at 2 ∷ []) [] opens_first_twice → ⊥ }
+    ensures each_answered { Opened setup 0 (stream_with None ∷ stream_with None ∷ []) (unit_at 1 ∷ []) [] opens_both → ⊥ }
+{}
+
+/// A line may be told that the journal is full only where at one of its moments it had that many entries and less
+/// room than the limit; what runs beside others has the higher limit.
+pub fn full_journal_had_no_room()
+    ensures full { HadNoRoom (of_capacity 4) 4 (full_at 1) two_pages two_pages }
+    ensures meanwhile { HadNoRoom (of_capacity 5) 4 (full_at 2) two_pages (page_alone ++ two_pages) }
+    ensures noncached { HadNoRoom (of_capacity 4) 4 (answer.NcRefused 0 (error.JournalFull 1)) two_pages two_pages }
+    ensures not_so_many { HadNoRoom (of_capacity 4) 4 (full_at 2) two_pages two_pages → ⊥ }
+    ensures had_room { HadNoRoom (of_capacity 5) 4 (full_at 1) two_pages two_pages → ⊥ }
+    ensures noncached_had_room { HadNoRoom (of_capacity 5) 4 (answer.NcRefused 0 (error.JournalFull 1)) two_pages two_pages → ⊥ }
+    ensures alone { room_limit 0 0 (is_alone 1 of_one) ≡ 4 }
+    ensures beside_caller { room_limit 0 0 (is_alone 1 of_two) ≡ 32 }
+    ensures beside_worker { room_limit 0 1 (is_alone 1 of_one) ≡ 32 }
+{}
+
+/// The lines of a caller leave pieces one after the other, each of its line, and the caller places nothing else.
+pub fn lines_run_in_their_order()
+    ensures explained { Explains setup 32 1 [] reads (answer.Given a_byte) two_pages (page_comes_in ++ two_pages) }
+    ensures ran { Ran setup 32 1 [] two_lines two_pages (reads_and_asks ++ two_pages) }
+    ensures nothing_asked { Ran setup 32 2 [] [] two_pages (reads_and_asks ++ two_pages) }
+    ensures by_its_caller { Explains setup 32 2 [] reads (answer.Given a_byte) two_pages (page_comes_in ++ two_pages) → ⊥ }
+    ensures not_full { Explains setup 32 1 [] reads (full_at 2) two_pages (page_alone ++ two_pages) → ⊥ }
+    ensures in_order { Ran setup 32 1 [] two_lines two_pages (asks_and_reads ++ two_pages) → ⊥ }
+    ensures each_line { Ran setup 32 1 [] two_lines two_pages (page_comes_in ++ two_pages) → ⊥ }
+    ensures no_more { Ran setup 32 1 [] two_lines two_pages (asks_twice ++ two_pages) → ⊥ }
+{}
+
+/// In a phase each caller runs its lines of it, no other pass places anything, and the workers answer as often as
+/// they are asked; the phases follow each other.
+pub fn phases_run_one_after_the_other()
+    ensures ran { PhaseRan setup (plan_with 0 0) 1 [] [] two_pages (page_comes_in ++ two_pages) }
+    ensures both { PhasesRan setup (plan_with 0 0) 1 2 [] [] two_pages (reads_and_asks ++ two_pages) }
+    ensures no_stranger { PhaseRan setup (plan_with 0 0) 1 [] [] two_pages (stranger_beside ++ two_pages) → ⊥ }
+    ensures no_later_line { PhaseRan setup (plan_with 0 0) 1 [] [] two_pages (reads_and_asks ++ two_pages) → ⊥ }
+    ensures no_tick_left_out { PhaseRan setup (plan_with 1 0) 1 [] [] two_pages (page_comes_in ++ two_pages) → ⊥ }
+    ensures no_step_left_out { PhaseRan setup (plan_with 0 1) 1 [] [] two_pages (page_comes_in ++ two_pages) → ⊥ }
+    ensures in_order { PhasesRan setup (plan_with 0 0) 1 2 [] [] two_pages (asks_and_reads ++ two_pages) → ⊥ }
+    ensures nothing_after { PhasesRan setup (plan_with 0 0) 1 0 [] [] two_pages (page_alone ++ two_pages) → ⊥ }
+{}
+
+/// A run is explained where its streams opened and then its phases ran, and each line has its reply, in order.
+pub fn run_is_explained()
+    ensures explained { IsExplained setup given (told_by all_replies) (reads_and_asks ++ opens) }
+    ensures streams_first { IsExplained setup given (told_by stream_last) (reads_and_asks ++ opens) → ⊥ }
+    ensures each_line { IsExplained setup given (told_by one_unanswered) (page_comes_in ++ opens) → ⊥ }
+    ensures nothing_before { IsExplained setup given (told_by all_replies) (reads_and_asks ++ caller_opens) → ⊥ }
+{}
+
+/// The table has a row for each page that is dirty at the end, with the LSNs of its touches that are not yet
+/// written; the failures are those of the stream's disk alone.
+pub fn table_and_failures_are_read_off()
+    ensures both { table_of two_dirty ≡ stamped_row ∷ unstamped_row ∷ [] }
+    ensures written { table_of one_dirty ≡ unstamped_row ∷ [] }
+    ensures none_left_out { table_of two_dirty ≡ unstamped_row ∷ [] → ⊥ }
+    ensures counted { failures 0 three_fail ≡ 3 }
+    ensures of_its_stream { failures 1 three_fail ≡ 1 }
+    ensures no_more { failures 0 three_fail ≡ 4 → ⊥ }
+{}
