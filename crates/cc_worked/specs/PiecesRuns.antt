@@ -26,6 +26,7 @@ use Rattle.cc_pieces.specs.Phases.{Plan}
 use Rattle.cc_pieces.specs.Explained.{Given, Answered}
 use Rattle.cc_worked.specs.Values.{setup, a, b, page, sized, done, answers, refused, read_in, begins, ends, fails}
 use Rattle.cc_worked.specs.PiecesReads.{a_byte, page_comes_in}
+use Rattle.cc_worked.specs.PiecesWithoutEntry.{request}
 
 -- a stream of two pages with such a log, or none
 abbrev pub stream_with : Option ℕ → StreamLine
@@ -118,6 +119,10 @@ plan_with ticks aheads = record { lines = of_one; answers = of_one_answered; tic
 -- wrong: a caller that has no line places something
 abbrev pub stranger_beside : List Entry
 stranger_beside = read_in 2 1 ∷ page_comes_in
+
+-- the read-ahead worker served a request
+abbrev pub one_step : LineReply
+one_step = record { line = 1; answer = answer.Stepped (Some (record { request = request; whole = true })) }
 
 -- a run of those lines on one stream, and what it answered, the lines in such an order
 abbrev pub given : Given

@@ -17,7 +17,8 @@ ghost use Rattle.cc_worked.specs.PiecesReads.{two_pages, a_byte, page_comes_in, 
 ghost use Rattle.cc_worked.specs.PiecesRuns.{stream_with, opens, opens_with, caller_opens, opening_is_refused, log_all_the_same};
 ghost use Rattle.cc_worked.specs.PiecesRuns.{opens_both, opens_first_twice, unit_at, of_capacity, full_at};
 ghost use Rattle.cc_worked.specs.PiecesRuns.{reads, asks, two_full, reads_and_asks, asks_and_reads, asks_twice, two_lines};
-ghost use Rattle.cc_worked.specs.PiecesRuns.{of_one, of_two, of_one_answered, plan_with, stranger_beside};
+ghost use Rattle.cc_worked.specs.PiecesRuns.{of_one, of_two, of_one_answered, plan_with, one_step, stranger_beside};
+ghost use Rattle.cc_worked.specs.PiecesLines.{no_request};
 ghost use Rattle.cc_worked.specs.PiecesRuns.{given, told_by, all_replies, stream_last, one_unanswered};
 ghost use Rattle.cc_worked.specs.PiecesRuns.{two_dirty, one_dirty, stamped_row, unstamped_row, three_fail};
 
@@ -69,10 +70,12 @@ pub fn lines_run_in_their_order()
 pub fn phases_run_one_after_the_other()
     ensures ran { PhaseRan setup (plan_with 0 0) 1 [] [] two_pages (page_comes_in ++ two_pages) }
     ensures both { PhasesRan setup (plan_with 0 0) 1 2 [] [] two_pages (reads_and_asks ++ two_pages) }
+    ensures no_request { PhaseRan setup (plan_with 0 2) 1 [] (no_request ∷ []) two_pages (page_comes_in ++ two_pages) }
     ensures no_stranger { PhaseRan setup (plan_with 0 0) 1 [] [] two_pages (stranger_beside ++ two_pages) → ⊥ }
     ensures no_later_line { PhaseRan setup (plan_with 0 0) 1 [] [] two_pages (reads_and_asks ++ two_pages) → ⊥ }
     ensures no_tick_left_out { PhaseRan setup (plan_with 1 0) 1 [] [] two_pages (page_comes_in ++ two_pages) → ⊥ }
     ensures no_step_left_out { PhaseRan setup (plan_with 0 1) 1 [] [] two_pages (page_comes_in ++ two_pages) → ⊥ }
+    ensures not_ended { PhaseRan setup (plan_with 0 2) 1 [] (one_step ∷ []) two_pages (page_comes_in ++ two_pages) → ⊥ }
     ensures in_order { PhasesRan setup (plan_with 0 0) 1 2 [] [] two_pages (asks_and_reads ++ two_pages) → ⊥ }
     ensures nothing_after { PhasesRan setup (plan_with 0 0) 1 0 [] [] two_pages (page_alone ++ two_pages) → ⊥ }
 {}

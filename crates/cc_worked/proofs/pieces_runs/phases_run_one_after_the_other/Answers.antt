@@ -1,13 +1,16 @@
 -- The calls of the caller, by their ends, and the idleness of the others.
 use Rattle.std.specs.Prelude.{◌≡◌, ℕ, true, false, List, [], ◌∷◌, ◌++◌, refl}
+use Rattle.std.specs.declared.option.Option.TheVariants.{None}
 use Rattle.std.proofs.Common.{arith, sym}
 use Rattle.std.proofs.lemmas.List.{append_cancel_right}
+use Rattle.cc_entry.specs.declared.answer.Answer.TheVariants as answer
 use Rattle.cc_effects.specs.Moments.{Others}
 use Rattle.cc_worked.specs.PiecesReads.{two_pages}
-use Rattle.cc_worked.specs.PiecesRuns.{reads_and_asks, asks_and_reads, stranger_beside}
+use Rattle.cc_worked.specs.PiecesRuns.{reads_and_asks, asks_and_reads, one_step, stranger_beside}
+use Rattle.cc_worked.proofs.PiecesOpened.{neither}
 use Rattle.cc_worked.proofs.Marks.{Mark, Ended, marks, shows}
 use Rattle.cc_worked.proofs.RunMarks.{read_mark, state_mark, phase-ran, phases-ran}
-use Rattle.cc_worked.proofs.RunsRight.{first-phase, two-phases}
+use Rattle.cc_worked.proofs.RunsRight.{first-phase, phase-with-steps, two-phases}
 use Rattle.cc_worked.proofs.pieces_runs.phases_run_one_after_the_other.Goals as goal
 
 pub returns-clause-ran : goal.returns-clause-ran
@@ -15,6 +18,18 @@ returns-clause-ran c = first-phase
 
 pub returns-clause-both : goal.returns-clause-both
 returns-clause-both c = two-phases
+
+pub returns-clause-no_request : goal.returns-clause-no_request
+returns-clause-no_request c = phase-with-steps
+
+pub returns-clause-not_ended : goal.returns-clause-not_ended
+returns-clause-not_ended c left = neither few (λ ended. other ended.1) left.all_steps
+  where
+    few : ◌≡◌ {A = ℕ} 1 2 → ⊥
+    few same = omega (arith, same)
+
+    other : one_step.answer ≡ answer.Stepped None → ⊥
+    other same = absurd (cc)
 
 not_writer : ◌≡◌ {A = ℕ} 2 17 → ⊥
 not_writer same = omega (arith, same)
