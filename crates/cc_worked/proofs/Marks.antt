@@ -64,7 +64,7 @@ unmarked me (entry.Defer pass id file pages retrying) is = not-mine me pass (Def
 unmarked me (entry.Scan pass picked) is = not-mine me pass (Scanned picked) is
 unmarked me other is = refl
 
-marks-others : (me : ℕ) (during : List Entry) → Others me during → marks me during ≡ []
+pub marks-others : (me : ℕ) (during : List Entry) → Others me during → marks me during ≡ []
 marks-others me [] others = refl
 marks-others me (e ∷ during) others = rw (marks-others me during others.1, unmarked me e others.0) refl
 
@@ -99,7 +99,7 @@ marked-then me first second old between new a b = record {
 }
 
 -- one entry of the pass, between what leaves no mark
-around : (me : ℕ) (e : Entry) (later earlier old new : List Entry) → new ≡ later ++ (e ∷ (earlier ++ old)) → marks me later ≡ [] → marks me earlier ≡ [] → Marked me (mark_of me e) old new
+pub around : (me : ℕ) (e : Entry) (later earlier old new : List Entry) → new ≡ later ++ (e ∷ (earlier ++ old)) → marks me later ≡ [] → marks me earlier ≡ [] → Marked me (mark_of me e) old new
 around me e later earlier old new grew after before = record {
   during = later ++ (e ∷ earlier);
   grew = grew ∙ sym (append_assoc later (e ∷ earlier) old);

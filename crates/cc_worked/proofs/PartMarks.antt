@@ -53,8 +53,7 @@ parts-read : (u : Setup) (me : ℕ) (path : HoldPath) (rs : List Range) (bytes :
 parts-read u me path [] bytes old new left = ([], (left.0, refl), marked-idle me old new left.1)
 parts-read u me path (r ∷ rs) bytes old new left =
     let one = part-read u me path r left.1 old left.0 left.4 in
-    let others = parts-read u me path rs left.2 left.0 new left.5 in
-    (
+    let others = parts-read u me path rs left.2 left.0 new left.5 in (
       part_marks path r one.0 (looked_at path r one.0 left.1) ++ others.0,
       (one.0, left.1, left.2, others.0, left.3, refl, others.1),
       marked-then me (part_marks path r one.0 (looked_at path r one.0 left.1)) others.0 old left.0 new one.1 others.2,
@@ -63,12 +62,11 @@ parts-read u me path (r ∷ rs) bytes old new left =
 unread : (u : Setup) (me : ℕ) (path : HoldPath) (r : Range) (e : CcError) (old new : List Entry) → PartRefused u me path r e old new → (all : List Mark) × UnreadMarks path r e all × Marked me all old new
 unread u me path r e old new (inl left) =
     (end_of (path.make r) (outcome.Failed e), inl refl, marked-left u me (path.make r) (outcome.Failed e) old new left)
-unread u me path r e old new (inr left) =
-    (
-      part_marks path r left.0 (end_of (path.look left.0 r) (outcome.Failed e)),
-      inr (left.0, refl),
-      held u me path r left.0 (end_of (path.look left.0 r) (outcome.Failed e)) old left.1 left.2 new (marked-call u me (path.make r) (outcome.Done (reply.Hold left.0)) old left.1 left.3 refl) (marked-left u me (path.look left.0 r) (outcome.Failed e) left.1 left.2 left.4) (marked-call u me (call.EndHold left.0) (outcome.Done reply.Unit) left.2 new left.5 refl),
-    )
+unread u me path r e old new (inr left) = (
+  part_marks path r left.0 (end_of (path.look left.0 r) (outcome.Failed e)),
+  inr (left.0, refl),
+  held u me path r left.0 (end_of (path.look left.0 r) (outcome.Failed e)) old left.1 left.2 new (marked-call u me (path.make r) (outcome.Done (reply.Hold left.0)) old left.1 left.3 refl) (marked-left u me (path.look left.0 r) (outcome.Failed e) left.1 left.2 left.4) (marked-call u me (call.EndHold left.0) (outcome.Done reply.Unit) left.2 new left.5 refl),
+)
 
 parts-cut : (u : Setup) (me : ℕ) (path : HoldPath) (rs : List Range) (e : CcError) (old new : List Entry) → PartsLeft u me path rs (Err e) old new → (all : List Mark) × CutPartsMarks path rs e all × Marked me all old new
 parts-cut u me path [] e old new left = absurd left
@@ -77,8 +75,7 @@ parts-cut u me path (r ∷ rs) e old new (inl left) =
     (one.0, inl one.1, one.2)
 parts-cut u me path (r ∷ rs) e old new (inr left) =
     let one = part-read u me path r left.1 old left.0 left.2 in
-    let others = parts-cut u me path rs e left.0 new left.3 in
-    (
+    let others = parts-cut u me path rs e left.0 new left.3 in (
       part_marks path r one.0 (looked_at path r one.0 left.1) ++ others.0,
       inr (one.0, left.1, others.0, refl, others.1),
       marked-then me (part_marks path r one.0 (looked_at path r one.0 left.1)) others.0 old left.0 new one.1 others.2,

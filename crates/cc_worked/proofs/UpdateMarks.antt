@@ -118,8 +118,7 @@ logged-refused u me file id at bytes e handle valid old new (inl left) =
     ([], inr (inl (refl, (u, me, old, new, refused))), refused-append u me handle e old new refused)
 logged-refused u me file id at bytes e handle valid old new (inr left) =
     let cut = marked-cut u me (two_calls id at bytes left.1) e left.0 new left.3 in
-    let record_there = append-marked u me handle (update_record file at bytes) left.1 old left.0 left.2 in
-    (
+    let record_there = append-marked u me handle (update_record file at bytes) left.1 old left.0 left.2 in (
       Logged handle left.1 (update_record file at bytes) ∷ cut.0,
       inr (inr (left.1, cut.0, refl, cut.1)),
       marked-then me (Logged handle left.1 (update_record file at bytes) ∷ []) cut.0 old left.0 new record_there cut.2,
@@ -135,8 +134,7 @@ pinned-refused u me file id at bytes e old new (inl left) =
     let failed : CallLeft u me (call.State file) (outcome.Failed e) old new = rw (sym (same_error left.1)) at left.2 in
     (end_of (call.State file) (outcome.Failed e), inl refl, marked-left u me (call.State file) (outcome.Failed e) old new failed)
 pinned-refused u me file id at bytes e old new (inr left) =
-    let its = told-refused u me file id at bytes e left.1.log left.1.sizes.valid left.0 new left.3 in
-    (
+    let its = told-refused u me file id at bytes e left.1.log left.1.sizes.valid left.0 new left.3 in (
       told_state file left.1 ∷ its.0,
       inr (left.1, its.0, refl, its.1),
       marked-then me (told_state file left.1 ∷ []) its.0 old left.0 new (marked-call u me (call.State file) (outcome.Done (reply.State left.1)) old left.0 left.2 refl) its.2,

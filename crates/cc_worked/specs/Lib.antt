@@ -32,3 +32,4 @@ pub mod PiecesWithoutEntry
 pub mod PiecesLines
 pub mod PiecesShim
 pub mod PiecesRuns
+pub mod PiecesAnswered

@@ -1,9 +1,12 @@
 -- What lines leave: on holds, of the shim, and of the two workers. Each stretch has its newest entry first, and
 -- stands on a past.
-use Rattle.std.specs.Prelude.{ℕ, List, [], ◌∷◌}
+use Rattle.std.specs.Prelude.{ℕ, List, [], ◌∷◌, false}
 use Rattle.std.specs.declared.option.Option.TheVariants.{None}
+use Rattle.cc_entry.specs.declared.hold.HoldKind.{HoldKind}
 use Rattle.cc_entry.specs.declared.hold.HoldKind.TheVariants as kind
+use Rattle.cc_entry.specs.declared.call.Call.{Call}
 use Rattle.cc_entry.specs.declared.call.Call.TheVariants as call
+use Rattle.cc_entry.specs.declared.reply.Reply.{Reply}
 use Rattle.cc_entry.specs.declared.reply.Reply.TheVariants as reply
 use Rattle.cc_entry.specs.declared.answer.Answer.TheVariants as answer
 use Rattle.cc_entry.specs.declared.entry.Entry.{Entry}
@@ -19,12 +22,38 @@ word = 104 ∷ []
 abbrev pub one_map : List Binding
 one_map = record { name = word; id = 1; kind = kind.Map } ∷ []
 
+-- the same of a hold of another kind, and another word
+abbrev pub one_of : HoldKind → List Binding
+one_of its_kind = record { name = word; id = 1; kind = its_kind } ∷ []
+
+abbrev pub other_word : List ℕ
+other_word = 105 ∷ []
+
 -- a page is mapped, and the map ends
 abbrev pub mapped : List Entry
 mapped = answers 1 1 (call.Map a 0 16) (reply.Hold 1) ∷ read_in 1 0 ∷ opened 8192 8192 ∷ []
 
 abbrev pub map_ends : List Entry
 map_ends = done 1 2 (call.EndHold 1) ∷ []
+
+-- the first bytes are held by such a call, as hold 1
+abbrev pub held_by : Call → List Entry
+held_by make = answers 1 1 make (reply.Hold 1) ∷ read_in 1 0 ∷ opened 8192 8192 ∷ []
+
+abbrev pub pinned_range : List Entry
+pinned_range = held_by (call.PinRead a 0 16 false)
+
+-- the caller's next call on it, with its reply
+abbrev pub next : Call → Reply → List Entry
+next it r = answers 1 2 it r ∷ []
+
+-- a repin of it stands alone
+abbrev pub repinned_range : List Entry
+repinned_range = done 1 3 (call.EndHold 1) ∷ answers 1 2 (call.Repin 1) (reply.Hold 2) ∷ pinned_range
+
+-- the word names the repin
+abbrev pub one_repin : List Binding
+one_repin = record { name = word; id = 2; kind = kind.Repin } ∷ []
 
 -- a tick's answer in a phase, and a step that found no request
 abbrev pub tick_in : ℕ → LineReply

@@ -22,6 +22,7 @@ pub mod logs;
 pub mod maps;
 pub mod noncached;
 pub mod pages;
+pub mod pieces_answered;
 pub mod pieces_lines;
 pub mod pieces_noncached;
 pub mod pieces_reads;

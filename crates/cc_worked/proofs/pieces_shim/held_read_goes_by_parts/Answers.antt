@@ -38,8 +38,7 @@ unfolding computed whole
 returns-clause-cut c =
     let asked = says 8192 ++ two_pages in
     let part : Range = record { from = 8191; to = 8192 } in
-    let it = call.Map a 8191 1 in
-    (
+    let it = call.Map a 8191 1 in (
       asked,
       whole 8192,
       state-told 1 (whole 8192) two_pages,
@@ -90,8 +89,7 @@ unfolding computed whole
 returns-clause-chained c =
     let asked = says 524288 ++ two_blocks in
     let part : Range = record { from = 262143; to = 262145 } in
-    let it = call.MdlRead a 262143 2 in
-    (
+    let it = call.MdlRead a 262143 2 in (
       asked,
       whole 524288,
       state-told 1 (whole 524288) two_blocks,

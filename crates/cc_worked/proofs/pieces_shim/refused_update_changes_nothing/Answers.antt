@@ -52,8 +52,7 @@ pub returns-clause-no_log : goal.returns-clause-no_log
 unfolding computed pinned_on asked
 returns-clause-no_log c =
     let told = asked unlogged_state two_pages in
-    inr
-    (
+    inr (
       1,
       pinned_on two_pages,
       told,
@@ -68,8 +67,7 @@ returns-clause-behind_valid c =
     let its = call.PinRead a 4097 1 true in
     let pinned = answers 1 1 its (reply.Hold 1) ∷ entry.PageIn 1 (page 1) false ∷ logged 4096 in
     let told = answers 1 2 (call.State a) (reply.State (logged_state 4096)) ∷ pinned in
-    inr
-    (
+    inr (
       1,
       pinned,
       told,
@@ -84,8 +82,7 @@ returns-clause-log_failed c =
     let told = asked (logged_state 8192) (logged 8192) in
     let below : 0 < 2 ^ 62 = omega arith in
     let append : AppendLeft setup 1 0 (update_record a 258 (171 ∷ [])) (Err (error.LogFault 0)) told (entry.LogFailed 1 0 ∷ told) = (refl, record { moment = told; later = entry.LogFailed 1 0 ∷ []; since = []; ends = refl; begins = refl; holds = below }, (omega arith, record { later = []; earlier = []; grew = refl; is_own = refl; quiet_after = tt; quiet_before = tt })) in
-    inr
-    (
+    inr (
       1,
       pinned_on (logged 8192),
       entry.LogFailed 1 0 ∷ told,
@@ -101,8 +98,7 @@ returns-clause-no_memory c =
     let recorded = entry.Append 1 0 1 its_record ∷ told in
     let change = call.PinnedWrite 1 258 (171 ∷ []) in
     let append : AppendLeft setup 1 0 (update_record a 258 (171 ∷ [])) (Ok 1) told recorded = (omega arith, record { later = []; earlier = []; grew = refl; is_own = refl; quiet_after = tt; quiet_before = tt }) in
-    inr
-    (
+    inr (
       1,
       pinned_on (logged 8192),
       recorded,

@@ -52,29 +52,25 @@ its_stamp =
 under_its_pin : PinnedUpdateLeft setup 1 a 1 258 (171 ∷ []) (Ok 1) pinned stamped
 unfolding computed pinned stamped
 under_its_pin =
-    inr
-    (
+    inr (
       pinned_and_asked (logged_state 8192) ++ logged 8192,
       logged_state 8192,
       state-told 2 (logged_state 8192) pinned,
-      inr
-          (
-            omega arith,
-            inr
-                (
-                  recorded,
-                  1,
-                  (omega arith, record { later = []; earlier = []; grew = refl; is_own = refl; quiet_after = tt; quiet_before = tt }),
-                  (refl, (changed, its_change, (stamped, its_stamp, idle-none 1 stamped))),
-                ),
-          ),
+      inr (
+        omega arith,
+        inr (
+          recorded,
+          1,
+          (omega arith, record { later = []; earlier = []; grew = refl; is_own = refl; quiet_after = tt; quiet_before = tt }),
+          (refl, (changed, its_change, (stamped, its_stamp, idle-none 1 stamped))),
+        ),
+      ),
     )
 
 pub returns-clause-done : goal.returns-clause-done
 unfolding computed stamped
 returns-clause-done c =
-    inr
-    (
+    inr (
       1,
       pinned,
       stamped,
