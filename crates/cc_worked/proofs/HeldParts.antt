@@ -1,5 +1,5 @@
 -- A range that is held, read and let go leaves its part, as a caller's calls one after the other.
-use Rattle.std.specs.Prelude.{◌≡◌, ℕ, ◌+◌, List, ◌∷◌, ◌++◌, refl}
+use Rattle.std.specs.Prelude.{ℕ, ◌+◌, List, ◌∷◌, ◌++◌}
 use Rattle.std.specs.declared.option.Option.TheVariants.{Some}
 use Rattle.cc_entry.specs.Place.{Range}
 use Rattle.cc_entry.specs.declared.call.Call.TheVariants as call
@@ -12,7 +12,7 @@ use Rattle.cc_model.specs.Filing.{IsFiled}
 use Rattle.cc_effects.specs.Calls.{IsUnderWay, HasDone}
 use Rattle.cc_effects.proofs.Starts.{begins, ends_done}
 use Rattle.cc_pieces.specs.Shim.{HoldPath, PartRead}
-use Rattle.cc_worked.specs.Values.{setup, done, answers}
+use Rattle.cc_worked.specs.Values.{setup, answers}
 use Rattle.cc_worked.specs.PiecesShim.{holds}
 
 -- the hold is made on what its call brought in, and then read

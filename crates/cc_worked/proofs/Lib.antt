@@ -1,6 +1,7 @@
 pub mod Opened
 pub mod PiecesOpened
 pub mod Ticks
+pub mod RepinEnds
 pub mod Marks
 pub mod ShimMarks
 pub mod UpdateMarks

@@ -1,6 +1,6 @@
 -- The calls that a read leaves which holds what it reads, as marks, part by part.
-use Rattle.std.specs.Prelude.{◌≡◌, ℕ, List, [], ◌∷◌, ◌++◌, Result, Ok, Err, refl, ◌⊎◌}
-use Rattle.std.proofs.Common.{inl, inr, sym}
+use Rattle.std.specs.Prelude.{◌≡◌, ℕ, List, [], ◌∷◌, ◌++◌, Ok, Err, refl, ◌⊎◌}
+use Rattle.std.proofs.Common.{inl, inr}
 use Rattle.cc_entry.specs.Place.{File, Range}
 use Rattle.cc_entry.specs.declared.place.FileState.{FileState}
 use Rattle.cc_entry.specs.declared.call.Call.TheVariants as call

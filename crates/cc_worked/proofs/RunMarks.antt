@@ -1,15 +1,12 @@
 -- The calls that the lines of the streams, of a caller and of phases leave, as marks.
-use Rattle.std.specs.Prelude.{◌≡◌, ℕ, List, [], ◌∷◌, ◌++◌, refl, ◌⊎◌}
+use Rattle.std.specs.Prelude.{◌≡◌, ℕ, List, [], ◌∷◌, refl, ◌⊎◌}
 use Rattle.std.specs.declared.option.Option.{Option}
 use Rattle.std.specs.declared.option.Option.TheVariants.{Some, None}
 use Rattle.std.proofs.Common.{inl, inr, sym, arith}
-use Rattle.cc_entry.specs.declared.call.Call.{Call}
 use Rattle.cc_entry.specs.declared.call.Call.TheVariants as call
 use Rattle.cc_entry.specs.declared.error.CcError.{CcError}
-use Rattle.cc_entry.specs.declared.reply.Reply.{Reply}
 use Rattle.cc_entry.specs.declared.reply.Reply.TheVariants as reply
 use Rattle.cc_entry.specs.declared.reply.Outcome.TheVariants as outcome
-use Rattle.cc_entry.specs.declared.answer.Answer.{Answer}
 use Rattle.cc_entry.specs.declared.answer.Answer.TheVariants as answer
 use Rattle.cc_entry.specs.declared.answer.LineReply.{LineReply}
 use Rattle.cc_entry.specs.declared.entry.Entry.{Entry}
@@ -23,7 +20,7 @@ use Rattle.cc_pieces.specs.Phases.{PhaseRan, PhasesRan}
 use Rattle.cc_worked.specs.Values.{setup, a}
 use Rattle.cc_worked.specs.PiecesReads.{first_byte, a_byte}
 use Rattle.cc_worked.specs.PiecesRuns.{reads, asks, two_full, two_lines, plan_with}
-use Rattle.cc_worked.proofs.Marks.{Mark, Ended, Marked, marks, end_of, marked-idle, marked-then, marked-call, marked-left}
+use Rattle.cc_worked.proofs.Marks.{Mark, Ended, Marked, end_of, marked-idle, marked-then, marked-call, marked-left}
 
 -- the object is initialised, and has its log
 abbrev pub opened_marks : ℕ → StreamLine → Option ℕ → List Mark

@@ -1,5 +1,5 @@
 -- The two phases of the run of two lines: the one caller runs its line in each, and all others are idle.
-use Rattle.std.specs.Prelude.{◌≡◌, ◌≢◌, ℕ, ◌==◌, Bool, true, false, List, [], ◌∷◌, ◌++◌, refl, ◌⊎◌}
+use Rattle.std.specs.Prelude.{◌≡◌, ℕ, ◌==◌, Bool, true, false, List, [], ◌∷◌, ◌++◌, refl}
 use Rattle.std.specs.declared.option.Option.TheVariants.{Some}
 use Rattle.std.proofs.Common.{inl, inr, sym, arith}
 use Rattle.std.proofs.lemmas.Bool.{eqb-true}
@@ -10,7 +10,7 @@ use Rattle.cc_entry.specs.declared.entry.Entry.{Entry}
 use Rattle.cc_effects.specs.Moments.{IsIdle}
 use Rattle.cc_effects.specs.Calls.{CallLeft}
 use Rattle.cc_pieces.specs.Runs.{Ran, bindings_of}
-use Rattle.cc_pieces.specs.Phases.{limit_in, lines_in, lines_before, PhaseRan, PhasesRan, lazy_writer, read_ahead_worker}
+use Rattle.cc_pieces.specs.Phases.{limit_in, lines_in, lines_before, PhaseRan, PhasesRan}
 use Rattle.cc_effects.proofs.Starts.{begins, brings, ends_done}
 use Rattle.cc_effects.proofs.Stretches.{idle-none}
 use Rattle.cc_worked.specs.Values.{setup, a, page, answers, read_in}

@@ -14,10 +14,9 @@ use Rattle.cc_entry.specs.declared.reply.Outcome.TheVariants as outcome
 use Rattle.cc_entry.specs.declared.entry.Entry.{Entry}
 use Rattle.cc_entry.specs.declared.entry.Entry.TheVariants as entry
 use Rattle.cc_model.specs.Setup.{Setup}
-use Rattle.cc_effects.specs.Moments.{PlacedOnly}
 use Rattle.cc_effects.specs.Calls.{CallLeft, leaves_entry}
 use Rattle.cc_effects.specs.LogCalls.{AppendLeft, AppendRefused}
-use Rattle.cc_pieces.specs.Shim.{RefusedSo, update_record, RecordedLeft, LoggedLeft, ToldUpdateLeft, PinnedUpdateLeft, UpdateLeft}
+use Rattle.cc_pieces.specs.Shim.{RefusedSo, update_record, LoggedLeft, ToldUpdateLeft, PinnedUpdateLeft, UpdateLeft}
 use Rattle.cc_worked.proofs.Marks.{Mark, Ended, Logged, Marked, marks, Cut, mark_of, end_of, done_marks, marked-idle, marked-only, marked-then, marked-call, marked-left, marked-calls, marked-cut, shows}
 use Rattle.cc_worked.proofs.ShimMarks.{done_not_refused, not-tested, told_state, same_state}
 

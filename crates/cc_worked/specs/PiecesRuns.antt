@@ -3,7 +3,7 @@
 use Rattle.std.specs.Prelude.{ℕ, List, [], ◌∷◌, ◌++◌, true, false}
 use Rattle.std.specs.declared.option.Option.{Option}
 use Rattle.std.specs.declared.option.Option.TheVariants.{Some, None}
-use Rattle.cc_entry.specs.Place.{Page}
+use Rattle.cc_entry.specs.Place.{Range}
 use Rattle.cc_entry.specs.declared.place.FileState.{FileState}
 use Rattle.cc_entry.specs.declared.call.Call.{Call}
 use Rattle.cc_entry.specs.declared.call.Call.TheVariants as call
@@ -71,6 +71,10 @@ of_capacity n = record setup { capacity = n }
 -- the answer that the journal is full
 abbrev pub full_at : ℕ → Answer
 full_at entries = answer.Refused (error.JournalFull entries)
+
+-- the first bytes of a stream
+abbrev pub first_bytes : Range
+first_bytes = record { from = 0; to = 16 }
 
 -- a caller reads the first byte, and then asks for the sizes
 abbrev pub two_full : FileState

@@ -64,6 +64,14 @@ asks_nothing =
     ∷ done 1 1 extends
     ∷ []
 
+-- two valid pages, in an allocation of four
+abbrev pub allocated : FileState
+allocated = record { sizes = record { allocation = 16384; size = 8192; valid = 8192 }; log = None }
+
+-- bytes from one place to another are zeroed
+abbrev pub zeroes_part : ℕ → ℕ → Call
+zeroes_part from to = call.Zero a (record { from = from; to = to })
+
 -- the second call is refused, and no call follows
 abbrev pub extension_is_refused : List Entry
 extension_is_refused = refused 1 2 extends (error.Held 1) ∷ asked

@@ -1,6 +1,6 @@
 //! What lines leave between two moments: lines on holds, reads of the shim, and the two workers of a phase.
 
-ghost use Rattle.std.specs.Prelude.{◌≡◌, false, List, ◌++◌, [], ◌∷◌, Some, None};
+ghost use Rattle.std.specs.Prelude.{◌≡◌, true, false, List, ◌++◌, [], ◌∷◌, Some, None};
 ghost use Rattle.cc_entry.specs.declared.hold.HoldKind.TheVariants as kind;
 ghost use Rattle.cc_entry.specs.declared.call.Call.TheVariants as call;
 ghost use Rattle.cc_entry.specs.declared.error.CcError.TheVariants as error;
@@ -12,8 +12,9 @@ ghost use Rattle.cc_pieces.specs.HoldLines.{PinMappedLine, HeldReadLine, PinnedW
 ghost use Rattle.cc_pieces.specs.HoldLines.{ChainReadLine, ChainStoreLine, ChainDoneLine, ChainAbortLine};
 ghost use Rattle.cc_pieces.specs.Shim.{Cached, Noncached, ReadAnswered};
 ghost use Rattle.cc_pieces.specs.Phases.{TicksRan, AheadsRan};
-ghost use Rattle.cc_worked.specs.Values.{setup, a, done};
-ghost use Rattle.cc_worked.specs.PiecesReads.{two_pages, a_byte, page_comes_in, page_alone};
+ghost use Rattle.cc_worked.specs.Values.{setup, a, done, answers};
+ghost use Rattle.cc_worked.specs.PiecesReads.{two_pages, first_resident, a_byte, page_comes_in, page_alone, fill_fails, no_waiting};
+ghost use Rattle.cc_worked.specs.PiecesNoncached.{repinned, written_through, hold_alone};
 ghost use Rattle.cc_worked.specs.PiecesWithoutEntry.{dirty, page_of_tick};
 ghost use Rattle.cc_worked.specs.PiecesLines.{word, other_word, one_map, one_of, one_repin, mapped, map_ends, held_by, pinned_range, repinned_range, next, tick_in, no_request};
 
@@ -46,6 +47,8 @@ pub fn lines_call_on_their_hold()
     ensures stamped { StampLine setup 1 (one_of kind.Pin) word (Some 1) (answer.Given reply.Unit) pinned_range (next (call.SetDirty 1 (Some 1)) reply.Unit ++ pinned_range) }
     ensures repinned { RepinLine setup 1 (one_of kind.Pin) word (answer.Given (reply.Hold 2)) pinned_range (next (call.Repin 1) (reply.Hold 2) ++ pinned_range) }
     ensures unrepinned { UnrepinLine setup 1 one_repin word false (answer.Given reply.Unit) repinned_range (done 1 4 (call.EndHold 2) ∷ repinned_range) }
+    ensures flushed { UnrepinLine setup 1 one_repin word true (answer.Given reply.Unit) repinned (written_through ++ repinned) }
+    ensures not_flushed { UnrepinLine setup 1 one_repin word true (answer.Refused error.NoMemory) repinned (hold_alone ++ repinned) }
     ensures chain_read { ChainReadLine setup 1 (one_of kind.ReadChain) word 0 1 (answer.Given a_byte) (held_by (call.MdlRead a 0 16)) (next (call.MdlBytes 1 0 1) a_byte ++ held_by (call.MdlRead a 0 16)) }
     ensures chain_stored { ChainStoreLine setup 1 (one_of kind.WriteChain) word 0 (171 ∷ []) (answer.Given reply.Unit) (held_by (call.MdlWrite a 0 16)) (next (call.MdlStore 1 0 (171 ∷ [])) reply.Unit ++ held_by (call.MdlWrite a 0 16)) }
     ensures chain_done { ChainDoneLine setup 1 (one_of kind.ReadChain) word (answer.Given reply.Unit) (held_by (call.MdlRead a 0 16)) (next (call.EndHold 1) reply.Unit ++ held_by (call.MdlRead a 0 16)) }
@@ -75,6 +78,10 @@ pub fn lines_want_their_kind_of_hold()
 pub fn shim_reads_by_its_path()
     ensures cached { ReadAnswered setup 1 a Cached 0 1 (answer.Given a_byte) two_pages (page_comes_in ++ two_pages) }
     ensures too_long { ReadAnswered setup 1 a Noncached 0 65537 (answer.Refused (error.TooLong 65536)) two_pages two_pages }
+    ensures fault { ReadAnswered setup 1 a Cached 0 1 (answer.Refused (error.ReadFault 0)) two_pages (fill_fails ++ two_pages) }
+    ensures copy_too_long { ReadAnswered setup 1 a Cached 0 1048577 (answer.Refused (error.TooLong 1048576)) two_pages two_pages }
+    ensures copied_longer { ReadAnswered setup 1 a Cached 0 65537 (answer.Refused (error.TooLong 65536)) two_pages two_pages → ⊥ }
+    ensures waits { ReadAnswered setup 1 a Cached 0 1 (answer.Given a_byte) first_resident (answers 1 1 no_waiting a_byte ∷ first_resident) → ⊥ }
     ensures not_served { ReadAnswered setup 1 a Noncached 0 65537 (answer.Given a_byte) two_pages (page_comes_in ++ two_pages) → ⊥ }
 {}
 

@@ -1,22 +1,25 @@
 //! What runs leave between two moments: the lines of the streams, those of a caller, and phases; and what a run is
 //! asked after it.
 
-ghost use Rattle.std.specs.Prelude.{◌≡◌, ◌++◌, [], ◌∷◌, Some, None};
+ghost use Rattle.std.specs.Prelude.{◌≡◌, ◌++◌, [], ◌∷◌, Some, None, false};
+ghost use Rattle.cc_entry.specs.declared.call.Call.TheVariants as call;
 ghost use Rattle.cc_entry.specs.declared.error.CcError.TheVariants as error;
 ghost use Rattle.cc_entry.specs.declared.reply.Reply.TheVariants as reply;
 ghost use Rattle.cc_entry.specs.declared.answer.Answer.TheVariants as answer;
+ghost use Rattle.cc_script.specs.declared.script.Action.TheVariants as action;
+ghost use Rattle.cc_pieces.specs.Served.{Served};
 ghost use Rattle.cc_pieces.specs.Openings.{Opens, Opened};
 ghost use Rattle.cc_pieces.specs.Rooms.{HadNoRoom, is_alone, room_limit};
 ghost use Rattle.cc_pieces.specs.Runs.{Explains, Ran};
-ghost use Rattle.cc_pieces.specs.Phases.{PhaseRan, PhasesRan};
+ghost use Rattle.cc_pieces.specs.Phases.{limit_in, PhaseRan, PhasesRan};
 ghost use Rattle.cc_pieces.specs.Explained.{IsExplained};
 ghost use Rattle.cc_pieces.specs.Table.{table_of};
 ghost use Rattle.cc_pieces.specs.Failures.{failures};
-ghost use Rattle.cc_worked.specs.Values.{setup};
-ghost use Rattle.cc_worked.specs.PiecesReads.{two_pages, a_byte, page_comes_in, page_alone};
+ghost use Rattle.cc_worked.specs.Values.{setup, a, second, done, answers, dirty_is, synced};
+ghost use Rattle.cc_worked.specs.PiecesReads.{two_pages, first_resident, a_byte, page_comes_in, page_alone};
 ghost use Rattle.cc_worked.specs.PiecesRuns.{stream_with, opens, opens_with, caller_opens, opening_is_refused, log_all_the_same};
 ghost use Rattle.cc_worked.specs.PiecesRuns.{opens_both, opens_first_twice, unit_at, of_capacity, full_at};
-ghost use Rattle.cc_worked.specs.PiecesRuns.{reads, asks, two_full, reads_and_asks, asks_and_reads, asks_twice, two_lines};
+ghost use Rattle.cc_worked.specs.PiecesRuns.{first_bytes, reads, asks, two_full, reads_and_asks, asks_and_reads, asks_twice, two_lines};
 ghost use Rattle.cc_worked.specs.PiecesRuns.{of_one, of_two, of_one_answered, plan_with, one_step, stranger_beside};
 ghost use Rattle.cc_worked.specs.PiecesLines.{no_request};
 ghost use Rattle.cc_worked.specs.PiecesRuns.{given, told_by, all_replies, stream_last, one_unanswered};
@@ -50,7 +53,23 @@ pub fn full_journal_had_no_room()
     ensures noncached_had_room { HadNoRoom (of_capacity 5) 4 (answer.NcRefused 0 (error.JournalFull 1)) two_pages two_pages → ⊥ }
     ensures alone { room_limit 0 0 (is_alone 1 of_one) ≡ 4 }
     ensures beside_caller { room_limit 0 0 (is_alone 1 of_two) ≡ 32 }
+    ensures in_phase_alone { limit_in (plan_with 0 0) 1 ≡ 4 }
+    ensures in_phase_beside { limit_in (plan_with 1 0) 1 ≡ 32 }
     ensures beside_worker { room_limit 0 1 (is_alone 1 of_one) ≡ 32 }
+{}
+
+/// A line of each verb leaves its call, with its arguments.
+pub fn each_verb_is_served()
+    ensures written { Served setup 1 [] (action.CopyWrite a 0 (171 ∷ [])) (answer.Given reply.Unit) first_resident (done 1 1 (call.CopyWrite a 0 (171 ∷ [])) ∷ first_resident) }
+    ensures zeroed { Served setup 1 [] (action.Zero a first_bytes) (answer.Given reply.Unit) first_resident (done 1 1 (call.Zero a first_bytes) ∷ first_resident) }
+    ensures sized { Served setup 1 [] (action.SetSizes a 8192 4096) (answer.Given reply.Unit) first_resident (done 1 1 (call.SetSizes a 8192 4096) ∷ first_resident) }
+    ensures asked { Served setup 1 [] asks (answer.Given (reply.State two_full)) first_resident (answers 1 1 (call.State a) (reply.State two_full) ∷ first_resident) }
+    ensures flushed { Served setup 1 [] (action.Flush a None) (answer.Given reply.Unit) first_resident (done 1 1 (call.Flush a None) ∷ synced 1 ∷ first_resident) }
+    ensures asked_dirty { Served setup 1 [] action.IsDirtyData (answer.Given (reply.Flag false)) first_resident (dirty_is 1 1 false ∷ first_resident) }
+    ensures not_zeroed { Served setup 1 [] (action.Zero a first_bytes) (answer.Given reply.Unit) first_resident (done 1 1 (call.CopyWrite a 0 (0 ∷ [])) ∷ first_resident) → ⊥ }
+    ensures no_other_sizes { Served setup 1 [] (action.SetSizes a 8192 4096) (answer.Given reply.Unit) first_resident (done 1 1 (call.SetSizes a 4096 8192) ∷ first_resident) → ⊥ }
+    ensures no_other_span { Served setup 1 [] (action.Flush a None) (answer.Given reply.Unit) first_resident (done 1 1 (call.Flush a (Some first_bytes)) ∷ synced 1 ∷ first_resident) → ⊥ }
+    ensures no_other_file { Served setup 1 [] asks (answer.Given (reply.State two_full)) first_resident (answers 1 1 (call.State second) (reply.State two_full) ∷ first_resident) → ⊥ }
 {}
 
 /// The lines of a caller leave pieces one after the other, each of its line, and the caller places nothing else.

@@ -1,14 +1,15 @@
 //! What lines of the shim leave between two moments: writes, updates, and reads that hold what they read.
 
-ghost use Rattle.std.specs.Prelude.{ℕ, ◌<◌, true, false, List, ◌++◌, [], ◌∷◌, length};
+ghost use Rattle.std.specs.Prelude.{◌≡◌, ℕ, ◌<◌, true, false, List, ◌++◌, [], ◌∷◌, length};
+ghost use Rattle.cc_entry.specs.declared.call.Call.TheVariants as call;
 ghost use Rattle.cc_entry.specs.declared.error.CcError.TheVariants as error;
 ghost use Rattle.cc_entry.specs.declared.reply.Reply.TheVariants as reply;
 ghost use Rattle.cc_entry.specs.declared.answer.Answer.TheVariants as answer;
 ghost use Rattle.cc_entry.specs.declared.entry.Entry.{Entry};
-ghost use Rattle.cc_pieces.specs.Shim.{Mapped, Pinned, Descriptor, Noncached, ReadAnswered, WriteAnswered, UpdateAnswered};
+ghost use Rattle.cc_pieces.specs.Shim.{Mapped, Pinned, Descriptor, Noncached, ReadAnswered, WriteAnswered, UpdateAnswered, write_calls, zeroings};
 ghost use Rattle.cc_worked.specs.Values.{setup, a};
 ghost use Rattle.cc_worked.specs.PiecesReads.{one_valid, two_pages};
-ghost use Rattle.cc_worked.specs.PiecesShim.{grows, stops_short, leaves_gap, zeroes_last, asks_nothing};
+ghost use Rattle.cc_worked.specs.PiecesShim.{one_page_valid, allocated, extends, zeroes_part, grows, stops_short, leaves_gap, zeroes_last, asks_nothing};
 ghost use Rattle.cc_worked.specs.PiecesShim.{asked, extension_is_refused, goes_on, state_is_refused};
 ghost use Rattle.cc_worked.specs.PiecesShim.{logged, logged_state, its_record, turned_record, updates_with, updates_unlogged, stamps_first, stays_pinned};
 ghost use Rattle.cc_worked.specs.PiecesShim.{nothing_changes, unlogged_state, nothing_behind, log_fails, log_fails_pinned, changes_all_the_same, record_alone, pin_is_refused};
@@ -23,6 +24,19 @@ pub fn write_makes_its_calls()
     ensures no_gap { WriteAnswered setup 1 a 8192 (171 ∷ []) (answer.Given reply.Unit) one_valid (leaves_gap ++ one_valid) → ⊥ }
     ensures in_order { WriteAnswered setup 1 a 8192 (171 ∷ []) (answer.Given reply.Unit) one_valid (zeroes_last ++ one_valid) → ⊥ }
     ensures asks_first { WriteAnswered setup 1 a 8192 (171 ∷ []) (answer.Given reply.Unit) one_valid (asks_nothing ++ one_valid) → ⊥ }
+{}
+
+/// A write within the size is one call; one that ends past it keeps a larger allocation, and a gap is zeroed in
+/// parts of 1048576 bytes.
+pub fn write_makes_no_needless_calls()
+    ensures within { write_calls a 0 (171 ∷ []) one_page_valid ≡ call.CopyWrite a 0 (171 ∷ []) ∷ [] }
+    ensures at_valid { write_calls a 4096 (171 ∷ []) one_page_valid ≡ call.CopyWrite a 4096 (171 ∷ []) ∷ [] }
+    ensures allocated { write_calls a 8192 (171 ∷ []) allocated ≡ call.SetSizes a 16384 8193 ∷ call.CopyWrite a 8192 (171 ∷ []) ∷ [] }
+    ensures no_gap { zeroings a 4096 0 ≡ [] }
+    ensures one_part { zeroings a 0 1048576 ≡ zeroes_part 0 1048576 ∷ [] }
+    ensures two_parts { zeroings a 4096 1052673 ≡ zeroes_part 4096 1052672 ∷ zeroes_part 1052672 1052673 ∷ [] }
+    ensures not_at_once { zeroings a 4096 1052673 ≡ zeroes_part 4096 1052673 ∷ [] → ⊥ }
+    ensures not_deallocated { write_calls a 8192 (171 ∷ []) allocated ≡ extends ∷ call.CopyWrite a 8192 (171 ∷ []) ∷ [] → ⊥ }
 {}
 
 /// A write ends at its first call that is refused, with that refusal.

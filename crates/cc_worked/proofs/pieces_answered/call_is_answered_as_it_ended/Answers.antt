@@ -1,5 +1,5 @@
 -- The end of the call has its outcome.
-use Rattle.std.specs.Prelude.{◌≡◌, true, List, [], ◌∷◌, ◌++◌, refl}
+use Rattle.std.specs.Prelude.{◌≡◌, true, [], ◌∷◌, ◌++◌, refl}
 use Rattle.std.specs.declared.option.Option.TheVariants.{Some}
 use Rattle.std.proofs.Common.{inl}
 use Rattle.cc_entry.specs.declared.error.CcError.TheVariants as error
@@ -9,7 +9,7 @@ use Rattle.cc_effects.proofs.Starts.{begins, brings, ends_done, ends_refused}
 use Rattle.cc_worked.specs.Values.{setup, page, read_in}
 use Rattle.cc_worked.specs.PiecesReads.{two_pages, first_byte, a_byte, page_comes_in, past_the_size, write_refused}
 use Rattle.cc_worked.proofs.PiecesOpened.{computed}
-use Rattle.cc_worked.proofs.Marks.{Mark, Ended, marks, marked-call, shows}
+use Rattle.cc_worked.proofs.Marks.{Ended, marks, marked-call, shows}
 use Rattle.cc_worked.proofs.pieces_answered.call_is_answered_as_it_ended.Goals as goal
 
 pub returns-clause-done : goal.returns-clause-done

@@ -1,7 +1,6 @@
 -- What the workers placed, by its marks.
-use Rattle.std.specs.Prelude.{◌≡◌, true, [], ◌∷◌, ◌++◌, List, refl}
+use Rattle.std.specs.Prelude.{◌≡◌, true, [], ◌∷◌, ◌++◌, refl}
 use Rattle.std.specs.declared.option.Option.TheVariants.{Some}
-use Rattle.cc_entry.specs.Place.{Page}
 use Rattle.cc_entry.specs.declared.call.Call.TheVariants as call
 use Rattle.cc_entry.specs.declared.reply.Reply.TheVariants as reply
 use Rattle.cc_entry.specs.declared.entry.Entry.TheVariants as entry
@@ -11,10 +10,9 @@ use Rattle.cc_effects.proofs.Stretches.{idle-none}
 use Rattle.cc_worked.specs.Values.{page, read_in}
 use Rattle.cc_worked.specs.PiecesReads.{two_pages}
 use Rattle.cc_worked.specs.PiecesWithoutEntry.{dirty, page_of_tick, request}
-use Rattle.cc_worked.specs.PiecesAnswered.{none_picked}
 use Rattle.cc_worked.proofs.PiecesOpened.{computed}
 use Rattle.cc_worked.proofs.Ticks.{ticked}
-use Rattle.cc_worked.proofs.Marks.{Mark, Scanned, marks, marks-works, marks-others, around, shows}
+use Rattle.cc_worked.proofs.Marks.{Scanned, marks, marks-works, marks-others, around, shows}
 use Rattle.cc_worked.proofs.pieces_answered.worker_lines_are_answered.Goals as goal
 
 pub returns-clause-ticked : goal.returns-clause-ticked

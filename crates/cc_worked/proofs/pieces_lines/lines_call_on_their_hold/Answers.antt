@@ -14,11 +14,12 @@ use Rattle.cc_model.specs.Legal.{stream_history}
 use Rattle.cc_model.specs.Filing.{IsFiled}
 use Rattle.cc_effects.specs.Calls.{HasDone, CallLeft}
 use Rattle.cc_effects.proofs.Starts.{begins, ends_done}
-use Rattle.cc_worked.specs.Values.{setup, a, done}
+use Rattle.cc_worked.specs.Values.{setup, a}
 use Rattle.cc_worked.specs.PiecesReads.{a_byte}
 use Rattle.cc_worked.specs.PiecesLines.{mapped, held_by, pinned_range, repinned_range, next}
 use Rattle.cc_worked.proofs.PiecesOpened.{computed}
-use Rattle.cc_worked.proofs.Marks.{Mark, Ended, marks, marked-call, shows}
+use Rattle.cc_worked.proofs.RepinEnds.{flushed-through, not-flushed}
+use Rattle.cc_worked.proofs.Marks.{Ended, marked-call, shows}
 use Rattle.cc_worked.proofs.pieces_lines.lines_call_on_their_hold.Goals as goal
 
 -- the caller's second call, which needs no page
@@ -69,6 +70,12 @@ pub returns-clause-unrepinned : goal.returns-clause-unrepinned
 unfolding computed
 returns-clause-unrepinned c =
     ends_done 1 4 (Some 0) (call.EndHold 2) reply.Unit repinned_range repinned_range (begins 1 (call.EndHold 2) repinned_range) refl (λ during. tt)
+
+pub returns-clause-flushed : goal.returns-clause-flushed
+returns-clause-flushed c = flushed-through
+
+pub returns-clause-not_flushed : goal.returns-clause-not_flushed
+returns-clause-not_flushed c = not-flushed
 
 -- a stretch of one call is left by no other
 one_call : (it other : Call) (r : Reply) (old : List Entry) → CallLeft setup 1 other (outcome.Done r) old (next it r ++ old) → Ended it (outcome.Done r) ∷ [] ≡ Ended other (outcome.Done r) ∷ []

@@ -1,42 +1,9 @@
--- The hold is that of the repin; its range is the flush's span.
-use Rattle.std.specs.Prelude.{false, [], ◌∷◌, ◌++◌, refl}
-use Rattle.std.specs.declared.option.Option.TheVariants.{Some}
-use Rattle.std.proofs.Common.{arith}
-use Rattle.cc_entry.specs.declared.hold.HoldKind.TheVariants as kind
-use Rattle.cc_entry.specs.declared.call.Call.TheVariants as call
-use Rattle.cc_entry.specs.declared.reply.Reply.TheVariants as reply
-use Rattle.cc_entry.specs.declared.error.CcError.TheVariants as error
-use Rattle.cc_model.specs.Holds.{Hold}
-use Rattle.cc_effects.specs.Asked.{Calls}
-use Rattle.cc_effects.specs.Repins.{IsHoldEnded}
-use Rattle.cc_effects.proofs.Starts.{begins, done_by, gives_up}
-use Rattle.cc_effects.proofs.WorkSteps.{works-others}
-use Rattle.cc_worked.specs.Values.{a, begins as begun, ends, synced}
-use Rattle.cc_worked.specs.PiecesNoncached.{repinned, hold_alone}
-use Rattle.cc_worked.proofs.PiecesOpened.{computed}
+-- The hold is spent, whatever the flush answers.
+use Rattle.cc_worked.proofs.RepinEnds.{flushed-through, not-flushed}
 use Rattle.cc_worked.proofs.pieces_noncached.repin_ends_whatever_comes.Goals as goal
 
-repin : Hold
-repin = record { id = 2; pass = 1; file = a; at = 0; len = 16; kind = kind.Repin; exclusive = false; owed = [] }
-
-ended : IsHoldEnded 1 2 repin repinned (hold_alone ++ repinned)
-unfolding computed repin
-ended = record {
-  done = record {
-    earlier = [];
-    placed = record { nth = 5; stream = Some 0; later = []; grew = refl; quiet = tt; filed = refl; works = works-others 1 (Calls (call.EndHold 2)) [] repinned tt };
-    unstopped = refl;
-    has_done = tt;
-  };
-  found = refl;
-}
-
 pub returns-clause-done : goal.returns-clause-done
-unfolding computed repin
-returns-clause-done c =
-    (hold_alone ++ repinned, repin, ended, done_by 1 6 (Some 0) (call.Flush a (Some (record { from = 0; to = 16 }))) reply.Unit (synced 1 ∷ ends 1 0 ∷ begun 1 0 ∷ []) (hold_alone ++ repinned) (record { each = ((λ is. refl), ((λ is. refl), ((λ is. refl), tt))); one_sync = omega arith; whole = refl }) refl refl (record { after = []; before = ends 1 0 ∷ begun 1 0 ∷ []; split = refl; quiet = tt; settled = refl }))
+returns-clause-done c = flushed-through
 
 pub returns-clause-no_memory : goal.returns-clause-no_memory
-unfolding computed repin
-returns-clause-no_memory c =
-    (hold_alone ++ repinned, repin, ended, gives_up 1 (call.Flush a (Some (record { from = 0; to = 16 }))) error.NoMemory (hold_alone ++ repinned) (hold_alone ++ repinned) (begins 1 (call.Flush a (Some (record { from = 0; to = 16 }))) (hold_alone ++ repinned)) refl refl)
+returns-clause-no_memory c = not-flushed

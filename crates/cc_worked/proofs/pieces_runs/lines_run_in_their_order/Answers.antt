@@ -1,17 +1,15 @@
 -- The calls of the caller, by their ends.
-use Rattle.std.specs.Prelude.{◌≡◌, ℕ, true, List, [], ◌∷◌, ◌++◌, refl}
+use Rattle.std.specs.Prelude.{◌≡◌, true, [], ◌∷◌, ◌++◌, refl}
 use Rattle.std.specs.declared.option.Option.TheVariants.{Some}
-use Rattle.cc_entry.specs.declared.answer.Answer.TheVariants as answer
 use Rattle.cc_entry.specs.declared.reply.Outcome.TheVariants as outcome
 use Rattle.cc_effects.specs.Calls.{CallLeft}
-use Rattle.cc_pieces.specs.Runs.{Explains}
 use Rattle.cc_effects.proofs.Starts.{begins, brings, ends_done}
 use Rattle.cc_effects.proofs.Stretches.{idle-none}
-use Rattle.cc_worked.specs.Values.{setup, a, page, read_in}
+use Rattle.cc_worked.specs.Values.{setup, page, read_in}
 use Rattle.cc_worked.specs.PiecesReads.{two_pages, first_byte, a_byte, page_comes_in}
-use Rattle.cc_worked.specs.PiecesRuns.{reads, two_full, reads_and_asks, asks_and_reads, asks_twice}
+use Rattle.cc_worked.specs.PiecesRuns.{two_full, reads_and_asks, asks_and_reads, asks_twice}
 use Rattle.cc_worked.proofs.PiecesOpened.{computed}
-use Rattle.cc_worked.proofs.Marks.{Mark, Ended, marks, marked-call, shows}
+use Rattle.cc_worked.proofs.Marks.{marks, marked-call, shows}
 use Rattle.cc_worked.proofs.RunMarks.{read_mark, state_mark, lines-ran}
 use Rattle.cc_worked.proofs.StateAsked.{state-told}
 use Rattle.cc_worked.proofs.pieces_runs.lines_run_in_their_order.Goals as goal

@@ -1,5 +1,5 @@
 -- The calls of the caller, by their ends, and the idleness of the others.
-use Rattle.std.specs.Prelude.{◌≡◌, ℕ, true, false, List, [], ◌∷◌, ◌++◌, refl}
+use Rattle.std.specs.Prelude.{◌≡◌, ℕ, [], ◌∷◌, ◌++◌}
 use Rattle.std.specs.declared.option.Option.TheVariants.{None}
 use Rattle.std.proofs.Common.{arith, sym}
 use Rattle.std.proofs.lemmas.List.{append_cancel_right}
@@ -8,7 +8,7 @@ use Rattle.cc_effects.specs.Moments.{Others}
 use Rattle.cc_worked.specs.PiecesReads.{two_pages}
 use Rattle.cc_worked.specs.PiecesRuns.{reads_and_asks, asks_and_reads, one_step, stranger_beside}
 use Rattle.cc_worked.proofs.PiecesOpened.{neither}
-use Rattle.cc_worked.proofs.Marks.{Mark, Ended, marks, shows}
+use Rattle.cc_worked.proofs.Marks.{marks, shows}
 use Rattle.cc_worked.proofs.RunMarks.{read_mark, state_mark, phase-ran, phases-ran}
 use Rattle.cc_worked.proofs.RunsRight.{first-phase, phase-with-steps, two-phases}
 use Rattle.cc_worked.proofs.pieces_runs.phases_run_one_after_the_other.Goals as goal

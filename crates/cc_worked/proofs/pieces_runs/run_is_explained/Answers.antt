@@ -1,23 +1,19 @@
 -- The opening, and the two phases behind it.
 use Rattle.std.specs.Prelude.{◌≡◌, ◌≢◌, ℕ, ◌==◌, Bool, true, false, List, [], ◌∷◌, ◌++◌, refl}
-use Rattle.std.specs.declared.option.Option.TheVariants.{Some, None}
+use Rattle.std.specs.declared.option.Option.TheVariants.{Some}
 use Rattle.std.specs.List.{IsDistinct}
 use Rattle.std.proofs.Common.{arith, sym}
 use Rattle.std.proofs.lemmas.Bool.{eqb-true}
-use Rattle.cc_entry.specs.declared.call.Call.TheVariants as call
 use Rattle.cc_entry.specs.declared.answer.LineReply.{LineReply}
 use Rattle.cc_entry.specs.declared.reply.Reply.TheVariants as reply
-use Rattle.cc_entry.specs.declared.reply.Outcome.TheVariants as outcome
-use Rattle.cc_entry.specs.declared.entry.Entry.{Entry}
-use Rattle.cc_model.specs.Passes.{is_mine}
 use Rattle.cc_effects.specs.Moments.{IsIdle}
 use Rattle.cc_pieces.specs.Phases.{PhasesRan}
-use Rattle.cc_pieces.specs.Explained.{IsExplained, answered_lines}
+use Rattle.cc_pieces.specs.Explained.{answered_lines}
 use Rattle.cc_effects.proofs.Starts.{begins, ends_done}
 use Rattle.cc_effects.proofs.Stretches.{idle-none}
 use Rattle.cc_worked.specs.Values.{setup}
-use Rattle.cc_worked.specs.PiecesRuns.{initialises, opens, caller_opens, unit_at, of_one, of_one_answered, plan_with, given, told_by, all_replies, reads_and_asks}
-use Rattle.cc_worked.proofs.Marks.{Mark, Ended, marks, marked-then, marked-idle, shows}
+use Rattle.cc_worked.specs.PiecesRuns.{initialises, opens, caller_opens, unit_at, of_one_answered, plan_with, all_replies, reads_and_asks}
+use Rattle.cc_worked.proofs.Marks.{marks, marked-then, marked-idle, shows}
 use Rattle.cc_worked.proofs.RunMarks.{read_mark, state_mark, phases-ran}
 use Rattle.cc_worked.proofs.RunsRight.{two-phases}
 use Rattle.cc_worked.proofs.pieces_runs.run_is_explained.Goals as goal

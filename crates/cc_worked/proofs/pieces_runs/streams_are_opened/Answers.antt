@@ -1,21 +1,18 @@
 -- The calls of pass 0, by their ends.
-use Rattle.std.specs.Prelude.{◌≡◌, ℕ, false, List, [], ◌∷◌, ◌++◌, refl, ◌⊎◌}
-use Rattle.std.specs.declared.option.Option.{Option}
+use Rattle.std.specs.Prelude.{◌≡◌, false, [], ◌∷◌, ◌++◌, refl}
 use Rattle.std.specs.declared.option.Option.TheVariants.{Some, None}
 use Rattle.std.proofs.Common.{inl, inr}
-use Rattle.cc_entry.specs.declared.call.Call.{Call}
 use Rattle.cc_entry.specs.declared.call.Call.TheVariants as call
 use Rattle.cc_entry.specs.declared.error.CcError.TheVariants as error
 use Rattle.cc_entry.specs.declared.reply.Reply.TheVariants as reply
 use Rattle.cc_entry.specs.declared.reply.Outcome.TheVariants as outcome
-use Rattle.cc_entry.specs.declared.entry.Entry.{Entry}
 use Rattle.cc_effects.specs.Calls.{CallLeft}
 use Rattle.cc_effects.proofs.Starts.{begins, ends_done, ends_refused}
 use Rattle.cc_effects.proofs.Stretches.{idle-none}
 use Rattle.cc_worked.specs.Values.{setup, a, b, sized}
-use Rattle.cc_worked.specs.PiecesRuns.{stream_with, initialises, opens, opens_with, caller_opens, opening_is_refused, log_all_the_same, opens_both, opens_first_twice}
-use Rattle.cc_worked.proofs.PiecesOpened.{computed, neither}
-use Rattle.cc_worked.proofs.Marks.{Mark, Ended, Marked, marks, shows, marked-then, marked-idle}
+use Rattle.cc_worked.specs.PiecesRuns.{stream_with, initialises, opens, opens_with, caller_opens, log_all_the_same, opens_both, opens_first_twice}
+use Rattle.cc_worked.proofs.PiecesOpened.{neither}
+use Rattle.cc_worked.proofs.Marks.{Ended, marks, shows, marked-then, marked-idle}
 use Rattle.cc_worked.proofs.RunMarks.{opened_marks, opening-marked, refused-opening}
 use Rattle.cc_worked.proofs.pieces_runs.streams_are_opened.Goals as goal
 

@@ -1,7 +1,6 @@
 -- By computation.
-use Rattle.std.specs.Prelude.{◌≡◌, ℕ, List, [], ◌∷◌, refl}
+use Rattle.std.specs.Prelude.{◌≡◌, ℕ, [], ◌∷◌, refl}
 use Rattle.std.proofs.Common.{arith}
-use Rattle.cc_print.specs.declared.table.TableRow.{TableRow}
 use Rattle.cc_pieces.specs.Table.{table_of}
 use Rattle.cc_pieces.specs.Failures.{failures}
 use Rattle.cc_worked.specs.PiecesRuns.{stamped_row, unstamped_row}

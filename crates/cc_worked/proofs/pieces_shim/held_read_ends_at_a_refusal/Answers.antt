@@ -2,25 +2,22 @@
 use Rattle.std.specs.Prelude.{◌≡◌, ℕ, Bool, true, false, List, [], ◌∷◌, ◌++◌, refl, ◌⊎◌, if◌then◌else◌}
 use Rattle.std.specs.declared.option.Option.TheVariants.{Some, None}
 use Rattle.std.proofs.Common.{inl, inr, arith}
-use Rattle.cc_entry.specs.Place.{Range}
 use Rattle.cc_entry.specs.declared.place.FileState.{FileState}
-use Rattle.cc_entry.specs.declared.call.Call.{Call}
 use Rattle.cc_entry.specs.declared.call.Call.TheVariants as call
 use Rattle.cc_entry.specs.declared.error.CcError.{CcError}
 use Rattle.cc_entry.specs.declared.error.CcError.TheVariants as error
 use Rattle.cc_entry.specs.declared.reply.Reply.TheVariants as reply
 use Rattle.cc_entry.specs.declared.reply.Outcome.TheVariants as outcome
-use Rattle.cc_entry.specs.declared.entry.Entry.{Entry}
 use Rattle.cc_model.specs.Ranges.{cut_range}
 use Rattle.cc_effects.specs.Calls.{leaves_entry}
 use Rattle.cc_pieces.specs.Shim.{mapped_path, parts_of}
 use Rattle.cc_effects.proofs.Starts.{begins, brings, ends_done, ends_refused, gives_up}
 use Rattle.cc_effects.proofs.Stretches.{idle-none}
-use Rattle.cc_worked.specs.Values.{setup, a, page, sized, done, answers, read_in}
+use Rattle.cc_worked.specs.Values.{setup, a, page, sized, read_in}
 use Rattle.cc_worked.specs.PiecesReads.{two_pages}
-use Rattle.cc_worked.specs.PiecesShim.{two_blocks, says, map_is_refused, reads_on, held_unread, ends_unread}
+use Rattle.cc_worked.specs.PiecesShim.{two_blocks, says, reads_on, held_unread}
 use Rattle.cc_worked.proofs.PiecesOpened.{computed}
-use Rattle.cc_worked.proofs.Marks.{Mark, Ended, marks}
+use Rattle.cc_worked.proofs.Marks.{Mark, Ended}
 use Rattle.cc_worked.proofs.ShimMarks.{told_state, same_state}
 use Rattle.cc_worked.proofs.PartMarks.{CutPartsMarks, refused-parts-shown}
 use Rattle.cc_worked.proofs.StateAsked.{state-told}

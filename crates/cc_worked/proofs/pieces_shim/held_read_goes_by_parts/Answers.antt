@@ -1,6 +1,6 @@
 -- Each part by its three calls; a wrong read by the calls that it shows.
-use Rattle.std.specs.Prelude.{◌≡◌, ℕ, Bool, true, false, List, [], ◌∷◌, ◌++◌, Ok, refl}
-use Rattle.std.specs.declared.option.Option.TheVariants.{Some, None}
+use Rattle.std.specs.Prelude.{◌≡◌, ℕ, true, false, List, [], ◌∷◌, ◌++◌, Ok, refl}
+use Rattle.std.specs.declared.option.Option.TheVariants.{None}
 use Rattle.std.proofs.Common.{arith, sym, ◌∙◌}
 use Rattle.cc_entry.specs.Place.{Range}
 use Rattle.cc_entry.specs.declared.place.FileState.{FileState}
@@ -10,13 +10,13 @@ use Rattle.cc_entry.specs.declared.reply.Reply.TheVariants as reply
 use Rattle.cc_entry.specs.declared.reply.Outcome.TheVariants as outcome
 use Rattle.cc_entry.specs.declared.entry.Entry.{Entry}
 use Rattle.cc_pieces.specs.Shim.{HoldPath, PartRead, HeldPartsLeft, mapped_path, pinned_path, descriptor_path, parts_of, whole_part}
-use Rattle.cc_effects.proofs.Starts.{begins, brings, ends_done}
+use Rattle.cc_effects.proofs.Starts.{begins, brings}
 use Rattle.cc_effects.proofs.Stretches.{idle-none}
-use Rattle.cc_worked.specs.Values.{setup, a, page, sized, done, answers, read_in}
+use Rattle.cc_worked.specs.Values.{setup, a, page, sized, read_in}
 use Rattle.cc_worked.specs.PiecesReads.{two_pages}
-use Rattle.cc_worked.specs.PiecesShim.{two_blocks, says, maps, holds, reads_last, reads_past, stays_mapped, reads_both, reads_first, reads_at_once, pins_both, chains_both, chains_twice, chains_none}
+use Rattle.cc_worked.specs.PiecesShim.{two_blocks, says, holds, reads_last, reads_past, stays_mapped, reads_both, reads_first, reads_at_once, pins_both, chains_both, chains_twice, chains_none}
 use Rattle.cc_worked.proofs.PiecesOpened.{computed}
-use Rattle.cc_worked.proofs.Marks.{Mark, Ended, marks}
+use Rattle.cc_worked.proofs.Marks.{Mark, Ended}
 use Rattle.cc_worked.proofs.PartMarks.{part_marks, looked_at, parts-shown}
 use Rattle.cc_worked.proofs.HeldParts.{part-left}
 use Rattle.cc_worked.proofs.StateAsked.{state-told}

@@ -1,9 +1,8 @@
 -- The pin and its end, with the question between; a wrong one by the calls that it shows.
-use Rattle.std.specs.Prelude.{◌≡◌, ℕ, ◌<◌, ◌^◌, false, true, List, [], ◌∷◌, ◌++◌, Result, Ok, Err, refl, ◌⊎◌}
-use Rattle.std.specs.declared.option.Option.TheVariants.{Some, None}
+use Rattle.std.specs.Prelude.{◌≡◌, ℕ, ◌<◌, ◌^◌, false, true, List, [], ◌∷◌, Ok, Err, refl}
+use Rattle.std.specs.declared.option.Option.TheVariants.{Some}
 use Rattle.std.proofs.Common.{arith, inl, inr}
 use Rattle.cc_entry.specs.declared.place.FileState.{FileState}
-use Rattle.cc_entry.specs.declared.call.Call.{Call}
 use Rattle.cc_entry.specs.declared.call.Call.TheVariants as call
 use Rattle.cc_entry.specs.declared.error.CcError.{CcError}
 use Rattle.cc_entry.specs.declared.error.CcError.TheVariants as error
@@ -23,9 +22,9 @@ use Rattle.cc_effects.proofs.Starts.{begins, brings, ends_done, ends_refused, gi
 use Rattle.cc_effects.proofs.Stretches.{idle-none}
 use Rattle.cc_worked.specs.Values.{setup, a, page, done, answers, read_in}
 use Rattle.cc_worked.specs.PiecesReads.{two_pages}
-use Rattle.cc_worked.specs.PiecesShim.{logged, logged_state, unlogged_state, pins, pinned_and_asked, its_record, log_fails_pinned, changes_all_the_same, nothing_changes, pin_is_refused}
+use Rattle.cc_worked.specs.PiecesShim.{logged, logged_state, unlogged_state, pins, its_record, log_fails_pinned, changes_all_the_same, nothing_changes}
 use Rattle.cc_worked.proofs.PiecesOpened.{computed}
-use Rattle.cc_worked.proofs.Marks.{Mark, Ended, marks}
+use Rattle.cc_worked.proofs.Marks.{Ended}
 use Rattle.cc_worked.proofs.ShimMarks.{told_state}
 use Rattle.cc_worked.proofs.UpdateMarks.{unpinned, AfterAsked, UnderPin, refused-update-shown, under-pin, after-question}
 use Rattle.cc_worked.proofs.StateAsked.{state-told}

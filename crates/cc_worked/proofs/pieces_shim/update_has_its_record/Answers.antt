@@ -13,9 +13,9 @@ use Rattle.cc_pieces.specs.Shim.{PinnedUpdateLeft}
 use Rattle.cc_effects.proofs.Starts.{begins, brings, ends_done}
 use Rattle.cc_effects.proofs.Stretches.{idle-none}
 use Rattle.cc_worked.specs.Values.{setup, a, page, answers, read_in}
-use Rattle.cc_worked.specs.PiecesShim.{logged, logged_state, pins, pinned_and_asked, its_record, turned_record, changes, stamps, unpins, updates_with, updates_unlogged, stamps_first, stays_pinned}
+use Rattle.cc_worked.specs.PiecesShim.{logged, logged_state, pins, pinned_and_asked, its_record, turned_record, changes, stamps, updates_with, updates_unlogged, stamps_first, stays_pinned}
 use Rattle.cc_worked.proofs.PiecesOpened.{computed}
-use Rattle.cc_worked.proofs.Marks.{Mark, Ended, Logged, marks, done_marks}
+use Rattle.cc_worked.proofs.Marks.{marks}
 use Rattle.cc_worked.proofs.UpdateMarks.{updated_marks, update-shown}
 use Rattle.cc_worked.proofs.StateAsked.{state-told}
 use Rattle.cc_worked.proofs.pieces_shim.update_has_its_record.Goals as goal

@@ -1,0 +1,72 @@
+-- The one call of the line, by its end.
+use Rattle.std.specs.Prelude.{◌≡◌, ℕ, false, List, [], ◌∷◌, ◌++◌, refl}
+use Rattle.std.specs.declared.option.Option.TheVariants.{Some, None}
+use Rattle.std.proofs.Common.{arith, ap}
+use Rattle.cc_entry.specs.declared.call.Call.{Call}
+use Rattle.cc_entry.specs.declared.call.Call.TheVariants as call
+use Rattle.cc_entry.specs.declared.reply.Reply.{Reply}
+use Rattle.cc_entry.specs.declared.reply.Reply.TheVariants as reply
+use Rattle.cc_entry.specs.declared.reply.Outcome.TheVariants as outcome
+use Rattle.cc_entry.specs.declared.entry.Entry.{Entry}
+use Rattle.cc_effects.specs.Calls.{CallLeft}
+use Rattle.cc_effects.proofs.Starts.{begins, done_by, ends_done}
+use Rattle.cc_worked.specs.Values.{setup, a, second, done, answers, synced}
+use Rattle.cc_worked.specs.PiecesReads.{first_resident}
+use Rattle.cc_worked.specs.PiecesRuns.{first_bytes, two_full}
+use Rattle.cc_worked.proofs.PiecesOpened.{computed}
+use Rattle.cc_worked.proofs.Marks.{Ended, marks, marked-call, shows}
+use Rattle.cc_worked.proofs.StateAsked.{state-told}
+use Rattle.cc_worked.proofs.pieces_runs.each_verb_is_served.Goals as goal
+
+pub returns-clause-written : goal.returns-clause-written
+returns-clause-written c =
+    ends_done 1 1 (Some 0) (call.CopyWrite a 0 (171 ∷ [])) reply.Unit first_resident first_resident (begins 1 (call.CopyWrite a 0 (171 ∷ [])) first_resident) refl (λ during. tt)
+
+pub returns-clause-zeroed : goal.returns-clause-zeroed
+returns-clause-zeroed c =
+    ends_done 1 1 (Some 0) (call.Zero a first_bytes) reply.Unit first_resident first_resident (begins 1 (call.Zero a first_bytes) first_resident) refl (λ during. tt)
+
+pub returns-clause-sized : goal.returns-clause-sized
+returns-clause-sized c =
+    ends_done 1 1 (Some 0) (call.SetSizes a 8192 4096) reply.Unit first_resident first_resident (begins 1 (call.SetSizes a 8192 4096) first_resident) refl (λ during. tt)
+
+pub returns-clause-asked : goal.returns-clause-asked
+returns-clause-asked c = state-told 1 two_full first_resident
+
+pub returns-clause-flushed : goal.returns-clause-flushed
+unfolding computed
+returns-clause-flushed c =
+    done_by 1 1 (Some 0) (call.Flush a None) reply.Unit (synced 1 ∷ []) first_resident (record { each = ((λ is. refl), tt); one_sync = omega arith; whole = refl }) refl refl (record { after = []; before = []; split = refl; quiet = tt; settled = refl })
+
+pub returns-clause-asked_dirty : goal.returns-clause-asked_dirty
+returns-clause-asked_dirty c =
+    ends_done 1 1 None call.IsDirtyData (reply.Flag false) first_resident first_resident (begins 1 call.IsDirtyData first_resident) refl (λ during. tt)
+
+-- a stretch that a done call left has its end alone
+one_call : (it : Call) (r : Reply) (piece : List Entry) → CallLeft setup 1 it (outcome.Done r) first_resident (piece ++ first_resident) → marks 1 piece ≡ Ended it (outcome.Done r) ∷ []
+one_call it r piece left =
+    shows 1 (Ended it (outcome.Done r) ∷ []) piece first_resident (marked-call setup 1 it (outcome.Done r) first_resident (piece ++ first_resident) left refl)
+
+pub returns-clause-not_zeroed : goal.returns-clause-not_zeroed
+returns-clause-not_zeroed c left = other (one_call (call.Zero a first_bytes) reply.Unit (done 1 1 (call.CopyWrite a 0 (0 ∷ [])) ∷ []) left)
+  where
+    other : Ended (call.CopyWrite a 0 (0 ∷ [])) (outcome.Done reply.Unit) ∷ [] ≡ Ended (call.Zero a first_bytes) (outcome.Done reply.Unit) ∷ [] → ⊥
+    other same = absurd (cc)
+
+pub returns-clause-no_other_sizes : goal.returns-clause-no_other_sizes
+returns-clause-no_other_sizes c left = other (one_call (call.SetSizes a 8192 4096) reply.Unit (done 1 1 (call.SetSizes a 4096 8192) ∷ []) left)
+  where
+    other : Ended (call.SetSizes a 4096 8192) (outcome.Done reply.Unit) ∷ [] ≡ Ended (call.SetSizes a 8192 4096) (outcome.Done reply.Unit) ∷ [] → ⊥
+    other same = let sizes : ◌≡◌ {A = ℕ} 4096 8192 = cc in omega (arith, sizes)
+
+pub returns-clause-no_other_span : goal.returns-clause-no_other_span
+returns-clause-no_other_span c left = other (one_call (call.Flush a None) reply.Unit (done 1 1 (call.Flush a (Some first_bytes)) ∷ synced 1 ∷ []) left)
+  where
+    other : Ended (call.Flush a (Some first_bytes)) (outcome.Done reply.Unit) ∷ [] ≡ Ended (call.Flush a None) (outcome.Done reply.Unit) ∷ [] → ⊥
+    other same = absurd (cc)
+
+pub returns-clause-no_other_file : goal.returns-clause-no_other_file
+returns-clause-no_other_file c left = other (one_call (call.State a) (reply.State two_full) (answers 1 1 (call.State second) (reply.State two_full) ∷ []) left)
+  where
+    other : Ended (call.State second) (outcome.Done (reply.State two_full)) ∷ [] ≡ Ended (call.State a) (outcome.Done (reply.State two_full)) ∷ [] → ⊥
+    other same = let file : second ≡ a = cc in let object : ◌≡◌ {A = ℕ} 1 0 = ap (λ f. f.object) file in omega (arith, object)
