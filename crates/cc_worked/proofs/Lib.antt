@@ -9,4 +9,5 @@ pub mod PartMarks
 pub mod HeldParts
 pub mod RunMarks
 pub mod RunsRight
+pub mod StampWants
 pub mod StateAsked

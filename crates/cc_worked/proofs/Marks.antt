@@ -49,7 +49,7 @@ pub record Marked (me : ℕ) (all : List Mark) (old new : List Entry) : Type 0 w
   pub grew : new ≡ during ++ old
   pub same : marks me during ≡ all
 
-marks-append : (me : ℕ) (later earlier : List Entry) → marks me (later ++ earlier) ≡ marks me earlier ++ marks me later
+pub marks-append : (me : ℕ) (later earlier : List Entry) → marks me (later ++ earlier) ≡ marks me earlier ++ marks me later
 marks-append me [] earlier = sym (append-nil (marks me earlier))
 marks-append me (e ∷ later) earlier =
     ap (λ l. l ++ mark_of me e) (marks-append me later earlier) ∙ append_assoc (marks me earlier) (marks me later) (mark_of me e)

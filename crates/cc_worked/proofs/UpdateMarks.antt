@@ -39,7 +39,7 @@ updated_marks file at bytes id state handle lsn =
     ∷ Logged handle lsn (update_record file at bytes)
     ∷ (done_marks (two_calls id at bytes lsn) ++ unpinned id ∷ [])
 
-append-marked : (u : Setup) (me handle : ℕ) (bytes : List ℕ) (lsn : ℕ) (old new : List Entry) → AppendLeft u me handle bytes (Ok lsn) old new → Marked me (Logged handle lsn bytes ∷ []) old new
+pub append-marked : (u : Setup) (me handle : ℕ) (bytes : List ℕ) (lsn : ℕ) (old new : List Entry) → AppendLeft u me handle bytes (Ok lsn) old new → Marked me (Logged handle lsn bytes ∷ []) old new
 append-marked u me handle bytes lsn old new left =
     let is : mark_of me (entry.Append me handle lsn bytes) ≡ Logged handle lsn bytes ∷ [] = rw (eq-eqb me me refl) refl in
     let its : Marked me (mark_of me (entry.Append me handle lsn bytes)) old new = marked-only me (entry.Append me handle lsn bytes) old new left.1 in
@@ -79,7 +79,7 @@ update-shown u me file at bytes lsn piece old (inr left) =
     (left.0, its.0, its.1, shows me (updated_marks file at bytes left.0 its.0 its.1 lsn) piece old whole)
 
 -- a refused append leaves no mark
-refused-append : (u : Setup) (me handle : ℕ) (e : CcError) (old new : List Entry) → AppendRefused u me handle e old new → Marked me [] old new
+pub refused-append : (u : Setup) (me handle : ℕ) (e : CcError) (old new : List Entry) → AppendRefused u me handle e old new → Marked me [] old new
 refused-append u me handle (error.NoLog missing) old new left = marked-idle me old new left.2
 refused-append u me handle (error.LogFull full) old new left = marked-idle me old new left.2
 refused-append u me handle (error.LogFault failed) old new left = marked-only me (entry.LogFailed me handle) old new left.2.1
@@ -87,7 +87,7 @@ refused-append u me handle (error.JournalFull entries) old new left = marked-idl
 refused-append u me handle error.NoMemory old new left = marked-idle me old new left
 refused-append u me handle other old new left = absurd left
 
-same_error : {e f : CcError} → ◌≡◌ {A = Result ℕ CcError} (Err e) (Err f) → e ≡ f
+pub same_error : {e f : CcError} → ◌≡◌ {A = Result ℕ CcError} (Err e) (Err f) → e ≡ f
 same_error same = cc
 
 -- What a refused update leaves after it was told its log and its sizes: nothing, where it has no log, begins

@@ -162,6 +162,10 @@ changes_all_the_same = unpins 4 ∷ changes 3 ∷ entry.LogFailed 1 0 ∷ pinned
 abbrev pub record_alone : List Entry
 record_alone = unpins 3 ∷ entry.Append 1 0 1 its_record ∷ pinned_and_asked (logged_state 8192)
 
+-- wrong: memory is wanting after the change, which stands without its stamp
+abbrev pub changes_unstamped : List Entry
+changes_unstamped = unpins 4 ∷ changes 3 ∷ entry.Append 1 0 1 its_record ∷ pinned_and_asked (logged_state 8192)
+
 -- the pin is refused
 abbrev pub pin_is_refused : List Entry
 pin_is_refused = refused 1 1 pins (error.Busy 1) ∷ []

@@ -12,7 +12,7 @@ ghost use Rattle.cc_worked.specs.PiecesReads.{one_valid, two_pages};
 ghost use Rattle.cc_worked.specs.PiecesShim.{one_page_valid, allocated, extends, zeroes_part, grows, stops_short, leaves_gap, zeroes_last, asks_nothing};
 ghost use Rattle.cc_worked.specs.PiecesShim.{asked, extension_is_refused, goes_on, state_is_refused};
 ghost use Rattle.cc_worked.specs.PiecesShim.{logged, logged_state, its_record, turned_record, updates_with, updates_unlogged, stamps_first, stays_pinned};
-ghost use Rattle.cc_worked.specs.PiecesShim.{nothing_changes, unlogged_state, nothing_behind, log_fails, log_fails_pinned, changes_all_the_same, record_alone, pin_is_refused};
+ghost use Rattle.cc_worked.specs.PiecesShim.{nothing_changes, unlogged_state, nothing_behind, log_fails, log_fails_pinned, changes_all_the_same, changes_unstamped, record_alone, pin_is_refused};
 ghost use Rattle.cc_worked.specs.PiecesShim.{two_blocks, says, reads_last, reads_past, stays_mapped, reads_both, reads_first, reads_at_once, pins_both, chains_both, chains_twice, chains_none};
 ghost use Rattle.cc_worked.specs.PiecesShim.{map_is_refused, reads_on, held_unread, ends_unread, page_is_refused};
 
@@ -81,6 +81,7 @@ pub fn refused_update_changes_nothing()
     ensures not_behind_valid { UpdateAnswered setup 1 a 258 (171 ∷ []) (answer.Refused (error.BeyondValid 8192)) (logged 8192) (nothing_changes (logged_state 8192) ++ logged 8192) → ⊥ }
     ensures let_go { UpdateAnswered setup 1 a 258 (171 ∷ []) (answer.Refused (error.LogFault 0)) (logged 8192) (log_fails_pinned ++ logged 8192) → ⊥ }
     ensures not_changed { UpdateAnswered setup 1 a 258 (171 ∷ []) (answer.Refused (error.LogFault 0)) (logged 8192) (changes_all_the_same ++ logged 8192) → ⊥ }
+    ensures not_unstamped { UpdateAnswered setup 1 a 258 (171 ∷ []) (answer.Refused error.NoMemory) (logged 8192) (changes_unstamped ++ logged 8192) → ⊥ }
 {}
 
 /// A read that holds what it reads cuts its range at the size, holds the part in each view block, reads it and

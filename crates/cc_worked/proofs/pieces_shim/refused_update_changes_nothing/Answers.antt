@@ -1,7 +1,9 @@
 -- The pin and its end, with the question between; a wrong one by the calls that it shows.
-use Rattle.std.specs.Prelude.{◌≡◌, ℕ, ◌<◌, ◌^◌, false, true, List, [], ◌∷◌, Ok, Err, refl}
+use Rattle.std.specs.Prelude.{◌≡◌, ℕ, ◌+◌, ◌<◌, ◌^◌, false, true, List, [], ◌∷◌, ◌++◌, length, Ok, Err, refl}
+use Rattle.std.specs.List.{list_any}
 use Rattle.std.specs.declared.option.Option.TheVariants.{Some}
-use Rattle.std.proofs.Common.{arith, inl, inr}
+use Rattle.std.proofs.Common.{arith, inl, inr, ap}
+use Rattle.std.proofs.lemmas.List.{length-append}
 use Rattle.cc_entry.specs.declared.place.FileState.{FileState}
 use Rattle.cc_entry.specs.declared.call.Call.TheVariants as call
 use Rattle.cc_entry.specs.declared.error.CcError.{CcError}
@@ -16,16 +18,18 @@ use Rattle.cc_model.specs.Legal.{stream_history}
 use Rattle.cc_model.specs.Filing.{serves}
 use Rattle.cc_effects.specs.Asked.{reaches}
 use Rattle.cc_effects.specs.Calls.{CallLeft}
+use Rattle.cc_effects.specs.Refusals.{owes_nothing}
 use Rattle.cc_effects.specs.LogCalls.{AppendLeft, AppendRefused}
 use Rattle.cc_pieces.specs.Shim.{update_record}
 use Rattle.cc_effects.proofs.Starts.{begins, brings, ends_done, ends_refused, gives_up}
 use Rattle.cc_effects.proofs.Stretches.{idle-none}
 use Rattle.cc_worked.specs.Values.{setup, a, page, done, answers, read_in}
 use Rattle.cc_worked.specs.PiecesReads.{two_pages}
-use Rattle.cc_worked.specs.PiecesShim.{logged, logged_state, unlogged_state, pins, its_record, log_fails_pinned, changes_all_the_same, nothing_changes}
-use Rattle.cc_worked.proofs.PiecesOpened.{computed}
-use Rattle.cc_worked.proofs.Marks.{Ended}
+use Rattle.cc_worked.specs.PiecesShim.{logged, logged_state, unlogged_state, pins, pinned_and_asked, its_record, log_fails_pinned, changes, unpins, changes_all_the_same, changes_unstamped, nothing_changes}
+use Rattle.cc_worked.proofs.PiecesOpened.{computed, neither, not_so}
+use Rattle.cc_worked.proofs.Marks.{Mark, Ended, marks}
 use Rattle.cc_worked.proofs.ShimMarks.{told_state}
+use Rattle.cc_worked.proofs.StampWants.{is_change, want-shown}
 use Rattle.cc_worked.proofs.UpdateMarks.{unpinned, AfterAsked, UnderPin, refused-update-shown, under-pin, after-question}
 use Rattle.cc_worked.proofs.StateAsked.{state-told}
 use Rattle.cc_worked.proofs.pieces_shim.refused_update_changes_nothing.Goals as goal
@@ -148,3 +152,41 @@ returns-clause-not_changed c left =
     by id (inl behind) = absurd (cc (behind.0))
     by id (inr (inl refused)) = absurd (cc (refused.0))
     by id (inr (inr recorded)) = absurd (cc (recorded.2))
+
+-- what stands after the moment is the end of the pin, and at the moment the change is there
+unstamped : (after before : List Entry) (id : ℕ) → changes_unstamped ≡ after ++ before → marks 1 after ≡ unpinned id ∷ [] → owes_nothing id (before ++ logged 8192) ≡ true → ⊥
+unfolding computed
+unstamped [] before id split ended wants = absurd (cc)
+unstamped (x ∷ []) before id split ended wants = owes id (rw rest at wants) its
+  where
+    rest : before ≡ changes 3 ∷ entry.Append 1 0 1 its_record ∷ (pinned_and_asked (logged_state 8192))
+    rest = cc
+
+    first : x ≡ unpins 4
+    first = cc
+
+    its : unpinned 1 ≡ unpinned id
+    its = let same : unpinned 1 ∷ [] ≡ unpinned id ∷ [] = rw first at ended in cc
+
+    owes : (id : ℕ) → owes_nothing id (changes 3 ∷ entry.Append 1 0 1 its_record ∷ (pinned_and_asked (logged_state 8192) ++ logged 8192)) ≡ true → unpinned 1 ≡ unpinned id → ⊥
+    owes id wants same =
+        let one : id ≡ 1 = cc in
+        not_so (rw one at wants)
+unstamped (x ∷ y ∷ after) before id split ended wants =
+    let first : x ≡ unpins 4 = cc in
+    let second : y ≡ changes 3 = cc in
+    let both : (marks 1 after ++ change ∷ []) ++ unpinned 1 ∷ [] ≡ unpinned id ∷ [] = rw (first, second) at ended in
+    let long : length ((marks 1 after ++ change ∷ []) ++ unpinned 1 ∷ []) ≡ 1 = ap length both in
+    let inner : length (marks 1 after ++ change ∷ []) ≡ length (marks 1 after) + 1 = length-append (marks 1 after) (change ∷ []) in
+    let outer : length ((marks 1 after ++ change ∷ []) ++ unpinned 1 ∷ []) ≡ length (marks 1 after ++ change ∷ []) + 1 = length-append (marks 1 after ++ change ∷ []) (unpinned 1 ∷ []) in
+    omega (arith, long, inner, outer)
+  where
+    change : Mark
+    change = Ended (call.PinnedWrite 1 258 (171 ∷ [])) (outcome.Done reply.Unit)
+
+pub returns-clause-not_unstamped : goal.returns-clause-not_unstamped
+returns-clause-not_unstamped c left =
+    neither (λ is. unstamped is.after is.before is.id is.split is.ended is.wants) changed (want-shown setup 1 a 258 (171 ∷ []) changes_unstamped (logged 8192) left)
+  where
+    changed : list_any is_change (marks 1 changes_unstamped) ≡ false → ⊥
+    changed same = absurd (cc)
