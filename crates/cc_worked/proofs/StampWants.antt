@@ -1,16 +1,13 @@
 -- An update that is refused for want of memory and had changed its bytes: the stamp wanted memory at a moment,
 -- after which only the pin ended.
-use Rattle.std.specs.Prelude.{◌≡◌, ℕ, Bool, true, false, List, [], ◌∷◌, ◌++◌, length, Result, Ok, Err, refl, ◌⊎◌, ◌||◌}
+use Rattle.std.specs.Prelude.{◌≡◌, ℕ, Bool, true, false, List, [], ◌∷◌, ◌++◌, length, Err, refl, ◌⊎◌, ◌||◌}
 use Rattle.std.specs.List.{list_any}
 use Rattle.std.specs.declared.option.Option.{Option}
 use Rattle.std.specs.declared.option.Option.TheVariants.{Some, None}
 use Rattle.std.proofs.Common.{inl, inr, sym, ap, ◌∙◌, append_assoc}
 use Rattle.std.proofs.lemmas.List.{append_cancel_right}
 use Rattle.cc_entry.specs.Place.{File}
-use Rattle.cc_entry.specs.declared.place.FileState.{FileState}
-use Rattle.cc_entry.specs.declared.call.Call.{Call}
 use Rattle.cc_entry.specs.declared.call.Call.TheVariants as call
-use Rattle.cc_entry.specs.declared.error.CcError.{CcError}
 use Rattle.cc_entry.specs.declared.error.CcError.TheVariants as error
 use Rattle.cc_entry.specs.declared.reply.Reply.TheVariants as reply
 use Rattle.cc_entry.specs.declared.reply.Outcome.TheVariants as outcome
@@ -20,8 +17,8 @@ use Rattle.cc_effects.specs.Asked.{Calls}
 use Rattle.cc_effects.specs.Calls.{CallLeft, IsUnplaced}
 use Rattle.cc_effects.specs.Refusals.{owes_nothing}
 use Rattle.cc_effects.specs.LogCalls.{AppendRefused}
-use Rattle.cc_pieces.specs.Shim.{update_record, CallsLeft, RecordedLeft, LoggedLeft, ToldUpdateLeft, PinnedUpdateLeft, UpdateLeft}
-use Rattle.cc_worked.proofs.Marks.{Mark, Ended, Logged, Marked, marks, end_of, marks-append, marks-works, marked-idle, marked-then, marked-call, marked-left, shows}
+use Rattle.cc_pieces.specs.Shim.{update_record, CallsLeft, LoggedLeft, ToldUpdateLeft, PinnedUpdateLeft, UpdateLeft}
+use Rattle.cc_worked.proofs.Marks.{Mark, Ended, Logged, Marked, marks, marks-append, marks-works, marked-idle, marked-then, marked-call, marked-left, shows}
 use Rattle.cc_worked.proofs.ShimMarks.{told_state}
 use Rattle.cc_worked.proofs.UpdateMarks.{pinned_as, unpinned, two_calls, append-marked, refused-append, same_error}
 

@@ -1,13 +1,13 @@
 -- What lines leave by their answers: lines of one call, and of the calls without an entry. Each stretch has its
 -- newest entry first, and stands on a past.
-use Rattle.std.specs.Prelude.{true, List, [], ◌∷◌}
+use Rattle.std.specs.Prelude.{ℕ, true, List, [], ◌∷◌, replicate}
 use Rattle.cc_entry.specs.declared.answer.Tick.{Tick}
 use Rattle.cc_entry.specs.declared.answer.AheadDone.{AheadDone}
 use Rattle.cc_entry.specs.declared.call.Call.TheVariants as call
 use Rattle.cc_entry.specs.declared.error.CcError.TheVariants as error
 use Rattle.cc_entry.specs.declared.entry.Entry.{Entry}
 use Rattle.cc_entry.specs.declared.entry.Entry.TheVariants as entry
-use Rattle.cc_worked.specs.Values.{a, refused}
+use Rattle.cc_worked.specs.Values.{a, done, refused, goes_out, begins, ends}
 use Rattle.cc_worked.specs.PiecesWithoutEntry.{request}
 
 -- a log is flushed to LSN 4
@@ -25,3 +25,13 @@ step_done = record { request = request; whole = true }
 -- a noncached write of a byte is refused for its first page
 abbrev pub one_byte_is_refused : List Entry
 one_byte_is_refused = refused 1 1 (call.NcWrite a 0) error.Unaligned ∷ []
+
+-- a whole page is written: it is stored, is on the disk, goes out again, and its write ends
+abbrev pub whole_page : List ℕ
+whole_page = replicate 4096 171
+
+abbrev pub page_is_stored : List Entry
+page_is_stored = begins 1 0 ∷ done 1 1 (call.NcStore a 0 whole_page) ∷ []
+
+abbrev pub page_is_written : List Entry
+page_is_written = done 1 2 (call.NcWrite a 0) ∷ goes_out 1 0 ∷ ends 1 0 ∷ page_is_stored

@@ -10,7 +10,7 @@ ghost use Rattle.cc_worked.specs.Values.{setup, with_threshold, a};
 ghost use Rattle.cc_worked.specs.PiecesReads.{two_pages, first_byte, a_byte, page_comes_in, past_the_size, write_refused};
 ghost use Rattle.cc_worked.specs.PiecesNoncached.{misaligned};
 ghost use Rattle.cc_worked.specs.PiecesWithoutEntry.{flushed_to_three, appended, log_fails, deferred, posted, dirty, page_of_tick, one_written, step};
-ghost use Rattle.cc_worked.specs.PiecesAnswered.{flushed_to_four, none_picked, step_done, one_byte_is_refused};
+ghost use Rattle.cc_worked.specs.PiecesAnswered.{flushed_to_four, none_picked, step_done, one_byte_is_refused, whole_page, page_is_written};
 
 /// The answer of a line of one call is what its call was answered, and no answer of another kind.
 pub fn call_is_answered_as_it_ended()
@@ -65,10 +65,12 @@ pub fn worker_lines_are_answered()
 pub fn noncached_lines_are_answered()
     ensures nothing_read { NcReadAnswered setup 1 a 0 0 (answer.Given (reply.Read [])) two_pages two_pages }
     ensures read_refused { NcReadAnswered setup 1 a 1 4096 (answer.NcRefused 0 error.Unaligned) two_pages (misaligned ++ two_pages) }
+    ensures page_written { NcWriteAnswered setup 1 a 0 whole_page (answer.Count 4096) two_pages (page_is_written ++ two_pages) }
     ensures nothing_written { NcWriteAnswered setup 1 a 0 [] (answer.Count 0) two_pages two_pages }
     ensures write_refused { NcWriteAnswered setup 1 a 0 (171 ∷ []) (answer.NcRefused 0 error.Unaligned) two_pages (one_byte_is_refused ++ two_pages) }
     ensures none_finished { NcReadAnswered setup 1 a 1 4096 (answer.NcRefused 1 error.Unaligned) two_pages (misaligned ++ two_pages) → ⊥ }
     ensures no_other_kind { NcReadAnswered setup 1 a 1 4096 (answer.Refused error.Unaligned) two_pages (misaligned ++ two_pages) → ⊥ }
+    ensures no_other_count { NcWriteAnswered setup 1 a 0 whole_page (answer.Count 8192) two_pages (page_is_written ++ two_pages) → ⊥ }
     ensures none_changed { NcWriteAnswered setup 1 a 0 [] (answer.Count 1) two_pages two_pages → ⊥ }
     ensures not_written { NcWriteAnswered setup 1 a 0 (171 ∷ []) (answer.Count 1) two_pages (one_byte_is_refused ++ two_pages) → ⊥ }
 {}
