@@ -26,12 +26,14 @@ step_done = record { request = request; whole = true }
 abbrev pub one_byte_is_refused : List Entry
 one_byte_is_refused = refused 1 1 (call.NcWrite a 0) error.Unaligned ∷ []
 
--- a whole page is written: it is stored, is on the disk, goes out again, and its write ends
+-- the bytes of a page
 abbrev pub whole_page : List ℕ
 whole_page = replicate 4096 171
 
+-- they are stored, and their transfer begins
 abbrev pub page_is_stored : List Entry
 page_is_stored = begins 1 0 ∷ done 1 1 (call.NcStore a 0 whole_page) ∷ []
 
+-- it ends, the page goes out again, and the write ends
 abbrev pub page_is_written : List Entry
 page_is_written = done 1 2 (call.NcWrite a 0) ∷ goes_out 1 0 ∷ ends 1 0 ∷ page_is_stored

@@ -15,24 +15,27 @@ use Rattle.cc_pieces.specs.Bindings.{Binding}
 use Rattle.cc_worked.specs.Values.{a, opened, done, answers, read_in}
 use Rattle.cc_worked.specs.PiecesWithoutEntry.{one_written}
 
--- the word of a hold, and the caller's one binding, of it to a map
+-- the word of a hold
 abbrev pub word : List ℕ
 word = 104 ∷ []
 
+-- the caller's one binding, of the word to a map
 abbrev pub one_map : List Binding
 one_map = record { name = word; id = 1; kind = kind.Map } ∷ []
 
--- the same of a hold of another kind, and another word
+-- the same of a hold of another kind
 abbrev pub one_of : HoldKind → List Binding
 one_of its_kind = record { name = word; id = 1; kind = its_kind } ∷ []
 
+-- another word
 abbrev pub other_word : List ℕ
 other_word = 105 ∷ []
 
--- a page is mapped, and the map ends
+-- a page is mapped
 abbrev pub mapped : List Entry
 mapped = answers 1 1 (call.Map a 0 16) (reply.Hold 1) ∷ read_in 1 0 ∷ opened 8192 8192 ∷ []
 
+-- the map ends
 abbrev pub map_ends : List Entry
 map_ends = done 1 2 (call.EndHold 1) ∷ []
 
@@ -40,6 +43,7 @@ map_ends = done 1 2 (call.EndHold 1) ∷ []
 abbrev pub held_by : Call → List Entry
 held_by make = answers 1 1 make (reply.Hold 1) ∷ read_in 1 0 ∷ opened 8192 8192 ∷ []
 
+-- they are pinned
 abbrev pub pinned_range : List Entry
 pinned_range = held_by (call.PinRead a 0 16 false)
 
@@ -55,9 +59,10 @@ repinned_range = done 1 3 (call.EndHold 1) ∷ answers 1 2 (call.Repin 1) (reply
 abbrev pub one_repin : List Binding
 one_repin = record { name = word; id = 2; kind = kind.Repin } ∷ []
 
--- a tick's answer in a phase, and a step that found no request
+-- a tick's answer in a phase
 abbrev pub tick_in : ℕ → LineReply
 tick_in phase = record { line = phase; answer = answer.Ticked one_written }
 
+-- a step that found no request
 abbrev pub no_request : LineReply
 no_request = record { line = 1; answer = answer.Stepped None }

@@ -32,13 +32,15 @@ use Rattle.cc_worked.specs.PiecesWithoutEntry.{request}
 abbrev pub stream_with : Option ℕ → StreamLine
 stream_with log = record { line = 1; name = 97 ∷ []; size = 8192; valid = 8192; quota = 16; temporary = false; log = log }
 
--- its first object is initialised as the call of the pass, and given its log
+-- its first object is initialised
 abbrev pub initialises : Call
 initialises = call.Initialise a (sized 8192 8192) 16 false
 
+-- that is the first call of pass 0
 abbrev pub opens : List Entry
 opens = done 0 1 initialises ∷ []
 
+-- and the second gives the stream its log
 abbrev pub opens_with : ℕ → List Entry
 opens_with handle = done 0 2 (call.SetLog a handle) ∷ opens
 
@@ -46,17 +48,19 @@ opens_with handle = done 0 2 (call.SetLog a handle) ∷ opens
 abbrev pub caller_opens : List Entry
 caller_opens = done 1 1 initialises ∷ []
 
--- there are too few views; wrong: the log is set all the same
+-- there are too few views
 abbrev pub opening_is_refused : List Entry
 opening_is_refused = refused 0 1 initialises (error.NoVacbs 3) ∷ []
 
+-- wrong: the log is set all the same
 abbrev pub log_all_the_same : List Entry
 log_all_the_same = done 0 2 (call.SetLog a 0) ∷ opening_is_refused
 
--- a second stream opens after the first; wrong: under the first one's number
+-- a second stream opens after the first
 abbrev pub opens_both : List Entry
 opens_both = entry.Call 0 2 (Some 1) (call.Initialise b (sized 8192 8192) 16 false) (outcome.Done reply.Unit) ∷ opens
 
+-- wrong: it opens under the number of the first
 abbrev pub opens_first_twice : List Entry
 opens_first_twice = done 0 2 initialises ∷ opens
 
@@ -76,24 +80,28 @@ full_at entries = answer.Refused (error.JournalFull entries)
 abbrev pub first_bytes : Range
 first_bytes = record { from = 0; to = 16 }
 
--- a caller reads the first byte, and then asks for the sizes
+-- what a stream of two valid pages tells of itself
 abbrev pub two_full : FileState
 two_full = record { sizes = sized 8192 8192; log = None }
 
+-- a caller reads the first byte
 abbrev pub reads : Action
 reads = action.CopyRead a 0 1 true
 
+-- it asks for the sizes
 abbrev pub asks : Action
 asks = action.State a
 
+-- it reads, and then it asks
 abbrev pub reads_and_asks : List Entry
 reads_and_asks = answers 1 2 (call.State a) (reply.State two_full) ∷ page_comes_in
 
--- wrong: it asks first; it asks once more
+-- wrong: it asks first
 abbrev pub asks_and_reads : List Entry
 asks_and_reads =
     answers 1 2 (call.CopyRead a 0 1 true) a_byte ∷ read_in 1 0 ∷ answers 1 1 (call.State a) (reply.State two_full) ∷ []
 
+-- wrong: it asks once more
 abbrev pub asks_twice : List Entry
 asks_twice = answers 1 3 (call.State a) (reply.State two_full) ∷ reads_and_asks
 
@@ -101,17 +109,19 @@ asks_twice = answers 1 3 (call.State a) (reply.State two_full) ∷ reads_and_ask
 abbrev pub two_lines : List (Action × Answer)
 two_lines = (reads, answer.Given a_byte) ∷ (asks, answer.Given (reply.State two_full)) ∷ []
 
--- A script of three lines: a caller reads in the first phase and asks in the second, where another caller
--- asks too.
+-- a line of a script: its number, its phase, its caller and what it does
 abbrev pub line_of : ℕ → ℕ → ℕ → Action → ActionLine
 line_of line phase caller it = record { line = line; phase = phase; caller = caller; action = it }
 
+-- a caller reads in the first phase, and asks in the second
 abbrev pub of_one : List ActionLine
 of_one = line_of 2 1 1 reads ∷ line_of 3 2 1 asks ∷ []
 
+-- two callers in one phase
 abbrev pub of_two : List ActionLine
 of_two = line_of 2 1 1 reads ∷ line_of 3 1 2 asks ∷ []
 
+-- the replies of the one caller's lines
 abbrev pub of_one_answered : List LineReply
 of_one_answered =
     record { line = 2; answer = answer.Given a_byte } ∷ record { line = 3; answer = answer.Given (reply.State two_full) } ∷ []
@@ -128,20 +138,23 @@ stranger_beside = read_in 2 1 ∷ page_comes_in
 abbrev pub one_step : LineReply
 one_step = record { line = 1; answer = answer.Stepped (Some (record { request = request; whole = true })) }
 
--- a run of those lines on one stream, and what it answered, the lines in such an order
+-- a run of those lines on one stream
 abbrev pub given : Given
 given = record { streams = stream_with None ∷ []; lines = of_one; phases = 2; ticks = 0; aheads = 0 }
 
+-- what it answered, where the workers were not asked
 abbrev pub told_by : List LineReply → Answered
 told_by replies = record { replies = replies; ticked = []; stepped = [] }
 
+-- the reply of the stream's line, and then those of the caller's
 abbrev pub all_replies : List LineReply
 all_replies = unit_at 1 ∷ of_one_answered
 
--- wrong: the line of the stream comes last, a line has no reply
+-- wrong: the line of the stream comes last
 abbrev pub stream_last : List LineReply
 stream_last = of_one_answered ++ unit_at 1 ∷ []
 
+-- wrong: a line has no reply
 abbrev pub one_unanswered : List LineReply
 one_unanswered = unit_at 1 ∷ record { line = 2; answer = answer.Given a_byte } ∷ []
 
@@ -161,9 +174,11 @@ two_dirty =
 abbrev pub one_dirty : List Entry
 one_dirty = ends 17 0 ∷ begins 17 0 ∷ entry.Flushed 17 0 2 ∷ two_dirty
 
+-- the row of the page with two stamps
 abbrev pub stamped_row : TableRow
 stamped_row = record { page = page 0; oldest = Some 1; newest = Some 2 }
 
+-- the row of the other page
 abbrev pub unstamped_row : TableRow
 unstamped_row = record { page = page 1; oldest = None; newest = None }
 

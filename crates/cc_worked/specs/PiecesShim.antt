@@ -15,19 +15,23 @@ use Rattle.cc_worked.specs.Values.{a, page, sized, opened, done, answers, refuse
 abbrev pub one_page_valid : FileState
 one_page_valid = record { sizes = sized 8192 4096; log = None }
 
+-- the question for that is the first call
 abbrev pub asked : List Entry
 asked = answers 1 1 (call.State a) (reply.State one_page_valid) ∷ []
 
--- a byte is written at its end: it is extended, the gap is zeroed, and the byte is written
+-- a byte is written at the end of that stream: first it is extended
 abbrev pub extends : Call
 extends = call.SetSizes a 8193 8193
 
+-- then the gap behind the valid data length is zeroed
 abbrev pub zeroes : Call
 zeroes = call.Zero a (record { from = 4096; to = 8192 })
 
+-- and then the byte is written
 abbrev pub writes : Call
 writes = call.CopyWrite a 8192 (171 ∷ [])
 
+-- the calls of that write, and the pages that come in for them
 abbrev pub grows : List Entry
 grows =
     done 1 4 writes
@@ -41,10 +45,11 @@ grows =
 abbrev pub stops_short : List Entry
 stops_short = done 1 3 zeroes ∷ entry.PageIn 1 (page 1) false ∷ done 1 2 extends ∷ asked
 
--- wrong: the gap is not zeroed, or is zeroed after the write
+-- wrong: the gap is not zeroed
 abbrev pub leaves_gap : List Entry
 leaves_gap = done 1 3 writes ∷ entry.PageIn 1 (page 2) false ∷ done 1 2 extends ∷ asked
 
+-- wrong: the gap is zeroed after the write
 abbrev pub zeroes_last : List Entry
 zeroes_last =
     done 1 4 zeroes
@@ -84,17 +89,19 @@ goes_on = done 1 3 zeroes ∷ entry.PageIn 1 (page 1) false ∷ extension_is_ref
 abbrev pub state_is_refused : List Entry
 state_is_refused = refused 1 1 (call.State a) error.NotCached ∷ []
 
--- a stream with log 0, of two valid pages or of one, and what it tells of itself
+-- a stream with log 0, valid up to a place
 abbrev pub logged : ℕ → List Entry
 logged valid = done 0 2 (call.SetLog a 0) ∷ opened 8192 valid ∷ []
 
+-- what it tells of itself
 abbrev pub logged_state : ℕ → FileState
 logged_state valid = record { sizes = sized 8192 valid; log = Some 0 }
 
--- a byte is updated at 258: its page is pinned and the stream asked
+-- a byte is updated at 258: its page is pinned for that alone
 abbrev pub pins : Call
 pins = call.PinRead a 258 1 true
 
+-- the pin is made, and the stream tells this of itself
 abbrev pub pinned_and_asked : FileState → List Entry
 pinned_and_asked state = answers 1 2 (call.State a) (reply.State state) ∷ answers 1 1 pins (reply.Hold 1) ∷ read_in 1 0 ∷ []
 
@@ -102,17 +109,23 @@ pinned_and_asked state = answers 1 2 (call.State a) (reply.State state) ∷ answ
 abbrev pub its_record : List ℕ
 its_record = 0 ∷ 2 ∷ 1 ∷ 0 ∷ 0 ∷ 0 ∷ 0 ∷ 0 ∷ 0 ∷ 1 ∷ 0 ∷ 0 ∷ 0 ∷ 171 ∷ []
 
+-- the record of two bytes at 64
+abbrev pub record_of_two : List ℕ
+record_of_two = 0 ∷ 64 ∷ 0 ∷ 0 ∷ 0 ∷ 0 ∷ 0 ∷ 0 ∷ 0 ∷ 2 ∷ 0 ∷ 0 ∷ 0 ∷ 171 ∷ 205 ∷ []
+
 -- wrong: the place has its greatest byte first
 abbrev pub turned_record : List ℕ
 turned_record = 0 ∷ 0 ∷ 0 ∷ 0 ∷ 0 ∷ 0 ∷ 0 ∷ 1 ∷ 2 ∷ 1 ∷ 0 ∷ 0 ∷ 0 ∷ 171 ∷ []
 
--- the pinned byte is written, it is stamped, and the pin ends, as the calls of these numbers
+-- the pinned byte is written, as the call of this number
 abbrev pub changes : ℕ → Entry
 changes nth = done 1 nth (call.PinnedWrite 1 258 (171 ∷ []))
 
+-- its page is stamped with an LSN
 abbrev pub stamps : ℕ → ℕ → Entry
 stamps nth lsn = done 1 nth (call.SetDirty 1 (Some lsn))
 
+-- the pin ends
 abbrev pub unpins : ℕ → Entry
 unpins nth = done 1 nth (call.EndHold 1)
 
@@ -121,13 +134,15 @@ abbrev pub updates_with : List ℕ → ℕ → List Entry
 updates_with bytes lsn =
     unpins 5 ∷ stamps 4 lsn ∷ changes 3 ∷ entry.Append 1 0 1 bytes ∷ pinned_and_asked (logged_state 8192)
 
--- wrong: there is no record; it comes after the stamp; the pin stays
+-- wrong: there is no record
 abbrev pub updates_unlogged : List Entry
 updates_unlogged = unpins 5 ∷ stamps 4 1 ∷ changes 3 ∷ pinned_and_asked (logged_state 8192)
 
+-- wrong: the record comes after the stamp
 abbrev pub stamps_first : List Entry
 stamps_first = unpins 5 ∷ entry.Append 1 0 1 its_record ∷ stamps 4 1 ∷ changes 3 ∷ pinned_and_asked (logged_state 8192)
 
+-- wrong: the pin stays
 abbrev pub stays_pinned : List Entry
 stays_pinned = stamps 4 1 ∷ changes 3 ∷ entry.Append 1 0 1 its_record ∷ pinned_and_asked (logged_state 8192)
 
@@ -148,13 +163,15 @@ nothing_behind =
     ∷ entry.PageIn 1 (page 1) false
     ∷ []
 
--- the log fails, and the pin ends; wrong: it stays, or the byte is changed all the same
+-- the log fails, and the pin ends
 abbrev pub log_fails : List Entry
 log_fails = unpins 3 ∷ entry.LogFailed 1 0 ∷ pinned_and_asked (logged_state 8192)
 
+-- wrong: the log fails, and the pin stays
 abbrev pub log_fails_pinned : List Entry
 log_fails_pinned = entry.LogFailed 1 0 ∷ pinned_and_asked (logged_state 8192)
 
+-- wrong: the log fails, and the byte is changed all the same
 abbrev pub changes_all_the_same : List Entry
 changes_all_the_same = unpins 4 ∷ changes 3 ∷ entry.LogFailed 1 0 ∷ pinned_and_asked (logged_state 8192)
 
@@ -190,10 +207,11 @@ says size = answers 1 1 (call.State a) (reply.State (record { sizes = sized size
 abbrev pub reads_last : List Entry
 reads_last = maps 2 1 8191 1 1 (90 ∷ []) ++ says 8192
 
--- wrong: two are held; the hold stays; it is not read
+-- wrong: two bytes are held, of which one is past the size
 abbrev pub reads_past : List Entry
 reads_past = maps 2 1 8191 2 1 (90 ∷ []) ++ says 8192
 
+-- wrong: the hold stays
 abbrev pub stays_mapped : List Entry
 stays_mapped =
     answers 1 3 (call.MappedRead 1 8191 1) (reply.Read (90 ∷ [])) ∷ answers 1 2 (call.Map a 8191 1) (reply.Hold 1) ∷ read_in 1 1 ∷ says 8192
@@ -206,19 +224,21 @@ two_blocks = opened 524288 524288 ∷ []
 abbrev pub reads_both : List Entry
 reads_both = maps 5 2 262144 1 64 (90 ∷ []) ++ (maps 2 1 262143 1 63 (90 ∷ []) ++ says 524288)
 
--- wrong: one alone is; both are at once
+-- wrong: the first byte alone is mapped
 abbrev pub reads_first : List Entry
 reads_first = maps 2 1 262143 1 63 (90 ∷ []) ++ says 524288
 
+-- wrong: both are mapped at once
 abbrev pub reads_at_once : List Entry
 reads_at_once = maps 2 1 262143 2 63 (90 ∷ 90 ∷ []) ++ says 524288
 
--- the same two bytes pinned, shared or not, and by a chain
+-- the same two bytes are pinned one after the other, shared or exclusive
 abbrev pub pins_both : Bool → List Entry
 pins_both exclusive =
     holds 5 2 (call.PinRead a 262144 1 exclusive) (call.PinnedRead 2 262144 1) (90 ∷ [])
     ++ (read_in 1 64 ∷ (holds 2 1 (call.PinRead a 262143 1 exclusive) (call.PinnedRead 1 262143 1) (90 ∷ []) ++ read_in 1 63 ∷ says 524288))
 
+-- they are held by one chain
 abbrev pub chains_both : List Entry
 chains_both = holds 2 1 (call.MdlRead a 262143 2) (call.MdlBytes 1 262143 2) (90 ∷ 90 ∷ []) ++ read_in 1 64 ∷ read_in 1 63 ∷ says 524288
 
@@ -232,17 +252,19 @@ chains_twice =
 abbrev pub chains_none : List Entry
 chains_none = holds 2 1 (call.MdlRead a 8192 0) (call.MdlBytes 1 8192 0) [] ++ says 8192
 
--- the first map is refused; wrong: the second byte is read all the same
+-- the first map is refused
 abbrev pub map_is_refused : List Entry
 map_is_refused = refused 1 2 (call.Map a 262143 1) (error.NoViews 0 16) ∷ says 524288
 
+-- wrong: the second byte is read all the same
 abbrev pub reads_on : List Entry
 reads_on = maps 3 1 262144 1 64 (90 ∷ []) ++ map_is_refused
 
--- memory is wanting for the bytes of a range that is held, and the hold ends; wrong: it stays
+-- memory is wanting for the bytes of a range that is held; wrong: the hold stays
 abbrev pub held_unread : List Entry
 held_unread = answers 1 2 (call.Map a 8191 1) (reply.Hold 1) ∷ read_in 1 1 ∷ says 8192
 
+-- the same, and the hold ends
 abbrev pub ends_unread : List Entry
 ends_unread = done 1 3 (call.EndHold 1) ∷ held_unread
 

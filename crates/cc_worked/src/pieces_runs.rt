@@ -15,7 +15,7 @@ ghost use Rattle.cc_pieces.specs.Phases.{limit_in, PhaseRan, PhasesRan};
 ghost use Rattle.cc_pieces.specs.Explained.{IsExplained};
 ghost use Rattle.cc_pieces.specs.Table.{table_of};
 ghost use Rattle.cc_pieces.specs.Failures.{failures};
-ghost use Rattle.cc_worked.specs.Values.{setup, a, second, done, answers, dirty_is, synced};
+ghost use Rattle.cc_worked.specs.Values.{setup, a, second, opened, done, answers, dirty_is, synced};
 ghost use Rattle.cc_worked.specs.PiecesReads.{two_pages, first_resident, a_byte, page_comes_in, page_alone};
 ghost use Rattle.cc_worked.specs.PiecesRuns.{stream_with, opens, opens_with, caller_opens, opening_is_refused, log_all_the_same};
 ghost use Rattle.cc_worked.specs.PiecesRuns.{opens_both, opens_first_twice, unit_at, of_capacity, full_at};
@@ -35,6 +35,7 @@ pub fn streams_are_opened()
     ensures not_without_log { Opens setup 0 (stream_with (Some 3)) (answer.Given reply.Unit) [] opens → ⊥ }
     ensures no_other_log { Opens setup 0 (stream_with (Some 3)) (answer.Given reply.Unit) [] (opens_with 2) → ⊥ }
     ensures no_log_unasked { Opens setup 0 (stream_with None) (answer.Given reply.Unit) [] (opens_with 3) → ⊥ }
+    ensures no_other_sizes { Opens setup 0 (stream_with None) (answer.Given reply.Unit) [] (opened 8192 4096 ∷ []) → ⊥ }
     ensures by_no_caller { Opens setup 0 (stream_with None) (answer.Given reply.Unit) [] caller_opens → ⊥ }
     ensures no_more { Opens setup 0 (stream_with (Some 0)) (answer.Refused (error.NoVacbs 3)) [] log_all_the_same → ⊥ }
     ensures not_full { Opens setup 0 (stream_with None) (full_at 0) [] [] → ⊥ }

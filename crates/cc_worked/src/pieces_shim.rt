@@ -6,12 +6,12 @@ ghost use Rattle.cc_entry.specs.declared.error.CcError.TheVariants as error;
 ghost use Rattle.cc_entry.specs.declared.reply.Reply.TheVariants as reply;
 ghost use Rattle.cc_entry.specs.declared.answer.Answer.TheVariants as answer;
 ghost use Rattle.cc_entry.specs.declared.entry.Entry.{Entry};
-ghost use Rattle.cc_pieces.specs.Shim.{Mapped, Pinned, Descriptor, Noncached, ReadAnswered, WriteAnswered, UpdateAnswered, write_calls, zeroings};
+ghost use Rattle.cc_pieces.specs.Shim.{Mapped, Pinned, Descriptor, Noncached, ReadAnswered, WriteAnswered, UpdateAnswered, write_calls, zeroings, update_record};
 ghost use Rattle.cc_worked.specs.Values.{setup, a};
 ghost use Rattle.cc_worked.specs.PiecesReads.{one_valid, two_pages};
 ghost use Rattle.cc_worked.specs.PiecesShim.{one_page_valid, allocated, extends, zeroes_part, grows, stops_short, leaves_gap, zeroes_last, asks_nothing};
 ghost use Rattle.cc_worked.specs.PiecesShim.{asked, extension_is_refused, goes_on, state_is_refused};
-ghost use Rattle.cc_worked.specs.PiecesShim.{logged, logged_state, its_record, turned_record, updates_with, updates_unlogged, stamps_first, stays_pinned};
+ghost use Rattle.cc_worked.specs.PiecesShim.{logged, logged_state, its_record, record_of_two, turned_record, updates_with, updates_unlogged, stamps_first, stays_pinned};
 ghost use Rattle.cc_worked.specs.PiecesShim.{nothing_changes, unlogged_state, nothing_behind, log_fails, log_fails_pinned, changes_all_the_same, changes_unstamped, record_alone, pin_is_refused};
 ghost use Rattle.cc_worked.specs.PiecesShim.{two_blocks, says, reads_last, reads_past, stays_mapped, reads_both, reads_first, reads_at_once, pins_both, chains_both, chains_twice, chains_none};
 ghost use Rattle.cc_worked.specs.PiecesShim.{map_is_refused, reads_on, held_unread, ends_unread, page_is_refused};
@@ -61,6 +61,7 @@ pub fn write_keeps_to_its_limits()
 /// this order, and lets the range go.
 pub fn update_has_its_record()
     ensures done { UpdateAnswered setup 1 a 258 (171 ∷ []) (answer.NewLsn 1) (logged 8192) (updates_with its_record 1 ++ logged 8192) }
+    ensures recorded { update_record a 64 (171 ∷ 205 ∷ []) ≡ record_of_two }
     ensures no_other_answer { UpdateAnswered setup 1 a 258 (171 ∷ []) (answer.NewLsn 2) (logged 8192) (updates_with its_record 1 ++ logged 8192) → ⊥ }
     ensures no_other_stamp { UpdateAnswered setup 1 a 258 (171 ∷ []) (answer.NewLsn 1) (logged 8192) (updates_with its_record 2 ++ logged 8192) → ⊥ }
     ensures no_other_record { UpdateAnswered setup 1 a 258 (171 ∷ []) (answer.NewLsn 1) (logged 8192) (updates_with turned_record 1 ++ logged 8192) → ⊥ }

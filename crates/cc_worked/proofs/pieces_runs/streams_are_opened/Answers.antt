@@ -1,7 +1,7 @@
 -- The calls of pass 0, by their ends.
-use Rattle.std.specs.Prelude.{◌≡◌, false, [], ◌∷◌, ◌++◌, refl}
+use Rattle.std.specs.Prelude.{◌≡◌, ℕ, false, [], ◌∷◌, ◌++◌, refl}
 use Rattle.std.specs.declared.option.Option.TheVariants.{Some, None}
-use Rattle.std.proofs.Common.{inl, inr}
+use Rattle.std.proofs.Common.{inl, inr, arith, ap}
 use Rattle.cc_entry.specs.declared.call.Call.TheVariants as call
 use Rattle.cc_entry.specs.declared.error.CcError.TheVariants as error
 use Rattle.cc_entry.specs.declared.reply.Reply.TheVariants as reply
@@ -9,7 +9,7 @@ use Rattle.cc_entry.specs.declared.reply.Outcome.TheVariants as outcome
 use Rattle.cc_effects.specs.Calls.{CallLeft}
 use Rattle.cc_effects.proofs.Starts.{begins, ends_done, ends_refused}
 use Rattle.cc_effects.proofs.Stretches.{idle-none}
-use Rattle.cc_worked.specs.Values.{setup, a, b, sized}
+use Rattle.cc_worked.specs.Values.{setup, a, b, sized, opened}
 use Rattle.cc_worked.specs.PiecesRuns.{stream_with, initialises, opens, opens_with, caller_opens, log_all_the_same, opens_both, opens_first_twice}
 use Rattle.cc_worked.proofs.PiecesOpened.{neither}
 use Rattle.cc_worked.proofs.Marks.{Ended, marks, shows, marked-then, marked-idle}
@@ -87,3 +87,13 @@ returns-clause-by_their_number c left =
   where
     other : marks 0 opens_first_twice ≡ opened_marks 0 (stream_with None) None ++ opened_marks 1 (stream_with None) None → ⊥
     other same = absurd (cc)
+
+pub returns-clause-no_other_sizes : goal.returns-clause-no_other_sizes
+returns-clause-no_other_sizes c left =
+    other (shows 0 (opened_marks 0 (stream_with None) None) (opened 8192 4096 ∷ []) [] (opening-marked setup 0 (stream_with None) None [] (opened 8192 4096 ∷ []) left.opened))
+  where
+    other : marks 0 (opened 8192 4096 ∷ []) ≡ opened_marks 0 (stream_with None) None → ⊥
+    other same =
+        let sizes : sized 8192 4096 ≡ sized 8192 8192 = cc in
+        let valid : ◌≡◌ {A = ℕ} 4096 8192 = ap (λ its. its.valid) sizes in
+        omega (arith, valid)
