@@ -7,7 +7,7 @@ use Rattle.cc_entry.specs.declared.call.Call.TheVariants as call
 use Rattle.cc_entry.specs.declared.error.CcError.TheVariants as error
 use Rattle.cc_entry.specs.declared.entry.Entry.{Entry}
 use Rattle.cc_entry.specs.declared.entry.Entry.TheVariants as entry
-use Rattle.cc_worked.specs.Values.{a, done, refused, goes_out, begins, ends}
+use Rattle.cc_worked.specs.Values.{a, page, done, refused, goes_out, begins, ends}
 use Rattle.cc_worked.specs.PiecesWithoutEntry.{request}
 
 -- a log is flushed to LSN 4
@@ -21,6 +21,10 @@ none_picked = record { picked = []; written = 0; skipped = 0; failed = 0 }
 -- the request for the second page was served
 abbrev pub step_done : AheadDone
 step_done = record { request = request; whole = true }
+
+-- the page of the request was not read
+abbrev pub step_fails : List Entry
+step_fails = refused 18 1 (call.AheadStep request) (error.ReadFault 1) ∷ entry.FillFailed 18 (page 1) ∷ []
 
 -- a noncached write of a byte is refused for its first page
 abbrev pub one_byte_is_refused : List Entry

@@ -10,7 +10,7 @@ ghost use Rattle.cc_worked.specs.Values.{setup, with_threshold, a};
 ghost use Rattle.cc_worked.specs.PiecesReads.{two_pages, first_byte, a_byte, page_comes_in, past_the_size, write_refused};
 ghost use Rattle.cc_worked.specs.PiecesNoncached.{misaligned};
 ghost use Rattle.cc_worked.specs.PiecesWithoutEntry.{flushed_to_three, appended, log_fails, deferred, posted, dirty, page_of_tick, one_written, step};
-ghost use Rattle.cc_worked.specs.PiecesAnswered.{flushed_to_four, none_picked, step_done, one_byte_is_refused, whole_page, page_is_written};
+ghost use Rattle.cc_worked.specs.PiecesAnswered.{flushed_to_four, none_picked, step_done, step_fails, one_byte_is_refused, whole_page, page_is_written};
 
 /// The answer of a line of one call is what its call was answered, and no answer of another kind.
 pub fn call_is_answered_as_it_ended()
@@ -55,8 +55,14 @@ pub fn worker_lines_are_answered()
     ensures ticked { TickAnswered 17 (answer.Ticked one_written) dirty (page_of_tick ++ dirty) }
     ensures stepped { AheadAnswered setup 18 (answer.Stepped (Some step_done)) two_pages (step ++ two_pages) }
     ensures levels { LevelsAnswered suc 1 a (answer.Levels 8193) two_pages two_pages }
+    ensures tick_wants_memory { TickAnswered 17 (answer.Refused error.NoMemory) dirty dirty }
+    ensures step_failed { AheadAnswered setup 18 (answer.Refused (error.ReadFault 1)) two_pages (step_fails ++ two_pages) }
+    ensures levels_not_cached { LevelsAnswered suc 1 a (answer.Refused error.NotCached) [] [] }
     ensures none_picked { TickAnswered 17 (answer.Ticked none_picked) dirty (page_of_tick ++ dirty) → ⊥ }
     ensures none_stepped { AheadAnswered setup 18 (answer.Stepped None) two_pages (step ++ two_pages) → ⊥ }
+    ensures step_not_refused { AheadAnswered setup 18 (answer.Refused (error.ReadFault 1)) two_pages (step ++ two_pages) → ⊥ }
+    ensures tick_not_refused { TickAnswered 17 (answer.Refused error.NotCached) dirty (page_of_tick ++ dirty) → ⊥ }
+    ensures levels_cached { LevelsAnswered suc 1 a (answer.Refused error.NotCached) two_pages two_pages → ⊥ }
     ensures other_levels { LevelsAnswered suc 1 a (answer.Levels 8192) two_pages two_pages → ⊥ }
 {}
 

@@ -1,18 +1,25 @@
 -- What the workers placed, by its marks.
-use Rattle.std.specs.Prelude.{◌≡◌, true, [], ◌∷◌, ◌++◌, refl}
+use Rattle.std.specs.Prelude.{◌≡◌, true, false, [], ◌∷◌, ◌++◌, refl}
 use Rattle.std.specs.declared.option.Option.TheVariants.{Some}
+use Rattle.std.proofs.Common.{inl}
+use Rattle.cc_entry.specs.declared.place.Request.{Request}
 use Rattle.cc_entry.specs.declared.call.Call.TheVariants as call
+use Rattle.cc_entry.specs.declared.error.CcError.TheVariants as error
+use Rattle.cc_entry.specs.declared.reply.Outcome.TheVariants as outcome
 use Rattle.cc_entry.specs.declared.reply.Reply.TheVariants as reply
 use Rattle.cc_entry.specs.declared.entry.Entry.TheVariants as entry
+use Rattle.cc_model.specs.History.{history}
+use Rattle.cc_model.specs.Reasons.{is_open}
 use Rattle.cc_effects.specs.Asked.{Writes}
-use Rattle.cc_effects.proofs.Starts.{begins, brings, ends_done}
+use Rattle.cc_effects.proofs.Starts.{begins, brings, ends_done, ends_unread}
 use Rattle.cc_effects.proofs.Stretches.{idle-none}
-use Rattle.cc_worked.specs.Values.{page, read_in}
+use Rattle.cc_effects.proofs.Licences.{some-here}
+use Rattle.cc_worked.specs.Values.{setup, a, page, read_in}
 use Rattle.cc_worked.specs.PiecesReads.{two_pages}
-use Rattle.cc_worked.specs.PiecesWithoutEntry.{dirty, page_of_tick, request}
+use Rattle.cc_worked.specs.PiecesWithoutEntry.{dirty, page_of_tick, request, step}
 use Rattle.cc_worked.proofs.PiecesOpened.{computed}
 use Rattle.cc_worked.proofs.Ticks.{ticked}
-use Rattle.cc_worked.proofs.Marks.{Scanned, marks, marks-works, marks-others, around, shows}
+use Rattle.cc_worked.proofs.Marks.{Ended, Scanned, marked-call, marks, marks-works, marks-others, around, shows}
 use Rattle.cc_worked.proofs.pieces_answered.worker_lines_are_answered.Goals as goal
 
 pub returns-clause-ticked : goal.returns-clause-ticked
@@ -35,3 +42,30 @@ returns-clause-none_picked c left =
   where
     other : marks 17 page_of_tick ≡ Scanned [] ∷ [] → ⊥
     other same = absurd (cc)
+
+pub returns-clause-tick_wants_memory : goal.returns-clause-tick_wants_memory
+returns-clause-tick_wants_memory c = inl (idle-none 17 dirty)
+
+pub returns-clause-step_failed : goal.returns-clause-step_failed
+unfolding computed
+returns-clause-step_failed c =
+    (request, ends_unread 18 1 (Some 0) (call.AheadStep request) (page 1) two_pages two_pages (begins 18 (call.AheadStep request) two_pages) refl refl refl refl)
+
+pub returns-clause-levels_not_cached : goal.returns-clause-levels_not_cached
+unfolding computed
+returns-clause-levels_not_cached c =
+    record { idle = idle-none 1 []; closed = record { moment = []; later = []; since = []; ends = refl; begins = refl; holds = refl } }
+
+pub returns-clause-step_not_refused : goal.returns-clause-step_not_refused
+returns-clause-step_not_refused c left =
+    other left.0 (shows 18 (Ended (call.AheadStep left.0) (outcome.Failed (error.ReadFault 1)) ∷ []) step two_pages (marked-call setup 18 (call.AheadStep left.0) (outcome.Failed (error.ReadFault 1)) two_pages (step ++ two_pages) left.1 refl))
+  where
+    other : (asked : Request) → marks 18 step ≡ Ended (call.AheadStep asked) (outcome.Failed (error.ReadFault 1)) ∷ [] → ⊥
+    other asked same = absurd (cc)
+
+pub returns-clause-levels_cached : goal.returns-clause-levels_cached
+unfolding computed
+returns-clause-levels_cached c left = differ (some-here (λ moment. is_open (history moment 0) a ≡ false) two_pages left.closed)
+  where
+    differ : true ≡ false → ⊥
+    differ same = absurd (cc)
