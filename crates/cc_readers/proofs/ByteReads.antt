@@ -15,9 +15,10 @@ use Rattle.cc_model.specs.Sizes.{stored_range}
 use Rattle.cc_model.specs.Ranges.{span_has}
 use Rattle.cc_model.specs.Touches.{size_of, valid_of, is_dirty}
 use Rattle.cc_model.specs.Bytes.{content, on_disk, byte_of, answer, page_size}
-use Rattle.cc_readers.specs.Events.{event_of_act, effects, AreSizes}
+use Rattle.cc_readers.specs.Effects.{effects, AreSizes}
+use Rattle.cc_events.specs.Events.{event_of_act}
 use Rattle.cc_readers.specs.Changes.{filled, change_by}
-use Rattle.cc_readers.specs.declared.events.Event.TheVariants as event
+use Rattle.cc_events.specs.declared.event.Event.TheVariants as event
 use Rattle.cc_readers.specs.declared.bytes.Origin.{Origin}
 use Rattle.cc_readers.specs.declared.bytes.Origin.TheVariants as origin
 use Rattle.cc_readers.specs.declared.bytes.Found.{Found}

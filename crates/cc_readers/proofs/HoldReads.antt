@@ -9,7 +9,7 @@ use Rattle.cc_entry.specs.declared.call.Call.TheVariants as call
 use Rattle.cc_entry.specs.declared.entry.Entry.{Entry}
 use Rattle.cc_model.specs.History.{Effect, Did, CameIn, WentOut, Began, Ended, Synced, effect_of, history}
 use Rattle.cc_model.specs.Holds.{Hold, held_after, holds_of}
-use Rattle.cc_readers.specs.Events.{effects}
+use Rattle.cc_readers.specs.Effects.{effects}
 use Rattle.cc_readers.specs.HoldReads.{made_by, changed_after, held_by_effect}
 use Rattle.cc_readers.proofs.ReaderSteps.{effects_back}
 

@@ -9,7 +9,7 @@ use Rattle.cc_entry.specs.declared.entry.Entry.{Entry}
 use Rattle.cc_model.specs.History.{Effect, Did, CameIn, WentOut, Began, Ended, Synced, effect_of, history}
 use Rattle.cc_model.specs.Touches.{is_mapped}
 use Rattle.cc_model.specs.Settings.{quota_of}
-use Rattle.cc_readers.specs.Events.{effects}
+use Rattle.cc_readers.specs.Effects.{effects}
 use Rattle.cc_readers.specs.QuotaReads.{quota_given}
 use Rattle.cc_readers.proofs.ReaderSteps.{effects_back}
 

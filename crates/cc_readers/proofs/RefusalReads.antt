@@ -10,7 +10,8 @@ use Rattle.cc_model.specs.Setup.{Setup}
 use Rattle.cc_model.specs.History.{Effect, Did, CameIn, WentOut, Began, Ended, Synced, effect_of, history}
 use Rattle.cc_model.specs.Acts.{Act, act_of, Opens, Closes, Resizes, Writes, Zeroes, Stores, Stamps, Discards, Looks}
 use Rattle.cc_model.specs.Objects.{had_map}
-use Rattle.cc_readers.specs.Events.{event_of, event_of_act, effects}
+use Rattle.cc_readers.specs.Effects.{effects}
+use Rattle.cc_events.specs.Events.{event_of, event_of_act}
 use Rattle.cc_entry.specs.declared.call.Call.{Call}
 use Rattle.cc_model.specs.Refusals.{first_of, refusal}
 use Rattle.cc_readers.specs.MapReads.{is_opening}

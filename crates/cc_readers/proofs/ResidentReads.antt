@@ -12,7 +12,8 @@ use Rattle.cc_model.specs.Objects.{objects, truncation}
 use Rattle.cc_model.specs.Ranges.{span_has}
 use Rattle.cc_model.specs.Touches.{size_of, is_mapped}
 use Rattle.cc_model.specs.Residency.{below, moved_by, residents, is_resident}
-use Rattle.cc_readers.specs.Events.{event_of, event_of_act, effects}
+use Rattle.cc_readers.specs.Effects.{effects}
+use Rattle.cc_events.specs.Events.{event_of, event_of_act}
 use Rattle.cc_readers.specs.Changes.{left_by, resident_after}
 use Rattle.cc_readers.proofs.ReaderSteps.{effects_back}
 use Rattle.cc_laws.proofs.ResidencySteps.{residents-mapped, residents-unmapped}

@@ -15,7 +15,8 @@ use Rattle.cc_model.specs.Objects.{had_map}
 use Rattle.cc_model.specs.Touches.{sizes, valid_of}
 use Rattle.cc_model.specs.Images.{begun, image_after, image}
 use Rattle.cc_model.specs.Discards.{is_known, least_valid, low_since}
-use Rattle.cc_readers.specs.Events.{event_of, event_of_act, event_in, effects}
+use Rattle.cc_readers.specs.Effects.{effects}
+use Rattle.cc_events.specs.Events.{event_of, event_of_act, event_in}
 use Rattle.cc_readers.specs.MapReads.{is_opening}
 use Rattle.cc_readers.specs.TransferReads.{is_begin_of, end_of_page, ended_before}
 use Rattle.cc_readers.proofs.ReaderSteps.{effects_back}

@@ -2,8 +2,8 @@
 use Rattle.std.specs.Prelude.{ℕ, ◌/◌, Bool, false, ◌&&◌, nat_lt, List, if◌then◌else◌}
 use Rattle.std.specs.declared.option.Option.{Option}
 use Rattle.std.specs.declared.option.Option.TheVariants.{Some, None}
-use Rattle.cc_readers.specs.declared.events.Event.{Event}
-use Rattle.cc_readers.specs.declared.events.Event.TheVariants as event
+use Rattle.cc_events.specs.declared.event.Event.{Event}
+use Rattle.cc_events.specs.declared.event.Event.TheVariants as event
 use Rattle.cc_readers.specs.declared.bytes.Origin.{Origin}
 use Rattle.cc_readers.specs.declared.bytes.Origin.TheVariants as origin
 use Rattle.cc_readers.specs.declared.bytes.Found.{Found}
@@ -12,7 +12,7 @@ use Rattle.cc_model.specs.History.{Effect}
 use Rattle.cc_model.specs.Ranges.{span_has}
 use Rattle.cc_model.specs.Touches.{size_of, valid_of, is_dirty}
 use Rattle.cc_model.specs.Bytes.{content, on_disk}
-use Rattle.cc_readers.specs.Events.{event_of}
+use Rattle.cc_events.specs.Events.{event_of}
 use Rattle.cc_readers.specs.Changes.{change_of}
 use Rattle.cc_readers.specs.TransferReads.{ended_before}
 

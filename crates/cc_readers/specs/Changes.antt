@@ -2,8 +2,8 @@
 use Rattle.std.specs.Prelude.{ℕ, ◌+◌, ◌-◌, ◌*◌, Bool, not, ◌==◌, ◌&&◌, ◌||◌, nat_lt, List, length, replicate, slice_index, if◌then◌else◌}
 use Rattle.std.specs.declared.option.Option.{Option}
 use Rattle.std.specs.declared.option.Option.TheVariants.{Some, None}
-use Rattle.cc_readers.specs.declared.events.Event.{Event}
-use Rattle.cc_readers.specs.declared.events.Event.TheVariants as event
+use Rattle.cc_events.specs.declared.event.Event.{Event}
+use Rattle.cc_events.specs.declared.event.Event.TheVariants as event
 use Rattle.cc_entry.specs.Pages.{has_byte}
 use Rattle.cc_model.specs.History.{Effect, Did}
 use Rattle.cc_model.specs.Acts.{Act, act_of, Writes, Zeroes, Stores}
@@ -12,7 +12,7 @@ use Rattle.cc_model.specs.Ranges.{span_has}
 use Rattle.cc_model.specs.Sizes.{stored_range}
 use Rattle.cc_model.specs.Touches.{size_of}
 use Rattle.cc_model.specs.Bytes.{page_size}
-use Rattle.cc_readers.specs.Events.{truncation_by}
+use Rattle.cc_events.specs.Events.{truncation_by}
 
 -- the pages of a disk whose bytes all have this value
 unfoldable pub filled : ℕ → ℕ → List ℕ

@@ -1,5 +1,5 @@
 -- What the contracts of the readers cite.
-pub mod Events
+pub mod Effects
 pub mod MapReads
 pub mod HoldReads
 pub mod BarReads

@@ -1,7 +1,7 @@
 -- Whether an event makes a map.
 use Rattle.std.specs.Prelude.{Bool, true, false}
-use Rattle.cc_readers.specs.declared.events.Event.{Event}
-use Rattle.cc_readers.specs.declared.events.Event.TheVariants as event
+use Rattle.cc_events.specs.declared.event.Event.{Event}
+use Rattle.cc_events.specs.declared.event.Event.TheVariants as event
 
 -- whether an event makes a private cache map
 abbrev pub is_opening : Event → Bool

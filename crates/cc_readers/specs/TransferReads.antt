@@ -2,8 +2,8 @@
 use Rattle.std.specs.Prelude.{ℕ, Bool, false, ◌==◌, ◌&&◌, ◌||◌, if◌then◌else◌}
 use Rattle.std.specs.declared.option.Option.{Option}
 use Rattle.std.specs.declared.option.Option.TheVariants.{Some, None}
-use Rattle.cc_readers.specs.declared.events.Event.{Event}
-use Rattle.cc_readers.specs.declared.events.Event.TheVariants as event
+use Rattle.cc_events.specs.declared.event.Event.{Event}
+use Rattle.cc_events.specs.declared.event.Event.TheVariants as event
 
 -- whether a transfer of the page begins
 abbrev pub is_begin_of : Event → ℕ → Bool

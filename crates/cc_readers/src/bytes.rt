@@ -5,17 +5,16 @@ ghost use Rattle.cc_model.specs.Acts.{act_of, Writes, Zeroes, Stores};
 ghost use Rattle.cc_model.specs.Bytes.{byte_of, answer};
 ghost use Rattle.cc_readers.specs.ByteOrigins.{byte_from, look};
 ghost use Rattle.cc_readers.specs.Changes.{filled, change_by, change_of};
-ghost use Rattle.cc_readers.specs.Events.{effects, AreSizes};
+ghost use Rattle.cc_readers.specs.Effects.{effects, AreSizes};
 ghost use Rattle.cc_model.specs.History.{effect_of};
 ghost use Rattle.cc_entry.specs.Pages.{has_byte};
 ghost use Rattle.cc_model.specs.Touches.{valid_of};
 
 use crate::dirty::is_unwritten;
-use crate::events::{Event, event_on};
 use crate::sizes::{sizes, valid_with};
-use crate::touches::{span_has, stored_end};
 use crate::transfers::ended_from;
 use cc_entry::{Bytes, Call, Entry, NoMemory, Outcome, StreamId};
+use cc_events::{Event, event_on, span_has, stored_end};
 use std::alloc::Global;
 
 /// Where a byte comes from.

@@ -6,15 +6,15 @@ ghost use Rattle.cc_entry.specs.Pages.{pages_of, has_page};
 ghost use Rattle.cc_model.specs.Holds.{holds_of, least_id, lesser};
 ghost use Rattle.cc_model.specs.Ranges.{span_has};
 ghost use Rattle.cc_entry.specs.Kinds.{is_pin};
-ghost use Rattle.cc_readers.specs.Events.{effects};
+ghost use Rattle.cc_readers.specs.Effects.{effects};
 ghost use Rattle.cc_model.specs.Conflicts.{has_page_of, held, held_by};
 ghost use Rattle.cc_readers.specs.HoldReads.{hold_of, range_of_reach, range_owed, holds_in, range_if};
 ghost use Rattle.cc_readers.specs.BarReads.{bars_by};
 
 use crate::holds::{OpenHold, Owed, Reach, open_holds};
 use crate::maps::{open_objects, others};
-use crate::touches::range_has;
 use cc_entry::{Call, CcError, Entry, FileId, HoldKind, NoMemory, Span, StreamId};
+use cc_events::range_has;
 use std::alloc::Global;
 
 /// What an open hold may be in the way of.

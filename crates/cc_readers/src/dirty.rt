@@ -4,13 +4,14 @@ ghost use Rattle.std.specs.Prelude.{◌≡◌, ◌++◌, not, IfOk};
 ghost use Rattle.std.specs.List.{list_any, filter};
 ghost use Rattle.cc_model.specs.Numbers.{is_empty};
 ghost use Rattle.cc_model.specs.Touches.{touches, touched, is_dirty, dirty_pages, is_mapped};
-ghost use Rattle.cc_readers.specs.Events.{effects, event_in, touched_pages, AreSizes};
+ghost use Rattle.cc_readers.specs.Effects.{effects, AreSizes};
+ghost use Rattle.cc_events.specs.Events.{event_in, touched_pages};
 
-use crate::events::{Event, event_on};
 use crate::maps::{hold_place, open_objects};
 use crate::pages::{range_before, sorted};
-use crate::touches::{Touching, touching_by};
+use crate::touches::touching_by;
 use cc_entry::{Entry, NoMemory, StreamId};
+use cc_events::{Event, Touching, event_on};
 use std::alloc::Global;
 
 /// Whether a page has a touch that is neither written nor cut, where `ended` says whether its transfer

@@ -5,17 +5,17 @@ ghost use Rattle.std.specs.List.{find};
 ghost use Rattle.std.specs.Option.{option_map};
 ghost use Rattle.cc_model.specs.Ranges.{span_has};
 ghost use Rattle.cc_model.specs.Discards.{is_known, least_valid, low_since, has_grown, unsettled, grown};
-ghost use Rattle.cc_readers.specs.Events.{effects, AreSizes};
+ghost use Rattle.cc_readers.specs.Effects.{effects, AreSizes};
 ghost use Rattle.cc_readers.specs.HoldReads.{range_if};
 
 use crate::conflicts::{has, reach_of};
 use crate::dirty::dirty_pages;
-use crate::events::event_on;
 use crate::holds::Reach;
 use crate::reasons::was_mapped;
 use crate::sizes::{sizes, valid_with};
 use crate::transfers::{ended_from, is_image_known};
 use cc_entry::{Call, CcError, Entry, NoMemory, StreamId};
+use cc_events::event_on;
 use std::alloc::Global;
 
 /// The refusal of a discard by the least dirty page of its span whose image is not known.

@@ -4,11 +4,11 @@ ghost use Rattle.std.specs.Prelude.{◌≡◌, ◌∷◌, [], IfOk};
 ghost use Rattle.std.specs.Option.{option_map};
 ghost use Rattle.cc_model.specs.History.{effect_of};
 ghost use Rattle.cc_model.specs.Holds.{holds_of, held_after, hold_at, repinned};
-ghost use Rattle.cc_readers.specs.Events.{effects};
+ghost use Rattle.cc_readers.specs.Effects.{effects};
 ghost use Rattle.cc_readers.specs.HoldReads.{hold_of, holds_in, new_hold, spot_of, kept_hold, pin_by, made_by, changed_by, changed_after, held_by_effect};
 
-use crate::events::id_in;
 use cc_entry::{Call, Entry, FileId, HoldKind, NoMemory, Outcome, StreamId};
+use cc_events::id_in;
 use std::alloc::Global;
 
 /// The bytes from `from` up to, and without, `to`.

@@ -5,8 +5,9 @@
 //! wherever it has memory. The readers are slow and simple on purpose: a test makes a journal, asks the part of
 //! the cache that keeps the same fact, and compares.
 //!
-//! The crate stands on `cc_entry`, for the values, on `cc_model`, for the definitions, and on `cc_laws`, for
-//! the lemmas on how they step. No part of the cache stands on it: only tests do, those of `cc_tests`.
+//! The crate stands on `cc_entry`, for the values, on `cc_model`, for the definitions, and on `cc_events` and
+//! `cc_laws`, for the lemmas on how they step. No part of the cache stands on it: only tests do, those of
+//! `cc_tests`.
 #![tactic(auto)]
 
 pub mod blocks;
@@ -14,7 +15,6 @@ pub mod bytes;
 pub mod conflicts;
 pub mod dirty;
 pub mod discards;
-pub mod events;
 pub mod holds;
 pub mod maps;
 pub mod needs;

@@ -4,10 +4,12 @@ ghost use Rattle.std.specs.Prelude.{◌≡◌, IfOk};
 ghost use Rattle.cc_model.specs.Numbers.{without};
 ghost use Rattle.cc_model.specs.Objects.{objects};
 ghost use Rattle.cc_model.specs.Holds.{holds_of};
-ghost use Rattle.cc_readers.specs.Events.{effects, objects_after, place_in};
+ghost use Rattle.cc_readers.specs.Effects.{effects};
+ghost use Rattle.cc_events.specs.Events.{objects_after};
+ghost use Rattle.cc_events.specs.Holdings.{place_in};
 
-use crate::events::{Event, Holding, event_on, holding_on};
 use cc_entry::{Entry, NoMemory, StreamId};
+use cc_events::{Event, Holding, event_on, holding_on};
 use std::alloc::Global;
 
 /// The file objects that have a private cache map, the newest first.

@@ -3,14 +3,14 @@
 ghost use Rattle.std.specs.Prelude.{◌≡◌, IfOk};
 ghost use Rattle.cc_model.specs.Ranges.{range_of, cut_range};
 ghost use Rattle.cc_model.specs.Views.{viewed};
-ghost use Rattle.cc_readers.specs.Events.{effects};
+ghost use Rattle.cc_readers.specs.Effects.{effects};
 ghost use Rattle.cc_readers.specs.HoldReads.{range_if};
 ghost use Rattle.cc_readers.specs.ViewReads.{whole_in, cut_in, stored_in, absent_in};
 
 use crate::holds::Reach;
-use crate::touches::stored_end;
 use crate::views::{end_within, first_absent};
 use cc_entry::{Call, Entry, NoMemory, StreamId};
+use cc_events::stored_end;
 use std::alloc::Global;
 
 // So many bytes from a place on.

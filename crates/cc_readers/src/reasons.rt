@@ -4,15 +4,15 @@ ghost use Rattle.std.specs.Prelude.{◌≡◌, ℕ, ◌+◌, ◌*◌, ◌<◌, �
 ghost use Rattle.cc_model.specs.Setup.{Setup};
 ghost use Rattle.cc_model.specs.Acts.{file_of};
 ghost use Rattle.cc_model.specs.Objects.{had_map};
-ghost use Rattle.cc_readers.specs.Events.{effects};
+ghost use Rattle.cc_readers.specs.Effects.{effects};
 ghost use Rattle.cc_readers.specs.MapReads.{is_opening};
 ghost use Rattle.cc_model.specs.Reasons.{not_cached, cached_file, longer, too_long, crosses_blocks, view_boundary, in_order, bad_sizes, is_granularity, bad_granularity, no_log, past_size, beyond_size, past_valid, beyond_valid, refuse_if};
 
 use crate::dirty::has_map;
-use crate::events::{Event, event_on};
 use crate::maps::open_objects;
 use crate::sizes::{sizes, valid};
 use cc_entry::{Call, CcError, Entry, FileId, FileSizes, NoMemory, StreamId};
+use cc_events::{Event, event_on};
 use std::alloc::Global;
 
 /// A refusal where a test holds.

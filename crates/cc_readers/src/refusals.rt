@@ -2,7 +2,7 @@
 
 ghost use Rattle.std.specs.Prelude.{◌≡◌, reverse, IfOk};
 ghost use Rattle.cc_model.specs.Refusals.{first_of};
-ghost use Rattle.cc_readers.specs.Events.{effects};
+ghost use Rattle.cc_readers.specs.Effects.{effects};
 ghost use Rattle.cc_readers.specs.RefusalReads.{no_views_for, use_reasons, IsFirstInArguments, IsRefusal};
 
 use crate::blocks::by_quota;

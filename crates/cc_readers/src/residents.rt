@@ -2,15 +2,16 @@
 
 ghost use Rattle.std.specs.Prelude.{◌≡◌, IfOk};
 ghost use Rattle.cc_readers.specs.Changes.{left_by, resident_after};
-ghost use Rattle.cc_readers.specs.Events.{effects, event_in, AreSizes};
+ghost use Rattle.cc_readers.specs.Effects.{effects, AreSizes};
+ghost use Rattle.cc_events.specs.Events.{event_in};
 ghost use Rattle.cc_model.specs.Residency.{is_resident};
 ghost use Rattle.cc_model.specs.Touches.{size_of};
 
 use crate::dirty::has_map;
-use crate::events::{Event, event_on};
 use crate::sizes::sizes;
-use crate::touches::{span_has, truncation_at};
+use crate::touches::truncation_at;
 use cc_entry::{Entry, NoMemory, StreamId};
+use cc_events::{Event, event_on, span_has};
 use std::alloc::Global;
 
 /// Whether a page of a stream is resident.

@@ -2,12 +2,13 @@
 
 ghost use Rattle.std.specs.Prelude.{◌≡◌, ◌+◌, IfOk, length, vec_len};
 ghost use Rattle.cc_model.specs.Touches.{size_of, valid_of, is_dirty};
-ghost use Rattle.cc_readers.specs.Events.{effects, event_in, size_after, valid_after, AreSizes};
+ghost use Rattle.cc_readers.specs.Effects.{effects, AreSizes};
+ghost use Rattle.cc_events.specs.Events.{event_in, size_after, valid_after};
 
 use crate::dirty::{has_map, is_unwritten};
-use crate::events::{Event, event_on};
-use crate::touches::{stored_end, truncation_at};
+use crate::touches::truncation_at;
 use cc_entry::{Entry, NoMemory, StreamId};
+use cc_events::{Event, event_on, stored_end};
 use std::alloc::Global;
 
 /// The size before each entry of a journal, and after the last one.

@@ -4,11 +4,12 @@ ghost use Rattle.std.specs.Prelude.{◌≡◌, min, max, IfOk};
 ghost use Rattle.cc_model.specs.Touches.{touches};
 ghost use Rattle.cc_entry.specs.Lsns.{joined, alone};
 ghost use Rattle.cc_model.specs.Stamps.{lsns_among, lsns_of};
-ghost use Rattle.cc_readers.specs.Events.{effects, AreSizes};
+ghost use Rattle.cc_readers.specs.Effects.{effects, AreSizes};
 
 use crate::sizes::sizes;
-use crate::touches::{Touching, touching_by};
+use crate::touches::touching_by;
 use cc_entry::{Entry, Lsn, NoMemory, StreamId};
+use cc_events::Touching;
 use std::alloc::Global;
 
 /// The least and the greatest LSN of a page.

@@ -3,11 +3,11 @@
 ghost use Rattle.std.specs.Prelude.{◌≡◌, is_some};
 ghost use Rattle.cc_model.specs.Images.{begun};
 ghost use Rattle.cc_model.specs.Discards.{is_known};
-ghost use Rattle.cc_readers.specs.Events.{effects};
+ghost use Rattle.cc_readers.specs.Effects.{effects};
 ghost use Rattle.cc_readers.specs.TransferReads.{is_begin_of, end_of_page, ended_before};
 
-use crate::events::{Event, event_on};
 use cc_entry::{Entry, StreamId};
+use cc_events::{Event, event_on};
 
 /// Whether the image of a page is known: its last transfer that ended did not fail.
 pub fn is_image_known(journal: &[Entry], stream: StreamId, page: u64) -> bool

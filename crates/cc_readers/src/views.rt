@@ -7,7 +7,7 @@ ghost use Rattle.cc_model.specs.Ranges.{cut_range};
 ghost use Rattle.cc_model.specs.Residency.{is_resident};
 ghost use Rattle.cc_model.specs.Settings.{quota_of};
 ghost use Rattle.cc_model.specs.Cache.{views_of, views_taken};
-ghost use Rattle.cc_readers.specs.Events.{effects, AreSizes};
+ghost use Rattle.cc_readers.specs.Effects.{effects, AreSizes};
 ghost use Rattle.cc_model.specs.Views.{no_vacbs, not_resident};
 ghost use Rattle.cc_readers.specs.ViewReads.{first_absent, read_refusal};
 ghost use Rattle.cc_readers.specs.QuotaReads.{quota_asked, quota_given};

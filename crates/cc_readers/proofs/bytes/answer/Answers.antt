@@ -1,7 +1,7 @@
 use Rattle.std.proofs.Common.{◌-◌, ◌^◌, arith}
 use Rattle.cc_model.specs.Bytes.{byte_of}
 use Rattle.cc_readers.specs.Changes.{filled}
-use Rattle.cc_readers.specs.Events.{effects}
+use Rattle.cc_readers.specs.Effects.{effects}
 use Rattle.cc_readers.proofs.ByteReads.{read_more, read_done, size_now}
 use Rattle.cc_readers.proofs.bytes.answer.Goals as goal
 

@@ -2,7 +2,7 @@ use Rattle.std.proofs.Common.{◌≡◌, ◌-◌, min, map}
 use Rattle.std.specs.List.{range_with_len}
 use Rattle.cc_model.specs.Bytes.{byte_of}
 use Rattle.cc_readers.specs.Changes.{filled}
-use Rattle.cc_readers.specs.Events.{effects}
+use Rattle.cc_readers.specs.Effects.{effects}
 use Rattle.cc_readers.proofs.bytes.answer.Given as goal
 
 abbrev pub invariant-loop-i : goal.invariant-loop-i

@@ -1,7 +1,7 @@
 use Rattle.std.proofs.Common.{◌≡◌, ℕ, IfOk, arith, subst, sym}
 use Rattle.std.proofs.lemmas.Bool.{lt-ltb, le-ltb}
 use Rattle.cc_readers.specs.Changes.{filled}
-use Rattle.cc_readers.specs.Events.{effects}
+use Rattle.cc_readers.specs.Effects.{effects}
 use Rattle.cc_model.specs.Touches.{valid_of}
 use Rattle.cc_laws.proofs.ByteSteps.{byte_of-below, byte_of-above}
 use Rattle.cc_readers.proofs.bytes.byte_at.Goals as goal

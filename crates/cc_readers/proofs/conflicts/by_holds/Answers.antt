@@ -3,7 +3,7 @@ use Rattle.cc_entry.specs.declared.call.Call.{Call}
 use Rattle.cc_readers.specs.declared.holds.OpenHold.{OpenHold}
 use Rattle.cc_readers.specs.declared.conflicts.Bar.TheVariants as bar
 use Rattle.cc_model.specs.Holds.{Hold, least_id}
-use Rattle.cc_readers.specs.Events.{effects}
+use Rattle.cc_readers.specs.Effects.{effects}
 use Rattle.cc_model.specs.Conflicts.{has_page_of, held, held_by}
 use Rattle.cc_readers.specs.HoldReads.{hold_of}
 use Rattle.cc_readers.specs.BarReads.{bars_by}

@@ -1,6 +1,6 @@
 use Rattle.std.proofs.Common.{◌≡◌, not, List, IfOk, sym, ◌∙◌, ap, subst}
 use Rattle.std.proofs.lemmas.List.{nil_from_length}
-use Rattle.cc_readers.specs.declared.touches.Touching.TheVariants as touching
+use Rattle.cc_events.specs.declared.touching.Touching.TheVariants as touching
 use Rattle.cc_model.specs.Numbers.{is_empty}
 use Rattle.cc_model.specs.Sizes.{Touch}
 use Rattle.cc_readers.proofs.TouchReads.{touches_back, touches_none, begins_ended, begins_open}

@@ -1,6 +1,7 @@
 use Rattle.std.proofs.Common.{◌≡◌, ℕ, List, ◌++◌, IfOk, ap, subst, sym, ◌∙◌}
 use Rattle.std.proofs.lemmas.List.{nil_from_length}
-use Rattle.cc_readers.specs.Events.{effects, event_in, touched_pages}
+use Rattle.cc_readers.specs.Effects.{effects}
+use Rattle.cc_events.specs.Events.{event_in, touched_pages}
 use Rattle.cc_readers.proofs.DirtyReads.{touched_back, touched_none}
 use Rattle.cc_readers.proofs.dirty.+touched.Goals as goal
 

@@ -1,10 +1,10 @@
 use Rattle.std.proofs.Common.{◌≡◌, ℕ, Bool, Some, None, IfOk, ap, subst, sym, ◌∙◌}
 use Rattle.std.proofs.lemmas.List.{nil_from_length}
-use Rattle.cc_readers.specs.declared.events.Event.{Event}
+use Rattle.cc_events.specs.declared.event.Event.{Event}
 use Rattle.cc_model.specs.Objects.{had_map}
 use Rattle.cc_model.specs.Touches.{valid_of}
 use Rattle.cc_model.specs.Discards.{least_valid}
-use Rattle.cc_readers.specs.Events.{effects}
+use Rattle.cc_readers.specs.Effects.{effects}
 use Rattle.cc_readers.specs.TransferReads.{ended_before}
 use Rattle.cc_readers.proofs.TransferSteps.{low_back, low_none}
 use Rattle.cc_readers.proofs.discards.+lowest_since.Goals as goal

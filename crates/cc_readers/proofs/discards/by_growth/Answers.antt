@@ -8,7 +8,7 @@ use Rattle.cc_entry.specs.declared.error.CcError.TheVariants as error
 use Rattle.cc_model.specs.Ranges.{span_has}
 use Rattle.cc_model.specs.Touches.{dirty_pages}
 use Rattle.cc_model.specs.Discards.{has_grown, grown}
-use Rattle.cc_readers.specs.Events.{effects}
+use Rattle.cc_readers.specs.Effects.{effects}
 use Rattle.cc_readers.specs.HoldReads.{range_if}
 use Rattle.cc_readers.proofs.discards.by_growth.Goals as goal
 

@@ -8,7 +8,7 @@ use Rattle.cc_entry.specs.declared.error.CcError.TheVariants as error
 use Rattle.cc_model.specs.Ranges.{span_has}
 use Rattle.cc_model.specs.Touches.{dirty_pages}
 use Rattle.cc_model.specs.Discards.{is_known, unsettled}
-use Rattle.cc_readers.specs.Events.{effects}
+use Rattle.cc_readers.specs.Effects.{effects}
 use Rattle.cc_readers.specs.HoldReads.{range_if}
 use Rattle.cc_readers.proofs.discards.by_images.Goals as goal
 

@@ -1,8 +1,9 @@
 use Rattle.std.proofs.Common.{sym, ◌∙◌}
 use Rattle.std.proofs.lemmas.List.{nil_from_length}
 use Rattle.cc_model.specs.Holds.{holds_of}
-use Rattle.cc_readers.specs.Events.{effects}
-use Rattle.cc_readers.proofs.HoldPlaces.{choose_same, choose_other, place_in_back, place_in_none, place_after-repins, place_after-repins_none}
+use Rattle.cc_readers.specs.Effects.{effects}
+use Rattle.cc_readers.proofs.HoldPlaces.{place_in_back, place_in_none, place_after-repins, place_after-repins_none}
+use Rattle.cc_events.proofs.HoldEvents.{choose_same, choose_other}
 use Rattle.cc_readers.proofs.maps.+hold_place.Goals as goal
 
 pub returns-in_default : goal.returns-in_default

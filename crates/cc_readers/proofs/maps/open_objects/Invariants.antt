@@ -1,6 +1,6 @@
 use Rattle.std.proofs.Common.{◌≡◌, take}
 use Rattle.cc_model.specs.Objects.{objects}
-use Rattle.cc_readers.specs.Events.{effects}
+use Rattle.cc_readers.specs.Effects.{effects}
 use Rattle.cc_readers.proofs.maps.open_objects.Given as goal
 
 abbrev pub invariant-loop-entry : goal.invariant-loop-entry

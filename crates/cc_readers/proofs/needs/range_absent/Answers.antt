@@ -3,7 +3,7 @@ use Rattle.std.specs.List.{find}
 use Rattle.cc_entry.specs.Pages.{pages_of}
 use Rattle.cc_model.specs.Ranges.{cut_range}
 use Rattle.cc_model.specs.Residency.{is_resident}
-use Rattle.cc_readers.specs.Events.{effects}
+use Rattle.cc_readers.specs.Effects.{effects}
 use Rattle.cc_readers.proofs.AbsentReads.{absent_none, absent_some}
 use Rattle.cc_readers.proofs.needs.range_absent.Goals as goal
 

@@ -3,7 +3,7 @@ use Rattle.std.specs.declared.option.Option.{Option}
 use Rattle.cc_entry.specs.Place.{File}
 use Rattle.cc_entry.specs.declared.error.CcError.TheVariants as error
 use Rattle.cc_model.specs.Numbers.{is_among}
-use Rattle.cc_readers.specs.Events.{effects}
+use Rattle.cc_readers.specs.Effects.{effects}
 use Rattle.cc_model.specs.Reasons.{not_cached, refuse_if}
 use Rattle.cc_readers.proofs.reasons.by_map.Goals as goal
 

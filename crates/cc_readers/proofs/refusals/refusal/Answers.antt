@@ -4,7 +4,7 @@ use Rattle.cc_entry.specs.declared.error.CcError.{CcError}
 use Rattle.cc_model.specs.Setup.{Setup}
 use Rattle.cc_model.specs.Touches.{valid_of}
 use Rattle.cc_model.specs.Refusals.{first_of, refusal}
-use Rattle.cc_readers.specs.Events.{effects}
+use Rattle.cc_readers.specs.Effects.{effects}
 use Rattle.cc_readers.specs.RefusalReads.{use_reasons}
 use Rattle.cc_readers.proofs.RefusalReads.{refusal_early, refusal_late}
 use Rattle.cc_readers.proofs.refusals.refusal.Goals as goal

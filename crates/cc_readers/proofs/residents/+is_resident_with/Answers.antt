@@ -1,7 +1,8 @@
 use Rattle.std.proofs.Common.{◌≡◌, Bool, IfOk, sym, ◌∙◌, ap, subst}
 use Rattle.std.proofs.lemmas.List.{nil_from_length}
 use Rattle.cc_model.specs.History.{effect_of}
-use Rattle.cc_readers.specs.Events.{effects, event_of}
+use Rattle.cc_readers.specs.Effects.{effects}
+use Rattle.cc_events.specs.Events.{event_of}
 use Rattle.cc_readers.specs.Changes.{resident_after}
 use Rattle.cc_readers.proofs.ResidentReads.{resident_back, resident_none, resident_unmapped}
 use Rattle.cc_readers.proofs.residents.+is_resident_with.Goals as goal

@@ -1,6 +1,6 @@
 use Rattle.std.proofs.Common.{ℕ, List, [], ◌∷◌, ◌++◌, sym, ◌∙◌, ap, subst}
 use Rattle.std.proofs.lemmas.List.{nil_from_length}
-use Rattle.cc_readers.specs.Events.{AreSizes}
+use Rattle.cc_readers.specs.Effects.{AreSizes}
 use Rattle.cc_readers.proofs.SizeReads.{sizes_more, sizes_none}
 use Rattle.cc_readers.proofs.sizes.+sizes.Goals as goal
 

@@ -1,7 +1,7 @@
 use Rattle.std.proofs.Common.{◌≡◌, ℕ, List, IfOk, sym, ◌∙◌, ap, subst}
 use Rattle.std.specs.declared.option.Option.{Option}
 use Rattle.std.proofs.lemmas.List.{nil_from_length}
-use Rattle.cc_readers.specs.declared.touches.Touching.TheVariants as touching
+use Rattle.cc_events.specs.declared.touching.Touching.TheVariants as touching
 use Rattle.cc_entry.specs.Lsns.{joined, alone}
 use Rattle.cc_model.specs.Stamps.{lsns_among}
 use Rattle.cc_model.specs.Sizes.{Touch}

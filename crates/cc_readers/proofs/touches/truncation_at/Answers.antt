@@ -1,7 +1,7 @@
 use Rattle.std.proofs.Common.{ℕ, List, arith, sym, ◌∙◌, ap}
 use Rattle.cc_model.specs.Numbers.{is_among, without}
 use Rattle.cc_model.specs.Objects.{objects}
-use Rattle.cc_readers.specs.Events.{effects}
+use Rattle.cc_readers.specs.Effects.{effects}
 use Rattle.cc_readers.proofs.TouchReads.{counts}
 use Rattle.cc_readers.proofs.touches.truncation_at.Goals as goal
 

@@ -1,6 +1,6 @@
 use Rattle.std.proofs.Common.{ap, sym, ◌∙◌}
 use Rattle.std.proofs.lemmas.List.{nil_from_length}
-use Rattle.cc_readers.specs.declared.events.Event.{Event}
+use Rattle.cc_events.specs.declared.event.Event.{Event}
 use Rattle.cc_readers.specs.TransferReads.{is_begin_of}
 use Rattle.cc_readers.proofs.RefusalReads.{first_holds, first_fails}
 use Rattle.cc_readers.proofs.TransferSteps.{begun_back, begun_none}

@@ -1,6 +1,6 @@
 use Rattle.std.proofs.Common.{Some, None, ap, sym, ◌∙◌}
 use Rattle.std.proofs.lemmas.List.{nil_from_length}
-use Rattle.cc_readers.specs.declared.events.Event.{Event}
+use Rattle.cc_events.specs.declared.event.Event.{Event}
 use Rattle.cc_readers.specs.TransferReads.{end_of_page}
 use Rattle.cc_readers.proofs.TransferSteps.{known_back, known_none, known_begun, known_unbegun}
 use Rattle.cc_readers.proofs.transfers.+is_image_known.Goals as goal

@@ -1,7 +1,7 @@
 use Rattle.std.proofs.Common.{◌≡◌, ℕ, IfOk, sym, ◌∙◌, subst}
 use Rattle.std.specs.declared.option.Option.TheVariants.{Some, None}
 use Rattle.std.proofs.lemmas.List.{nil_from_length}
-use Rattle.cc_readers.specs.Events.{effects}
+use Rattle.cc_readers.specs.Effects.{effects}
 use Rattle.cc_readers.proofs.QuotaReads.{quota_back, quota_none, quota_kept, quota_made}
 use Rattle.cc_readers.proofs.views.+quota.Goals as goal
 

@@ -5,7 +5,7 @@ use Rattle.cc_entry.specs.declared.error.CcError.TheVariants as error
 use Rattle.cc_entry.specs.Pages.{pages_of}
 use Rattle.cc_model.specs.Ranges.{cut_range}
 use Rattle.cc_model.specs.Residency.{is_resident}
-use Rattle.cc_readers.specs.Events.{effects}
+use Rattle.cc_readers.specs.Effects.{effects}
 use Rattle.cc_readers.proofs.views.absent_in.Goals as goal
 
 pub returns : goal.returns

@@ -1,7 +1,7 @@
 use Rattle.std.proofs.Common.{ℕ, ◌+◌, ◌-◌, arith, sym, ◌∙◌, ap}
 use Rattle.std.specs.List.{range_with_len, fold}
 use Rattle.cc_model.specs.Cache.{views_of, views_taken}
-use Rattle.cc_readers.specs.Events.{effects}
+use Rattle.cc_readers.specs.Effects.{effects}
 use Rattle.cc_readers.proofs.QuotaReads.{fold_more, fold_done}
 use Rattle.cc_readers.proofs.views.all_views.Goals as goal
 

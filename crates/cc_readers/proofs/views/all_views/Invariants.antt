@@ -1,7 +1,7 @@
 use Rattle.std.proofs.Common.{◌≡◌, ◌+◌, ◌-◌, ◌*◌, ◌≤◌}
 use Rattle.std.specs.List.{range_with_len, fold}
 use Rattle.cc_model.specs.Cache.{views_of}
-use Rattle.cc_readers.specs.Events.{effects}
+use Rattle.cc_readers.specs.Effects.{effects}
 use Rattle.cc_readers.proofs.views.all_views.Given as goal
 
 abbrev pub invariant-loop-n : goal.invariant-loop-n

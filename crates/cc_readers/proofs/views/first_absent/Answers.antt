@@ -1,6 +1,6 @@
 use Rattle.std.proofs.Common.{◌+◌, ◌-◌, ◌/◌, not, sym, ◌∙◌}
 use Rattle.cc_model.specs.Residency.{is_resident}
-use Rattle.cc_readers.specs.Events.{effects}
+use Rattle.cc_readers.specs.Effects.{effects}
 use Rattle.cc_readers.proofs.AbsentReads.{find_here, find_next}
 use Rattle.cc_readers.proofs.views.first_absent.Goals as goal
 

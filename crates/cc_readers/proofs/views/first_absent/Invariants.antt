@@ -2,7 +2,7 @@ use Rattle.std.proofs.Common.{◌≡◌, ◌-◌, not}
 use Rattle.std.specs.List.{find, range_with_len}
 use Rattle.cc_entry.specs.Pages.{pages_of}
 use Rattle.cc_model.specs.Residency.{is_resident}
-use Rattle.cc_readers.specs.Events.{effects}
+use Rattle.cc_readers.specs.Effects.{effects}
 use Rattle.cc_readers.proofs.views.first_absent.Given as goal
 
 abbrev pub invariant-loop-page : goal.invariant-loop-page
