@@ -1,0 +1,4 @@
+pub mod Kept
+pub mod Reads
+pub mod After
+pub mod Request
