@@ -10,7 +10,7 @@ use Rattle.cc_vacb.proofs.Put.{Some≢None}
 use Rattle.cc_vacb.proofs.Count.{count_in-used}
 use Rattle.cc_vacb.proofs.Bound.{blocks_bound}
 use Rattle.cc_vacb.proofs.Digits.{led_to_entry}
-use Rattle.cc_vacb.proofs.Sizes.{size_in, levels_range, number_covered, prefix_covered, root_slot, least_levels, width_large, width_small, width_bound, width_deep, flat_size}
+use Rattle.cc_vacb.proofs.Sizes.{size_in, levels_range, number_covered, prefix_covered, root_slot, least_levels, width_large, width_small, width_bound, flat_size}
 use Rattle.std.proofs.lemmas.Bool.{cases_lt, cases_eq}
 use Rattle.std.specs.Prelude.{IsSome}
 
@@ -136,10 +136,20 @@ resized size top new to bs cs x f s c e l n w = record {
 pub resized_count : (top to : ℕ) (bs cs : List Block) → ChangesTop top to bs cs → count_in cs ≡ count_in bs
 resized_count top to bs cs c = omega (arith, c.count, count_in-used bs, count_in-used cs)
 
--- the width after the levels were lowered to one at least
-pub lowered_width : (size top new to w : ℕ) (bs cs : List Block) → IsIndex size bs → ChangesTop top to bs cs → top + 1 ≡ levels_of size → to < top → w ≡ width_of new → 128 ≤ w → length (block_in bs 0).slots ≤ length (block_in cs 0).slots → length (block_in cs 0).slots ≡ width_of new
-lowered_width size top new to w bs cs x c e l f g h =
-    omega (arith, x.width, width_deep size (omega (arith, e)), c.tree.root_wide, h, (width_bound new).1)
+-- a size that is no greater has no more levels
+pub no_higher : (new size to top : ℕ) → new ≤ size → size < 2 ^ 64 → to + 1 ≡ levels_of new → top + 1 ≡ levels_of size → to ≤ top
+no_higher new size to top h l e f =
+    let least = least_levels new (levels_of new) (omega arith) (size_in new) in
+    let most = least_levels size (levels_of size) l (size_in size) in
+    omega (arith, least.least (levels_of size) most.some (omega (arith, h, most.covers)))
+
+-- the width after the levels were lowered for a size that is no greater
+pub lowered_width : (size top new to w : ℕ) (bs cs : List Block) → IsIndex size bs → ChangesTop top to bs cs → new ≤ size → w ≡ width_of new → 128 ≤ w → length (block_in bs 0).slots ≤ length (block_in cs 0).slots → length (block_in cs 0).slots ≡ width_of new
+lowered_width size top new to w bs cs x c l f g h =
+    elim (cases_lt 1048576 new) [
+      | inl k ↦ omega (arith, x.width, width_large size (omega (arith, k, l)), c.tree.root_wide, h, (width_bound new).1)
+      | inr k ↦ absurd (omega (arith, width_small new k))
+    ]
 
 pub wide_width : (new w n : ℕ) → w ≡ width_of new → 128 ≤ w → n ≡ 128 → n ≡ width_of new
 wide_width new w n e l f = omega (arith, (width_bound new).1)

@@ -4,7 +4,7 @@
 //! on the steps of a look-up bounds all the index blocks that it visits. The calls that change the
 //! index look up uncounted.
 
-ghost use Rattle.std.specs.Prelude.{◌≡◌, ◌≢◌, ℕ, ◌+◌, ◌*◌, ◌-◌, ◌^◌, ◌<◌, ◌≤◌, IfOk, OnOk, OnErr, IsSome, is_some, if◌then◌else◌, None, Some};
+ghost use Rattle.std.specs.Prelude.{◌≡◌, ◌≢◌, ℕ, ◌+◌, ◌*◌, ◌-◌, ◌^◌, ◌<◌, ◌≤◌, IfOk, IsOk, OnOk, OnErr, IsSome, is_some, if◌then◌else◌, None, Some};
 ghost use Rattle.cc_vacb.specs.Index.{StartsBelow, entry_at, entry_count, block_count, slot_at};
 ghost use Rattle.cc_vacb.specs.Levels.{levels_of, IsLeastLevels};
 
@@ -93,10 +93,12 @@ impl ViewIndex {
         tree::take_view(&mut self.blocks, top, block)
     }
 
-    /// The index of the same entries for another size. Nothing is changed where memory is wanting.
+    /// The index of the same entries for another size. A size that is no greater takes no memory, and nothing
+    /// is changed where memory is wanting.
     pub fn resize(&mut self, size: u64) -> Result<(), NoMemory>
         requires { size < self.old.size
             → (block : ℕ) → IsSome (entry_at self.old block) → StartsBelow block size }
+        ensures smaller { size ≤ self.old.size → IsOk result }
         ensures size { OnOk result (self.new.size ≡ size) }
         ensures entries { (block : ℕ) → entry_at self.new block ≡ entry_at self.old block }
         ensures count { entry_count self.new ≡ entry_count self.old }
@@ -110,7 +112,7 @@ impl ViewIndex {
             self.size = size;
             return Ok(());
         }
-        if to < top {
+        if size <= self.size {
             roots::lower(&mut self.blocks, top, to);
             self.size = size;
             return Ok(());

@@ -1,6 +1,6 @@
 //! The views.
 
-ghost use Rattle.std.specs.Prelude.{◌≡◌, ℕ, ◌+◌, ◌<◌, ◌≤◌, [], length, IsSome, IsTrue, position, slice_get, nat_eq, IfOk, OnOk, OnErr, None, Some, is_some};
+ghost use Rattle.std.specs.Prelude.{◌≡◌, ℕ, ◌+◌, ◌<◌, ◌≤◌, [], length, IsSome, IsTrue, position, slice_get, nat_eq, IfOk, IsOk, OnOk, OnErr, None, Some, is_some};
 ghost use Rattle.std.specs.Option.{option_copied, option_copied_mut};
 ghost use Rattle.std.specs.Borrow.{sem};
 ghost use Rattle.cc_vacb.specs.Index.{StartsBelow, Index, entry_at};
@@ -57,6 +57,29 @@ impl Views {
         })
     }
 
+    /// How many blocks are mapped.
+    pub fn len(&self) -> usize
+        ensures count { result ≡ length self.now.views }
+        ensures few { result ≤ 64 }
+        ensures sound { IsSound self.now }
+    {
+        self.order.len()
+    }
+
+    /// The most blocks that may be mapped.
+    pub fn quota(&self) -> Quota
+        ensures { result ≡ self.now.quota }
+    {
+        self.quota
+    }
+
+    /// How many bytes the stream has.
+    pub fn size(&self) -> u64
+        ensures { result ≡ self.now.size }
+    {
+        self.size
+    }
+
     /// The frames of a mapped block.
     pub fn frames(&self, block: u64) -> Option<&Frames>
         ensures frames { option_copied result ≡ frames_at self.now block }
@@ -110,9 +133,10 @@ impl Views {
         }
     }
 
-    /// The same blocks for another size of the stream.
+    /// The same blocks for another size of the stream. One that is no greater takes no memory.
     pub fn resize(&mut self, size: u64) -> Result<(), NoMemory>
         requires { (block : ℕ) → IsSome (frames_at self.old block) → StartsBelow block size }
+        ensures smaller { size ≤ self.old.size → IsOk result }
         ensures ok { OnOk result (self.new ≡ record self.old { size = size }) }
         ensures err { OnErr result (self.new ≡ self.old) }
     {
@@ -160,7 +184,8 @@ impl Views {
         None
     }
 
-    fn block_at(&self, place: usize) -> u64
+    /// The mapped block at a place of the order, counted from the least recently used.
+    pub fn block_at(&self, place: usize) -> u64
         requires { place < length self.now.views }
         ensures { slice_get (mapped_blocks self.now) place ≡ Some result }
     {

@@ -1,7 +1,7 @@
 use Rattle.std.proofs.Common.{◌<◌, sym, subst, ap, arith, ◌∙◌, ℕ}
 use Rattle.std.specs.Prelude.{IsSome}
 use Rattle.cc_vacb.specs.Index.{Index, entry_at, entry_count, StartsBelow}
-use Rattle.cc_vacb.proofs.Kept.{Stays, small_at, small_flat, flat_top, width_least, resized, resized_entry, resized_count, lowered_width, wide_width}
+use Rattle.cc_vacb.proofs.Kept.{Stays, small_at, small_flat, flat_top, width_least, resized, resized_entry, resized_count, lowered_width, no_higher, wide_width}
 use Rattle.cc_vacb.proofs.index.ViewIndex.resize.Goals as goal
 
 pub flatten-requires-clause-small : goal.flatten-requires-clause-small
@@ -32,21 +32,27 @@ pub returns-then-width-lt128-clause-count : goal.returns-then-width-lt128-clause
 returns-then-width-lt128-clause-count c =
     resized_count _ _ c.self.inside.blocks.items c.flatten.new.blocks.items c.flatten.ensures.changed ∙ ap (λ (i : Index). entry_count i) c.self.view_is
 
+pub lower-requires-clause-order : goal.lower-requires-clause-order
+lower-requires-clause-order c = no_higher c.args.size c.self.inside.size c.top_for-to.result c.top_for-top.result c.if-size-self.true c.self.invariant.fits c.top_for-to.ensures.levels c.top_for-top.ensures.levels
+
+pub grow-requires-clause-order : goal.grow-requires-clause-order
+grow-requires-clause-order c = no_higher c.self.inside.size c.args.size c.top_for-top.result c.top_for-to.result (omega (arith, c.if-size-self.false)) c.ranges.size.fits c.top_for-top.ensures.levels c.top_for-to.ensures.levels
+
 pub lower-requires-clause-small : goal.lower-requires-clause-small
 lower-requires-clause-small c =
     let x = c.self.inside in
     let s : Stays x.size c.args.size x.blocks.items = subst (λ (i : Index). c.args.size < i.size → (n : ℕ) → IsSome (entry_at i n) → StartsBelow n c.args.size) (sym c.self.view_is) c.requires in
     small_at x.size c.top_for-top.result c.args.size c.top_for-to.result x.blocks.items c.top_for-top.ensures.levels c.top_for-to.ensures.levels c.self.invariant c.ranges.size.fits s
 
-pub invariant_of-self-then-to-top : goal.invariant_of-self-then-to-top
-invariant_of-self-then-to-top c =
+pub invariant_of-self-then-size-self : goal.invariant_of-self-then-size-self
+invariant_of-self-then-size-self c =
     let s : Stays c.self.inside.size c.args.size c.self.inside.blocks.items = subst (λ (i : Index). c.args.size < i.size → (n : ℕ) → IsSome (entry_at i n) → StartsBelow n c.args.size) (sym c.self.view_is) c.requires in
     let d = c.lower.ensures.changed in
-    let w = lowered_width c.self.inside.size c.top_for-top.result c.args.size c.top_for-to.result c.width_for-width.result c.self.inside.blocks.items c.lower.new.blocks.items c.self.invariant d c.top_for-top.ensures.levels c.if-to-top.true c.width_for-width.ensures c.if-width-lt128.false c.lower.ensures.wide in
-    resized c.self.inside.size c.top_for-top.result c.args.size c.top_for-to.result c.self.inside.blocks.items c.lower.new.blocks.items c.self.invariant c.top_for-top.ensures.levels s d c.top_for-to.ensures.levels c.ranges.size.fits (omega (arith, d.len, c.self.invariant.numbers, c.if-to-top.true)) w
+    let w = lowered_width c.self.inside.size c.top_for-top.result c.args.size c.top_for-to.result c.width_for-width.result c.self.inside.blocks.items c.lower.new.blocks.items c.self.invariant d c.if-size-self.true c.width_for-width.ensures c.if-width-lt128.false c.lower.ensures.wide in
+    resized c.self.inside.size c.top_for-top.result c.args.size c.top_for-to.result c.self.inside.blocks.items c.lower.new.blocks.items c.self.invariant c.top_for-top.ensures.levels s d c.top_for-to.ensures.levels c.ranges.size.fits (omega (arith, d.len, c.self.invariant.numbers, no_higher c.args.size c.self.inside.size c.top_for-to.result c.top_for-top.result c.if-size-self.true c.self.invariant.fits c.top_for-to.ensures.levels c.top_for-top.ensures.levels)) w
 
-pub returns-then-to-top-clause-count : goal.returns-then-to-top-clause-count
-returns-then-to-top-clause-count c =
+pub returns-then-size-self-clause-count : goal.returns-then-size-self-clause-count
+returns-then-size-self-clause-count c =
     resized_count _ _ c.self.inside.blocks.items c.lower.new.blocks.items c.lower.ensures.changed ∙ ap (λ (i : Index). entry_count i) c.self.view_is
 
 pub invariant_of-self-2 : goal.invariant_of-self-2

@@ -1,0 +1,6 @@
+mod Frames
+mod Lists
+mod Kept
+mod Bytes
+mod Spans
+mod Cuts

@@ -1,0 +1,65 @@
+-- What changes of the resident pages of a stream.
+use Rattle.std.specs.Prelude.{◌≡◌, ◌≢◌, ℕ, ◌*◌, ◌/◌, ◌<◌, ◌≤◌, Bool, true, false, ◌&&◌, nat_le, nat_lt, Option, None}
+use Rattle.std.specs.Option.{option_map}
+use Rattle.cc_entry.specs.Pages.{has_byte}
+use Rattle.cc_entry.specs.Place.{Range}
+use Rattle.cc_pages.specs.Pages.{Page}
+use Rattle.cc_views.specs.Views.{Mapped}
+use Rattle.cc_resident.specs.Residents.{frame_at, page_at, byte_at, is_resident}
+
+-- every page but one is as it was
+abbrev pub KeepsOthers : Mapped → Mapped → ℕ → Type 0
+KeepsOthers old new page = (p : ℕ) → p ≢ page → page_at new p ≡ page_at old p
+
+-- The bytes of a range become these, where their page is resident; every other byte is as it was, and the
+-- same pages are resident.
+pub record Covers (old new : Mapped) (range : Range) (byte : ℕ → ℕ) : Type 0 where
+  pub inside : (i : ℕ) → has_byte range i ≡ true → byte_at new i ≡ option_map (λ _. byte i) (byte_at old i)
+  pub outside : (i : ℕ) → has_byte range i ≡ false → byte_at new i ≡ byte_at old i
+  pub pages : (p : ℕ) → is_resident new p ≡ is_resident old p
+
+-- A stream is cut to a size: the pages that start at or past it are gone, the others are still resident
+-- with their bytes, but for those at or past the size, which are 0.
+pub record Cuts (old new : Mapped) (size : ℕ) : Type 0 where
+  pub gone : (p : ℕ) → size ≤ 4096 * p → page_at new p ≡ None
+  pub kept : (p : ℕ) → 4096 * p < size → is_resident new p ≡ is_resident old p
+  pub below : (i : ℕ) → i < size → byte_at new i ≡ byte_at old i
+  pub past : (i : ℕ) → size ≤ i → 4096 * (i / 4096) < size → byte_at new i ≡ option_map (λ _. 0) (byte_at old i)
+
+-- Of the steps: the frame of one page becomes so, and every other one is as it was
+pub record Puts (old new : Mapped) (page : ℕ) (frame : Option Page) : Type 0 where
+  pub here : frame_at new page ≡ frame
+  pub others : (p : ℕ) → p ≢ page → frame_at new p ≡ frame_at old p
+  pub quota : new.quota ≡ old.quota
+  pub size : new.size ≡ old.size
+
+-- every frame is as it was
+pub record Keeps (old new : Mapped) : Type 0 where
+  pub frames : (p : ℕ) → frame_at new p ≡ frame_at old p
+  pub quota : new.quota ≡ old.quota
+  pub size : new.size ≡ old.size
+
+-- every frame whose page passes a test is gone, and every other one is as it was
+pub record Clears (old new : Mapped) (test : ℕ → Bool) : Type 0 where
+  pub gone : (p : ℕ) → test p ≡ true → frame_at new p ≡ None
+  pub kept : (p : ℕ) → test p ≡ false → frame_at new p ≡ frame_at old p
+  pub quota : new.quota ≡ old.quota
+  pub size : new.size ≡ old.size
+
+-- each byte of a resident page whose place passes a test is 0, every other one is as it was, and the same
+-- pages are resident
+pub record Zeroes (old new : Mapped) (test : ℕ → Bool) : Type 0 where
+  pub inside : (i : ℕ) → test i ≡ true → byte_at new i ≡ option_map (λ _. 0) (byte_at old i)
+  pub outside : (i : ℕ) → test i ≡ false → byte_at new i ≡ byte_at old i
+  pub pages : (p : ℕ) → is_resident new p ≡ is_resident old p
+
+-- the pages that start at or past a size are gone, and every other frame is as it was
+pub record CutsPages (old new : Mapped) (size : ℕ) : Type 0 where
+  pub gone : (p : ℕ) → size ≤ 4096 * p → frame_at new p ≡ None
+  pub kept : (p : ℕ) → 4096 * p < size → frame_at new p ≡ frame_at old p
+  pub quota : new.quota ≡ old.quota
+  pub sized : new.size ≡ size
+
+-- whether a number is one of those from a first one up to, and without, another
+abbrev pub is_between : ℕ → ℕ → ℕ → Bool
+is_between from to i = nat_le from i && nat_lt i to

@@ -1,0 +1,69 @@
+-- The resident pages of a stream as contracts see them.
+use Rattle.std.specs.Prelude.{◌≡◌, ℕ, ◌*◌, ◌/◌, ◌%◌, ◌<◌, Bool, true, not, ◌==◌, List, [], ◌∷◌, ◌++◌, length, slice_index_or, Option, None, Some, is_some, option_and_then}
+use Rattle.std.specs.List.{filter, list_any, list_all, range_with_len}
+use Rattle.std.specs.Option.{option_map}
+use Rattle.cc_entry.specs.Pages.{block_of, blocks_of, pages_of}
+use Rattle.cc_entry.specs.Place.{Range}
+use Rattle.cc_pages.specs.Pages.{Page, page_at as page_in}
+use Rattle.cc_views.specs.Views.{Mapped, Pages, mapped_blocks, frames_at}
+
+-- the frame of a page, or none where the page is not resident
+unfoldable pub frame_at : Mapped → ℕ → Option Page
+frame_at m p = option_and_then (λ (frames : Pages). page_in frames (p % 64)) (frames_at m (block_of p))
+
+-- the bytes of a page, or none where it is not resident
+unfoldable pub page_at : Mapped → ℕ → Option (List ℕ)
+page_at m p = option_map (λ (frame : Page). frame.bytes) (frame_at m p)
+
+-- whether a page is resident
+abbrev pub is_resident : Mapped → ℕ → Bool
+is_resident m p = is_some (page_at m p)
+
+-- whether each page with bytes of the range is
+abbrev pub all_resident : Mapped → Range → Bool
+all_resident m r = list_all (is_resident m) (pages_of r)
+
+-- the byte of the stream at i, or none where its page is not resident
+unfoldable pub byte_at : Mapped → ℕ → Option ℕ
+byte_at m i = option_map (λ bytes. slice_index_or bytes (i % 4096) 0) (page_at m (i / 4096))
+
+-- the mapped blocks, the least recently used first
+abbrev pub blocks : Mapped → List ℕ
+blocks m = mapped_blocks m
+
+-- the pages of a block, ascending
+abbrev pub pages_in_block : ℕ → List ℕ
+pages_in_block block = range_with_len (64 * block) 64
+
+-- whether a block has a resident page
+unfoldable pub has_pages : Mapped → ℕ → Bool
+has_pages m block = list_any (is_resident m) (pages_in_block block)
+
+-- whether a block is among some
+abbrev pub is_among : ℕ → List ℕ → Bool
+is_among block order = list_any (λ b. b == block) order
+
+-- whether each view block of the range is mapped
+abbrev pub all_mapped : Mapped → Range → Bool
+all_mapped m r = list_all (λ block. is_among block (blocks m)) (blocks_of r)
+
+-- an order of use without a block
+abbrev pub without : ℕ → List ℕ → List ℕ
+without block order = filter (λ b. not (b == block)) order
+
+-- an order of use after these blocks were used, one after the other
+abbrev pub used : List ℕ → List ℕ → List ℕ
+used [] order = order
+used (b ∷ bs) order = used bs (without b order ++ b ∷ [])
+
+-- a frame is owned and has the bytes of a page
+abbrev pub IsFrame : Option Page → Type 0
+IsFrame None = Unit {0}
+IsFrame (Some frame) = (frame.owned ≡ true) × (length frame.bytes ≡ 4096)
+
+-- each frame is owned and has the bytes of a page, each resident page starts below the size, and each
+-- mapped block has a resident page
+pub record AreResidents (m : Mapped) : Type 0 where
+  pub frames : (p : ℕ) → IsFrame (frame_at m p)
+  pub below : (p : ℕ) → is_resident m p ≡ true → 4096 * p < m.size
+  pub blocks_have_pages : list_all (has_pages m) (blocks m) ≡ true

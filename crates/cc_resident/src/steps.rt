@@ -1,0 +1,173 @@
+//! Steps on the mapped blocks, some of which may leave a block with no page.
+
+ghost use Rattle.std.specs.Prelude.{◌≡◌, ◌≢◌, ℕ, ◌+◌, ◌*◌, ◌/◌, ◌%◌, ◌^◌, ◌<◌, ◌≤◌, ◌==◌, ◌&&◌, nat_eq, [], ◌∷◌, length, IsSome, OnOk, OnErr, None, Some, is_some, true, IfSome, if◌then◌else◌};
+ghost use Rattle.std.specs.List.{filter, list_any, range_with_len, IsDistinct};
+ghost use Rattle.cc_entry.specs.Pages.{block_of};
+ghost use Rattle.cc_pages.specs.Pages.{owned, bytes_at, is_owned, overwritten};
+ghost use Rattle.cc_views.specs.Views.{frames_at, IsSound};
+ghost use Rattle.cc_resident.specs.Residents.{frame_at, blocks, has_pages, used, without};
+ghost use Rattle.cc_resident.specs.Changes.{Puts, Keeps, Clears, is_between};
+
+use cc_entry::NoMemory;
+use cc_pages::Frames;
+use cc_views::Views;
+
+// Makes a page of a block that is not mapped these bytes.
+pub(crate) fn add(views: &mut Views, page: u64, bytes: &[u8; 4096]) -> Result<(), NoMemory>
+    requires starts { 4096 * page < views.old.size }
+    requires room { length (blocks views.old) < views.old.quota }
+    requires unmapped { frames_at views.old (block_of page) ≡ None }
+    ensures page { OnOk result (Puts views.old views.new page (Some (owned bytes.now))) }
+    ensures blocks { OnOk result (blocks views.new ≡ used (block_of page ∷ []) (blocks views.old)) }
+    ensures err { OnErr result (views.new ≡ views.old) }
+{
+    views.add(page / 64)?;
+    match put(views, page, bytes) {
+        Ok(()) => Ok(()),
+        Err(_) => {
+            let _frames = views.remove(page / 64);
+            Err(NoMemory)
+        }
+    }
+}
+
+// Makes a page of a mapped block these bytes, and notes a use of the block.
+pub(crate) fn renew(views: &mut Views, page: u64, bytes: &[u8; 4096]) -> Result<(), NoMemory>
+    requires { IsSome (frames_at views.old (block_of page)) }
+    ensures page { OnOk result (Puts views.old views.new page (Some (owned bytes.now))) }
+    ensures blocks { OnOk result (blocks views.new ≡ used (block_of page ∷ []) (blocks views.old)) }
+    ensures err { OnErr result (views.new ≡ views.old) }
+{
+    put(views, page, bytes)?;
+    use_block(views, page / 64);
+    Ok(())
+}
+
+// Writes bytes over those of a page that is owned.
+pub(crate) fn overwrite(views: &mut Views, page: u64, at: u16, bytes: &[u8])
+    requires owned { is_owned (frame_at views.old page) ≡ true }
+    requires fits { at + length bytes.now ≤ 4096 }
+    ensures page { IfSome (frame_at views.old page)
+        (λ frame. Puts views.old views.new page (Some (owned (overwritten frame.bytes at bytes.now)))) }
+    ensures blocks { blocks views.new ≡ blocks views.old }
+{
+    match views.frames_mut(page / 64) {
+        Some(frames) => frames.write((page % 64) as u8, at, bytes),
+        None => unreachable!(),
+    }
+}
+
+// Notes a use of a mapped block.
+pub(crate) fn use_block(views: &mut Views, block: u64)
+    requires { IsSome (frames_at views.old block) }
+    ensures pages { Keeps views.old views.new }
+    ensures blocks { blocks views.new ≡ used (block ∷ []) (blocks views.old) }
+{
+    // The number of blocks is what says that none is mapped twice.
+    let _count = views.len();
+    views.touch(block);
+}
+
+// Takes a page out of its block, where it is resident.
+pub(crate) fn clear(views: &mut Views, page: u64)
+    ensures page { Puts views.old views.new page None }
+    ensures blocks { blocks views.new ≡ blocks views.old }
+{
+    if let Some(frames) = views.frames_mut(page / 64) {
+        frames.clear((page % 64) as u8);
+    }
+}
+
+// Takes the pages from one up to, and without, another out of their blocks, which stay.
+pub(crate) fn clear_span(views: &mut Views, from: u64, to: u64)
+    ensures pages { Clears views.old views.new (is_between from to) }
+    ensures blocks { blocks views.new ≡ blocks views.old }
+{
+    // The size is what says that the numbers of the pages are in range.
+    let _size = views.size();
+    for place in 0..views.len() {
+        let block = views.block_at(place);
+        clear_in_block(views, block, from, to);
+    }
+}
+
+// Gives up each block that has no page.
+pub(crate) fn drop_empty(views: &mut Views)
+    ensures pages { Keeps views.old views.new }
+    ensures blocks { blocks views.new ≡ filter (has_pages views.old) (blocks views.old) }
+{
+    let mut place = views.len();
+    while place > 0 {
+        place -= 1;
+        let block = views.block_at(place);
+        drop_if_empty(views, block);
+    }
+}
+
+// Gives up a block that has no page.
+pub(crate) fn drop_if_empty(views: &mut Views, block: u64)
+    ensures distinct { IsDistinct nat_eq (blocks views.old) }
+    ensures pages { Keeps views.old views.new }
+    ensures blocks { blocks views.new
+        ≡ (if has_pages views.old block then blocks views.old else without block (blocks views.old)) }
+{
+    if !has_page(views, block) {
+        let _frames = views.remove(block);
+    }
+}
+
+fn put(views: &mut Views, page: u64, bytes: &[u8; 4096]) -> Result<(), NoMemory>
+    requires { IsSome (frames_at views.old (block_of page)) }
+    ensures page { OnOk result (Puts views.old views.new page (Some (owned bytes.now))) }
+    ensures blocks { blocks views.new ≡ blocks views.old }
+    ensures err { OnErr result (views.new ≡ views.old) }
+{
+    match views.frames_mut(page / 64) {
+        Some(frames) => match frames.put((page % 64) as u8, bytes) {
+            Ok(()) => Ok(()),
+            Err(_) => Err(NoMemory),
+        },
+        None => unreachable!(),
+    }
+}
+
+fn clear_in_block(views: &mut Views, block: u64, from: u64, to: u64)
+    requires { block < 2 ^ 46 }
+    ensures pages { Clears views.old views.new (λ p. block_of p == block && is_between from to p) }
+    ensures blocks { blocks views.new ≡ blocks views.old }
+{
+    for page in 64 * block..64 * block + 64 {
+        clear_if_between(views, page, from, to);
+    }
+}
+
+fn clear_if_between(views: &mut Views, page: u64, from: u64, to: u64)
+    ensures pages { Clears views.old views.new (λ p. p == page && is_between from to p) }
+    ensures blocks { blocks views.new ≡ blocks views.old }
+{
+    if from <= page && page < to {
+        clear(views, page);
+    }
+}
+
+// Whether a block has a resident page.
+fn has_page(views: &Views, block: u64) -> bool
+    ensures has { result ≡ has_pages views.now block }
+    ensures sound { IsSound views.now }
+{
+    match views.frames(block) {
+        Some(frames) => any_page(frames),
+        None => false,
+    }
+}
+
+fn any_page(frames: &Frames) -> bool
+    ensures { result ≡ list_any (λ i. is_some (bytes_at frames.now i)) (range_with_len 0 64) }
+{
+    for i in 0..64 {
+        if frames.get(i).is_some() {
+            return true;
+        }
+    }
+    false
+}
