@@ -95,13 +95,14 @@ module _ (rows : List Row) (place : ℕ) (sound : Sound rows) where
         let r = some-of (slice_get rows place) (λ x. same_page x.page row.page ≡ true) at in
         find-set-other (λ x. same_page x.page q) rows place r.0 row r.1 (same-differs r.0.page row.page q r.2 other) (differs-sym q row.page other)
 
-    pub Sound-set : IsSomeAnd (slice_get rows place) (λ r. same_page r.page row.page ≡ true) → is_touched row ≡ true → Sound (set rows place row)
-    Sound-set at dirty =
+    pub Sound-set : IsSomeAnd (slice_get rows place) (λ r. same_page r.page row.page ≡ true) → is_touched row ≡ true → row.page.stream < 16 → Sound (set rows place row)
+    Sound-set at dirty within =
         let r = some-of (slice_get rows place) (λ x. same_page x.page row.page ≡ true) at in
         record {
           ascending = AllPairs-set (λ a b. precedes a.page b.page ≡ true) rows place r.0 row r.1
               (λ a h. before-same a.page r.0.page row.page r.2 h) (λ a h. same-before r.0.page row.page a.page r.2 h) sound.ascending;
           touched = All-set (λ x. is_touched x ≡ true) rows place row dirty sound.touched;
+          numbered = All-set (λ x. x.page.stream < 16) rows place row within sound.numbered;
         }
 
     pub row_of-insert : place ≤ length rows → row_of (insert rows place row) row.page ≡ Some row
@@ -110,11 +111,12 @@ module _ (rows : List Row) (place : ℕ) (sound : Sound rows) where
     pub KeepsOthers-insert : KeepsOthers rows (insert rows place row) row.page
     KeepsOthers-insert q other = find-insert-other (λ x. same_page x.page q) rows place row (differs-sym q row.page other)
 
-    pub Sound-insert : row_of rows row.page ≡ None → is_touched row ≡ true → Sound (insert rows place row)
-    Sound-insert absent dirty = record {
-      ascending = AllPairs-insert (λ a b. precedes a.page b.page ≡ true) rows place row sound.ascending (λ k d lt within. split.before k d lt)
+    pub Sound-insert : row_of rows row.page ≡ None → is_touched row ≡ true → row.page.stream < 16 → Sound (insert rows place row)
+    Sound-insert absent dirty within = record {
+      ascending = AllPairs-insert (λ a b. precedes a.page b.page ≡ true) rows place row sound.ascending (λ k d lt below. split.before k d lt)
           (λ k d le lt. precedes-total (get_or rows k d).page row.page (split.after k d le lt) (fails-from_none (λ x. same_page x.page row.page) rows absent k d lt));
       touched = All-insert (λ x. is_touched x ≡ true) rows place row dirty sound.touched;
+      numbered = All-insert (λ x. x.page.stream < 16) rows place row within sound.numbered;
     }
 
   module _ (page : Page) (split : SplitsAt rows page place) (at : IsSomeAnd (slice_get rows place) (λ r. same_page r.page page ≡ true)) where
@@ -147,6 +149,7 @@ module _ (rows : List Row) (place : ℕ) (sound : Sound rows) where
         record {
           ascending = all_pairs_remove (λ a b. precedes a.page b.page ≡ true) rows place (slice_get_within rows place r.0 r.1) sound.ascending;
           touched = All-remove (λ x. is_touched x ≡ true) rows place sound.touched;
+          numbered = All-remove (λ x. x.page.stream < 16) rows place sound.numbered;
         }
 
 -- the rows that a filter keeps
@@ -154,6 +157,7 @@ pub Sound-filter : (keep : Row → Bool) (rows : List Row) → Sound rows → So
 Sound-filter keep rows sound = record {
   ascending = AllPairs-filter (λ a b. precedes a.page b.page ≡ true) keep rows sound.ascending;
   touched = All-filter keep (λ x. is_touched x ≡ true) rows sound.touched;
+  numbered = All-filter keep (λ x. x.page.stream < 16) rows sound.numbered;
 }
 
 from-same : (stream page : ℕ) (a b : Page) → same_page a b ≡ true → is_from stream page a ≡ is_from stream page b

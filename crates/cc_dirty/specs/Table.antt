@@ -1,5 +1,5 @@
 -- The dirty page table.
-use Rattle.std.specs.Prelude.{◌≡◌, ℕ, ◌==◌, Bool, true, false, not, All, List, Option, None, find, filter}
+use Rattle.std.specs.Prelude.{◌≡◌, ℕ, ◌<◌, ◌==◌, Bool, true, false, not, All, List, Option, None, Some, find, filter}
 use Rattle.cc_entry.specs.Place.{Page}
 use Rattle.cc_dirty.specs.Order.{same_page, IsAscending}
 use Rattle.cc_dirty.specs.Unwritten.{is_touched}
@@ -13,6 +13,11 @@ pub record Table : Type 0 where
 -- the row of a page
 abbrev pub row_of : List Row → Page → Option Row
 row_of rows page = find (λ r. same_page r.page page) rows
+
+-- how many rows a touch adds, given the row that the page has
+abbrev pub new_rows : Option Row → ℕ
+new_rows None = 1
+new_rows (Some row) = 0
 
 -- every other page has the row that it had
 abbrev pub KeepsOthers : List Row → List Row → Page → Type 0
@@ -28,7 +33,8 @@ pub record DropsPages (picks : Page → Bool) (old new : List Row) : Type 0 wher
 abbrev pub is_of : ℕ → Row → Bool
 is_of stream r = r.page.stream == stream
 
--- rows in the order of their pages, each touched
+-- rows in the order of their pages, each touched, and of one of the 16 streams
 pub record Sound (rows : List Row) : Type 0 where
   pub ascending : IsAscending rows
   pub touched : All (λ r. is_touched r ≡ true) rows
+  pub numbered : All (λ r. r.page.stream < 16) rows

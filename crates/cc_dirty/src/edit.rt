@@ -18,7 +18,10 @@ pub(crate) fn find(rows: &[Row], page: PageId) -> (usize, Option<Row>)
     ensures at { IfSome result.1
         (λ r. (slice_get rows.now result.0 ≡ Some r) × (same_page r.page page ≡ true)) }
     ensures touched { IfSome result.1 (λ r. is_touched r ≡ true) }
+    ensures numbered { page.stream < 16 }
 {
+    // The stream's number is what says that it is below 16.
+    let _stream = page.stream().number();
     let place = place_of(rows, page);
     if place == rows.len() {
         return (place, None);
@@ -37,6 +40,7 @@ pub(crate) fn replace(rows: &mut Vec<Row>, place: usize, row: Row)
     requires split { SplitsAt rows.old.items row.page place }
     requires at { IsSomeAnd (slice_get rows.old.items place) (λ r. same_page r.page row.page ≡ true) }
     requires touched { is_touched row ≡ true }
+    requires numbered { row.page.stream < 16 }
     ensures row { row_of rows.new.items row.page ≡ Some row }
     ensures others { KeepsOthers rows.old.items rows.new.items row.page }
     ensures sound { Sound rows.new.items }
@@ -53,6 +57,7 @@ pub(crate) fn insert(rows: &mut Vec<Row>, place: usize, row: Row)
     requires within { place ≤ length rows.old.items }
     requires absent { row_of rows.old.items row.page ≡ None }
     requires touched { is_touched row ≡ true }
+    requires numbered { row.page.stream < 16 }
     requires room { vec_len rows.old < vec_capacity rows.old }
     ensures row { row_of rows.new.items row.page ≡ Some row }
     ensures others { KeepsOthers rows.old.items rows.new.items row.page }

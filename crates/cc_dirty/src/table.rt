@@ -1,10 +1,10 @@
 //! The table.
 
-ghost use Rattle.std.specs.Prelude.{◌≡◌, ◌<◌, ◌≤◌, ◌⊎◌, [], All, true, length, Some, IsSome, OnOk, OnErr, count_by};
+ghost use Rattle.std.specs.Prelude.{◌≡◌, ◌+◌, ◌<◌, ◌≤◌, ◌⊎◌, [], All, true, length, Some, IsSome, OnOk, OnErr, count_by};
 ghost use Rattle.std.specs.Option.{option_map, option_and_then};
 ghost use Rattle.cc_dirty.specs.Order.{IsAscending, is_from, is_between};
 ghost use Rattle.cc_dirty.specs.Unwritten.{touched_row, begun_row, ended_row, kept_row, is_touched};
-ghost use Rattle.cc_dirty.specs.Table.{row_of, KeepsOthers, DropsPages, is_of};
+ghost use Rattle.cc_dirty.specs.Table.{row_of, new_rows, KeepsOthers, DropsPages, is_of, Sound};
 
 use crate::edit::{drop_between, drop_from, find, insert, remove, replace};
 use crate::row::Row;
@@ -52,15 +52,15 @@ impl DirtyTable {
     /// The rows by stream and page.
     pub fn rows(&self) -> &[Row]
         ensures rows { result.now ≡ self.now.rows }
-        ensures ascending { IsAscending result.now }
-        ensures touched { All (λ r. is_touched r ≡ true) result.now }
+        ensures sound { Sound result.now }
     {
         &self.rows
     }
 
     /// How many pages of a stream are dirty.
     pub fn total(&self, stream: StreamId) -> u32
-        ensures { result ≡ count_by (is_of stream) self.now.rows }
+        ensures count { result ≡ count_by (is_of stream) self.now.rows }
+        ensures sound { Sound self.now.rows }
     {
         self.rows
             .iter()
@@ -73,6 +73,7 @@ impl DirtyTable {
         requires { IsSome (row_of self.old.rows page) ⊎ (length self.old.rows < self.old.capacity) }
         ensures row { row_of self.new.rows page ≡ Some (touched_row page lsn (row_of self.old.rows page)) }
         ensures others { KeepsOthers self.old.rows self.new.rows page }
+        ensures len { length self.new.rows ≡ length self.old.rows + new_rows (row_of self.old.rows page) }
         ensures capacity { self.new.capacity ≡ self.old.capacity }
     {
         match find(&self.rows, page) {

@@ -8,4 +8,4 @@ pub returns-clause-others : goal.returns-clause-others
 returns-clause-others c = rw c.insert_reserved.ensures.items (KeepsOthers-insert c.args.rows.now.items c.args.place c.requires.sound c.args.row c.requires.split)
 
 pub returns-clause-sound : goal.returns-clause-sound
-returns-clause-sound c = rw c.insert_reserved.ensures.items (Sound-insert c.args.rows.now.items c.args.place c.requires.sound c.args.row c.requires.split c.requires.absent c.requires.touched)
+returns-clause-sound c = rw c.insert_reserved.ensures.items (Sound-insert c.args.rows.now.items c.args.place c.requires.sound c.args.row c.requires.split c.requires.absent c.requires.touched c.requires.numbered)

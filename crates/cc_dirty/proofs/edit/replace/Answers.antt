@@ -8,4 +8,4 @@ pub returns-clause-others : goal.returns-clause-others
 returns-clause-others c = (KeepsOthers-set c.args.rows.now.items c.args.place c.requires.sound c.args.row c.requires.split c.requires.at)
 
 pub returns-clause-sound : goal.returns-clause-sound
-returns-clause-sound c = (Sound-set c.args.rows.now.items c.args.place c.requires.sound c.args.row c.requires.split c.requires.at c.requires.touched)
+returns-clause-sound c = (Sound-set c.args.rows.now.items c.args.place c.requires.sound c.args.row c.requires.split c.requires.at c.requires.touched c.requires.numbered)

@@ -1,0 +1,13 @@
+-- Lemmas of the journal, each before those that cite it.
+pub mod CallSteps
+pub mod PlaceSteps
+pub mod RowSteps
+pub mod RowCounts
+pub mod TouchLoop
+pub mod RowFollow
+pub mod StreamsSteps
+pub mod DeferredSteps
+pub mod ScanSteps
+pub mod RoomFor
+pub mod Sums
+pub mod KeptSteps

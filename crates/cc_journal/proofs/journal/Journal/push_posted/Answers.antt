@@ -1,0 +1,27 @@
+use Rattle.std.specs.Prelude.{◌≡◌, ◌≤◌, ◌∷◌, List, length, reverse}
+use Rattle.std.proofs.Common.{ap, arith, refl}
+use Rattle.std.proofs.lemmas.List.{reverse-append, length-drop}
+use Rattle.cc_entry.specs.declared.entry.Entry.{Entry}
+use Rattle.cc_entry.specs.declared.entry.Entry.TheVariants as entry
+use Rattle.cc_journal.proofs.KeptSteps.{kept_queue}
+use Rattle.cc_journal.proofs.journal.Journal.push_posted.Goals as goal
+
+pub invariant_of-self : goal.invariant_of-self
+invariant_of-self g c =
+    let past : List Entry = reverse c.self.inside.entries.items in
+    let e : Entry = entry.Posted c.post-posted.result.id in
+    let grown : reverse c.push_reserved.new.self.items ≡ e ∷ past = rw (c.push_reserved.ensures.items, reverse-append) refl in
+    let kept = c.self.invariant.0 in
+    let memory = c.self.invariant.1 in
+    let reserved = ap (λ j. j.reserved) c.self.view_is in
+    let short : length c.post-posted.new.self.writes ≤ 64 = omega (arith, ap length c.post-posted.ensures.writes, length-drop 1 c.self.inside.waiting.writes, kept.short) in (
+      rw grown
+          (kept_queue e past c.self.inside.streams.states c.self.inside.streams.places.places.entries c.self.inside.streams.dirty c.self.inside.calls.counts.entries c.self.inside.holds
+          c.self.inside.waiting c.post-posted.new.self c.self.inside.scans.total c.self.inside.scans.cursor kept refl (λ me. refl) refl refl (c.post-posted.ensures.stands past kept.queue) short),
+      record {
+        within = omega (arith, memory.within, c.push_reserved.ensures.len, c.requires.reserved, reserved);
+        for_entries = omega (arith, memory.for_entries, c.push_reserved.ensures.len, c.push_reserved.ensures.capacity);
+        for_places = omega (arith, memory.for_places);
+        for_counts = omega (arith, memory.for_counts);
+      },
+    )

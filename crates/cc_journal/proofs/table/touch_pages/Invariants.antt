@@ -1,0 +1,5 @@
+use Rattle.cc_journal.proofs.TouchLoop.{TouchedSoFar}
+use Rattle.cc_journal.proofs.table.touch_pages.Given as goal
+
+abbrev pub invariant-loop-number : goal.invariant-loop-number
+invariant-loop-number l = TouchedSoFar l.stream l.from l.to l.number l.lsn l.fn.table l.table

@@ -1,0 +1,10 @@
+-- What the contracts of the journal cite.
+pub mod Alone
+pub mod Calls
+pub mod Places
+pub mod Rows
+pub mod Streams
+pub mod Queue
+pub mod Scans
+pub mod Journal
+pub mod Kept

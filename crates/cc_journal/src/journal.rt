@@ -1,0 +1,383 @@
+//! The journal: entries, and what is kept of them.
+
+ghost use Rattle.std.specs.Prelude.{◌≡◌, ◌↔◌, ℕ, suc, ◌+◌, ◌-◌, ◌^◌, ◌<◌, ◌≤◌, true, false, if◌then◌else◌, [], ◌∷◌, ◌++◌, List, Option, Some, slice_get, length, reverse, OnOk, OnErr, IfOk, IsErrOf, IfErr, All, drop, ◌⊎◌, ◌==◌, ◌&&◌, ◌||◌, nat_lt};
+ghost use Rattle.std.specs.Option.{option_map};
+ghost use Rattle.cc_entry.specs.declared.entry.Entry.{Entry};
+ghost use Rattle.cc_entry.specs.declared.entry.Entry.TheVariants as entry;
+ghost use Rattle.cc_entry.specs.declared.error.CcError.TheVariants as error;
+ghost use Rattle.cc_entry.specs.declared.hold.Deferral.{Deferral};
+ghost use Rattle.cc_model.specs.History.{history};
+ghost use Rattle.cc_laws.proofs.QueueSteps.{is_defer_or_post, is_scan};
+ghost use Rattle.cc_model.specs.Cache.{holds_made, holds_made_by, makes_hold, lazy_pages, views_taken};
+ghost use Rattle.cc_model.specs.Passes.{calls_of};
+ghost use Rattle.cc_model.specs.Setup.{Setup};
+ghost use Rattle.cc_model.specs.Settings.{log_of};
+ghost use Rattle.cc_model.specs.Throttle.{may_go, queue, deferred};
+ghost use Rattle.cc_model.specs.Pick.{pick};
+ghost use Rattle.cc_journal.specs.Journal.{JournalState, room_of, MayBePushed, limited, head_may_go};
+ghost use Rattle.cc_journal.specs.Queue.{AllUnposted, deferrals_of, routines_of};
+ghost use Rattle.cc_journal.specs.Rows.{Follows};
+
+use crate::calls::CallCounts;
+use crate::queue::Deferred;
+use crate::scans::Scans;
+use crate::streams::Streams;
+use cc_dirty::DirtyTable;
+use cc_entry::{Call, CcError, Entry, FileId, NoMemory, Outcome, Pages, StreamId};
+use cc_traits::{PostRoutine, PostedRoutine};
+use std::alloc::Global;
+use std::marker::Model;
+
+/// The entries of a run, and beside them what their readers need, so that nobody searches them.
+#[derive(Drop)]
+pub struct Journal<Q = Box<dyn PostRoutine + Send>> {
+    alloc: Global,
+    capacity: u32,
+    threshold: u32,
+    logs: u8,
+    /// The oldest first.
+    entries: Vec<Entry>,
+    /// How many entries more are promised a place; there is memory for them.
+    reserved: u32,
+    streams: Streams,
+    calls: CallCounts,
+    /// How many holds were ever made.
+    holds: u64,
+    waiting: Deferred<Q>,
+    scans: Scans,
+}
+
+impl<Q> Model for Journal<Q> {
+    ghost use Rattle.std.specs.Prelude.{reverse, length, ◌-◌, vec_len, vec_capacity};
+    ghost use Rattle.indexmap.specs.IndexMap.{spare};
+    ghost use Rattle.cc_journal.specs.Journal.{JournalState};
+    ghost use Rattle.cc_journal.specs.Kept.{Kept, HasMemory};
+
+    ghost Value = { JournalState Q };
+
+    ghost view = { λ j. record {
+      capacity = j.capacity;
+      threshold = j.threshold;
+      logs = j.logs;
+      entries = reverse j.entries.items;
+      reserved = j.reserved;
+      rows = j.streams.dirty.rows;
+      queue = j.waiting.writes;
+    } };
+
+    ghost invariant = { λ j.
+        Kept (reverse j.entries.items) j.streams.states j.streams.places.places.entries j.streams.dirty
+        j.calls.counts.entries j.holds j.waiting j.scans.total j.scans.cursor
+        × HasMemory j.capacity (vec_len j.entries) j.reserved (vec_capacity j.entries - vec_len j.entries)
+        (spare j.streams.places.places) (spare j.calls.counts) };
+}
+
+impl<Q: PostRoutine> Journal<Q> {
+    /// An empty journal, with room for all rows of the dirty page table and for 64 deferred writes.
+    pub fn new(
+        alloc: Global,
+        capacity: u32,
+        threshold: u32,
+        logs: u8,
+    ) -> Result<Journal<Q>, NoMemory>
+        ensures limits { IfOk result (λ j. (j.capacity ≡ capacity) × (j.threshold ≡ threshold) × (j.logs ≡ logs)) }
+        ensures empty { IfOk result (λ j. (j.entries ≡ []) × (j.reserved ≡ 0) × (j.rows ≡ []) × (j.queue ≡ [])) }
+    {
+        Ok(Journal {
+            alloc,
+            capacity,
+            threshold,
+            logs,
+            entries: Vec::new(alloc),
+            reserved: 0,
+            streams: Streams::new(alloc)?,
+            calls: CallCounts::new(alloc),
+            holds: 0,
+            waiting: Deferred::new(alloc)?,
+            scans: Scans::new(),
+        })
+    }
+
+    /// Defers a write of so many pages by a pass (`CcDeferWrite`), and answers its id. A write that is tried
+    /// again goes to the head of the queue. It takes no memory.
+    pub fn push_defer(
+        &mut self,
+        pass: u32,
+        file: FileId,
+        pages: u64,
+        retrying: bool,
+        routine: Q,
+    ) -> u64
+        requires reserved { 0 < self.old.reserved }
+        requires unposted { Q.posted routine ≡ false }
+        requires room { length (queue self.old.entries) < 64 }
+        ensures id { result ≡ suc (deferred self.old.entries) }
+        ensures placed { self.new ≡ record self.old {
+          entries = entry.Defer pass result file pages retrying ∷ self.old.entries;
+          reserved = self.old.reserved - 1;
+          queue = self.new.queue;
+        } }
+        ensures waits { let deferral : Deferral = record { id = result; file = file; pages = pages } in
+            self.new.queue ≡ (if retrying then (deferral, routine) ∷ self.old.queue
+            else self.old.queue ++ (deferral, routine) ∷ []) }
+        ensures unposted { AllUnposted Q.posted self.old.queue → AllUnposted Q.posted self.new.queue }
+    {
+        let id = self.waiting.defer(file, pages, retrying, routine);
+        self.entries.push_reserved(Entry::Defer {
+            pass,
+            id,
+            file,
+            pages,
+            retrying,
+        });
+        self.reserved -= 1;
+        id
+    }
+
+    /// Posts the write at the head of the queue, which may go, and answers its id and its routine. It takes no
+    /// memory.
+    pub fn push_posted(&mut self) -> PostedRoutine<Q>
+        requires reserved { 0 < self.old.reserved }
+        requires may_go { head_may_go (limited self.old.threshold) self.old.entries (queue self.old.entries) ≡ true }
+        requires unposted { AllUnposted Q.posted self.old.queue }
+        ensures head { option_map (λ w. w.0.id) (slice_get self.old.queue 0) ≡ Some result.id }
+        ensures posted { Q.posted result.routine ≡ true }
+        ensures placed { self.new ≡ record self.old {
+          entries = entry.Posted result.id ∷ self.old.entries;
+          reserved = self.old.reserved - 1;
+          queue = drop 1 self.old.queue;
+        } }
+        ensures still_unposted { AllUnposted Q.posted self.new.queue }
+    {
+        let posted = self.waiting.post();
+        self.entries.push_reserved(Entry::Posted { id: posted.id });
+        self.reserved -= 1;
+        posted
+    }
+}
+
+impl<Q> Journal<Q> {
+    /// The number of logs of the setup.
+    pub fn logs(&self) -> u8
+        ensures { result ≡ self.now.logs }
+    {
+        self.logs
+    }
+
+    /// The entries, the oldest first.
+    pub fn entries(&self) -> &[Entry]
+        ensures { reverse result.now ≡ self.now.entries }
+    {
+        &self.entries
+    }
+
+    /// How many entries more may be reserved.
+    pub fn room(&self) -> u32
+        ensures { result ≡ room_of self.now }
+    {
+        self.capacity - self.entries.len() as u32 - self.reserved
+    }
+
+    /// Promises a place to so many entries, and takes the memory for them.
+    ///
+    /// `JournalFull` exactly where there is less room, with the number of entries; `NoMemory`.
+    pub fn reserve(&mut self, n: u32) -> Result<(), CcError>
+        ensures full { IsErrOf result (error.JournalFull (length self.old.entries)) ↔ (room_of self.old < n) }
+        ensures causes { IfErr result (λ e. (e ≡ error.JournalFull (length self.old.entries)) ⊎ (e ≡ error.NoMemory)) }
+        ensures reserved { OnOk result (self.new ≡ record self.old { reserved = self.old.reserved + n }) }
+        ensures err { OnErr result (self.new ≡ self.old) }
+    {
+        if self.room() < n {
+            return Err(CcError::JournalFull {
+                entries: self.entries.len() as u64,
+            });
+        }
+        let all = (self.reserved + n) as usize;
+        self.entries.reserve(all).map_err(|_| CcError::NoMemory)?;
+        self.streams.reserve(all).map_err(|_| CcError::NoMemory)?;
+        self.calls.reserve(all).map_err(|_| CcError::NoMemory)?;
+        self.reserved += n;
+        Ok(())
+    }
+
+    /// Takes the promise of so many entries back.
+    pub fn release(&mut self, n: u32)
+        requires { n ≤ self.old.reserved }
+        ensures { self.new ≡ record self.old { reserved = self.old.reserved - n } }
+    {
+        self.reserved -= n;
+    }
+
+    /// Places an entry, which is no `Defer` and no `Posted`. It takes no memory.
+    pub fn push(&mut self, entry: Entry)
+        requires reserved { 0 < self.old.reserved }
+        requires kind { is_defer_or_post entry ≡ false }
+        requires may { MayBePushed self.old.entries entry }
+        ensures placed { self.new ≡ record self.old {
+          entries = entry ∷ self.old.entries;
+          reserved = self.old.reserved - 1;
+          rows = self.new.rows;
+        } }
+        ensures rows { Follows self.new.entries self.new.rows }
+    {
+        // The rows' order is what says that there is room for those of the entry.
+        let _rows = self.streams.dirty().rows();
+        let looked_at = self.looked_at(&entry);
+        self.streams.follow(&entry);
+        self.calls.follow(&entry);
+        self.scans.follow(&entry, looked_at);
+        self.holds += holds_made_by(&entry);
+        self.entries.push_reserved(entry);
+        self.reserved -= 1;
+    }
+
+    // How many pages a scan looked at; 0 where the entry is none.
+    fn looked_at(&self, entry: &Entry) -> usize
+        ensures scan { is_scan entry.now ≡ true → result ≡ length (lazy_pages self.now.entries) }
+    {
+        match entry {
+            Entry::Scan { .. } => self.streams.lazy_total(),
+            _ => 0,
+        }
+    }
+
+    /// How many calls of a pass have ended.
+    pub fn calls_of(&self, pass: u32) -> u32
+        ensures { result ≡ calls_of self.now.entries pass }
+    {
+        self.calls.of(pass)
+    }
+
+    /// The id of the next hold.
+    pub fn next_hold(&self) -> u64
+        ensures { result ≡ suc (holds_made self.now.entries) }
+    {
+        self.holds + 1
+    }
+
+    /// The log of a stream, where it has one (`CcSetLogHandleForFile`).
+    pub fn handle_of(&self, stream: StreamId) -> Option<u8>
+        ensures { result ≡ log_of (history self.now.entries stream) }
+    {
+        self.streams.state(stream).log()
+    }
+
+    /// How many of the 256 views no mapped stream has taken.
+    pub fn free_views(&self) -> u16
+        ensures { result ≡ 256 - views_taken self.now.entries }
+    {
+        256_u16.saturating_sub(self.streams.views_taken())
+    }
+
+    /// The dirty page table.
+    pub fn dirty(&self) -> &DirtyTable
+        ensures rows { result.now.rows ≡ self.now.rows }
+        ensures follows { Follows self.now.entries result.now.rows }
+        ensures few { length result.now.rows ≤ 16384 }
+    {
+        self.streams.dirty()
+    }
+
+    /// Whether a write of so many pages to the stream may go (`CcCanIWrite`).
+    pub fn may_go(&self, stream: StreamId, pages: u64) -> bool
+        ensures { (u : Setup) → u.threshold ≡ self.now.threshold → result ≡ may_go u self.now.entries stream pages }
+    {
+        let own = self.streams.state(stream).threshold();
+        let total = self.streams.dirty_total();
+        let count = self.streams.dirty_count(stream);
+        goes(pages, total, self.threshold, count, own)
+    }
+
+    /// How many deferred writes wait, at most 64.
+    pub fn queued(&self) -> u8
+        ensures queue { result ≡ length (queue self.now.entries) }
+        ensures most { result ≤ 64 }
+    {
+        self.waiting.len() as u8
+    }
+
+    /// Whether a deferred write waits, and the one at the head may go.
+    pub fn may_post(&self) -> bool
+        ensures { (u : Setup) → u.threshold ≡ self.now.threshold →
+            result ≡ head_may_go u self.now.entries (queue self.now.entries) }
+    {
+        match self.waiting.head() {
+            Some(head) => self.may_go(head.file.stream(), head.pages),
+            None => false,
+        }
+    }
+
+    /// The pages that a scan of the lazy writer picks.
+    pub fn pick(&self) -> Result<Pages, NoMemory>
+        ensures { (u : Setup) → u.threshold ≡ self.now.threshold →
+            IfOk result (λ picked. picked ≡ pick u self.now.entries) }
+    {
+        let pages = self.streams.lazy_pages(self.alloc)?;
+        self.scans.pick(self.alloc, &pages, self.threshold)
+    }
+
+    /// All that was kept: the entries, the oldest first, and the routines that wait with the ids of their
+    /// writes, the head first. It takes no memory.
+    pub fn end(self) -> (Vec<Entry>, Vec<(u64, Q)>)
+        ensures entries { reverse result.0.items ≡ self.entries }
+        ensures routines { result.1.items ≡ routines_of self.queue }
+    {
+        let Journal {
+            entries,
+            waiting,
+            ..
+        } = self;
+        (entries, waiting.into_writes())
+    }
+}
+
+// Whether so many pages beside the dirty ones of all streams stay below the cache's threshold, and beside those
+// of the stream below its own, where it has one.
+fn goes(pages: u64, total: usize, threshold: u32, count: u32, own: u64) -> bool
+    ensures { result ≡ (nat_lt (total + pages) threshold && (own == 0 || nat_lt (count + pages) own)) }
+{
+    let of_all = total as u128 + u128::from(pages);
+    let of_stream = u128::from(count) + u128::from(pages);
+    of_all < u128::from(threshold) && (own == 0 || of_stream < u128::from(own))
+}
+
+// How many holds an entry made.
+fn holds_made_by(entry: &Entry) -> u64
+    ensures { result ≡ holds_made_by entry.now }
+{
+    match entry {
+        Entry::Call {
+            call,
+            outcome: Outcome::Done(_),
+            ..
+        } => u64::from(makes_hold(call)),
+        Entry::Call { .. }
+        | Entry::PageIn { .. }
+        | Entry::PageOut { .. }
+        | Entry::FillFailed { .. }
+        | Entry::WriteBegin { .. }
+        | Entry::WriteEnd { .. }
+        | Entry::Sync { .. }
+        | Entry::Append { .. }
+        | Entry::Flushed { .. }
+        | Entry::LogFailed { .. }
+        | Entry::Defer { .. }
+        | Entry::Posted { .. }
+        | Entry::Scan { .. } => 0,
+    }
+}
+
+// Whether a call makes a hold where it is done.
+fn makes_hold(call: &Call) -> bool
+    ensures { result ≡ makes_hold call.now }
+{
+    matches!(
+        call,
+        Call::Map { .. }
+            | Call::PinRead { .. }
+            | Call::PreparePin { .. }
+            | Call::Repin { .. }
+            | Call::MdlRead { .. }
+            | Call::MdlWrite { .. }
+    )
+}

@@ -1,0 +1,25 @@
+//! The journal: the one list of entries that everything else stands for.
+//!
+//! It takes an entry only where one is reserved, and then without memory, so that what has happened can always
+//! be written down. Beside the entries it keeps what others ask of them, each equal to its definition on the
+//! entries: the rows of the dirty page table, the queue of deferred writes, what the lazy writer would pick,
+//! whether a write may go, the log of each stream, the views that are free, the id of the next hold, and how
+//! many calls of each pass have ended. So nobody searches the entries.
+//!
+//! An entry is followed by its stream's state (`streams`), the ranges of open holds (`places`), the rows of the
+//! pages that it touches, cuts, begins or ends (`table`), the counts of calls (`calls`), the scans (`scans`)
+//! and the queue (`queue`).
+//!
+//! The book of each stream and the turns of a board stand above; below are `cc_stream`, `cc_dirty`, what an
+//! entry does to a stream (`cc_events`), and the definitions of `cc_model`.
+#![tactic(auto)]
+
+mod calls;
+mod journal;
+mod places;
+mod queue;
+mod scans;
+mod streams;
+mod table;
+
+pub use journal::Journal;
