@@ -2,5 +2,5 @@ pub mod Pages
 pub mod Places
 pub mod Changes
 mod Order
-mod Overlap
+pub mod Overlap
 mod BlockCounts

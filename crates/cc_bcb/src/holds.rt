@@ -78,6 +78,13 @@ impl Holds {
         }
     }
 
+    /// The holds, by id.
+    pub fn all(&self) -> &[Hold]
+        ensures { result.now ≡ self.now }
+    {
+        &self.holds
+    }
+
     pub fn get(&self, id: u64) -> Option<&HoldRow>
         ensures { option_copied result ≡ option_map (λ h. h.row) (hold_of self.now id) }
     {

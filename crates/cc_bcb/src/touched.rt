@@ -35,6 +35,13 @@ impl TouchedPages {
         }
     }
 
+    /// The pages, in the order of their first touch.
+    pub fn all(&self) -> &[u64]
+        ensures { result.now ≡ self.now }
+    {
+        &self.pages
+    }
+
     pub fn contains(&self, page: u64) -> bool
         ensures { result ≡ has_touched self.now page }
     {

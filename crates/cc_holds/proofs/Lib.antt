@@ -1,0 +1,9 @@
+pub mod Zips
+pub mod KeptLists
+pub mod PagesOwed
+pub mod HoldsStanding
+pub mod Found
+pub mod KeptReads
+pub mod KeptBlocks
+pub mod LeastOwed
+pub mod MadeIds

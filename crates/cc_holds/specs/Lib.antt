@@ -1,0 +1,3 @@
+pub mod Stands
+pub mod Makes
+pub mod Looks
