@@ -1,0 +1,1 @@
+-- Lemmas, each before those that cite it.

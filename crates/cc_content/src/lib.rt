@@ -1,0 +1,2 @@
+//! What the resident pages of a stream hold, following its history.
+#![tactic(auto)]
