@@ -26,7 +26,7 @@ is_alone phase (line ∷ lines) =
     if line.phase == phase then list_all (λ other. if other.phase == phase then other.caller == line.caller else true) lines
     else is_alone phase lines
 
--- With how much room a line may find the journal full. Each call asks less than 4 entries, and where callers
+-- With how much room a line may find the journal full. Each call asks at most 4 entries, and where callers
 -- or workers run beside one another, what their calls have under way is not in the journal.
 abbrev pub room_limit : ℕ → ℕ → Bool → ℕ
 room_limit ticks aheads alone = if alone && (ticks == 0 && aheads == 0) then 4 else 32
