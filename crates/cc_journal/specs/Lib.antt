@@ -4,6 +4,7 @@ pub mod Calls
 pub mod Places
 pub mod Rows
 pub mod Streams
+pub mod AllStreams
 pub mod Queue
 pub mod Scans
 pub mod Journal

@@ -16,7 +16,8 @@ ghost use Rattle.cc_model.specs.History.{history};
 ghost use Rattle.cc_model.specs.Cache.{views_of, views_taken, dirty_count, dirty_total, lazy_pages};
 ghost use Rattle.cc_model.specs.Touches.{is_mapped};
 ghost use Rattle.cc_stream.specs.Stream.{Stream, StreamStands};
-ghost use Rattle.cc_journal.specs.Streams.{StreamsStand, HasRoomForEntry, HasRoomFor, state_in, KeepsTransfersIn, reach, hold_named, is_of_call, leaves_streams, is_written_behind, MarksWritten};
+ghost use Rattle.cc_journal.specs.AllStreams.{StandFor, HasRoomIn};
+ghost use Rattle.cc_journal.specs.Streams.{HasRoomFor, state_in, KeepsTransfersIn, reach, hold_named, is_of_call, leaves_streams, is_written_behind, MarksWritten};
 ghost use Rattle.cc_journal.specs.Places.{held_at};
 
 use crate::places::HoldPlaces;
@@ -42,7 +43,7 @@ pub(crate) struct Streams {
 impl Streams {
     /// Streams of which nothing happened yet, with room for the rows of all dirty pages.
     pub(crate) fn new(alloc: Global) -> Result<Streams, NoMemory>
-        ensures stands { IfOk result (λ s. StreamsStand [] s.states s.places.places.entries s.dirty.rows) }
+        ensures stands { IfOk result (λ s. StandFor [] s) }
         ensures capacity { IfOk result (λ s. 16384 ≤ s.dirty.capacity) }
         ensures empty { IfOk result (λ s. s.dirty.rows ≡ []) }
     {
@@ -59,8 +60,7 @@ impl Streams {
     pub(crate) fn state(&self, stream: StreamId) -> &StreamState
         ensures is { (d : Stream) → result.now ≡ slice_index_or self.now.states stream d }
         ensures numbered { stream < 16 }
-        ensures stands { (past : List Entry) →
-            StreamsStand past self.now.states self.now.places.places.entries self.now.dirty.rows →
+        ensures stands { (past : List Entry) → StandFor past self.now →
             StreamStands (history past stream) result.now }
     {
         &self.states[usize::from(stream.number())]
@@ -75,31 +75,28 @@ impl Streams {
 
     /// Whether the stream has a shared map.
     pub(crate) fn is_mapped(&self, stream: StreamId) -> bool
-        ensures { (past : List Entry) → StreamsStand past self.now.states self.now.places.places.entries self.now.dirty.rows →
-            result ≡ is_mapped (history past stream) }
+        ensures { (past : List Entry) → StandFor past self.now → result ≡ is_mapped (history past stream) }
     {
         self.state(stream).has_objects() || self.dirty.total(stream) > 0
     }
 
     /// How many pages are dirty.
     pub(crate) fn dirty_total(&self) -> usize
-        ensures { (past : List Entry) → StreamsStand past self.now.states self.now.places.places.entries self.now.dirty.rows →
-            result ≡ dirty_total past }
+        ensures { (past : List Entry) → StandFor past self.now → result ≡ dirty_total past }
     {
         self.dirty.rows().len()
     }
 
     /// How many pages of a stream are dirty.
     pub(crate) fn dirty_count(&self, stream: StreamId) -> u32
-        ensures { (past : List Entry) → StreamsStand past self.now.states self.now.places.places.entries self.now.dirty.rows →
-            result ≡ dirty_count (history past stream) }
+        ensures { (past : List Entry) → StandFor past self.now → result ≡ dirty_count (history past stream) }
     {
         self.dirty.total(stream)
     }
 
     /// The dirty pages that the lazy writer looks at, by stream and page.
     pub(crate) fn lazy_pages(&self, alloc: Global) -> Result<Vec<PageId>, NoMemory>
-        ensures { (past : List Entry) → StreamsStand past self.now.states self.now.places.places.entries self.now.dirty.rows →
+        ensures { (past : List Entry) → StandFor past self.now →
             IfOk result (λ pages. pages.items ≡ lazy_pages past) }
     {
         lazy_pages(alloc, self.dirty.rows(), &self.marks())
@@ -107,16 +104,14 @@ impl Streams {
 
     /// How many of them there are.
     pub(crate) fn lazy_total(&self) -> usize
-        ensures { (past : List Entry) → StreamsStand past self.now.states self.now.places.places.entries self.now.dirty.rows →
-            result ≡ length (lazy_pages past) }
+        ensures { (past : List Entry) → StandFor past self.now → result ≡ length (lazy_pages past) }
     {
         lazy_count(self.dirty.rows(), &self.marks())
     }
 
     /// The views that all mapped streams take, which the pool of 256 has.
     pub(crate) fn views_taken(&self) -> u16
-        ensures { (past : List Entry) → StreamsStand past self.now.states self.now.places.places.entries self.now.dirty.rows →
-            result ≡ views_taken past }
+        ensures { (past : List Entry) → StandFor past self.now → result ≡ views_taken past }
     {
         let mut taken = 0;
         for n in 0..16 {
@@ -128,8 +123,7 @@ impl Streams {
 
     // The views that a stream takes: its quota, while it is mapped.
     fn views_of(&self, stream: StreamId) -> u16
-        ensures views { (past : List Entry) → StreamsStand past self.now.states self.now.places.places.entries self.now.dirty.rows →
-            result ≡ views_of (history past stream) }
+        ensures views { (past : List Entry) → StandFor past self.now → result ≡ views_of (history past stream) }
         ensures most { result ≤ 255 }
     {
         if self.is_mapped(stream) {
@@ -141,7 +135,7 @@ impl Streams {
 
     /// Whether the lazy writer looks at the pages of each stream.
     pub(crate) fn marks(&self) -> [bool; 16]
-        ensures { (past : List Entry) → StreamsStand past self.now.states self.now.places.places.entries self.now.dirty.rows →
+        ensures { (past : List Entry) → StandFor past self.now →
             MarksWritten past result }
     {
         let mut marks = [false; 16];
@@ -154,8 +148,7 @@ impl Streams {
 
     // Whether the lazy writer looks at the pages of a stream.
     fn is_written_behind(&self, stream: StreamId) -> bool
-        ensures { (past : List Entry) → StreamsStand past self.now.states self.now.places.places.entries self.now.dirty.rows →
-            result ≡ is_written_behind (history past stream) }
+        ensures { (past : List Entry) → StandFor past self.now → result ≡ is_written_behind (history past stream) }
     {
         let state = self.state(stream);
         !state.is_temporary() && !state.has_no_write_behind()
@@ -175,10 +168,9 @@ impl Streams {
     /// Follows an entry.
     pub(crate) fn follow(&mut self, entry: &Entry)
         requires places { 0 < spare self.old.places.places }
-        requires rows { HasRoomForEntry self.old.states self.old.places.places.entries self.old.dirty entry.now }
+        requires rows { HasRoomIn self.old entry.now }
         ensures stands { (past : List Entry) → KeepsTransfersIn past entry.now →
-            StreamsStand past self.old.states self.old.places.places.entries self.old.dirty.rows →
-            StreamsStand (entry.now ∷ past) self.new.states self.new.places.places.entries self.new.dirty.rows }
+            StandFor past self.old → StandFor (entry.now ∷ past) self.new }
         ensures capacity { self.new.dirty.capacity ≡ self.old.dirty.capacity }
         ensures room { spare self.old.places.places ≤ spare self.new.places.places + 1 }
         ensures sound { Sound self.new.dirty.rows }
@@ -190,10 +182,9 @@ impl Streams {
 
     fn step(&mut self, entry: &Entry)
         requires places { 0 < spare self.old.places.places }
-        requires rows { HasRoomForEntry self.old.states self.old.places.places.entries self.old.dirty entry.now }
+        requires rows { HasRoomIn self.old entry.now }
         ensures stands { (past : List Entry) → KeepsTransfersIn past entry.now →
-            StreamsStand past self.old.states self.old.places.places.entries self.old.dirty.rows →
-            StreamsStand (entry.now ∷ past) self.new.states self.new.places.places.entries self.new.dirty.rows }
+            StandFor past self.old → StandFor (entry.now ∷ past) self.new }
         ensures capacity { self.new.dirty.capacity ≡ self.old.dirty.capacity }
         ensures room { spare self.old.places.places ≤ spare self.new.places.places + 1 }
     {
@@ -206,10 +197,9 @@ impl Streams {
     fn change(&mut self, entry: &Entry)
         requires changes { leaves_streams entry.now ≡ false }
         requires places { 0 < spare self.old.places.places }
-        requires rows { HasRoomForEntry self.old.states self.old.places.places.entries self.old.dirty entry.now }
+        requires rows { HasRoomIn self.old entry.now }
         ensures stands { (past : List Entry) → KeepsTransfersIn past entry.now →
-            StreamsStand past self.old.states self.old.places.places.entries self.old.dirty.rows →
-            StreamsStand (entry.now ∷ past) self.new.states self.new.places.places.entries self.new.dirty.rows }
+            StandFor past self.old → StandFor (entry.now ∷ past) self.new }
         ensures capacity { self.new.dirty.capacity ≡ self.old.dirty.capacity }
         ensures room { spare self.old.places.places ≤ spare self.new.places.places + 1 }
     {
@@ -238,12 +228,10 @@ impl Streams {
     // A call ended; one that was done on a stream changes what is kept of it.
     fn call_ended(&mut self, stream: &Option<StreamId>, call: &Call, outcome: &Outcome)
         requires places { 0 < spare self.old.places.places }
-        requires rows { HasRoomForEntry self.old.states self.old.places.places.entries self.old.dirty
-            (entry.Call 0 0 stream.now call.now outcome.now) }
+        requires rows { HasRoomIn self.old (entry.Call 0 0 stream.now call.now outcome.now) }
         ensures stands { (past : List Entry) (pass nth : ℕ) →
-            StreamsStand past self.old.states self.old.places.places.entries self.old.dirty.rows →
-            StreamsStand (entry.Call pass nth stream.now call.now outcome.now ∷ past)
-            self.new.states self.new.places.places.entries self.new.dirty.rows }
+            StandFor past self.old →
+            StandFor (entry.Call pass nth stream.now call.now outcome.now ∷ past) self.new }
         ensures capacity { self.new.dirty.capacity ≡ self.old.dirty.capacity }
         ensures room { spare self.old.places.places ≤ spare self.new.places.places + 1 }
     {
@@ -261,9 +249,8 @@ impl Streams {
             stream < 16 → HasRoomFor self.old.dirty stream (reach what (state_in self.old.states stream).size
             (held_at self.old.places.places.entries stream (hold_named what))) }
         ensures stands { (past : List Entry) (pass nth : ℕ) →
-            StreamsStand past self.old.states self.old.places.places.entries self.old.dirty.rows →
-            StreamsStand (entry.Call pass nth (Some stream) call.now (outcome.Done reply.now) ∷ past)
-            self.new.states self.new.places.places.entries self.new.dirty.rows }
+            StandFor past self.old →
+            StandFor (entry.Call pass nth (Some stream) call.now (outcome.Done reply.now) ∷ past) self.new }
         ensures capacity { self.new.dirty.capacity ≡ self.old.dirty.capacity }
         ensures room { spare self.old.places.places ≤ spare self.new.places.places + 1 }
     {
@@ -281,7 +268,7 @@ impl Streams {
         requires rows { HasRoomFor self.old.dirty stream (reach what (state_in self.old.states stream).size
             (held_at self.old.places.places.entries stream (hold_named what))) }
         ensures rows { (past : List Entry) →
-            StreamsStand past self.old.states self.old.places.places.entries self.old.dirty.rows →
+            StandFor past self.old →
             is_of_call what ≡ true →
             ChangesRows stream (λ p. touching_of what (history past stream) p) self.old.dirty.rows self.new.dirty.rows }
         ensures capacity { self.new.dirty.capacity ≡ self.old.dirty.capacity }

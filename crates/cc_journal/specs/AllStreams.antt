@@ -1,0 +1,13 @@
+-- What is kept of all streams, as one value.
+use Rattle.std.specs.Prelude.{List}
+use Rattle.cc_entry.specs.declared.entry.Entry.{Entry}
+use Rattle.cc_journal.specs.declared.streams.Streams.{Streams}
+use Rattle.cc_journal.specs.Streams.{StreamsStand, HasRoomForEntry}
+
+-- it stands for a past
+abbrev pub StandFor : List Entry → Streams → Type 0
+StandFor past s = StreamsStand past s.states s.places.places.entries s.dirty.rows
+
+-- there is room in it for what an entry touches
+abbrev pub HasRoomIn : Streams → Entry → Type 0
+HasRoomIn s e = HasRoomForEntry s.states s.places.places.entries s.dirty e
