@@ -11,3 +11,5 @@ pub mod ScanSteps
 pub mod RoomFor
 pub mod Sums
 pub mod KeptSteps
+pub mod DirtyBelow
+pub mod GoodEntries

@@ -10,6 +10,7 @@ ghost use Rattle.cc_model.specs.History.{history};
 ghost use Rattle.cc_laws.proofs.QueueSteps.{is_defer_or_post, is_scan};
 ghost use Rattle.cc_model.specs.Cache.{holds_made, holds_made_by, makes_hold, lazy_pages, views_taken};
 ghost use Rattle.cc_model.specs.Passes.{calls_of};
+ghost use Rattle.cc_model.specs.Touches.{is_mapped};
 ghost use Rattle.cc_model.specs.Setup.{Setup};
 ghost use Rattle.cc_model.specs.Settings.{log_of};
 ghost use Rattle.cc_model.specs.Throttle.{may_go, queue, deferred};
@@ -253,6 +254,13 @@ impl<Q> Journal<Q> {
         ensures { result ≡ suc (holds_made self.now.entries) }
     {
         self.holds + 1
+    }
+
+    /// Whether a stream has a shared map: an object is open, or a page is dirty.
+    pub fn is_mapped(&self, stream: StreamId) -> bool
+        ensures { result ≡ is_mapped (history self.now.entries stream) }
+    {
+        self.streams.is_mapped(stream)
     }
 
     /// The log of a stream, where it has one (`CcSetLogHandleForFile`).

@@ -8,7 +8,7 @@
 //!
 //! An entry is followed by its stream's state (`streams`), the ranges of open holds (`places`), the rows of the
 //! pages that it touches, cuts, begins or ends (`table`), the counts of calls (`calls`), the scans (`scans`)
-//! and the queue (`queue`).
+//! and the queue (`queue`). Each entry after which the journal is good so far may be pushed (`laws`).
 //!
 //! The book of each stream and the turns of a board stand above; below are `cc_stream`, `cc_dirty`, what an
 //! entry does to a stream (`cc_events`), and the definitions of `cc_model`.
@@ -16,6 +16,7 @@
 
 mod calls;
 mod journal;
+pub mod laws;
 mod places;
 mod queue;
 mod scans;
