@@ -249,6 +249,16 @@ impl<Q> Journal<Q> {
         self.calls.of(pass)
     }
 
+    /// The number of a pass's next call, for whose entry a place is reserved.
+    pub fn next_call(&self, pass: u32) -> u32
+        requires { 0 < self.now.reserved }
+        ensures { result ≡ suc (calls_of self.now.entries pass) }
+    {
+        // The capacity is what bounds the number.
+        let _most = self.capacity;
+        self.calls.of(pass) + 1
+    }
+
     /// The id of the next hold.
     pub fn next_hold(&self) -> u64
         ensures { result ≡ suc (holds_made self.now.entries) }
