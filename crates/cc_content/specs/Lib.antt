@@ -1,2 +1,5 @@
 -- What the contracts cite.
 pub mod Contents
+pub mod Filling
+pub mod Leaves
+pub mod Done
