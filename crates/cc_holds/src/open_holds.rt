@@ -15,7 +15,7 @@ ghost use Rattle.cc_holds.specs.Stands.{HoldsStand, shown, shown_row};
 ghost use Rattle.cc_holds.specs.Makes.{row_made, zeroed_end};
 
 use crate::blocks::{add_blocks, add_held};
-use crate::look::{any_keeps_page, first_with_bytes};
+use crate::look::{any_keeps_page, first_in_the_way, first_with_bytes};
 use crate::owed::least_owed;
 use crate::rows::{new_row, row_named};
 use cc_bcb::Holds;
@@ -191,6 +191,15 @@ impl OpenHolds {
             result ≡ pin_in_the_way (holds_of h) (Some span) exclusive }
     {
         self.holds.pin_conflict(span, exclusive)
+    }
+
+    /// The least id of an open pin that bars a pin of the bytes from `from` up to, and without, `to`; both may
+    /// lie past 2^64.
+    pub fn pin_in_bytes(&self, from: u128, to: u128, exclusive: bool) -> Option<u64>
+        ensures { (h : List Effect) → HoldsStand h self.now →
+            result ≡ pin_in_the_way (holds_of h) (Some (record { from = from; to = to })) exclusive }
+    {
+        first_in_the_way(self.holds.all(), from, to, exclusive)
     }
 
     /// The least id of an open pin that owes a stamp to the page.

@@ -63,7 +63,8 @@ fn lesser(page: u64, other: Option<u64>) -> Option<u64>
     }
 }
 
-fn is_pin(kind: HoldKind) -> bool
+/// Whether a hold is a pin.
+pub(crate) fn is_pin(kind: HoldKind) -> bool
     ensures { result ≡ is_pin kind }
 {
     matches!(kind, HoldKind::Pin)

@@ -1,0 +1,22 @@
+//! The refusal of a call, decided from what is kept of its stream and of the journal.
+//!
+//! What the layer keeps true: the refusal is the first of the definition's reasons that holds, in their order,
+//! wherever what is kept stands for the history. So no call repeats it: a call that is not refused here may be
+//! done, as far as the disks, the logs, the journal's room and memory let it. A discard has two reasons more, on
+//! what its disk holds of dirty pages, which no crate below keeps: of a discard the refusal is the first of the
+//! others, and the caller asks those two after it.
+//!
+//! The calls of the cache stand above. Below are what is kept of a stream (`cc_stream`) and its open holds
+//! (`cc_holds`), the values of `cc_entry`, the definitions of `cc_model` and how they step (`cc_laws`,
+//! `cc_events`). What the pages of a stream and the journal have to say comes as numbers, so that the crate
+//! stands on neither. Only the count of view blocks takes memory.
+#![tactic(auto)]
+
+mod arguments;
+mod conflicts;
+mod known;
+mod refusals;
+mod views;
+
+pub use known::Known;
+pub use refusals::refusal;

@@ -1,0 +1,109 @@
+//! The refusal of a call: the first of its reasons, in their order.
+
+ghost use Rattle.std.specs.Prelude.{◌≡◌, false, None, List, [], ◌∷◌, IfOk};
+ghost use Rattle.cc_entry.specs.declared.entry.Entry.{Entry};
+ghost use Rattle.cc_model.specs.Setup.{Setup};
+ghost use Rattle.cc_model.specs.History.{Effect};
+ghost use Rattle.cc_model.specs.Touches.{size_of};
+ghost use Rattle.cc_model.specs.Reasons.{beyond_size};
+ghost use Rattle.cc_model.specs.Discards.{unsettled, grown};
+ghost use Rattle.cc_model.specs.Refusals.{first_of, refusal};
+ghost use Rattle.cc_refusal.specs.Known.{KnownStands, IsLeastAbsent, is_discard};
+ghost use Rattle.cc_refusal.specs.Reasons.{argument_reasons, hold_reasons, use_reasons};
+
+use crate::arguments::{
+    by_block, by_granularity, by_length, by_log, by_map, by_size, by_sizes, by_valid,
+};
+use crate::conflicts::{by_holds, by_pins};
+use crate::known::Known;
+use crate::views::{by_pool, by_residents, by_views};
+use cc_entry::{Call, CcError, NoMemory};
+use std::alloc::Global;
+
+// The first refusal of a list.
+fn first_in(reasons: &[Option<CcError>]) -> Option<CcError>
+    ensures { result ≡ first_of reasons.now }
+{
+    let Some((first, rest)) = reasons.split_first() else {
+        return None;
+    };
+    match first {
+        Some(refused) => Some(*refused),
+        None => first_in(rest),
+    }
+}
+
+// The first reason that lies in the arguments, or in the sizes, maps and logs that the call meets.
+fn by_arguments(known: &Known, call: &Call) -> Option<CcError>
+    ensures { (u : Setup) (past : List Entry) (h : List Effect) → KnownStands u past h known.now →
+        result ≡ first_of (argument_reasons u h call.now) }
+{
+    let reasons = [
+        by_map(known.state, call),
+        by_length(call),
+        by_block(call),
+        by_sizes(known, call),
+        by_granularity(call),
+        by_log(known.logs, call),
+        by_size(known.state.size(), call),
+        by_valid(known.valid, call),
+    ];
+    first_in(&reasons)
+}
+
+// The first reason that lies in open holds.
+fn by_conflicts(known: &Known, call: &Call) -> Option<CcError>
+    ensures { (u : Setup) (past : List Entry) (h : List Effect) → KnownStands u past h known.now →
+        result ≡ first_of (hold_reasons h call.now) }
+{
+    first_in(&[by_holds(known, call), by_pins(known.holds, call)])
+}
+
+// The first reason that lies in view blocks, the pool of views or resident pages, of a call below the size.
+fn by_use(
+    alloc: Global,
+    known: &Known,
+    call: &Call,
+    absent: Option<u64>,
+) -> Result<Option<CcError>, NoMemory>
+    ensures { IfOk result (λ refused. (u : Setup) (past : List Entry) (h : List Effect) →
+        KnownStands u past h known.now → IsLeastAbsent h call.now absent →
+        beyond_size (size_of h) call.now ≡ None →
+        refused ≡ first_of (use_reasons past h call.now)) }
+{
+    let reasons = [
+        by_views(alloc, known, call, absent)?,
+        by_pool(known.mapped, known.free_views, call),
+        by_residents(call, absent),
+    ];
+    Ok(first_in(&reasons))
+}
+
+/// The refusal of a call on a stream: the first reason that holds, in their order. `absent` is the least page
+/// of the call's range that is not resident, where the call is a copy read that may not wait; of other calls
+/// it is not looked at.
+///
+/// Of a discard it is only the first of those reasons that other calls have too. Its last two, a page whose
+/// image is not known and a page that has grown, need what is kept nowhere below: they are left to the caller.
+pub fn refusal(
+    alloc: Global,
+    known: &Known,
+    call: &Call,
+    absent: Option<u64>,
+) -> Result<Option<CcError>, NoMemory>
+    ensures same { IfOk result (λ refused. (u : Setup) (past : List Entry) (h : List Effect) →
+        KnownStands u past h known.now → IsLeastAbsent h call.now absent →
+        is_discard call.now ≡ false →
+        refused ≡ refusal u past h call.now) }
+    ensures of_discard { IfOk result (λ refused. (u : Setup) (past : List Entry) (h : List Effect) →
+        KnownStands u past h known.now → IsLeastAbsent h call.now absent →
+        first_of (refused ∷ unsettled h call.now ∷ grown h call.now ∷ []) ≡ refusal u past h call.now) }
+{
+    if let Some(refused) = by_arguments(known, call) {
+        return Ok(Some(refused));
+    }
+    if let Some(refused) = by_conflicts(known, call) {
+        return Ok(Some(refused));
+    }
+    by_use(alloc, known, call, absent)
+}
