@@ -11,3 +11,6 @@ mod ChangesStand
 mod CutsStand
 mod StoresStand
 pub mod Allowed
+mod DoneStands
+pub mod DoneFacts
+mod DoneCalls

@@ -3,3 +3,4 @@ pub mod Contents
 pub mod Filling
 pub mod Leaves
 pub mod Done
+pub mod Following

@@ -26,8 +26,8 @@ use std::marker::Model;
 /// shared map.
 #[derive(Drop)]
 pub struct Contents {
-    valid: u64,
-    pages: Option<ResidentPages>,
+    pub(crate) valid: u64,
+    pub(crate) pages: Option<ResidentPages>,
 }
 
 impl Model for Contents {
@@ -191,7 +191,7 @@ impl Contents {
         }
     }
 
-    fn drop_pages(&mut self)
+    pub(crate) fn drop_pages(&mut self)
         ensures { self.new ≡ record self.old { pages = None } }
     {
         self.pages = None;

@@ -5,12 +5,13 @@
 //! nothing it is zero from the valid data length on. What is read of a page from the disk is cleared from there
 //! on as it comes in. Without a map nothing is kept but the valid data length.
 //!
-//! `contents` has the stream's contents as a whole, `changes` what done calls do to resident pages. The book of
-//! a stream stands above; below are `cc_resident`, which has the pages and knows no journal, and the definitions
-//! of `cc_model` with their lemmas in `cc_laws`.
+//! `contents` has the stream's contents as a whole, `done` what a done call does to them, and `changes` what it
+//! does to resident pages. The book of a stream stands above; below are `cc_resident`, which has the pages and
+//! knows no journal, and the definitions of `cc_model` with their lemmas in `cc_laws`.
 #![tactic(auto)]
 
 mod changes;
 mod contents;
+mod done;
 
 pub use contents::Contents;

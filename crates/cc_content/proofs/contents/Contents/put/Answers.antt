@@ -1,0 +1,25 @@
+use Rattle.std.proofs.Common.{◌+◌, length, ap, max, sym, subst, ◌∙◌}
+use Rattle.cc_laws.proofs.SizeSteps.{sizes-writes}
+use Rattle.cc_content.specs.Following.{Finds}
+use Rattle.cc_content.proofs.DoneStands.{found, found-mapped, done-mapped, done-unmapped}
+use Rattle.cc_content.proofs.contents.Contents.put.Goals as goal
+use Rattle.cc_content.proofs.contents.Contents.put.Goals.{in-Some, in-None}
+
+pub returns : goal.returns
+returns c = λ opening h pass call reply finds is uses starts.
+    let was = subst (Finds opening h pass call reply) (sym c.self.view_is) finds in
+    let valid =
+    ap (λ v. max v (c.args.at + length c.args.bytes.now)) was.stands.valid_is
+    ∙ sym (ap (λ s. s.valid) (sizes-writes pass call reply h is)) in
+    elim c.match-self.branch [
+      | in-Some w ↦
+          let there = w.in-Some.is in
+          let stood = found opening h pass call reply _ was w.in-Some.pages there in
+          let mapped = found-mapped opening h pass call reply _ was w.in-Some.pages there in
+          rw (c.raise.ensures, w.self-inside-is)
+          (done-mapped opening h pass call reply _ was w.written.new.pages _ valid
+          (w.written.ensures opening h pass call reply stood is uses starts mapped))
+      | in-None w ↦
+          rw (c.raise.ensures, w.self-inside-is, w.in-None.is)
+          (done-unmapped opening h pass call reply _ was _ w.in-None.is valid)
+    ]
