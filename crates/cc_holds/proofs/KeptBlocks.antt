@@ -84,13 +84,17 @@ pub among-added : (b : ℕ) (h : List Effect) (holds : List Hold) → HoldsStand
 among-added b h holds stands = touched-with [] (held_blocks holds) b ∙ among-held b h holds stands
 
 -- and with those of a range
+pub among-needed : (b : ℕ) (r : Range) (h : List Effect) (holds : List Hold) → HoldsStand h holds → is_among b (with_pages (with_pages [] (held_blocks holds)) (blocks_of r)) ≡ (is_among b (held.held_blocks (holds_of h)) || is_among b (blocks_of r))
+among-needed b r h holds stands =
+    touched-with (with_pages [] (held_blocks holds)) (blocks_of r) b
+    ∙ ap (λ t. t || is_among b (blocks_of r)) (among-added b h holds stands)
+
 pub needed-kept : (r : Range) (h : List Effect) (holds : List Hold) → HoldsStand h holds → length (with_pages (with_pages [] (held_blocks holds)) (blocks_of r)) ≡ views.needed_blocks (holds_of h) r
 unfolding IsDistinct
 needed-kept r h holds stands =
     length-with (with_pages (with_pages [] (held_blocks holds)) (blocks_of r)) (held.held_blocks (holds_of h) ++ blocks_of r)
-    (λ b. touched-with (with_pages [] (held_blocks holds)) (blocks_of r) b
-    ∙ (ap (λ t. t || is_among b (blocks_of r)) (among-added b h holds stands)
-    ∙ sym (list_any-append (λ m. m == b) (held.held_blocks (holds_of h)) (blocks_of r))))
+    (λ b. among-needed b r h holds stands
+    ∙ sym (list_any-append (λ m. m == b) (held.held_blocks (holds_of h)) (blocks_of r)))
     (distinct-with (with_pages [] (held_blocks holds)) (blocks_of r) (distinct-with [] (held_blocks holds) tt))
 
 pub counted-kept : (h : List Effect) (holds : List Hold) → HoldsStand h holds → length (with_pages [] (held_blocks holds)) ≡ views.active_blocks (holds_of h)

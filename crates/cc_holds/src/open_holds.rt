@@ -1,8 +1,8 @@
 //! The holds, and what a done call makes of them.
 
-ghost use Rattle.std.specs.Prelude.{◌≡◌, ℕ, ◌<◌, ◌+◌, ◌^◌, true, nat_lt, Option, Some, List, [], ◌∷◌, All, IfOk, OnOk, OnErr, length, min, nat_eq, vec_len};
+ghost use Rattle.std.specs.Prelude.{◌||◌, ◌≡◌, ℕ, ◌<◌, ◌+◌, ◌^◌, true, nat_lt, Option, Some, List, [], ◌∷◌, All, IfOk, OnOk, OnErr, length, min, nat_eq, vec_len};
 ghost use Rattle.cc_entry.specs.declared.reply.Reply.{Reply};
-ghost use Rattle.cc_entry.specs.Pages.{whole_range};
+ghost use Rattle.cc_entry.specs.Pages.{blocks_of, whole_range};
 ghost use Rattle.cc_model.specs.History.{Effect, Did};
 ghost use Rattle.std.specs.List.{IsDistinct};
 ghost use Rattle.std.specs.Option.{option_map};
@@ -241,14 +241,25 @@ impl OpenHolds {
         Ok(blocks)
     }
 
+    /// The view blocks that have a byte of an open hold or of a span, each once.
+    pub fn kept_blocks(&self, alloc: Global, span: Span) -> Result<Vec<u64>, NoMemory>
+        ensures same { IfOk result (λ blocks. (h : List Effect) → HoldsStand h self.now → (b : ℕ) →
+            is_among b blocks.items ≡ (is_among b (held_blocks (holds_of h)) || is_among b (blocks_of span))) }
+        ensures counted { IfOk result (λ blocks. (h : List Effect) → HoldsStand h self.now →
+            vec_len blocks ≡ needed_blocks (holds_of h) span) }
+    {
+        let mut blocks = Vec::new(alloc);
+        add_held(&mut blocks, self.holds.all())?;
+        add_blocks(&mut blocks, u128::from(span.from()), u128::from(span.to()))?;
+        Ok(blocks)
+    }
+
     /// How many view blocks have a byte of an open hold or of a span.
     pub fn needed_blocks(&self, alloc: Global, span: Span) -> Result<u64, NoMemory>
         ensures { IfOk result (λ count. (h : List Effect) → HoldsStand h self.now →
             count ≡ needed_blocks (holds_of h) span) }
     {
-        let mut blocks = Vec::new(alloc);
-        add_held(&mut blocks, self.holds.all())?;
-        add_blocks(&mut blocks, u128::from(span.from()), u128::from(span.to()))?;
+        let blocks = self.kept_blocks(alloc, span)?;
         Ok(blocks.len() as u64)
     }
 }

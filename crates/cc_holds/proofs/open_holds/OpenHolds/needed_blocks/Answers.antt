@@ -1,16 +1,7 @@
-use Rattle.std.proofs.Common.{◌∙◌, ap, sym, subst, length, arith, List, ℕ}
-use Rattle.cc_entry.specs.Place.{Range}
-use Rattle.cc_entry.specs.Pages.{blocks_of}
-use Rattle.cc_bcb.specs.Touched.{with_pages}
-use Rattle.cc_holds.specs.Stands.{HoldsStand}
-use Rattle.cc_holds.proofs.KeptBlocks.{added-are, needed-kept, range-of}
+use Rattle.std.proofs.Common.{arith}
 use Rattle.cc_holds.proofs.open_holds.OpenHolds.needed_blocks.Goals as goal
 
 pub returns : goal.returns
 returns c = λ h stands.
-    let counted =
-    ap length c.in_ok-add_blocks.ensures
-    ∙ (ap (λ (r : Range). length (with_pages c.add_held.new.blocks.items (blocks_of r))) (range-of c.args.span (c.from-2.ensures ∙ c.from.ensures.same) (c.from-3.ensures ∙ c.to.ensures.same))
-    ∙ (ap (λ (blocks : List ℕ). length (with_pages blocks (blocks_of c.args.span))) (added-are c.in_ok-add_held.ensures c.new-blocks.ensures.items c.all.ensures)
-    ∙ needed-kept c.args.span h c.self.inside.holds (subst (HoldsStand h) (sym c.self.view_is) stands))) in
-    omega (arith, c.len.ensures, c.add_blocks.new.blocks.ok.0)
+    let counted = c.in_ok-blocks.ensures.counted h stands in
+    omega (arith, c.len.ensures)
