@@ -105,9 +105,10 @@ fn a_sink_keeps_what_it_takes(rt: HostRuntime) -> Result<(), Fail> {
     Ok(())
 }
 
+/// A routine that notes that it was posted.
 #[derive(Drop)]
-struct Routine {
-    posted: bool,
+pub(crate) struct Routine {
+    pub(crate) posted: bool,
 }
 
 impl PostRoutine for Routine {

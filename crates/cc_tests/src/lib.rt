@@ -7,11 +7,15 @@
 #![tactic(auto)]
 
 #[cfg(test)]
+mod ahead;
+#[cfg(test)]
 mod bcb;
 #[cfg(test)]
 mod devices;
 #[cfg(test)]
 mod dirty;
+#[cfg(test)]
+mod journal;
 #[cfg(test)]
 mod log;
 #[cfg(test)]
@@ -19,9 +23,13 @@ mod pages;
 #[cfg(test)]
 mod readers;
 #[cfg(test)]
+mod resident;
+#[cfg(test)]
 mod script;
 #[cfg(test)]
 mod sent;
+#[cfg(test)]
+mod stream;
 #[cfg(test)]
 mod text;
 #[cfg(test)]

@@ -1,0 +1,41 @@
+//! Tests of the private maps of a stream's objects.
+
+use crate::sent::takes_sent;
+use cc_ahead::PrivateMaps;
+use cc_entry::{Bytes, Call, FileId, Reply, Request};
+use std::test::Fail;
+
+fn read(file: FileId, at: u64) -> Call {
+    Call::CopyRead {
+        file,
+        at,
+        len: 10,
+        wait: true,
+    }
+}
+
+#[test]
+fn two_reads_in_sequence_lead_to_the_next_granule(rt: HostRuntime) -> Result<(), Fail> {
+    let file = FileId::new(1, 0).ok_or("file")?;
+    let reply = Reply::Read(Bytes::of(rt.alloc(), &[0x5A; 10])?);
+    let granularity = Call::SetGranularity { file, bytes: 4096 };
+    let closing = Call::Uninitialise {
+        file,
+        truncate: None,
+    };
+    let mut maps = takes_sent(PrivateMaps::new());
+    maps.done(&granularity, &Reply::Unit, false);
+    assert_eq!(rt; (maps.granularity(0), maps.granularity(1)), (4096, 65536));
+    maps.done(&read(file, 0), &reply, false);
+    maps.done(&read(file, 10), &reply, false);
+    assert!(rt; maps.is_sequential(0, 20) && !maps.is_sequential(0, 10));
+    let (at, len) = (4096, 904);
+    assert_eq!(rt;
+        maps.ahead_of(file, 20, 10, false, 5000),
+        Some(Request { file, at, len })
+    );
+    assert_eq!(rt; maps.ahead_of(file, 20, 10, true, 5000), None);
+    maps.done(&closing, &Reply::Unit, false);
+    assert_eq!(rt; maps.ahead_of(file, 20, 10, false, 5000), None);
+    Ok(())
+}
