@@ -1,0 +1,3 @@
+-- Lemmas of the book, each before those that cite it.
+pub mod BookSteps
+pub mod BlocksToGo

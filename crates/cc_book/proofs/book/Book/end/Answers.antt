@@ -1,0 +1,23 @@
+use Rattle.std.specs.Prelude.{◌≡◌, List}
+use Rattle.std.proofs.Common.{ap, sym, ◌∙◌, subst}
+use Rattle.cc_entry.specs.declared.entry.Entry.{Entry}
+use Rattle.cc_model.specs.History.{history}
+use Rattle.cc_model.specs.Touches.{is_mapped}
+use Rattle.cc_journal.proofs.GoodEntries.{MayBePushed-good}
+use Rattle.cc_book.specs.Book.{BookState, BookStands}
+use Rattle.cc_book.proofs.BookSteps.{goes_on_ended, history_ended}
+use Rattle.cc_book.proofs.book.Book.end.Goals as goal
+
+pub push-requires-clause-may : goal.push-requires-clause-may
+push-requires-clause-may g c = MayBePushed-good c.requires.may.0 c.args.journal.now.entries _ c.requires.may.1
+
+pub returns-clause-stands : goal.returns-clause-stands
+returns-clause-stands g c opening stands =
+    let past : List Entry = c.args.journal.now.entries in
+    let b : BookState = record { stream = c.self.inside.stream; state = c.self.inside.state; maps = c.self.inside.maps; holds = c.self.inside.holds; contents = c.self.inside.contents } in
+    let was : BookStands opening past b = subst (λ (x : BookState). BookStands opening past x) (sym c.self.view_is) stands in
+    let same : c.args.page.stream ≡ b.stream = c.requires.stream ∙ sym (ap (λ x. x.stream) c.self.view_is) in
+    let grown = ap (λ j. j.entries) c.push.ensures.placed in
+    rw grown (goes_on_ended c.args.pass c.args.page c.args.how past b c.ended.new.self opening same
+    (c.ended.ensures.ended opening (history past b.stream) c.args.pass c.args.page.page c.args.how was.contents_are
+    (c.is_mapped-mapped.ensures ∙ ap is_mapped (ap (λ p. history p b.stream) grown ∙ history_ended c.args.pass c.args.page c.args.how past b.stream same))) was)

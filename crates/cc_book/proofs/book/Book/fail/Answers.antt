@@ -1,0 +1,17 @@
+use Rattle.std.specs.Prelude.{List}
+use Rattle.std.proofs.Common.{ap}
+use Rattle.cc_entry.specs.declared.entry.Entry.{Entry}
+use Rattle.cc_journal.proofs.GoodEntries.{MayBePushed-good}
+use Rattle.cc_book.proofs.BookSteps.{goes_on_failed}
+use Rattle.cc_book.proofs.book.Book.fail.Goals as goal
+
+pub push-requires-clause-may : goal.push-requires-clause-may
+push-requires-clause-may g c =
+    let stream = ap (λ b. b.stream) c.self.view_is in
+    rw (c.next_call.ensures, stream) (MayBePushed-good c.requires.may.0 c.args.journal.now.entries _ c.requires.may.1)
+
+pub returns-clause-stands : goal.returns-clause-stands
+returns-clause-stands g c opening stands =
+    let past : List Entry = c.args.journal.now.entries in
+    let grown = ap (λ j. j.entries) c.push.ensures.placed in
+    rw grown (goes_on_failed c.args.pass _ _ c.args.call c.args.error past c.args.self.now opening stands)

@@ -1,0 +1,9 @@
+use Rattle.cc_book.proofs.book.Book.new.Goals as goal
+
+pub returns-clause-stands : goal.returns-clause-stands
+returns-clause-stands c opening past none = record {
+  state_is = rw none c.new.ensures.stands;
+  maps_are = rw none c.new-2.ensures.stands;
+  holds_are = rw none c.new-3.ensures.stands;
+  contents_are = rw none (c.new-4.ensures opening);
+}

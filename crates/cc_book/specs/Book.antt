@@ -1,0 +1,60 @@
+-- The book of a stream as contracts see it, and what it stands for.
+use Rattle.std.specs.Prelude.{◌≡◌, ℕ, suc, ◌-◌, ◌*◌, nat_lt, List, [], ◌∷◌, Option, Some}
+use Rattle.cc_entry.specs.Place.{Page}
+use Rattle.cc_entry.specs.declared.call.Call.{Call}
+use Rattle.cc_entry.specs.declared.error.CcError.{CcError}
+use Rattle.cc_entry.specs.declared.entry.Entry.TheVariants as entry
+use Rattle.cc_entry.specs.declared.reply.Outcome.TheVariants as outcome
+use Rattle.cc_model.specs.Passes.{calls_of}
+use Rattle.cc_entry.specs.declared.entry.Entry.{Entry}
+use Rattle.cc_ahead.specs.Kept.{Kept, PrivateStands}
+use Rattle.cc_bcb.specs.declared.holds.Hold.{Hold}
+use Rattle.cc_content.specs.Contents.{Contents, ContentsStand}
+use Rattle.cc_holds.specs.Stands.{HoldsStand}
+use Rattle.cc_journal.specs.Journal.{JournalState}
+use Rattle.cc_model.specs.Good.{IsGoodSoFar}
+use Rattle.cc_model.specs.Discards.{unsettled, grown}
+use Rattle.cc_model.specs.History.{Effect, history}
+use Rattle.cc_model.specs.Refusals.{first_of}
+use Rattle.cc_model.specs.Setup.{Setup}
+use Rattle.cc_stream.specs.Stream.{Stream, StreamStands}
+
+-- the stream; what is kept of it beside its pages and holds; the private maps of its objects; its open holds;
+-- and what its resident pages hold
+pub record BookState : Type 0 where
+  pub stream : ℕ
+  pub state : Stream
+  pub maps : List Kept
+  pub holds : List Hold
+  pub contents : Contents
+
+-- a book stands for a past, over what the stream's disk told of its opening pages
+pub record BookStands (opening : Option (ℕ → List ℕ)) (past : List Entry) (b : BookState) : Type 0 where
+  pub state_is : StreamStands (history past b.stream) b.state
+  pub maps_are : PrivateStands (history past b.stream) b.maps
+  pub holds_are : HoldsStand (history past b.stream) b.holds
+  pub contents_are : ContentsStand opening (history past b.stream) b.contents
+
+-- An entry may be placed on the past for which the book stands: over some setup the journal is good with it.
+abbrev pub MayPlace : List Entry → Entry → BookState → Type 0
+MayPlace past e b = (u : Setup) × IsGoodSoFar u (e ∷ past) × BookStands (u.opening b.stream) past b
+
+-- the journal gained one entry, for which a place was reserved
+abbrev pub Gains : {Q : Type 0} → Entry → JournalState Q → JournalState Q → Type 0
+Gains e old new = new ≡ record old { entries = e ∷ old.entries; reserved = old.reserved - 1; rows = new.rows }
+
+-- the book stands for the journal after as it did before, and is of the same stream
+abbrev pub GoesOn : List Entry → List Entry → BookState → BookState → Type 0
+GoesOn past now old new = (opening : Option (ℕ → List ℕ)) → BookStands opening past old → BookStands opening now new
+
+-- the entry of a page that comes in: from the disk where it has a byte below the valid data length
+abbrev pub page_in : ℕ → Page → BookState → Entry
+page_in pass page b = entry.PageIn pass page (nat_lt (4096 * page.page) b.contents.valid)
+
+-- the entry of a pass's next call, on this stream, that failed
+abbrev pub failed : ℕ → List Entry → ℕ → Call → CcError → Entry
+failed pass past stream call error = entry.Call pass (suc (calls_of past pass)) (Some stream) call (outcome.Failed error)
+
+-- what a refusal leaves open of a discard: the first of it and of the two reasons of discards is the whole
+abbrev pub LeavesDiscards : Option CcError → List Effect → Call → Option CcError → Type 0
+LeavesDiscards refused h call whole = first_of (refused ∷ unsettled h call ∷ grown h call ∷ []) ≡ whole

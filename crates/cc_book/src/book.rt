@@ -1,0 +1,220 @@
+//! What is kept of one stream, and the entries that change it.
+
+ghost use Rattle.std.specs.Prelude.{◌≡◌, ℕ, ◌<◌, [], ◌∷◌, List, Option, OnOk, OnErr, IfOk, false, not};
+ghost use Rattle.cc_entry.specs.declared.entry.Entry.{Entry};
+ghost use Rattle.cc_entry.specs.declared.entry.Entry.TheVariants as entry;
+ghost use Rattle.cc_model.specs.History.{history};
+ghost use Rattle.cc_content.specs.Filling.{IsReadFrom};
+ghost use Rattle.std.specs.List.{find};
+ghost use Rattle.cc_entry.specs.Pages.{pages_of};
+ghost use Rattle.cc_model.specs.Ranges.{cut_range};
+ghost use Rattle.cc_model.specs.Residency.{is_resident};
+ghost use Rattle.cc_model.specs.Touches.{size_of};
+ghost use Rattle.cc_model.specs.Refusals.{refusal};
+ghost use Rattle.cc_model.specs.Setup.{Setup};
+ghost use Rattle.cc_effects.specs.Asked.{block_to_go};
+ghost use Rattle.cc_refusal.specs.Known.{is_discard, IsLeastAbsent};
+ghost use Rattle.cc_book.specs.Book.{LeavesDiscards, BookStands, MayPlace, Gains, GoesOn, page_in, failed};
+
+use cc_ahead::PrivateMaps;
+use cc_content::Contents;
+use cc_entry::{Call, CcError, End, Entry, NoMemory, Outcome, PageId, Span, StreamId};
+use cc_holds::OpenHolds;
+use cc_journal::Journal;
+use cc_refusal::{Known, refusal};
+use cc_stream::StreamState;
+use std::alloc::Global;
+use std::marker::Model;
+
+/// What is kept of one stream.
+#[derive(Drop)]
+pub struct Book {
+    stream: StreamId,
+    state: StreamState,
+    maps: PrivateMaps,
+    holds: OpenHolds,
+    contents: Contents,
+}
+
+impl Model for Book {
+    ghost use Rattle.cc_book.specs.Book.{BookState};
+
+    ghost Value = { BookState };
+
+    ghost view = { λ b. record {
+      stream = b.stream;
+      state = b.state;
+      maps = b.maps;
+      holds = b.holds;
+      contents = b.contents;
+    } };
+}
+
+impl Book {
+    /// The book of a stream of which nothing happened yet. It takes no memory.
+    pub fn new(alloc: Global, stream: StreamId) -> Book
+        ensures stream { result.stream ≡ stream }
+        ensures stands { (opening : Option (ℕ → List ℕ)) (past : List Entry) →
+            history past stream ≡ [] → BookStands opening past result }
+    {
+        Book {
+            stream,
+            state: StreamState::new(),
+            maps: PrivateMaps::new(),
+            holds: OpenHolds::new(alloc),
+            contents: Contents::new(),
+        }
+    }
+
+    /// The refusal of a call on the stream, where there is one. A discard's last two reasons, an image that is
+    /// not known and a page that has grown, are not looked at.
+    pub fn refusal<Q>(
+        &self,
+        alloc: Global,
+        journal: &Journal<Q>,
+        call: &Call,
+    ) -> Result<Option<CcError>, NoMemory>
+        ensures same { IfOk result (λ refused. (u : Setup) (opening : Option (ℕ → List ℕ)) →
+            u.logs ≡ journal.now.logs → BookStands opening journal.now.entries self.now →
+            is_discard call.now ≡ false →
+            refused ≡ refusal u journal.now.entries (history journal.now.entries self.now.stream) call.now) }
+        ensures of_discard { IfOk result (λ refused. (u : Setup) (opening : Option (ℕ → List ℕ)) →
+            u.logs ≡ journal.now.logs → BookStands opening journal.now.entries self.now →
+            LeavesDiscards refused (history journal.now.entries self.now.stream) call.now
+            (refusal u journal.now.entries (history journal.now.entries self.now.stream) call.now)) }
+    {
+        let known = Known {
+            state: &self.state,
+            valid: self.contents.valid(),
+            mapped: self.contents.has_map(),
+            holds: &self.holds,
+            logs: journal.logs(),
+            free_views: journal.free_views(),
+        };
+        refusal(alloc, &known, call, self.least_absent(call))
+    }
+
+    /// The view block to give up so that one of the span can be mapped: the least recently used one that has no
+    /// open hold and is none of the span's.
+    pub fn block_to_go(&self, alloc: Global, span: Span) -> Result<Option<u64>, NoMemory>
+        ensures { IfOk result (λ block. (opening : Option (ℕ → List ℕ)) (past : List Entry) →
+            BookStands opening past self.now →
+            block ≡ block_to_go (history past self.now.stream) span) }
+    {
+        let kept = self.holds.kept_blocks(alloc, span)?;
+        Ok(self.contents.oldest_of(&kept))
+    }
+
+    /// A page goes out. It takes no memory.
+    pub fn take_out<Q>(&mut self, journal: &mut Journal<Q>, pass: u32, page: PageId)
+        requires stream { page.stream ≡ self.old.stream }
+        requires reserved { 0 < journal.old.reserved }
+        requires may { MayPlace journal.old.entries (entry.PageOut pass page) self.old }
+        ensures placed { Gains (entry.PageOut pass page) journal.old journal.new }
+        ensures stands { GoesOn journal.old.entries journal.new.entries self.old self.new }
+        ensures stream { self.new.stream ≡ self.old.stream }
+    {
+        self.contents.went_out(page.page());
+        journal.push(Entry::PageOut { pass, page });
+    }
+
+    /// A page comes in from the raw bytes of the disk, as zeros where it begins at the valid data length or past
+    /// it.
+    pub fn bring_in<Q>(
+        &mut self,
+        journal: &mut Journal<Q>,
+        pass: u32,
+        page: PageId,
+        raw: &[u8; 4096],
+    ) -> Result<(), NoMemory>
+        requires stream { page.stream ≡ self.old.stream }
+        requires reserved { 0 < journal.old.reserved }
+        requires may { MayPlace journal.old.entries (page_in pass page self.old) self.old }
+        ensures placed { OnOk result (Gains (page_in pass page self.old) journal.old journal.new) }
+        ensures stands { OnOk result ((opening : Option (ℕ → List ℕ)) →
+            IsReadFrom opening (history journal.old.entries self.old.stream) page.page raw.now →
+            BookStands opening journal.old.entries self.old → BookStands opening journal.new.entries self.new) }
+        ensures stream { self.new.stream ≡ self.old.stream }
+        ensures err { OnErr result ((self.new ≡ self.old) × (journal.new ≡ journal.old)) }
+    {
+        let from_disk = 4096 * page.page() < self.contents.valid();
+        self.contents.came_in(page.page(), raw)?;
+        journal.push(Entry::PageIn {
+            pass,
+            page,
+            from_disk,
+        });
+        Ok(())
+    }
+
+    /// The transfer of a page to the disk begins.
+    pub fn begin<Q>(&mut self, journal: &mut Journal<Q>, pass: u32, page: PageId)
+        requires stream { page.stream ≡ self.old.stream }
+        requires reserved { 0 < journal.old.reserved }
+        requires may { MayPlace journal.old.entries (entry.WriteBegin pass page) self.old }
+        ensures placed { Gains (entry.WriteBegin pass page) journal.old journal.new }
+        ensures stands { GoesOn journal.old.entries journal.new.entries self.old self.new }
+        ensures same { self.new ≡ self.old }
+    {
+        journal.push(Entry::WriteBegin { pass, page });
+    }
+
+    /// That transfer ended. A map without an object goes with its last dirty page, and its pages with it.
+    pub fn end<Q>(&mut self, journal: &mut Journal<Q>, pass: u32, page: PageId, how: End)
+        requires stream { page.stream ≡ self.old.stream }
+        requires reserved { 0 < journal.old.reserved }
+        requires may { MayPlace journal.old.entries (entry.WriteEnd pass page how) self.old }
+        ensures placed { Gains (entry.WriteEnd pass page how) journal.old journal.new }
+        ensures stands { GoesOn journal.old.entries journal.new.entries self.old self.new }
+        ensures stream { self.new.stream ≡ self.old.stream }
+    {
+        journal.push(Entry::WriteEnd { pass, page, how });
+        let mapped = journal.is_mapped(self.stream);
+        self.contents.ended(mapped);
+    }
+
+    /// A call on the stream failed.
+    pub fn fail<Q>(&mut self, journal: &mut Journal<Q>, pass: u32, call: Call, error: CcError)
+        requires reserved { 0 < journal.old.reserved }
+        requires may { MayPlace journal.old.entries (failed pass journal.old.entries self.old.stream call error) self.old }
+        ensures placed { Gains (failed pass journal.old.entries self.old.stream call error) journal.old journal.new }
+        ensures stands { GoesOn journal.old.entries journal.new.entries self.old self.new }
+        ensures same { self.new ≡ self.old }
+    {
+        journal.push(Entry::Call {
+            pass,
+            nth: journal.next_call(pass),
+            stream: Some(self.stream),
+            call,
+            outcome: Outcome::Failed(error),
+        });
+    }
+
+    // The least page that a read which may not wait needs and that is not resident.
+    fn least_absent(&self, call: &Call) -> Option<u64>
+        ensures { (opening : Option (ℕ → List ℕ)) (past : List Entry) → BookStands opening past self.now →
+            IsLeastAbsent (history past self.now.stream) call.now result }
+    {
+        match call {
+            Call::CopyRead { at, len, wait, .. } => {
+                if *wait {
+                    None
+                } else {
+                    self.absent_of(*at, *len)
+                }
+            }
+            _ => None,
+        }
+    }
+
+    // The least page of so many bytes from a place on, as far as the size, that is not resident.
+    fn absent_of(&self, at: u64, len: u64) -> Option<u64>
+        ensures { (opening : Option (ℕ → List ℕ)) (past : List Entry) → BookStands opening past self.now →
+            result ≡ find (λ p. not (is_resident (history past self.now.stream) p))
+            (pages_of (cut_range (size_of (history past self.now.stream)) at len)) }
+    {
+        let end = u128::from(at) + u128::from(len);
+        let to = end.min(u128::from(self.state.size())) as u64;
+        self.contents.first_absent(at, to)
+    }
+}

@@ -1,0 +1,16 @@
+//! The book of a stream: all that is kept of it, and how it and the journal go on together.
+//!
+//! What the layer keeps true: a book that stands for the journal, over what the stream's disk told of its opening
+//! pages, stands for it after each step, and the step places one entry, for which a place was reserved and with
+//! which the journal is good. A step that finds no memory leaves both as they were. So whoever holds the book's
+//! turn knows of the stream what the whole journal says of it: its sizes, its holds, its pages and their bytes.
+//!
+//! The steps of the calls stand above. Below are the four parts of a book: the state of the stream
+//! (`cc_stream`), its private maps (`cc_ahead`), its open holds (`cc_holds`) and its contents (`cc_content`); the
+//! journal (`cc_journal`), the refusal of a call (`cc_refusal`), and the definitions of `cc_model` with their
+//! lemmas in `cc_laws`.
+#![tactic(auto)]
+
+mod book;
+
+pub use book::Book;
