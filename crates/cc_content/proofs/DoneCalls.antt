@@ -125,7 +125,8 @@ module _ (opening : Option (ℕ → List ℕ)) (past : List Entry) (h : List Eff
   looks-ahead : (call : Call) (reply : Reply) → IsDone past h pass call reply → is_look (act_of call) ≡ true
       → LooksAt h pass call reply o (looked_range (size_of h) call reply)
   looks-ahead (call.AheadStep request) (reply.Whole true) done look =
-      looks-below (call.AheadStep request) (reply.Whole true) request.at request.len (record { blocks = refl }) done.filled
+      looks-below (call.AheadStep request) (reply.Whole true) request.at request.len (record { blocks = refl })
+      done.filled
   looks-ahead (call.AheadStep request) (reply.Whole false) done look =
       record { uses = record { blocks = refl }; mapped = none-mapped o }
   looks-ahead (call.AheadStep request) other done look =
@@ -135,9 +136,11 @@ module _ (opening : Option (ℕ → List ℕ)) (past : List Entry) (h : List Eff
   looks-ahead (call.Map file at len) r done look =
       looks-whole (call.Map file at len) r at len done.room.within (record { blocks = refl }) done.filled
   looks-ahead (call.PinRead file at len exclusive) r done look =
-      looks-whole (call.PinRead file at len exclusive) r at len done.room.within (record { blocks = refl }) done.filled
+      looks-whole (call.PinRead file at len exclusive) r at len done.room.within (record { blocks = refl })
+      done.filled
   looks-ahead (call.PreparePin file at len zero exclusive) r done look =
-      looks-whole (call.PreparePin file at len zero exclusive) r at len done.room.within (record { blocks = refl }) done.filled
+      looks-whole (call.PreparePin file at len zero exclusive) r at len done.room.within
+      (record { blocks = refl }) done.filled
   looks-ahead (call.MdlRead file at len) r done look =
       looks-whole (call.MdlRead file at len) r at len done.room.within (record { blocks = refl }) done.filled
   looks-ahead (call.MdlWrite file at len) r done look =
@@ -163,9 +166,10 @@ room-stored : (opening : Option (ℕ → List ℕ)) (h : List Effect) (o : Optio
     → mapped_blocks_with h page ≤ quota_of h → HasRoomAmong o page
 room-stored opening h None page stands mapped below within = true≢false (sym mapped ∙ stands)
 room-stored opening h (Some m) page stands mapped below within =
+    let distinct = subst (IsDistinct nat_eq) (sym stands.order) (order_of_use-distinct h) in
     record {
       starts = starts-below opening h m stands page below;
-      room = room-for opening h m stands page (subst (IsDistinct nat_eq) (sym stands.order) (order_of_use-distinct h)) within;
+      room = room-for opening h m stands page distinct within;
     }
 
 -- a stored page is whole
@@ -267,7 +271,8 @@ module _ {u : Setup} {past : List Entry} {pass nth s : ℕ} {call : Call} {reply
         truncate = truncate;
         is = ap act_of is;
         cut_is = sym (may.truncation_is ∙ ap (truncated_by (history past s)) is);
-        was_mapped = finds-map past (history past s) pass call reply (done-of may) (ap (λ a. needs_no_map (act_of a)) is);
+        was_mapped =
+            finds-map past (history past s) pass call reply (done-of may) (ap (λ a. needs_no_map (act_of a)) is);
       }
 
   pub within-closed : (file : File) (truncate : Option ℕ) → call ≡ Uninitialise file truncate
@@ -312,4 +317,5 @@ module _ {u : Setup} {past : List Entry} {pass nth s : ℕ} {call : Call} {reply
       → length bytes ≡ 4096
   whole-stored file page bytes is =
       whole-allowed u past pass nth s file page bytes reply
-      (subst (λ a. IsAllowedSoFar u (entry.Call pass nth (Some s) a (outcome.Done reply) ∷ past)) is may.good.allowed)
+      (subst (λ a. IsAllowedSoFar u (entry.Call pass nth (Some s) a (outcome.Done reply) ∷ past)) is
+      may.good.allowed)

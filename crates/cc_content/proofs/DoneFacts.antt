@@ -46,7 +46,8 @@ pub record IsDone (past : List Entry) (h : List Effect) (pass : ℕ) (call : Cal
 
 -- the journal with the call is a step of the history
 pub history-called : (past : List Entry) (pass nth s : ℕ) (call : Call) (reply : Reply)
-    → history (entry.Call pass nth (Some s) call (outcome.Done reply) ∷ past) s ≡ Did pass call reply ∷ history past s
+    → history (entry.Call pass nth (Some s) call (outcome.Done reply) ∷ past) s
+    ≡ Did pass call reply ∷ history past s
 history-called past pass nth s call reply = history-done pass nth s call reply past s (eq-eqb s s refl)
 
 act_safe-step : (h : List Effect) (pass : ℕ) (call : Call) (reply : Reply) → IsSafe (Did pass call reply ∷ h)
@@ -73,13 +74,15 @@ IsDone-good u past pass nth s call reply good =
     let e : Entry = entry.Call pass nth (Some s) call (outcome.Done reply) in
     let before = IsGoodSoFar-before u past e good in
     let step = history-called past pass nth s call reply in
+    let after = subst IsSafe step (good-safe u (e ∷ past) s good) in
+    let admitted = admitted-legal u past pass nth s call reply good.legal in
     record {
       safe = good-safe u past s before;
-      act_safe = act_safe-step (history past s) pass call reply (subst IsSafe step (good-safe u (e ∷ past) s good));
+      act_safe = act_safe-step (history past s) pass call reply after;
       steady = (subst IsSteady step (IsSteady-good u (e ∷ past) s good)).0;
       held_as_open = HoldsAsOpen-good u past s before;
       filled = filled-allowed u past pass nth s call reply good.allowed;
-      room = HasRoomFor-admitted u past (history past s) call (admitted-legal u past pass nth s call reply good.legal);
+      room = HasRoomFor-admitted u past (history past s) call admitted;
     }
 
 -- each page of a range that may change is resident
@@ -122,7 +125,8 @@ module _ (past : List Entry) (h : List Effect) (pass : ℕ) (call : Call) (reply
   pub written-fits : {at : ℕ} {bytes : List ℕ} → act_of call ≡ Writes at bytes → at + length bytes ≤ 2 ^ 63
   written-fits {at} {bytes} is =
       let sound = sizes-found in
-      let within = change-within h at (at + length bytes) sound.held_within (subst (IsActSafe h) is done.act_safe) in
+      let may = subst (IsActSafe h) is done.act_safe in
+      let within = change-within h at (at + length bytes) sound.held_within may in
       below (at + length bytes) (size_of h) within sound.size_in_range
     where
       below : (end size : ℕ) → end ≤ size → size < 2 ^ 63 → end ≤ 2 ^ 63

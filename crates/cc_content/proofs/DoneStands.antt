@@ -51,7 +51,9 @@ pub closed-kept : (opening : Option (ℕ → List ℕ)) (h : List Effect) (pass 
     → ContentsStand opening (Did pass call reply ∷ h) c
 closed-kept opening h pass call reply c finds mapped =
     record {
-      valid_is = finds.stands.valid_is ∙ sym (ap (λ s. s.valid) (sizes-closes_kept pass call reply h finds.is finds.cut_is));
+      valid_is =
+          finds.stands.valid_is
+          ∙ sym (ap (λ s. s.valid) (sizes-closes_kept pass call reply h finds.is finds.cut_is));
       map_is = by c.pages refl;
     }
   where
@@ -59,7 +61,8 @@ closed-kept opening h pass call reply c finds mapped =
     by None none = absurd (true≢false (sym finds.was_mapped ∙ no_map opening h c finds.stands none))
     by (Some m) some =
         subst (MapStands opening (Did pass call reply ∷ h)) (sym some)
-        (stands-closed opening h pass call reply m (pages_stand opening h c m finds.stands some) finds.is finds.cut_is mapped)
+        (stands-closed opening h pass call reply m (pages_stand opening h c m finds.stands some) finds.is
+        finds.cut_is mapped)
 
 -- what is ensured of a result follows from what else is
 pub where_ok : {T E : Type 0} (r : Result T E) (A B : Type 0) → (A → B) → OnOk r A → OnOk r B

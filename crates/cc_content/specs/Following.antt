@@ -33,7 +33,8 @@ pub record MayFollow (u : Setup) (past : List Entry) (pass nth s : ℕ) (call : 
   pub stands : ContentsStand (u.opening s) (history past s) c
   pub size_is : size ≡ size_of (history past s)
   pub truncation_is : truncation ≡ truncated_by (history past s) call
-  pub mapped_is : mapped ≡ is_mapped (history (entry.Call pass nth (Some s) call (outcome.Done reply) ∷ past) s)
+  pub mapped_is : mapped
+      ≡ is_mapped (history (entry.Call pass nth (Some s) call (outcome.Done reply) ∷ past) s)
 
 -- there is a journal at whose end the call may be followed
 pub record IsFollowing (call : Call) (reply : Reply) (c : Contents) (size : ℕ) (truncation : Option ℕ)

@@ -27,10 +27,10 @@ use std::alloc::Global;
 use std::cmp::min;
 
 impl Contents {
-    /// Follows a call of the stream that was done. `size` is the size before it, `truncation` the size that an
-    /// uninitialise sets, where it sets one, and `mapped` says whether there is a map after it. Only an
-    /// initialise that makes the map, a set of sizes, a noncached store and a write take memory, a write no more
-    /// than a list of its bytes for as long as this takes.
+    /// Follows a call of the stream that was done. `size` is the size before it, `truncation` the size that
+    /// an uninitialise sets, where it sets one, and `mapped` says whether there is a map after it. Only an
+    /// initialise that makes the map, a set of sizes, a noncached store and a write take memory; a write has
+    /// its bytes in a `Vec` for as long as this takes.
     pub fn done(
         &mut self,
         alloc: Global,
@@ -95,8 +95,8 @@ impl Contents {
         self.open(alloc, quota, size, valid)
     }
 
-    /// Follows an uninitialise, given the size that it sets, where it sets one; the pages go where there is no
-    /// map after it.
+    /// Follows an uninitialise, given the size that it sets, where it sets one; the pages go where there is
+    /// no map after it.
     fn closed(&mut self, truncation: Option<u64>, mapped: bool)
         requires { IsCutWithin self.old.pages truncation }
         ensures { (opening : Option (ℕ → List ℕ)) (h : List Effect) (pass : ℕ) (call : Call) (reply : Reply) →
@@ -176,7 +176,8 @@ impl Contents {
         self.raise(at + bytes.len() as u64);
     }
 
-    /// Follows a zeroing of a range, which begins at the valid data length or below it, and a use of its blocks.
+    /// Follows a zeroing of a range, which begins at the valid data length or below it, and a use of its
+    /// blocks.
     fn zeroed(&mut self, from: u64, to: u64)
         requires { AllMapped self.old.pages (Some (record { from = from; to = to })) }
         ensures { (opening : Option (ℕ → List ℕ)) (h : List Effect) (pass : ℕ) (call : Call) (reply : Reply) →

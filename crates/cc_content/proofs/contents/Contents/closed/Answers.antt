@@ -10,19 +10,20 @@ returns-then-not-mapped c = λ opening h pass call reply finds is.
     let gone = sym is ∙ c.if-not-mapped.true in
     elim c.match-truncation.branch [
       | in-Some w ↦
+          let cut = finds.cut_is ∙ w.in-Some.is in
           rw (c.drop_pages.ensures, w.self-is)
           (record {
             valid_is =
                 w.truncated.ensures.valid ∙ ap (λ v. min v w.in-Some.size) finds.stands.valid_is
-                ∙ sym (ap (λ s. s.valid) (sizes-closes_cut pass call reply h finds.is (finds.cut_is ∙ w.in-Some.is)));
+                ∙ sym (ap (λ s. s.valid) (sizes-closes_cut pass call reply h finds.is cut));
             map_is = gone;
           })
       | in-None w ↦
+          let uncut = finds.cut_is ∙ w.in-None.is in
           rw (c.drop_pages.ensures, w.self-is)
           (record {
             valid_is =
-                finds.stands.valid_is
-                ∙ sym (ap (λ s. s.valid) (sizes-closes_kept pass call reply h finds.is (finds.cut_is ∙ w.in-None.is)));
+                finds.stands.valid_is ∙ sym (ap (λ s. s.valid) (sizes-closes_kept pass call reply h finds.is uncut));
             map_is = gone;
           })
     ]

@@ -72,9 +72,11 @@ returns-in-Initialise-clause-stands c =
     let w = c.in-Initialise in
     let call = c.args.call.now in
     let reply = c.args.reply.now in
-    let opens = stands (u.opening s) (history past s) pass w.file w.sizes w.temporary reply may.stands refl refl in
+    let opens =
+    stands (u.opening s) (history past s) pass w.file w.sizes w.temporary reply may.stands refl refl in
     called u past pass nth s call reply _
-    (subst (λ k. ContentsStand (u.opening s) (Did pass k reply ∷ history past s) c.opened.new.self) (sym w.is) opens))
+    (subst (λ k. ContentsStand (u.opening s) (Did pass k reply ∷ history past s) c.opened.new.self) (sym w.is)
+    opens))
     c.opened.ensures.stands
 
 pub returns-in-SetSizes-clause-stands : goal.returns-in-SetSizes-clause-stands
@@ -162,7 +164,8 @@ returns-in-Zero-clause-stands c = λ u past pass nth s may.
     let reply = c.args.reply.now in
     let is : act_of call ≡ Zeroes c.from.result c.to.result =
     ap act_of w.is ∙ sym (rw (c.from.ensures.same, c.to.ensures.same) refl) in
-    let uses : Uses (history past s) pass call reply (Some (record { from = c.from.result; to = c.to.result })) =
+    let uses : Uses (history past s) pass call reply
+    (Some (record { from = c.from.result; to = c.to.result })) =
     rw (c.from.ensures.same, c.to.ensures.same)
     (uses-of (history past s) pass call _ reply _ w.is (record { blocks = refl })) in
     called u past pass nth s call reply _

@@ -17,7 +17,8 @@ returns-clause-stands c = λ opening h pass call reply finds mapped.
           rw (c.lower.ensures, w.self-inside-is)
           (record {
             valid_is = valid;
-            map_is = w.truncated.ensures opening h pass call reply was.file was.truncate stood was.is was.cut_is mapped;
+            map_is =
+                w.truncated.ensures opening h pass call reply was.file was.truncate stood was.is was.cut_is mapped;
           })
       | in-None w ↦ absurd (true≢false (sym was.was_mapped ∙ no_map opening h _ was.stands w.in-None.is))
     ]

@@ -9,4 +9,5 @@ returns-clause-stands c = λ opening h pass call reply finds is uses starts.
     let at = c.args.at in
     let same = sym (c.deref.ensures.value ∙ c.in_ok-bytes.ensures) in
     c.put.ensures opening h pass call reply finds (is ∙ ap (Writes at) same)
-    (subst (λ bytes. Uses h pass call reply (used_if c.args.uses (whole_range at (length bytes)))) same uses) starts
+    (subst (λ bytes. Uses h pass call reply (used_if c.args.uses (whole_range at (length bytes)))) same uses)
+    starts
