@@ -7,3 +7,4 @@ pub mod KeptReads
 pub mod KeptBlocks
 pub mod LeastOwed
 pub mod MadeIds
+pub mod RowsMade

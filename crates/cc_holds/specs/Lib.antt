@@ -1,3 +1,4 @@
 pub mod Stands
 pub mod Makes
 pub mod Looks
+pub mod Done

@@ -1,4 +1,4 @@
-//! The holds, and what a done call makes of them.
+//! The open holds, how each kind of call changes them, and what they say.
 
 ghost use Rattle.std.specs.Prelude.{◌||◌, ◌≡◌, ℕ, ◌<◌, ◌+◌, ◌^◌, true, nat_lt, Option, Some, List, [], ◌∷◌, All, IfOk, OnOk, OnErr, length, min, nat_eq, vec_len};
 ghost use Rattle.cc_entry.specs.declared.reply.Reply.{Reply};
@@ -50,7 +50,7 @@ impl OpenHolds {
 
     /// Follows a done call that makes a hold of this row: a map, a pin, a repin or a chain. Its id is greater
     /// than that of each open hold. Where the call zeroes its range, the row's written span is that range.
-    pub fn make(&mut self, row: HoldRow) -> Result<(), NoMemory>
+    pub(crate) fn make(&mut self, row: HoldRow) -> Result<(), NoMemory>
         ensures stands { OnOk result ((h : List Effect) (pass : ℕ) (call : Call) (reply : Reply) →
             HoldsStand h self.old →
             row_made call (id_of reply) (holds_of h) ≡ Some row →
@@ -63,7 +63,7 @@ impl OpenHolds {
 
     /// The row of the hold that a done call makes, whose reply has this id, for `make`. What it zeroes ends
     /// below 2^64.
-    pub fn row_made(&self, call: &Call, id: u64) -> Option<HoldRow>
+    pub(crate) fn row_made(&self, call: &Call, id: u64) -> Option<HoldRow>
         requires { zeroed_end call.now < 2 ^ 64 }
         ensures { (h : List Effect) → HoldsStand h self.now → result ≡ row_made call.now id (holds_of h) }
     {
@@ -85,7 +85,7 @@ impl OpenHolds {
     }
 
     /// Follows a done `PinMapped`.
-    pub fn pin(&mut self, id: u64, exclusive: bool)
+    pub(crate) fn pin(&mut self, id: u64, exclusive: bool)
         ensures stands { (h : List Effect) (pass : ℕ) (reply : Reply) →
             HoldsStand h self.old →
             HoldsStand (Did pass (Call.PinMapped id exclusive) reply ∷ h) self.new }
@@ -96,7 +96,7 @@ impl OpenHolds {
     }
 
     /// Follows a done `PinnedWrite` of the bytes of the span: the hold owes a stamp for them from now on.
-    pub fn write(&mut self, id: u64, span: Span) -> Result<(), NoMemory>
+    pub(crate) fn write(&mut self, id: u64, span: Span) -> Result<(), NoMemory>
         ensures stands { OnOk result ((h : List Effect) (pass at : ℕ) (bytes : List ℕ) (reply : Reply) →
             HoldsStand h self.old →
             span ≡ whole_range at (length bytes) →
@@ -111,7 +111,7 @@ impl OpenHolds {
     }
 
     /// Follows a done `SetDirty`: the hold owes no stamp.
-    pub fn stamp(&mut self, id: u64)
+    pub(crate) fn stamp(&mut self, id: u64)
         ensures stands { (h : List Effect) (pass : ℕ) (lsn : Option ℕ) (reply : Reply) →
             HoldsStand h self.old →
             HoldsStand (Did pass (Call.SetDirty id lsn) reply ∷ h) self.new }
@@ -122,7 +122,7 @@ impl OpenHolds {
     }
 
     /// Follows a done `EndHold`.
-    pub fn end(&mut self, id: u64)
+    pub(crate) fn end(&mut self, id: u64)
         ensures stands { (h : List Effect) (pass : ℕ) (reply : Reply) →
             HoldsStand h self.old →
             HoldsStand (Did pass (Call.EndHold id) reply ∷ h) self.new }
