@@ -1,13 +1,10 @@
 -- What a stream's resident pages hold, standing for its history.
-use Rattle.std.specs.Prelude.{◌≡◌, ℕ, ◌≤◌, ◌<◌, ◌*◌, Bool, true, false, List, [], ◌∷◌, Option, None, Some, is_some}
-use Rattle.cc_entry.specs.Place.{Range}
-use Rattle.cc_entry.specs.declared.call.Call.{Call}
-use Rattle.cc_entry.specs.declared.reply.Reply.{Reply}
+use Rattle.std.specs.Prelude.{◌≡◌, ℕ, ◌≤◌, true, false, List, Option, None, Some}
 use Rattle.cc_views.specs.Views.{Mapped}
 use Rattle.cc_resident.specs.Residents.{blocks, byte_at, is_resident as is_kept}
 use Rattle.cc_model.specs.Bytes.{byte_of}
-use Rattle.cc_model.specs.History.{Effect, Did}
-use Rattle.cc_model.specs.Residency.{is_resident, order_of_use, mapped_blocks_with, all_resident}
+use Rattle.cc_model.specs.History.{Effect}
+use Rattle.cc_model.specs.Residency.{is_resident, order_of_use}
 use Rattle.cc_model.specs.Settings.{quota_of}
 use Rattle.cc_model.specs.Touches.{size_of, valid_of, is_mapped}
 

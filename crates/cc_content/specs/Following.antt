@@ -46,6 +46,25 @@ pub record IsFollowing (call : Call) (reply : Reply) (c : Contents) (size : ℕ)
   pub s : ℕ
   pub may : MayFollow u past pass nth s call reply c size truncation mapped
 
+-- there is a journal at whose end a pinned write of these bytes may be followed
+pub record IsFollowingWrite (at : ℕ) (bytes : List ℕ) (c : Contents) : Type 0 where
+  pub hold : ℕ
+  pub reply : Reply
+  pub size : ℕ
+  pub truncation : Option ℕ
+  pub mapped : Bool
+  pub following : IsFollowing (call.PinnedWrite hold at bytes) reply c size truncation mapped
+
+-- whether memory may be wanting for a call: for a map's view index, or for bytes
+abbrev pub takes_memory : Call → Bool
+takes_memory (call.Initialise file sizes quota temporary) = true
+takes_memory (call.SetSizes file allocation size) = true
+takes_memory (call.CopyWrite file at bytes) = true
+takes_memory (call.PinnedWrite hold at bytes) = true
+takes_memory (call.MdlStore hold at bytes) = true
+takes_memory (call.NcStore file page bytes) = true
+takes_memory other = false
+
 -- a done call that neither makes a map nor lets one go finds these contents
 pub record Finds (opening : Option (ℕ → List ℕ)) (h : List Effect) (pass : ℕ) (call : Call) (reply : Reply)
     (c : Contents) : Type 0 where

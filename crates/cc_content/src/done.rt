@@ -1,6 +1,6 @@
 //! What a done call does to the contents of its stream.
 
-ghost use Rattle.std.specs.Prelude.{◌≡◌, ℕ, ◌+◌, ◌*◌, ◌^◌, ◌≤◌, List, ◌∷◌, length, min, max, Bool, true, Option, None, Some, OnOk, OnErr};
+ghost use Rattle.std.specs.Prelude.{◌≡◌, ℕ, ◌+◌, ◌*◌, ◌^◌, ◌≤◌, List, ◌∷◌, length, min, max, Bool, true, false, Option, None, Some, OnOk, OnErr, IsOk};
 ghost use Rattle.cc_entry.specs.Pages.{whole_range};
 ghost use Rattle.cc_entry.specs.Place.{File};
 ghost use Rattle.cc_entry.specs.declared.place.FileSizes.{FileSizes};
@@ -17,7 +17,7 @@ ghost use Rattle.cc_model.specs.Touches.{size_of, valid_of, is_mapped};
 ghost use Rattle.cc_content.specs.Contents.{ContentsStand};
 ghost use Rattle.cc_content.specs.Done.{is_look, Uses, used_if};
 ghost use Rattle.cc_content.specs.Filling.{HasRoomFor};
-ghost use Rattle.cc_content.specs.Following.{MayFollow, IsFollowing, Finds, FindsOpen, AllKept, AllMapped, IsCutWithin, span_below, looked_range};
+ghost use Rattle.cc_content.specs.Following.{MayFollow, IsFollowing, IsFollowingWrite, takes_memory, Finds, FindsOpen, AllKept, AllMapped, IsCutWithin, span_below, looked_range};
 
 use crate::changes;
 use crate::contents::Contents;
@@ -46,6 +46,7 @@ impl Contents {
             ContentsStand (u.opening s)
             (history (entry.Call pass nth (Some s) call.now (outcome.Done reply.now) ∷ past) s) self.new) }
         ensures err { OnErr result (self.new ≡ self.old) }
+        ensures sure { takes_memory call.now ≡ false → IsOk result }
     {
         if is_look(call) {
             self.looked(looked_range(call, reply, size));
@@ -78,6 +79,18 @@ impl Contents {
             }
             _ => unreachable!(),
         }
+    }
+
+    /// Follows a done pinned write of these bytes from a place on, as `done` does, and takes no memory.
+    pub fn pinned_write(&mut self, at: u64, bytes: &[u8])
+        requires may { IsFollowingWrite at bytes.now self.old }
+        ensures stands { (u : Setup) (past : List Entry) (pass nth s hold : ℕ) (reply : Reply) (size : ℕ)
+            (truncation : Option ℕ) (mapped : Bool) →
+            MayFollow u past pass nth s (call.PinnedWrite hold at bytes.now) reply self.old size truncation mapped →
+            ContentsStand (u.opening s) (history
+            (entry.Call pass nth (Some s) (call.PinnedWrite hold at bytes.now) (outcome.Done reply) ∷ past) s) self.new }
+    {
+        self.put(at, bytes, false);
     }
 
     /// Follows an initialise, with this size and valid data length where it makes the map. One that joins a
