@@ -1,3 +1,4 @@
 -- Lemmas of the book, each before those that cite it.
 pub mod BookSteps
 pub mod BlocksToGo
+pub mod DoneSteps

@@ -1,7 +1,9 @@
 -- The book of a stream as contracts see it, and what it stands for.
-use Rattle.std.specs.Prelude.{◌≡◌, ℕ, suc, ◌-◌, ◌*◌, nat_lt, List, [], ◌∷◌, Option, Some}
+use Rattle.std.specs.Prelude.{◌≡◌, ℕ, suc, ◌-◌, ◌*◌, nat_lt, Bool, true, false, List, [], ◌∷◌, Option, Some}
 use Rattle.cc_entry.specs.Place.{Page}
 use Rattle.cc_entry.specs.declared.call.Call.{Call}
+use Rattle.cc_entry.specs.declared.call.Call.TheVariants as call
+use Rattle.cc_entry.specs.declared.reply.Reply.{Reply}
 use Rattle.cc_entry.specs.declared.error.CcError.{CcError}
 use Rattle.cc_entry.specs.declared.entry.Entry.TheVariants as entry
 use Rattle.cc_entry.specs.declared.reply.Outcome.TheVariants as outcome
@@ -14,7 +16,7 @@ use Rattle.cc_holds.specs.Stands.{HoldsStand}
 use Rattle.cc_journal.specs.Journal.{JournalState}
 use Rattle.cc_model.specs.Good.{IsGoodSoFar}
 use Rattle.cc_model.specs.Discards.{unsettled, grown}
-use Rattle.cc_model.specs.History.{Effect, history}
+use Rattle.cc_model.specs.History.{Effect, Did, history}
 use Rattle.cc_model.specs.Refusals.{first_of}
 use Rattle.cc_model.specs.Setup.{Setup}
 use Rattle.cc_stream.specs.Stream.{Stream, StreamStands}
@@ -54,6 +56,46 @@ page_in pass page b = entry.PageIn pass page (nat_lt (4096 * page.page) b.conten
 -- the entry of a pass's next call, on this stream, that failed
 abbrev pub failed : ℕ → List Entry → ℕ → Call → CcError → Entry
 failed pass past stream call error = entry.Call pass (suc (calls_of past pass)) (Some stream) call (outcome.Failed error)
+
+-- the entry of a pass's next call, on this stream, that was done
+abbrev pub done : ℕ → List Entry → ℕ → Call → Reply → Entry
+done pass past stream call reply = entry.Call pass (suc (calls_of past pass)) (Some stream) call (outcome.Done reply)
+
+-- A call may be done: over this setup the journal is good with it, and the book stands for the past.
+pub record MayDo (u : Setup) (past : List Entry) (pass : ℕ) (call : Call) (reply : Reply) (b : BookState) : Type 0 where
+  pub good : IsGoodSoFar u (done pass past b.stream call reply ∷ past)
+  pub stands : BookStands (u.opening b.stream) past b
+
+-- there is a journal at whose end the call may be done
+pub record IsDoing (call : Call) (reply : Reply) (b : BookState) : Type 0 where
+  pub u : Setup
+  pub past : List Entry
+  pub pass : ℕ
+  pub may : MayDo u past pass call reply b
+
+-- what is kept of a stream stands for this history
+pub record StandsFor (opening : Option (ℕ → List ℕ)) (h : List Effect) (b : BookState) : Type 0 where
+  pub state_is : StreamStands h b.state
+  pub maps_are : PrivateStands h b.maps
+  pub holds_are : HoldsStand h b.holds
+  pub contents_are : ContentsStand opening h b.contents
+
+-- after a done call the book stands for the history with it, wherever the call may be done
+abbrev pub GoesOnBy : Call → Reply → BookState → BookState → Type 0
+GoesOnBy call reply old new =
+    (u : Setup) (past : List Entry) (pass : ℕ) → MayDo u past pass call reply old →
+    StandsFor (u.opening old.stream) (Did pass call reply ∷ history past old.stream) new
+
+-- whether a call is neither an uninitialise nor a pinned write
+abbrev pub is_plain : Call → Bool
+is_plain (call.Uninitialise file truncate) = false
+is_plain (call.PinnedWrite hold at bytes) = false
+is_plain other = true
+
+-- whether a call makes a map, or joins one
+abbrev pub opens : Call → Bool
+opens (call.Initialise file sizes quota temporary) = true
+opens other = false
 
 -- what a refusal leaves open of a discard: the first of it and of the two reasons of discards is the whole
 abbrev pub LeavesDiscards : Option CcError → List Effect → Call → Option CcError → Type 0

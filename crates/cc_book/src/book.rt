@@ -29,11 +29,11 @@ use std::marker::Model;
 /// What is kept of one stream.
 #[derive(Drop)]
 pub struct Book {
-    stream: StreamId,
-    state: StreamState,
-    maps: PrivateMaps,
-    holds: OpenHolds,
-    contents: Contents,
+    pub(crate) stream: StreamId,
+    pub(crate) state: StreamState,
+    pub(crate) maps: PrivateMaps,
+    pub(crate) holds: OpenHolds,
+    pub(crate) contents: Contents,
 }
 
 impl Model for Book {

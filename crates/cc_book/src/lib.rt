@@ -5,6 +5,9 @@
 //! which the journal is good. A step that finds no memory leaves both as they were. So whoever holds the book's
 //! turn knows of the stream what the whole journal says of it: its sizes, its holds, its pages and their bytes.
 //!
+//! `book` has what is kept, what is asked of it, and the entries of pages; `done` the calls that are done: an
+//! uninitialise (`close`), a write through a pin (`write_pinned`), and every other (`done`).
+//!
 //! The steps of the calls stand above. Below are the four parts of a book: the state of the stream
 //! (`cc_stream`), its private maps (`cc_ahead`), its open holds (`cc_holds`) and its contents (`cc_content`); the
 //! journal (`cc_journal`), the refusal of a call (`cc_refusal`), and the definitions of `cc_model` with their
@@ -12,5 +15,6 @@
 #![tactic(auto)]
 
 mod book;
+mod done;
 
 pub use book::Book;

@@ -122,3 +122,10 @@ below-made u (e ∷ past) s legal =
 -- so the id that the next reply has is greater than each
 pub ids-made : (u : Setup) (past : List Entry) (s : ℕ) → IsLegal u past → All (λ (hold : Hold). hold.id < suc (holds_made past)) (holds_of (history past s))
 ids-made u past s legal = All-from_recursion _ (holds_of (history past s)) (below-made u past s legal)
+
+-- so a done call that makes a hold has a reply with a greater id than each open one
+pub id-made : (u : Setup) (past : List Entry) (pass nth s : ℕ) (call : Call) (reply : Reply) → IsLegal u (entry.Call pass nth (Some s) call (outcome.Done reply) ∷ past) → makes_hold call ≡ true → All (λ (hold : Hold). hold.id < id_of reply) (holds_of (history past s))
+unfolding IsLegal IsLegalEntry
+id-made u past pass nth s call reply legal makes =
+    let next = next-id u past (stream_opening u (Some s)) (stream_history past (Some s)) pass call reply legal.0.1 makes in
+    subst (λ (n : ℕ). All (λ (hold : Hold). hold.id < n) (holds_of (history past s))) (sym next) (ids-made u past s legal.1)

@@ -9,7 +9,15 @@ use Rattle.cc_entry.specs.declared.call.Call.TheVariants as call
 use Rattle.cc_entry.specs.declared.reply.Reply.{Reply}
 use Rattle.cc_entry.specs.declared.hold.HoldKind.TheVariants as kind
 use Rattle.cc_entry.specs.declared.hold.HoldRow.{HoldRow}
-use Rattle.cc_model.specs.History.{Effect, Did}
+use Rattle.cc_entry.specs.declared.entry.Entry.{Entry}
+use Rattle.cc_entry.specs.declared.entry.Entry.TheVariants as entry
+use Rattle.cc_entry.specs.declared.reply.Outcome.TheVariants as outcome
+use Rattle.cc_model.specs.Cache.{makes_hold}
+use Rattle.cc_model.specs.History.{Effect, Did, history}
+use Rattle.cc_model.specs.Legal.{IsLegal}
+use Rattle.cc_model.specs.Setup.{Setup}
+use Rattle.cc_holds.specs.Done.{MakesAbove}
+use Rattle.cc_holds.proofs.MadeIds.{id-made}
 use Rattle.cc_model.specs.Holds.{Hold, hold_at, holds_of, id_of, repinned}
 use Rattle.cc_laws.proofs.HoldSteps.{holds_of-done}
 use Rattle.cc_bcb.specs.declared.holds.Hold as kept
@@ -71,3 +79,18 @@ stands-unmade (call.PinnedWrite hold at bytes) h pass reply holds other stands n
 stands-unmade (call.SetDirty hold lsn) h pass reply holds other stands none = absurd (cc)
 stands-unmade (call.EndHold hold) h pass reply holds other stands none = absurd (cc)
 stands-unmade call h pass reply holds other stands none = stands-other (Did pass call reply) h holds refl stands
+
+-- a call with a row makes a hold
+row-makes : (call : Call) (id : ℕ) (holds : List Hold) (row : HoldRow) → row_made call id holds ≡ Some row → makes_hold call ≡ true
+row-makes (call.Map file at len) id holds row is = refl
+row-makes (call.PinRead file at len exclusive) id holds row is = refl
+row-makes (call.PreparePin file at len zero exclusive) id holds row is = refl
+row-makes (call.MdlRead file at len) id holds row is = refl
+row-makes (call.MdlWrite file at len) id holds row is = refl
+row-makes (call.Repin hold) id holds row is = refl
+row-makes other id holds row is = absurd (cc)
+
+-- in a legal journal a hold that is made has a greater id than each open one
+pub makes-above : (u : Setup) (past : List Entry) (pass nth s : ℕ) (call : Call) (reply : Reply) → IsLegal u (entry.Call pass nth (Some s) call (outcome.Done reply) ∷ past) → MakesAbove call (id_of reply) (holds_of (history past s))
+makes-above u past pass nth s call reply legal row is =
+    id-made u past pass nth s call reply legal (row-makes call (id_of reply) (holds_of (history past s)) row is)
