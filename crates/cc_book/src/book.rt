@@ -1,15 +1,17 @@
 //! What is kept of one stream, and the entries that change it.
 
-ghost use Rattle.std.specs.Prelude.{◌≡◌, ℕ, ◌<◌, [], ◌∷◌, List, Option, OnOk, OnErr, IfOk, false, not};
+ghost use Rattle.std.specs.Prelude.{◌≡◌, ℕ, ◌+◌, ◌*◌, ◌<◌, [], ◌∷◌, List, Option, is_some, IfSome, OnOk, OnErr, IfOk, false, not, slice_index};
 ghost use Rattle.cc_entry.specs.declared.entry.Entry.{Entry};
 ghost use Rattle.cc_entry.specs.declared.entry.Entry.TheVariants as entry;
 ghost use Rattle.cc_model.specs.History.{history};
+ghost use Rattle.cc_content.specs.Contents.{IsByteOf};
 ghost use Rattle.cc_content.specs.Filling.{IsReadFrom};
+ghost use Rattle.cc_model.specs.ReadAhead.{ahead_of};
 ghost use Rattle.std.specs.List.{find};
 ghost use Rattle.cc_entry.specs.Pages.{pages_of};
 ghost use Rattle.cc_model.specs.Ranges.{cut_range};
 ghost use Rattle.cc_model.specs.Residency.{is_resident};
-ghost use Rattle.cc_model.specs.Touches.{size_of};
+ghost use Rattle.cc_model.specs.Touches.{size_of, valid_of};
 ghost use Rattle.cc_model.specs.Refusals.{refusal};
 ghost use Rattle.cc_model.specs.Setup.{Setup};
 ghost use Rattle.cc_effects.specs.Asked.{block_to_go};
@@ -18,7 +20,9 @@ ghost use Rattle.cc_book.specs.Book.{LeavesDiscards, BookStands, MayPlace, Gains
 
 use cc_ahead::PrivateMaps;
 use cc_content::Contents;
-use cc_entry::{Call, CcError, End, Entry, NoMemory, Outcome, PageId, Span, StreamId};
+use cc_entry::{
+    Call, CcError, End, Entry, FileId, NoMemory, Outcome, PageId, Request, Span, StreamId,
+};
 use cc_holds::OpenHolds;
 use cc_journal::Journal;
 use cc_refusal::{Known, refusal};
@@ -64,6 +68,54 @@ impl Book {
             holds: OpenHolds::new(alloc),
             contents: Contents::new(),
         }
+    }
+
+    /// The size in bytes, 0 before the first initialise.
+    pub fn size(&self) -> u64
+        ensures { (opening : Option (ℕ → List ℕ)) (past : List Entry) → BookStands opening past self.now →
+            result ≡ size_of (history past self.now.stream) }
+    {
+        self.state.size()
+    }
+
+    /// The valid data length in bytes, 0 before the first initialise.
+    pub fn valid(&self) -> u64
+        ensures { (opening : Option (ℕ → List ℕ)) (past : List Entry) → BookStands opening past self.now →
+            result ≡ valid_of (history past self.now.stream) }
+    {
+        self.contents.valid()
+    }
+
+    /// The page at this number, where it is resident.
+    pub fn page(&self, page: u64) -> Option<&[u8; 4096]>
+        ensures resident { (opening : Option (ℕ → List ℕ)) (past : List Entry) →
+            BookStands opening past self.now →
+            is_some result ≡ is_resident (history past self.now.stream) page }
+        ensures bytes { (opening : Option (ℕ → List ℕ)) (past : List Entry) → BookStands opening past self.now →
+            IfSome result (λ bytes. (i : ℕ) → i < 4096 →
+            IsByteOf opening (history past self.now.stream) (4096 * page + i) (slice_index bytes.now i)) }
+    {
+        self.contents.get(page)
+    }
+
+    /// The least page with bytes of the range that is not resident.
+    pub fn first_absent(&self, from: u64, to: u64) -> Option<u64>
+        ensures { (opening : Option (ℕ → List ℕ)) (past : List Entry) → BookStands opening past self.now →
+            result ≡ find (λ p. not (is_resident (history past self.now.stream) p))
+            (pages_of (record { from = from; to = to })) }
+    {
+        self.contents.first_absent(from, to)
+    }
+
+    /// The read-ahead that a read of so many bytes at a place leads to (`CcScheduleReadAhead`), where it leads
+    /// to one.
+    pub fn ahead_of(&self, file: FileId, at: u64, len: u64) -> Option<Request>
+        ensures { (opening : Option (ℕ → List ℕ)) (past : List Entry) → BookStands opening past self.now →
+            result ≡ ahead_of (history past self.now.stream) file at len }
+    {
+        let no_read_ahead = self.state.has_no_read_ahead();
+        self.maps
+            .ahead_of(file, at, len, no_read_ahead, self.state.size())
     }
 
     /// The refusal of a call on the stream, where there is one. A discard's last two reasons, an image that is
