@@ -1,7 +1,7 @@
 //! What runs leave between two moments: the lines of the streams, those of a caller, and phases; and what a run is
 //! asked after it.
 
-ghost use Rattle.std.specs.Prelude.{◌≡◌, ◌++◌, [], ◌∷◌, Some, None, false};
+ghost use Rattle.std.specs.Prelude.{◌≡◌, ◌++◌, [], ◌∷◌, Some, None, true, false};
 ghost use Rattle.cc_entry.specs.declared.call.Call.TheVariants as call;
 ghost use Rattle.cc_entry.specs.declared.error.CcError.TheVariants as error;
 ghost use Rattle.cc_entry.specs.declared.reply.Reply.TheVariants as reply;
@@ -10,8 +10,8 @@ ghost use Rattle.cc_script.specs.declared.script.Action.TheVariants as action;
 ghost use Rattle.cc_pieces.specs.Served.{Served};
 ghost use Rattle.cc_pieces.specs.Openings.{Opens, Opened};
 ghost use Rattle.cc_pieces.specs.Rooms.{HadNoRoom, is_alone, room_limit};
-ghost use Rattle.cc_pieces.specs.Runs.{Explains, Ran};
-ghost use Rattle.cc_pieces.specs.Phases.{limit_in, PhaseRan, PhasesRan};
+ghost use Rattle.cc_pieces.specs.Runs.{Explains, Ran, bindings_of};
+ghost use Rattle.cc_pieces.specs.Phases.{is_before_phase, limit_in, lines_before, PhaseRan, PhasesRan};
 ghost use Rattle.cc_pieces.specs.Explained.{IsExplained};
 ghost use Rattle.cc_pieces.specs.Table.{table_of};
 ghost use Rattle.cc_pieces.specs.Failures.{failures};
@@ -20,8 +20,8 @@ ghost use Rattle.cc_worked.specs.PiecesReads.{two_pages, first_resident, a_byte,
 ghost use Rattle.cc_worked.specs.PiecesRuns.{stream_with, opens, opens_with, caller_opens, opening_is_refused, log_all_the_same};
 ghost use Rattle.cc_worked.specs.PiecesRuns.{opens_both, opens_first_twice, unit_at, of_capacity, full_at};
 ghost use Rattle.cc_worked.specs.PiecesRuns.{first_bytes, reads, asks, two_full, reads_and_asks, asks_and_reads, asks_twice, two_lines};
-ghost use Rattle.cc_worked.specs.PiecesRuns.{of_one, of_two, of_one_answered, plan_with, one_step, stranger_beside};
-ghost use Rattle.cc_worked.specs.PiecesLines.{no_request};
+ghost use Rattle.cc_worked.specs.PiecesRuns.{line_of, of_one, of_two, of_one_answered, plan_with, one_step, stranger_beside};
+ghost use Rattle.cc_worked.specs.PiecesLines.{no_request, one_map};
 ghost use Rattle.cc_worked.specs.PiecesRuns.{given, told_by, all_replies, stream_last, one_unanswered};
 ghost use Rattle.cc_worked.specs.PiecesRuns.{two_dirty, one_dirty, stamped_row, unstamped_row, three_fail};
 
@@ -117,4 +117,17 @@ pub fn table_and_failures_are_read_off()
     ensures counted { failures 0 three_fail ≡ 3 }
     ensures of_its_stream { failures 1 three_fail ≡ 1 }
     ensures no_more { failures 0 three_fail ≡ 4 → ⊥ }
+{}
+
+/// A line is before a phase only where it is the caller's and of an earlier one; and no line of a script binds a word.
+pub fn earlier_lines_are_told_apart()
+    ensures earlier { lines_before (plan_with 0 0) 2 1 ≡ (reads, answer.Given a_byte) ∷ [] }
+    ensures not_of_the_phase { lines_before (plan_with 0 0) 2 1 ≡ two_lines → ⊥ }
+    ensures none_before_the_first { lines_before (plan_with 0 0) 1 1 ≡ [] }
+    ensures of_no_other_caller { lines_before (plan_with 0 0) 2 2 ≡ [] }
+    ensures before { is_before_phase 2 1 (line_of 2 1 1 reads) ≡ true }
+    ensures not_of_another_caller { is_before_phase 2 2 (line_of 2 1 1 reads) ≡ false }
+    ensures not_in_its_own_phase { is_before_phase 1 1 (line_of 2 1 1 reads) ≡ false }
+    ensures bound_stays { bindings_of one_map two_lines ≡ one_map }
+    ensures binds_nothing { bindings_of [] two_lines ≡ one_map → ⊥ }
 {}
