@@ -5,8 +5,8 @@
 //! which the journal is good. A step that finds no memory leaves both as they were. So whoever holds the book's
 //! turn knows of the stream what the whole journal says of it: its sizes, its holds, its pages and their bytes.
 //!
-//! `book` has what is kept, what is asked of it, and the entries of pages; `done` the calls that are done: an
-//! uninitialise (`close`), a write through a pin (`write_pinned`), and every other (`done`).
+//! `book` has what is kept, what is asked of it, and the entries of pages and of calls that failed; `done` the
+//! calls that are done.
 //!
 //! The steps of the calls stand above. Below are the four parts of a book: the state of the stream
 //! (`cc_stream`), its private maps (`cc_ahead`), its open holds (`cc_holds`) and its contents (`cc_content`); the
