@@ -94,8 +94,8 @@ impl Book {
         }
     }
 
-    // Follows a done pinned write of these bytes, which are a list before the holds follow: after that no memory
-    // may be wanting.
+    // Follows a done pinned write of these bytes. They are a list before the holds follow, so what comes after the
+    // holds takes no memory.
     fn write(
         &mut self,
         alloc: Global,
