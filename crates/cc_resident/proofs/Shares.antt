@@ -1,10 +1,10 @@
 -- Pages that are shared with snapshots, and owned again.
-use Rattle.std.proofs.Common.{◌≡◌, ◌≢◌, ℕ, ◌+◌, ◌*◌, ◌/◌, ◌%◌, ◌<◌, ◌≤◌, Bool, true, false, ◌==◌, nat_lt, ◌||◌, List, length, slice_get, Option, None, Some, is_some, Result, Ok, Err, OnOk, OnErr, refl, sym, ap, subst, ◌∙◌, true≢false, inl, inr, arith}
+use Rattle.std.proofs.Common.{◌≡◌, ◌≢◌, ℕ, ◌+◌, ◌*◌, ◌/◌, ◌%◌, ◌<◌, ◌≤◌, Bool, true, false, ◌==◌, nat_lt, ◌||◌, List, length, slice_get, Option, None, Some, is_some, Result, Ok, Err, OnOk, OnErr, IfOk, refl, sym, ap, subst, ◌∙◌, true≢false, inl, inr, arith}
 use Rattle.std.proofs.lemmas.Bool.{eqb-true, eq-eqb, cases_lt}
 use Rattle.std.proofs.lemmas.Bool.Decides.{nat_tests}
 use Rattle.std.specs.List.{list_all}
 use Rattle.std.specs.Int.{div_ceil}
-use Rattle.std.specs.Option.{option_map}
+use Rattle.std.specs.Option.{option_map, IfSome}
 use Rattle.cc_entry.specs.Pages.{block_of, has_page, whole_range}
 use Rattle.cc_entry.specs.Place.{Range}
 use Rattle.cc_pages.specs.Pages.{Page, page_at as page_in, bytes_at, shared, KeepsOthers, Snapshot}
@@ -13,7 +13,7 @@ use Rattle.cc_views.specs.Views.{Pages, Mapped, frames_at, with_frames}
 use Rattle.cc_resident.specs.Residents.{frame_at, page_at, is_resident, shares, is_shared, AllOwned, rest_of_page, blocks, has_pages, is_among, IsFrame, AreResidents}
 use Rattle.cc_resident.specs.Changes.{Puts, SameBytes, StaysOwned, SharesOnly, CutsPages}
 use Rattle.cc_resident.proofs.Frames.{frame_is, frame_in, page_is, put_views, blocks-with, Puts-with}
-use Rattle.cc_resident.proofs.Kept.{page_alike, page_from, has_more}
+use Rattle.cc_resident.proofs.Kept.{page_alike, page_from, has_more, whole_page}
 use Rattle.cc_resident.proofs.Lists.{all_weaken}
 use Rattle.cc_resident.proofs.Spans.{in_front, in_front-more, in_front-all, no_frame}
 
@@ -165,3 +165,8 @@ frame_unmapped m page none = frame_is m page ∙ ap (frame_in page) none
 -- and the snapshot of a page of a mapped block is that of its frame
 pub snapshot_of : (m : Mapped) (page : ℕ) (f : Pages) (frame : Option Frame) → frames_at m (block_of page) ≡ Some f → frame ≡ option_map (λ (x : Page). x.bytes) (page_in f (page % 64)) → frame ≡ page_at m page
 snapshot_of m page f frame there is = is ∙ sym (page_from m page (page_in f (page % 64)) (frame_is m page ∙ ap (frame_in page) there))
+
+-- which is whole
+pub snapshot_whole : {E : Type 0} (r : Result (Option Frame) E) (m : Mapped) (page : ℕ) → IsFrame (frame_at m page) → IfOk r (λ frame. frame ≡ page_at m page) → IfOk r (λ frame. IfSome frame (λ bytes. length bytes ≡ 4096))
+snapshot_whole (Ok frame) m page h is = subst (λ o. IfSome o (λ bytes. length bytes ≡ 4096)) (sym is) (whole_page m page h)
+snapshot_whole (Err e) m page h is = tt

@@ -116,6 +116,7 @@ impl ResidentPages {
     /// Makes a snapshot of a page, which is shared then; `None` where the page is not resident.
     pub fn share(&mut self, page: u64) -> Result<Option<Frame>, NoMemory>
         ensures snapshot { IfOk result (λ frame. frame ≡ page_at self.old page) }
+        ensures whole { IfOk result (λ frame. IfSome frame (λ bytes. length bytes ≡ 4096)) }
         ensures bytes { SameBytes self.old self.new }
         ensures others { SharesOnly self.old self.new page }
     {
@@ -245,6 +246,7 @@ impl ResidentPages {
     pub fn use_range(&mut self, from: u64, to: u64)
         requires { all_mapped self.old (record { from = from; to = to }) ≡ true }
         ensures pages { (p : ℕ) → page_at self.new p ≡ page_at self.old p }
+        ensures shared { (p : ℕ) → is_shared self.new p ≡ is_shared self.old p }
         ensures blocks { blocks self.new
             ≡ used (blocks_of (record { from = from; to = to })) (blocks self.old) }
         ensures quota { self.new.quota ≡ self.old.quota }
