@@ -1,5 +1,5 @@
 -- The book of a stream as contracts see it, and what it stands for.
-use Rattle.std.specs.Prelude.{◌≡◌, ℕ, suc, ◌-◌, ◌*◌, nat_lt, Bool, true, false, List, [], ◌∷◌, Option, Some}
+use Rattle.std.specs.Prelude.{◌≡◌, ℕ, suc, ◌+◌, ◌-◌, ◌*◌, ◌<◌, nat_lt, Bool, true, false, List, [], ◌∷◌, length, slice_index, Option, Some}
 use Rattle.cc_entry.specs.Place.{Page}
 use Rattle.cc_entry.specs.declared.call.Call.{Call}
 use Rattle.cc_entry.specs.declared.call.Call.TheVariants as call
@@ -11,7 +11,7 @@ use Rattle.cc_model.specs.Passes.{calls_of}
 use Rattle.cc_entry.specs.declared.entry.Entry.{Entry}
 use Rattle.cc_ahead.specs.Kept.{Kept, PrivateStands}
 use Rattle.cc_bcb.specs.declared.holds.Hold.{Hold}
-use Rattle.cc_content.specs.Contents.{Contents, ContentsStand}
+use Rattle.cc_content.specs.Contents.{Contents, ContentsStand, IsByteOf}
 use Rattle.cc_holds.specs.Stands.{HoldsStand}
 use Rattle.cc_journal.specs.Journal.{JournalState}
 use Rattle.cc_model.specs.Good.{IsGoodSoFar}
@@ -48,6 +48,23 @@ Gains e old new = new ≡ record old { entries = e ∷ old.entries; reserved = o
 -- the book stands for the journal after as it did before, and is of the same stream
 abbrev pub GoesOn : List Entry → List Entry → BookState → BookState → Type 0
 GoesOn past now old new = (opening : Option (ℕ → List ℕ)) → BookStands opening past old → BookStands opening now new
+
+-- The book is of the same stream, and stands for whatever it stood for: only which pages are owned may have
+-- changed.
+pub record StandsAsBefore (old new : BookState) : Type 0 where
+  pub stream : new.stream ≡ old.stream
+  pub stands : (past : List Entry) → GoesOn past past old new
+
+-- a step that found no memory: the journal is as it was, and the book stands as before
+abbrev pub Stays : {Q : Type 0} → JournalState Q → JournalState Q → BookState → BookState → Type 0
+Stays journal now old new = (now ≡ journal) × StandsAsBefore old new
+
+-- A snapshot of a page has its 4096 bytes, as the book stands for them: those of the plain file, where the disk
+-- tells its opening pages.
+pub record IsSnapshot (b : BookState) (page : ℕ) (bytes : List ℕ) : Type 0 where
+  pub whole : length bytes ≡ 4096
+  pub bytes_are : (opening : Option (ℕ → List ℕ)) (past : List Entry) → BookStands opening past b → (i : ℕ) → i < 4096
+      → IsByteOf opening (history past b.stream) (4096 * page + i) (slice_index bytes i)
 
 -- the entry of a page that comes in: from the disk where it has a byte below the valid data length
 abbrev pub page_in : ℕ → Page → BookState → Entry

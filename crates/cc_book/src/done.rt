@@ -1,16 +1,17 @@
 //! A done call: what is kept follows it, and its entry is placed.
 
-ghost use Rattle.std.specs.Prelude.{◌≡◌, ℕ, ◌<◌, ◌||◌, true, false, List, ◌∷◌, OnOk, OnErr};
+ghost use Rattle.std.specs.Prelude.{◌≡◌, ℕ, ◌<◌, ◌||◌, true, false, List, ◌∷◌, None, OnOk, OnErr};
 ghost use Rattle.cc_entry.specs.declared.call.Call.TheVariants as call;
 ghost use Rattle.cc_entry.specs.declared.entry.Entry.{Entry};
 ghost use Rattle.cc_entry.specs.declared.reply.Reply.TheVariants as reply;
 ghost use Rattle.cc_model.specs.History.{Effect, Did, history};
 ghost use Rattle.cc_model.specs.Touches.{is_mapped};
 ghost use Rattle.cc_model.specs.Setup.{Setup};
-ghost use Rattle.cc_content.specs.Following.{takes_memory};
+ghost use Rattle.cc_content.specs.Following.{takes_memory, truncated_by, IsFollowable};
+ghost use Rattle.cc_content.specs.Owned.{OwnsChanged};
 ghost use Rattle.cc_stream.specs.Stream.{StreamStands};
 ghost use Rattle.cc_ahead.specs.Kept.{PrivateStands};
-ghost use Rattle.cc_book.specs.Book.{BookStands, Gains, done, MayDo, IsDoing, GoesOnBy, is_plain, opens};
+ghost use Rattle.cc_book.specs.Book.{BookStands, Gains, Stays, StandsAsBefore, done, MayDo, IsDoing, GoesOnBy, is_plain, opens};
 
 use crate::book::Book;
 use cc_entry::{Bytes, Call, Entry, FileId, NoMemory, Outcome, Reply};
@@ -20,7 +21,7 @@ use std::alloc::Global;
 
 impl Book {
     /// A call on the stream is done with this answer. An uninitialise is done by `close`, a write through a pin by
-    /// `write_pinned`. Where it finds no memory nothing changes.
+    /// `write_pinned`.
     pub fn done<Q>(
         &mut self,
         alloc: Global,
@@ -37,7 +38,7 @@ impl Book {
         ensures stands { OnOk result ((u : Setup) → MayDo u journal.old.entries pass call reply self.old →
             BookStands (u.opening self.old.stream) journal.new.entries self.new) }
         ensures stream { self.new.stream ≡ self.old.stream }
-        ensures err { OnErr result ((self.new ≡ self.old) × (journal.new ≡ journal.old)) }
+        ensures err { OnErr result (Stays journal.old journal.new self.old self.new) }
     {
         self.follow(alloc, &call, &reply)?;
         journal.push(Entry::Call {
@@ -50,8 +51,8 @@ impl Book {
         Ok(())
     }
 
-    /// An uninitialise of the stream is done (`CcUninitializeCacheMap`). It takes no memory. The pages go where
-    /// there is no map after it.
+    /// An uninitialise of the stream is done (`CcUninitializeCacheMap`). The pages go where there is no map after
+    /// it.
     pub fn close<Q>(
         &mut self,
         alloc: Global,
@@ -59,10 +60,41 @@ impl Book {
         pass: u32,
         file: FileId,
         truncate: Option<u64>,
+    ) -> Result<(), NoMemory>
+        requires reserved { 0 < journal.old.reserved }
+        requires may { (u : Setup) ×
+            MayDo u journal.old.entries pass (call.Uninitialise file truncate) reply.Unit self.old }
+        ensures placed { OnOk result (Gains
+            (done pass journal.old.entries self.old.stream (call.Uninitialise file truncate) reply.Unit)
+            journal.old journal.new) }
+        ensures stands { OnOk result ((u : Setup) →
+            MayDo u journal.old.entries pass (call.Uninitialise file truncate) reply.Unit self.old →
+            BookStands (u.opening self.old.stream) journal.new.entries self.new) }
+        ensures stream { self.new.stream ≡ self.old.stream }
+        ensures err { OnErr result (Stays journal.old journal.new self.old self.new) }
+    {
+        let truncation = self.state.truncation(file.object(), truncate);
+        self.own(&Call::Uninitialise { file, truncate }, truncation)?;
+        self.leave(alloc, journal, pass, file, truncate, truncation);
+        Ok(())
+    }
+
+    // An uninitialise is done, which sets this size or none; the pages that it changes are owned.
+    fn leave<Q>(
+        &mut self,
+        alloc: Global,
+        journal: &mut Journal<Q>,
+        pass: u32,
+        file: FileId,
+        truncate: Option<u64>,
+        truncation: Option<u64>,
     )
         requires reserved { 0 < journal.old.reserved }
         requires may { (u : Setup) ×
             MayDo u journal.old.entries pass (call.Uninitialise file truncate) reply.Unit self.old }
+        requires cut { (h : List Effect) → StreamStands h self.old.state →
+            truncation ≡ truncated_by h (call.Uninitialise file truncate) }
+        requires owned { OwnsChanged self.old.contents (call.Uninitialise file truncate) truncation }
         ensures placed { Gains
             (done pass journal.old.entries self.old.stream (call.Uninitialise file truncate) reply.Unit)
             journal.old journal.new }
@@ -73,7 +105,6 @@ impl Book {
     {
         let call = Call::Uninitialise { file, truncate };
         let size = self.state.size();
-        let truncation = self.state.truncation(file.object(), truncate);
         let was_mapped = self.contents.has_map();
         journal.push(Entry::Call {
             pass,
@@ -93,7 +124,7 @@ impl Book {
         self.set(&call, &Reply::Unit, was_mapped);
     }
 
-    /// A write of these bytes through a pin is done. Where it finds no memory nothing changes.
+    /// A write of these bytes through a pin is done.
     pub fn write_pinned<Q>(
         &mut self,
         alloc: Global,
@@ -113,10 +144,11 @@ impl Book {
             MayDo u journal.old.entries pass (call.PinnedWrite hold at bytes) reply.Unit self.old →
             BookStands (u.opening self.old.stream) journal.new.entries self.new) }
         ensures stream { self.new.stream ≡ self.old.stream }
-        ensures err { OnErr result ((self.new ≡ self.old) × (journal.new ≡ journal.old)) }
+        ensures err { OnErr result (Stays journal.old journal.new self.old self.new) }
     {
         let listed = bytes.to_vec(alloc)?;
         let call = Call::PinnedWrite { hold, at, bytes };
+        self.own(&call, None)?;
         self.write(&call, at, &listed)?;
         journal.push(Entry::Call {
             pass,
@@ -128,10 +160,21 @@ impl Book {
         Ok(())
     }
 
+    // Makes the pages owned that a done call changes in place.
+    fn own(&mut self, call: &Call, truncation: Option<u64>) -> Result<(), NoMemory>
+        requires may { IsFollowable call.now truncation self.old.contents }
+        ensures owned { OnOk result (OwnsChanged self.new.contents call.now truncation) }
+        ensures stands { StandsAsBefore self.old self.new }
+        ensures state { self.new.state ≡ self.old.state }
+    {
+        self.contents.own(call, truncation)
+    }
+
     // Follows a done pinned write, given its bytes. Only the holds may find no memory.
     fn write(&mut self, call: &Call, at: u64, bytes: &[u8]) -> Result<(), NoMemory>
         requires is { (hold : ℕ) × (call.now ≡ Call.PinnedWrite hold at bytes.now) }
         requires may { IsDoing call.now reply.Unit self.old }
+        requires owned { OwnsChanged self.old.contents call.now None }
         ensures stands { OnOk result (GoesOnBy call.now reply.Unit self.old self.new) }
         ensures stream { self.new.stream ≡ self.old.stream }
         ensures err { OnErr result (self.new ≡ self.old) }
@@ -149,8 +192,9 @@ impl Book {
         requires may { IsDoing call.now reply.now self.old }
         ensures stands { OnOk result (GoesOnBy call.now reply.now self.old self.new) }
         ensures stream { self.new.stream ≡ self.old.stream }
-        ensures err { OnErr result (self.new ≡ self.old) }
+        ensures err { OnErr result (StandsAsBefore self.old self.new) }
     {
+        self.own(call, None)?;
         if takes_memory(call) {
             self.take(alloc, call, reply)
         } else {
@@ -163,6 +207,7 @@ impl Book {
         requires kind { is_plain call.now ≡ true }
         requires takes { takes_memory call.now ≡ true }
         requires may { IsDoing call.now reply.now self.old }
+        requires owned { OwnsChanged self.old.contents call.now None }
         ensures stands { OnOk result (GoesOnBy call.now reply.now self.old self.new) }
         ensures stream { self.new.stream ≡ self.old.stream }
         ensures err { OnErr result (self.new ≡ self.old) }
@@ -180,6 +225,7 @@ impl Book {
         requires kind { is_plain call.now ≡ true }
         requires takes { takes_memory call.now ≡ false }
         requires may { IsDoing call.now reply.now self.old }
+        requires owned { OwnsChanged self.old.contents call.now None }
         ensures stands { OnOk result (GoesOnBy call.now reply.now self.old self.new) }
         ensures stream { self.new.stream ≡ self.old.stream }
         ensures err { OnErr result (self.new ≡ self.old) }

@@ -1,9 +1,10 @@
-use Rattle.std.specs.Prelude.{ℕ, suc, ◌||◌, Bool, ◌∷◌}
+use Rattle.std.specs.Prelude.{ℕ, suc, ◌||◌, Bool, ◌∷◌, None}
 use Rattle.std.proofs.Common.{ap, sym, subst, ◌∙◌}
 use Rattle.cc_model.specs.History.{Did, history}
 use Rattle.cc_model.specs.Passes.{calls_of}
 use Rattle.cc_holds.proofs.HoldsStanding.{stands-other as holds-other}
 use Rattle.cc_content.specs.Contents.{ContentsStand}
+use Rattle.cc_content.specs.Owned.{OwnsChanged}
 use Rattle.cc_content.proofs.DoneFacts.{history-called}
 use Rattle.cc_book.specs.Book.{BookState, MayDo, StandsFor, opens}
 use Rattle.cc_book.proofs.DoneSteps.{holds-kept, may-follow, stands-set}
@@ -18,7 +19,7 @@ done-requires c =
     let size = c.size-size.ensures.stands h may.stands.state_is in
     let was_mapped = c.has_map-was_mapped.ensures.stands (d.u.opening b.stream) h may.stands.contents_are in
     let mapped = c.is_mapped_after-mapped.ensures ∙ ap (λ (m : Bool). m || opens c.args.call.now) was_mapped in
-    record { may = record { u = d.u; past = d.past; pass = d.pass; nth = suc (calls_of d.past d.pass); s = b.stream; may = may-follow c.requires.kind size mapped may } }
+    record { may = record { u = d.u; past = d.past; pass = d.pass; nth = suc (calls_of d.past d.pass); s = b.stream; may = may-follow c.requires.kind size mapped may }; owned = subst (λ (x : BookState). OwnsChanged x.contents c.args.call.now None) (sym c.self.view_is) c.requires.owned }
 
 pub returns-clause-stands : goal.returns-clause-stands
 returns-clause-stands c u past pass given =

@@ -8,6 +8,7 @@ use Rattle.cc_model.specs.History.{Did, history}
 use Rattle.cc_model.specs.Passes.{calls_of}
 use Rattle.cc_model.specs.Touches.{size_of, is_mapped}
 use Rattle.cc_content.specs.Contents.{ContentsStand}
+use Rattle.cc_content.specs.Owned.{OwnsChanged}
 use Rattle.cc_content.proofs.DoneFacts.{history-called}
 use Rattle.cc_book.specs.Book.{BookState, MayDo, StandsFor, done}
 use Rattle.cc_book.proofs.DoneSteps.{done-may, makes-none, may-write, stands-set, written-below}
@@ -37,6 +38,7 @@ pinned_write-requires c =
         mapped = is_mapped (history (done d.pass d.past b.stream it reply.Unit ∷ d.past) b.stream);
         following = record { u = d.u; past = d.past; pass = d.pass; nth = suc (calls_of d.past d.pass); s = b.stream; may = may-write writes };
       };
+      owned = subst (λ (k : Call). OwnsChanged b.contents k None) c.requires.is.1 (subst (λ (x : BookState). OwnsChanged x.contents c.args.call.now None) (sym c.self.view_is) c.requires.owned);
     }
 
 pub returns-clause-stands : goal.returns-clause-stands
