@@ -1,27 +1,26 @@
--- A book of which only which pages are owned changed, and calls that may be done on it as before.
-use Rattle.std.specs.Prelude.{◌≡◌, ℕ, suc, ◌+◌, ◌*◌, ◌<◌, true, ◌||◌, List, ◌∷◌, length, slice_index, Option, None, Some, IfSome, Result, Ok, Err, OnOk, OnErr, refl}
-use Rattle.std.proofs.Common.{sym, subst}
+-- A book of which only which pages are owned changed, and what is owned before a done call.
+use Rattle.std.specs.Prelude.{◌≡◌, ℕ, suc, ◌+◌, ◌*◌, ◌<◌, Bool, false, true, List, ◌∷◌, length, slice_index, Option, None, Some, IfSome, Result, Ok, Err, OnOk, OnErr, refl}
+use Rattle.std.proofs.Common.{ap, sym, subst, ◌∙◌}
 use Rattle.std.proofs.lemmas.Option.{same_Some}
 use Rattle.cc_pages.specs.declared.frames.Frame.{Frame}
-use Rattle.cc_entry.specs.Place.{File, Page}
+use Rattle.cc_entry.specs.Place.{Page}
 use Rattle.cc_entry.specs.declared.call.Call.{Call}
 use Rattle.cc_entry.specs.declared.call.Call.TheVariants as call
 use Rattle.cc_entry.specs.declared.entry.Entry.{Entry}
 use Rattle.cc_entry.specs.declared.entry.Entry.TheVariants as entry
 use Rattle.cc_entry.specs.declared.reply.Reply.{Reply}
-use Rattle.cc_entry.specs.declared.reply.Reply.TheVariants as reply
 use Rattle.cc_model.specs.Allowed.{IsAllowedSoFar}
 use Rattle.cc_model.specs.Good.{IsGoodSoFar}
-use Rattle.cc_model.specs.History.{Effect, Did, history}
+use Rattle.cc_model.specs.History.{Effect, history}
 use Rattle.cc_model.specs.Passes.{calls_of}
 use Rattle.cc_model.specs.Residency.{is_resident}
 use Rattle.cc_model.specs.Setup.{Setup}
 use Rattle.cc_model.specs.Touches.{size_of, is_mapped}
+use Rattle.cc_stream.specs.Stream.{StreamStands}
 use Rattle.cc_content.specs.Contents.{Contents, ContentsStand, IsByteOf}
 use Rattle.cc_content.specs.Following.{IsFollowable, truncated_by}
-use Rattle.cc_content.specs.Owned.{SameContents}
-use Rattle.cc_book.specs.Book.{BookState, BookStands, StandsFor, StandsAsBefore, IsSnapshot, MayDo, IsDoing, GoesOnBy, done, is_plain, opens}
-use Rattle.cc_book.proofs.DoneSteps.{may-follow, may-write}
+use Rattle.cc_content.specs.Owned.{OwnsChanged, changed_range, SameContents}
+use Rattle.cc_book.specs.Book.{BookState, BookStands, StandsAsBefore, IsSnapshot, MayDo, IsDoing, OwnsFor, done, takes_memory}
 
 -- contents that stand for the same histories
 pub StandsAsBefore-contents : (b : BookState) (c : Contents) → SameContents b.contents c → StandsAsBefore b (record b { contents = c })
@@ -36,66 +35,63 @@ StandsAsBefore-contents b c same =
       };
     }
 
--- the same calls may be done, and what follows them then does so from before
-module _ (old mid : BookState) (w : StandsAsBefore old mid) where
-  pub may-still : (u : Setup) (past : List Entry) (pass : ℕ) (it : Call) (answer : Reply) → MayDo u past pass it answer old → MayDo u past pass it answer mid
-  may-still u past pass it answer may =
+-- the same calls may be done
+pub may-still : (old mid : BookState) → StandsAsBefore old mid → (u : Setup) (past : List Entry) (pass : ℕ) (it : Call) (answer : Reply) → MayDo u past pass it answer old → MayDo u past pass it answer mid
+may-still old mid w u past pass it answer may =
+    record {
+      good = subst (λ s. IsGoodSoFar u (done pass past s it answer ∷ past)) (sym w.stream) may.good;
+      stands = subst (λ s. BookStands (u.opening s) past mid) (sym w.stream) (w.stands past (u.opening old.stream) may.stands);
+    }
+
+-- What a done call finds owned, by the book's parts.
+module _ {it : Call} {reply : Reply} {mapped : Bool} {old : BookState} (b : BookState) (same : b ≡ old) (cut : Option ℕ) (cuts : (h : List Effect) → StreamStands h b.state → cut ≡ truncated_by h it) (d : IsDoing it reply mapped old) where
+  parted : MayDo d.u d.past d.pass it reply b
+  parted = subst (λ (x : BookState). MayDo d.u d.past d.pass it reply x) (sym same) d.may
+
+  pub followable : IsFollowable it cut b.contents
+  followable =
+      let may = parted in
       record {
-        good = subst (λ s. IsGoodSoFar u (done pass past s it answer ∷ past)) (sym w.stream) may.good;
-        stands = subst (λ s. BookStands (u.opening s) past mid) (sym w.stream) (w.stands past (u.opening old.stream) may.stands);
+        reply = reply;
+        size = size_of (history d.past b.stream);
+        mapped = is_mapped (history (done d.pass d.past b.stream it reply ∷ d.past) b.stream);
+        following = record {
+          u = d.u;
+          past = d.past;
+          pass = d.pass;
+          nth = suc (calls_of d.past d.pass);
+          s = b.stream;
+          may = record { good = may.good; stands = may.stands.contents_are; size_is = refl; truncation_is = cuts (history d.past b.stream) may.stands.state_is; mapped_is = refl };
+        };
       }
 
-  pub doing-still : (it : Call) (answer : Reply) → IsDoing it answer old → IsDoing it answer mid
-  doing-still it answer d = record { u = d.u; past = d.past; pass = d.pass; may = may-still d.u d.past d.pass it answer d.may }
+  pub owns-changed : OwnsFor old it → OwnsChanged b.contents it cut
+  owns-changed own =
+      let may = parted in
+      let here : OwnsFor b it = subst (λ (x : BookState). OwnsFor x it) (sym same) own in
+      subst (OwnsChanged b.contents it) (sym (cuts (history d.past b.stream) may.stands.state_is)) (here (history d.past b.stream) may.stands.state_is)
 
-  pub goes-still : (it : Call) (answer : Reply) (new : BookState) → GoesOnBy it answer mid new → GoesOnBy it answer old new
-  goes-still it answer new goes u past pass may =
-      subst (λ s. StandsFor (u.opening s) (Did pass it answer ∷ history past s) new) w.stream (goes u past pass (may-still u past pass it answer may))
+  -- a call for which no memory is wanting changes no page in place
+  pub changes-none : takes_memory it ≡ false → changed_range it cut ≡ None
+  changes-none sure =
+      let may = parted in
+      ap (changed_range it) (cuts (history d.past b.stream) may.stands.state_is) ∙ none it (history d.past b.stream) sure
+    where
+      none : (it : Call) (h : List Effect) → takes_memory it ≡ false → changed_range it (truncated_by h it) ≡ None
+      none (call.CopyWrite file at bytes) h sure = absurd (cc)
+      none (call.PinnedWrite hold at bytes) h sure = absurd (cc)
+      none (call.MdlStore hold at bytes) h sure = absurd (cc)
+      none (call.Zero file span) h sure = absurd (cc)
+      none (call.PreparePin file at len zero exclusive) h sure = absurd (cc)
+      none (call.SetSizes file allocation size) h sure = absurd (cc)
+      none (call.Uninitialise file (Some size)) h sure = absurd (cc)
+      none (call.Uninitialise file None) h sure = refl
+      none other h sure = refl
 
-  pub goes-ok : {T E : Type 0} (r : Result T E) (it : Call) (answer : Reply) (new : BookState) → OnOk r (GoesOnBy it answer mid new) → OnOk r (GoesOnBy it answer old new)
-  goes-ok (Ok x) it answer new goes = goes-still it answer new goes
-  goes-ok (Err e) it answer new goes = tt
-
-  pub err-still : {T E : Type 0} (r : Result T E) (new : BookState) → OnErr r (new ≡ mid) → OnErr r (StandsAsBefore old new)
-  err-still (Ok x) new same = tt
-  err-still (Err e) new same = subst (StandsAsBefore old) (sym same) w
-
--- a plain call that may be done may be followed
-pub followable : (it : Call) (answer : Reply) (b : BookState) → is_plain it ≡ true → IsDoing it answer b → IsFollowable it None b.contents
-followable it answer b plain d =
-    let h = history d.past b.stream in
-    record {
-      reply = answer;
-      size = size_of h;
-      mapped = is_mapped h || opens it;
-      following = record { u = d.u; past = d.past; pass = d.pass; nth = suc (calls_of d.past d.pass); s = b.stream; may = may-follow plain refl refl d.may };
-    }
-
--- so may an uninitialise, with the size that it sets, and a pinned write
-pub close-followable : (u : Setup) (past : List Entry) (pass : ℕ) (file : File) (truncate cut : Option ℕ) (b : BookState) → MayDo u past pass (call.Uninitialise file truncate) reply.Unit b → cut ≡ truncated_by (history past b.stream) (call.Uninitialise file truncate) → IsFollowable (call.Uninitialise file truncate) cut b.contents
-close-followable u past pass file truncate cut b may is =
-    record {
-      reply = reply.Unit;
-      size = size_of (history past b.stream);
-      mapped = is_mapped (history (done pass past b.stream (call.Uninitialise file truncate) reply.Unit ∷ past) b.stream);
-      following = record {
-        u = u;
-        past = past;
-        pass = pass;
-        nth = suc (calls_of past pass);
-        s = b.stream;
-        may = record { good = may.good; stands = may.stands.contents_are; size_is = refl; truncation_is = is; mapped_is = refl };
-      };
-    }
-
-pub write-followable : (u : Setup) (past : List Entry) (pass hold at : ℕ) (bytes : List ℕ) (b : BookState) → MayDo u past pass (call.PinnedWrite hold at bytes) reply.Unit b → IsFollowable (call.PinnedWrite hold at bytes) None b.contents
-write-followable u past pass hold at bytes b may =
-    record {
-      reply = reply.Unit;
-      size = size_of (history past b.stream);
-      mapped = is_mapped (history (done pass past b.stream (call.PinnedWrite hold at bytes) reply.Unit ∷ past) b.stream);
-      following = record { u = u; past = past; pass = pass; nth = suc (calls_of past pass); s = b.stream; may = may-write may };
-    }
+-- what was owned for a call where it sets this size
+pub OwnsFor-ok : {E : Type 0} (r : Result (Unit {0}) E) (it : Call) (b new : BookState) (cut : Option ℕ) → new.state ≡ b.state → ((h : List Effect) → StreamStands h b.state → cut ≡ truncated_by h it) → OnOk r (OwnsChanged new.contents it cut) → OnOk r (OwnsFor new it)
+OwnsFor-ok (Ok x) it b new cut state cuts own = λ h stands. subst (OwnsChanged new.contents it) (cuts h (subst (StreamStands h) state stands)) own
+OwnsFor-ok (Err e) it b new cut state cuts own = tt
 
 -- what holds whatever the result is holds where it is an error
 pub where_err : {T E : Type 0} (r : Result T E) (A : Type 0) → A → OnErr r A

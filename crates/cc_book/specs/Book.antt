@@ -12,6 +12,8 @@ use Rattle.cc_entry.specs.declared.entry.Entry.{Entry}
 use Rattle.cc_ahead.specs.Kept.{Kept, PrivateStands}
 use Rattle.cc_bcb.specs.declared.holds.Hold.{Hold}
 use Rattle.cc_content.specs.Contents.{Contents, ContentsStand, IsByteOf}
+use Rattle.cc_content.specs.Following.{truncated_by}
+use Rattle.cc_content.specs.Owned.{OwnsChanged}
 use Rattle.cc_holds.specs.Stands.{HoldsStand}
 use Rattle.cc_journal.specs.Journal.{JournalState}
 use Rattle.cc_model.specs.Good.{IsGoodSoFar}
@@ -19,6 +21,7 @@ use Rattle.cc_model.specs.Discards.{unsettled, grown}
 use Rattle.cc_model.specs.History.{Effect, Did, history}
 use Rattle.cc_model.specs.Refusals.{first_of}
 use Rattle.cc_model.specs.Setup.{Setup}
+use Rattle.cc_model.specs.Touches.{is_mapped}
 use Rattle.cc_stream.specs.Stream.{Stream, StreamStands}
 
 -- the stream; what is kept of it beside its pages and holds; the private maps of its objects; its open holds;
@@ -83,12 +86,13 @@ pub record MayDo (u : Setup) (past : List Entry) (pass : ℕ) (call : Call) (rep
   pub good : IsGoodSoFar u (done pass past b.stream call reply ∷ past)
   pub stands : BookStands (u.opening b.stream) past b
 
--- there is a journal at whose end the call may be done
-pub record IsDoing (call : Call) (reply : Reply) (b : BookState) : Type 0 where
+-- there is a journal at whose end the call may be done; the flag says whether there is a map after it
+pub record IsDoing (call : Call) (reply : Reply) (mapped : Bool) (b : BookState) : Type 0 where
   pub u : Setup
   pub past : List Entry
   pub pass : ℕ
   pub may : MayDo u past pass call reply b
+  pub mapped_is : mapped ≡ is_mapped (Did pass call reply ∷ history past b.stream)
 
 -- what is kept of a stream stands for this history
 pub record StandsFor (opening : Option (ℕ → List ℕ)) (h : List Effect) (b : BookState) : Type 0 where
@@ -97,22 +101,36 @@ pub record StandsFor (opening : Option (ℕ → List ℕ)) (h : List Effect) (b 
   pub holds_are : HoldsStand h b.holds
   pub contents_are : ContentsStand opening h b.contents
 
--- after a done call the book stands for the history with it, wherever the call may be done
-abbrev pub GoesOnBy : Call → Reply → BookState → BookState → Type 0
-GoesOnBy call reply old new =
+-- after a done call the book stands for the history with it, wherever the call may be done and the flag says
+-- whether there is a map after it
+abbrev pub GoesOnBy : Call → Reply → Bool → BookState → BookState → Type 0
+GoesOnBy call reply mapped old new =
     (u : Setup) (past : List Entry) (pass : ℕ) → MayDo u past pass call reply old →
+    mapped ≡ is_mapped (Did pass call reply ∷ history past old.stream) →
     StandsFor (u.opening old.stream) (Did pass call reply ∷ history past old.stream) new
 
--- whether a call is neither an uninitialise nor a pinned write
-abbrev pub is_plain : Call → Bool
-is_plain (call.Uninitialise file truncate) = false
-is_plain (call.PinnedWrite hold at bytes) = false
-is_plain other = true
+-- the pages that a done call changes in place are owned
+abbrev pub OwnsFor : BookState → Call → Type 0
+OwnsFor b call = (h : List Effect) → StreamStands h b.state → OwnsChanged b.contents call (truncated_by h call)
 
--- whether a call makes a map, or joins one
-abbrev pub opens : Call → Bool
-opens (call.Initialise file sizes quota temporary) = true
-opens other = false
+-- whether memory may be wanting for a done call: for a map or a size, for bytes, for a hold, or for a copy of a
+-- page that it changes and that is shared
+abbrev pub takes_memory : Call → Bool
+takes_memory (call.Initialise file sizes quota temporary) = true
+takes_memory (call.SetSizes file allocation size) = true
+takes_memory (call.CopyWrite file at bytes) = true
+takes_memory (call.PinnedWrite hold at bytes) = true
+takes_memory (call.MdlStore hold at bytes) = true
+takes_memory (call.NcStore file page bytes) = true
+takes_memory (call.Zero file span) = true
+takes_memory (call.Uninitialise file (Some size)) = true
+takes_memory (call.Map file at len) = true
+takes_memory (call.PinRead file at len exclusive) = true
+takes_memory (call.PreparePin file at len zero exclusive) = true
+takes_memory (call.Repin hold) = true
+takes_memory (call.MdlRead file at len) = true
+takes_memory (call.MdlWrite file at len) = true
+takes_memory other = false
 
 -- what a refusal leaves open of a discard: the first of it and of the two reasons of discards is the whole
 abbrev pub LeavesDiscards : Option CcError → List Effect → Call → Option CcError → Type 0

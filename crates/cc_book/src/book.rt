@@ -8,20 +8,26 @@ ghost use Rattle.cc_content.specs.Contents.{IsByteOf};
 ghost use Rattle.cc_content.specs.Filling.{IsReadFrom};
 ghost use Rattle.cc_model.specs.ReadAhead.{ahead_of};
 ghost use Rattle.std.specs.List.{find};
+ghost use Rattle.std.specs.Option.{option_map};
 ghost use Rattle.cc_entry.specs.Pages.{pages_of};
 ghost use Rattle.cc_model.specs.Ranges.{cut_range};
-ghost use Rattle.cc_model.specs.Residency.{is_resident};
-ghost use Rattle.cc_model.specs.Touches.{size_of, valid_of};
+ghost use Rattle.cc_model.specs.Residency.{block_is_mapped, is_resident, mapped_blocks};
+ghost use Rattle.cc_model.specs.Holds.{hold_at, holds_of, is_held};
+ghost use Rattle.cc_model.specs.Numbers.{is_among};
+ghost use Rattle.cc_model.specs.Objects.{had_map, objects};
+ghost use Rattle.cc_model.specs.Settings.{allocation_of, log_of, quota_of};
+ghost use Rattle.cc_model.specs.Touches.{is_mapped, size_of, valid_of};
 ghost use Rattle.cc_model.specs.Refusals.{refusal};
 ghost use Rattle.cc_model.specs.Setup.{Setup};
 ghost use Rattle.cc_effects.specs.Asked.{block_to_go};
+ghost use Rattle.cc_holds.specs.Stands.{shown, shown_row};
 ghost use Rattle.cc_refusal.specs.Known.{is_discard, IsLeastAbsent};
 ghost use Rattle.cc_book.specs.Book.{LeavesDiscards, BookStands, MayPlace, Gains, GoesOn, Stays, IsSnapshot, page_in, failed};
 
 use cc_ahead::PrivateMaps;
 use cc_content::Contents;
 use cc_entry::{
-    Call, CcError, End, Entry, FileId, NoMemory, Outcome, PageId, Request, Span, StreamId,
+    Call, CcError, End, Entry, FileId, HoldRow, NoMemory, Outcome, PageId, Request, Span, StreamId,
 };
 use cc_holds::OpenHolds;
 use cc_journal::Journal;
@@ -85,6 +91,86 @@ impl Book {
             result ≡ valid_of (history past self.now.stream) }
     {
         self.contents.valid()
+    }
+
+    /// The allocation in bytes (`CcSetFileSizes`), 0 before the first initialise.
+    pub fn allocation(&self) -> u64
+        ensures { (opening : Option (ℕ → List ℕ)) (past : List Entry) → BookStands opening past self.now →
+            result ≡ allocation_of (history past self.now.stream) }
+    {
+        self.state.allocation()
+    }
+
+    /// How many view blocks may be mapped (`CcInitializeCacheMap`), 0 before the first initialise.
+    pub fn quota(&self) -> u8
+        ensures { (opening : Option (ℕ → List ℕ)) (past : List Entry) → BookStands opening past self.now →
+            result ≡ quota_of (history past self.now.stream) }
+    {
+        self.state.quota()
+    }
+
+    /// The handle of the stream's log, where it has one (`CcSetLogHandleForFile`).
+    pub fn log(&self) -> Option<u8>
+        ensures { (opening : Option (ℕ → List ℕ)) (past : List Entry) → BookStands opening past self.now →
+            result ≡ log_of (history past self.now.stream) }
+    {
+        self.state.log()
+    }
+
+    /// Whether a file object has a private cache map; none past 15 has.
+    pub fn is_open(&self, object: u8) -> bool
+        ensures { (opening : Option (ℕ → List ℕ)) (past : List Entry) → BookStands opening past self.now →
+            result ≡ is_among object (objects (history past self.now.stream)) }
+    {
+        self.state.is_open(object)
+    }
+
+    /// Whether the stream has a shared map.
+    pub fn has_map(&self) -> bool
+        ensures { (opening : Option (ℕ → List ℕ)) (past : List Entry) → BookStands opening past self.now →
+            result ≡ is_mapped (history past self.now.stream) }
+    {
+        self.contents.has_map()
+    }
+
+    /// Whether the stream ever had a shared map.
+    pub fn had_map(&self) -> bool
+        ensures { (opening : Option (ℕ → List ℕ)) (past : List Entry) → BookStands opening past self.now →
+            result ≡ had_map (history past self.now.stream) }
+    {
+        self.state.had_map()
+    }
+
+    /// The open hold of an id; its written span is no part of what is promised.
+    pub fn hold(&self, id: u64) -> Option<HoldRow>
+        ensures { (opening : Option (ℕ → List ℕ)) (past : List Entry) → BookStands opening past self.now →
+            option_map shown_row result ≡ option_map shown (hold_at (holds_of (history past self.now.stream)) id) }
+    {
+        self.holds.get(id)
+    }
+
+    /// Whether an open hold has the page.
+    pub fn is_held(&self, page: u64) -> bool
+        ensures { (opening : Option (ℕ → List ℕ)) (past : List Entry) → BookStands opening past self.now →
+            result ≡ is_held (holds_of (history past self.now.stream)) page }
+    {
+        self.holds.is_held(page)
+    }
+
+    /// How many view blocks are mapped.
+    pub fn mapped(&self) -> u32
+        ensures { (opening : Option (ℕ → List ℕ)) (past : List Entry) → BookStands opening past self.now →
+            result ≡ mapped_blocks (history past self.now.stream) }
+    {
+        self.contents.mapped()
+    }
+
+    /// Whether a view block is mapped: whether a page of it is resident.
+    pub fn is_block_mapped(&self, block: u64) -> bool
+        ensures { (opening : Option (ℕ → List ℕ)) (past : List Entry) → BookStands opening past self.now →
+            result ≡ block_is_mapped (history past self.now.stream) block }
+    {
+        self.contents.is_block_mapped(block)
     }
 
     /// The page at this number, where it is resident.

@@ -1,5 +1,5 @@
 -- What stands of contents of which only which pages are owned changed, and what a done call finds owned.
-use Rattle.std.proofs.Common.{◌≡◌, ℕ, ◌+◌, Bool, true, false, List, length, Option, None, Some, is_some, Result, Ok, Err, ◌*◌, ◌<◌, slice_index, IfOk, refl, sym, ap, subst, ◌∙◌, true≢false}
+use Rattle.std.proofs.Common.{◌≡◌, ℕ, ◌+◌, Bool, true, false, List, Option, None, Some, is_some, Result, Ok, Err, ◌*◌, ◌<◌, slice_index, IfOk, refl, sym, ap, subst, ◌∙◌, true≢false}
 use Rattle.std.specs.Option.{IfSome}
 use Rattle.cc_entry.specs.Pages.{whole_range}
 use Rattle.cc_entry.specs.Place.{File}
@@ -14,7 +14,7 @@ use Rattle.cc_model.specs.History.{Effect}
 use Rattle.cc_model.specs.Residency.{is_resident}
 use Rattle.cc_content.specs.Contents.{Contents, ContentsStand, MapStands, PagesStand, IsByteOf}
 use Rattle.cc_content.specs.Done.{is_look}
-use Rattle.cc_content.specs.Owned.{changed_range, AllOwnedAmong, OwnsChanged, SameMap, SameContents}
+use Rattle.cc_content.specs.Owned.{AllOwnedAmong, OwnsChanged, SameMap, SameContents}
 use Rattle.cc_content.proofs.Kept.{pages_stand, bytes-are}
 use Rattle.cc_content.proofs.LooksStand.{SamePages-byte}
 

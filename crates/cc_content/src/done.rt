@@ -17,7 +17,7 @@ ghost use Rattle.cc_model.specs.Touches.{size_of, valid_of, is_mapped};
 ghost use Rattle.cc_content.specs.Contents.{ContentsStand};
 ghost use Rattle.cc_content.specs.Done.{is_look, Uses, used_if};
 ghost use Rattle.cc_content.specs.Filling.{HasRoomFor};
-ghost use Rattle.cc_content.specs.Owned.{AllOwnedAmong, OwnsChanged, SameContents};
+ghost use Rattle.cc_content.specs.Owned.{changed_range, AllOwnedAmong, OwnsChanged, SameContents};
 ghost use Rattle.cc_resident.specs.Residents.{rest_of_page};
 ghost use Rattle.std.specs.Option.{option_map};
 ghost use Rattle.cc_content.specs.Following.{MayFollow, IsFollowing, IsFollowingWrite, IsFollowable, takes_memory, Finds, FindsOpen, AllKept, AllMapped, IsCutWithin, span_below, looked_range};
@@ -36,6 +36,7 @@ impl Contents {
         requires may { IsFollowable call.now truncation self.old }
         ensures owned { OnOk result (OwnsChanged self.new call.now truncation) }
         ensures same { SameContents self.old self.new }
+        ensures sure { changed_range call.now truncation ≡ None → IsOk result }
     {
         match call {
             Call::CopyWrite { at, bytes, .. } => self.own_range(*at, *at + bytes.len()),

@@ -1,5 +1,5 @@
 -- Pages that are shared with snapshots, and owned again.
-use Rattle.std.proofs.Common.{◌≡◌, ◌≢◌, ℕ, ◌+◌, ◌*◌, ◌/◌, ◌%◌, ◌<◌, ◌≤◌, Bool, true, false, ◌==◌, nat_lt, ◌||◌, List, length, slice_get, Option, None, Some, is_some, Result, Ok, Err, OnOk, OnErr, IfOk, refl, sym, ap, subst, ◌∙◌, true≢false, inl, inr, arith}
+use Rattle.std.proofs.Common.{◌≡◌, ℕ, ◌+◌, ◌*◌, ◌/◌, ◌%◌, ◌<◌, ◌≤◌, Bool, true, false, ◌==◌, ◌||◌, List, length, slice_get, Option, None, Some, is_some, Result, Ok, Err, OnOk, OnErr, IfOk, refl, sym, ap, subst, ◌∙◌, true≢false, inl, inr, arith}
 use Rattle.std.proofs.lemmas.Bool.{eqb-true, eq-eqb, cases_lt}
 use Rattle.std.proofs.lemmas.Bool.Decides.{nat_tests}
 use Rattle.std.specs.List.{list_all}
@@ -7,7 +7,7 @@ use Rattle.std.specs.Int.{div_ceil}
 use Rattle.std.specs.Option.{option_map, IfSome}
 use Rattle.cc_entry.specs.Pages.{block_of, has_page, whole_range}
 use Rattle.cc_entry.specs.Place.{Range}
-use Rattle.cc_pages.specs.Pages.{Page, page_at as page_in, bytes_at, shared, KeepsOthers, Snapshot}
+use Rattle.cc_pages.specs.Pages.{Page, page_at as page_in, bytes_at, KeepsOthers, Snapshot}
 use Rattle.cc_pages.specs.declared.frames.Frame.{Frame}
 use Rattle.cc_views.specs.Views.{Pages, Mapped, frames_at, with_frames}
 use Rattle.cc_resident.specs.Residents.{frame_at, page_at, is_resident, shares, is_shared, AllOwned, rest_of_page, blocks, has_pages, is_among, IsFrame, AreResidents}

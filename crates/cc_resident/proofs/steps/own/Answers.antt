@@ -1,4 +1,4 @@
-use Rattle.std.proofs.Common.{◌/◌, ◌%◌, sym, ◌∙◌}
+use Rattle.std.proofs.Common.{◌%◌, sym}
 use Rattle.cc_resident.proofs.Shares.{SameBytes-reframed, StaysOwned-reframed, shared_reframed, owned_if, still_owned, frame_unmapped, not_shared}
 use Rattle.cc_resident.proofs.steps.own.Goals as goal
 

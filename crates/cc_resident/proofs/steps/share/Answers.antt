@@ -1,6 +1,5 @@
-use Rattle.std.proofs.Common.{◌/◌, ◌%◌, None, ap, sym, ◌∙◌}
-use Rattle.std.specs.Option.{option_map}
-use Rattle.cc_pages.specs.Pages.{Page, bytes_at, page_at as page_in}
+use Rattle.std.proofs.Common.{◌%◌, None, ap, sym}
+use Rattle.cc_pages.specs.Pages.{bytes_at, page_at as page_in}
 use Rattle.cc_resident.proofs.Kept.{page_from}
 use Rattle.cc_resident.proofs.Shares.{SameBytes-reframed, SharesOnly-reframed, snapshot_bytes, snapshot_of, frame_unmapped}
 use Rattle.cc_resident.proofs.steps.share.Goals as goal

@@ -1,4 +1,4 @@
-use Rattle.std.proofs.Common.{refl, sym}
+use Rattle.std.proofs.Common.{refl}
 use Rattle.cc_content.proofs.OwnedStand.{SameContents-pages, SameContents-refl}
 use Rattle.cc_content.proofs.contents.Contents.own_rest.Goals as goal
 use Rattle.cc_content.proofs.contents.Contents.own_rest.Goals.{in-Some, in-None}

@@ -1,5 +1,4 @@
-use Rattle.std.proofs.Common.{ap, sym, ◌∙◌}
-use Rattle.cc_resident.proofs.Shares.{AreResidents-same, AllOwned-span}
+use Rattle.cc_resident.proofs.Shares.{AreResidents-same}
 use Rattle.cc_resident.proofs.resident.ResidentPages.own_range.Goals as goal
 
 pub invariant_of-self : goal.invariant_of-self

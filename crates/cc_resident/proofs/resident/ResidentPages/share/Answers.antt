@@ -1,4 +1,3 @@
-use Rattle.std.proofs.Common.{sym}
 use Rattle.cc_resident.proofs.Shares.{AreResidents-same, snapshot_whole}
 use Rattle.cc_resident.proofs.resident.ResidentPages.share.Goals as goal
 
