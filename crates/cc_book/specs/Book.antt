@@ -1,5 +1,5 @@
 -- The book of a stream as contracts see it, and what it stands for.
-use Rattle.std.specs.Prelude.{◌≡◌, ℕ, suc, ◌-◌, ◌*◌, nat_lt, Bool, true, false, List, [], ◌∷◌, Option, Some}
+use Rattle.std.specs.Prelude.{◌≡◌, ℕ, suc, ◌+◌, ◌-◌, ◌*◌, ◌<◌, nat_lt, Bool, true, false, List, [], ◌∷◌, length, slice_index, Option, Some}
 use Rattle.cc_entry.specs.Place.{Page}
 use Rattle.cc_entry.specs.declared.call.Call.{Call}
 use Rattle.cc_entry.specs.declared.call.Call.TheVariants as call
@@ -11,7 +11,9 @@ use Rattle.cc_model.specs.Passes.{calls_of}
 use Rattle.cc_entry.specs.declared.entry.Entry.{Entry}
 use Rattle.cc_ahead.specs.Kept.{Kept, PrivateStands}
 use Rattle.cc_bcb.specs.declared.holds.Hold.{Hold}
-use Rattle.cc_content.specs.Contents.{Contents, ContentsStand}
+use Rattle.cc_content.specs.Contents.{Contents, ContentsStand, IsByteOf}
+use Rattle.cc_content.specs.Following.{truncated_by}
+use Rattle.cc_content.specs.Owned.{OwnsChanged}
 use Rattle.cc_holds.specs.Stands.{HoldsStand}
 use Rattle.cc_journal.specs.Journal.{JournalState}
 use Rattle.cc_model.specs.Good.{IsGoodSoFar}
@@ -49,6 +51,23 @@ Gains e old new = new ≡ record old { entries = e ∷ old.entries; reserved = o
 -- the book stands for the journal after as it did before, and is of the same stream
 abbrev pub GoesOn : List Entry → List Entry → BookState → BookState → Type 0
 GoesOn past now old new = (opening : Option (ℕ → List ℕ)) → BookStands opening past old → BookStands opening now new
+
+-- The book is of the same stream, and stands for whatever it stood for: only which pages are owned may have
+-- changed.
+pub record StandsAsBefore (old new : BookState) : Type 0 where
+  pub stream : new.stream ≡ old.stream
+  pub stands : (past : List Entry) → GoesOn past past old new
+
+-- a step that found no memory: the journal is as it was, and the book stands as before
+abbrev pub Stays : {Q : Type 0} → JournalState Q → JournalState Q → BookState → BookState → Type 0
+Stays journal now old new = (now ≡ journal) × StandsAsBefore old new
+
+-- A snapshot of a page has its 4096 bytes, as the book stands for them: those of the plain file, where the disk
+-- tells its opening pages.
+pub record IsSnapshot (b : BookState) (page : ℕ) (bytes : List ℕ) : Type 0 where
+  pub whole : length bytes ≡ 4096
+  pub bytes_are : (opening : Option (ℕ → List ℕ)) (past : List Entry) → BookStands opening past b → (i : ℕ) → i < 4096
+      → IsByteOf opening (history past b.stream) (4096 * page + i) (slice_index bytes i)
 
 -- the entry of a page that comes in: from the disk where it has a byte below the valid data length
 abbrev pub page_in : ℕ → Page → BookState → Entry
@@ -90,7 +109,12 @@ GoesOnBy call reply mapped old new =
     mapped ≡ is_mapped (Did pass call reply ∷ history past old.stream) →
     StandsFor (u.opening old.stream) (Did pass call reply ∷ history past old.stream) new
 
--- whether memory may be wanting for a done call: for a map or a size, for bytes, or for a hold
+-- the pages that a done call changes in place are owned
+abbrev pub OwnsFor : BookState → Call → Type 0
+OwnsFor b call = (h : List Effect) → StreamStands h b.state → OwnsChanged b.contents call (truncated_by h call)
+
+-- whether memory may be wanting for a done call: for a map or a size, for bytes, for a hold, or for a copy of a
+-- page that it changes and that is shared
 abbrev pub takes_memory : Call → Bool
 takes_memory (call.Initialise file sizes quota temporary) = true
 takes_memory (call.SetSizes file allocation size) = true
@@ -98,6 +122,8 @@ takes_memory (call.CopyWrite file at bytes) = true
 takes_memory (call.PinnedWrite hold at bytes) = true
 takes_memory (call.MdlStore hold at bytes) = true
 takes_memory (call.NcStore file page bytes) = true
+takes_memory (call.Zero file span) = true
+takes_memory (call.Uninitialise file (Some size)) = true
 takes_memory (call.Map file at len) = true
 takes_memory (call.PinRead file at len exclusive) = true
 takes_memory (call.PreparePin file at len zero exclusive) = true

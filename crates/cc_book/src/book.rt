@@ -22,7 +22,7 @@ ghost use Rattle.cc_model.specs.Setup.{Setup};
 ghost use Rattle.cc_effects.specs.Asked.{block_to_go};
 ghost use Rattle.cc_holds.specs.Stands.{shown, shown_row};
 ghost use Rattle.cc_refusal.specs.Known.{is_discard, IsLeastAbsent};
-ghost use Rattle.cc_book.specs.Book.{LeavesDiscards, BookStands, MayPlace, Gains, GoesOn, page_in, failed};
+ghost use Rattle.cc_book.specs.Book.{LeavesDiscards, BookStands, MayPlace, Gains, GoesOn, Stays, IsSnapshot, page_in, failed};
 
 use cc_ahead::PrivateMaps;
 use cc_content::Contents;
@@ -31,6 +31,7 @@ use cc_entry::{
 };
 use cc_holds::OpenHolds;
 use cc_journal::Journal;
+use cc_pages::Frame;
 use cc_refusal::{Known, refusal};
 use cc_stream::StreamState;
 use std::alloc::Global;
@@ -285,16 +286,30 @@ impl Book {
         Ok(())
     }
 
-    /// The transfer of a page to the disk begins.
-    pub fn begin<Q>(&mut self, journal: &mut Journal<Q>, pass: u32, page: PageId)
+    /// The transfer of a page to the disk begins, with a snapshot of the page.
+    pub fn begin<Q>(
+        &mut self,
+        journal: &mut Journal<Q>,
+        pass: u32,
+        page: PageId,
+    ) -> Result<Frame, NoMemory>
         requires stream { page.stream ≡ self.old.stream }
         requires reserved { 0 < journal.old.reserved }
         requires may { MayPlace journal.old.entries (entry.WriteBegin pass page) self.old }
-        ensures placed { Gains (entry.WriteBegin pass page) journal.old journal.new }
-        ensures stands { GoesOn journal.old.entries journal.new.entries self.old self.new }
-        ensures same { self.new ≡ self.old }
+        ensures placed { OnOk result (Gains (entry.WriteBegin pass page) journal.old journal.new) }
+        ensures snapshot { IfOk result (IsSnapshot self.old page.page) }
+        ensures stands { OnOk result (GoesOn journal.old.entries journal.new.entries self.old self.new) }
+        ensures stream { self.new.stream ≡ self.old.stream }
+        ensures err { OnErr result (Stays journal.old journal.new self.old self.new) }
     {
-        journal.push(Entry::WriteBegin { pass, page });
+        let snapshot = self.contents.share(page.page())?;
+        match snapshot {
+            Some(frame) => {
+                journal.push(Entry::WriteBegin { pass, page });
+                Ok(frame)
+            }
+            None => unreachable!(),
+        }
     }
 
     /// That transfer ended. A map without an object goes with its last dirty page, and its pages with it.

@@ -10,7 +10,7 @@ ghost use Rattle.cc_laws.proofs.HoldSteps.{changes_holds};
 ghost use Rattle.cc_content.specs.Following.{truncated_by, takes_memory as contents_take};
 ghost use Rattle.cc_stream.specs.Stream.{StreamStands};
 ghost use Rattle.cc_ahead.specs.Kept.{PrivateStands};
-ghost use Rattle.cc_book.specs.Book.{BookStands, Gains, done, MayDo, IsDoing, GoesOnBy, takes_memory};
+ghost use Rattle.cc_book.specs.Book.{BookStands, Gains, Stays, StandsAsBefore, done, MayDo, IsDoing, GoesOnBy, OwnsFor, takes_memory};
 
 use crate::book::Book;
 use cc_entry::{Bytes, Call, Entry, NoMemory, Outcome, Reply};
@@ -21,7 +21,8 @@ use std::alloc::Global;
 
 impl Book {
     /// A call on the stream is done with this answer. An uninitialise answers whether the shared map went, which
-    /// the journal says before it (`Journal::stays_mapped`). Where it finds no memory nothing changes.
+    /// the journal says before it (`Journal::stays_mapped`). The pages that the call changes are owned first, so
+    /// where it finds no memory no byte has changed.
     pub fn done<Q>(
         &mut self,
         alloc: Global,
@@ -37,9 +38,10 @@ impl Book {
         ensures stands { OnOk result ((u : Setup) → MayDo u journal.old.entries pass call reply self.old →
             BookStands (u.opening self.old.stream) journal.new.entries self.new) }
         ensures stream { self.new.stream ≡ self.old.stream }
-        ensures err { OnErr result ((self.new ≡ self.old) × (journal.new ≡ journal.old)) }
+        ensures err { OnErr result (Stays journal.old journal.new self.old self.new) }
         ensures sure { takes_memory call ≡ false → IsOk result }
     {
+        self.own(&call)?;
         let mapped = self.is_mapped_after(journal, &call);
         self.follow(alloc, &call, &reply, mapped)?;
         journal.push(Entry::Call {
@@ -50,6 +52,17 @@ impl Book {
             outcome: Outcome::Done(reply),
         });
         Ok(())
+    }
+
+    // Makes the pages owned that a done call changes in place.
+    fn own(&mut self, call: &Call) -> Result<(), NoMemory>
+        requires may { (reply : Reply) × ((mapped : Bool) × IsDoing call.now reply mapped self.old) }
+        ensures owned { OnOk result (OwnsFor self.new call.now) }
+        ensures stands { StandsAsBefore self.old self.new }
+        ensures sure { takes_memory call.now ≡ false → IsOk result }
+    {
+        let truncation = truncation_by(&self.state, call);
+        self.contents.own(call, truncation)
     }
 
     // Whether the stream has a shared map after a done call.
@@ -74,6 +87,7 @@ impl Book {
         mapped: bool,
     ) -> Result<(), NoMemory>
         requires may { IsDoing call.now reply.now mapped self.old }
+        requires owned { OwnsFor self.old call.now }
         ensures stands { OnOk result (GoesOnBy call.now reply.now mapped self.old self.new) }
         ensures stream { self.new.stream ≡ self.old.stream }
         ensures err { OnErr result (self.new ≡ self.old) }
@@ -106,6 +120,7 @@ impl Book {
     ) -> Result<(), NoMemory>
         requires is { (hold : ℕ) × (call.now ≡ Call.PinnedWrite hold at bytes.now) }
         requires may { (mapped : Bool) × IsDoing call.now reply.now mapped self.old }
+        requires owned { OwnsFor self.old call.now }
         ensures stands { OnOk result ((mapped : Bool) → GoesOnBy call.now reply.now mapped self.old self.new) }
         ensures stream { self.new.stream ≡ self.old.stream }
         ensures err { OnErr result (self.new ≡ self.old) }
@@ -128,6 +143,7 @@ impl Book {
     ) -> Result<(), NoMemory>
         requires contents { contents_take call.now ≡ false }
         requires may { IsDoing call.now reply.now mapped self.old }
+        requires owned { OwnsFor self.old call.now }
         ensures stands { OnOk result (GoesOnBy call.now reply.now mapped self.old self.new) }
         ensures stream { self.new.stream ≡ self.old.stream }
         ensures err { OnErr result (self.new ≡ self.old) }
@@ -158,6 +174,7 @@ impl Book {
     ) -> Result<(), NoMemory>
         requires holds { changes_holds call.now ≡ false }
         requires may { IsDoing call.now reply.now mapped self.old }
+        requires owned { OwnsFor self.old call.now }
         ensures stands { OnOk result (GoesOnBy call.now reply.now mapped self.old self.new) }
         ensures stream { self.new.stream ≡ self.old.stream }
         ensures err { OnErr result (self.new ≡ self.old) }

@@ -2,8 +2,10 @@
 //!
 //! What the layer keeps true: a book that stands for the journal, over what the stream's disk told of its opening
 //! pages, stands for it after each step, and the step places one entry, for which a place was reserved and with
-//! which the journal is good. A step that finds no memory leaves both as they were. So whoever holds the book's
-//! turn knows of the stream what the whole journal says of it: its sizes, its holds, its pages and their bytes.
+//! which the journal is good. A step that finds no memory leaves the journal as it was, and the book stands for what
+//! it stood for: no byte has changed, at most pages are owned again that snapshots shared. So whoever holds the
+//! book's turn knows of the stream what the whole journal says of it: its sizes, its holds, its pages and their
+//! bytes.
 //!
 //! `book` has what is kept, what is asked of it, and the entries of pages and of calls that failed; `done` the
 //! calls that are done.

@@ -2,6 +2,7 @@ use Rattle.std.proofs.Common.{sym}
 use Rattle.cc_model.specs.History.{history}
 use Rattle.cc_book.specs.Book.{BookState}
 use Rattle.cc_book.proofs.DoneSteps.{ends-below, is-following, made-above, may-follow, stands-done}
+use Rattle.cc_book.proofs.OwnedSteps.{owns-changed}
 use Rattle.cc_book.proofs.book.Book.change_holds.Goals as goal
 
 pub done-requires : goal.done-requires
@@ -13,7 +14,10 @@ done-requires c =
 pub done-requires-2 : goal.done-requires-2
 done-requires-2 c =
     let b : BookState = record { stream = c.self.inside.stream; state = c.self.inside.state; maps = c.self.inside.maps; holds = c.self.inside.holds; contents = c.self.inside.contents } in
-    record { may = is-following b c.self.view_is c.size-size.result c.truncation_by-truncation.result c.size-size.ensures.stands c.truncation_by-truncation.ensures c.requires.may }
+    record {
+      may = is-following b c.self.view_is c.size-size.result c.truncation_by-truncation.result c.size-size.ensures.stands c.truncation_by-truncation.ensures c.requires.may;
+      owned = owns-changed b c.self.view_is c.truncation_by-truncation.result c.truncation_by-truncation.ensures c.requires.may c.requires.owned;
+    }
 
 pub returns-clause-stands : goal.returns-clause-stands
 returns-clause-stands c u past pass given mapped_is =

@@ -1,11 +1,15 @@
-use Rattle.std.specs.Prelude.{◌≡◌, ◌∷◌}
-use Rattle.std.proofs.Common.{sym, subst, ◌∙◌}
+use Rattle.std.specs.Prelude.{◌≡◌, List, ◌∷◌, None}
+use Rattle.std.proofs.Common.{ap, sym, subst, ◌∙◌}
 use Rattle.cc_entry.specs.declared.call.Call.{Call}
 use Rattle.cc_entry.specs.declared.call.Call.TheVariants as call
 use Rattle.cc_content.specs.Contents.{ContentsStand}
-use Rattle.cc_model.specs.History.{history}
+use Rattle.cc_content.specs.Following.{truncated_by}
+use Rattle.cc_content.specs.Owned.{OwnsChanged}
+use Rattle.cc_model.specs.History.{Effect, history}
+use Rattle.cc_stream.specs.Stream.{StreamStands}
 use Rattle.cc_book.specs.Book.{BookState, MayDo, done}
 use Rattle.cc_book.proofs.DoneSteps.{ends-below, is-writing, made-above, may-write, stands-done}
+use Rattle.cc_book.proofs.OwnedSteps.{owns-changed}
 use Rattle.cc_book.proofs.book.Book.write.Goals as goal
 
 pub done-requires : goal.done-requires
@@ -18,7 +22,12 @@ pub pinned_write-requires : goal.pinned_write-requires
 pinned_write-requires c =
     let b : BookState = record { stream = c.self.inside.stream; state = c.self.inside.state; maps = c.self.inside.maps; holds = c.self.inside.holds; contents = c.self.inside.contents } in
     let listed : c.deref.result.now ≡ c.args.bytes.now = c.deref.ensures.value ∙ c.in_ok-listed.ensures in
-    record { may = is-writing b c.self.view_is c.requires.is.0 c.args.at c.deref.result.now (rw listed c.requires.is.1) c.requires.may.1 }
+    let is : c.args.call.now ≡ call.PinnedWrite c.requires.is.0 c.args.at c.deref.result.now = rw listed c.requires.is.1 in
+    let uncut : (h : List Effect) → StreamStands h b.state → None ≡ truncated_by h c.args.call.now = λ h stands. sym (ap (truncated_by h) is) in
+    record {
+      may = is-writing b c.self.view_is c.requires.is.0 c.args.at c.deref.result.now is c.requires.may.1;
+      owned = subst (λ (k : Call). OwnsChanged b.contents k None) is (owns-changed b c.self.view_is None uncut c.requires.may.1 c.requires.owned);
+    }
 
 pub returns-clause-stands : goal.returns-clause-stands
 returns-clause-stands c mapped u past pass given mapped_is =
