@@ -2,3 +2,4 @@
 pub mod BookSteps
 pub mod BlocksToGo
 pub mod DoneSteps
+pub mod ReadSteps
