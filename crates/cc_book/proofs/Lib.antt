@@ -3,3 +3,4 @@ pub mod BookSteps
 pub mod BlocksToGo
 pub mod DoneSteps
 pub mod OwnedSteps
+pub mod ReadSteps

@@ -8,7 +8,7 @@
 //! bytes.
 //!
 //! `book` has what is kept, what is asked of it, and the entries of pages and of calls that failed; `done` the
-//! calls that are done.
+//! calls that are done, and `read` what a read answers.
 //!
 //! The steps of the calls stand above. Below are the four parts of a book: the state of the stream
 //! (`cc_stream`), its private maps (`cc_ahead`), its open holds (`cc_holds`) and its contents (`cc_content`); the
@@ -18,5 +18,6 @@
 
 mod book;
 mod done;
+mod read;
 
 pub use book::Book;
