@@ -3,3 +3,5 @@ pub mod BookSteps
 pub mod BlocksToGo
 pub mod DoneSteps
 pub mod OwnedSteps
+pub mod ImageSteps
+pub mod DirtyRows
