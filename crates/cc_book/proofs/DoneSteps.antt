@@ -23,6 +23,7 @@ use Rattle.cc_ahead.specs.Kept.{PrivateStands}
 use Rattle.cc_content.specs.Contents.{Contents, ContentsStand}
 use Rattle.cc_content.specs.Following.{MayFollow, IsFollowing, IsFollowingWrite, truncated_by}
 use Rattle.cc_content.proofs.DoneFacts.{IsDone, IsDone-good, history-called, written-fits, zeroed-fits, map-resizes, map-writes, map-zeroes, map-stores, map-stamps, map-discards, map-looks}
+use Rattle.cc_images.specs.Images.{ImagesStand}
 use Rattle.cc_book.specs.Book.{BookState, BookStands, StandsFor, MayDo, IsDoing, done}
 
 below : (n : ℕ) → n ≤ 2 ^ 63 → n < 2 ^ 64
@@ -61,16 +62,19 @@ module _ (past : List Entry) (h : List Effect) (pass : ℕ) (reply : Reply) wher
 pub done-may : {u : Setup} {past : List Entry} {pass : ℕ} {call : Call} {reply : Reply} {b : BookState} → MayDo u past pass call reply b → IsDone past (history past b.stream) pass call reply
 done-may {u} {past} {pass} {call} {reply} {b} may = IsDone-good u past pass (suc (calls_of past pass)) b.stream call reply may.good
 
--- a book that stands for the history with the call stands for the journal with it
-pub stands-called : (opening : Option (ℕ → List ℕ)) (past : List Entry) (pass s : ℕ) (call : Call) (reply : Reply) (b : BookState) → b.stream ≡ s → StandsFor opening (Did pass call reply ∷ history past s) b → BookStands opening (done pass past s call reply ∷ past) b
-stands-called opening past pass s call reply b same stands =
+-- a book that stands for the history with the call, and whose images followed, stands for the journal with it
+pub stands-called : (opening : Option (ℕ → List ℕ)) (past : List Entry) (pass s : ℕ) (call : Call) (reply : Reply) (b new : BookState) → new ≡ record b { images = new.images } → b.stream ≡ s → StandsFor opening (Did pass call reply ∷ history past s) b → ImagesStand (Did pass call reply ∷ history past b.stream) new.images → BookStands opening (done pass past s call reply ∷ past) new
+stands-called opening past pass s call reply b new same here stands images =
     let is = history-called past pass (suc (calls_of past pass)) s call reply in
-    record {
-      state_is = rw (same, is) stands.state_is;
-      maps_are = rw (same, is) stands.maps_are;
-      holds_are = rw (same, is) stands.holds_are;
-      contents_are = rw (same, is) stands.contents_are;
-    }
+    let images_here = subst (λ n. ImagesStand (Did pass call reply ∷ history past n) new.images) here images in
+    subst (λ (x : BookState). BookStands opening (done pass past s call reply ∷ past) x) (sym same)
+    (record {
+      state_is = rw (here, is) stands.state_is;
+      maps_are = rw (here, is) stands.maps_are;
+      holds_are = rw (here, is) stands.holds_are;
+      contents_are = rw (here, is) stands.contents_are;
+      images_are = rw (here, is) images_here;
+    })
 
 -- an uninitialise is filed under the stream of its file
 pub closes-here : {u : Setup} {past : List Entry} {pass : ℕ} {file : File} {truncate : Option ℕ} {reply : Reply} {b : BookState} → MayDo u past pass (call.Uninitialise file truncate) reply b → file.stream ≡ b.stream
@@ -111,7 +115,7 @@ module _ {it : Call} {reply : Reply} {old : BookState} (b : BookState) (same : b
 
   -- the book stands for it where its holds and its contents do, and the rest was set
   pub stands-done : (new : BookState) (holds : List Hold) (contents : Contents) (was_mapped : Bool)
-      → new ≡ record { stream = b.stream; state = new.state; maps = new.maps; holds = holds; contents = contents }
+      → new ≡ record { stream = b.stream; state = new.state; maps = new.maps; holds = holds; contents = contents; images = b.images }
       → ((h : List Effect) (pass : ℕ) → StreamStands h b.state → was_mapped ≡ is_mapped h → StreamStands (Did pass it reply ∷ h) new.state)
       → ((h : List Effect) (pass : ℕ) → StreamStands h b.state → PrivateStands h b.maps → PrivateStands (Did pass it reply ∷ h) new.maps)
       → ((opening : Option (ℕ → List ℕ)) (h : List Effect) → ContentsStand opening h b.contents → was_mapped ≡ is_mapped h)

@@ -4,3 +4,5 @@ pub mod BlocksToGo
 pub mod DoneSteps
 pub mod OwnedSteps
 pub mod ReadSteps
+pub mod ImageSteps
+pub mod DirtyRows

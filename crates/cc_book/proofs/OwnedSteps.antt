@@ -32,6 +32,7 @@ StandsAsBefore-contents b c same =
         maps_are = stands.maps_are;
         holds_are = stands.holds_are;
         contents_are = same.stands opening (history past b.stream) stands.contents_are;
+        images_are = stands.images_are;
       };
     }
 

@@ -1,5 +1,5 @@
 -- The book of a stream as contracts see it, and what it stands for.
-use Rattle.std.specs.Prelude.{◌≡◌, ℕ, suc, ◌+◌, ◌-◌, ◌*◌, ◌<◌, nat_lt, Bool, true, false, List, [], ◌∷◌, length, slice_index, Option, Some}
+use Rattle.std.specs.Prelude.{◌≡◌, ℕ, suc, ◌+◌, ◌-◌, ◌*◌, ◌<◌, ◌≤◌, nat_lt, Bool, true, false, List, ◌∷◌, length, slice_index, Option, None, Some}
 use Rattle.cc_entry.specs.Place.{Page}
 use Rattle.cc_entry.specs.declared.call.Call.{Call}
 use Rattle.cc_entry.specs.declared.call.Call.TheVariants as call
@@ -15,23 +15,24 @@ use Rattle.cc_content.specs.Contents.{Contents, ContentsStand, IsByteOf}
 use Rattle.cc_content.specs.Following.{truncated_by}
 use Rattle.cc_content.specs.Owned.{OwnsChanged}
 use Rattle.cc_holds.specs.Stands.{HoldsStand}
+use Rattle.cc_images.specs.Following.{makes_map}
+use Rattle.cc_images.specs.Images.{Images, ImagesStand}
 use Rattle.cc_journal.specs.Journal.{JournalState}
 use Rattle.cc_model.specs.Good.{IsGoodSoFar}
-use Rattle.cc_model.specs.Discards.{unsettled, grown}
 use Rattle.cc_model.specs.History.{Effect, Did, history}
-use Rattle.cc_model.specs.Refusals.{first_of}
 use Rattle.cc_model.specs.Setup.{Setup}
-use Rattle.cc_model.specs.Touches.{is_mapped}
+use Rattle.cc_model.specs.Touches.{is_mapped, valid_of}
 use Rattle.cc_stream.specs.Stream.{Stream, StreamStands}
 
 -- the stream; what is kept of it beside its pages and holds; the private maps of its objects; its open holds;
--- and what its resident pages hold
+-- what its resident pages hold; and the images of its pages
 pub record BookState : Type 0 where
   pub stream : ℕ
   pub state : Stream
   pub maps : List Kept
   pub holds : List Hold
   pub contents : Contents
+  pub images : Images
 
 -- a book stands for a past, over what the stream's disk told of its opening pages
 pub record BookStands (opening : Option (ℕ → List ℕ)) (past : List Entry) (b : BookState) : Type 0 where
@@ -39,6 +40,7 @@ pub record BookStands (opening : Option (ℕ → List ℕ)) (past : List Entry) 
   pub maps_are : PrivateStands (history past b.stream) b.maps
   pub holds_are : HoldsStand (history past b.stream) b.holds
   pub contents_are : ContentsStand opening (history past b.stream) b.contents
+  pub images_are : ImagesStand (history past b.stream) b.images
 
 -- An entry may be placed on the past for which the book stands: over some setup the journal is good with it.
 abbrev pub MayPlace : List Entry → Entry → BookState → Type 0
@@ -94,15 +96,15 @@ pub record IsDoing (call : Call) (reply : Reply) (mapped : Bool) (b : BookState)
   pub may : MayDo u past pass call reply b
   pub mapped_is : mapped ≡ is_mapped (Did pass call reply ∷ history past b.stream)
 
--- what is kept of a stream stands for this history
+-- what is kept of a stream beside its images stands for this history
 pub record StandsFor (opening : Option (ℕ → List ℕ)) (h : List Effect) (b : BookState) : Type 0 where
   pub state_is : StreamStands h b.state
   pub maps_are : PrivateStands h b.maps
   pub holds_are : HoldsStand h b.holds
   pub contents_are : ContentsStand opening h b.contents
 
--- after a done call the book stands for the history with it, wherever the call may be done and the flag says
--- whether there is a map after it
+-- after a done call what is kept beside the images stands for the history with it, wherever the call may be done
+-- and the flag says whether there is a map after it
 abbrev pub GoesOnBy : Call → Reply → Bool → BookState → BookState → Type 0
 GoesOnBy call reply mapped old new =
     (u : Setup) (past : List Entry) (pass : ℕ) → MayDo u past pass call reply old →
@@ -132,6 +134,27 @@ takes_memory (call.MdlRead file at len) = true
 takes_memory (call.MdlWrite file at len) = true
 takes_memory other = false
 
--- what a refusal leaves open of a discard: the first of it and of the two reasons of discards is the whole
-abbrev pub LeavesDiscards : Option CcError → List Effect → Call → Option CcError → Type 0
-LeavesDiscards refused h call whole = first_of (refused ∷ unsettled h call ∷ grown h call ∷ []) ≡ whole
+-- the room is for the pages of the map that a call makes, and there is none where it makes none
+abbrev pub IsRoomFor : List Effect → Call → Option ℕ → Type 0
+IsRoomFor h call None = makes_map h call ≡ false
+IsRoomFor h (call.Initialise file sizes quota temporary) (Some pages) = (is_mapped h ≡ false) × (64 * quota ≤ pages)
+IsRoomFor h other (Some pages) = ⊥
+
+-- The images of a book may follow a done call, as the last of it: the journal with it is good, they stand for the
+-- past, the room is for the map that the call makes, and these are the valid data lengths before and after it.
+pub record ImagesMayFollow (u : Setup) (past : List Entry) (pass : ℕ) (call : Call) (reply : Reply) (room : Option ℕ)
+    (was : ℕ) (b : BookState) : Type 0 where
+  pub good : IsGoodSoFar u (done pass past b.stream call reply ∷ past)
+  pub stands : ImagesStand (history past b.stream) b.images
+  pub room_is : IsRoomFor (history past b.stream) call room
+  pub was_is : was ≡ valid_of (history past b.stream)
+  pub now_is : b.contents.valid ≡ valid_of (Did pass call reply ∷ history past b.stream)
+
+-- there is a journal at whose end they may follow one
+pub record ImagesFollow (room : Option ℕ) (was : ℕ) (b : BookState) : Type 0 where
+  pub u : Setup
+  pub past : List Entry
+  pub pass : ℕ
+  pub call : Call
+  pub reply : Reply
+  pub may : ImagesMayFollow u past pass call reply room was b

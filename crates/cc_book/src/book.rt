@@ -21,8 +21,8 @@ ghost use Rattle.cc_model.specs.Refusals.{refusal};
 ghost use Rattle.cc_model.specs.Setup.{Setup};
 ghost use Rattle.cc_effects.specs.Asked.{block_to_go};
 ghost use Rattle.cc_holds.specs.Stands.{shown, shown_row};
-ghost use Rattle.cc_refusal.specs.Known.{is_discard, IsLeastAbsent};
-ghost use Rattle.cc_book.specs.Book.{LeavesDiscards, BookStands, MayPlace, Gains, GoesOn, Stays, IsSnapshot, page_in, failed};
+ghost use Rattle.cc_refusal.specs.Known.{IsLeastAbsent};
+ghost use Rattle.cc_book.specs.Book.{BookStands, MayPlace, Gains, GoesOn, Stays, IsSnapshot, page_in, failed};
 
 use cc_ahead::PrivateMaps;
 use cc_content::Contents;
@@ -30,6 +30,7 @@ use cc_entry::{
     Call, CcError, End, Entry, FileId, HoldRow, NoMemory, Outcome, PageId, Request, Span, StreamId,
 };
 use cc_holds::OpenHolds;
+use cc_images::Images;
 use cc_journal::Journal;
 use cc_pages::Frame;
 use cc_refusal::{Known, refusal};
@@ -45,6 +46,7 @@ pub struct Book {
     pub(crate) maps: PrivateMaps,
     pub(crate) holds: OpenHolds,
     pub(crate) contents: Contents,
+    pub(crate) images: Images,
 }
 
 impl Model for Book {
@@ -58,6 +60,7 @@ impl Model for Book {
       maps = b.maps;
       holds = b.holds;
       contents = b.contents;
+      images = b.images;
     } };
 }
 
@@ -74,6 +77,7 @@ impl Book {
             maps: PrivateMaps::new(),
             holds: OpenHolds::new(alloc),
             contents: Contents::new(),
+            images: Images::new(alloc),
         }
     }
 
@@ -205,28 +209,25 @@ impl Book {
             .ahead_of(file, at, len, no_read_ahead, self.state.size())
     }
 
-    /// The refusal of a call on the stream, where there is one. A discard's last two reasons, an image that is
-    /// not known and a page that has grown, are not looked at.
+    /// The refusal of a call on the stream, where there is one.
     pub fn refusal<Q>(
         &self,
         alloc: Global,
         journal: &Journal<Q>,
         call: &Call,
     ) -> Result<Option<CcError>, NoMemory>
-        ensures same { IfOk result (λ refused. (u : Setup) (opening : Option (ℕ → List ℕ)) →
+        ensures { IfOk result (λ refused. (u : Setup) (opening : Option (ℕ → List ℕ)) →
             u.logs ≡ journal.now.logs → BookStands opening journal.now.entries self.now →
-            is_discard call.now ≡ false →
             refused ≡ refusal u journal.now.entries (history journal.now.entries self.now.stream) call.now) }
-        ensures of_discard { IfOk result (λ refused. (u : Setup) (opening : Option (ℕ → List ℕ)) →
-            u.logs ≡ journal.now.logs → BookStands opening journal.now.entries self.now →
-            LeavesDiscards refused (history journal.now.entries self.now.stream) call.now
-            (refusal u journal.now.entries (history journal.now.entries self.now.stream) call.now)) }
     {
         let known = Known {
+            stream: self.stream,
             state: &self.state,
             valid: self.contents.valid(),
             mapped: self.contents.has_map(),
             holds: &self.holds,
+            images: &self.images,
+            dirty: journal.dirty().rows(),
             logs: journal.logs(),
             free_views: journal.free_views(),
         };
@@ -305,6 +306,7 @@ impl Book {
         let snapshot = self.contents.share(page.page())?;
         match snapshot {
             Some(frame) => {
+                self.images.began(self.contents.valid())?;
                 journal.push(Entry::WriteBegin { pass, page });
                 Ok(frame)
             }
@@ -321,6 +323,7 @@ impl Book {
         ensures stands { GoesOn journal.old.entries journal.new.entries self.old self.new }
         ensures stream { self.new.stream ≡ self.old.stream }
     {
+        self.images.ended(page.page(), how, self.contents.valid());
         journal.push(Entry::WriteEnd { pass, page, how });
         let mapped = journal.is_mapped(self.stream);
         self.contents.ended(mapped);

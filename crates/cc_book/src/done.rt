@@ -1,20 +1,24 @@
 //! A done call: what is kept follows it, and its entry is placed.
 
-ghost use Rattle.std.specs.Prelude.{◌≡◌, ℕ, ◌<◌, true, false, Bool, List, ◌∷◌, OnOk, OnErr, IsOk};
+ghost use Rattle.std.specs.Prelude.{◌≡◌, ℕ, ◌<◌, true, false, Bool, List, ◌∷◌, Option, OnOk, OnErr, IfOk, IsOk};
+ghost use Rattle.cc_entry.specs.declared.call.Call.{Call};
 ghost use Rattle.cc_entry.specs.declared.entry.Entry.{Entry};
 ghost use Rattle.cc_entry.specs.declared.reply.Reply.{Reply};
 ghost use Rattle.cc_model.specs.History.{Effect, Did, history};
 ghost use Rattle.cc_model.specs.Touches.{is_mapped};
 ghost use Rattle.cc_model.specs.Setup.{Setup};
 ghost use Rattle.cc_laws.proofs.HoldSteps.{changes_holds};
+ghost use Rattle.cc_content.specs.Contents.{ContentsStand};
 ghost use Rattle.cc_content.specs.Following.{truncated_by, takes_memory as contents_take};
+ghost use Rattle.cc_images.specs.Images.{ImagesStand};
 ghost use Rattle.cc_stream.specs.Stream.{StreamStands};
 ghost use Rattle.cc_ahead.specs.Kept.{PrivateStands};
-ghost use Rattle.cc_book.specs.Book.{BookStands, Gains, Stays, StandsAsBefore, done, MayDo, IsDoing, GoesOnBy, OwnsFor, takes_memory};
+ghost use Rattle.cc_book.specs.Book.{BookStands, Gains, Stays, StandsAsBefore, done, MayDo, IsDoing, GoesOnBy, OwnsFor, IsRoomFor, ImagesMayFollow, ImagesFollow, takes_memory};
 
 use crate::book::Book;
 use cc_entry::{Bytes, Call, Entry, NoMemory, Outcome, Reply};
 use cc_events::id_in;
+use cc_images::Room;
 use cc_journal::Journal;
 use cc_stream::StreamState;
 use std::alloc::Global;
@@ -22,7 +26,7 @@ use std::alloc::Global;
 impl Book {
     /// A call on the stream is done with this answer. An uninitialise answers whether the shared map went, which
     /// the journal says before it (`Journal::stays_mapped`). The pages that the call changes are owned first, so
-    /// where it finds no memory no byte has changed.
+    /// where it finds no memory no byte has changed. The images follow last and take none.
     pub fn done<Q>(
         &mut self,
         alloc: Global,
@@ -43,7 +47,10 @@ impl Book {
     {
         self.own(&call)?;
         let mapped = self.is_mapped_after(journal, &call);
+        let room = self.room_for(alloc, &call)?;
+        let was = self.valid();
         self.follow(alloc, &call, &reply, mapped)?;
+        self.follow_images(room, was);
         journal.push(Entry::Call {
             pass,
             nth: journal.next_call(pass),
@@ -78,7 +85,36 @@ impl Book {
         }
     }
 
-    // Follows a done call, given whether there is a map after it.
+    // Room for the pages of the map that a call makes, and none where it makes none.
+    fn room_for(&self, alloc: Global, call: &Call) -> Result<Option<Room>, NoMemory>
+        ensures room { IfOk result (λ room. (opening : Option (ℕ → List ℕ)) (h : List Effect) →
+            ContentsStand opening h self.now.contents → IsRoomFor h call.now room) }
+        ensures sure { takes_memory call.now ≡ false → IsOk result }
+    {
+        match call {
+            Call::Initialise { quota, .. } if !self.contents.has_map() => {
+                Ok(Some(Room::new(alloc, *quota)?))
+            }
+            _ => Ok(None),
+        }
+    }
+
+    // The images follow a done call, as the last of it, given the valid data length before it.
+    fn follow_images(&mut self, room: Option<Room>, was: u64)
+        requires may { ImagesFollow room was self.old }
+        ensures stands { (u : Setup) (past : List Entry) (pass : ℕ) (call : Call) (reply : Reply) →
+            ImagesMayFollow u past pass call reply room was self.old →
+            ImagesStand (Did pass call reply ∷ history past self.old.stream) self.new.images }
+        ensures same { self.new ≡ record self.old { images = self.new.images } }
+    {
+        let valid = self.contents.valid();
+        match room {
+            Some(room) => self.images.opened(room, valid),
+            None => self.images.done(was, valid),
+        }
+    }
+
+    // Follows a done call with all but the images, given whether there is a map after it.
     fn follow(
         &mut self,
         alloc: Global,
@@ -89,6 +125,7 @@ impl Book {
         requires may { IsDoing call.now reply.now mapped self.old }
         requires owned { OwnsFor self.old call.now }
         ensures stands { OnOk result (GoesOnBy call.now reply.now mapped self.old self.new) }
+        ensures images { self.new.images ≡ self.old.images }
         ensures stream { self.new.stream ≡ self.old.stream }
         ensures err { OnErr result (self.new ≡ self.old) }
         ensures sure { takes_memory call.now ≡ false → IsOk result }
@@ -122,6 +159,7 @@ impl Book {
         requires may { (mapped : Bool) × IsDoing call.now reply.now mapped self.old }
         requires owned { OwnsFor self.old call.now }
         ensures stands { OnOk result ((mapped : Bool) → GoesOnBy call.now reply.now mapped self.old self.new) }
+        ensures images { self.new.images ≡ self.old.images }
         ensures stream { self.new.stream ≡ self.old.stream }
         ensures err { OnErr result (self.new ≡ self.old) }
     {
@@ -145,6 +183,7 @@ impl Book {
         requires may { IsDoing call.now reply.now mapped self.old }
         requires owned { OwnsFor self.old call.now }
         ensures stands { OnOk result (GoesOnBy call.now reply.now mapped self.old self.new) }
+        ensures images { self.new.images ≡ self.old.images }
         ensures stream { self.new.stream ≡ self.old.stream }
         ensures err { OnErr result (self.new ≡ self.old) }
         ensures sure { takes_memory call.now ≡ false → IsOk result }
@@ -176,6 +215,7 @@ impl Book {
         requires may { IsDoing call.now reply.now mapped self.old }
         requires owned { OwnsFor self.old call.now }
         ensures stands { OnOk result (GoesOnBy call.now reply.now mapped self.old self.new) }
+        ensures images { self.new.images ≡ self.old.images }
         ensures stream { self.new.stream ≡ self.old.stream }
         ensures err { OnErr result (self.new ≡ self.old) }
         ensures sure { takes_memory call.now ≡ false → IsOk result }

@@ -10,10 +10,10 @@
 //! `book` has what is kept, what is asked of it, and the entries of pages and of calls that failed; `done` the
 //! calls that are done, and `read` what a read answers.
 //!
-//! The steps of the calls stand above. Below are the four parts of a book: the state of the stream
-//! (`cc_stream`), its private maps (`cc_ahead`), its open holds (`cc_holds`) and its contents (`cc_content`); the
-//! journal (`cc_journal`), the refusal of a call (`cc_refusal`), and the definitions of `cc_model` with their
-//! lemmas in `cc_laws`.
+//! The steps of the calls stand above. Below are the five parts of a book: the state of the stream
+//! (`cc_stream`), its private maps (`cc_ahead`), its open holds (`cc_holds`), its contents (`cc_content`) and the
+//! images of its pages (`cc_images`); the journal (`cc_journal`), the refusal of a call (`cc_refusal`), and the
+//! definitions of `cc_model` with their lemmas in `cc_laws`.
 #![tactic(auto)]
 
 mod book;

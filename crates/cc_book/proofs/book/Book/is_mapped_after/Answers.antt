@@ -25,7 +25,7 @@ returns-in-Uninitialise g c u pass reply given =
 
 pub returns-in_default : goal.returns-in_default
 returns-in_default g c u pass reply given =
-    let b : BookState = record { stream = c.self.inside.stream; state = c.self.inside.state; maps = c.self.inside.maps; holds = c.self.inside.holds; contents = c.self.inside.contents } in
+    let b : BookState = record { stream = c.self.inside.stream; state = c.self.inside.state; maps = c.self.inside.maps; holds = c.self.inside.holds; contents = c.self.inside.contents; images = c.self.inside.images } in
     let may : MayDo u c.args.journal.now.entries pass c.args.call.now reply b = subst (λ (x : BookState). MayDo u c.args.journal.now.entries pass c.args.call.now reply x) (sym c.self.view_is) given in
     let h = history c.args.journal.now.entries b.stream in
     let was = c.has_map.ensures.stands (u.opening b.stream) h may.stands.contents_are in

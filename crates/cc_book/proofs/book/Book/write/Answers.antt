@@ -14,13 +14,13 @@ use Rattle.cc_book.proofs.book.Book.write.Goals as goal
 
 pub done-requires : goal.done-requires
 done-requires c =
-    let b : BookState = record { stream = c.self.inside.stream; state = c.self.inside.state; maps = c.self.inside.maps; holds = c.self.inside.holds; contents = c.self.inside.contents } in
+    let b : BookState = record { stream = c.self.inside.stream; state = c.self.inside.state; maps = c.self.inside.maps; holds = c.self.inside.holds; contents = c.self.inside.contents; images = c.self.inside.images } in
     let ends = ends-below b c.self.view_is c.requires.may.1 in
     record { zeroed = ends.0; written = ends.1 }
 
 pub pinned_write-requires : goal.pinned_write-requires
 pinned_write-requires c =
-    let b : BookState = record { stream = c.self.inside.stream; state = c.self.inside.state; maps = c.self.inside.maps; holds = c.self.inside.holds; contents = c.self.inside.contents } in
+    let b : BookState = record { stream = c.self.inside.stream; state = c.self.inside.state; maps = c.self.inside.maps; holds = c.self.inside.holds; contents = c.self.inside.contents; images = c.self.inside.images } in
     let listed : c.deref.result.now ≡ c.args.bytes.now = c.deref.ensures.value ∙ c.in_ok-listed.ensures in
     let is : c.args.call.now ≡ call.PinnedWrite c.requires.is.0 c.args.at c.deref.result.now = rw listed c.requires.is.1 in
     let uncut : (h : List Effect) → StreamStands h b.state → None ≡ truncated_by h c.args.call.now = λ h stands. sym (ap (truncated_by h) is) in
@@ -31,7 +31,7 @@ pinned_write-requires c =
 
 pub returns-clause-stands : goal.returns-clause-stands
 returns-clause-stands c mapped u past pass given mapped_is =
-    let b : BookState = record { stream = c.self.inside.stream; state = c.self.inside.state; maps = c.self.inside.maps; holds = c.self.inside.holds; contents = c.self.inside.contents } in
+    let b : BookState = record { stream = c.self.inside.stream; state = c.self.inside.state; maps = c.self.inside.maps; holds = c.self.inside.holds; contents = c.self.inside.contents; images = c.self.inside.images } in
     let listed : c.deref.result.now ≡ c.args.bytes.now = c.deref.ensures.value ∙ c.in_ok-listed.ensures in
     let is : c.args.call.now ≡ call.PinnedWrite c.requires.is.0 c.args.at c.deref.result.now = rw listed c.requires.is.1 in
     let it = call.PinnedWrite c.requires.is.0 c.args.at c.deref.result.now in
