@@ -1,6 +1,7 @@
 //! What a done call does to the contents of its stream.
 
 ghost use Rattle.std.specs.Prelude.{◌≡◌, ℕ, ◌+◌, ◌*◌, ◌^◌, ◌≤◌, List, ◌∷◌, length, min, max, Bool, true, false, Option, None, Some, OnOk, OnErr, IsOk};
+ghost use Rattle.std.specs.Option.{option_map};
 ghost use Rattle.cc_entry.specs.Pages.{whole_range};
 ghost use Rattle.cc_entry.specs.Place.{File};
 ghost use Rattle.cc_entry.specs.declared.place.FileSizes.{FileSizes};
@@ -17,10 +18,9 @@ ghost use Rattle.cc_model.specs.Touches.{size_of, valid_of, is_mapped};
 ghost use Rattle.cc_content.specs.Contents.{ContentsStand};
 ghost use Rattle.cc_content.specs.Done.{is_look, Uses, used_if};
 ghost use Rattle.cc_content.specs.Filling.{HasRoomFor};
+ghost use Rattle.cc_content.specs.Following.{MayFollow, IsFollowing, IsFollowingWrite, IsFollowable, takes_memory, Finds, FindsOpen, AllKept, AllMapped, IsCutWithin, span_below, looked_range};
 ghost use Rattle.cc_content.specs.Owned.{changed_range, AllOwnedAmong, OwnsChanged, SameContents};
 ghost use Rattle.cc_resident.specs.Residents.{rest_of_page};
-ghost use Rattle.std.specs.Option.{option_map};
-ghost use Rattle.cc_content.specs.Following.{MayFollow, IsFollowing, IsFollowingWrite, IsFollowable, takes_memory, Finds, FindsOpen, AllKept, AllMapped, IsCutWithin, span_below, looked_range};
 
 use crate::changes;
 use crate::contents::Contents;
@@ -59,10 +59,10 @@ impl Contents {
         }
     }
 
-    /// Follows a call of the stream that was done, which finds the pages owned that it changes in place. `size` is the size before it, `truncation` the size that
-    /// an uninitialise sets, where it sets one, and `mapped` says whether there is a map after it. Only an
-    /// initialise that makes the map, a set of sizes, a noncached store and a write take memory; a write has
-    /// its bytes in a `Vec` for as long as this takes.
+    /// Follows a call of the stream that was done, which finds the pages owned that it changes in place. `size`
+    /// is the size before it, `truncation` the size that an uninitialise sets, where it sets one, and `mapped`
+    /// says whether there is a map after it. Only an initialise that makes the map, a set of sizes, a noncached
+    /// store and a write take memory; a write has its bytes in a `Vec` for as long as this takes.
     pub fn done(
         &mut self,
         alloc: Global,
