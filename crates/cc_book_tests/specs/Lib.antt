@@ -1,0 +1,2 @@
+-- What the tests' contracts cite.
+pub mod Life
