@@ -13,3 +13,4 @@ pub mod ReadAhead
 pub mod Levels
 pub mod Noncached
 pub mod Repins
+pub mod Failures

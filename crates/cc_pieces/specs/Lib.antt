@@ -10,4 +10,3 @@ pub mod Openings
 pub mod Phases
 pub mod Explained
 pub mod Table
-pub mod Failures

@@ -27,7 +27,7 @@ use Rattle.cc_laws.proofs.TouchSteps.{touches-came_in, touches-looks, touches-wr
 use Rattle.cc_laws.proofs.MapSteps.{is_mapped-open}
 use Rattle.cc_laws.proofs.ResidencySteps.{residents-came_in, residents-looks, residents-writes}
 use Rattle.cc_laws.proofs.ImageSteps.{image-came_in, image-done}
-use Rattle.cc_pieces.specs.Failures.{failures}
+use Rattle.cc_effects.specs.Failures.{failures}
 use Rattle.cc_run.specs.Stands.{Agrees, flag_at, first_object, opening_entry}
 
 -- the first stream is no other

@@ -5,7 +5,7 @@ use Rattle.cc_entry.specs.declared.entry.Entry.{Entry}
 use Rattle.cc_traits.specs.Disk.{Disk, page_of}
 use Rattle.cc_model.specs.History.{history}
 use Rattle.cc_model.specs.Images.{image}
-use Rattle.cc_pieces.specs.Failures.{failures}
+use Rattle.cc_effects.specs.Failures.{failures}
 use Rattle.cc_run.specs.Stands.{Agrees}
 use Rattle.cc_run.specs.Disks.{IsUnchanged, Pairwise, HoldsImages, DisksAre, HaveRisen, AreCounted}
 use Rattle.cc_run.proofs.FailureSteps.{failures-none}

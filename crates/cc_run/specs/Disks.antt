@@ -4,7 +4,7 @@ use Rattle.cc_entry.specs.declared.entry.Entry.{Entry}
 use Rattle.cc_traits.specs.Disk.{Disk, page_of}
 use Rattle.cc_model.specs.History.{history}
 use Rattle.cc_model.specs.Images.{image}
-use Rattle.cc_pieces.specs.Failures.{failures}
+use Rattle.cc_effects.specs.Failures.{failures}
 
 -- nothing was written back, so the image of each page is the opening page
 abbrev pub IsUnchanged : List Entry → Type 0

@@ -19,7 +19,7 @@ use Rattle.cc_model.specs.Stamps.{lsns_of}
 use Rattle.cc_model.specs.Images.{image, open_of}
 use Rattle.cc_model.specs.Passes.{calls_of}
 use Rattle.cc_model.specs.Good.{IsGood}
-use Rattle.cc_pieces.specs.Failures.{failures}
+use Rattle.cc_effects.specs.Failures.{failures}
 
 -- the opening pages that a disk tells
 abbrev pub opening_of : Option Disk → Option (ℕ → List ℕ)

@@ -6,7 +6,7 @@ ghost use Rattle.cc_model.specs.Setup.{Setup};
 ghost use Rattle.cc_model.specs.Good.{IsGood};
 ghost use Rattle.cc_pieces.specs.Explained.{IsExplained};
 ghost use Rattle.cc_pieces.specs.Table.{table_of};
-ghost use Rattle.cc_pieces.specs.Failures.{failures};
+ghost use Rattle.cc_effects.specs.Failures.{failures};
 ghost use Rattle.cc_run.specs.Stands.{opening_of};
 ghost use Rattle.cc_run.specs.Served.{IsServedStream, IsServedLine, IsCopy};
 ghost use Rattle.cc_run.specs.Disks.{IsUnchanged, FailuresAreCounted};

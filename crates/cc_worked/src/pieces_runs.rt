@@ -14,7 +14,7 @@ ghost use Rattle.cc_pieces.specs.Runs.{Explains, Ran, bindings_of};
 ghost use Rattle.cc_pieces.specs.Phases.{is_before_phase, limit_in, lines_before, PhaseRan, PhasesRan};
 ghost use Rattle.cc_pieces.specs.Explained.{IsExplained};
 ghost use Rattle.cc_pieces.specs.Table.{table_of};
-ghost use Rattle.cc_pieces.specs.Failures.{failures};
+ghost use Rattle.cc_effects.specs.Failures.{failures};
 ghost use Rattle.cc_worked.specs.Values.{setup, a, second, opened, done, answers, dirty_is, synced};
 ghost use Rattle.cc_worked.specs.PiecesReads.{two_pages, first_resident, a_byte, page_comes_in, page_alone};
 ghost use Rattle.cc_worked.specs.PiecesRuns.{stream_with, opens, opens_with, caller_opens, opening_is_refused, log_all_the_same};

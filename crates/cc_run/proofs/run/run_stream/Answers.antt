@@ -1,5 +1,5 @@
 use Rattle.std.proofs.Common.{◌≡◌, ◌∷◌, ◌++◌, [], ◌∙◌, refl, ap, arith}
-use Rattle.cc_pieces.specs.Failures.{failures}
+use Rattle.cc_effects.specs.Failures.{failures}
 use Rattle.cc_run.specs.Stands.{opening_entry, setup_over}
 use Rattle.cc_run.specs.Lines.{ServedLines}
 use Rattle.cc_run.proofs.DiskSteps.{unchanged-agrees}

@@ -2,7 +2,7 @@
 use Rattle.std.specs.Prelude.{◌≡◌, ℕ, [], ◌∷◌, refl}
 use Rattle.std.proofs.Common.{arith}
 use Rattle.cc_pieces.specs.Table.{table_of}
-use Rattle.cc_pieces.specs.Failures.{failures}
+use Rattle.cc_effects.specs.Failures.{failures}
 use Rattle.cc_worked.specs.PiecesRuns.{stamped_row, unstamped_row}
 use Rattle.cc_worked.proofs.PiecesOpened.{computed}
 use Rattle.cc_worked.proofs.pieces_runs.table_and_failures_are_read_off.Goals as goal
