@@ -1,0 +1,7 @@
+-- What the contracts cite.
+pub mod Standing
+pub mod Disk
+pub mod Log
+pub mod Journal
+pub mod Takes
+pub mod Desk
