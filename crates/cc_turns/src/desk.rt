@@ -81,33 +81,11 @@ impl<D: PageDisk, L: LogFile, Q: PostRoutine> Model for Desk<D, L, Q> {
 }
 
 impl<D: PageDisk, L: LogFile, Q: PostRoutine> Desk<D, L, Q> {
-    /// The desk of a run of which nothing happened yet, acting as pass 0. Where memory is wanting the setup comes back.
-    pub fn new(
-        alloc: Global,
-        setup: Setup<D, L>,
-    ) -> Result<Desk<D, L, Q>, (Setup<D, L>, CcError)>
-        ensures fresh { IfOk result (λ desk. IsFresh (made_from setup) desk) }
-        ensures err { IfErr result (λ back. (back.0 ≡ setup) × (back.1 ≡ error.NoMemory)) }
-    {
-        todo!()
-    }
-
     /// Acts as this pass from now on.
     pub fn act_as(&mut self, pass: u32)
         ensures { self.new ≡ record self.old { pass = pass } }
     {
         self.pass = pass;
-    }
-
-    /// Gives all back. It takes no memory.
-    pub fn end(self) -> Parts<D, L, Q>
-        requires { self.held ≡ nothing }
-        ensures journal { reverse result.journal.items ≡ self.last.entries }
-        ensures disks { DisksEnded (record { disk = D.told; disk_faults = D.faults; log = L.told; log_faults = L.faults; posted = Q.posted }) self result.disks.items }
-        ensures logs { LogsEnded (record { disk = D.told; disk_faults = D.faults; log = L.told; log_faults = L.faults; posted = Q.posted }) self result.logs.items }
-        ensures queued { map (λ waiting. waiting.0) result.queued.items ≡ map (λ d. d.id) (queue self.last.entries) }
-    {
-        todo!()
     }
 }
 

@@ -1,0 +1,4 @@
+-- Lemmas of turns, each before those that cite it.
+pub mod BookGrows
+pub mod DiskGrows
+pub mod LogGrows
