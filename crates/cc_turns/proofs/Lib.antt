@@ -2,3 +2,5 @@
 pub mod BookGrows
 pub mod DiskGrows
 pub mod LogGrows
+pub mod Places
+pub mod DeskSteps

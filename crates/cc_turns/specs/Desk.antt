@@ -1,5 +1,5 @@
 -- What the turns of one thread keep.
-use Rattle.std.specs.Prelude.{◌≡◌, ℕ, ◌-◌, ◌<◌, ◌≤◌, Bool, true, false, not, List, [], length, slice_get, is_some}
+use Rattle.std.specs.Prelude.{◌≡◌, ◌↔◌, ℕ, ◌-◌, ◌≤◌, Bool, List, [], length, slice_get, if◌then◌else◌}
 use Rattle.std.specs.declared.option.Option.{Option}
 use Rattle.std.specs.declared.option.Option.TheVariants.{Some, None}
 use Rattle.cc_book.specs.Book.{BookState, BookStands}
@@ -10,9 +10,9 @@ use Rattle.cc_log.specs.Turn.{LogState}
 use Rattle.cc_model.specs.History.{history}
 use Rattle.cc_model.specs.Images.{open_of}
 use Rattle.cc_model.specs.Room.{reserved_in}
-use Rattle.cc_model.specs.Setup.{Setup as ModelSetup}
 use Rattle.cc_traits.specs.declared.setup.Setup.{Setup}
-use Rattle.cc_turns.specs.Standing.{Standing, Held, DiskAtFirst, LogAtFirst, nothing, is_the}
+use Rattle.cc_entry.specs.declared.entry.Entry.{Entry}
+use Rattle.cc_turns.specs.Standing.{Standing, Held, DiskAtFirst, LogAtFirst, nothing}
 use Rattle.cc_turns.specs.Disk.{DiskStands, opening_of}
 use Rattle.cc_turns.specs.Log.{LogStands, FileStands}
 use Rattle.cc_turns.specs.Journal.{JournalStands}
@@ -32,31 +32,18 @@ made_from setup = record {
   threshold = setup.threshold;
 }
 
--- what disks and logs tell, how often they failed, and whether a routine was posted
-pub record Tells (D L Q : Type 0) : Type 0 where
-  pub disk : D → Option Disk
-  pub disk_faults : D → ℕ
-  pub log : L → Option Log
-  pub log_faults : L → ℕ
-  pub posted : Q → Bool
-
 -- what a disk, or a log, was at first; a stream without a disk has none
-abbrev pub disk_at_first : {D L Q : Type 0} → Tells D L Q → Option D → DiskAtFirst
-disk_at_first tells None = record { told = None; faults = 0 }
-disk_at_first tells (Some disk) = record { told = tells.disk disk; faults = tells.disk_faults disk }
+abbrev pub disk_at_first : {D : Type 0} → (D → Option Disk) → (D → ℕ) → Option D → DiskAtFirst
+disk_at_first told faults None = record { told = None; faults = 0 }
+disk_at_first told faults (Some disk) = record { told = told disk; faults = faults disk }
 
-abbrev pub log_at_first : {D L Q : Type 0} → Tells D L Q → Option L → LogAtFirst
-log_at_first tells None = record { told = None; faults = 0 }
-log_at_first tells (Some log) = record { told = tells.log log; faults = tells.log_faults log }
+abbrev pub log_at_first : {L : Type 0} → (L → Option Log) → (L → ℕ) → Option L → LogAtFirst
+log_at_first told faults None = record { told = None; faults = 0 }
+log_at_first told faults (Some log) = record { told = told log; faults = faults log }
 
--- the setup of a run
-abbrev pub setup_of : {D L Q : Type 0} → Tells D L Q → Begun D L → ModelSetup
-setup_of tells begun = record {
-  opening = λ s. opening_of (disk_at_first tells (slice_get begun.disks s)).told;
-  logs = length begun.logs;
-  capacity = begun.capacity;
-  threshold = begun.threshold;
-}
+-- the opening pages of each stream
+abbrev pub openings : {D L : Type 0} → (D → Option Disk) → (D → ℕ) → Begun D L → ℕ → Option (ℕ → List ℕ)
+openings told faults begun s = opening_of (disk_at_first told faults (slice_get begun.disks s)).told
 
 -- A desk as contracts see it: what the run was made from, the journal as it was last at home, the pass as which it
 -- acts, the turns that are held, and how often the turn of a disk was taken.
@@ -68,12 +55,17 @@ pub record DeskState (D L Q : Type 0) : Type 0 where
   pub device_turns : ℕ
 
 -- What the pass knows, who has seen the whole journal: nobody else has anything under way.
-abbrev pub standing_of : {D L Q : Type 0} → Tells D L Q → DeskState D L Q → Standing
-standing_of tells d = record {
-  setup = setup_of tells d.begun;
+abbrev pub standing_of : {D L Q : Type 0} → (D → Option Disk) → (D → ℕ) → (L → Option Log) → (L → ℕ) → DeskState D L Q → Standing
+standing_of told faults log_told log_faults d = record {
+  setup = record {
+    opening = openings told faults d.begun;
+    logs = length d.begun.logs;
+    capacity = d.begun.capacity;
+    threshold = d.begun.threshold;
+  };
   streams = length d.begun.disks;
-  disks = λ s. disk_at_first tells (slice_get d.begun.disks s);
-  logs = λ handle. log_at_first tells (slice_get d.begun.logs handle);
+  disks = λ s. disk_at_first told faults (slice_get d.begun.disks s);
+  logs = λ handle. log_at_first log_told log_faults (slice_get d.begun.logs handle);
   number = d.pass;
   seen = d.last.entries;
   held = d.held;
@@ -83,36 +75,55 @@ standing_of tells d = record {
 }
 
 -- A disk at home stands for its stream, with no transfer under way.
-pub record DiskIsHome {D L Q : Type 0} (tells : Tells D L Q) (w : Standing) (s : ℕ) (disk : D) : Type 0 where
-  pub stands : DiskStands tells.disk tells.disk_faults (w.disks s) w.seen s disk
-  pub at_rest : open_of (history w.seen s) ≡ None
+pub record DiskIsHome {D L : Type 0} (told : D → Option Disk) (faults : D → ℕ) (begun : Begun D L) (past : List Entry)
+    (s : ℕ) (disk : D) : Type 0 where
+  pub stands : DiskStands told faults (disk_at_first told faults (slice_get begun.disks s)) past s disk
+  pub at_rest : open_of (history past s) ≡ None
 
-pub record BookIsHome (w : Standing) (s : ℕ) (book : BookState) : Type 0 where
-  pub stream : book.stream ≡ s
-  pub stands : BookStands (w.setup.opening s) w.seen book
+-- A book at home stands for its stream.
+pub record BookIsHome (opening : ℕ → Option (ℕ → List ℕ)) (past : List Entry) (s : ℕ) (book : BookState) : Type 0 where
+  pub stream_is : book.stream ≡ s
+  pub stands : BookStands (opening s) past book
 
-pub record LogIsHome {D L Q : Type 0} (tells : Tells D L Q) (w : Standing) (handle : ℕ) (log : LogState L) : Type 0 where
+-- A log at home stands for its handle.
+pub record LogIsHome {D L : Type 0} (told : L → Option Log) (faults : L → ℕ) (begun : Begun D L) (past : List Entry)
+    (handle : ℕ) (log : LogState L) : Type 0 where
   pub handle_is : log.handle ≡ handle
-  pub stands : LogStands tells.log tells.log_faults (w.logs handle) w.seen log
+  pub stands : LogStands told faults (log_at_first told faults (slice_get begun.logs handle)) past log
 
--- Places for as many things as there are: the one that is held is out, and each other is at home.
+-- Places for as many things as there are: just the one that is held is out, and each other is at home.
 pub record AreHome {A : Type 0} (count : ℕ) (held : Option ℕ) (IsHome : ℕ → A → Type 0) (places : List (Option A)) : Type 0 where
   pub counted : length places ≡ count
-  pub each : (n : ℕ) (a : A) → slice_get places n ≡ Some (Some a) → IsHome n a
-  pub out : (n : ℕ) → slice_get places n ≡ Some None → is_the n held ≡ true
-  pub home : (n : ℕ) (a : A) → slice_get places n ≡ Some (Some a) → is_the n held ≡ false
+  pub home : (n : ℕ) (a : A) → slice_get places n ≡ Some (Some a) → IsHome n a
+  pub out : (n : ℕ) → (slice_get places n ≡ Some None) ↔ (held ≡ Some n)
+
+-- what disks and logs tell, how often they failed, and whether a routine was posted
+pub record Tells (D L Q : Type 0) : Type 0 where
+  pub disk : D → Option Disk
+  pub disk_faults : D → ℕ
+  pub log : L → Option Log
+  pub log_faults : L → ℕ
+  pub posted : Q → Bool
 
 -- What the turns of one thread keep: all that is not held is at home, and stands for the journal as it was last at
 -- home; the journal is at home itself, or held.
 pub record DeskStands {D L Q : Type 0} (tells : Tells D L Q) (d : DeskState D L Q) (disks : List (Option D))
     (books : List (Option BookState)) (logs : List (Option (LogState L))) (journal : Option (JournalState Q)) : Type 0 where
-  pub disks_are : AreHome (length d.begun.disks) d.held.device (DiskIsHome tells (standing_of tells d)) disks
-  pub books_are : AreHome (length d.begun.disks) d.held.book (BookIsHome (standing_of tells d)) books
-  pub logs_are : AreHome (length d.begun.logs) d.held.log (LogIsHome tells (standing_of tells d)) logs
+  pub disks_are : AreHome (length d.begun.disks) d.held.device
+      (DiskIsHome tells.disk tells.disk_faults d.begun d.last.entries) disks
+  pub books_are : AreHome (length d.begun.disks) d.held.book
+      (BookIsHome (openings tells.disk tells.disk_faults d.begun) d.last.entries) books
+  pub logs_are : AreHome (length d.begun.logs) d.held.log
+      (LogIsHome tells.log tells.log_faults d.begun d.last.entries) logs
   pub few : (length d.begun.disks ≤ 16) × (length d.begun.logs ≤ 4)
-  pub journal_was : JournalStands tells.posted (standing_of tells d) d.last
-  pub journal_is : (j : JournalState Q) → journal ≡ Some j → j ≡ d.last
-  pub journal_home : is_some journal ≡ not d.held.journal
+  pub journal_was : JournalStands tells.posted
+      (standing_of tells.disk tells.disk_faults tells.log tells.log_faults d) d.last
+  pub journal_is : journal ≡ (if d.held.journal then None else Some d.last)
+
+-- An emptied row keeps room for all that was in it.
+pub record KeepsRoom {A : Type 0} (count : ℕ) (items : List A) (capacity : ℕ) : Type 0 where
+  pub empty : items ≡ []
+  pub room : count ≤ capacity
 
 -- A run as it begins: made from this, and nothing was done yet.
 pub record IsFresh {D L Q : Type 0} (begun : Begun D L) (d : DeskState D L Q) : Type 0 where
@@ -123,13 +134,13 @@ pub record IsFresh {D L Q : Type 0} (begun : Begun D L) (d : DeskState D L Q) : 
   pub held_is : d.held ≡ nothing
   pub turns_are : d.device_turns ≡ 0
 
--- Each of the disks, and of the logs, that a run gives back stands for the whole journal.
-pub record DisksEnded {D L Q : Type 0} (tells : Tells D L Q) (d : DeskState D L Q) (disks : List D) : Type 0 where
+-- Each of the disks that a run gives back stands for the whole journal, and has no transfer under way.
+pub record DisksEnded {D L Q : Type 0} (told : D → Option Disk) (faults : D → ℕ) (d : DeskState D L Q) (disks : List D) : Type 0 where
   pub counted : length disks ≡ length d.begun.disks
-  pub each : (s : ℕ) (disk : D) → slice_get disks s ≡ Some disk →
-      DiskStands tells.disk tells.disk_faults ((standing_of tells d).disks s) d.last.entries s disk
+  pub each : (s : ℕ) (disk : D) → slice_get disks s ≡ Some disk → DiskIsHome told faults d.begun d.last.entries s disk
 
-pub record LogsEnded {D L Q : Type 0} (tells : Tells D L Q) (d : DeskState D L Q) (logs : List L) : Type 0 where
+-- So does each of the logs.
+pub record LogsEnded {D L Q : Type 0} (told : L → Option Log) (faults : L → ℕ) (d : DeskState D L Q) (logs : List L) : Type 0 where
   pub counted : length logs ≡ length d.begun.logs
   pub each : (handle : ℕ) (file : L) → slice_get logs handle ≡ Some file →
-      FileStands tells.log tells.log_faults ((standing_of tells d).logs handle) d.last.entries handle file
+      FileStands told faults (log_at_first told faults (slice_get d.begun.logs handle)) d.last.entries handle file

@@ -57,7 +57,8 @@ pub struct Parts<D, L, Q> {
 }
 
 impl<D: PageDisk, L: LogFile, Q: PostRoutine> Model for Desk<D, L, Q> {
-    ghost use Rattle.cc_turns.specs.Desk.{DeskState, DeskStands, made_from};
+    ghost use Rattle.std.specs.Prelude.{length, vec_capacity};
+    ghost use Rattle.cc_turns.specs.Desk.{DeskState, DeskStands, KeepsRoom, made_from};
 
     ghost Value = { DeskState D L Q };
 
@@ -77,7 +78,9 @@ impl<D: PageDisk, L: LogFile, Q: PostRoutine> Model for Desk<D, L, Q> {
           pass = d.pass;
           held = record { device = d.held.device; book = d.held.book; log = d.held.log; journal = d.held.journal };
           device_turns = d.device_turns;
-        }) d.disks.items d.books.items d.logs.items d.journal };
+        }) d.disks.items d.books.items d.logs.items d.journal
+        × KeepsRoom (length d.begun.value.disks.items) d.disk_room.items (vec_capacity d.disk_room)
+        × KeepsRoom (length d.begun.value.logs.items) d.log_room.items (vec_capacity d.log_room) };
 }
 
 impl<D: PageDisk, L: LogFile, Q: PostRoutine> Desk<D, L, Q> {
@@ -94,8 +97,7 @@ impl<D: PageDisk, L: LogFile, Q: PostRoutine> Turns for Desk<D, L, Q> {
     type Log = L;
     type Post = Q;
 
-    ghost standing = { standing_of
-      (record { disk = D.told; disk_faults = D.faults; log = L.told; log_faults = L.faults; posted = Q.posted }) };
+    ghost standing = { standing_of D.told D.faults L.told L.faults };
 
     fn me(&self) -> u32 {
         self.pass
@@ -144,10 +146,10 @@ impl<D: PageDisk, L: LogFile, Q: PostRoutine> Turns for Desk<D, L, Q> {
         requires held { self.old.held.log ≡ Some handle }
         requires no_journal { self.old.held.journal ≡ false }
         requires handle { log.handle ≡ handle }
-        requires stands { LogStands L.told L.faults ((standing_of
-            (record { disk = D.told; disk_faults = D.faults; log = L.told; log_faults = L.faults; posted = Q.posted }) self.old).logs handle) self.old.last.entries log }
-        ensures { standing_of (record { disk = D.told; disk_faults = D.faults; log = L.told; log_faults = L.faults; posted = Q.posted }) self.new
-            ≡ without_log (standing_of (record { disk = D.told; disk_faults = D.faults; log = L.told; log_faults = L.faults; posted = Q.posted }) self.old) }
+        requires stands { LogStands L.told L.faults
+            ((standing_of D.told D.faults L.told L.faults self.old).logs handle) self.old.last.entries log }
+        ensures { standing_of D.told D.faults L.told L.faults self.new
+            ≡ without_log (standing_of D.told D.faults L.told L.faults self.old) }
     {
         self.logs[usize::from(handle)] = Some(log);
         self.held.log = None;
@@ -161,11 +163,11 @@ impl<D: PageDisk, L: LogFile, Q: PostRoutine> Turns for Desk<D, L, Q> {
 
     fn give_journal(&mut self, journal: Journal<Q>)
         requires held { self.old.held.journal ≡ true }
-        requires adds { Adds (standing_of (record { disk = D.told; disk_faults = D.faults; log = L.told; log_faults = L.faults; posted = Q.posted }) self.old) journal.entries }
-        requires stands { JournalStands Q.posted (without_journal journal (standing_of
-            (record { disk = D.told; disk_faults = D.faults; log = L.told; log_faults = L.faults; posted = Q.posted }) self.old)) journal }
-        ensures { standing_of (record { disk = D.told; disk_faults = D.faults; log = L.told; log_faults = L.faults; posted = Q.posted }) self.new
-            ≡ without_journal journal (standing_of (record { disk = D.told; disk_faults = D.faults; log = L.told; log_faults = L.faults; posted = Q.posted }) self.old) }
+        requires adds { Adds (standing_of D.told D.faults L.told L.faults self.old) journal.entries }
+        requires stands { JournalStands Q.posted
+            (without_journal journal (standing_of D.told D.faults L.told L.faults self.old)) journal }
+        ensures { standing_of D.told D.faults L.told L.faults self.new
+            ≡ without_journal journal (standing_of D.told D.faults L.told L.faults self.old) }
     {
         self.last = Snapshot::of(&journal);
         self.journal = Some(journal);

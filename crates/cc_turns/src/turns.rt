@@ -5,7 +5,7 @@ ghost use Rattle.cc_book.specs.Book.{BookStands};
 ghost use Rattle.cc_model.specs.History.{history};
 ghost use Rattle.cc_model.specs.Images.{open_of};
 ghost use Rattle.cc_turns.specs.Standing.{Standing, nothing};
-ghost use Rattle.cc_turns.specs.Disk.{DiskStands};
+ghost use Rattle.cc_turns.specs.Disk.{DiskStands, opening_of};
 ghost use Rattle.cc_turns.specs.Log.{LogStands};
 ghost use Rattle.cc_turns.specs.Journal.{JournalStands};
 ghost use Rattle.cc_turns.specs.Takes.{Takes, Adds, with_device, with_book, with_log, with_journal, without_device, without_book, without_log, without_journal};
@@ -42,6 +42,8 @@ pub trait Turns {
         requires known { stream < (standing self.old).streams }
         requires free { (standing self.old).held ≡ nothing }
         ensures took { Takes (with_device stream) (standing self.old) (standing self.new) }
+        ensures opening { (standing self.new).setup.opening stream
+            ≡ opening_of ((standing self.new).disks stream).told }
         ensures stands { DiskStands Self.Disk.told Self.Disk.faults ((standing self.new).disks stream)
             (standing self.new).seen stream result }
         ensures at_rest { open_of (history (standing self.new).seen stream) ≡ None };
