@@ -20,11 +20,12 @@ use Rattle.cc_turns.specs.Disk.{DiskStands}
 use Rattle.cc_turns.specs.Log.{LogStands}
 use Rattle.cc_turns.specs.Journal.{JournalStands}
 use Rattle.cc_turns.specs.Takes.{Takes, Adds, without_journal}
-use Rattle.cc_turns.specs.Desk.{Begun, DeskState, DeskStands, Tells, AreHome, DiskIsHome, BookIsHome, LogIsHome, openings, disk_at_first, log_at_first, standing_of}
+use Rattle.cc_turns.specs.Places.{AreHome}
+use Rattle.cc_turns.specs.Desk.{Begun, DeskState, DeskStands, Tells, DiskIsHome, BookIsHome, LogIsHome, openings, disk_at_first, log_at_first, standing_of}
 use Rattle.cc_turns.proofs.BookGrows.{book_grows}
 use Rattle.cc_turns.proofs.DiskGrows.{disk_grows, open_of-quiet}
 use Rattle.cc_turns.proofs.LogGrows.{log_grows}
-use Rattle.cc_turns.proofs.Places.{taken, given, grow}
+use Rattle.cc_turns.proofs.Homes.{taken, given, grow}
 
 -- a turn is taken while nobody else goes on
 pub takes_alone : (now : Standing → Standing) (old new : Standing) → new ≡ now old → (now old).seen ≡ old.seen → Takes now old new
@@ -102,7 +103,7 @@ module _ {D L Q : Type 0} (tells : Tells D L Q) (d : DeskState D L Q) (disks : L
     journal_is = stands.journal_is;
   }
 
-  pub device_given : (at s : ℕ) (now : Option D) (disk : D) → at ≡ s → now ≡ Some disk → d.held.device ≡ Some s → DiskIsHome tells.disk tells.disk_faults d.begun d.last.entries s disk → DeskStands tells d disks books logs journal → DeskStands tells (record d { held = record d.held { device = None } }) (slice_set disks at now) books logs journal
+  pub device_given : (at s : ℕ) (now : Option D) (disk : D) → at ≡ s → now ≡ Some disk → d.held.device ≡ Some s → DiskIsHome tells.disk tells.disk_faults d.begun.disks d.last.entries s disk → DeskStands tells d disks books logs journal → DeskStands tells (record d { held = record d.held { device = None } }) (slice_set disks at now) books logs journal
   device_given at s now disk same put is is_home stands = record {
     disks_are = given_at (length d.begun.disks) d.held.device disks at s now disk same put is is_home stands.disks_are;
     books_are = stands.books_are;
@@ -123,7 +124,7 @@ module _ {D L Q : Type 0} (tells : Tells D L Q) (d : DeskState D L Q) (disks : L
     journal_is = stands.journal_is;
   }
 
-  pub book_given : (at s : ℕ) (now : Option BookState) (book : BookState) → at ≡ s → now ≡ Some book → d.held.book ≡ Some s → BookIsHome (openings tells.disk tells.disk_faults d.begun) d.last.entries s book → DeskStands tells d disks books logs journal → DeskStands tells (record d { held = record d.held { book = None } }) disks (slice_set books at now) logs journal
+  pub book_given : (at s : ℕ) (now : Option BookState) (book : BookState) → at ≡ s → now ≡ Some book → d.held.book ≡ Some s → BookIsHome (openings tells.disk tells.disk_faults d.begun.disks) d.last.entries s book → DeskStands tells d disks books logs journal → DeskStands tells (record d { held = record d.held { book = None } }) disks (slice_set books at now) logs journal
   book_given at s now book same put is is_home stands = record {
     disks_are = stands.disks_are;
     books_are = given_at (length d.begun.disks) d.held.book books at s now book same put is is_home stands.books_are;
@@ -144,7 +145,7 @@ module _ {D L Q : Type 0} (tells : Tells D L Q) (d : DeskState D L Q) (disks : L
     journal_is = stands.journal_is;
   }
 
-  pub log_given : (at s : ℕ) (now : Option (LogState L)) (log : LogState L) → at ≡ s → now ≡ Some log → d.held.log ≡ Some s → LogIsHome tells.log tells.log_faults d.begun d.last.entries s log → DeskStands tells d disks books logs journal → DeskStands tells (record d { held = record d.held { log = None } }) disks books (slice_set logs at now) journal
+  pub log_given : (at s : ℕ) (now : Option (LogState L)) (log : LogState L) → at ≡ s → now ≡ Some log → d.held.log ≡ Some s → LogIsHome tells.log tells.log_faults d.begun.logs d.last.entries s log → DeskStands tells d disks books logs journal → DeskStands tells (record d { held = record d.held { log = None } }) disks books (slice_set logs at now) journal
   log_given at s now log same put is is_home stands = record {
     disks_are = stands.disks_are;
     books_are = stands.books_are;
@@ -185,7 +186,7 @@ module _ {D L Q : Type 0} (tells : Tells D L Q) (d : DeskState D L Q) (disks : L
     })) stands.disks_are;
     books_are = grow (length d.begun.disks) d.held.book books (λ s book free home. rw adds.grew (record {
       stream_is = home.stream_is;
-      stands = book_grows adds.added d.last.entries s (openings tells.disk tells.disk_faults d.begun s) book (adds.held (Book s) free) home.stream_is home.stands;
+      stands = book_grows adds.added d.last.entries s (openings tells.disk tells.disk_faults d.begun.disks s) book (adds.held (Book s) free) home.stream_is home.stands;
     })) stands.books_are;
     logs_are = grow (length d.begun.logs) d.held.log logs (λ handle log free home. rw adds.grew (record {
       handle_is = home.handle_is;

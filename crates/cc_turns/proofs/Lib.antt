@@ -2,5 +2,7 @@
 pub mod BookGrows
 pub mod DiskGrows
 pub mod LogGrows
-pub mod Places
+pub mod Homes
 pub mod DeskSteps
+pub mod RowSteps
+pub mod Fresh

@@ -1,5 +1,5 @@
 -- What the turns of one thread keep.
-use Rattle.std.specs.Prelude.{◌≡◌, ◌↔◌, ℕ, ◌-◌, ◌≤◌, Bool, List, [], length, slice_get, if◌then◌else◌}
+use Rattle.std.specs.Prelude.{◌≡◌, ℕ, ◌-◌, ◌≤◌, Bool, List, [], length, slice_get, if◌then◌else◌, vec_capacity}
 use Rattle.std.specs.declared.option.Option.{Option}
 use Rattle.std.specs.declared.option.Option.TheVariants.{Some, None}
 use Rattle.cc_book.specs.Book.{BookState, BookStands}
@@ -16,6 +16,8 @@ use Rattle.cc_turns.specs.Standing.{Standing, Held, DiskAtFirst, LogAtFirst, not
 use Rattle.cc_turns.specs.Disk.{DiskStands, opening_of}
 use Rattle.cc_turns.specs.Log.{LogStands, FileStands}
 use Rattle.cc_turns.specs.Journal.{JournalStands}
+use Rattle.cc_turns.specs.Places.{AreHome, IsRoomFor}
+use Rattle.cc_turns.specs.declared.desk.Rows.{Rows}
 
 -- what a run was made from
 pub record Begun (D L : Type 0) : Type 0 where
@@ -42,8 +44,13 @@ log_at_first told faults None = record { told = None; faults = 0 }
 log_at_first told faults (Some log) = record { told = told log; faults = faults log }
 
 -- the opening pages of each stream
-abbrev pub openings : {D L : Type 0} → (D → Option Disk) → (D → ℕ) → Begun D L → ℕ → Option (ℕ → List ℕ)
-openings told faults begun s = opening_of (disk_at_first told faults (slice_get begun.disks s)).told
+abbrev pub openings : {D : Type 0} → (D → Option Disk) → (D → ℕ) → List D → ℕ → Option (ℕ → List ℕ)
+openings told faults disks s = opening_of (disk_at_first told faults (slice_get disks s)).told
+
+-- A journal with the limits that a run is made with, in which nothing stands.
+pub record IsNew {D L Q : Type 0} (begun : Begun D L) (j : JournalState Q) : Type 0 where
+  pub limits : (j.capacity ≡ begun.capacity) × (j.threshold ≡ begun.threshold) × (j.logs ≡ length begun.logs)
+  pub empty : (j.entries ≡ []) × (j.reserved ≡ 0) × (j.queue ≡ [])
 
 -- A desk as contracts see it: what the run was made from, the journal as it was last at home, the pass as which it
 -- acts, the turns that are held, and how often the turn of a disk was taken.
@@ -58,7 +65,7 @@ pub record DeskState (D L Q : Type 0) : Type 0 where
 abbrev pub standing_of : {D L Q : Type 0} → (D → Option Disk) → (D → ℕ) → (L → Option Log) → (L → ℕ) → DeskState D L Q → Standing
 standing_of told faults log_told log_faults d = record {
   setup = record {
-    opening = openings told faults d.begun;
+    opening = openings told faults d.begun.disks;
     logs = length d.begun.logs;
     capacity = d.begun.capacity;
     threshold = d.begun.threshold;
@@ -75,9 +82,9 @@ standing_of told faults log_told log_faults d = record {
 }
 
 -- A disk at home stands for its stream, with no transfer under way.
-pub record DiskIsHome {D L : Type 0} (told : D → Option Disk) (faults : D → ℕ) (begun : Begun D L) (past : List Entry)
+pub record DiskIsHome {D : Type 0} (told : D → Option Disk) (faults : D → ℕ) (disks : List D) (past : List Entry)
     (s : ℕ) (disk : D) : Type 0 where
-  pub stands : DiskStands told faults (disk_at_first told faults (slice_get begun.disks s)) past s disk
+  pub stands : DiskStands told faults (disk_at_first told faults (slice_get disks s)) past s disk
   pub at_rest : open_of (history past s) ≡ None
 
 -- A book at home stands for its stream.
@@ -86,16 +93,10 @@ pub record BookIsHome (opening : ℕ → Option (ℕ → List ℕ)) (past : List
   pub stands : BookStands (opening s) past book
 
 -- A log at home stands for its handle.
-pub record LogIsHome {D L : Type 0} (told : L → Option Log) (faults : L → ℕ) (begun : Begun D L) (past : List Entry)
+pub record LogIsHome {L : Type 0} (told : L → Option Log) (faults : L → ℕ) (logs : List L) (past : List Entry)
     (handle : ℕ) (log : LogState L) : Type 0 where
   pub handle_is : log.handle ≡ handle
-  pub stands : LogStands told faults (log_at_first told faults (slice_get begun.logs handle)) past log
-
--- Places for as many things as there are: just the one that is held is out, and each other is at home.
-pub record AreHome {A : Type 0} (count : ℕ) (held : Option ℕ) (IsHome : ℕ → A → Type 0) (places : List (Option A)) : Type 0 where
-  pub counted : length places ≡ count
-  pub home : (n : ℕ) (a : A) → slice_get places n ≡ Some (Some a) → IsHome n a
-  pub out : (n : ℕ) → (slice_get places n ≡ Some None) ↔ (held ≡ Some n)
+  pub stands : LogStands told faults (log_at_first told faults (slice_get logs handle)) past log
 
 -- what disks and logs tell, how often they failed, and whether a routine was posted
 pub record Tells (D L Q : Type 0) : Type 0 where
@@ -110,26 +111,27 @@ pub record Tells (D L Q : Type 0) : Type 0 where
 pub record DeskStands {D L Q : Type 0} (tells : Tells D L Q) (d : DeskState D L Q) (disks : List (Option D))
     (books : List (Option BookState)) (logs : List (Option (LogState L))) (journal : Option (JournalState Q)) : Type 0 where
   pub disks_are : AreHome (length d.begun.disks) d.held.device
-      (DiskIsHome tells.disk tells.disk_faults d.begun d.last.entries) disks
+      (DiskIsHome tells.disk tells.disk_faults d.begun.disks d.last.entries) disks
   pub books_are : AreHome (length d.begun.disks) d.held.book
-      (BookIsHome (openings tells.disk tells.disk_faults d.begun) d.last.entries) books
+      (BookIsHome (openings tells.disk tells.disk_faults d.begun.disks) d.last.entries) books
   pub logs_are : AreHome (length d.begun.logs) d.held.log
-      (LogIsHome tells.log tells.log_faults d.begun d.last.entries) logs
+      (LogIsHome tells.log tells.log_faults d.begun.logs d.last.entries) logs
   pub few : (length d.begun.disks ≤ 16) × (length d.begun.logs ≤ 4)
   pub journal_was : JournalStands tells.posted
       (standing_of tells.disk tells.disk_faults tells.log tells.log_faults d) d.last
   pub journal_is : journal ≡ (if d.held.journal then None else Some d.last)
 
--- An emptied row keeps room for all that was in it.
-pub record KeepsRoom {A : Type 0} (count : ℕ) (items : List A) (capacity : ℕ) : Type 0 where
-  pub empty : items ≡ []
-  pub room : count ≤ capacity
+-- Rows have room for all that a run is made from, and its journal is empty.
+pub record AreRowsFor {D L Q : Type 0} (begun : Begun D L) (rows : Rows D L Q) : Type 0 where
+  pub disks : IsRoomFor (length begun.disks) rows.disks.items (vec_capacity rows.disks)
+  pub books : IsRoomFor (length begun.disks) rows.books.items (vec_capacity rows.books)
+  pub logs : IsRoomFor (length begun.logs) rows.logs.items (vec_capacity rows.logs)
+  pub journal : IsNew begun rows.journal
 
 -- A run as it begins: made from this, and nothing was done yet.
 pub record IsFresh {D L Q : Type 0} (begun : Begun D L) (d : DeskState D L Q) : Type 0 where
   pub begun_is : d.begun ≡ begun
-  pub entries_are : d.last.entries ≡ []
-  pub reserved_is : d.last.reserved ≡ 0
+  pub journal_is : IsNew begun d.last
   pub pass_is : d.pass ≡ 0
   pub held_is : d.held ≡ nothing
   pub turns_are : d.device_turns ≡ 0
@@ -137,7 +139,7 @@ pub record IsFresh {D L Q : Type 0} (begun : Begun D L) (d : DeskState D L Q) : 
 -- Each of the disks that a run gives back stands for the whole journal, and has no transfer under way.
 pub record DisksEnded {D L Q : Type 0} (told : D → Option Disk) (faults : D → ℕ) (d : DeskState D L Q) (disks : List D) : Type 0 where
   pub counted : length disks ≡ length d.begun.disks
-  pub each : (s : ℕ) (disk : D) → slice_get disks s ≡ Some disk → DiskIsHome told faults d.begun d.last.entries s disk
+  pub each : (s : ℕ) (disk : D) → slice_get disks s ≡ Some disk → DiskIsHome told faults d.begun.disks d.last.entries s disk
 
 -- So does each of the logs.
 pub record LogsEnded {D L Q : Type 0} (told : L → Option Log) (faults : L → ℕ) (d : DeskState D L Q) (logs : List L) : Type 0 where

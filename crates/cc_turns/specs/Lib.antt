@@ -4,4 +4,5 @@ pub mod Disk
 pub mod Log
 pub mod Journal
 pub mod Takes
+pub mod Places
 pub mod Desk

@@ -7,12 +7,13 @@ ghost use Rattle.cc_turns.specs.Standing.{Standing, nothing};
 ghost use Rattle.cc_turns.specs.Log.{LogStands};
 ghost use Rattle.cc_turns.specs.Journal.{JournalStands};
 ghost use Rattle.cc_turns.specs.Takes.{Adds, without_log, without_journal};
-ghost use Rattle.cc_turns.specs.Desk.{DisksEnded, LogsEnded, IsFresh, made_from, standing_of};
+ghost use Rattle.cc_turns.specs.Desk.{AreRowsFor, DisksEnded, LogsEnded, IsFresh, made_from, standing_of};
 
+use crate::places;
 use crate::turns::Turns;
 use cc_book::Book;
-use cc_entry::{CcError, Entry, NoMemory, StreamId};
-use cc_journal::Journal;
+use cc_entry::{CcError, NoMemory, StreamId};
+use cc_journal::{Journal, Parts};
 use cc_log::LogTurn;
 use cc_traits::{LogFile, PageDisk, PostRoutine, Setup};
 use std::alloc::Global;
@@ -47,18 +48,18 @@ pub struct Desk<D: PageDisk, L: LogFile, Q: PostRoutine> {
     last: Snapshot<Journal<Q>>,
 }
 
-/// What a run gives back: its disks and logs in the order of the setup, its journal with the oldest entry first, and
-/// the routines that still wait with the ids of their deferrals, the head first.
-pub struct Parts<D, L, Q> {
-    pub disks: Vec<D>,
-    pub logs: Vec<L>,
-    pub journal: Vec<Entry>,
-    pub queued: Vec<(u64, Q)>,
+// rows with room for all that a run is made from, and its journal
+struct Rows<D, L, Q> {
+    journal: Journal<Q>,
+    books: Vec<Option<Book>>,
+    logs: Vec<Option<LogTurn<L>>>,
+    disks: Vec<Option<D>>,
 }
 
 impl<D: PageDisk, L: LogFile, Q: PostRoutine> Model for Desk<D, L, Q> {
     ghost use Rattle.std.specs.Prelude.{length, vec_capacity};
-    ghost use Rattle.cc_turns.specs.Desk.{DeskState, DeskStands, KeepsRoom, made_from};
+    ghost use Rattle.cc_turns.specs.Places.{IsRoomFor};
+    ghost use Rattle.cc_turns.specs.Desk.{DeskState, DeskStands, made_from};
 
     ghost Value = { DeskState D L Q };
 
@@ -79,16 +80,115 @@ impl<D: PageDisk, L: LogFile, Q: PostRoutine> Model for Desk<D, L, Q> {
           held = record { device = d.held.device; book = d.held.book; log = d.held.log; journal = d.held.journal };
           device_turns = d.device_turns;
         }) d.disks.items d.books.items d.logs.items d.journal
-        × KeepsRoom (length d.begun.value.disks.items) d.disk_room.items (vec_capacity d.disk_room)
-        × KeepsRoom (length d.begun.value.logs.items) d.log_room.items (vec_capacity d.log_room) };
+        × IsRoomFor (length d.begun.value.disks.items) d.disk_room.items (vec_capacity d.disk_room)
+        × IsRoomFor (length d.begun.value.logs.items) d.log_room.items (vec_capacity d.log_room) };
+}
+
+impl<D: PageDisk, L: LogFile, Q: PostRoutine> Rows<D, L, Q> {
+    fn new(alloc: Global, setup: &Setup<D, L>) -> Result<Rows<D, L, Q>, NoMemory>
+        ensures { IfOk result (λ rows. AreRowsFor (made_from setup.now) rows) }
+    {
+        let streams = setup.disks.len();
+        let logs = setup.logs.len();
+        Ok(Rows {
+            journal: Journal::new(alloc, setup.journal, setup.threshold, logs as u8)?,
+            books: Vec::with_capacity(alloc, streams)?,
+            logs: Vec::with_capacity(alloc, logs)?,
+            disks: Vec::with_capacity(alloc, streams)?,
+        })
+    }
 }
 
 impl<D: PageDisk, L: LogFile, Q: PostRoutine> Desk<D, L, Q> {
+    /// The desk of a run of which nothing happened yet, acting as pass 0. Where memory is wanting the setup comes
+    /// back.
+    pub fn new(
+        alloc: Global,
+        setup: Setup<D, L>,
+    ) -> Result<Desk<D, L, Q>, (Setup<D, L>, CcError)>
+        ensures fresh { IfOk result (λ desk. IsFresh (made_from setup) desk) }
+        ensures err { IfErr result (λ back. (back.0 ≡ setup) × (back.1 ≡ error.NoMemory)) }
+    {
+        match Rows::new(alloc, &setup) {
+            Ok(rows) => Ok(Desk::over(alloc, setup, rows)),
+            Err(NoMemory) => Err((setup, CcError::NoMemory)),
+        }
+    }
+
+    // The desk of a setup, over rows with room for it. It takes no memory.
+    fn over(alloc: Global, setup: Setup<D, L>, rows: Rows<D, L, Q>) -> Desk<D, L, Q>
+        requires { AreRowsFor (made_from setup) rows }
+        ensures { IsFresh (made_from setup) result }
+    {
+        let begun = Snapshot::of(&setup);
+        let Setup {
+            mut disks,
+            mut logs,
+            ..
+        } = setup;
+        let Rows {
+            journal,
+            books,
+            logs: log_places,
+            disks: disk_places,
+        } = rows;
+        let last = Snapshot::of(&journal);
+        Desk {
+            books: places::of_books(alloc, disks.len() as u8, books),
+            disks: places::out_of(&mut disks, disk_places),
+            logs: places::of_logs(&mut logs, log_places),
+            journal: Some(journal),
+            disk_room: disks,
+            log_room: logs,
+            pass: 0,
+            held: Held {
+                device: None,
+                book: None,
+                log: None,
+                journal: false,
+            },
+            device_turns: 0,
+            begun,
+            last,
+        }
+    }
+
     /// Acts as this pass from now on.
     pub fn act_as(&mut self, pass: u32)
         ensures { self.new ≡ record self.old { pass = pass } }
     {
         self.pass = pass;
+    }
+
+    /// Gives all back. It takes no memory.
+    pub fn end(self) -> Parts<D, L, Q>
+        requires { self.held ≡ nothing }
+        ensures journal { reverse result.journal.items ≡ self.last.entries }
+        ensures disks { DisksEnded D.told D.faults self result.disks.items }
+        ensures logs { LogsEnded L.told L.faults self result.logs.items }
+        ensures queued { map (λ waiting. waiting.0) result.queued.items
+            ≡ map (λ d. d.id) (queue self.last.entries) }
+    {
+        let Desk {
+            disks,
+            logs,
+            journal,
+            disk_room,
+            log_room,
+            books: _,
+            pass: _,
+            held: _,
+            device_turns: _,
+            begun: _,
+            last: _,
+        } = self;
+        let (journal, queued) = journal.unwrap().end();
+        Parts {
+            disks: places::back_to(disks, disk_room),
+            logs: places::back_to_logs(logs, log_room),
+            journal,
+            queued,
+        }
     }
 }
 

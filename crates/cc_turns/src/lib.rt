@@ -11,7 +11,8 @@
 #![tactic(auto)]
 
 mod desk;
+mod places;
 mod turns;
 
-pub use desk::{Desk, Parts};
+pub use desk::Desk;
 pub use turns::Turns;

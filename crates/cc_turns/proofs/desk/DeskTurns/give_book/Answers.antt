@@ -15,5 +15,5 @@ pub invariant_of-self : goal.invariant_of-self
 invariant_of-self g c =
     (book_given _ _ _ _ _ _ c.from.result c.args.stream (Some c.args.book) c.args.book (c.from.ensures ∙ c.number.ensures.same) refl
     (ap (λ d. d.held.book) c.self.view_is ∙ ap (λ held. held.book) c.requires.held)
-    (record { stream_is = c.requires.stream; stands = subst (λ d. BookStands (openings g.D.Told.told g.D.Told.faults d.begun c.args.stream) d.last.entries c.args.book) (sym c.self.view_is) c.requires.stands }) c.self.invariant.0,
+    (record { stream_is = c.requires.stream; stands = subst (λ d. BookStands (openings g.D.Told.told g.D.Told.faults d.begun.disks c.args.stream) d.last.entries c.args.book) (sym c.self.view_is) c.requires.stands }) c.self.invariant.0,
     c.self.invariant.1, c.self.invariant.2)

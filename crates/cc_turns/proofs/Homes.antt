@@ -8,7 +8,7 @@ use Rattle.std.proofs.Math.ListN.{length-set}
 use Rattle.std.proofs.lemmas.Bool.{eqb-true, cases_eq}
 use Rattle.std.proofs.lemmas.Option.{slice_get_read, slice_get_within}
 use Rattle.cc_turns.specs.Standing.{is_the}
-use Rattle.cc_turns.specs.Desk.{AreHome}
+use Rattle.cc_turns.specs.Places.{AreHome}
 
 -- what is put at a place is there, and the other places are as they were
 get-set_same : {A : Type 0} (xs : List A) (n : ℕ) (a : A) → n < length xs → slice_get (slice_set xs n a) n ≡ Some a

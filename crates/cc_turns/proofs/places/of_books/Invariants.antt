@@ -1,0 +1,13 @@
+use Rattle.std.proofs.Common.{◌≡◌, ℕ, ◌+◌, ◌<◌, ◌≤◌, true, None, Some, List, [], ◌∷◌, ◌++◌, length, map, reverse, drop, refl, sym, subst, ap, ◌∙◌, arith, rules, vec_len}
+use Rattle.std.specs.Prelude.{is_some, vec_capacity}
+use Rattle.std.specs.List.{list_all}
+use Rattle.std.specs.Prelude.{Option}
+use Rattle.cc_turns.specs.Places.{AreHome}
+use Rattle.cc_turns.specs.Desk.{BookIsHome}
+use Rattle.cc_turns.proofs.places.of_books.Given as goal
+
+abbrev pub invariant-loop-number : goal.invariant-loop-number
+invariant-loop-number l = record {
+  home : (opening : ℕ → Option (ℕ → List ℕ)) → AreHome l.number None (BookIsHome opening []) l.places.items;
+  capacity : vec_capacity l.places ≡ vec_capacity l.fn.places;
+}

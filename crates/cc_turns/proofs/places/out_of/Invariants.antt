@@ -1,0 +1,14 @@
+use Rattle.std.proofs.Common.{◌≡◌, ℕ, ◌+◌, ◌<◌, ◌≤◌, true, None, Some, List, [], ◌∷◌, ◌++◌, length, map, reverse, drop, refl, sym, subst, ap, ◌∙◌, arith, rules, vec_len}
+use Rattle.std.specs.Prelude.{is_some, vec_capacity}
+use Rattle.std.specs.List.{list_all}
+use Rattle.cc_turns.proofs.places.out_of.Given as goal
+
+abbrev pub invariant-loop-item : goal.invariant-loop-item
+invariant-loop-item g l = record {
+  moved : l.places.items ++ map (λ a. Some a) (reverse l.row.items) ≡ map (λ a. Some a) l.fn.row.items;
+  room : length l.row.items + length l.places.items ≤ vec_capacity l.places;
+  capacity : vec_capacity l.row ≡ vec_capacity l.fn.row;
+}
+
+abbrev pub decreases-loop-item : goal.decreases-loop-item
+decreases-loop-item g l = goal.left-loop-item g l
