@@ -32,11 +32,12 @@ loop-file-preserved g c =
         first_left c.args.row.now.items (reverse c.pop.new.self.items) (length c.loop-file.places.items) c.in-Some.file
         (sym (last_first _ _ c.in-Some.file c.in-Some.ensures.items) ∙ c.loop-file.invariant.left) in
     let more : length c.push_reserved.new.self.items ≡ length c.loop-file.places.items + 1 = longer _ _ (Some c.new.result) c.push_reserved.ensures.items in
+    let next : length c.push_reserved.new.self.items ≡ suc (length c.loop-file.places.items) = omega (arith, more) in
     record {
       home = rw c.push_reserved.ensures.items (pushed_home (length c.loop-file.places.items) _ c.loop-file.places.items c.new.result (longer _ _ (Some c.new.result) refl)
           (log_fresh g.L.LogFile.told g.L.LogFile.faults c.args.row.now.items (length c.loop-file.places.items) c.len-handle.result c.in-Some.file c.new.result
           first.0 (c.len-handle.ensures ∙ c.loop-file.places.ok.0) c.new.ensures.same c.new.ensures.stands) c.loop-file.invariant.home);
-      left = first.1 ∙ ap (λ n. drop n c.args.row.now.items) (omega (arith, more));
+      left = first.1 ∙ ap (λ n. drop n c.args.row.now.items) (sym next);
       counted = omega (arith, longer _ _ c.in-Some.file c.in-Some.ensures.items, more, c.loop-file.invariant.counted);
       room = c.push_reserved.ensures.capacity ∙ c.loop-file.invariant.room;
       capacity = c.pop.ensures.capacity ∙ c.loop-file.invariant.capacity;
