@@ -1,6 +1,5 @@
 -- A book goes on standing while others go on without its turn.
 use Rattle.std.specs.Prelude.{◌≡◌, ℕ, true, List, [], ◌∷◌, ◌++◌, Option, refl}
-use Rattle.std.proofs.Common.{sym}
 use Rattle.std.specs.List.{list_all}
 use Rattle.cc_entry.specs.declared.entry.End.{End}
 use Rattle.cc_entry.specs.declared.entry.Entry.{Entry}

@@ -1,27 +1,22 @@
 -- How the turns of one thread go on, by what is taken and given.
-use Rattle.std.specs.Prelude.{◌≡◌, ◌↔◌, ℕ, suc, ◌+◌, ◌-◌, ◌<◌, ◌≤◌, Bool, true, false, List, [], ◌∷◌, ◌++◌, length, slice_get, slice_set, slice_index_or, if◌then◌else◌}
+use Rattle.std.specs.Prelude.{◌≡◌, ℕ, ◌+◌, ◌-◌, ◌<◌, Bool, true, false, List, [], length, slice_get, slice_set, slice_index_or, if◌then◌else◌}
 use Rattle.std.specs.declared.option.Option.{Option}
 use Rattle.std.specs.declared.option.Option.TheVariants.{Some, None}
 use Rattle.std.proofs.Common.{refl, sym, subst, ap, ◌∙◌, arith}
 use Rattle.std.proofs.lemmas.Option.{slice_get_read, slice_get_within}
-use Rattle.cc_entry.specs.declared.entry.Entry.{Entry}
 use Rattle.cc_traits.specs.Disk.{Disk}
 use Rattle.cc_traits.specs.Log.{Log}
-use Rattle.cc_book.specs.Book.{BookState, BookStands}
+use Rattle.cc_book.specs.Book.{BookState}
 use Rattle.cc_journal.specs.Journal.{JournalState}
 use Rattle.cc_log.specs.Turn.{LogState}
-use Rattle.cc_model.specs.History.{history}
-use Rattle.cc_model.specs.Images.{open_of}
 use Rattle.cc_model.specs.Room.{reserved_in}
-use Rattle.cc_model.specs.Turns.{Turn, Device, Book, Log as log_turn, is_quiet}
+use Rattle.cc_model.specs.Turns.{Device, Book, Log as log_turn}
 use Rattle.cc_laws.proofs.TurnSteps.{is_quiet-none}
-use Rattle.cc_turns.specs.Standing.{Standing, Held, is_the}
-use Rattle.cc_turns.specs.Disk.{DiskStands}
-use Rattle.cc_turns.specs.Log.{LogStands}
+use Rattle.cc_turns.specs.Standing.{Standing}
 use Rattle.cc_turns.specs.Journal.{JournalStands}
 use Rattle.cc_turns.specs.Takes.{Takes, Adds, without_journal}
 use Rattle.cc_turns.specs.Places.{AreHome}
-use Rattle.cc_turns.specs.Desk.{Begun, DeskState, DeskStands, Tells, DiskIsHome, BookIsHome, LogIsHome, openings, disk_at_first, log_at_first, standing_of}
+use Rattle.cc_turns.specs.Desk.{DeskState, DeskStands, Tells, DiskIsHome, BookIsHome, LogIsHome, openings, disk_at_first, log_at_first, standing_of}
 use Rattle.cc_turns.proofs.BookGrows.{book_grows}
 use Rattle.cc_turns.proofs.DiskGrows.{disk_grows, open_of-quiet}
 use Rattle.cc_turns.proofs.LogGrows.{log_grows}
@@ -174,6 +169,7 @@ module _ {D L Q : Type 0} (tells : Tells D L Q) (d : DeskState D L Q) (disks : L
     where
       same_journal : (a b : JournalState Q) → Some a ≡ Some b → a ≡ b
       same_journal a b is = cc
+
       at_home : (t : Bool) → t ≡ false → (if t then None else Some d.last) ≡ Some d.last
       at_home t is = rw is refl
 

@@ -1,17 +1,13 @@
 -- A disk goes on standing while others go on without its turn.
-use Rattle.std.specs.Prelude.{◌≡◌, ℕ, ◌+◌, ◌≤◌, Bool, true, false, ◌&&◌, ◌==◌, List, [], ◌∷◌, ◌++◌, Contains, Option, refl}
+use Rattle.std.specs.Prelude.{◌≡◌, ℕ, true, false, List, [], ◌∷◌, ◌++◌, Option, refl}
 use Rattle.std.specs.declared.option.Option.TheVariants.{Some, None}
-use Rattle.std.proofs.Common.{sym, subst, ap, ◌∙◌}
-use Rattle.cc_entry.specs.declared.call.Call.{Call}
-use Rattle.cc_entry.specs.declared.call.Call.TheVariants as call
-use Rattle.cc_entry.specs.declared.reply.Reply.{Reply}
-use Rattle.cc_entry.specs.declared.reply.Outcome.{Outcome}
+use Rattle.std.proofs.Common.{sym, ap, ◌∙◌}
 use Rattle.cc_entry.specs.declared.entry.Entry.{Entry}
 use Rattle.cc_entry.specs.declared.entry.Entry.TheVariants as entry
-use Rattle.cc_traits.specs.Disk.{Disk, page_of, may_of}
+use Rattle.cc_traits.specs.Disk.{Disk, page_of}
 use Rattle.cc_traits.specs.Told.{Both}
-use Rattle.cc_model.specs.History.{Effect, Did, history}
-use Rattle.cc_model.specs.Images.{image, open_of, crash_pages}
+use Rattle.cc_model.specs.History.{Effect, history}
+use Rattle.cc_model.specs.Images.{open_of}
 use Rattle.cc_model.specs.Turns.{Device, needs, is_quiet}
 use Rattle.cc_laws.specs.Laws.{SameImages, SameCrash}
 use Rattle.cc_laws.proofs.KeptLaws.{SameImages-deviceless, SameCrash-deviceless}

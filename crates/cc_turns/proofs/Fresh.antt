@@ -1,5 +1,5 @@
 -- A run as it begins, and as it ends.
-use Rattle.std.specs.Prelude.{◌≡◌, ℕ, ◌+◌, ◌-◌, ◌≤◌, Bool, true, false, List, [], ◌∷◌, length, map, slice_get, Contains, if◌then◌else◌}
+use Rattle.std.specs.Prelude.{◌≡◌, ℕ, ◌≤◌, List, [], length, map, slice_get, Contains}
 use Rattle.std.specs.declared.option.Option.{Option}
 use Rattle.std.specs.declared.option.Option.TheVariants.{Some, None}
 use Rattle.std.specs.Option.{option_map}
@@ -7,7 +7,6 @@ use Rattle.std.proofs.Common.{refl, sym, subst, ap, ◌∙◌, arith}
 use Rattle.std.proofs.lemmas.List.{length-map}
 use Rattle.std.proofs.lemmas.List.Elements.{All-nil}
 use Rattle.std.proofs.lemmas.Option.{slice_get-map}
-use Rattle.cc_entry.specs.declared.entry.Entry.{Entry}
 use Rattle.cc_traits.specs.Disk.{Disk, page_of}
 use Rattle.cc_traits.specs.Log.{Log}
 use Rattle.cc_traits.specs.Told.{Both}
@@ -15,7 +14,6 @@ use Rattle.cc_traits.specs.declared.setup.Setup.{Setup}
 use Rattle.cc_book.specs.Book.{BookState}
 use Rattle.cc_effects.specs.Failures.{failures}
 use Rattle.cc_journal.specs.Journal.{JournalState}
-use Rattle.cc_journal.specs.Queue.{AllUnposted}
 use Rattle.cc_log.specs.Turn.{LogState, Stands}
 use Rattle.cc_model.specs.Allowed.{IsAllowed, IsAllowedSoFar}
 use Rattle.cc_model.specs.Covered.{IsCovered}
@@ -27,10 +25,10 @@ use Rattle.cc_model.specs.Legal.{IsLegal}
 use Rattle.cc_model.specs.Room.{reserved_in, stores_unfinished}
 use Rattle.cc_model.specs.Setup.{Setup as ModelSetup}
 use Rattle.cc_turns.specs.Standing.{nothing}
-use Rattle.cc_turns.specs.Disk.{DiskStands, HasGone}
-use Rattle.cc_turns.specs.Log.{LogStands, FileStands, log_failures}
+use Rattle.cc_turns.specs.Disk.{HasGone}
+use Rattle.cc_turns.specs.Log.{FileStands, log_failures}
 use Rattle.cc_turns.specs.Places.{AreHome, IsRoomFor}
-use Rattle.cc_turns.specs.Desk.{Begun, DeskState, DeskStands, Tells, DiskIsHome, BookIsHome, LogIsHome, DisksEnded, LogsEnded, IsNew, made_from, openings, disk_at_first, log_at_first}
+use Rattle.cc_turns.specs.Desk.{Begun, DeskState, DeskStands, Tells, DiskIsHome, BookIsHome, LogIsHome, DisksEnded, LogsEnded, IsNew, made_from, openings, log_at_first}
 
 -- the empty journal is good, and owes nothing
 good_none : (u : ModelSetup) → IsGood u []
@@ -136,13 +134,6 @@ logs_end {D} {L} {Q} told faults d places logs held are back = record {
   where
     ends : (handle : ℕ) (file : L) → (log : LogState L) × (slice_get places handle ≡ Some (Some log)) × (log.file ≡ file) → FileStands told faults (log_at_first told faults (slice_get d.begun.logs handle)) d.last.entries handle file
     ends handle file at = (at.0, (are.home handle at.0 at.1).stands, (are.home handle at.0 at.1).handle_is, at.2)
-
--- the journal that a run gives back is the last one
-pub journal_end : {Q : Type 0} (held : Bool) (journal : Option (JournalState Q)) (last j : JournalState Q) → held ≡ false → journal ≡ (if held then None else Some last) → journal ≡ Some j → j ≡ last
-journal_end held journal last j free was is = one j last (sym is ∙ was ∙ rw free refl)
-  where
-    one : {A : Type 0} (a b : A) → Some a ≡ Some b → a ≡ b
-    one a b same = cc
 
 -- nothing happened to any stream
 pub history_none : (s : ℕ) → history [] s ≡ []

@@ -1,12 +1,12 @@
 -- Places: what goes out, what comes home, and what goes on meanwhile.
-use Rattle.std.specs.Prelude.{◌≡◌, ◌≢◌, ◌↔◌, ◌⊎◌, ℕ, zero, suc, ◌<◌, ◌==◌, Bool, true, false, List, [], ◌∷◌, length, slice_get, slice_set, slice_index_or, if◌then◌else◌}
+use Rattle.std.specs.Prelude.{◌≡◌, ◌≢◌, ◌⊎◌, ℕ, zero, suc, ◌<◌, ◌==◌, Bool, true, false, List, [], ◌∷◌, length, slice_get, slice_set}
 use Rattle.std.specs.declared.option.Option.{Option}
 use Rattle.std.specs.declared.option.Option.TheVariants.{Some, None}
 use Rattle.std.proofs.Common.{refl, sym, subst, ap, ◌∙◌, arith}
-use Rattle.std.proofs.Math.Logic.{inl, inr, ⊎_elim}
+use Rattle.std.proofs.Math.Logic.{⊎_elim}
 use Rattle.std.proofs.Math.ListN.{length-set}
 use Rattle.std.proofs.lemmas.Bool.{eqb-true, cases_eq}
-use Rattle.std.proofs.lemmas.Option.{slice_get_read, slice_get_within}
+use Rattle.std.proofs.lemmas.Option.{slice_get_within}
 use Rattle.cc_turns.specs.Standing.{is_the}
 use Rattle.cc_turns.specs.Places.{AreHome}
 
@@ -55,9 +55,11 @@ taken {A} {IsHome} count n places within are = record {
   counted = length-set places n None ∙ are.counted;
   home = λ m a is. ⊎_elim (λ same. absurd (not_out _ a (subst (λ k. slice_get (slice_set places n None) k ≡ Some (Some a)) same is) here))
       (λ apart. are.home m a (sym (get-set_other places n m None apart) ∙ is)) (same_or_apart m n);
-  out = λ m. (λ is. ⊎_elim (λ same. ap Some (sym same))
-      (λ apart. absurd (no_number m ((are.out m).0 (sym (get-set_other places n m None apart) ∙ is)))) (same_or_apart m n),
-      λ is. subst (λ k. slice_get (slice_set places n None) k ≡ Some None) (some_same n m is) here);
+  out = λ m. (
+    λ is. ⊎_elim (λ same. ap Some (sym same))
+        (λ apart. absurd (no_number m ((are.out m).0 (sym (get-set_other places n m None apart) ∙ is)))) (same_or_apart m n),
+    λ is. subst (λ k. slice_get (slice_set places n None) k ≡ Some None) (some_same n m is) here,
+  );
 }
   where
     here : slice_get (slice_set places n None) n ≡ Some None
@@ -69,9 +71,11 @@ given {A} {IsHome} count n places a is_home are = record {
   counted = length-set places n (Some a) ∙ are.counted;
   home = λ m b is. ⊎_elim (λ same. subst (λ k. IsHome k b) (sym same) (subst (IsHome n) (one_there a b (sym here ∙ subst (λ k. slice_get (slice_set places n (Some a)) k ≡ Some (Some b)) same is)) is_home))
       (λ apart. are.home m b (sym (get-set_other places n m (Some a) apart) ∙ is)) (same_or_apart m n);
-  out = λ m. (λ is. ⊎_elim (λ same. absurd (not_out _ a here (subst (λ k. slice_get (slice_set places n (Some a)) k ≡ Some None) same is)))
-      (λ apart. absurd (apart (sym (some_same n m ((are.out m).0 (sym (get-set_other places n m (Some a) apart) ∙ is)))))) (same_or_apart m n),
-      λ is. absurd (no_number m is));
+  out = λ m. (
+    λ is. ⊎_elim (λ same. absurd (not_out _ a here (subst (λ k. slice_get (slice_set places n (Some a)) k ≡ Some None) same is)))
+        (λ apart. absurd (apart (sym (some_same n m ((are.out m).0 (sym (get-set_other places n m (Some a) apart) ∙ is)))))) (same_or_apart m n),
+    λ is. absurd (no_number m is),
+  );
 }
   where
     here : slice_get (slice_set places n (Some a)) n ≡ Some (Some a)

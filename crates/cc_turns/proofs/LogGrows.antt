@@ -1,15 +1,13 @@
 -- A log goes on standing while others go on without its turn.
-use Rattle.std.specs.Prelude.{◌≡◌, ℕ, suc, ◌+◌, ◌≤◌, Bool, true, false, ◌==◌, List, [], ◌∷◌, ◌++◌, Option, refl, if◌then◌else◌}
-use Rattle.std.proofs.Common.{sym, subst, ap, ◌∙◌}
+use Rattle.std.specs.Prelude.{◌≡◌, ℕ, true, false, List, [], ◌∷◌, ◌++◌, Option, refl}
+use Rattle.std.proofs.Common.{sym, ◌∙◌}
 use Rattle.cc_entry.specs.declared.entry.Entry.{Entry}
 use Rattle.cc_entry.specs.declared.entry.Entry.TheVariants as entry
 use Rattle.cc_traits.specs.Log.{Log}
-use Rattle.cc_traits.specs.Told.{Both}
-use Rattle.cc_model.specs.Logs.{flushed_to, floor_of}
 use Rattle.cc_model.specs.Turns.{Log as log_turn, needs, is_quiet}
 use Rattle.cc_laws.proofs.LogSteps.{flushed_to-quiet, floor_of-quiet}
 use Rattle.cc_laws.proofs.QuietSteps.{eqb-swapped, is_quiet-first, is_quiet-rest}
-use Rattle.cc_log.specs.Turn.{LogState, Stands, Holds, appended}
+use Rattle.cc_log.specs.Turn.{LogState, appended}
 use Rattle.cc_turns.specs.Standing.{LogAtFirst}
 use Rattle.cc_turns.specs.Log.{LogStands, log_failures, is_log_failure}
 

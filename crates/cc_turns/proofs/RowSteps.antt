@@ -1,15 +1,13 @@
 -- How a row moves out into places, and back.
-use Rattle.std.specs.Prelude.{◌≡◌, ◌⊎◌, ℕ, zero, suc, ◌+◌, ◌<◌, ◌≤◌, Bool, true, false, ◌&&◌, List, [], ◌∷◌, ◌++◌, length, map, reverse, drop, slice_get, is_some}
+use Rattle.std.specs.Prelude.{◌≡◌, ◌⊎◌, ℕ, zero, suc, ◌+◌, true, List, [], ◌∷◌, ◌++◌, length, map, reverse, drop, slice_get, is_some}
 use Rattle.std.specs.declared.option.Option.{Option}
 use Rattle.std.specs.declared.option.Option.TheVariants.{Some, None}
 use Rattle.std.specs.List.{list_all}
-use Rattle.std.specs.Option.{option_map}
 use Rattle.std.proofs.Common.{refl, sym, subst, ap, ◌∙◌, arith, append_assoc}
 use Rattle.std.proofs.Math.Logic.{inl, inr, ⊎_elim}
 use Rattle.std.proofs.lemmas.Bool.{and_parts}
-use Rattle.std.proofs.lemmas.List.{reverse-append, append-nil, map-append, length-append, length-map}
+use Rattle.std.proofs.lemmas.List.{reverse-append, append-nil, map-append, length-append}
 use Rattle.std.proofs.lemmas.List.Folds.{list_all-append}
-use Rattle.std.proofs.lemmas.Option.{slice_get-map}
 use Rattle.cc_turns.specs.Places.{AreHome}
 
 pub reverse_twice : {A : Type 0} (xs : List A) → reverse (reverse xs) ≡ xs
@@ -73,6 +71,7 @@ none_home {A} IsHome places empty = subst (λ ps. AreHome 0 None IsHome ps) (sym
   where
     nowhere : (o : Option A) → None ≡ Some o → ⊥
     nowhere o is = absurd (cc)
+
     no_number : (n : ℕ) → None ≡ Some n → ⊥
     no_number n is = absurd (cc)
 
@@ -89,14 +88,18 @@ pushed_home {A} {IsHome} count next places a more is_home are = record {
   counted = rw more (length-append places (Some a ∷ []) ∙ ap (λ n. n + 1) are.counted);
   home = λ n b is. ⊎_elim (λ same. are.home n b (sym same ∙ is))
       (λ last. subst (λ k. IsHome k b) (sym (last.0 ∙ are.counted)) (subst (IsHome count) (one a b (sym last.1 ∙ is)) is_home)) (get_pushed places (Some a) n);
-  out = λ n. (λ is. ⊎_elim (λ same. (are.out n).0 (sym same ∙ is)) (λ last. absurd (not_out a (sym last.1 ∙ is))) (get_pushed places (Some a) n),
-      λ is. absurd (no_number n is));
+  out = λ n. (
+    λ is. ⊎_elim (λ same. (are.out n).0 (sym same ∙ is)) (λ last. absurd (not_out a (sym last.1 ∙ is))) (get_pushed places (Some a) n),
+    λ is. absurd (no_number n is),
+  );
 }
   where
     one : (a b : A) → Some (Some a) ≡ Some (Some b) → a ≡ b
     one a b is = cc
+
     not_out : (a : A) → Some (Some a) ≡ Some None → ⊥
     not_out a is = absurd (cc)
+
     no_number : (n : ℕ) → None ≡ Some n → ⊥
     no_number n is = absurd (cc)
 
@@ -113,6 +116,7 @@ all_home count held places free are = each places (λ n is. no_number n (sym fre
   where
     no_number : (n : ℕ) → None ≡ Some n → ⊥
     no_number n is = absurd (cc)
+
     each : {A : Type 0} (ps : List (Option A)) → ((n : ℕ) → slice_get ps n ≡ Some None → ⊥) → list_all is_some ps ≡ true
     each [] home = refl
     each (None ∷ ps) home = absurd (home 0 refl)

@@ -5,7 +5,7 @@ use Rattle.std.specs.declared.option.Option.TheVariants.{Some, None}
 use Rattle.cc_entry.specs.declared.entry.Entry.{Entry}
 use Rattle.cc_traits.specs.Disk.{Disk, page_of, may_of}
 use Rattle.cc_traits.specs.Told.{Both}
-use Rattle.cc_model.specs.History.{Effect, Began, Ended, history}
+use Rattle.cc_model.specs.History.{Effect, Ended, history}
 use Rattle.cc_model.specs.Images.{image, open_of, crash_pages, Transfer}
 use Rattle.cc_model.specs.Sizes.{ended_ok}
 use Rattle.cc_effects.specs.Failures.{failures}

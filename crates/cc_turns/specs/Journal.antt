@@ -1,6 +1,5 @@
 -- What the journal stands for under its turn.
-use Rattle.std.specs.Prelude.{◌≡◌, ℕ, ◌+◌, ◌-◌, ◌≤◌, Bool, false, List, ◌++◌}
-use Rattle.cc_entry.specs.declared.entry.Entry.{Entry}
+use Rattle.std.specs.Prelude.{◌≡◌, ◌+◌, Bool}
 use Rattle.cc_journal.specs.Journal.{JournalState}
 use Rattle.cc_journal.specs.Queue.{AllUnposted}
 use Rattle.cc_model.specs.Good.{IsGood}

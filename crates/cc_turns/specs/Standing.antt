@@ -1,5 +1,5 @@
 -- What a pass knows: the run that it takes part in, what it has seen of the journal, and which turns it holds.
-use Rattle.std.specs.Prelude.{◌≡◌, ℕ, ◌==◌, Bool, true, false, List}
+use Rattle.std.specs.Prelude.{ℕ, ◌==◌, Bool, false, List}
 use Rattle.std.specs.declared.option.Option.{Option}
 use Rattle.std.specs.declared.option.Option.TheVariants.{Some, None}
 use Rattle.cc_entry.specs.declared.entry.Entry.{Entry}

@@ -9,7 +9,7 @@ use Rattle.cc_model.specs.Passes.{is_mine}
 use Rattle.cc_model.specs.Room.{reserved_in}
 use Rattle.cc_model.specs.Turns.{Turn, is_quiet}
 use Rattle.cc_effects.specs.Moments.{Others}
-use Rattle.cc_turns.specs.Standing.{Held, holds, Standing}
+use Rattle.cc_turns.specs.Standing.{holds, Standing}
 
 -- The others went on meanwhile, but nowhere that the pass holds a turn, and the pass placed nothing.
 pub record Grows (w : Standing) (seen : List Entry) : Type 0 where

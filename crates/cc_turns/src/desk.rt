@@ -102,10 +102,7 @@ impl<D: PageDisk, L: LogFile, Q: PostRoutine> Rows<D, L, Q> {
 impl<D: PageDisk, L: LogFile, Q: PostRoutine> Desk<D, L, Q> {
     /// The desk of a run of which nothing happened yet, acting as pass 0. Where memory is wanting the setup comes
     /// back.
-    pub fn new(
-        alloc: Global,
-        setup: Setup<D, L>,
-    ) -> Result<Desk<D, L, Q>, (Setup<D, L>, CcError)>
+    pub fn new(alloc: Global, setup: Setup<D, L>) -> Result<Desk<D, L, Q>, (Setup<D, L>, CcError)>
         ensures fresh { IfOk result (λ desk. IsFresh (made_from setup) desk) }
         ensures err { IfErr result (λ back. (back.0 ≡ setup) × (back.1 ≡ error.NoMemory)) }
     {
@@ -194,7 +191,9 @@ impl<D: PageDisk, L: LogFile, Q: PostRoutine> Desk<D, L, Q> {
 
 impl<D: PageDisk, L: LogFile, Q: PostRoutine> Turns for Desk<D, L, Q> {
     type Disk = D;
+
     type Log = L;
+
     type Post = Q;
 
     ghost standing = { standing_of D.told D.faults L.told L.faults };

@@ -19,7 +19,9 @@ use cc_traits::{LogFile, PageDisk, PostRoutine};
 /// The turns of one pass, a caller of the cache. Whoever holds a turn has what it is of to itself.
 pub trait Turns {
     type Disk: PageDisk;
+
     type Log: LogFile;
+
     type Post: PostRoutine;
 
     // What the pass knows.

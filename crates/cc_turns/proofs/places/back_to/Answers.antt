@@ -1,4 +1,4 @@
-use Rattle.std.proofs.Common.{◌≡◌, ℕ, ◌+◌, ◌<◌, ◌≤◌, true, None, Some, List, [], ◌∷◌, ◌++◌, length, map, reverse, drop, refl, sym, subst, ap, ◌∙◌, arith, rules, vec_len}
+use Rattle.std.proofs.Common.{◌≡◌, [], ◌∷◌, ◌++◌, length, ap, ◌∙◌, arith, rules}
 use Rattle.cc_turns.proofs.RowSteps.{back_begun, back_next, back_ended, at_last, at_rest, longer, no_items}
 use Rattle.cc_turns.proofs.places.back_to.Goals as goal
 
@@ -21,8 +21,13 @@ loop-place-preserved g c = record {
   home = at_rest _ _ c.in-Some.place c.in-Some.ensures.items c.loop-place.invariant.home;
   moved = rw c.push_reserved.ensures.items (back_next _ _ c.pop.new.self.items c.loop-place.row.items c.unwrap.result
       (c.in-Some.ensures.items ∙ ap (λ o. c.pop.new.self.items ++ o ∷ []) c.unwrap.ensures) c.loop-place.invariant.moved);
-  room = omega (arith, longer _ _ c.in-Some.place c.in-Some.ensures.items, longer _ _ c.unwrap.result c.push_reserved.ensures.items,
-      c.push_reserved.ensures.capacity, c.loop-place.invariant.room);
+  room = omega (
+    arith,
+    longer _ _ c.in-Some.place c.in-Some.ensures.items,
+    longer _ _ c.unwrap.result c.push_reserved.ensures.items,
+    c.push_reserved.ensures.capacity,
+    c.loop-place.invariant.room,
+  );
 }
 
 pub returns : goal.returns

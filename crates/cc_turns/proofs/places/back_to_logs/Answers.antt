@@ -1,4 +1,4 @@
-use Rattle.std.proofs.Common.{◌≡◌, ℕ, ◌+◌, ◌<◌, ◌≤◌, true, None, Some, List, [], ◌∷◌, ◌++◌, length, map, reverse, drop, refl, sym, subst, ap, ◌∙◌, arith, rules, vec_len}
+use Rattle.std.proofs.Common.{◌≡◌, Some, length, map, sym, ap, ◌∙◌, arith, rules}
 use Rattle.std.specs.Option.{option_map}
 use Rattle.cc_log.specs.Turn.{LogState}
 use Rattle.cc_turns.proofs.RowSteps.{back_begun, back_next, back_ended, mapped_last, at_last, at_rest, longer, no_items}
@@ -24,8 +24,13 @@ loop-place-preserved g c = record {
   moved = rw c.push_reserved.ensures.items (back_next _ _ _ c.loop-place.row.items c.end.result
       (mapped_last (option_map (λ (log : LogState g.row.L.Denot). log.file)) c.loop-place.places.items c.pop.new.self.items c.in-Some.place c.end.result c.in-Some.ensures.items
       (ap (option_map (λ (log : LogState g.row.L.Denot). log.file)) c.unwrap.ensures ∙ ap Some (sym c.end.ensures))) c.loop-place.invariant.moved);
-  room = omega (arith, longer _ _ c.in-Some.place c.in-Some.ensures.items, longer _ _ c.end.result c.push_reserved.ensures.items,
-      c.push_reserved.ensures.capacity, c.loop-place.invariant.room);
+  room = omega (
+    arith,
+    longer _ _ c.in-Some.place c.in-Some.ensures.items,
+    longer _ _ c.end.result c.push_reserved.ensures.items,
+    c.push_reserved.ensures.capacity,
+    c.loop-place.invariant.room,
+  );
 }
 
 pub returns : goal.returns

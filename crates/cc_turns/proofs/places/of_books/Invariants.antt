@@ -1,6 +1,5 @@
-use Rattle.std.proofs.Common.{◌≡◌, ℕ, ◌+◌, ◌<◌, ◌≤◌, true, None, Some, List, [], ◌∷◌, ◌++◌, length, map, reverse, drop, refl, sym, subst, ap, ◌∙◌, arith, rules, vec_len}
-use Rattle.std.specs.Prelude.{is_some, vec_capacity}
-use Rattle.std.specs.List.{list_all}
+use Rattle.std.proofs.Common.{◌≡◌, ℕ, None, List, []}
+use Rattle.std.specs.Prelude.{vec_capacity}
 use Rattle.std.specs.Prelude.{Option}
 use Rattle.cc_turns.specs.Places.{AreHome}
 use Rattle.cc_turns.specs.Desk.{BookIsHome}

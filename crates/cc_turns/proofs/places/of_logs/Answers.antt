@@ -1,4 +1,4 @@
-use Rattle.std.proofs.Common.{◌≡◌, ℕ, ◌+◌, ◌<◌, ◌≤◌, true, None, Some, List, [], ◌∷◌, ◌++◌, length, map, reverse, drop, refl, sym, subst, ap, ◌∙◌, arith, rules, vec_len}
+use Rattle.std.proofs.Common.{◌≡◌, ◌+◌, ◌<◌, None, Some, [], length, reverse, drop, refl, sym, subst, ap, ◌∙◌, arith, rules}
 use Rattle.std.proofs.Common.{suc}
 use Rattle.std.specs.Prelude.{slice_get}
 use Rattle.std.proofs.lemmas.List.{length-reverse}
@@ -29,15 +29,15 @@ push_reserved-requires g c =
 pub loop-file-preserved : goal.loop-file-preserved
 loop-file-preserved g c =
     let first : (slice_get c.args.row.now.items (length c.loop-file.places.items) ≡ Some c.in-Some.file) × (reverse c.pop.new.self.items ≡ drop (suc (length c.loop-file.places.items)) c.args.row.now.items) =
-        first_left c.args.row.now.items (reverse c.pop.new.self.items) (length c.loop-file.places.items) c.in-Some.file
-        (sym (last_first _ _ c.in-Some.file c.in-Some.ensures.items) ∙ c.loop-file.invariant.left) in
+    first_left c.args.row.now.items (reverse c.pop.new.self.items) (length c.loop-file.places.items) c.in-Some.file
+    (sym (last_first _ _ c.in-Some.file c.in-Some.ensures.items) ∙ c.loop-file.invariant.left) in
     let more : length c.push_reserved.new.self.items ≡ length c.loop-file.places.items + 1 = longer _ _ (Some c.new.result) c.push_reserved.ensures.items in
     let next : length c.push_reserved.new.self.items ≡ suc (length c.loop-file.places.items) = omega (arith, more) in
     record {
       home = rw c.push_reserved.ensures.items (pushed_home (length c.loop-file.places.items) _ c.loop-file.places.items c.new.result (longer _ _ (Some c.new.result) refl)
           (log_fresh g.L.LogFile.told g.L.LogFile.faults c.args.row.now.items (length c.loop-file.places.items) c.len-handle.result c.in-Some.file c.new.result
           first.0 (c.len-handle.ensures ∙ c.loop-file.places.ok.0) c.new.ensures.same c.new.ensures.stands) c.loop-file.invariant.home);
-      left = first.1 ∙ ap (λ n. drop n c.args.row.now.items) (sym next);
+      left = subst (λ n. reverse c.pop.new.self.items ≡ drop n c.args.row.now.items) (sym next) first.1;
       counted = omega (arith, longer _ _ c.in-Some.file c.in-Some.ensures.items, more, c.loop-file.invariant.counted);
       room = c.push_reserved.ensures.capacity ∙ c.loop-file.invariant.room;
       capacity = c.pop.ensures.capacity ∙ c.loop-file.invariant.capacity;

@@ -1,4 +1,4 @@
-use Rattle.std.proofs.Common.{◌≡◌, ℕ, ◌+◌, ◌<◌, ◌≤◌, true, None, Some, List, [], ◌∷◌, ◌++◌, length, map, reverse, drop, refl, sym, subst, ap, ◌∙◌, arith, rules, vec_len}
+use Rattle.std.proofs.Common.{◌≡◌, Some, length, ap, ◌∙◌, arith, rules}
 use Rattle.std.proofs.lemmas.List.{length-reverse}
 use Rattle.cc_turns.proofs.RowSteps.{out_begun, out_next, out_ended, longer, no_items}
 use Rattle.cc_turns.proofs.places.out_of.Goals as goal
@@ -18,8 +18,13 @@ pub loop-item-preserved : goal.loop-item-preserved
 loop-item-preserved g c = record {
   moved = rw c.push_reserved.ensures.items (out_next _ c.loop-item.row.items c.pop.new.self.items c.in-Some.item c.loop-item.places.items
       c.in-Some.ensures.items c.loop-item.invariant.moved);
-  room = omega (arith, longer _ _ c.in-Some.item c.in-Some.ensures.items, longer _ _ (Some c.in-Some.item) c.push_reserved.ensures.items,
-      c.push_reserved.ensures.capacity, c.loop-item.invariant.room);
+  room = omega (
+    arith,
+    longer _ _ c.in-Some.item c.in-Some.ensures.items,
+    longer _ _ (Some c.in-Some.item) c.push_reserved.ensures.items,
+    c.push_reserved.ensures.capacity,
+    c.loop-item.invariant.room,
+  );
   capacity = c.pop.ensures.capacity ∙ c.loop-item.invariant.capacity;
 }
 

@@ -1,6 +1,5 @@
-use Rattle.std.proofs.Common.{◌≡◌, ℕ, ◌+◌, ◌<◌, ◌≤◌, true, None, Some, List, [], ◌∷◌, ◌++◌, length, map, reverse, drop, refl, sym, subst, ap, ◌∙◌, arith, rules, vec_len}
-use Rattle.std.specs.Prelude.{is_some, vec_capacity}
-use Rattle.std.specs.List.{list_all}
+use Rattle.std.proofs.Common.{◌≡◌, ◌+◌, ◌≤◌, Some, ◌++◌, length, map, reverse}
+use Rattle.std.specs.Prelude.{vec_capacity}
 use Rattle.cc_turns.proofs.places.out_of.Given as goal
 
 abbrev pub invariant-loop-item : goal.invariant-loop-item

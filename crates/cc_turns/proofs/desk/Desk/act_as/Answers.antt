@@ -1,4 +1,3 @@
-use Rattle.std.proofs.Common.{◌≡◌, ℕ, ◌<◌, length, refl, sym, subst, ap, ◌∙◌, arith}
 use Rattle.cc_turns.proofs.DeskSteps.{acts_as}
 use Rattle.cc_turns.proofs.desk.Desk.act_as.Goals as goal
 

@@ -1,4 +1,4 @@
-use Rattle.std.proofs.Common.{◌≡◌, ℕ, ◌≤◌, None, List, [], length, refl, sym, subst, ap, ◌∙◌, arith}
+use Rattle.std.proofs.Common.{subst, ap, ◌∙◌}
 use Rattle.cc_turns.specs.Desk.{DisksEnded, LogsEnded}
 use Rattle.cc_turns.proofs.RowSteps.{all_home}
 use Rattle.cc_turns.proofs.Fresh.{disks_end, logs_end}

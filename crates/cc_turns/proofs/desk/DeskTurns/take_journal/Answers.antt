@@ -1,4 +1,4 @@
-use Rattle.std.proofs.Common.{◌≡◌, ℕ, ◌<◌, length, refl, sym, subst, ap, ◌∙◌, arith}
+use Rattle.std.proofs.Common.{refl, ap, ◌∙◌}
 use Rattle.cc_turns.specs.Takes.{with_journal}
 use Rattle.cc_turns.specs.Desk.{standing_of}
 use Rattle.cc_turns.proofs.DeskSteps.{journal_found, journal_taken, takes_alone}

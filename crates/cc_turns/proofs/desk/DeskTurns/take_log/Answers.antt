@@ -1,15 +1,17 @@
-use Rattle.std.proofs.Common.{◌≡◌, ℕ, ◌<◌, length, refl, sym, subst, ap, ◌∙◌, arith}
+use Rattle.std.proofs.Common.{◌<◌, length, refl, sym, subst, ap, ◌∙◌}
 use Rattle.cc_turns.specs.Takes.{with_log}
 use Rattle.cc_turns.specs.Desk.{standing_of}
 use Rattle.cc_turns.proofs.DeskSteps.{found, log_taken, takes_alone}
 use Rattle.cc_turns.proofs.desk.DeskTurns.take_log.Goals as goal
 
 pub invariant_of-self : goal.invariant_of-self
-invariant_of-self g c =
-    (log_taken _ _ _ _ _ _ c.from.result c.args.handle c.take.new.self c.from.ensures c.take.ensures.after
-    (subst (λ d. c.args.handle < length d.begun.logs) (sym c.self.view_is) c.requires.known)
-    (ap (λ d. d.held.log) c.self.view_is ∙ c.requires.no_log) c.self.invariant.0,
-    c.self.invariant.1, c.self.invariant.2)
+invariant_of-self g c = (
+  log_taken _ _ _ _ _ _ c.from.result c.args.handle c.take.new.self c.from.ensures c.take.ensures.after
+      (subst (λ d. c.args.handle < length d.begun.logs) (sym c.self.view_is) c.requires.known)
+      (ap (λ d. d.held.log) c.self.view_is ∙ c.requires.no_log) c.self.invariant.0,
+  c.self.invariant.1,
+  c.self.invariant.2,
+)
 
 pub returns-clause-took : goal.returns-clause-took
 returns-clause-took g c = takes_alone (with_log c.args.handle) _ _
