@@ -17,6 +17,7 @@ use Rattle.cc_turns.specs.Disk.{DiskStands, opening_of}
 use Rattle.cc_turns.specs.Log.{LogStands, FileStands}
 use Rattle.cc_turns.specs.Journal.{JournalStands}
 use Rattle.cc_turns.specs.Places.{AreHome, IsRoomFor}
+use Rattle.cc_turns.specs.declared.desk.Held.{Held as HeldTurns}
 use Rattle.cc_turns.specs.declared.desk.Rows.{Rows}
 
 -- what a run was made from
@@ -60,6 +61,16 @@ pub record DeskState (D L Q : Type 0) : Type 0 where
   pub pass : ℕ
   pub held : Held
   pub device_turns : ℕ
+
+-- the desk of these fields
+abbrev pub state_of : {D L Q : Type 0} → Setup D L → JournalState Q → ℕ → HeldTurns → ℕ → DeskState D L Q
+state_of begun last pass held device_turns = record {
+  begun = made_from begun;
+  last = last;
+  pass = pass;
+  held = record { device = held.device; book = held.book; log = held.log; journal = held.journal };
+  device_turns = device_turns;
+}
 
 -- What the pass knows, who has seen the whole journal: nobody else has anything under way.
 abbrev pub standing_of : {D L Q : Type 0} → (D → Option Disk) → (D → ℕ) → (L → Option Log) → (L → ℕ) → DeskState D L Q → Standing
@@ -105,6 +116,15 @@ pub record Tells (D L Q : Type 0) : Type 0 where
   pub log : L → Option Log
   pub log_faults : L → ℕ
   pub posted : Q → Bool
+
+abbrev pub tells_of : {D L Q : Type 0} → (D → Option Disk) → (D → ℕ) → (L → Option Log) → (L → ℕ) → (Q → Bool) → Tells D L Q
+tells_of told faults log_told log_faults posted = record {
+  disk = told;
+  disk_faults = faults;
+  log = log_told;
+  log_faults = log_faults;
+  posted = posted;
+}
 
 -- What the turns of one thread keep: all that is not held is at home, and stands for the journal as it was last at
 -- home; the journal is at home itself, or held.

@@ -59,27 +59,16 @@ struct Rows<D, L, Q> {
 impl<D: PageDisk, L: LogFile, Q: PostRoutine> Model for Desk<D, L, Q> {
     ghost use Rattle.std.specs.Prelude.{length, vec_capacity};
     ghost use Rattle.cc_turns.specs.Places.{IsRoomFor};
-    ghost use Rattle.cc_turns.specs.Desk.{DeskState, DeskStands, made_from};
+    ghost use Rattle.cc_turns.specs.Desk.{DeskState, DeskStands, state_of, tells_of};
 
     ghost Value = { DeskState D L Q };
 
-    ghost view = { λ d. record {
-      begun = made_from d.begun.value;
-      last = d.last.value;
-      pass = d.pass;
-      held = record { device = d.held.device; book = d.held.book; log = d.held.log; journal = d.held.journal };
-      device_turns = d.device_turns;
-    } };
+    ghost view = { λ d. state_of d.begun.value d.last.value d.pass d.held d.device_turns };
 
-    ghost invariant = { λ d. DeskStands
-        (record { disk = D.told; disk_faults = D.faults; log = L.told; log_faults = L.faults; posted = Q.posted })
-        (record {
-          begun = made_from d.begun.value;
-          last = d.last.value;
-          pass = d.pass;
-          held = record { device = d.held.device; book = d.held.book; log = d.held.log; journal = d.held.journal };
-          device_turns = d.device_turns;
-        }) d.disks.items d.books.items d.logs.items d.journal
+    ghost invariant = { λ d.
+        DeskStands (tells_of D.told D.faults L.told L.faults Q.posted)
+        (state_of d.begun.value d.last.value d.pass d.held d.device_turns)
+        d.disks.items d.books.items d.logs.items d.journal
         × IsRoomFor (length d.begun.value.disks.items) d.disk_room.items (vec_capacity d.disk_room)
         × IsRoomFor (length d.begun.value.logs.items) d.log_room.items (vec_capacity d.log_room) };
 }
