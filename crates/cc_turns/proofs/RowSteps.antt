@@ -16,7 +16,7 @@ reverse_twice (x ∷ xs) =
     ap reverse (reverse-append (x ∷ []) xs) ∙ reverse-append (reverse xs) (x ∷ []) ∙ ap (λ ys. x ∷ ys) (reverse_twice xs)
 
 -- the last item of a row is the first of the row turned round
-pub last_first : {A : Type 0} (row rest : List A) (x : A) → row ≡ rest ++ x ∷ [] → reverse row ≡ x ∷ reverse rest
+last_first : {A : Type 0} (row rest : List A) (x : A) → row ≡ rest ++ x ∷ [] → reverse row ≡ x ∷ reverse rest
 last_first row rest x is = ap reverse is ∙ reverse-append rest (x ∷ [])
 
 -- What moved out, and what is left of the row, which was turned round, are the row as it was.
@@ -104,11 +104,15 @@ pushed_home {A} {IsHome} count next places a more is_home are = record {
     no_number n is = absurd (cc)
 
 -- the first of what is left of a list
-pub first_left : {A : Type 0} (xs rest : List A) (n : ℕ) (x : A) → x ∷ rest ≡ drop n xs → (slice_get xs n ≡ Some x) × (rest ≡ drop (suc n) xs)
+first_left : {A : Type 0} (xs rest : List A) (n : ℕ) (x : A) → x ∷ rest ≡ drop n xs → (slice_get xs n ≡ Some x) × (rest ≡ drop (suc n) xs)
 first_left [] rest zero x is = absurd (cc)
 first_left [] rest (suc n) x is = absurd (cc)
 first_left (y ∷ xs) rest zero x is = (cc, cc)
 first_left (y ∷ xs) rest (suc n) x is = first_left xs rest n x is
+
+-- of a row turned round, whose rest is what is left of a list, the last item is the next of the list
+pub next_left : {A : Type 0} (xs row rest : List A) (n : ℕ) (x : A) → row ≡ rest ++ x ∷ [] → reverse row ≡ drop n xs → (slice_get xs n ≡ Some x) × (reverse rest ≡ drop (suc n) xs)
+next_left xs row rest n x is left = first_left xs (reverse rest) n x (sym (last_first row rest x is) ∙ left)
 
 -- where nothing is out, something is at each place
 pub all_home : {A : Type 0} {IsHome : ℕ → A → Type 0} (count : ℕ) (held : Option ℕ) (places : List (Option A)) → held ≡ None → AreHome count held IsHome places → list_all is_some places ≡ true

@@ -4,7 +4,7 @@ use Rattle.std.specs.Prelude.{slice_get}
 use Rattle.std.proofs.lemmas.List.{length-reverse}
 use Rattle.cc_turns.specs.Places.{AreHome}
 use Rattle.cc_turns.specs.Desk.{LogIsHome}
-use Rattle.cc_turns.proofs.RowSteps.{reverse_twice, last_first, first_left, none_home, pushed_home, longer, no_items}
+use Rattle.cc_turns.proofs.RowSteps.{reverse_twice, next_left, none_home, pushed_home, longer, no_items}
 use Rattle.cc_turns.proofs.Fresh.{log_fresh}
 use Rattle.cc_turns.proofs.places.of_logs.Goals as goal
 
@@ -29,8 +29,8 @@ push_reserved-requires g c =
 pub loop-file-preserved : goal.loop-file-preserved
 loop-file-preserved g c =
     let first : (slice_get c.args.row.now.items (length c.loop-file.places.items) ≡ Some c.in-Some.file) × (reverse c.pop.new.self.items ≡ drop (suc (length c.loop-file.places.items)) c.args.row.now.items) =
-    first_left c.args.row.now.items (reverse c.pop.new.self.items) (length c.loop-file.places.items) c.in-Some.file
-    (sym (last_first _ _ c.in-Some.file c.in-Some.ensures.items) ∙ c.loop-file.invariant.left) in
+    next_left c.args.row.now.items c.loop-file.row.items c.pop.new.self.items (length c.loop-file.places.items) c.in-Some.file
+        c.in-Some.ensures.items c.loop-file.invariant.left in
     let more : length c.push_reserved.new.self.items ≡ length c.loop-file.places.items + 1 = longer _ _ (Some c.new.result) c.push_reserved.ensures.items in
     let next : length c.push_reserved.new.self.items ≡ suc (length c.loop-file.places.items) = omega (arith, more) in
     record {
