@@ -1,29 +1,30 @@
 -- What is known of a done call with which the journal is good, for the parts of a book.
-use Rattle.std.specs.Prelude.{◌≡◌, ℕ, suc, ◌+◌, ◌<◌, ◌≤◌, ◌^◌, Bool, true, false, ◌||◌, List, ◌∷◌, length, Option, None, Some, refl}
+use Rattle.std.specs.Prelude.{◌≡◌, ℕ, suc, ◌+◌, ◌<◌, ◌≤◌, ◌^◌, Bool, true, false, List, ◌∷◌, length, Option, None, Some, refl}
 use Rattle.std.proofs.Common.{ap, sym, subst, ◌∙◌, arith}
 use Rattle.cc_entry.specs.Place.{File}
+use Rattle.cc_entry.specs.declared.place.FileSizes.{FileSizes}
 use Rattle.cc_entry.specs.declared.call.Call.{Call}
 use Rattle.cc_entry.specs.declared.call.Call.TheVariants as call
 use Rattle.cc_entry.specs.declared.entry.Entry.{Entry}
 use Rattle.cc_entry.specs.declared.reply.Reply.{Reply}
+use Rattle.cc_model.specs.Allowed.{IsAllowedSoFar}
 use Rattle.cc_model.specs.History.{Effect, Did, history}
-use Rattle.cc_events.specs.Events.{truncation_by}
-use Rattle.cc_model.specs.Objects.{truncation}
+use Rattle.cc_model.specs.Holds.{holds_of, id_of}
 use Rattle.cc_model.specs.Passes.{calls_of}
 use Rattle.cc_model.specs.Setup.{Setup}
 use Rattle.cc_model.specs.Touches.{size_of, is_mapped}
-use Rattle.cc_laws.proofs.HoldSteps.{changes_holds}
-use Rattle.cc_laws.proofs.MapSteps.{is_mapped-opens}
-use Rattle.cc_model.specs.Holds.{Hold}
+use Rattle.cc_bcb.specs.declared.holds.Hold.{Hold}
 use Rattle.cc_holds.specs.Done.{MakesAbove, written_end}
-use Rattle.cc_holds.specs.Makes.{row_made, zeroed_end}
+use Rattle.cc_holds.specs.Makes.{zeroed_end}
+use Rattle.cc_holds.specs.Stands.{HoldsStand}
+use Rattle.cc_holds.proofs.RowsMade.{makes-above}
 use Rattle.cc_stream.specs.Stream.{StreamStands}
 use Rattle.cc_ahead.specs.Kept.{PrivateStands}
-use Rattle.cc_holds.specs.Stands.{HoldsStand}
-use Rattle.cc_content.specs.Contents.{ContentsStand}
-use Rattle.cc_content.specs.Following.{MayFollow, truncated_by, takes_memory}
+use Rattle.cc_content.specs.Contents.{Contents, ContentsStand}
+use Rattle.cc_content.specs.Following.{MayFollow, IsFollowing, IsFollowingWrite, truncated_by}
 use Rattle.cc_content.proofs.DoneFacts.{IsDone, IsDone-good, history-called, written-fits, zeroed-fits, map-resizes, map-writes, map-zeroes, map-stores, map-stamps, map-discards, map-looks}
-use Rattle.cc_book.specs.Book.{BookState, BookStands, StandsFor, MayDo, done, is_plain, opens}
+use Rattle.cc_images.specs.Images.{ImagesStand}
+use Rattle.cc_book.specs.Book.{BookState, BookStands, StandsFor, MayDo, IsDoing, done}
 
 below : (n : ℕ) → n ≤ 2 ^ 63 → n < 2 ^ 64
 below n within = omega arith
@@ -41,93 +42,120 @@ module _ (past : List Entry) (h : List Effect) (pass : ℕ) (reply : Reply) wher
   written-below (call.PinnedWrite hold at bytes) done = below (at + length bytes) (written-fits past h pass (call.PinnedWrite hold at bytes) reply done refl)
   written-below other done = omega arith
 
-  or-true : (b : Bool) → (b || true) ≡ true
-  or-true true = refl
-  or-true false = refl
-
-  or-false : (b : Bool) → (b || false) ≡ b
-  or-false true = refl
-  or-false false = refl
-
-  -- there is a map after a call where there was one before, or where the call makes it
-  pub mapped-plain : (call : Call) → IsDone past h pass call reply → is_plain call ≡ true → (is_mapped h || opens call) ≡ is_mapped (Did pass call reply ∷ h)
-  mapped-plain (call.Initialise file sizes quota temporary) done plain = or-true (is_mapped h) ∙ sym (is_mapped-opens pass (call.Initialise file sizes quota temporary) reply h refl)
-  mapped-plain (call.Uninitialise file truncate) done plain = absurd (cc)
-  mapped-plain (call.CopyWrite file at bytes) done plain = or-false (is_mapped h) ∙ sym (map-writes past h pass (call.CopyWrite file at bytes) reply done refl)
-  mapped-plain (call.PinnedWrite hold at bytes) done plain = absurd (cc)
-  mapped-plain (call.MdlStore hold at bytes) done plain = or-false (is_mapped h) ∙ sym (map-writes past h pass (call.MdlStore hold at bytes) reply done refl)
-  mapped-plain (call.Zero file span) done plain = or-false (is_mapped h) ∙ sym (map-zeroes past h pass (call.Zero file span) reply done refl)
-  mapped-plain (call.PreparePin file at len true exclusive) done plain = or-false (is_mapped h) ∙ sym (map-zeroes past h pass (call.PreparePin file at len true exclusive) reply done refl)
-  mapped-plain (call.PreparePin file at len false exclusive) done plain = or-false (is_mapped h) ∙ sym (map-looks past h pass (call.PreparePin file at len false exclusive) reply done refl)
-  mapped-plain (call.NcStore file page bytes) done plain = or-false (is_mapped h) ∙ sym (map-stores past h pass (call.NcStore file page bytes) reply done refl)
-  mapped-plain (call.SetSizes file allocation size) done plain = or-false (is_mapped h) ∙ sym (map-resizes past h pass (call.SetSizes file allocation size) reply done refl)
-  mapped-plain (call.SetDirty hold lsn) done plain = or-false (is_mapped h) ∙ sym (map-stamps past h pass (call.SetDirty hold lsn) reply done refl)
-  mapped-plain (call.Discard file span) done plain = or-false (is_mapped h) ∙ sym (map-discards past h pass (call.Discard file span) reply done refl)
-  mapped-plain other done plain = or-false (is_mapped h) ∙ sym (map-looks past h pass other reply done refl)
-
--- a call that is no uninitialise sets no size as one
-pub truncates-none : (h : List Effect) (call : Call) → is_plain call ≡ true → truncated_by h call ≡ None
-truncates-none h (call.Uninitialise file truncate) plain = absurd (cc)
-truncates-none h other plain = refl
-
--- a call for which memory may be wanting, and that is no pinned write, changes no hold
-pub holds-kept : (call : Call) → is_plain call ≡ true → takes_memory call ≡ true → changes_holds call ≡ false
-holds-kept (call.Initialise file sizes quota temporary) plain takes = refl
-holds-kept (call.SetSizes file allocation size) plain takes = refl
-holds-kept (call.CopyWrite file at bytes) plain takes = refl
-holds-kept (call.PinnedWrite hold at bytes) plain takes = absurd (cc)
-holds-kept (call.MdlStore hold at bytes) plain takes = refl
-holds-kept (call.NcStore file page bytes) plain takes = refl
-holds-kept other plain takes = absurd (cc)
+  -- a call that is no initialise and no uninitialise neither makes a map nor lets one go
+  pub mapped-kept : (it : Call) → IsDone past h pass it reply → ((file : File) (sizes : FileSizes) (quota : ℕ) (temporary : Bool) → it ≡ call.Initialise file sizes quota temporary → ⊥) → ((file : File) (truncate : Option ℕ) → it ≡ call.Uninitialise file truncate → ⊥) → is_mapped h ≡ is_mapped (Did pass it reply ∷ h)
+  mapped-kept (call.Initialise file sizes quota temporary) done opens closes = absurd (opens file sizes quota temporary refl)
+  mapped-kept (call.Uninitialise file truncate) done opens closes = absurd (closes file truncate refl)
+  mapped-kept (call.CopyWrite file at bytes) done opens closes = sym (map-writes past h pass (call.CopyWrite file at bytes) reply done refl)
+  mapped-kept (call.PinnedWrite hold at bytes) done opens closes = sym (map-writes past h pass (call.PinnedWrite hold at bytes) reply done refl)
+  mapped-kept (call.MdlStore hold at bytes) done opens closes = sym (map-writes past h pass (call.MdlStore hold at bytes) reply done refl)
+  mapped-kept (call.Zero file span) done opens closes = sym (map-zeroes past h pass (call.Zero file span) reply done refl)
+  mapped-kept (call.PreparePin file at len true exclusive) done opens closes = sym (map-zeroes past h pass (call.PreparePin file at len true exclusive) reply done refl)
+  mapped-kept (call.PreparePin file at len false exclusive) done opens closes = sym (map-looks past h pass (call.PreparePin file at len false exclusive) reply done refl)
+  mapped-kept (call.NcStore file page bytes) done opens closes = sym (map-stores past h pass (call.NcStore file page bytes) reply done refl)
+  mapped-kept (call.SetSizes file allocation size) done opens closes = sym (map-resizes past h pass (call.SetSizes file allocation size) reply done refl)
+  mapped-kept (call.SetDirty hold lsn) done opens closes = sym (map-stamps past h pass (call.SetDirty hold lsn) reply done refl)
+  mapped-kept (call.Discard file span) done opens closes = sym (map-discards past h pass (call.Discard file span) reply done refl)
+  mapped-kept other done opens closes = sym (map-looks past h pass other reply done refl)
 
 -- what is known of a done call that may be placed on the past
 pub done-may : {u : Setup} {past : List Entry} {pass : ℕ} {call : Call} {reply : Reply} {b : BookState} → MayDo u past pass call reply b → IsDone past (history past b.stream) pass call reply
 done-may {u} {past} {pass} {call} {reply} {b} may = IsDone-good u past pass (suc (calls_of past pass)) b.stream call reply may.good
 
--- a book that stands for the history with the call stands for the journal with it
-pub stands-called : (opening : Option (ℕ → List ℕ)) (past : List Entry) (pass s : ℕ) (call : Call) (reply : Reply) (b : BookState) → b.stream ≡ s → StandsFor opening (Did pass call reply ∷ history past s) b → BookStands opening (done pass past s call reply ∷ past) b
-stands-called opening past pass s call reply b same stands =
+-- a book that stands for the history with the call, and whose images followed, stands for the journal with it
+pub stands-called : (opening : Option (ℕ → List ℕ)) (past : List Entry) (pass s : ℕ) (call : Call) (reply : Reply) (b new : BookState) → new ≡ record b { images = new.images } → b.stream ≡ s → StandsFor opening (Did pass call reply ∷ history past s) b → ImagesStand (Did pass call reply ∷ history past b.stream) new.images → BookStands opening (done pass past s call reply ∷ past) new
+stands-called opening past pass s call reply b new same here stands images =
     let is = history-called past pass (suc (calls_of past pass)) s call reply in
-    record {
-      state_is = rw (same, is) stands.state_is;
-      maps_are = rw (same, is) stands.maps_are;
-      holds_are = rw (same, is) stands.holds_are;
-      contents_are = rw (same, is) stands.contents_are;
-    }
+    let images_here = subst (λ n. ImagesStand (Did pass call reply ∷ history past n) new.images) here images in
+    subst (λ (x : BookState). BookStands opening (done pass past s call reply ∷ past) x) (sym same)
+    (record {
+      state_is = rw (here, is) stands.state_is;
+      maps_are = rw (here, is) stands.maps_are;
+      holds_are = rw (here, is) stands.holds_are;
+      contents_are = rw (here, is) stands.contents_are;
+      images_are = rw (here, is) images_here;
+    })
 
--- the contents may follow the call
-pub may-follow : {u : Setup} {past : List Entry} {pass : ℕ} {call : Call} {reply : Reply} {b : BookState} {size : ℕ} {mapped : Bool} → is_plain call ≡ true → size ≡ size_of (history past b.stream) → mapped ≡ (is_mapped (history past b.stream) || opens call) → MayDo u past pass call reply b → MayFollow u past pass (suc (calls_of past pass)) b.stream call reply b.contents size None mapped
-may-follow {u} {past} {pass} {call} {reply} {b} plain size mapped may =
-    let h = history past b.stream in
-    record {
-      good = may.good;
-      stands = may.stands.contents_are;
-      size_is = size;
-      truncation_is = sym (truncates-none h call plain);
-      mapped_is = mapped ∙ (mapped-plain past h pass reply call (done-may may) plain ∙ sym (ap is_mapped (history-called past pass (suc (calls_of past pass)) b.stream call reply)));
-    }
-
--- what is set for the stream, and its private maps, beside holds and contents that stand
-pub stands-set : (opening : Option (ℕ → List ℕ)) (h : List Effect) (new old : BookState) → new ≡ record old { state = new.state; maps = new.maps } → StreamStands h new.state → PrivateStands h new.maps → HoldsStand h old.holds → ContentsStand opening h old.contents → StandsFor opening h new
-stands-set opening h new old same state maps holds contents = record {
-  state_is = state;
-  maps_are = maps;
-  holds_are = subst (HoldsStand h) (sym (ap (λ (x : BookState). x.holds) same)) holds;
-  contents_are = subst (ContentsStand opening h) (sym (ap (λ (x : BookState). x.contents) same)) contents;
-}
-
--- the size that an uninitialise sets hangs on its object alone
-pub truncation-by : (opened : List ℕ) (size : ℕ) (file : File) (truncate : Option ℕ) → truncation opened size file truncate ≡ truncation_by file.object truncate opened size
-truncation-by opened size file None = refl
-truncation-by opened size file (Some to) = refl
-
--- a pinned write makes no hold
-pub makes-none : (it : Call) (hold at : ℕ) (bytes : List ℕ) (id : ℕ) (holds : List Hold) → it ≡ call.PinnedWrite hold at bytes → MakesAbove it id holds
-makes-none it hold at bytes id holds is row made = absurd (no (subst (λ (k : Call). row_made k id holds ≡ Some row) is made))
+-- an uninitialise is filed under the stream of its file
+pub closes-here : {u : Setup} {past : List Entry} {pass : ℕ} {file : File} {truncate : Option ℕ} {reply : Reply} {b : BookState} → MayDo u past pass (call.Uninitialise file truncate) reply b → file.stream ≡ b.stream
+unfolding IsAllowedSoFar
+closes-here may = same (may.good.allowed.1.filed)
   where
-    no : None ≡ Some row → ⊥
-    no e = absurd (cc)
+    same : {s t : ℕ} → Some s ≡ Some t → t ≡ s
+    same e = cc
+
+-- A done call that a book follows, and the book's parts before it.
+module _ {it : Call} {reply : Reply} {old : BookState} (b : BookState) (same : b ≡ old) where
+  parted : (u : Setup) (past : List Entry) (pass : ℕ) → MayDo u past pass it reply old → MayDo u past pass it reply b
+  parted u past pass may = subst (λ (x : BookState). MayDo u past pass it reply x) (sym same) may
+
+  -- the contents may follow it
+  pub may-follow : {mapped : Bool} (size : ℕ) (cut : Option ℕ) → ((h : List Effect) → StreamStands h b.state → size ≡ size_of h) → ((h : List Effect) → StreamStands h b.state → cut ≡ truncated_by h it) → (u : Setup) (past : List Entry) (pass : ℕ) → MayDo u past pass it reply old → mapped ≡ is_mapped (Did pass it reply ∷ history past old.stream) → MayFollow u past pass (suc (calls_of past pass)) b.stream it reply b.contents size cut mapped
+  may-follow {mapped} size cut sized cuts u past pass given mapped_is =
+      let may = parted u past pass given in
+      record {
+        good = may.good;
+        stands = may.stands.contents_are;
+        size_is = sized (history past b.stream) may.stands.state_is;
+        truncation_is = cuts (history past b.stream) may.stands.state_is;
+        mapped_is =
+            subst (λ (x : BookState). mapped ≡ is_mapped (Did pass it reply ∷ history past x.stream)) (sym same) mapped_is
+            ∙ sym (ap is_mapped (history-called past pass (suc (calls_of past pass)) b.stream it reply));
+      }
+
+  pub is-following : {mapped : Bool} (size : ℕ) (cut : Option ℕ) → ((h : List Effect) → StreamStands h b.state → size ≡ size_of h) → ((h : List Effect) → StreamStands h b.state → cut ≡ truncated_by h it) → IsDoing it reply mapped old → IsFollowing it reply b.contents size cut mapped
+  is-following size cut sized cuts d =
+      record { u = d.u; past = d.past; pass = d.pass; nth = suc (calls_of d.past d.pass); s = b.stream; may = may-follow size cut sized cuts d.u d.past d.pass d.may d.mapped_is }
+
+  -- what it zeroes or writes through a hold ends below 2^64
+  pub ends-below : {mapped : Bool} → IsDoing it reply mapped old → (zeroed_end it < 2 ^ 64) × (written_end it < 2 ^ 64)
+  ends-below d =
+      let may = parted d.u d.past d.pass d.may in
+      (zeroed-below d.past (history d.past b.stream) d.pass reply it (done-may may), written-below d.past (history d.past b.stream) d.pass reply it (done-may may))
+
+  -- the book stands for it where its holds and its contents do, and the rest was set
+  pub stands-done : (new : BookState) (holds : List Hold) (contents : Contents) (was_mapped : Bool)
+      → new ≡ record { stream = b.stream; state = new.state; maps = new.maps; holds = holds; contents = contents; images = b.images }
+      → ((h : List Effect) (pass : ℕ) → StreamStands h b.state → was_mapped ≡ is_mapped h → StreamStands (Did pass it reply ∷ h) new.state)
+      → ((h : List Effect) (pass : ℕ) → StreamStands h b.state → PrivateStands h b.maps → PrivateStands (Did pass it reply ∷ h) new.maps)
+      → ((opening : Option (ℕ → List ℕ)) (h : List Effect) → ContentsStand opening h b.contents → was_mapped ≡ is_mapped h)
+      → (u : Setup) (past : List Entry) (pass : ℕ) → MayDo u past pass it reply old
+      → (MayDo u past pass it reply b → HoldsStand (history past b.stream) b.holds → HoldsStand (Did pass it reply ∷ history past b.stream) holds)
+      → ContentsStand (u.opening b.stream) (history (done pass past b.stream it reply ∷ past) b.stream) contents
+      → StandsFor (u.opening old.stream) (Did pass it reply ∷ history past old.stream) new
+  stands-done new holds contents was_mapped is state maps was u past pass given held told =
+      let may = parted u past pass given in
+      let h = history past b.stream in
+      let after = Did pass it reply ∷ h in
+      let mapped_before = was (u.opening b.stream) h may.stands.contents_are in
+      let here = subst (λ g. ContentsStand (u.opening b.stream) g contents) (history-called past pass (suc (calls_of past pass)) b.stream it reply) told in
+      subst (λ (x : BookState). StandsFor (u.opening x.stream) (Did pass it reply ∷ history past x.stream) new) same
+      (record {
+        state_is = state h pass may.stands.state_is mapped_before;
+        maps_are = maps h pass may.stands.state_is may.stands.maps_are;
+        holds_are = subst (HoldsStand after) (sym (ap (λ (x : BookState). x.holds) is)) (held may may.stands.holds_are);
+        contents_are = subst (ContentsStand (u.opening b.stream) after) (sym (ap (λ (x : BookState). x.contents) is)) here;
+      })
+
+  -- the holds that a call makes have greater ids than each open one
+  pub made-above : (u : Setup) (past : List Entry) (pass id : ℕ) → MayDo u past pass it reply b → id ≡ id_of reply → MakesAbove it id (holds_of (history past b.stream))
+  made-above u past pass id may is =
+      subst (λ (n : ℕ). MakesAbove it n (holds_of (history past b.stream))) (sym is) (makes-above u past pass (suc (calls_of past pass)) b.stream it reply may.good.legal)
 
 -- the contents may follow a pinned write
 pub may-write : {u : Setup} {past : List Entry} {pass : ℕ} {hold at : ℕ} {bytes : List ℕ} {reply : Reply} {b : BookState} → MayDo u past pass (call.PinnedWrite hold at bytes) reply b → MayFollow u past pass (suc (calls_of past pass)) b.stream (call.PinnedWrite hold at bytes) reply b.contents (size_of (history past b.stream)) None (is_mapped (history (done pass past b.stream (call.PinnedWrite hold at bytes) reply ∷ past) b.stream))
 may-write may = record { good = may.good; stands = may.stands.contents_are; size_is = refl; truncation_is = refl; mapped_is = refl }
+
+-- a pinned write of these bytes may be followed
+pub is-writing : {it : Call} {reply : Reply} {mapped : Bool} {old : BookState} (b : BookState) → b ≡ old → (hold at : ℕ) (bytes : List ℕ) → it ≡ call.PinnedWrite hold at bytes → IsDoing it reply mapped old → IsFollowingWrite at bytes b.contents
+is-writing {it} {reply} {mapped} {old} b same hold at bytes is d =
+    let may : MayDo d.u d.past d.pass it reply b = subst (λ (x : BookState). MayDo d.u d.past d.pass it reply x) (sym same) d.may in
+    let writes : MayDo d.u d.past d.pass (call.PinnedWrite hold at bytes) reply b = subst (λ (k : Call). MayDo d.u d.past d.pass k reply b) is may in
+    record {
+      hold = hold;
+      reply = reply;
+      size = size_of (history d.past b.stream);
+      truncation = None;
+      mapped = is_mapped (history (done d.pass d.past b.stream (call.PinnedWrite hold at bytes) reply ∷ d.past) b.stream);
+      following = record { u = d.u; past = d.past; pass = d.pass; nth = suc (calls_of d.past d.pass); s = b.stream; may = may-write writes };
+    }

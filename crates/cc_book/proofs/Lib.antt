@@ -2,3 +2,7 @@
 pub mod BookSteps
 pub mod BlocksToGo
 pub mod DoneSteps
+pub mod OwnedSteps
+pub mod ReadSteps
+pub mod ImageSteps
+pub mod DirtyRows

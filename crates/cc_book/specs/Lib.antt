@@ -1,2 +1,3 @@
 -- What the contracts cite.
 pub mod Book
+pub mod Read

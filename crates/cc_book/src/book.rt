@@ -8,23 +8,31 @@ ghost use Rattle.cc_content.specs.Contents.{IsByteOf};
 ghost use Rattle.cc_content.specs.Filling.{IsReadFrom};
 ghost use Rattle.cc_model.specs.ReadAhead.{ahead_of};
 ghost use Rattle.std.specs.List.{find};
+ghost use Rattle.std.specs.Option.{option_map};
 ghost use Rattle.cc_entry.specs.Pages.{pages_of};
 ghost use Rattle.cc_model.specs.Ranges.{cut_range};
-ghost use Rattle.cc_model.specs.Residency.{is_resident};
-ghost use Rattle.cc_model.specs.Touches.{size_of, valid_of};
+ghost use Rattle.cc_model.specs.Residency.{block_is_mapped, is_resident, mapped_blocks};
+ghost use Rattle.cc_model.specs.Holds.{hold_at, holds_of, is_held};
+ghost use Rattle.cc_model.specs.Numbers.{is_among};
+ghost use Rattle.cc_model.specs.Objects.{had_map, objects};
+ghost use Rattle.cc_model.specs.Settings.{allocation_of, log_of, quota_of};
+ghost use Rattle.cc_model.specs.Touches.{is_mapped, size_of, valid_of};
 ghost use Rattle.cc_model.specs.Refusals.{refusal};
 ghost use Rattle.cc_model.specs.Setup.{Setup};
 ghost use Rattle.cc_effects.specs.Asked.{block_to_go};
-ghost use Rattle.cc_refusal.specs.Known.{is_discard, IsLeastAbsent};
-ghost use Rattle.cc_book.specs.Book.{LeavesDiscards, BookStands, MayPlace, Gains, GoesOn, page_in, failed};
+ghost use Rattle.cc_holds.specs.Stands.{shown, shown_row};
+ghost use Rattle.cc_refusal.specs.Known.{IsLeastAbsent};
+ghost use Rattle.cc_book.specs.Book.{BookStands, MayPlace, Gains, GoesOn, Stays, IsSnapshot, page_in, failed};
 
 use cc_ahead::PrivateMaps;
 use cc_content::Contents;
 use cc_entry::{
-    Call, CcError, End, Entry, FileId, NoMemory, Outcome, PageId, Request, Span, StreamId,
+    Call, CcError, End, Entry, FileId, HoldRow, NoMemory, Outcome, PageId, Request, Span, StreamId,
 };
 use cc_holds::OpenHolds;
+use cc_images::Images;
 use cc_journal::Journal;
+use cc_pages::Frame;
 use cc_refusal::{Known, refusal};
 use cc_stream::StreamState;
 use std::alloc::Global;
@@ -38,6 +46,7 @@ pub struct Book {
     pub(crate) maps: PrivateMaps,
     pub(crate) holds: OpenHolds,
     pub(crate) contents: Contents,
+    pub(crate) images: Images,
 }
 
 impl Model for Book {
@@ -51,6 +60,7 @@ impl Model for Book {
       maps = b.maps;
       holds = b.holds;
       contents = b.contents;
+      images = b.images;
     } };
 }
 
@@ -67,6 +77,7 @@ impl Book {
             maps: PrivateMaps::new(),
             holds: OpenHolds::new(alloc),
             contents: Contents::new(),
+            images: Images::new(alloc),
         }
     }
 
@@ -84,6 +95,86 @@ impl Book {
             result ≡ valid_of (history past self.now.stream) }
     {
         self.contents.valid()
+    }
+
+    /// The allocation in bytes (`CcSetFileSizes`), 0 before the first initialise.
+    pub fn allocation(&self) -> u64
+        ensures { (opening : Option (ℕ → List ℕ)) (past : List Entry) → BookStands opening past self.now →
+            result ≡ allocation_of (history past self.now.stream) }
+    {
+        self.state.allocation()
+    }
+
+    /// How many view blocks may be mapped (`CcInitializeCacheMap`), 0 before the first initialise.
+    pub fn quota(&self) -> u8
+        ensures { (opening : Option (ℕ → List ℕ)) (past : List Entry) → BookStands opening past self.now →
+            result ≡ quota_of (history past self.now.stream) }
+    {
+        self.state.quota()
+    }
+
+    /// The handle of the stream's log, where it has one (`CcSetLogHandleForFile`).
+    pub fn log(&self) -> Option<u8>
+        ensures { (opening : Option (ℕ → List ℕ)) (past : List Entry) → BookStands opening past self.now →
+            result ≡ log_of (history past self.now.stream) }
+    {
+        self.state.log()
+    }
+
+    /// Whether a file object has a private cache map; none past 15 has.
+    pub fn is_open(&self, object: u8) -> bool
+        ensures { (opening : Option (ℕ → List ℕ)) (past : List Entry) → BookStands opening past self.now →
+            result ≡ is_among object (objects (history past self.now.stream)) }
+    {
+        self.state.is_open(object)
+    }
+
+    /// Whether the stream has a shared map.
+    pub fn has_map(&self) -> bool
+        ensures { (opening : Option (ℕ → List ℕ)) (past : List Entry) → BookStands opening past self.now →
+            result ≡ is_mapped (history past self.now.stream) }
+    {
+        self.contents.has_map()
+    }
+
+    /// Whether the stream ever had a shared map.
+    pub fn had_map(&self) -> bool
+        ensures { (opening : Option (ℕ → List ℕ)) (past : List Entry) → BookStands opening past self.now →
+            result ≡ had_map (history past self.now.stream) }
+    {
+        self.state.had_map()
+    }
+
+    /// The open hold of an id; its written span is no part of what is promised.
+    pub fn hold(&self, id: u64) -> Option<HoldRow>
+        ensures { (opening : Option (ℕ → List ℕ)) (past : List Entry) → BookStands opening past self.now →
+            option_map shown_row result ≡ option_map shown (hold_at (holds_of (history past self.now.stream)) id) }
+    {
+        self.holds.get(id)
+    }
+
+    /// Whether an open hold has the page.
+    pub fn is_held(&self, page: u64) -> bool
+        ensures { (opening : Option (ℕ → List ℕ)) (past : List Entry) → BookStands opening past self.now →
+            result ≡ is_held (holds_of (history past self.now.stream)) page }
+    {
+        self.holds.is_held(page)
+    }
+
+    /// How many view blocks are mapped.
+    pub fn mapped(&self) -> u32
+        ensures { (opening : Option (ℕ → List ℕ)) (past : List Entry) → BookStands opening past self.now →
+            result ≡ mapped_blocks (history past self.now.stream) }
+    {
+        self.contents.mapped()
+    }
+
+    /// Whether a view block is mapped: whether a page of it is resident.
+    pub fn is_block_mapped(&self, block: u64) -> bool
+        ensures { (opening : Option (ℕ → List ℕ)) (past : List Entry) → BookStands opening past self.now →
+            result ≡ block_is_mapped (history past self.now.stream) block }
+    {
+        self.contents.is_block_mapped(block)
     }
 
     /// The page at this number, where it is resident.
@@ -118,28 +209,25 @@ impl Book {
             .ahead_of(file, at, len, no_read_ahead, self.state.size())
     }
 
-    /// The refusal of a call on the stream, where there is one. A discard's last two reasons, an image that is
-    /// not known and a page that has grown, are not looked at.
+    /// The refusal of a call on the stream, where there is one.
     pub fn refusal<Q>(
         &self,
         alloc: Global,
         journal: &Journal<Q>,
         call: &Call,
     ) -> Result<Option<CcError>, NoMemory>
-        ensures same { IfOk result (λ refused. (u : Setup) (opening : Option (ℕ → List ℕ)) →
+        ensures { IfOk result (λ refused. (u : Setup) (opening : Option (ℕ → List ℕ)) →
             u.logs ≡ journal.now.logs → BookStands opening journal.now.entries self.now →
-            is_discard call.now ≡ false →
             refused ≡ refusal u journal.now.entries (history journal.now.entries self.now.stream) call.now) }
-        ensures of_discard { IfOk result (λ refused. (u : Setup) (opening : Option (ℕ → List ℕ)) →
-            u.logs ≡ journal.now.logs → BookStands opening journal.now.entries self.now →
-            LeavesDiscards refused (history journal.now.entries self.now.stream) call.now
-            (refusal u journal.now.entries (history journal.now.entries self.now.stream) call.now)) }
     {
         let known = Known {
+            stream: self.stream,
             state: &self.state,
             valid: self.contents.valid(),
             mapped: self.contents.has_map(),
             holds: &self.holds,
+            images: &self.images,
+            dirty: journal.dirty().rows(),
             logs: journal.logs(),
             free_views: journal.free_views(),
         };
@@ -199,16 +287,31 @@ impl Book {
         Ok(())
     }
 
-    /// The transfer of a page to the disk begins.
-    pub fn begin<Q>(&mut self, journal: &mut Journal<Q>, pass: u32, page: PageId)
+    /// The transfer of a page to the disk begins, with a snapshot of the page.
+    pub fn begin<Q>(
+        &mut self,
+        journal: &mut Journal<Q>,
+        pass: u32,
+        page: PageId,
+    ) -> Result<Frame, NoMemory>
         requires stream { page.stream ≡ self.old.stream }
         requires reserved { 0 < journal.old.reserved }
         requires may { MayPlace journal.old.entries (entry.WriteBegin pass page) self.old }
-        ensures placed { Gains (entry.WriteBegin pass page) journal.old journal.new }
-        ensures stands { GoesOn journal.old.entries journal.new.entries self.old self.new }
-        ensures same { self.new ≡ self.old }
+        ensures placed { OnOk result (Gains (entry.WriteBegin pass page) journal.old journal.new) }
+        ensures snapshot { IfOk result (IsSnapshot self.old page.page) }
+        ensures stands { OnOk result (GoesOn journal.old.entries journal.new.entries self.old self.new) }
+        ensures stream { self.new.stream ≡ self.old.stream }
+        ensures err { OnErr result (Stays journal.old journal.new self.old self.new) }
     {
-        journal.push(Entry::WriteBegin { pass, page });
+        let snapshot = self.contents.share(page.page())?;
+        match snapshot {
+            Some(frame) => {
+                self.images.began(self.contents.valid())?;
+                journal.push(Entry::WriteBegin { pass, page });
+                Ok(frame)
+            }
+            None => unreachable!(),
+        }
     }
 
     /// That transfer ended. A map without an object goes with its last dirty page, and its pages with it.
@@ -220,6 +323,7 @@ impl Book {
         ensures stands { GoesOn journal.old.entries journal.new.entries self.old self.new }
         ensures stream { self.new.stream ≡ self.old.stream }
     {
+        self.images.ended(page.page(), how, self.contents.valid());
         journal.push(Entry::WriteEnd { pass, page, how });
         let mapped = journal.is_mapped(self.stream);
         self.contents.ended(mapped);

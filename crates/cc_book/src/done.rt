@@ -1,26 +1,32 @@
 //! A done call: what is kept follows it, and its entry is placed.
 
-ghost use Rattle.std.specs.Prelude.{◌≡◌, ℕ, ◌<◌, ◌||◌, true, false, List, ◌∷◌, OnOk, OnErr};
-ghost use Rattle.cc_entry.specs.declared.call.Call.TheVariants as call;
+ghost use Rattle.std.specs.Prelude.{◌≡◌, ℕ, ◌<◌, true, false, Bool, List, ◌∷◌, Option, OnOk, OnErr, IfOk, IsOk};
+ghost use Rattle.cc_entry.specs.declared.call.Call.{Call};
 ghost use Rattle.cc_entry.specs.declared.entry.Entry.{Entry};
-ghost use Rattle.cc_entry.specs.declared.reply.Reply.TheVariants as reply;
+ghost use Rattle.cc_entry.specs.declared.reply.Reply.{Reply};
 ghost use Rattle.cc_model.specs.History.{Effect, Did, history};
 ghost use Rattle.cc_model.specs.Touches.{is_mapped};
 ghost use Rattle.cc_model.specs.Setup.{Setup};
-ghost use Rattle.cc_content.specs.Following.{takes_memory};
+ghost use Rattle.cc_laws.proofs.HoldSteps.{changes_holds};
+ghost use Rattle.cc_content.specs.Contents.{ContentsStand};
+ghost use Rattle.cc_content.specs.Following.{truncated_by, takes_memory as contents_take};
+ghost use Rattle.cc_images.specs.Images.{ImagesStand};
 ghost use Rattle.cc_stream.specs.Stream.{StreamStands};
 ghost use Rattle.cc_ahead.specs.Kept.{PrivateStands};
-ghost use Rattle.cc_book.specs.Book.{BookStands, Gains, done, MayDo, IsDoing, GoesOnBy, is_plain, opens};
+ghost use Rattle.cc_book.specs.Book.{BookStands, Gains, Stays, StandsAsBefore, done, MayDo, IsDoing, GoesOnBy, OwnsFor, IsRoomFor, ImagesMayFollow, ImagesFollow, takes_memory};
 
 use crate::book::Book;
-use cc_entry::{Bytes, Call, Entry, FileId, NoMemory, Outcome, Reply};
+use cc_entry::{Bytes, Call, Entry, NoMemory, Outcome, Reply};
 use cc_events::id_in;
+use cc_images::Room;
 use cc_journal::Journal;
+use cc_stream::StreamState;
 use std::alloc::Global;
 
 impl Book {
-    /// A call on the stream is done with this answer. An uninitialise is done by `close`, a write through a pin by
-    /// `write_pinned`. Where it finds no memory nothing changes.
+    /// A call on the stream is done with this answer. An uninitialise answers whether the shared map went, which
+    /// the journal says before it (`Journal::stays_mapped`). The pages that the call changes are owned first, so
+    /// where it finds no memory no byte has changed. The images follow last and take none.
     pub fn done<Q>(
         &mut self,
         alloc: Global,
@@ -30,16 +36,21 @@ impl Book {
         reply: Reply,
     ) -> Result<(), NoMemory>
         requires reserved { 0 < journal.old.reserved }
-        requires kind { is_plain call ≡ true }
         requires may { (u : Setup) × MayDo u journal.old.entries pass call reply self.old }
         ensures placed { OnOk result
             (Gains (done pass journal.old.entries self.old.stream call reply) journal.old journal.new) }
         ensures stands { OnOk result ((u : Setup) → MayDo u journal.old.entries pass call reply self.old →
             BookStands (u.opening self.old.stream) journal.new.entries self.new) }
         ensures stream { self.new.stream ≡ self.old.stream }
-        ensures err { OnErr result ((self.new ≡ self.old) × (journal.new ≡ journal.old)) }
+        ensures err { OnErr result (Stays journal.old journal.new self.old self.new) }
+        ensures sure { takes_memory call ≡ false → IsOk result }
     {
-        self.follow(alloc, &call, &reply)?;
+        self.own(&call)?;
+        let mapped = self.is_mapped_after(journal, &call);
+        let room = self.room_for(alloc, &call)?;
+        let was = self.valid();
+        self.follow(alloc, &call, &reply, mapped)?;
+        self.follow_images(room, was);
         journal.push(Entry::Call {
             pass,
             nth: journal.next_call(pass),
@@ -50,148 +61,170 @@ impl Book {
         Ok(())
     }
 
-    /// An uninitialise of the stream is done (`CcUninitializeCacheMap`). It takes no memory. The pages go where
-    /// there is no map after it.
-    pub fn close<Q>(
-        &mut self,
-        alloc: Global,
-        journal: &mut Journal<Q>,
-        pass: u32,
-        file: FileId,
-        truncate: Option<u64>,
-    )
-        requires reserved { 0 < journal.old.reserved }
-        requires may { (u : Setup) ×
-            MayDo u journal.old.entries pass (call.Uninitialise file truncate) reply.Unit self.old }
-        ensures placed { Gains
-            (done pass journal.old.entries self.old.stream (call.Uninitialise file truncate) reply.Unit)
-            journal.old journal.new }
-        ensures stands { (u : Setup) →
-            MayDo u journal.old.entries pass (call.Uninitialise file truncate) reply.Unit self.old →
-            BookStands (u.opening self.old.stream) journal.new.entries self.new }
-        ensures stream { self.new.stream ≡ self.old.stream }
+    // Makes the pages owned that a done call changes in place.
+    fn own(&mut self, call: &Call) -> Result<(), NoMemory>
+        requires may { (reply : Reply) × ((mapped : Bool) × IsDoing call.now reply mapped self.old) }
+        ensures owned { OnOk result (OwnsFor self.new call.now) }
+        ensures stands { StandsAsBefore self.old self.new }
+        ensures sure { takes_memory call.now ≡ false → IsOk result }
     {
-        let call = Call::Uninitialise { file, truncate };
-        let size = self.state.size();
-        let truncation = self.state.truncation(file.object(), truncate);
-        let was_mapped = self.contents.has_map();
-        journal.push(Entry::Call {
-            pass,
-            nth: journal.next_call(pass),
-            stream: Some(self.stream),
-            call: Call::Uninitialise { file, truncate },
-            outcome: Outcome::Done(Reply::Unit),
-        });
-        let mapped = journal.is_mapped(self.stream);
-        match self
-            .contents
-            .done(alloc, &call, &Reply::Unit, size, truncation, mapped)
-        {
-            Ok(()) => (),
-            Err(_) => unreachable!(),
-        }
-        self.set(&call, &Reply::Unit, was_mapped);
+        let truncation = truncation_by(&self.state, call);
+        self.contents.own(call, truncation)
     }
 
-    /// A write of these bytes through a pin is done. Where it finds no memory nothing changes.
-    pub fn write_pinned<Q>(
+    // Whether the stream has a shared map after a done call.
+    fn is_mapped_after<Q>(&self, journal: &Journal<Q>, call: &Call) -> bool
+        ensures { (u : Setup) (pass : ℕ) (reply : Reply) →
+            MayDo u journal.now.entries pass call.now reply self.now →
+            result ≡ is_mapped (Did pass call.now reply ∷ history journal.now.entries self.now.stream) }
+    {
+        match call {
+            Call::Initialise { .. } => true,
+            Call::Uninitialise { file, truncate } => journal.stays_mapped(*file, *truncate),
+            _ => self.contents.has_map(),
+        }
+    }
+
+    // Room for the pages of the map that a call makes, and none where it makes none.
+    fn room_for(&self, alloc: Global, call: &Call) -> Result<Option<Room>, NoMemory>
+        ensures room { IfOk result (λ room. (opening : Option (ℕ → List ℕ)) (h : List Effect) →
+            ContentsStand opening h self.now.contents → IsRoomFor h call.now room) }
+        ensures sure { takes_memory call.now ≡ false → IsOk result }
+    {
+        match call {
+            Call::Initialise { quota, .. } if !self.contents.has_map() => {
+                Ok(Some(Room::new(alloc, *quota)?))
+            }
+            _ => Ok(None),
+        }
+    }
+
+    // The images follow a done call, as the last of it, given the valid data length before it.
+    fn follow_images(&mut self, room: Option<Room>, was: u64)
+        requires may { ImagesFollow room was self.old }
+        ensures stands { (u : Setup) (past : List Entry) (pass : ℕ) (call : Call) (reply : Reply) →
+            ImagesMayFollow u past pass call reply room was self.old →
+            ImagesStand (Did pass call reply ∷ history past self.old.stream) self.new.images }
+        ensures same { self.new ≡ record self.old { images = self.new.images } }
+    {
+        let valid = self.contents.valid();
+        match room {
+            Some(room) => self.images.opened(room, valid),
+            None => self.images.done(was, valid),
+        }
+    }
+
+    // Follows a done call with all but the images, given whether there is a map after it.
+    fn follow(
         &mut self,
         alloc: Global,
-        journal: &mut Journal<Q>,
-        pass: u32,
-        hold: u64,
-        at: u64,
-        bytes: Bytes,
+        call: &Call,
+        reply: &Reply,
+        mapped: bool,
     ) -> Result<(), NoMemory>
-        requires reserved { 0 < journal.old.reserved }
-        requires may { (u : Setup) ×
-            MayDo u journal.old.entries pass (call.PinnedWrite hold at bytes) reply.Unit self.old }
-        ensures placed { OnOk result (Gains
-            (done pass journal.old.entries self.old.stream (call.PinnedWrite hold at bytes) reply.Unit)
-            journal.old journal.new) }
-        ensures stands { OnOk result ((u : Setup) →
-            MayDo u journal.old.entries pass (call.PinnedWrite hold at bytes) reply.Unit self.old →
-            BookStands (u.opening self.old.stream) journal.new.entries self.new) }
+        requires may { IsDoing call.now reply.now mapped self.old }
+        requires owned { OwnsFor self.old call.now }
+        ensures stands { OnOk result (GoesOnBy call.now reply.now mapped self.old self.new) }
+        ensures images { self.new.images ≡ self.old.images }
         ensures stream { self.new.stream ≡ self.old.stream }
-        ensures err { OnErr result ((self.new ≡ self.old) × (journal.new ≡ journal.old)) }
+        ensures err { OnErr result (self.new ≡ self.old) }
+        ensures sure { takes_memory call.now ≡ false → IsOk result }
+    {
+        match call {
+            Call::PinnedWrite { at, bytes, .. } => self.write(alloc, call, reply, *at, bytes),
+            Call::Map { .. }
+            | Call::PinRead { .. }
+            | Call::PinMapped { .. }
+            | Call::PreparePin { .. }
+            | Call::SetDirty { .. }
+            | Call::EndHold { .. }
+            | Call::Repin { .. }
+            | Call::MdlRead { .. }
+            | Call::MdlWrite { .. } => self.change_holds(alloc, call, reply, mapped),
+            _ => self.leave_holds(alloc, call, reply, mapped),
+        }
+    }
+
+    // Follows a done pinned write of these bytes. They are a list before the holds follow, so what comes after the
+    // holds takes no memory.
+    fn write(
+        &mut self,
+        alloc: Global,
+        call: &Call,
+        reply: &Reply,
+        at: u64,
+        bytes: &Bytes,
+    ) -> Result<(), NoMemory>
+        requires is { (hold : ℕ) × (call.now ≡ Call.PinnedWrite hold at bytes.now) }
+        requires may { (mapped : Bool) × IsDoing call.now reply.now mapped self.old }
+        requires owned { OwnsFor self.old call.now }
+        ensures stands { OnOk result ((mapped : Bool) → GoesOnBy call.now reply.now mapped self.old self.new) }
+        ensures images { self.new.images ≡ self.old.images }
+        ensures stream { self.new.stream ≡ self.old.stream }
+        ensures err { OnErr result (self.new ≡ self.old) }
     {
         let listed = bytes.to_vec(alloc)?;
-        let call = Call::PinnedWrite { hold, at, bytes };
-        self.write(&call, at, &listed)?;
-        journal.push(Entry::Call {
-            pass,
-            nth: journal.next_call(pass),
-            stream: Some(self.stream),
-            call,
-            outcome: Outcome::Done(Reply::Unit),
-        });
-        Ok(())
-    }
-
-    // Follows a done pinned write, given its bytes. Only the holds may find no memory.
-    fn write(&mut self, call: &Call, at: u64, bytes: &[u8]) -> Result<(), NoMemory>
-        requires is { (hold : ℕ) × (call.now ≡ Call.PinnedWrite hold at bytes.now) }
-        requires may { IsDoing call.now reply.Unit self.old }
-        ensures stands { OnOk result (GoesOnBy call.now reply.Unit self.old self.new) }
-        ensures stream { self.new.stream ≡ self.old.stream }
-        ensures err { OnErr result (self.new ≡ self.old) }
-    {
         let was_mapped = self.contents.has_map();
-        self.holds.done(call, 0)?;
-        self.contents.pinned_write(at, bytes);
-        self.set(call, &Reply::Unit, was_mapped);
-        Ok(())
-    }
-
-    // Follows a done call.
-    fn follow(&mut self, alloc: Global, call: &Call, reply: &Reply) -> Result<(), NoMemory>
-        requires kind { is_plain call.now ≡ true }
-        requires may { IsDoing call.now reply.now self.old }
-        ensures stands { OnOk result (GoesOnBy call.now reply.now self.old self.new) }
-        ensures stream { self.new.stream ≡ self.old.stream }
-        ensures err { OnErr result (self.new ≡ self.old) }
-    {
-        if takes_memory(call) {
-            self.take(alloc, call, reply)
-        } else {
-            self.change(alloc, call, reply)
-        }
-    }
-
-    // Follows a done call for which memory may be wanting, and which changes no hold.
-    fn take(&mut self, alloc: Global, call: &Call, reply: &Reply) -> Result<(), NoMemory>
-        requires kind { is_plain call.now ≡ true }
-        requires takes { takes_memory call.now ≡ true }
-        requires may { IsDoing call.now reply.now self.old }
-        ensures stands { OnOk result (GoesOnBy call.now reply.now self.old self.new) }
-        ensures stream { self.new.stream ≡ self.old.stream }
-        ensures err { OnErr result (self.new ≡ self.old) }
-    {
-        let size = self.state.size();
-        let was_mapped = self.contents.has_map();
-        let mapped = is_mapped_after(call, was_mapped);
-        self.contents.done(alloc, call, reply, size, None, mapped)?;
+        self.holds.done(call, id_in(reply))?;
+        self.contents.pinned_write(at, &listed);
         self.set(call, reply, was_mapped);
         Ok(())
     }
 
-    // Follows a done call for which the contents take no memory: only the holds may find none.
-    fn change(&mut self, alloc: Global, call: &Call, reply: &Reply) -> Result<(), NoMemory>
-        requires kind { is_plain call.now ≡ true }
-        requires takes { takes_memory call.now ≡ false }
-        requires may { IsDoing call.now reply.now self.old }
-        ensures stands { OnOk result (GoesOnBy call.now reply.now self.old self.new) }
+    // Follows a done call that changes the holds, and for which the contents take no memory.
+    fn change_holds(
+        &mut self,
+        alloc: Global,
+        call: &Call,
+        reply: &Reply,
+        mapped: bool,
+    ) -> Result<(), NoMemory>
+        requires contents { contents_take call.now ≡ false }
+        requires may { IsDoing call.now reply.now mapped self.old }
+        requires owned { OwnsFor self.old call.now }
+        ensures stands { OnOk result (GoesOnBy call.now reply.now mapped self.old self.new) }
+        ensures images { self.new.images ≡ self.old.images }
         ensures stream { self.new.stream ≡ self.old.stream }
         ensures err { OnErr result (self.new ≡ self.old) }
+        ensures sure { takes_memory call.now ≡ false → IsOk result }
     {
         let size = self.state.size();
         let was_mapped = self.contents.has_map();
-        let mapped = is_mapped_after(call, was_mapped);
+        let truncation = truncation_by(&self.state, call);
         self.holds.done(call, id_in(reply))?;
-        match self.contents.done(alloc, call, reply, size, None, mapped) {
+        match self
+            .contents
+            .done(alloc, call, reply, size, truncation, mapped)
+        {
             Ok(()) => (),
             Err(_) => unreachable!(),
         }
+        self.set(call, reply, was_mapped);
+        Ok(())
+    }
+
+    // Follows a done call that changes no hold.
+    fn leave_holds(
+        &mut self,
+        alloc: Global,
+        call: &Call,
+        reply: &Reply,
+        mapped: bool,
+    ) -> Result<(), NoMemory>
+        requires holds { changes_holds call.now ≡ false }
+        requires may { IsDoing call.now reply.now mapped self.old }
+        requires owned { OwnsFor self.old call.now }
+        ensures stands { OnOk result (GoesOnBy call.now reply.now mapped self.old self.new) }
+        ensures images { self.new.images ≡ self.old.images }
+        ensures stream { self.new.stream ≡ self.old.stream }
+        ensures err { OnErr result (self.new ≡ self.old) }
+        ensures sure { takes_memory call.now ≡ false → IsOk result }
+    {
+        let size = self.state.size();
+        let was_mapped = self.contents.has_map();
+        let truncation = truncation_by(&self.state, call);
+        self.contents
+            .done(alloc, call, reply, size, truncation, mapped)?;
         self.set(call, reply, was_mapped);
         Ok(())
     }
@@ -213,27 +246,12 @@ impl Book {
     }
 }
 
-// Whether there is a map after a call, where there was one before it or not.
-fn is_mapped_after(call: &Call, was_mapped: bool) -> bool
-    ensures { result ≡ (was_mapped || opens call.now) }
+// The size that a call sets as an uninitialise, where it is one that sets one.
+fn truncation_by(state: &StreamState, call: &Call) -> Option<u64>
+    ensures { (h : List Effect) → StreamStands h state.now → result ≡ truncated_by h call.now }
 {
     match call {
-        Call::Initialise { .. } => true,
-        _ => was_mapped,
-    }
-}
-
-// Whether memory may be wanting for a call.
-fn takes_memory(call: &Call) -> bool
-    ensures { result ≡ takes_memory call.now }
-{
-    match call {
-        Call::Initialise { .. }
-        | Call::SetSizes { .. }
-        | Call::CopyWrite { .. }
-        | Call::PinnedWrite { .. }
-        | Call::MdlStore { .. }
-        | Call::NcStore { .. } => true,
-        _ => false,
+        Call::Uninitialise { file, truncate } => state.truncation(file.object(), *truncate),
+        _ => None,
     }
 }

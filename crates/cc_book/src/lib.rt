@@ -2,19 +2,22 @@
 //!
 //! What the layer keeps true: a book that stands for the journal, over what the stream's disk told of its opening
 //! pages, stands for it after each step, and the step places one entry, for which a place was reserved and with
-//! which the journal is good. A step that finds no memory leaves both as they were. So whoever holds the book's
-//! turn knows of the stream what the whole journal says of it: its sizes, its holds, its pages and their bytes.
+//! which the journal is good. A step that finds no memory leaves the journal as it was, and the book stands for what
+//! it stood for: no byte has changed, at most pages are owned again that snapshots shared. So whoever holds the
+//! book's turn knows of the stream what the whole journal says of it: its sizes, its holds, its pages and their
+//! bytes.
 //!
-//! `book` has what is kept, what is asked of it, and the entries of pages; `done` the calls that are done: an
-//! uninitialise (`close`), a write through a pin (`write_pinned`), and every other (`done`).
+//! `book` has what is kept, what is asked of it, and the entries of pages and of calls that failed; `done` the
+//! calls that are done, and `read` what a read answers.
 //!
-//! The steps of the calls stand above. Below are the four parts of a book: the state of the stream
-//! (`cc_stream`), its private maps (`cc_ahead`), its open holds (`cc_holds`) and its contents (`cc_content`); the
-//! journal (`cc_journal`), the refusal of a call (`cc_refusal`), and the definitions of `cc_model` with their
-//! lemmas in `cc_laws`.
+//! The steps of the calls stand above. Below are the five parts of a book: the state of the stream
+//! (`cc_stream`), its private maps (`cc_ahead`), its open holds (`cc_holds`), its contents (`cc_content`) and the
+//! images of its pages (`cc_images`); the journal (`cc_journal`), the refusal of a call (`cc_refusal`), and the
+//! definitions of `cc_model` with their lemmas in `cc_laws`.
 #![tactic(auto)]
 
 mod book;
 mod done;
+mod read;
 
 pub use book::Book;

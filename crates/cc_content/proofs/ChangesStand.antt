@@ -6,7 +6,7 @@ use Rattle.cc_entry.specs.Place.{Range}
 use Rattle.cc_entry.specs.declared.call.Call.{Call}
 use Rattle.cc_entry.specs.declared.reply.Reply.{Reply}
 use Rattle.cc_views.specs.Views.{Mapped}
-use Rattle.cc_resident.specs.Residents.{byte_at, blocks, used as used_after}
+use Rattle.cc_resident.specs.Residents.{byte_at, is_shared, blocks, used as used_after}
 use Rattle.cc_resident.specs.Changes.{Covers}
 use Rattle.cc_model.specs.Acts.{act_of, Writes, Zeroes}
 use Rattle.cc_model.specs.Bytes.{content}
@@ -102,13 +102,15 @@ module _ (opening : Option (ℕ → List ℕ)) (h : List Effect) (pass : ℕ) (c
 -- a change, and then a use of blocks
 pub Changed-then : (m k n : Mapped) (r : Range) (given : ℕ → ℕ) (o : Option Range) → Covers m k r given
     → blocks k ≡ blocks m → k.quota ≡ m.quota → k.size ≡ m.size → SamePages k n
-    → blocks n ≡ used_after (blocks_of_range o) (blocks k) → Changed m n r given o
-Changed-then m k n r given o w order quota size same uses =
+    → blocks n ≡ used_after (blocks_of_range o) (blocks k) → ((p : ℕ) → is_shared n p ≡ is_shared k p)
+    → Changed m n r given o
+Changed-then m k n r given o w order quota size same uses shared =
     record {
       bytes = record {
         inside = λ i has. SamePages-byte k n same i ∙ w.inside i has;
         outside = λ i out. SamePages-byte k n same i ∙ w.outside i out;
         pages = λ p. rw (same.pages p) (w.pages p);
+        shared = λ p. shared p ∙ w.shared p;
       };
       blocks = uses ∙ ap (used_after (blocks_of_range o)) order;
       quota = same.quota ∙ quota;

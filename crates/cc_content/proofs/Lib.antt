@@ -14,3 +14,4 @@ pub mod Allowed
 mod DoneStands
 pub mod DoneFacts
 mod DoneCalls
+mod OwnedStand

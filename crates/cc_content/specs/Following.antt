@@ -55,6 +55,13 @@ pub record IsFollowingWrite (at : ℕ) (bytes : List ℕ) (c : Contents) : Type 
   pub mapped : Bool
   pub following : IsFollowing (call.PinnedWrite hold at bytes) reply c size truncation mapped
 
+-- there is an answer with which the call may be followed
+pub record IsFollowable (call : Call) (truncation : Option ℕ) (c : Contents) : Type 0 where
+  pub reply : Reply
+  pub size : ℕ
+  pub mapped : Bool
+  pub following : IsFollowing call reply c size truncation mapped
+
 -- whether memory may be wanting for a call: for a map's view index, or for bytes
 abbrev pub takes_memory : Call → Bool
 takes_memory (call.Initialise file sizes quota temporary) = true

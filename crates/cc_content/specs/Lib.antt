@@ -4,3 +4,4 @@ pub mod Filling
 pub mod Leaves
 pub mod Done
 pub mod Following
+pub mod Owned

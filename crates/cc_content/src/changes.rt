@@ -8,7 +8,7 @@ ghost use Rattle.cc_entry.specs.Pages.{block_of, whole_range};
 ghost use Rattle.cc_entry.specs.Place.{File};
 ghost use Rattle.cc_entry.specs.declared.call.Call.{Call};
 ghost use Rattle.cc_entry.specs.declared.reply.Reply.{Reply};
-ghost use Rattle.cc_resident.specs.Residents.{all_resident, all_mapped, blocks, is_among};
+ghost use Rattle.cc_resident.specs.Residents.{all_resident, all_mapped, AllOwned, rest_of_page, blocks, is_among};
 ghost use Rattle.cc_resident.specs.Changes.{is_between};
 ghost use Rattle.cc_model.specs.Acts.{act_of, Closes, Resizes, Writes, Zeroes, Stores, Discards};
 ghost use Rattle.cc_model.specs.History.{Effect, Did};
@@ -37,6 +37,7 @@ pub(crate) fn looked(pages: &mut ResidentPages, used: Option<Span>)
 /// Follows a write of bytes, which begins at the valid data length or below it.
 pub(crate) fn written(pages: &mut ResidentPages, at: u64, bytes: &[u8], uses: bool)
     requires resident { all_resident pages.old (whole_range at (length bytes.now)) ≡ true }
+    requires owned { AllOwned pages.old (whole_range at (length bytes.now)) }
     requires fits { at + length bytes.now ≤ 2 ^ 63 }
     ensures { (opening : Option (ℕ → List ℕ)) (h : List Effect) (pass : ℕ) (call : Call) (reply : Reply) →
         PagesStand opening h pages.old → act_of call ≡ Writes at bytes.now →
@@ -52,7 +53,8 @@ pub(crate) fn written(pages: &mut ResidentPages, at: u64, bytes: &[u8], uses: bo
 
 /// Follows a zeroing of a range, which begins at the valid data length or below it, and a use of its blocks.
 pub(crate) fn zeroed(pages: &mut ResidentPages, from: u64, to: u64)
-    requires { all_mapped pages.old (record { from = from; to = to }) ≡ true }
+    requires mapped { all_mapped pages.old (record { from = from; to = to }) ≡ true }
+    requires owned { AllOwned pages.old (record { from = from; to = to }) }
     ensures { (opening : Option (ℕ → List ℕ)) (h : List Effect) (pass : ℕ) (call : Call) (reply : Reply) →
         PagesStand opening h pages.old → act_of call ≡ Zeroes from to →
         Uses h pass call reply (Some (record { from = from; to = to })) → from ≤ valid_of h →
@@ -65,6 +67,7 @@ pub(crate) fn zeroed(pages: &mut ResidentPages, from: u64, to: u64)
 
 /// Follows a set of sizes. Only growth takes memory.
 pub(crate) fn resized(pages: &mut ResidentPages, size: u64) -> Result<(), NoMemory>
+    requires { AllOwned pages.old (rest_of_page size) }
     ensures stands { OnOk result ((opening : Option (ℕ → List ℕ)) (h : List Effect) (pass : ℕ) (call : Call)
         (reply : Reply) (allocation : ℕ) →
         PagesStand opening h pages.old → act_of call ≡ Resizes allocation size →
@@ -78,7 +81,8 @@ pub(crate) fn resized(pages: &mut ResidentPages, size: u64) -> Result<(), NoMemo
 
 /// Follows an uninitialise that sets the size, where the map stays.
 pub(crate) fn truncated(pages: &mut ResidentPages, size: u64)
-    requires { size ≤ pages.old.size }
+    requires smaller { size ≤ pages.old.size }
+    requires owned { AllOwned pages.old (rest_of_page size) }
     ensures { (opening : Option (ℕ → List ℕ)) (h : List Effect) (pass : ℕ) (call : Call) (reply : Reply)
         (file : File) (truncate : Option ℕ) →
         PagesStand opening h pages.old → act_of call ≡ Closes file truncate →

@@ -1,6 +1,6 @@
 //! The contents of one stream.
 
-ghost use Rattle.std.specs.Prelude.{◌≡◌, ℕ, ◌+◌, ◌-◌, ◌*◌, ◌<◌, ◌≤◌, not, List, [], ◌∷◌, length, IfSome, OnOk, OnErr, Option, None, Some, Bool, is_some, false, slice_index};
+ghost use Rattle.std.specs.Prelude.{◌≡◌, ℕ, ◌+◌, ◌-◌, ◌*◌, ◌<◌, ◌≤◌, not, List, [], ◌∷◌, length, IfSome, IfOk, OnOk, OnErr, Option, None, Some, Bool, is_some, false, slice_index};
 ghost use Rattle.std.specs.List.{find};
 ghost use Rattle.cc_entry.specs.Place.{File};
 ghost use Rattle.cc_entry.specs.declared.place.FileSizes.{FileSizes};
@@ -15,8 +15,10 @@ ghost use Rattle.cc_model.specs.Touches.{valid_of, is_mapped};
 ghost use Rattle.cc_content.specs.Contents.{ContentsStand, IsByteOf};
 ghost use Rattle.cc_content.specs.Filling.{HasRoomFor, HasRoomIn, IsReadFrom, IsClearedFrom, Fills};
 ghost use Rattle.cc_content.specs.Leaves.{Leaves};
+ghost use Rattle.cc_content.specs.Owned.{SameContents};
 
 use cc_entry::{NoMemory, Quota};
+use cc_pages::Frame;
 use cc_resident::ResidentPages;
 use std::alloc::Global;
 use std::cmp::min;
@@ -126,6 +128,24 @@ impl Contents {
         match &self.pages {
             Some(pages) => pages.oldest_of(kept),
             None => None,
+        }
+    }
+
+    /// Makes a snapshot of a page, where it is resident. The page is shared then, and a call that changes it
+    /// owns it first.
+    pub fn share(&mut self, page: u64) -> Result<Option<Frame>, NoMemory>
+        ensures resident { IfOk result (λ frame. (opening : Option (ℕ → List ℕ)) (h : List Effect) →
+            ContentsStand opening h self.old → is_some frame ≡ is_resident h page) }
+        ensures bytes { IfOk result (λ frame. (opening : Option (ℕ → List ℕ)) (h : List Effect) →
+            ContentsStand opening h self.old →
+            IfSome frame (λ bytes. (i : ℕ) → i < 4096 →
+            IsByteOf opening h (4096 * page + i) (slice_index bytes i))) }
+        ensures whole { IfOk result (λ frame. IfSome frame (λ bytes. length bytes ≡ 4096)) }
+        ensures same { SameContents self.old self.new }
+    {
+        match &mut self.pages {
+            Some(pages) => pages.share(page),
+            None => Ok(None),
         }
     }
 

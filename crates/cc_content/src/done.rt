@@ -1,6 +1,7 @@
 //! What a done call does to the contents of its stream.
 
 ghost use Rattle.std.specs.Prelude.{◌≡◌, ℕ, ◌+◌, ◌*◌, ◌^◌, ◌≤◌, List, ◌∷◌, length, min, max, Bool, true, false, Option, None, Some, OnOk, OnErr, IsOk};
+ghost use Rattle.std.specs.Option.{option_map};
 ghost use Rattle.cc_entry.specs.Pages.{whole_range};
 ghost use Rattle.cc_entry.specs.Place.{File};
 ghost use Rattle.cc_entry.specs.declared.place.FileSizes.{FileSizes};
@@ -17,7 +18,9 @@ ghost use Rattle.cc_model.specs.Touches.{size_of, valid_of, is_mapped};
 ghost use Rattle.cc_content.specs.Contents.{ContentsStand};
 ghost use Rattle.cc_content.specs.Done.{is_look, Uses, used_if};
 ghost use Rattle.cc_content.specs.Filling.{HasRoomFor};
-ghost use Rattle.cc_content.specs.Following.{MayFollow, IsFollowing, IsFollowingWrite, takes_memory, Finds, FindsOpen, AllKept, AllMapped, IsCutWithin, span_below, looked_range};
+ghost use Rattle.cc_content.specs.Following.{MayFollow, IsFollowing, IsFollowingWrite, IsFollowable, takes_memory, Finds, FindsOpen, AllKept, AllMapped, IsCutWithin, span_below, looked_range};
+ghost use Rattle.cc_content.specs.Owned.{changed_range, AllOwnedAmong, OwnsChanged, SameContents};
+ghost use Rattle.cc_resident.specs.Residents.{rest_of_page};
 
 use crate::changes;
 use crate::contents::Contents;
@@ -27,10 +30,39 @@ use std::alloc::Global;
 use std::cmp::min;
 
 impl Contents {
-    /// Follows a call of the stream that was done. `size` is the size before it, `truncation` the size that
-    /// an uninitialise sets, where it sets one, and `mapped` says whether there is a map after it. Only an
-    /// initialise that makes the map, a set of sizes, a noncached store and a write take memory; a write has
-    /// its bytes in a `Vec` for as long as this takes.
+    /// Makes the pages owned that a done call changes in place, by a copy of each that is shared. `truncation` is
+    /// the size that an uninitialise sets, where it sets one.
+    pub fn own(&mut self, call: &Call, truncation: Option<u64>) -> Result<(), NoMemory>
+        requires may { IsFollowable call.now truncation self.old }
+        ensures owned { OnOk result (OwnsChanged self.new call.now truncation) }
+        ensures same { SameContents self.old self.new }
+        ensures sure { changed_range call.now truncation ≡ None → IsOk result }
+    {
+        match call {
+            Call::CopyWrite { at, bytes, .. } => self.own_range(*at, *at + bytes.len()),
+            Call::PinnedWrite { at, bytes, .. } => self.own_range(*at, *at + bytes.len()),
+            Call::MdlStore { at, bytes, .. } => self.own_range(*at, *at + bytes.len()),
+            Call::Zero { span, .. } => self.own_range(span.from(), span.to()),
+            Call::PreparePin { at, len, zero, .. } => {
+                if *zero {
+                    self.own_range(*at, *at + *len)
+                } else {
+                    Ok(())
+                }
+            }
+            Call::SetSizes { size, .. } => self.own_rest(*size),
+            Call::Uninitialise { .. } => match truncation {
+                Some(size) => self.own_rest(size),
+                None => Ok(()),
+            },
+            _ => Ok(()),
+        }
+    }
+
+    /// Follows a call of the stream that was done, which finds the pages owned that it changes in place. `size`
+    /// is the size before it, `truncation` the size that an uninitialise sets, where it sets one, and `mapped`
+    /// says whether there is a map after it. Only an initialise that makes the map, a set of sizes, a noncached
+    /// store and a write take memory; a write has its bytes in a `Vec` for as long as this takes.
     pub fn done(
         &mut self,
         alloc: Global,
@@ -41,6 +73,7 @@ impl Contents {
         mapped: bool,
     ) -> Result<(), NoMemory>
         requires may { IsFollowing call.now reply.now self.old size truncation mapped }
+        requires owned { OwnsChanged self.old call.now truncation }
         ensures stands { OnOk result ((u : Setup) (past : List Entry) (pass nth s : ℕ) →
             MayFollow u past pass nth s call.now reply.now self.old size truncation mapped →
             ContentsStand (u.opening s)
@@ -84,6 +117,7 @@ impl Contents {
     /// Follows a done pinned write of these bytes from a place on, as `done` does, and takes no memory.
     pub fn pinned_write(&mut self, at: u64, bytes: &[u8])
         requires may { IsFollowingWrite at bytes.now self.old }
+        requires owned { AllOwnedAmong self.old.pages (Some (whole_range at (length bytes.now))) }
         ensures stands { (u : Setup) (past : List Entry) (pass nth s hold : ℕ) (reply : Reply) (size : ℕ)
             (truncation : Option ℕ) (mapped : Bool) →
             MayFollow u past pass nth s (call.PinnedWrite hold at bytes.now) reply self.old size truncation mapped →
@@ -91,6 +125,28 @@ impl Contents {
             (entry.Call pass nth (Some s) (call.PinnedWrite hold at bytes.now) (outcome.Done reply) ∷ past) s) self.new }
     {
         self.put(at, bytes, false);
+    }
+
+    // Makes the pages of a range owned.
+    fn own_range(&mut self, from: u64, to: u64) -> Result<(), NoMemory>
+        ensures owned { OnOk result (AllOwnedAmong self.new.pages (Some (record { from = from; to = to }))) }
+        ensures same { SameContents self.old self.new }
+    {
+        match &mut self.pages {
+            Some(pages) => pages.own_range(from, to),
+            None => Ok(()),
+        }
+    }
+
+    // Makes the page owned that has bytes on both sides of a size.
+    fn own_rest(&mut self, size: u64) -> Result<(), NoMemory>
+        ensures owned { OnOk result (AllOwnedAmong self.new.pages (Some (rest_of_page size))) }
+        ensures same { SameContents self.old self.new }
+    {
+        match &mut self.pages {
+            Some(pages) => pages.own_rest(size),
+            None => Ok(()),
+        }
     }
 
     /// Follows an initialise, with this size and valid data length where it makes the map. One that joins a
@@ -111,7 +167,8 @@ impl Contents {
     /// Follows an uninitialise, given the size that it sets, where it sets one; the pages go where there is
     /// no map after it.
     fn closed(&mut self, truncation: Option<u64>, mapped: bool)
-        requires { IsCutWithin self.old.pages truncation }
+        requires within { IsCutWithin self.old.pages truncation }
+        requires owned { AllOwnedAmong self.old.pages (option_map rest_of_page truncation) }
         ensures { (opening : Option (ℕ → List ℕ)) (h : List Effect) (pass : ℕ) (call : Call) (reply : Reply) →
             FindsOpen opening h call truncation self.old → mapped ≡ is_mapped (Did pass call reply ∷ h) →
             ContentsStand opening (Did pass call reply ∷ h) self.new }
@@ -127,7 +184,8 @@ impl Contents {
 
     /// Follows an uninitialise that sets the size, where the map stays.
     fn truncated(&mut self, size: u64)
-        requires { IsCutWithin self.old.pages (Some size) }
+        requires within { IsCutWithin self.old.pages (Some size) }
+        requires owned { AllOwnedAmong self.old.pages (Some (rest_of_page size)) }
         ensures stands { (opening : Option (ℕ → List ℕ)) (h : List Effect) (pass : ℕ) (call : Call)
             (reply : Reply) →
             FindsOpen opening h call (Some size) self.old → is_mapped (Did pass call reply ∷ h) ≡ true →
@@ -143,6 +201,7 @@ impl Contents {
 
     /// Follows a set of sizes. Only growth takes memory.
     fn resized(&mut self, size: u64) -> Result<(), NoMemory>
+        requires { AllOwnedAmong self.old.pages (Some (rest_of_page size)) }
         ensures stands { OnOk result ((opening : Option (ℕ → List ℕ)) (h : List Effect) (pass : ℕ)
             (call : Call) (reply : Reply) (allocation : ℕ) →
             Finds opening h pass call reply self.old → act_of call ≡ Resizes allocation size →
@@ -160,6 +219,7 @@ impl Contents {
     /// Follows a write of bytes, which are a `Vec` for as long as this takes.
     fn wrote(&mut self, alloc: Global, at: u64, bytes: &Bytes, uses: bool) -> Result<(), NoMemory>
         requires kept { AllKept self.old.pages (whole_range at (length bytes.now)) }
+        requires owned { AllOwnedAmong self.old.pages (Some (whole_range at (length bytes.now))) }
         requires fits { at + length bytes.now ≤ 2 ^ 63 }
         ensures stands { OnOk result ((opening : Option (ℕ → List ℕ)) (h : List Effect) (pass : ℕ)
             (call : Call) (reply : Reply) →
@@ -176,6 +236,7 @@ impl Contents {
     /// Follows a write of bytes, which begins at the valid data length or below it.
     fn put(&mut self, at: u64, bytes: &[u8], uses: bool)
         requires kept { AllKept self.old.pages (whole_range at (length bytes.now)) }
+        requires owned { AllOwnedAmong self.old.pages (Some (whole_range at (length bytes.now))) }
         requires fits { at + length bytes.now ≤ 2 ^ 63 }
         ensures { (opening : Option (ℕ → List ℕ)) (h : List Effect) (pass : ℕ) (call : Call) (reply : Reply) →
             Finds opening h pass call reply self.old → act_of call ≡ Writes at bytes.now →
@@ -192,7 +253,8 @@ impl Contents {
     /// Follows a zeroing of a range, which begins at the valid data length or below it, and a use of its
     /// blocks.
     fn zeroed(&mut self, from: u64, to: u64)
-        requires { AllMapped self.old.pages (Some (record { from = from; to = to })) }
+        requires mapped { AllMapped self.old.pages (Some (record { from = from; to = to })) }
+        requires owned { AllOwnedAmong self.old.pages (Some (record { from = from; to = to })) }
         ensures { (opening : Option (ℕ → List ℕ)) (h : List Effect) (pass : ℕ) (call : Call) (reply : Reply) →
             Finds opening h pass call reply self.old → act_of call ≡ Zeroes from to →
             Uses h pass call reply (Some (record { from = from; to = to })) → from ≤ valid_of h →

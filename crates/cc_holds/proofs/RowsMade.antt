@@ -16,12 +16,12 @@ use Rattle.cc_model.specs.Cache.{makes_hold}
 use Rattle.cc_model.specs.History.{Effect, Did, history}
 use Rattle.cc_model.specs.Legal.{IsLegal}
 use Rattle.cc_model.specs.Setup.{Setup}
-use Rattle.cc_holds.specs.Done.{MakesAbove}
+use Rattle.cc_holds.specs.Done.{MakesAbove, takes_memory}
 use Rattle.cc_holds.proofs.MadeIds.{id-made}
 use Rattle.cc_model.specs.Holds.{Hold, hold_at, holds_of, id_of, repinned}
 use Rattle.cc_laws.proofs.HoldSteps.{holds_of-done}
 use Rattle.cc_bcb.specs.declared.holds.Hold as kept
-use Rattle.cc_holds.specs.Makes.{new_row, row_made}
+use Rattle.cc_holds.specs.Makes.{new_row, row_made, row_named}
 use Rattle.cc_holds.specs.Stands.{HoldsStand}
 use Rattle.cc_holds.proofs.HoldsStanding.{stands-same, stands-other}
 
@@ -94,3 +94,22 @@ row-makes other id holds row is = absurd (cc)
 pub makes-above : (u : Setup) (past : List Entry) (pass nth s : ℕ) (call : Call) (reply : Reply) → IsLegal u (entry.Call pass nth (Some s) call (outcome.Done reply) ∷ past) → MakesAbove call (id_of reply) (holds_of (history past s))
 makes-above u past pass nth s call reply legal row is =
     id-made u past pass nth s call reply legal (row-makes call (id_of reply) (holds_of (history past s)) row is)
+
+-- a call for which memory is sure makes no hold
+pub sure-makes_none : (it : Call) → takes_memory it ≡ false → makes_hold it ≡ false
+sure-makes_none (call.PinnedWrite hold at bytes) sure = refl
+sure-makes_none other sure = sure
+
+-- a call that makes no hold names no row
+pub row_named-none : (it : Call) (id : ℕ) → makes_hold it ≡ false → row_named it id ≡ None
+row_named-none (call.Map file at len) id none = absurd (cc)
+row_named-none (call.PinRead file at len exclusive) id none = absurd (cc)
+row_named-none (call.PreparePin file at len zero exclusive) id none = absurd (cc)
+row_named-none (call.MdlRead file at len) id none = absurd (cc)
+row_named-none (call.MdlWrite file at len) id none = absurd (cc)
+row_named-none other id none = refl
+
+-- a repin makes a hold
+pub repin-makes : (it : Call) (hold : ℕ) → it ≡ call.Repin hold → makes_hold it ≡ false → ⊥
+repin-makes (call.Repin hold) named is none = absurd (cc)
+repin-makes other named is none = absurd (cc)

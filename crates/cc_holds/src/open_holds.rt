@@ -1,8 +1,9 @@
 //! The open holds, how each kind of call changes them, and what they say.
 
-ghost use Rattle.std.specs.Prelude.{◌||◌, ◌≡◌, ℕ, ◌<◌, ◌+◌, ◌^◌, true, nat_lt, Option, Some, List, [], ◌∷◌, All, IfOk, OnOk, OnErr, length, min, nat_eq, vec_len};
+ghost use Rattle.std.specs.Prelude.{◌||◌, ◌≡◌, ℕ, ◌<◌, ◌+◌, ◌^◌, true, nat_lt, Option, Some, None, false, List, [], ◌∷◌, All, IfOk, OnOk, OnErr, length, min, nat_eq, vec_len};
 ghost use Rattle.cc_entry.specs.declared.reply.Reply.{Reply};
 ghost use Rattle.cc_entry.specs.Pages.{blocks_of, whole_range};
+ghost use Rattle.cc_model.specs.Cache.{makes_hold};
 ghost use Rattle.cc_model.specs.History.{Effect, Did};
 ghost use Rattle.std.specs.List.{IsDistinct};
 ghost use Rattle.std.specs.Option.{option_map};
@@ -65,7 +66,8 @@ impl OpenHolds {
     /// below 2^64.
     pub(crate) fn row_made(&self, call: &Call, id: u64) -> Option<HoldRow>
         requires { zeroed_end call.now < 2 ^ 64 }
-        ensures { (h : List Effect) → HoldsStand h self.now → result ≡ row_made call.now id (holds_of h) }
+        ensures is { (h : List Effect) → HoldsStand h self.now → result ≡ row_made call.now id (holds_of h) }
+        ensures none { makes_hold call.now ≡ false → result ≡ None }
     {
         match call {
             Call::Repin { hold } => self.repin(*hold, id),

@@ -6,6 +6,7 @@ pub mod RowCounts
 pub mod TouchLoop
 pub mod RowFollow
 pub mod StreamsSteps
+pub mod MapClosing
 pub mod DeferredSteps
 pub mod ScanSteps
 pub mod RoomFor

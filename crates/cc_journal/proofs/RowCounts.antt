@@ -263,7 +263,8 @@ list_any-placed test n (m ∷ ns) = go (nat_lt n m) (m == n) refl (list_any-plac
     go false true same rest = again (test m) (list_any test ns) ∙ ap (λ k. test k || (test m || list_any test ns)) (eqb-true m n same)
     go false false other rest = ap (λ t. test m || t) rest ∙ swapped (test m) (test n) (list_any test ns)
 
-list_any-ascending : (test : ℕ → Bool) (ns : List ℕ) → list_any test (ascending ns) ≡ list_any test ns
+-- a test passes among numbers as it does among them in order
+pub list_any-ascending : (test : ℕ → Bool) (ns : List ℕ) → list_any test (ascending ns) ≡ list_any test ns
 list_any-ascending test [] = refl
 list_any-ascending test (n ∷ ns) = list_any-placed test n (ascending ns) ∙ ap (λ t. test n || t) (list_any-ascending test ns)
 

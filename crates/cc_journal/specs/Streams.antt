@@ -1,5 +1,5 @@
 -- What is kept of all streams, standing for a past.
-use Rattle.std.specs.Prelude.{◌≡◌, ℕ, ◌+◌, ◌^◌, ◌<◌, ◌≤◌, Bool, true, false, not, ◌&&◌, List, [], length, slice_index_or, Option, None, Some}
+use Rattle.std.specs.Prelude.{◌≡◌, ℕ, ◌+◌, ◌*◌, ◌^◌, ◌<◌, ◌≤◌, Bool, true, false, not, ◌==◌, ◌&&◌, nat_lt, List, [], length, slice_index_or, Option, None, Some}
 use Rattle.cc_entry.specs.Place.{Range}
 use Rattle.cc_entry.specs.Pages.{has_page}
 use Rattle.cc_entry.specs.declared.entry.Entry.{Entry}
@@ -91,3 +91,12 @@ is_written_behind h = not (is_temporary h) && not (has_no_write_behind h)
 -- the marks are those of the streams that the lazy writer looks at
 abbrev pub MarksWritten : List Entry → List Bool → Type 0
 MarksWritten past marks = (s : ℕ) → s < 16 → slice_index_or marks s false ≡ is_written_behind (history past s)
+
+-- whether a page begins below a size, where there is one
+abbrev pub begins_below : Option ℕ → ℕ → Bool
+begins_below None page = true
+begins_below (Some size) page = nat_lt (4096 * page) size
+
+-- whether a row is of a page of the stream that a cut at a size, where there is one, leaves
+abbrev pub is_left : ℕ → Option ℕ → Row → Bool
+is_left stream cut row = row.page.stream == stream && begins_below cut row.page.page

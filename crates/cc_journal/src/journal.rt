@@ -2,11 +2,13 @@
 
 ghost use Rattle.std.specs.Prelude.{◌≡◌, ◌↔◌, ℕ, suc, ◌+◌, ◌-◌, ◌^◌, ◌<◌, ◌≤◌, true, false, if◌then◌else◌, [], ◌∷◌, ◌++◌, List, Option, Some, slice_get, length, reverse, map, OnOk, OnErr, IfOk, IsErrOf, IfErr, All, drop, ◌⊎◌, ◌==◌, ◌&&◌, ◌||◌, nat_lt};
 ghost use Rattle.std.specs.Option.{option_map};
+ghost use Rattle.cc_entry.specs.declared.call.Call.TheVariants as call;
 ghost use Rattle.cc_entry.specs.declared.entry.Entry.{Entry};
 ghost use Rattle.cc_entry.specs.declared.entry.Entry.TheVariants as entry;
 ghost use Rattle.cc_entry.specs.declared.error.CcError.TheVariants as error;
 ghost use Rattle.cc_entry.specs.declared.hold.Deferral.{Deferral};
-ghost use Rattle.cc_model.specs.History.{history};
+ghost use Rattle.cc_entry.specs.declared.reply.Reply.{Reply};
+ghost use Rattle.cc_model.specs.History.{Did, history};
 ghost use Rattle.cc_laws.proofs.QueueSteps.{is_defer_or_post, is_scan};
 ghost use Rattle.cc_model.specs.Cache.{holds_made, holds_made_by, makes_hold, lazy_pages, views_taken};
 ghost use Rattle.cc_model.specs.Passes.{calls_of};
@@ -271,6 +273,15 @@ impl<Q> Journal<Q> {
         ensures { result ≡ is_mapped (history self.now.entries stream) }
     {
         self.streams.is_mapped(stream)
+    }
+
+    /// Whether the stream of a file object has a shared map after an uninitialise of the object
+    /// (`CcUninitializeCacheMap`): another object is open, or a page is dirty that the uninitialise does not cut.
+    pub fn stays_mapped(&self, file: FileId, truncate: Option<u64>) -> bool
+        ensures { (pass : ℕ) (reply : Reply) → result
+            ≡ is_mapped (Did pass (call.Uninitialise file truncate) reply ∷ history self.now.entries file.stream) }
+    {
+        self.streams.stays_mapped(file, truncate)
     }
 
     /// The log of a stream, where it has one (`CcSetLogHandleForFile`).

@@ -6,25 +6,28 @@ ghost use Rattle.indexmap.specs.IndexMap.{spare};
 ghost use Rattle.cc_entry.specs.declared.entry.Entry.{Entry};
 ghost use Rattle.cc_entry.specs.declared.entry.Entry.TheVariants as entry;
 ghost use Rattle.cc_entry.specs.declared.reply.Outcome.TheVariants as outcome;
+ghost use Rattle.std.specs.List.{list_any};
+ghost use Rattle.cc_entry.specs.declared.call.Call.TheVariants as call;
+ghost use Rattle.cc_entry.specs.declared.reply.Reply.{Reply};
 ghost use Rattle.cc_events.specs.Events.{event_of_act};
 ghost use Rattle.cc_events.specs.Touchings.{touching_of};
 ghost use Rattle.cc_model.specs.Acts.{act_of};
 ghost use Rattle.cc_model.specs.Sizes.{ended_ok};
 ghost use Rattle.cc_dirty.specs.Table.{Sound};
 ghost use Rattle.cc_journal.specs.Rows.{ChangesRows};
-ghost use Rattle.cc_model.specs.History.{history};
+ghost use Rattle.cc_model.specs.History.{Did, history};
 ghost use Rattle.cc_model.specs.Cache.{views_of, views_taken, dirty_count, dirty_total, lazy_pages};
 ghost use Rattle.cc_model.specs.Touches.{is_mapped};
 ghost use Rattle.cc_stream.specs.Stream.{Stream, StreamStands};
 ghost use Rattle.cc_journal.specs.AllStreams.{StandFor, HasRoomIn};
-ghost use Rattle.cc_journal.specs.Streams.{HasRoomFor, state_in, KeepsTransfersIn, reach, hold_named, is_of_call, leaves_streams, is_written_behind, MarksWritten};
+ghost use Rattle.cc_journal.specs.Streams.{HasRoomFor, begins_below, is_left, state_in, KeepsTransfersIn, reach, hold_named, is_of_call, leaves_streams, is_written_behind, MarksWritten};
 ghost use Rattle.cc_journal.specs.Places.{held_at};
 
 use crate::places::HoldPlaces;
 use crate::scans::{lazy_count, lazy_pages};
 use crate::table::{cut, discard, touch_range};
 use cc_dirty::DirtyTable;
-use cc_entry::{Call, End, Entry, NoMemory, Outcome, PageId, Reply, StreamId};
+use cc_entry::{Call, End, Entry, FileId, NoMemory, Outcome, PageId, Reply, StreamId};
 use cc_events::{Event, act, holding_by, id_in, stored_end};
 use cc_stream::StreamState;
 use std::alloc::Global;
@@ -78,6 +81,32 @@ impl Streams {
         ensures { (past : List Entry) → StandFor past self.now → result ≡ is_mapped (history past stream) }
     {
         self.state(stream).has_objects() || self.dirty.total(stream) > 0
+    }
+
+    /// Whether the stream of a file object has a shared map after an uninitialise of the object: another one is
+    /// open, or a page is dirty that the uninitialise does not cut.
+    pub(crate) fn stays_mapped(&self, file: FileId, truncate: Option<u64>) -> bool
+        ensures { (past : List Entry) (pass : ℕ) (reply : Reply) → StandFor past self.now →
+            result ≡ is_mapped (Did pass (call.Uninitialise file truncate) reply ∷ history past file.stream) }
+    {
+        let stream = file.stream();
+        let before = self.state(stream);
+        let cut = before.truncation(file.object(), truncate);
+        let mut after = *before;
+        after.done(
+            &Call::Uninitialise { file, truncate },
+            self.is_mapped(stream),
+        );
+        after.has_objects() || self.has_dirty_left(stream, cut)
+    }
+
+    // Whether a page of the stream is dirty that a cut at a size, where there is one, leaves.
+    fn has_dirty_left(&self, stream: StreamId, cut: Option<u64>) -> bool
+        ensures left { result ≡ list_any (is_left stream cut) self.now.dirty.rows }
+        ensures sound { Sound self.now.dirty.rows }
+    {
+        self.dirty.rows().iter().any(|row| row.page.stream() == stream
+            && begins_below(row.page, cut))
     }
 
     /// How many pages are dirty.
@@ -338,5 +367,15 @@ fn is_good(how: End) -> bool
     match how {
         End::Good => true,
         End::Failed | End::NoMemory => false,
+    }
+}
+
+// Whether a page begins below a size, where there is one.
+fn begins_below(page: PageId, size: Option<u64>) -> bool
+    ensures { result ≡ begins_below size page.page }
+{
+    match size {
+        Some(size) => 4096 * page.page() < size,
+        None => true,
     }
 }

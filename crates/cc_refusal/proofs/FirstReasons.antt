@@ -1,5 +1,5 @@
 -- The reasons for a refusal in parts.
-use Rattle.std.specs.Prelude.{◌≡◌, false, List, [], ◌∷◌, ◌++◌, refl}
+use Rattle.std.specs.Prelude.{◌≡◌, List, [], ◌∷◌, ◌++◌, refl}
 use Rattle.std.specs.declared.option.Option.{Option}
 use Rattle.std.specs.declared.option.Option.TheVariants.{Some, None}
 use Rattle.std.specs.List.{AllByRecursion}
@@ -7,15 +7,12 @@ use Rattle.std.proofs.Common.{◌∙◌}
 use Rattle.cc_entry.specs.declared.error.CcError.{CcError}
 use Rattle.cc_entry.specs.declared.entry.Entry.{Entry}
 use Rattle.cc_entry.specs.declared.call.Call.{Call}
-use Rattle.cc_entry.specs.declared.call.Call.TheVariants as call
 use Rattle.cc_model.specs.Setup.{Setup}
 use Rattle.cc_model.specs.History.{Effect}
 use Rattle.cc_model.specs.Touches.{size_of}
 use Rattle.cc_model.specs.Reasons.{beyond_size}
-use Rattle.cc_model.specs.Discards.{unsettled, grown}
 use Rattle.cc_model.specs.Refusals.{first_of, refusal}
-use Rattle.cc_refusal.specs.Known.{is_discard}
-use Rattle.cc_refusal.specs.Reasons.{argument_reasons, hold_reasons, use_reasons}
+use Rattle.cc_refusal.specs.Reasons.{argument_reasons, hold_reasons, use_reasons, disk_reasons}
 
 -- two lists with the same first reason and the same others are the same
 pub same_reasons : {a b : Option CcError} {xs ys : List (Option CcError)} → a ≡ b → xs ≡ ys → a ∷ xs ≡ b ∷ ys
@@ -33,17 +30,6 @@ first_missed [] ys is = refl
 first_missed (None ∷ xs) ys is = first_missed xs ys is
 first_missed (Some d ∷ xs) ys is = cc
 
--- the first reason of a list, before others
-first_before : (xs ys : List (Option CcError)) → first_of (first_of xs ∷ ys) ≡ first_of (xs ++ ys)
-first_before [] ys = refl
-first_before (None ∷ xs) ys = first_before xs ys
-first_before (Some e ∷ xs) ys = refl
-
--- reasons that do not hold add nothing
-first_alone : (a b c : Option CcError) → b ≡ None → c ≡ None → a ≡ first_of (a ∷ b ∷ c ∷ [])
-first_alone None b c none neither = rw (none, neither) refl
-first_alone (Some e) b c none neither = refl
-
 -- where there is no first reason, none holds
 none_of : (xs : List (Option CcError)) → None ≡ first_of xs → AllByRecursion (λ (a : Option CcError). a ≡ None) xs
 none_of [] is = tt
@@ -54,33 +40,28 @@ none_of (Some e ∷ xs) is = absurd (cc)
 pub within_size : (u : Setup) (h : List Effect) (it : Call) → None ≡ first_of (argument_reasons u h it) → beyond_size (size_of h) it ≡ None
 within_size u h it is = (none_of (argument_reasons u h it) is).1.1.1.1.1.1.0
 
-no_unsettled : (h : List Effect) (it : Call) → is_discard it ≡ false → unsettled h it ≡ None
-no_unsettled h (call.Discard file span) is = cc
-no_unsettled h other is = refl
-
-no_grown : (h : List Effect) (it : Call) → is_discard it ≡ false → grown h it ≡ None
-no_grown h (call.Discard file span) is = cc
-no_grown h other is = refl
-
 pub refusal-argument : (u : Setup) (past : List Entry) (h : List Effect) (it : Call) (e : CcError) → Some e ≡ first_of (argument_reasons u h it) → Some e ≡ refusal u past h it
 unfolding refusal
 refusal-argument u past h it e is =
-    first_found (argument_reasons u h it) (hold_reasons h it ++ (use_reasons past h it ++ unsettled h it ∷ grown h it ∷ [])) e is
+    first_found (argument_reasons u h it) (hold_reasons h it ++ (use_reasons past h it ++ disk_reasons h it)) e is
 
 pub refusal-hold : (u : Setup) (past : List Entry) (h : List Effect) (it : Call) (e : CcError) → None ≡ first_of (argument_reasons u h it) → Some e ≡ first_of (hold_reasons h it) → Some e ≡ refusal u past h it
 unfolding refusal
 refusal-hold u past h it e none is =
-    first_found (hold_reasons h it) (use_reasons past h it ++ unsettled h it ∷ grown h it ∷ []) e is
-    ∙ first_missed (argument_reasons u h it) (hold_reasons h it ++ (use_reasons past h it ++ unsettled h it ∷ grown h it ∷ [])) none
+    first_found (hold_reasons h it) (use_reasons past h it ++ disk_reasons h it) e is
+    ∙ first_missed (argument_reasons u h it) (hold_reasons h it ++ (use_reasons past h it ++ disk_reasons h it)) none
 
-pub refusal-use : (u : Setup) (past : List Entry) (h : List Effect) (it : Call) → None ≡ first_of (argument_reasons u h it) → None ≡ first_of (hold_reasons h it) → first_of (first_of (use_reasons past h it) ∷ unsettled h it ∷ grown h it ∷ []) ≡ refusal u past h it
+pub refusal-use : (u : Setup) (past : List Entry) (h : List Effect) (it : Call) (e : CcError) → None ≡ first_of (argument_reasons u h it) → None ≡ first_of (hold_reasons h it) → Some e ≡ first_of (use_reasons past h it) → Some e ≡ refusal u past h it
 unfolding refusal
-refusal-use u past h it none neither =
-    first_before (use_reasons past h it) (unsettled h it ∷ grown h it ∷ [])
-    ∙ (first_missed (hold_reasons h it) (use_reasons past h it ++ unsettled h it ∷ grown h it ∷ []) neither
-    ∙ first_missed (argument_reasons u h it) (hold_reasons h it ++ (use_reasons past h it ++ unsettled h it ∷ grown h it ∷ [])) none)
+refusal-use u past h it e none neither is =
+    first_found (use_reasons past h it) (disk_reasons h it) e is
+    ∙ (first_missed (hold_reasons h it) (use_reasons past h it ++ disk_reasons h it) neither
+    ∙ first_missed (argument_reasons u h it) (hold_reasons h it ++ (use_reasons past h it ++ disk_reasons h it)) none)
 
--- of a call that is no discard the two last reasons do not hold
-pub refusal-other : (u : Setup) (past : List Entry) (h : List Effect) (it : Call) (refused : Option CcError) → is_discard it ≡ false → first_of (refused ∷ unsettled h it ∷ grown h it ∷ []) ≡ refusal u past h it → refused ≡ refusal u past h it
-refusal-other u past h it refused other is =
-    first_alone refused (unsettled h it) (grown h it) (no_unsettled h it other) (no_grown h it other) ∙ is
+-- where no other reason holds, those of the disk decide
+pub refusal-disk : (u : Setup) (past : List Entry) (h : List Effect) (it : Call) → None ≡ first_of (argument_reasons u h it) → None ≡ first_of (hold_reasons h it) → None ≡ first_of (use_reasons past h it) → first_of (disk_reasons h it) ≡ refusal u past h it
+unfolding refusal
+refusal-disk u past h it none neither nor =
+    first_missed (use_reasons past h it) (disk_reasons h it) nor
+    ∙ (first_missed (hold_reasons h it) (use_reasons past h it ++ disk_reasons h it) neither
+    ∙ first_missed (argument_reasons u h it) (hold_reasons h it ++ (use_reasons past h it ++ disk_reasons h it)) none)

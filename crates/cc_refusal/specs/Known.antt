@@ -1,5 +1,5 @@
 -- What a refusal is decided from, and when that stands for a history.
-use Rattle.std.specs.Prelude.{◌≡◌, ℕ, ◌-◌, Bool, true, false, not, List}
+use Rattle.std.specs.Prelude.{◌≡◌, ℕ, ◌-◌, true, false, not, List}
 use Rattle.std.specs.declared.option.Option.{Option}
 use Rattle.std.specs.List.{find}
 use Rattle.std.specs.Option.{option_map}
@@ -16,6 +16,8 @@ use Rattle.cc_model.specs.Ranges.{cut_range}
 use Rattle.cc_model.specs.Residency.{is_resident}
 use Rattle.cc_stream.specs.Stream.{StreamStands}
 use Rattle.cc_holds.specs.Stands.{HoldsStand}
+use Rattle.cc_images.specs.Images.{ImagesStand}
+use Rattle.cc_images.specs.Dirty.{AreDirty}
 use Rattle.cc_refusal.specs.declared.known.Known.{Known}
 
 -- what a refusal is decided from stands for the setup, the past, and the history of the call's stream
@@ -24,13 +26,10 @@ pub record KnownStands (u : Setup) (past : List Entry) (h : List Effect) (known 
   pub valid : known.valid ≡ valid_of h
   pub mapped : known.mapped ≡ is_mapped h
   pub holds : HoldsStand h known.holds.now
+  pub images : ImagesStand h known.images.now
+  pub dirty : AreDirty h known.stream known.dirty.now
   pub logs : u.logs ≡ known.logs
   pub free_views : known.free_views ≡ 256 - views_taken past
-
--- whether a call is a discard
-abbrev pub is_discard : Call → Bool
-is_discard (call.Discard file span) = true
-is_discard other = false
 
 -- Of the range of a read which may not wait it is the least page that is not resident. Of another call nothing
 -- is said.

@@ -1,4 +1,4 @@
--- The reasons for a refusal in three parts, in their order.
+-- The reasons for a refusal in four parts, in their order.
 use Rattle.std.specs.Prelude.{List, [], ◌∷◌}
 use Rattle.std.specs.declared.option.Option.{Option}
 use Rattle.cc_entry.specs.declared.call.Call.{Call}
@@ -13,6 +13,7 @@ use Rattle.cc_model.specs.Ranges.{range_of}
 use Rattle.cc_model.specs.Reasons.{not_cached, cached_file, too_long, view_boundary, bad_sizes, bad_granularity, no_log, beyond_size, beyond_valid}
 use Rattle.cc_model.specs.Conflicts.{held, busy}
 use Rattle.cc_model.specs.Views.{viewed, no_views, no_vacbs, not_resident}
+use Rattle.cc_model.specs.Discards.{unsettled, grown}
 
 -- those in the arguments of a call, and in the sizes, maps and logs that it meets
 abbrev pub argument_reasons : Setup → List Effect → Call → List (Option CcError)
@@ -35,3 +36,7 @@ hold_reasons h call = held h call ∷ busy (holds_of h) call ∷ []
 abbrev pub use_reasons : List Entry → List Effect → Call → List (Option CcError)
 use_reasons past h call =
     no_views h (viewed h call (range_of (size_of h) call)) ∷ no_vacbs past h call ∷ not_resident h call ∷ []
+
+-- those in what the disk holds of dirty pages
+abbrev pub disk_reasons : List Effect → Call → List (Option CcError)
+disk_reasons h call = unsettled h call ∷ grown h call ∷ []

@@ -1,16 +1,23 @@
 //! What a refusal is decided from.
 
+use cc_dirty::Row;
+use cc_entry::StreamId;
 use cc_holds::OpenHolds;
+use cc_images::Images;
 use cc_stream::StreamState;
 
-/// What a refusal is decided from: the state of the call's stream, its valid data length, whether it has a
-/// shared map, its open holds, the number of logs, and how many of the 256 views no mapped stream has taken.
+/// What a refusal is decided from: the call's stream, its state, its valid data length, whether it has a shared
+/// map, its open holds, the images of its pages, the dirty pages of all streams, the number of logs, and how many
+/// of the 256 views no mapped stream has taken.
 #[derive(Clone, Copy)]
 pub struct Known<'a> {
+    pub stream: StreamId,
     pub state: &'a StreamState,
     pub valid: u64,
     pub mapped: bool,
     pub holds: &'a OpenHolds,
+    pub images: &'a Images,
+    pub dirty: &'a [Row],
     pub logs: u8,
     pub free_views: u16,
 }

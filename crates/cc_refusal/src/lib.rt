@@ -2,18 +2,18 @@
 //!
 //! What the layer keeps true: the refusal is the first of the definition's reasons that holds, in their order,
 //! wherever what is kept stands for the history. So no call repeats it: a call that is not refused here may be
-//! done, as far as the disks, the logs, the journal's room and memory let it. A discard has two reasons more, on
-//! what its disk holds of dirty pages, which no crate below keeps: of a discard the refusal is the first of the
-//! others, and the caller asks those two after it.
+//! done, as far as the disks, the logs, the journal's room and memory let it.
 //!
-//! The calls of the cache stand above. Below are what is kept of a stream (`cc_stream`) and its open holds
-//! (`cc_holds`), the values of `cc_entry`, the definitions of `cc_model` and how they step (`cc_laws`,
-//! `cc_events`). What the pages of a stream and the journal have to say comes as numbers, so that the crate
-//! stands on neither. Only the count of view blocks takes memory.
+//! The calls of the cache stand above. Below are what is kept of a stream (`cc_stream`), of its open holds
+//! (`cc_holds`) and of the images of its pages (`cc_images`), the rows of the dirty page table (`cc_dirty`), the
+//! values of `cc_entry`, the definitions of `cc_model` and how they step (`cc_laws`, `cc_events`). What else the
+//! pages of a stream and the journal have to say comes as numbers, so that the crate stands on neither. Only the
+//! count of view blocks takes memory.
 #![tactic(auto)]
 
 mod arguments;
 mod conflicts;
+mod disk;
 mod known;
 mod refusals;
 mod views;

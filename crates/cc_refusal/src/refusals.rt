@@ -1,20 +1,20 @@
 //! The refusal of a call: the first of its reasons, in their order.
 
-ghost use Rattle.std.specs.Prelude.{◌≡◌, false, None, List, [], ◌∷◌, IfOk};
+ghost use Rattle.std.specs.Prelude.{◌≡◌, None, List, IfOk};
 ghost use Rattle.cc_entry.specs.declared.entry.Entry.{Entry};
 ghost use Rattle.cc_model.specs.Setup.{Setup};
 ghost use Rattle.cc_model.specs.History.{Effect};
 ghost use Rattle.cc_model.specs.Touches.{size_of};
 ghost use Rattle.cc_model.specs.Reasons.{beyond_size};
-ghost use Rattle.cc_model.specs.Discards.{unsettled, grown};
 ghost use Rattle.cc_model.specs.Refusals.{first_of, refusal};
-ghost use Rattle.cc_refusal.specs.Known.{KnownStands, IsLeastAbsent, is_discard};
-ghost use Rattle.cc_refusal.specs.Reasons.{argument_reasons, hold_reasons, use_reasons};
+ghost use Rattle.cc_refusal.specs.Known.{KnownStands, IsLeastAbsent};
+ghost use Rattle.cc_refusal.specs.Reasons.{argument_reasons, hold_reasons, use_reasons, disk_reasons};
 
 use crate::arguments::{
     by_block, by_granularity, by_length, by_log, by_map, by_size, by_sizes, by_valid,
 };
 use crate::conflicts::{by_holds, by_pins};
+use crate::disk::{by_growth, by_images};
 use crate::known::Known;
 use crate::views::{by_pool, by_residents, by_views};
 use cc_entry::{Call, CcError, NoMemory};
@@ -79,25 +79,26 @@ fn by_use(
     Ok(first_in(&reasons))
 }
 
+// The first reason that lies in what the disk holds of dirty pages.
+fn by_disk(known: &Known, call: &Call) -> Option<CcError>
+    ensures { (u : Setup) (past : List Entry) (h : List Effect) → KnownStands u past h known.now →
+        result ≡ first_of (disk_reasons h call.now) }
+{
+    first_in(&[by_images(known, call), by_growth(known.images, call)])
+}
+
 /// The refusal of a call on a stream: the first reason that holds, in their order. `absent` is the least page
 /// of the call's range that is not resident, where the call is a copy read that may not wait; of other calls
 /// it is not looked at.
-///
-/// Of a discard it is only the first of those reasons that other calls have too. Its last two, a page whose
-/// image is not known and a page that has grown, need what is kept nowhere below: they are left to the caller.
 pub fn refusal(
     alloc: Global,
     known: &Known,
     call: &Call,
     absent: Option<u64>,
 ) -> Result<Option<CcError>, NoMemory>
-    ensures same { IfOk result (λ refused. (u : Setup) (past : List Entry) (h : List Effect) →
+    ensures { IfOk result (λ refused. (u : Setup) (past : List Entry) (h : List Effect) →
         KnownStands u past h known.now → IsLeastAbsent h call.now absent →
-        is_discard call.now ≡ false →
         refused ≡ refusal u past h call.now) }
-    ensures of_discard { IfOk result (λ refused. (u : Setup) (past : List Entry) (h : List Effect) →
-        KnownStands u past h known.now → IsLeastAbsent h call.now absent →
-        first_of (refused ∷ unsettled h call.now ∷ grown h call.now ∷ []) ≡ refusal u past h call.now) }
 {
     if let Some(refused) = by_arguments(known, call) {
         return Ok(Some(refused));
@@ -105,5 +106,8 @@ pub fn refusal(
     if let Some(refused) = by_conflicts(known, call) {
         return Ok(Some(refused));
     }
-    by_use(alloc, known, call, absent)
+    if let Some(refused) = by_use(alloc, known, call, absent)? {
+        return Ok(Some(refused));
+    }
+    Ok(by_disk(known, call))
 }

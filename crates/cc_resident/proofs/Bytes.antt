@@ -9,7 +9,7 @@ use Rattle.cc_entry.specs.Pages.{has_byte, whole_range}
 use Rattle.cc_entry.specs.Place.{Range}
 use Rattle.cc_pages.specs.Pages.{Page, owned, overwritten}
 use Rattle.cc_views.specs.Views.{Mapped}
-use Rattle.cc_resident.specs.Residents.{frame_at, page_at, byte_at, is_resident, blocks, has_pages, all_resident, all_mapped, is_among, IsFrame, AreResidents}
+use Rattle.cc_resident.specs.Residents.{frame_at, page_at, byte_at, is_resident, shares, is_shared, blocks, has_pages, all_resident, all_mapped, is_among, IsFrame, AreResidents}
 use Rattle.cc_resident.specs.Changes.{Puts, Covers}
 use Rattle.cc_resident.proofs.Frames.{resident_is, some_from}
 use Rattle.cc_resident.proofs.Kept.{page_alike, page_from, has_more}
@@ -51,17 +51,19 @@ pub record Over (old new : Mapped) (page at : ℕ) (bs : List ℕ) : Type 0 wher
   pub frame : Page
   pub was : frame_at old page ≡ Some frame
   pub long : length frame.bytes ≡ 4096
+  pub owned_is : is_shared old page ≡ false
   pub fits : at + length bs ≤ 4096
   pub puts : Puts old new page (Some (owned (overwritten frame.bytes at bs)))
 
-pub Over-from : (old new : Mapped) (page at : ℕ) (bs : List ℕ) → is_resident old page ≡ true → IsFrame (frame_at old page) → at + length bs ≤ 4096
+pub Over-from : (old new : Mapped) (page at : ℕ) (bs : List ℕ) → is_resident old page ≡ true → is_shared old page ≡ false → IsFrame (frame_at old page) → at + length bs ≤ 4096
     → IfSome (frame_at old page) (λ frame. Puts old new page (Some (owned (overwritten frame.bytes at bs)))) → Over old new page at bs
-Over-from old new page at bs h is fits w =
+Over-from old new page at bs h own is fits w =
     let f = some_from (frame_at old page) (sym (resident_is old page) ∙ h) in
     record {
       frame = f.0;
       was = f.1;
-      long = (subst IsFrame f.1 is).1;
+      long = subst IsFrame f.1 is;
+      owned_is = own;
       fits = fits;
       puts = subst (λ o. IfSome o (λ frame. Puts old new page (Some (owned (overwritten frame.bytes at bs))))) f.1 w;
     }
@@ -105,6 +107,15 @@ module _ (old new : Mapped) (page at : ℕ) (bs : List ℕ) (o : Over old new pa
           ap (is_resident new) e ∙ resident_is new page ∙ ap is_some o.puts.here ∙ sym (ap (is_resident old) e ∙ resident_is old page ∙ ap is_some o.was)
       by false t = ap is_some (page_alike old new p (o.puts.others p (λ s. true≢false (sym (eq-eqb p page s) ∙ t))))
 
+  over_shared : (p : ℕ) → is_shared new p ≡ is_shared old p
+  over_shared p = by (p == page) refl
+    where
+      by : (b : Bool) → (p == page) ≡ b → is_shared new p ≡ is_shared old p
+      by true t =
+          let e : p ≡ page = eqb-true p page t in
+          ap (is_shared new) e ∙ ap shares o.puts.here ∙ sym (ap (is_shared old) e ∙ o.owned_is)
+      by false t = ap shares (o.puts.others p (λ s. true≢false (sym (eq-eqb p page s) ∙ t)))
+
   pub Covers-over : Covers old new (whole_range (4096 * page + at) (length bs)) (λ i. get_or bs (i - (4096 * page + at)) 0)
   Covers-over =
       let r = whole_range (4096 * page + at) (length bs) in
@@ -112,13 +123,14 @@ module _ (old new : Mapped) (page at : ℕ) (bs : List ℕ) (o : Over old new pa
         inside = λ i h. over_inside i (in_range r i h);
         outside = λ i h. over_outside i (out_of_range r i h);
         pages = over_pages;
+        shared = over_shared;
       }
 
   over_frames : ((p : ℕ) → IsFrame (frame_at old p)) → (p : ℕ) → IsFrame (frame_at new p)
   over_frames was p = by (p == page) refl
     where
       by : (b : Bool) → (p == page) ≡ b → IsFrame (frame_at new p)
-      by true t = subst IsFrame (sym (ap (frame_at new) (eqb-true p page t) ∙ o.puts.here)) (refl, over-long o.frame.bytes bs at o.long o.fits)
+      by true t = subst IsFrame (sym (ap (frame_at new) (eqb-true p page t) ∙ o.puts.here)) (over-long o.frame.bytes bs at o.long o.fits)
       by false t = subst IsFrame (sym (o.puts.others p (λ s. true≢false (sym (eq-eqb p page s) ∙ t)))) (was p)
 
   pub AreResidents-over : AreResidents old → blocks new ≡ blocks old → AreResidents new

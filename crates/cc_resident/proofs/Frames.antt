@@ -11,7 +11,7 @@ use Rattle.std.specs.Option.{option_and_then, option_map, option_map_or, IfSome}
 use Rattle.cc_entry.specs.Pages.{block_of}
 use Rattle.cc_pages.specs.Pages.{Page, page_at as page_in, bytes_at, is_owned, KeepsOthers}
 use Rattle.cc_views.specs.Views.{Pages, Mapped, frames_at, with_frames, without as without_block, used as used_views, MapsLast}
-use Rattle.cc_resident.specs.Residents.{frame_at, page_at, is_resident, blocks, has_pages, is_among, without, used, IsFrame}
+use Rattle.cc_resident.specs.Residents.{frame_at, page_at, is_resident, shares, is_shared, blocks, has_pages, is_among, without, used}
 use Rattle.cc_resident.specs.Changes.{Puts, Keeps}
 use Rattle.cc_resident.proofs.Lists.{any_alike, none_within, without_absent}
 
@@ -47,11 +47,17 @@ some_map f (Some x) = refl
 pub resident_is : (m : Mapped) (p : ℕ) → is_resident m p ≡ is_some (frame_at m p)
 resident_is m p = ap is_some (page_is m p) ∙ some_map (λ (frame : Page). frame.bytes) (frame_at m p)
 
--- a resident page is owned
-pub owned_where : (m : Mapped) (p : ℕ) → IsFrame (frame_at m p) → is_resident m p ≡ true → is_owned (frame_at m p) ≡ true
-owned_where m p is h =
-    let f = some_from (frame_at m p) (sym (resident_is m p) ∙ h) in
-    ap is_owned f.1 ∙ (subst IsFrame f.1 is).0
+-- a resident page that is not shared is owned
+pub owned_where : (m : Mapped) (p : ℕ) → is_shared m p ≡ false → is_resident m p ≡ true → is_owned (frame_at m p) ≡ true
+owned_where m p own h = by (frame_at m p) own (sym (resident_is m p) ∙ h)
+  where
+    by : (o : Option Page) → shares o ≡ false → is_some o ≡ true → is_owned o ≡ true
+    by None own some = absurd (true≢false (sym some))
+    by (Some frame) own some = flip frame.owned own
+      where
+        flip : (b : Bool) → not b ≡ false → b ≡ true
+        flip true e = refl
+        flip false e = absurd (true≢false e)
 
 -- a block with no page has none at any place
 pub page_of_none : (m : Mapped) (block p : ℕ) → has_pages m block ≡ false → block_of p ≡ block → frame_at m p ≡ None

@@ -56,7 +56,7 @@ AreResidents-brought old new page bytes was starts w n order =
     here = resident_is new page ∙ ap is_some w.here
 
     frames : (p : ℕ) (b : Bool) → (p == page) ≡ b → IsFrame (frame_at new p)
-    frames p true e = subst IsFrame (sym (ap (frame_at new) (eqb-true p page e) ∙ w.here)) (refl, n)
+    frames p true e = subst IsFrame (sym (ap (frame_at new) (eqb-true p page e) ∙ w.here)) n
     frames p false e = subst IsFrame (sym (w.others p (λ s. true≢false (sym (eq-eqb p page s) ∙ e)))) (was.frames p)
 
     below : (p : ℕ) (b : Bool) → (p == page) ≡ b → is_resident new p ≡ true → 4096 * p < new.size
@@ -161,4 +161,4 @@ whole_page m p h = subst (λ o. IfSome o (λ bytes. length bytes ≡ 4096)) (sym
   where
     by : (o : Option Page) → IsFrame o → IfSome (option_map (λ (f : Page). f.bytes) o) (λ bytes. length bytes ≡ 4096)
     by None h = tt
-    by (Some frame) h = h.1
+    by (Some frame) h = h

@@ -4,3 +4,4 @@ mod Kept
 mod Bytes
 mod Spans
 mod Cuts
+mod Shares

@@ -237,6 +237,7 @@ Zeroes-then old mid new s u t a b h =
       inside = λ i e. inside i (u i) (s i) refl refl (sym (h i) ∙ e);
       outside = λ i e. outside i (s i) (u i) refl refl (sym (h i) ∙ e);
       pages = λ p. b.pages p ∙ a.pages p;
+      shared = λ p. b.shared p ∙ a.shared p;
     }
   where
     inside : (i : ℕ) (x y : Bool) → u i ≡ x → s i ≡ y → (s i || u i) ≡ true → byte_at new i ≡ option_map (λ _. 0) (byte_at old i)
@@ -259,6 +260,7 @@ Covers-all old new place from to h w =
       inside = λ i e. inside i e (is_among (block_of (i / 4096)) (blocks old)) refl;
       outside = λ i e. w.outside i (right_false (in_front place (blocks old) (block_of (i / 4096))) (is_between from to i) e);
       pages = w.pages;
+      shared = w.shared;
     }
   where
     right_false : (a b : Bool) → b ≡ false → (a && b) ≡ false
@@ -278,11 +280,12 @@ Zeroes-covers old new a b zs w n zeros =
       inside = λ i e. w.inside i (ap (λ t. is_between a t i) n ∙ e) ∙ ap (λ v. option_map (λ _. v) (byte_at old i)) (zeros (i - a));
       outside = λ i e. w.outside i (ap (λ t. is_between a t i) n ∙ e);
       pages = w.pages;
+      shared = w.shared;
     }
 
 pub Zeroes-absent : (m : Mapped) (page from to : ℕ) → page_at m page ≡ None → to ≤ 4096 → Zeroes m m (is_between (4096 * page + from) (4096 * page + to))
 Zeroes-absent m page from to h fits =
-    record { inside = λ i e. inside i (between-true (4096 * page + from) (4096 * page + to) i e); outside = λ i _. refl; pages = λ p. refl }
+    record { inside = λ i e. inside i (between-true (4096 * page + from) (4096 * page + to) i e); outside = λ i _. refl; pages = λ p. refl; shared = λ p. refl }
   where
     inside : (i : ℕ) → (4096 * page + from ≤ i) × (i < 4096 * page + to) → byte_at m i ≡ option_map (λ _. 0) (byte_at m i)
     inside i k =

@@ -5,18 +5,35 @@ use Rattle.cc_entry.specs.Pages.{has_byte}
 use Rattle.cc_entry.specs.Place.{Range}
 use Rattle.cc_pages.specs.Pages.{Page}
 use Rattle.cc_views.specs.Views.{Mapped}
-use Rattle.cc_resident.specs.Residents.{frame_at, page_at, byte_at, is_resident}
+use Rattle.cc_resident.specs.Residents.{frame_at, page_at, byte_at, is_resident, is_shared, blocks}
 
 -- every page but one is as it was
 abbrev pub KeepsOthers : Mapped → Mapped → ℕ → Type 0
 KeepsOthers old new page = (p : ℕ) → p ≢ page → page_at new p ≡ page_at old p
 
--- The bytes of a range become these, where their page is resident; every other byte is as it was, and the
--- same pages are resident.
+-- every page has the bytes that it had, and the blocks are used in the same order: only which frames are
+-- shared may change
+pub record SameBytes (old new : Mapped) : Type 0 where
+  pub pages : (p : ℕ) → page_at new p ≡ page_at old p
+  pub blocks : blocks new ≡ blocks old
+  pub quota : new.quota ≡ old.quota
+  pub size : new.size ≡ old.size
+
+-- a page that was owned is still owned
+abbrev pub StaysOwned : Mapped → Mapped → Type 0
+StaysOwned old new = (p : ℕ) → is_shared old p ≡ false → is_shared new p ≡ false
+
+-- no page but one came to be shared, or owned
+abbrev pub SharesOnly : Mapped → Mapped → ℕ → Type 0
+SharesOnly old new page = (p : ℕ) → p ≢ page → is_shared new p ≡ is_shared old p
+
+-- The bytes of a range become these, where their page is resident; every other byte is as it was, the same
+-- pages are resident, and the same are shared.
 pub record Covers (old new : Mapped) (range : Range) (byte : ℕ → ℕ) : Type 0 where
   pub inside : (i : ℕ) → has_byte range i ≡ true → byte_at new i ≡ option_map (λ _. byte i) (byte_at old i)
   pub outside : (i : ℕ) → has_byte range i ≡ false → byte_at new i ≡ byte_at old i
   pub pages : (p : ℕ) → is_resident new p ≡ is_resident old p
+  pub shared : (p : ℕ) → is_shared new p ≡ is_shared old p
 
 -- A stream is cut to a size: the pages that start at or past it are gone, the others are still resident
 -- with their bytes, but for those at or past the size, which are 0.
@@ -47,11 +64,12 @@ pub record Clears (old new : Mapped) (test : ℕ → Bool) : Type 0 where
   pub size : new.size ≡ old.size
 
 -- each byte of a resident page whose place passes a test is 0, every other one is as it was, and the same
--- pages are resident
+-- pages are resident and shared
 pub record Zeroes (old new : Mapped) (test : ℕ → Bool) : Type 0 where
   pub inside : (i : ℕ) → test i ≡ true → byte_at new i ≡ option_map (λ _. 0) (byte_at old i)
   pub outside : (i : ℕ) → test i ≡ false → byte_at new i ≡ byte_at old i
   pub pages : (p : ℕ) → is_resident new p ≡ is_resident old p
+  pub shared : (p : ℕ) → is_shared new p ≡ is_shared old p
 
 -- the pages that start at or past a size are gone, and every other frame is as it was
 pub record CutsPages (old new : Mapped) (size : ℕ) : Type 0 where

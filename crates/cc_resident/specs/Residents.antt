@@ -1,8 +1,9 @@
 -- The resident pages of a stream as contracts see them.
-use Rattle.std.specs.Prelude.{◌≡◌, ℕ, ◌*◌, ◌/◌, ◌%◌, ◌<◌, Bool, true, not, ◌==◌, List, [], ◌∷◌, ◌++◌, length, slice_index_or, Option, None, Some, is_some, option_and_then}
+use Rattle.std.specs.Prelude.{◌≡◌, ℕ, ◌*◌, ◌/◌, ◌%◌, ◌<◌, Bool, true, false, not, ◌==◌, List, [], ◌∷◌, ◌++◌, length, slice_index_or, Option, None, Some, is_some, option_and_then}
 use Rattle.std.specs.List.{filter, list_any, list_all, range_with_len}
 use Rattle.std.specs.Option.{option_map}
-use Rattle.cc_entry.specs.Pages.{block_of, blocks_of, pages_of}
+use Rattle.std.specs.Int.{div_ceil}
+use Rattle.cc_entry.specs.Pages.{block_of, blocks_of, pages_of, has_page}
 use Rattle.cc_entry.specs.Place.{Range}
 use Rattle.cc_pages.specs.Pages.{Page, page_at as page_in}
 use Rattle.cc_views.specs.Views.{Mapped, Pages, mapped_blocks, frames_at}
@@ -22,6 +23,23 @@ is_resident m p = is_some (page_at m p)
 -- whether each page with bytes of the range is
 abbrev pub all_resident : Mapped → Range → Bool
 all_resident m r = list_all (is_resident m) (pages_of r)
+
+-- whether a frame, where there is one, is shared with snapshots of it
+abbrev pub shares : Option Page → Bool
+shares None = false
+shares (Some frame) = not frame.owned
+
+-- whether a page is resident and shared
+abbrev pub is_shared : Mapped → ℕ → Bool
+is_shared m p = shares (frame_at m p)
+
+-- each resident page with bytes of the range is owned
+abbrev pub AllOwned : Mapped → Range → Type 0
+AllOwned m r = (p : ℕ) → has_page r p ≡ true → is_shared m p ≡ false
+
+-- the bytes from a place up to the end of its page, none where a page begins there
+abbrev pub rest_of_page : ℕ → Range
+rest_of_page at = record { from = at; to = 4096 * div_ceil at 4096 }
 
 -- the byte of the stream at i, or none where its page is not resident
 unfoldable pub byte_at : Mapped → ℕ → Option ℕ
@@ -56,13 +74,13 @@ abbrev pub used : List ℕ → List ℕ → List ℕ
 used [] order = order
 used (b ∷ bs) order = used bs (without b order ++ b ∷ [])
 
--- a frame is owned and has the bytes of a page
+-- a frame has the bytes of a page
 abbrev pub IsFrame : Option Page → Type 0
 IsFrame None = Unit {0}
-IsFrame (Some frame) = (frame.owned ≡ true) × (length frame.bytes ≡ 4096)
+IsFrame (Some frame) = length frame.bytes ≡ 4096
 
--- each frame is owned and has the bytes of a page, each resident page starts below the size, and each
--- mapped block has a resident page
+-- each frame has the bytes of a page, each resident page starts below the size, and each mapped block has a
+-- resident page
 pub record AreResidents (m : Mapped) : Type 0 where
   pub frames : (p : ℕ) → IsFrame (frame_at m p)
   pub below : (p : ℕ) → is_resident m p ≡ true → 4096 * p < m.size

@@ -1,15 +1,16 @@
 //! The resident pages of a stream.
 
-ghost use Rattle.std.specs.Prelude.{◌≡◌, ◌≢◌, ℕ, ◌+◌, ◌-◌, ◌*◌, ◌/◌, ◌%◌, ◌^◌, ◌<◌, ◌≤◌, ◌==◌, ◌&&◌, ◌⊎◌, [], ◌∷◌, length, IsSome, IfSome, IfOk, IsOk, OnOk, OnErr, None, Some, true, is_some, not, slice_index};
+ghost use Rattle.std.specs.Prelude.{◌≡◌, ◌≢◌, ℕ, ◌+◌, ◌-◌, ◌*◌, ◌/◌, ◌%◌, ◌^◌, ◌<◌, ◌≤◌, ◌==◌, ◌&&◌, ◌⊎◌, [], ◌∷◌, length, IsSome, IfSome, IfOk, IsOk, OnOk, OnErr, None, Some, true, false, is_some, not, slice_index};
 ghost use Rattle.std.specs.List.{list_all, filter, find};
 ghost use Rattle.std.specs.Option.{option_copied};
 ghost use Rattle.cc_entry.specs.Pages.{block_of, blocks_of, pages_of, whole_range};
 ghost use Rattle.cc_views.specs.Views.{IsSound, first_not_in};
-ghost use Rattle.cc_resident.specs.Residents.{page_at, is_resident, all_resident, all_mapped, blocks, has_pages, is_among, used};
-ghost use Rattle.cc_resident.specs.Changes.{KeepsOthers, Keeps, Covers, Zeroes, Cuts, CutsPages, is_between};
+ghost use Rattle.cc_resident.specs.Residents.{page_at, is_resident, all_resident, all_mapped, is_shared, AllOwned, rest_of_page, blocks, has_pages, is_among, used};
+ghost use Rattle.cc_resident.specs.Changes.{KeepsOthers, Keeps, SameBytes, StaysOwned, SharesOnly, Covers, Zeroes, Cuts, CutsPages, is_between};
 
 use crate::steps;
 use cc_entry::{NoMemory, Quota};
+use cc_pages::Frame;
 use cc_views::Views;
 use std::alloc::Global;
 use std::cmp::min;
@@ -112,6 +113,38 @@ impl ResidentPages {
         self.views.quota()
     }
 
+    /// Makes a snapshot of a page, which is shared then; `None` where the page is not resident.
+    pub fn share(&mut self, page: u64) -> Result<Option<Frame>, NoMemory>
+        ensures snapshot { IfOk result (λ frame. frame ≡ page_at self.old page) }
+        ensures whole { IfOk result (λ frame. IfSome frame (λ bytes. length bytes ≡ 4096)) }
+        ensures bytes { SameBytes self.old self.new }
+        ensures others { SharesOnly self.old self.new page }
+    {
+        steps::share(&mut self.views, page)
+    }
+
+    /// Makes the resident pages with bytes of a range owned, by a copy of each that is shared.
+    pub fn own_range(&mut self, from: u64, to: u64) -> Result<(), NoMemory>
+        ensures owned { OnOk result (AllOwned self.new (record { from = from; to = to })) }
+        ensures bytes { SameBytes self.old self.new }
+        ensures stays { StaysOwned self.old self.new }
+    {
+        if from < to {
+            steps::own_span(&mut self.views, from / 4096, to.div_ceil(4096))
+        } else {
+            Ok(())
+        }
+    }
+
+    /// Makes the page owned that a cut to a size would change, where there is one.
+    pub fn own_rest(&mut self, size: u64) -> Result<(), NoMemory>
+        ensures owned { OnOk result (AllOwned self.new (rest_of_page size)) }
+        ensures bytes { SameBytes self.old self.new }
+        ensures stays { StaysOwned self.old self.new }
+    {
+        steps::own_span(&mut self.views, size / 4096, size.div_ceil(4096))
+    }
+
     /// Makes a page these bytes, whether it was resident or not, and notes a use of its block.
     pub fn bring_in(&mut self, page: u64, bytes: &[u8; 4096]) -> Result<(), NoMemory>
         requires starts { 4096 * page < self.old.size }
@@ -159,6 +192,7 @@ impl ResidentPages {
     /// Cuts the stream to a size, or lets it grow. The pages that start at or past the size are taken out,
     /// and bytes past it are 0. Only growth takes memory.
     pub fn cut(&mut self, size: u64) -> Result<(), NoMemory>
+        requires owned { AllOwned self.old (rest_of_page size) }
         ensures pages { OnOk result (Cuts self.old self.new size) }
         ensures blocks { OnOk result (blocks self.new ≡ filter (has_pages self.new) (blocks self.old)) }
         ensures quota { self.new.quota ≡ self.old.quota }
@@ -171,9 +205,10 @@ impl ResidentPages {
         Ok(())
     }
 
-    /// Writes bytes over those of a range whose pages are resident.
+    /// Writes bytes over those of a range whose pages are resident and owned.
     pub fn write(&mut self, at: u64, bytes: &[u8])
         requires resident { all_resident self.old (whole_range at (length bytes.now)) ≡ true }
+        requires owned { AllOwned self.old (whole_range at (length bytes.now)) }
         requires fits { at + length bytes.now ≤ 2 ^ 63 }
         ensures bytes { Covers self.old self.new (whole_range at (length bytes.now))
             (λ i. slice_index bytes.now (i - at)) }
@@ -191,8 +226,9 @@ impl ResidentPages {
         }
     }
 
-    /// Makes the bytes of a range 0, wherever their page is resident.
+    /// Makes the bytes of a range 0, wherever their page is resident, and so owned.
     pub fn zero(&mut self, from: u64, to: u64)
+        requires { AllOwned self.old (record { from = from; to = to }) }
         ensures bytes { Covers self.old self.new (record { from = from; to = to }) (λ _. 0) }
         ensures blocks { blocks self.new ≡ blocks self.old }
         ensures quota { self.new.quota ≡ self.old.quota }
@@ -210,6 +246,7 @@ impl ResidentPages {
     pub fn use_range(&mut self, from: u64, to: u64)
         requires { all_mapped self.old (record { from = from; to = to }) ≡ true }
         ensures pages { (p : ℕ) → page_at self.new p ≡ page_at self.old p }
+        ensures shared { (p : ℕ) → is_shared self.new p ≡ is_shared self.old p }
         ensures blocks { blocks self.new
             ≡ used (blocks_of (record { from = from; to = to })) (blocks self.old) }
         ensures quota { self.new.quota ≡ self.old.quota }
@@ -260,9 +297,10 @@ impl ResidentPages {
         }
     }
 
-    // Writes bytes into one page that is resident.
+    // Writes bytes into one page that is resident and owned.
     fn write_in_page(&mut self, page: u64, at: u16, bytes: &[u8])
         requires resident { is_resident self.old page ≡ true }
+        requires owned { is_shared self.old page ≡ false }
         requires fits { at + length bytes.now ≤ 4096 }
         ensures bytes { Covers self.old self.new (whole_range (4096 * page + at) (length bytes.now))
             (λ i. slice_index bytes.now (i - (4096 * page + at))) }
@@ -274,7 +312,8 @@ impl ResidentPages {
     }
 
     fn zero_in_block(&mut self, block: u64, from: u64, to: u64)
-        requires { block < 2 ^ 46 }
+        requires number { block < 2 ^ 46 }
+        requires owned { AllOwned self.old (record { from = from; to = to }) }
         ensures bytes { Zeroes self.old self.new
             (λ i. block_of (i / 4096) == block && is_between from to i) }
         ensures blocks { blocks self.new ≡ blocks self.old }
@@ -287,7 +326,8 @@ impl ResidentPages {
     }
 
     fn zero_in_page(&mut self, page: u64, from: u64, to: u64)
-        requires { page < 2 ^ 52 }
+        requires number { page < 2 ^ 52 }
+        requires owned { AllOwned self.old (record { from = from; to = to }) }
         ensures bytes { Zeroes self.old self.new (λ i. i / 4096 == page && is_between from to i) }
         ensures blocks { blocks self.new ≡ blocks self.old }
         ensures quota { self.new.quota ≡ self.old.quota }
@@ -305,6 +345,7 @@ impl ResidentPages {
     fn zero_part(&mut self, page: u64, from: u16, to: u16)
         requires order { from ≤ to }
         requires within { to ≤ 4096 }
+        requires owned { is_shared self.old page ≡ false }
         ensures bytes { Zeroes self.old self.new (is_between (4096 * page + from) (4096 * page + to)) }
         ensures blocks { blocks self.new ≡ blocks self.old }
         ensures quota { self.new.quota ≡ self.old.quota }

@@ -1,16 +1,17 @@
 //! Steps on the mapped blocks, some of which may leave a block with no page.
 
-ghost use Rattle.std.specs.Prelude.{◌≡◌, ◌≢◌, ℕ, ◌+◌, ◌*◌, ◌/◌, ◌%◌, ◌^◌, ◌<◌, ◌≤◌, ◌==◌, ◌&&◌, nat_eq, [], ◌∷◌, length, IsSome, OnOk, OnErr, None, Some, is_some, true, IfSome, if◌then◌else◌};
+ghost use Rattle.std.specs.Prelude.{◌≡◌, ◌≢◌, ℕ, ◌+◌, ◌*◌, ◌/◌, ◌%◌, ◌^◌, ◌<◌, ◌≤◌, ◌==◌, ◌&&◌, nat_eq, [], ◌∷◌, length, IsSome, OnOk, OnErr, IfOk, None, Some, is_some, true, false, IfSome, if◌then◌else◌};
 ghost use Rattle.std.specs.List.{filter, list_any, range_with_len, IsDistinct};
 ghost use Rattle.cc_entry.specs.Pages.{block_of};
-ghost use Rattle.cc_pages.specs.Pages.{owned, bytes_at, is_owned, overwritten};
+ghost use Rattle.cc_pages.specs.Pages.{owned, page_at as page_in, bytes_at, is_owned, overwritten, KeepsOthers};
 ghost use Rattle.cc_views.specs.Views.{frames_at, IsSound};
-ghost use Rattle.cc_resident.specs.Residents.{frame_at, blocks, has_pages, used, without};
-ghost use Rattle.cc_resident.specs.Changes.{Puts, Keeps, Clears, is_between};
+ghost use Rattle.cc_resident.specs.Residents.{frame_at, page_at, shares, is_shared, blocks, has_pages, used, without};
+ghost use Rattle.cc_resident.specs.Changes.{Puts, Keeps, SameBytes, StaysOwned, SharesOnly, Clears, is_between};
 
 use cc_entry::NoMemory;
-use cc_pages::Frames;
+use cc_pages::{Frame, Frames};
 use cc_views::Views;
+use std::cmp::{max, min};
 
 // Makes a page of a block that is not mapped these bytes.
 pub(crate) fn add(views: &mut Views, page: u64, bytes: &[u8; 4096]) -> Result<(), NoMemory>
@@ -55,6 +56,36 @@ pub(crate) fn overwrite(views: &mut Views, page: u64, at: u16, bytes: &[u8])
         Some(frames) => frames.write((page % 64) as u8, at, bytes),
         None => unreachable!(),
     }
+}
+
+// Makes a snapshot of a page, where it is resident.
+pub(crate) fn share(views: &mut Views, page: u64) -> Result<Option<Frame>, NoMemory>
+    ensures snapshot { IfOk result (λ frame. frame ≡ page_at views.old page) }
+    ensures bytes { SameBytes views.old views.new }
+    ensures others { SharesOnly views.old views.new page }
+{
+    match views.frames_mut(page / 64) {
+        Some(frames) => match frames.share((page % 64) as u8) {
+            Ok(frame) => Ok(frame),
+            Err(_) => Err(NoMemory),
+        },
+        None => Ok(None),
+    }
+}
+
+// Makes the pages from one up to, and without, another owned, where they are resident.
+pub(crate) fn own_span(views: &mut Views, from: u64, to: u64) -> Result<(), NoMemory>
+    ensures owned { OnOk result ((p : ℕ) → from ≤ p → p < to → is_shared views.new p ≡ false) }
+    ensures bytes { SameBytes views.old views.new }
+    ensures stays { StaysOwned views.old views.new }
+{
+    // The size is what says that the numbers of the pages are in range.
+    let _size = views.size();
+    for place in 0..views.len() {
+        let block = views.block_at(place);
+        own_in_block(views, block, from, to)?;
+    }
+    Ok(())
 }
 
 // Notes a use of a mapped block.
@@ -128,6 +159,47 @@ fn put(views: &mut Views, page: u64, bytes: &[u8; 4096]) -> Result<(), NoMemory>
             Err(_) => Err(NoMemory),
         },
         None => unreachable!(),
+    }
+}
+
+fn own_in_block(views: &mut Views, block: u64, from: u64, to: u64) -> Result<(), NoMemory>
+    requires { block < 2 ^ 46 }
+    ensures owned { OnOk result ((p : ℕ) → block_of p ≡ block → from ≤ p → p < to →
+        is_shared views.new p ≡ false) }
+    ensures bytes { SameBytes views.old views.new }
+    ensures stays { StaysOwned views.old views.new }
+{
+    for page in max(64 * block, from)..min(64 * block + 64, to) {
+        own(views, page)?;
+    }
+    Ok(())
+}
+
+// Makes a page owned, where it is resident.
+fn own(views: &mut Views, page: u64) -> Result<(), NoMemory>
+    ensures owned { OnOk result (is_shared views.new page ≡ false) }
+    ensures bytes { SameBytes views.old views.new }
+    ensures stays { StaysOwned views.old views.new }
+{
+    match views.frames_mut(page / 64) {
+        Some(frames) => own_in(frames, (page % 64) as u8),
+        None => Ok(()),
+    }
+}
+
+fn own_in(frames: &mut Frames, i: u8) -> Result<(), NoMemory>
+    requires { i < 64 }
+    ensures owned { OnOk result (shares (page_in frames.new i) ≡ false) }
+    ensures bytes { bytes_at frames.new i ≡ bytes_at frames.old i }
+    ensures others { KeepsOthers frames.old frames.new i }
+    ensures err { OnErr result (frames.new ≡ frames.old) }
+{
+    if frames.get(i).is_none() {
+        return Ok(());
+    }
+    match frames.own(i) {
+        Ok(()) => Ok(()),
+        Err(_) => Err(NoMemory),
     }
 }
 

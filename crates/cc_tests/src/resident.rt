@@ -39,8 +39,10 @@ fn blocks_come_are_used_and_go(rt: HostRuntime) -> Result<(), Fail> {
     assert_eq!(rt; pages.mapped(), 62);
     pages.take_out(192);
     assert_eq!(rt; (pages.mapped(), pages.is_mapped(3)), (61, false));
+    pages.own_rest(1)?;
     pages.cut(1)?;
     assert_eq!(rt; (pages.mapped(), pages.size()), (1, 1));
+    pages.own_rest(1 << 26)?;
     pages.cut(1 << 26)?;
     assert_eq!(rt; (pages.mapped(), pages.size()), (1, 1 << 26));
     assert_eq!(rt; pages.quota().blocks(), 64);
@@ -54,8 +56,13 @@ fn bytes_are_written_over_a_boundary_and_zeroed(rt: HostRuntime) -> Result<(), F
     assert_eq!(rt; pages.first_absent(0, 4 * PAGE), Some(2));
     assert!(rt; pages.get(0).is_some());
     assert!(rt; pages.get(1).is_some());
+    let snapshot = pages.share(0)?;
+    assert!(rt; pages.share(2)?.is_none());
+    pages.own_range(PAGE - 2, PAGE + 1)?;
     pages.write(PAGE - 2, &[1, 2, 3]);
+    pages.own_range(PAGE - 1, PAGE)?;
     pages.zero(PAGE - 1, PAGE);
+    assert!(rt; snapshot.is_some_and(|frame| frame.bytes()[4093..] == [7, 7, 7]));
     assert!(rt; pages.get(0).is_some_and(|page| page[4093..] == [7, 1, 0]));
     assert!(rt; pages.get(1).is_some_and(|page| page[..2] == [3, 8]));
     Ok(())

@@ -22,7 +22,7 @@ returns-then-uses c = λ opening h pass call reply was is uses starts mapped.
     let changed =
     Changed-then m c.write.new.self c.use_range.new.self r (λ i. get_or bytes (i - at) 0)
     (Some r) c.write.ensures.bytes c.write.ensures.blocks c.write.ensures.quota c.write.ensures.size
-    (record { pages = c.use_range.ensures.pages; quota = c.use_range.ensures.quota; size = c.use_range.ensures.size }) c.use_range.ensures.blocks in
+    (record { pages = c.use_range.ensures.pages; quota = c.use_range.ensures.quota; size = c.use_range.ensures.size }) c.use_range.ensures.blocks c.use_range.ensures.shared in
     stands-written opening h pass call reply m c.use_range.new.self at bytes (Some r) changed was
     (kept-all_mapped m r c.requires.resident)
     is (subst (λ u. Uses h pass call reply (used_if u r)) c.if-uses.true uses) starts mapped

@@ -39,7 +39,7 @@ loop-file-preserved g c =
           first.0 (c.len-handle.ensures ∙ c.loop-file.places.ok.0) c.new.ensures.same c.new.ensures.stands) c.loop-file.invariant.home);
       left = subst (λ n. reverse c.pop.new.self.items ≡ drop n c.args.row.now.items) (sym next) first.1;
       counted = omega (arith, longer _ _ c.in-Some.file c.in-Some.ensures.items, more, c.loop-file.invariant.counted);
-      room = c.push_reserved.ensures.capacity ∙ c.loop-file.invariant.room;
+      room = rw c.push_reserved.ensures.capacity c.loop-file.invariant.room;
       capacity = c.pop.ensures.capacity ∙ c.loop-file.invariant.capacity;
     }
 

@@ -11,7 +11,7 @@ use Rattle.cc_book.proofs.book.Book.absent_of.Goals as goal
 
 pub returns : goal.returns
 returns c opening past stands =
-    let b : BookState = record { stream = c.self.inside.stream; state = c.self.inside.state; maps = c.self.inside.maps; holds = c.self.inside.holds; contents = c.self.inside.contents } in
+    let b : BookState = record { stream = c.self.inside.stream; state = c.self.inside.state; maps = c.self.inside.maps; holds = c.self.inside.holds; contents = c.self.inside.contents; images = c.self.inside.images } in
     let was : BookStands opening past b = subst (λ (x : BookState). BookStands opening past x) (sym c.self.view_is) stands in
     let stream : b.stream ≡ c.args.self.now.stream = ap (λ x. x.stream) c.self.view_is in
     let found = c.first_absent.ensures opening (history past b.stream) was.contents_are in

@@ -11,13 +11,40 @@ use Rattle.cc_book.proofs.book.Book.end.Goals as goal
 pub push-requires-clause-may : goal.push-requires-clause-may
 push-requires-clause-may g c = MayBePushed-good c.requires.may.0 c.args.journal.now.entries _ c.requires.may.1
 
+pub ended-requires : goal.ended-requires
+ended-requires g c =
+    let past : List Entry = c.args.journal.now.entries in
+    let b : BookState = record { stream = c.self.inside.stream; state = c.self.inside.state; maps = c.self.inside.maps; holds = c.self.inside.holds; contents = c.self.inside.contents; images = c.self.inside.images } in
+    let u = c.requires.may.0 in
+    let was : BookStands (u.opening c.args.self.now.stream) past b = subst (λ (x : BookState). BookStands (u.opening c.args.self.now.stream) past x) (sym c.self.view_is) c.requires.may.2 in
+    let same : c.args.page.stream ≡ b.stream = c.requires.stream ∙ sym (ap (λ x. x.stream) c.self.view_is) in
+    rw c.page.ensures.same
+    (record {
+      may = record {
+        u = u;
+        past = past;
+        pass = c.args.pass;
+        s = c.args.page.stream;
+        may = record {
+          good = c.requires.may.1;
+          stands = rw same was.images_are;
+          valid_is = rw same (c.valid.ensures.stands (u.opening c.args.self.now.stream) (history past b.stream) was.contents_are);
+        };
+      };
+    })
+
 pub returns-clause-stands : goal.returns-clause-stands
 returns-clause-stands g c opening stands =
     let past : List Entry = c.args.journal.now.entries in
-    let b : BookState = record { stream = c.self.inside.stream; state = c.self.inside.state; maps = c.self.inside.maps; holds = c.self.inside.holds; contents = c.self.inside.contents } in
+    let b : BookState = record { stream = c.self.inside.stream; state = c.self.inside.state; maps = c.self.inside.maps; holds = c.self.inside.holds; contents = c.self.inside.contents; images = c.self.inside.images } in
     let was : BookStands opening past b = subst (λ (x : BookState). BookStands opening past x) (sym c.self.view_is) stands in
     let same : c.args.page.stream ≡ b.stream = c.requires.stream ∙ sym (ap (λ x. x.stream) c.self.view_is) in
     let grown = ap (λ j. j.entries) c.push.ensures.placed in
-    rw grown (goes_on_ended c.args.pass c.args.page c.args.how past b c.ended.new.self opening same
-    (c.ended.ensures.ended opening (history past b.stream) c.args.pass c.args.page.page c.args.how was.contents_are
-    (c.is_mapped-mapped.ensures ∙ ap is_mapped (ap (λ p. history p b.stream) grown ∙ history_ended c.args.pass c.args.page c.args.how past b.stream same))) was)
+    let u = c.requires.may.0 in
+    let valid = c.valid.ensures.stands opening (history past b.stream) was.contents_are in
+    let images = rw c.page.ensures.same at (c.ended.ensures u past c.args.pass c.args.page.stream
+    (rw c.page.ensures.same (record { good = c.requires.may.1; stands = rw same was.images_are; valid_is = rw same valid }))) in
+    rw grown (goes_on_ended c.args.pass c.args.page c.args.how past b c.ended-2.new.self c.ended.new.self opening same
+    (c.ended-2.ensures.ended opening (history past b.stream) c.args.pass c.args.page.page c.args.how was.contents_are
+    (c.is_mapped-mapped.ensures ∙ ap is_mapped (ap (λ p. history p b.stream) grown ∙ history_ended c.args.pass c.args.page c.args.how past b.stream same)))
+    (rw same at images) was)

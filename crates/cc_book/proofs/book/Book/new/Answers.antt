@@ -1,3 +1,4 @@
+use Rattle.cc_model.specs.History.{history}
 use Rattle.cc_book.proofs.book.Book.new.Goals as goal
 
 pub returns-clause-stands : goal.returns-clause-stands
@@ -6,4 +7,5 @@ returns-clause-stands c opening past none = record {
   maps_are = rw none c.new-2.ensures.stands;
   holds_are = rw none c.new-3.ensures.stands;
   contents_are = rw none (c.new-4.ensures opening);
+  images_are = c.new-5.ensures (history past c.args.stream) none;
 }

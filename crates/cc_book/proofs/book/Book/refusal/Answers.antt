@@ -1,38 +1,23 @@
 use Rattle.std.specs.Prelude.{List}
 use Rattle.std.proofs.Common.{ap, sym, ◌∙◌, subst}
 use Rattle.std.proofs.lemmas.Result.{IfOk-weaker}
+use Rattle.cc_dirty.specs.Table.{Sound}
+use Rattle.cc_dirty.specs.declared.row.Row.{Row}
 use Rattle.cc_entry.specs.declared.entry.Entry.{Entry}
+use Rattle.cc_images.specs.Dirty.{AreDirty}
 use Rattle.cc_model.specs.History.{history}
 use Rattle.cc_book.specs.Book.{BookState, BookStands}
+use Rattle.cc_book.proofs.DirtyRows.{dirty-follows}
 use Rattle.cc_book.proofs.book.Book.refusal.Goals as goal
 
-pub returns-clause-same : goal.returns-clause-same
-returns-clause-same g c =
+pub returns : goal.returns
+returns g c =
     let past : List Entry = c.args.journal.now.entries in
-    let b : BookState = record { stream = c.self.inside.stream; state = c.self.inside.state; maps = c.self.inside.maps; holds = c.self.inside.holds; contents = c.self.inside.contents } in
+    let b : BookState = record { stream = c.self.inside.stream; state = c.self.inside.state; maps = c.self.inside.maps; holds = c.self.inside.holds; contents = c.self.inside.contents; images = c.self.inside.images } in
     let h = history past c.args.self.now.stream in
     let stream = ap (λ x. x.stream) c.self.view_is in
-    IfOk-weaker c.refusal.result _ _
-    (λ refused given u opening logs stands discard.
-    let was : BookStands opening past b = subst (λ (x : BookState). BookStands opening past x) (sym c.self.view_is) stands in
-    given u past h
-    (record {
-      state = rw (sym stream) was.state_is;
-      valid = rw (sym stream) (c.valid.ensures.stands opening (history past b.stream) was.contents_are);
-      mapped = rw (sym stream) (c.has_map.ensures.stands opening (history past b.stream) was.contents_are);
-      holds = rw (sym stream) was.holds_are;
-      logs = logs ∙ sym c.logs.ensures;
-      free_views = c.free_views.ensures;
-    })
-    (c.least_absent.ensures opening past stands) discard)
-    c.refusal.ensures.same
-
-pub returns-clause-of_discard : goal.returns-clause-of_discard
-returns-clause-of_discard g c =
-    let past : List Entry = c.args.journal.now.entries in
-    let b : BookState = record { stream = c.self.inside.stream; state = c.self.inside.state; maps = c.self.inside.maps; holds = c.self.inside.holds; contents = c.self.inside.contents } in
-    let h = history past c.args.self.now.stream in
-    let stream = ap (λ x. x.stream) c.self.view_is in
+    let rows = subst (λ (rs : List Row). AreDirty (history past b.stream) b.stream rs) (sym c.rows.ensures.rows)
+    (dirty-follows past b.stream c.dirty.result.now.rows (subst Sound c.rows.ensures.rows c.rows.ensures.sound) c.dirty.ensures.follows) in
     IfOk-weaker c.refusal.result _ _
     (λ refused given u opening logs stands.
     let was : BookStands opening past b = subst (λ (x : BookState). BookStands opening past x) (sym c.self.view_is) stands in
@@ -42,8 +27,10 @@ returns-clause-of_discard g c =
       valid = rw (sym stream) (c.valid.ensures.stands opening (history past b.stream) was.contents_are);
       mapped = rw (sym stream) (c.has_map.ensures.stands opening (history past b.stream) was.contents_are);
       holds = rw (sym stream) was.holds_are;
+      images = rw (sym stream) was.images_are;
+      dirty = rw (sym stream) rows;
       logs = logs ∙ sym c.logs.ensures;
       free_views = c.free_views.ensures;
     })
     (c.least_absent.ensures opening past stands))
-    c.refusal.ensures.of_discard
+    c.refusal.ensures

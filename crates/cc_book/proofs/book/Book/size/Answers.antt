@@ -1,12 +1,8 @@
-use Rattle.std.specs.Prelude.{ℕ, ◌≡◌}
-use Rattle.std.proofs.Common.{ap, sym, subst}
 use Rattle.cc_model.specs.History.{history}
-use Rattle.cc_model.specs.Touches.{size_of}
-use Rattle.cc_book.specs.Book.{BookState, BookStands}
+use Rattle.cc_book.proofs.BookSteps.{parts-stand}
 use Rattle.cc_book.proofs.book.Book.size.Goals as goal
 
 pub returns : goal.returns
 returns c opening past stands =
-    let b : BookState = record { stream = c.self.inside.stream; state = c.self.inside.state; maps = c.self.inside.maps; holds = c.self.inside.holds; contents = c.self.inside.contents } in
-    let was : BookStands opening past b = subst (λ (x : BookState). BookStands opening past x) (sym c.self.view_is) stands in
-    subst (λ (s : ℕ). c.size.result ≡ size_of (history past s)) (ap (λ x. x.stream) c.self.view_is) (c.size.ensures.stands (history past b.stream) was.state_is)
+    let was = parts-stand opening past (record { stream = c.self.inside.stream; state = c.self.inside.state; maps = c.self.inside.maps; holds = c.self.inside.holds; contents = c.self.inside.contents; images = c.self.inside.images }) c.args.self.now c.self.view_is stands in
+    c.size.ensures.stands (history past c.args.self.now.stream) was.state_is

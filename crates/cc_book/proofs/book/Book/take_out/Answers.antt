@@ -13,7 +13,7 @@ push-requires-clause-may g c = MayBePushed-good c.requires.may.0 c.args.journal.
 pub returns-clause-stands : goal.returns-clause-stands
 returns-clause-stands g c opening stands =
     let past : List Entry = c.args.journal.now.entries in
-    let b : BookState = record { stream = c.self.inside.stream; state = c.self.inside.state; maps = c.self.inside.maps; holds = c.self.inside.holds; contents = c.self.inside.contents } in
+    let b : BookState = record { stream = c.self.inside.stream; state = c.self.inside.state; maps = c.self.inside.maps; holds = c.self.inside.holds; contents = c.self.inside.contents; images = c.self.inside.images } in
     let was : BookStands opening past b = subst (λ (x : BookState). BookStands opening past x) (sym c.self.view_is) stands in
     let same : c.args.page.stream ≡ b.stream = c.requires.stream ∙ sym (ap (λ x. x.stream) c.self.view_is) in
     let grown = ap (λ j. j.entries) c.push.ensures.placed in

@@ -1,58 +1,44 @@
-use Rattle.std.specs.Prelude.{ℕ, suc, ◌∷◌, None, refl}
-use Rattle.std.proofs.Common.{ap, sym, subst}
+use Rattle.std.specs.Prelude.{◌≡◌, List, ◌∷◌, None}
+use Rattle.std.proofs.Common.{ap, sym, subst, ◌∙◌}
 use Rattle.cc_entry.specs.declared.call.Call.{Call}
 use Rattle.cc_entry.specs.declared.call.Call.TheVariants as call
-use Rattle.cc_entry.specs.declared.reply.Reply.TheVariants as reply
-use Rattle.cc_model.specs.Holds.{holds_of}
-use Rattle.cc_model.specs.History.{Did, history}
-use Rattle.cc_model.specs.Passes.{calls_of}
-use Rattle.cc_model.specs.Touches.{size_of, is_mapped}
 use Rattle.cc_content.specs.Contents.{ContentsStand}
-use Rattle.cc_content.proofs.DoneFacts.{history-called}
-use Rattle.cc_book.specs.Book.{BookState, MayDo, StandsFor, done}
-use Rattle.cc_book.proofs.DoneSteps.{done-may, makes-none, may-write, stands-set, written-below}
+use Rattle.cc_content.specs.Following.{truncated_by}
+use Rattle.cc_content.specs.Owned.{OwnsChanged}
+use Rattle.cc_model.specs.History.{Effect, history}
+use Rattle.cc_stream.specs.Stream.{StreamStands}
+use Rattle.cc_book.specs.Book.{BookState, MayDo, done}
+use Rattle.cc_book.proofs.DoneSteps.{ends-below, is-writing, made-above, may-write, stands-done}
+use Rattle.cc_book.proofs.OwnedSteps.{owns-changed}
 use Rattle.cc_book.proofs.book.Book.write.Goals as goal
 
-pub done-requires-clause-written : goal.done-requires-clause-written
-done-requires-clause-written c =
-    let b : BookState = record { stream = c.self.inside.stream; state = c.self.inside.state; maps = c.self.inside.maps; holds = c.self.inside.holds; contents = c.self.inside.contents } in
-    let d = c.requires.may in
-    let may : MayDo d.u d.past d.pass c.args.call.now reply.Unit b = subst (λ (x : BookState). MayDo d.u d.past d.pass c.args.call.now reply.Unit x) (sym c.self.view_is) d.may in
-    written-below d.past (history d.past b.stream) d.pass reply.Unit c.args.call.now (done-may may)
+pub done-requires : goal.done-requires
+done-requires c =
+    let b : BookState = record { stream = c.self.inside.stream; state = c.self.inside.state; maps = c.self.inside.maps; holds = c.self.inside.holds; contents = c.self.inside.contents; images = c.self.inside.images } in
+    let ends = ends-below b c.self.view_is c.requires.may.1 in
+    record { zeroed = ends.0; written = ends.1 }
 
 pub pinned_write-requires : goal.pinned_write-requires
 pinned_write-requires c =
-    let b : BookState = record { stream = c.self.inside.stream; state = c.self.inside.state; maps = c.self.inside.maps; holds = c.self.inside.holds; contents = c.self.inside.contents } in
-    let d = c.requires.may in
-    let may : MayDo d.u d.past d.pass c.args.call.now reply.Unit b = subst (λ (x : BookState). MayDo d.u d.past d.pass c.args.call.now reply.Unit x) (sym c.self.view_is) d.may in
-    let hold = c.requires.is.0 in
-    let it = call.PinnedWrite hold c.args.at c.args.bytes.now in
-    let writes : MayDo d.u d.past d.pass it reply.Unit b = subst (λ (k : Call). MayDo d.u d.past d.pass k reply.Unit b) c.requires.is.1 may in
+    let b : BookState = record { stream = c.self.inside.stream; state = c.self.inside.state; maps = c.self.inside.maps; holds = c.self.inside.holds; contents = c.self.inside.contents; images = c.self.inside.images } in
+    let listed : c.deref.result.now ≡ c.args.bytes.now = c.deref.ensures.value ∙ c.in_ok-listed.ensures in
+    let is : c.args.call.now ≡ call.PinnedWrite c.requires.is.0 c.args.at c.deref.result.now = rw listed c.requires.is.1 in
+    let uncut : (h : List Effect) → StreamStands h b.state → None ≡ truncated_by h c.args.call.now = λ h stands. sym (ap (truncated_by h) is) in
     record {
-      may = record {
-        hold = hold;
-        reply = reply.Unit;
-        size = size_of (history d.past b.stream);
-        truncation = None;
-        mapped = is_mapped (history (done d.pass d.past b.stream it reply.Unit ∷ d.past) b.stream);
-        following = record { u = d.u; past = d.past; pass = d.pass; nth = suc (calls_of d.past d.pass); s = b.stream; may = may-write writes };
-      };
+      may = is-writing b c.self.view_is c.requires.is.0 c.args.at c.deref.result.now is c.requires.may.1;
+      owned = subst (λ (k : Call). OwnsChanged b.contents k None) is (owns-changed b c.self.view_is None uncut c.requires.may.1 c.requires.owned);
     }
 
 pub returns-clause-stands : goal.returns-clause-stands
-returns-clause-stands c u past pass given =
-    let b : BookState = record { stream = c.self.inside.stream; state = c.self.inside.state; maps = c.self.inside.maps; holds = c.self.inside.holds; contents = c.self.inside.contents } in
-    let may : MayDo u past pass c.args.call.now reply.Unit b = subst (λ (x : BookState). MayDo u past pass c.args.call.now reply.Unit x) (sym c.self.view_is) given in
-    let hold = c.requires.is.0 in
-    let it = call.PinnedWrite hold c.args.at c.args.bytes.now in
-    let writes : MayDo u past pass it reply.Unit b = subst (λ (k : Call). MayDo u past pass k reply.Unit b) c.requires.is.1 may in
-    let h = history past b.stream in
-    let nth = suc (calls_of past pass) in
-    let was_mapped = c.has_map-was_mapped.ensures.stands (u.opening b.stream) h may.stands.contents_are in
-    let told = c.pinned_write.ensures.stands u past pass nth b.stream hold reply.Unit _ _ _ (may-write writes) in
-    let here = subst (λ g. ContentsStand (u.opening b.stream) g c.pinned_write.new.self) (history-called past pass nth b.stream it reply.Unit) told in
-    let contents = subst (λ (k : Call). ContentsStand (u.opening b.stream) (Did pass k reply.Unit ∷ h) c.pinned_write.new.self) (sym c.requires.is.1) here in
-    let holds = c.in_ok-done.ensures.stands h pass reply.Unit may.stands.holds_are refl (makes-none c.args.call.now hold c.args.at c.args.bytes.now 0 (holds_of h) c.requires.is.1) in
-    subst (λ (s : ℕ). StandsFor (u.opening s) (Did pass c.args.call.now reply.Unit ∷ history past s) c.set.new.self) (ap (λ x. x.stream) c.self.view_is)
-    (stands-set (u.opening b.stream) (Did pass c.args.call.now reply.Unit ∷ h) c.set.new.self (record b { holds = c.done.new.self; contents = c.pinned_write.new.self }) c.set.ensures.same
-    (c.set.ensures.state h pass may.stands.state_is was_mapped) (c.set.ensures.maps h pass may.stands.state_is may.stands.maps_are) holds contents)
+returns-clause-stands c mapped u past pass given mapped_is =
+    let b : BookState = record { stream = c.self.inside.stream; state = c.self.inside.state; maps = c.self.inside.maps; holds = c.self.inside.holds; contents = c.self.inside.contents; images = c.self.inside.images } in
+    let listed : c.deref.result.now ≡ c.args.bytes.now = c.deref.ensures.value ∙ c.in_ok-listed.ensures in
+    let is : c.args.call.now ≡ call.PinnedWrite c.requires.is.0 c.args.at c.deref.result.now = rw listed c.requires.is.1 in
+    let it = call.PinnedWrite c.requires.is.0 c.args.at c.deref.result.now in
+    let may : MayDo u past pass c.args.call.now c.args.reply.now b = subst (λ (x : BookState). MayDo u past pass c.args.call.now c.args.reply.now x) (sym c.self.view_is) given in
+    let writes : MayDo u past pass it c.args.reply.now b = subst (λ (k : Call). MayDo u past pass k c.args.reply.now b) is may in
+    let told = c.pinned_write.ensures.stands u past pass _ b.stream c.requires.is.0 c.args.reply.now _ _ _ (may-write writes) in
+    stands-done b c.self.view_is c.set.new.self c.done.new.self c.pinned_write.new.self c.has_map-was_mapped.result c.set.ensures.same c.set.ensures.state c.set.ensures.maps c.has_map-was_mapped.ensures.stands
+    u past pass given
+    (λ at holds. c.in_ok-done.ensures.stands (history past b.stream) pass c.args.reply.now holds (sym c.id_in.ensures) (made-above b c.self.view_is u past pass c.id_in.result at c.id_in.ensures))
+    (subst (λ (k : Call). ContentsStand (u.opening b.stream) (history (done pass past b.stream k c.args.reply.now ∷ past) b.stream) c.pinned_write.new.self) (sym is) told)

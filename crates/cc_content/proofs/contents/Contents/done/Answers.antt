@@ -5,6 +5,7 @@ use Rattle.cc_content.specs.Contents.{ContentsStand}
 use Rattle.cc_content.specs.Done.{Uses}
 use Rattle.cc_content.proofs.DoneStands.{where_ok}
 use Rattle.cc_content.proofs.DoneCalls.{called, uses-of, prepared, looks, finds-look, finds-written, kept-written, fits-written, starts-written, finds-zeroed, mapped-zeroed, fits-zeroed, starts-zeroed, finds-resized, finds-dropped, finds-closed, within-closed, mapped-called, finds-stored, starts-stored, valid-found, has_room-stored, whole-stored}
+use Rattle.cc_content.proofs.OwnedStand.{owned-of, owned-prepared}
 use Rattle.cc_content.proofs.contents.Contents.done.Goals as goal
 
 pub looked-requires : goal.looked-requires
@@ -39,6 +40,15 @@ wrote-requires-in-MdlStore-clause-kept c = kept-written c.requires.may.may (ap a
 pub wrote-requires-in-MdlStore-clause-fits : goal.wrote-requires-in-MdlStore-clause-fits
 wrote-requires-in-MdlStore-clause-fits c = fits-written c.requires.may.may (ap act_of c.in-MdlStore.is)
 
+pub wrote-requires-clause-owned : goal.wrote-requires-clause-owned
+wrote-requires-clause-owned c = owned-of c.args.self.now c.args.truncation c.args.call.now _ c.in-CopyWrite.is c.requires.owned
+
+pub wrote-requires-in-PinnedWrite-clause-owned : goal.wrote-requires-in-PinnedWrite-clause-owned
+wrote-requires-in-PinnedWrite-clause-owned c = owned-of c.args.self.now c.args.truncation c.args.call.now _ c.in-PinnedWrite.is c.requires.owned
+
+pub wrote-requires-in-MdlStore-clause-owned : goal.wrote-requires-in-MdlStore-clause-owned
+wrote-requires-in-MdlStore-clause-owned c = owned-of c.args.self.now c.args.truncation c.args.call.now _ c.in-MdlStore.is c.requires.owned
+
 pub stored-requires-clause-room : goal.stored-requires-clause-room
 stored-requires-clause-room c =
     has_room-stored c.requires.may.may c.in-NcStore.file c.in-NcStore.page c.in-NcStore.bytes c.in-NcStore.is
@@ -47,8 +57,8 @@ pub stored-requires-clause-whole : goal.stored-requires-clause-whole
 stored-requires-clause-whole c =
     whole-stored c.requires.may.may c.in-NcStore.file c.in-NcStore.page c.in-NcStore.bytes c.in-NcStore.is
 
-pub zeroed-requires : goal.zeroed-requires
-zeroed-requires c =
+pub zeroed-requires-clause-mapped : goal.zeroed-requires-clause-mapped
+zeroed-requires-clause-mapped c =
     rw (c.from.ensures.same, c.to.ensures.same) (mapped-zeroed c.requires.may.may (ap act_of c.in-Zero.is))
 
 pub overflow_add-at : goal.overflow_add-at
@@ -58,8 +68,17 @@ overflow_add-at c =
     let is = prepared c.args.call.now w.file w.at w.len w.zero w.exclusive w.is look in
     omega (arith, fits-zeroed c.requires.may.may is)
 
-pub zeroed-requires-in-PreparePin : goal.zeroed-requires-in-PreparePin
-zeroed-requires-in-PreparePin c =
+pub zeroed-requires-clause-owned : goal.zeroed-requires-clause-owned
+zeroed-requires-clause-owned c = rw (c.from.ensures.same, c.to.ensures.same) (owned-of c.args.self.now c.args.truncation c.args.call.now _ c.in-Zero.is c.requires.owned)
+
+pub zeroed-requires-in-PreparePin-clause-owned : goal.zeroed-requires-in-PreparePin-clause-owned
+zeroed-requires-in-PreparePin-clause-owned c =
+    let w = c.in-PreparePin in
+    let look = sym c.is_look.ensures ∙ c.if-is_look.false in
+    owned-prepared c.args.self.now c.args.truncation c.args.call.now w.file w.at w.len w.zero w.exclusive w.is look c.requires.owned
+
+pub zeroed-requires-in-PreparePin-clause-mapped : goal.zeroed-requires-in-PreparePin-clause-mapped
+zeroed-requires-in-PreparePin-clause-mapped c =
     let w = c.in-PreparePin in
     let look = sym c.is_look.ensures ∙ c.if-is_look.false in
     let is = prepared c.args.call.now w.file w.at w.len w.zero w.exclusive w.is look in
@@ -143,8 +162,14 @@ returns-in-NcStore-clause-stands c =
     (starts-stored may is) (valid-found may)))
     c.stored.ensures.stands
 
-pub closed-requires : goal.closed-requires
-closed-requires c =
+pub resized-requires : goal.resized-requires
+resized-requires c = owned-of c.args.self.now c.args.truncation c.args.call.now _ c.in-SetSizes.is c.requires.owned
+
+pub closed-requires-clause-owned : goal.closed-requires-clause-owned
+closed-requires-clause-owned c = owned-of c.args.self.now c.args.truncation c.args.call.now _ c.in-Uninitialise.is c.requires.owned
+
+pub closed-requires-clause-within : goal.closed-requires-clause-within
+closed-requires-clause-within c =
     let w = c.in-Uninitialise in
     within-closed c.requires.may.may w.file w.truncate w.is
 

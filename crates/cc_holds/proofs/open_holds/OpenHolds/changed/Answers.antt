@@ -1,4 +1,4 @@
-use Rattle.std.proofs.Common.{sym}
+use Rattle.std.proofs.Common.{refl, sym}
 use Rattle.std.proofs.lemmas.Result.{on_ok_weaker}
 use Rattle.cc_holds.proofs.RowsMade.{changes-none, stands-unmade}
 use Rattle.cc_holds.proofs.open_holds.OpenHolds.changed.Goals as goal
@@ -29,4 +29,5 @@ returns-in_default c =
     record {
       stands = λ h pass reply stands none. stands-unmade c.args.call.now h pass reply c.args.self.now none_changed stands none;
       refused = tt;
+      sure = λ sure. refl;
     }

@@ -1,6 +1,6 @@
 use Rattle.std.proofs.Common.{◌-◌, ◌/◌, ap, ◌∙◌, arith}
 use Rattle.std.specs.List.{range_with_len}
-use Rattle.cc_resident.specs.Residents.{blocks, is_among}
+use Rattle.cc_resident.specs.Residents.{shares, blocks, is_among}
 use Rattle.cc_resident.proofs.Lists.{used_more, among_used}
 use Rattle.cc_resident.proofs.Kept.{page_alike, Keeps-then}
 use Rattle.cc_resident.proofs.Bytes.{mapped_in}
@@ -22,3 +22,6 @@ loop-block-preserved c =
 
 pub returns-after-loop-block-clause-pages : goal.returns-after-loop-block-clause-pages
 returns-after-loop-block-clause-pages c = λ p. page_alike c.args.self.now c.loop-block.self p (c.loop-block.invariant.keeps.frames p)
+
+pub returns-after-loop-block-clause-shared : goal.returns-after-loop-block-clause-shared
+returns-after-loop-block-clause-shared c = λ p. ap shares (c.loop-block.invariant.keeps.frames p)

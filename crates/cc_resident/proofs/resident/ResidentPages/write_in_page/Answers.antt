@@ -1,14 +1,14 @@
 use Rattle.std.proofs.Common.{ap, ◌∙◌}
-use Rattle.cc_resident.specs.Residents.{is_resident}
+use Rattle.cc_resident.specs.Residents.{is_resident, is_shared}
 use Rattle.cc_resident.proofs.Frames.{owned_where}
 use Rattle.cc_resident.proofs.Bytes.{Over, Over-from, Covers-over, AreResidents-over}
 use Rattle.cc_resident.proofs.resident.ResidentPages.write_in_page.Goals as goal
 
 over : (c : goal.After-overwrite) → Over c.self.inside.views c.overwrite.new.views c.args.page c.args.at c.args.bytes.now
-over c = Over-from c.self.inside.views c.overwrite.new.views c.args.page c.args.at c.args.bytes.now (ap (λ m. is_resident m c.args.page) c.self.view_is ∙ c.requires.resident) (c.self.invariant.frames c.args.page) c.requires.fits c.overwrite.ensures.page
+over c = Over-from c.self.inside.views c.overwrite.new.views c.args.page c.args.at c.args.bytes.now (ap (λ m. is_resident m c.args.page) c.self.view_is ∙ c.requires.resident) (ap (λ m. is_shared m c.args.page) c.self.view_is ∙ c.requires.owned) (c.self.invariant.frames c.args.page) c.requires.fits c.overwrite.ensures.page
 
 pub overwrite-requires-clause-owned : goal.overwrite-requires-clause-owned
-overwrite-requires-clause-owned c = owned_where c.self.inside.views c.args.page (c.self.invariant.frames c.args.page) (ap (λ m. is_resident m c.args.page) c.self.view_is ∙ c.requires.resident)
+overwrite-requires-clause-owned c = owned_where c.self.inside.views c.args.page (ap (λ m. is_shared m c.args.page) c.self.view_is ∙ c.requires.owned) (ap (λ m. is_resident m c.args.page) c.self.view_is ∙ c.requires.resident)
 
 pub invariant_of-self : goal.invariant_of-self
 invariant_of-self c = AreResidents-over c.self.inside.views c.overwrite.new.views c.args.page c.args.at c.args.bytes.now (over c) c.self.invariant c.overwrite.ensures.blocks

@@ -7,10 +7,13 @@ use Rattle.cc_resident.specs.Changes.{is_between}
 use Rattle.cc_resident.proofs.Spans.{in_front, in_front-more, front-more, small_block, Zeroes-then, Covers-all}
 use Rattle.cc_resident.proofs.resident.ResidentPages.zero.Goals as goal
 
-pub zero_in_block-requires : goal.zero_in_block-requires
-zero_in_block-requires c =
+pub zero_in_block-requires-clause-number : goal.zero_in_block-requires-clause-number
+zero_in_block-requires-clause-number c =
     small_block c.args.self.now (blocks c.loop-place.self) c.loop-place.place c.block_at-block.result c.size-size.result (subst IsSound c.self.view_is c.len-place-end.ensures.sound) c.loop-place.invariant.blocks
     (ap (λ m. slice_get (blocks m) c.loop-place.place) (sym c.self-in-loop-place.view_is) ∙ c.block_at-block.ensures) (c.size-size.ensures ∙ ap (λ m. m.size) c.self.view_is) (omega arith)
+
+pub zero_in_block-requires-clause-owned : goal.zero_in_block-requires-clause-owned
+zero_in_block-requires-clause-owned c = λ p has. c.loop-place.invariant.bytes.shared p ∙ c.requires p has
 
 pub loop-place-preserved : goal.loop-place-preserved
 loop-place-preserved c =

@@ -1,7 +1,8 @@
 use Rattle.std.proofs.Common.{◌<◌, length, refl, sym, subst, ap, ◌∙◌, arith}
 use Rattle.std.specs.declared.option.Option.TheVariants.{Some}
 use Rattle.cc_book.specs.Book.{BookStands}
-use Rattle.cc_turns.specs.Desk.{openings}
+use Rattle.cc_turns.specs.Desk.{openings, standing_of}
+use Rattle.cc_turns.specs.Takes.{without_book}
 use Rattle.cc_turns.proofs.DeskSteps.{held_within, book_given}
 use Rattle.cc_turns.proofs.desk.DeskTurns.give_book.Goals as goal
 
@@ -19,3 +20,7 @@ invariant_of-self g c = (
   c.self.invariant.1,
   c.self.invariant.2,
 )
+
+pub returns : goal.returns
+returns g c =
+    ap (λ d. without_book (standing_of g.D.Told.told g.D.Told.faults g.L.LogFile.told g.L.LogFile.faults d)) c.self.view_is

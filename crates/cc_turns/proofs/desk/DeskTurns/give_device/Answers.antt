@@ -3,7 +3,8 @@ use Rattle.std.specs.Prelude.{slice_get, None}
 use Rattle.cc_model.specs.History.{history}
 use Rattle.cc_model.specs.Images.{open_of}
 use Rattle.cc_turns.specs.Disk.{DiskStands}
-use Rattle.cc_turns.specs.Desk.{disk_at_first}
+use Rattle.cc_turns.specs.Desk.{disk_at_first, standing_of}
+use Rattle.cc_turns.specs.Takes.{without_device}
 use Rattle.cc_turns.proofs.DeskSteps.{held_within, held_is_out, no_thing, device_given}
 use Rattle.cc_turns.proofs.desk.DeskTurns.give_device.Goals as goal
 
@@ -27,3 +28,7 @@ unreachable-requires g c =
     no_thing c.replace.result c.index_mut.result.now _ c.replace.ensures.value c.in-Some.is
     (held_is_out _ _ _ c.from.result c.args.stream c.index_mut.result.now c.self.invariant.0.disks_are (c.from.ensures ∙ c.number.ensures.same)
     (ap (λ d. d.held.device) c.self.view_is ∙ ap (λ held. held.device) c.requires.held) c.index_mut.ensures.value)
+
+pub returns : goal.returns
+returns g c =
+    ap (λ d. without_device (standing_of g.D.Told.told g.D.Told.faults g.L.LogFile.told g.L.LogFile.faults d)) c.self.view_is

@@ -2,7 +2,8 @@ use Rattle.std.proofs.Common.{◌<◌, length, refl, sym, subst, ap, ◌∙◌, 
 use Rattle.std.specs.declared.option.Option.TheVariants.{Some}
 use Rattle.std.specs.Prelude.{slice_get}
 use Rattle.cc_turns.specs.Log.{LogStands}
-use Rattle.cc_turns.specs.Desk.{log_at_first}
+use Rattle.cc_turns.specs.Desk.{log_at_first, standing_of}
+use Rattle.cc_turns.specs.Takes.{without_log}
 use Rattle.cc_turns.proofs.DeskSteps.{held_within, log_given}
 use Rattle.cc_turns.proofs.desk.DeskTurns.give_log.Goals as goal
 
@@ -20,3 +21,7 @@ invariant_of-self g c = (
   c.self.invariant.1,
   c.self.invariant.2,
 )
+
+pub returns : goal.returns
+returns g c =
+    ap (λ d. without_log (standing_of g.D.Told.told g.D.Told.faults g.L.LogFile.told g.L.LogFile.faults d)) c.self.view_is

@@ -1,0 +1,5 @@
+-- What the contracts cite.
+pub mod Images
+pub mod Changes
+pub mod Following
+pub mod Dirty

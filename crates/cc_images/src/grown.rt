@@ -1,0 +1,122 @@
+//! The pages that have grown, each by its first byte that became valid since the disk took the page.
+
+ghost use Rattle.std.specs.Prelude.{◌≡◌, ◌+◌, ◌-◌, ◌*◌, ◌/◌, ◌<◌, ◌≤◌, ◌^◌, [], ◌∷◌, ◌++◌, length, vec_capacity, Option};
+ghost use Rattle.std.specs.List.{find, AllByRecursion};
+ghost use Rattle.std.specs.Option.{option_map};
+ghost use Rattle.cc_model.specs.Ranges.{span_has};
+ghost use Rattle.cc_images.specs.Images.{AscendsByPage};
+ghost use Rattle.cc_images.specs.Changes.{has_page_of, with_page_of, starts, raised, lowered, grew_past, moved_up, regrown, without_page, written};
+
+use crate::reserved::push_reserved;
+use cc_entry::Span;
+use cc_events::span_has;
+use std::cmp::max;
+
+/// The valid data length rises from one place to another: each page that it rises over has grown.
+pub(crate) fn raise(bytes: &mut Vec<u64>, was: u64, now: u64)
+    requires rises { was < now }
+    requires in_order { AscendsByPage bytes.old.items }
+    requires below { AllByRecursion (λ byte. byte < was) bytes.old.items }
+    requires room { length (raised bytes.old.items was now) ≤ vec_capacity bytes.old }
+    ensures bytes { bytes.new.items ≡ raised bytes.old.items was now }
+    ensures capacity { vec_capacity bytes.old ≤ vec_capacity bytes.new }
+{
+    push_first(bytes, was);
+    push_starts(bytes, was / 4096 + 1, (now - 1) / 4096 + 1);
+}
+
+// The page of the byte has grown from there on, where it has not before.
+fn push_first(bytes: &mut Vec<u64>, byte: u64)
+    requires in_order { AscendsByPage bytes.old.items }
+    requires below { AllByRecursion (λ other. other < byte) bytes.old.items }
+    requires room { length (with_page_of bytes.old.items byte) ≤ vec_capacity bytes.old }
+    ensures bytes { bytes.new.items ≡ with_page_of bytes.old.items byte }
+    ensures capacity { vec_capacity bytes.old ≤ vec_capacity bytes.new }
+{
+    if !ends_with_page_of(bytes, byte) {
+        push_reserved(bytes, byte);
+    }
+}
+
+// Whether a byte of the page of a byte past all of them is there: it is the last.
+fn ends_with_page_of(bytes: &[u64], byte: u64) -> bool
+    requires in_order { AscendsByPage bytes.now }
+    requires below { AllByRecursion (λ other. other < byte) bytes.now }
+    ensures { result ≡ has_page_of bytes.now (byte / 4096) }
+{
+    match bytes.last() {
+        Some(last) => *last / 4096 == byte / 4096,
+        None => false,
+    }
+}
+
+// The first bytes of the pages from one number up to, and without, another come in.
+fn push_starts(bytes: &mut Vec<u64>, from: u64, to: u64)
+    requires in_order { from ≤ to }
+    requires within { to ≤ 2 ^ 52 }
+    requires room { length bytes.old.items + (to - from) ≤ vec_capacity bytes.old }
+    ensures bytes { bytes.new.items ≡ bytes.old.items ++ starts from to }
+    ensures capacity { vec_capacity bytes.old ≤ vec_capacity bytes.new }
+{
+    for page in from..to {
+        push_reserved(bytes, 4096 * page);
+    }
+}
+
+/// The valid data length falls to a place.
+pub(crate) fn lower(bytes: &mut Vec<u64>, now: u64)
+    ensures bytes { bytes.new.items ≡ lowered bytes.old.items now }
+    ensures capacity { vec_capacity bytes.new ≡ vec_capacity bytes.old }
+{
+    bytes.retain(|byte| *byte < now);
+}
+
+/// The disk took a page; `low` is the least valid data length since its transfer began.
+pub(crate) fn write(bytes: &mut Vec<u64>, page: u64, low: u64, valid: u64)
+    ensures bytes { bytes.new.items ≡ written bytes.old.items page low valid }
+    ensures capacity { vec_capacity bytes.new ≡ vec_capacity bytes.old }
+{
+    if grew_past(page, low, valid) {
+        regrow(bytes, page, low);
+    } else {
+        bytes.retain(|byte| byte / 4096 != page);
+    }
+}
+
+// Whether a byte of the page, not valid at this least length, is valid now.
+fn grew_past(page: u64, low: u64, valid: u64) -> bool
+    ensures { result ≡ grew_past page low valid }
+{
+    low < valid && low / 4096 <= page
+}
+
+// The page has grown from this place on.
+fn regrow(bytes: &mut [u64], page: u64, low: u64)
+    ensures { bytes.new ≡ regrown bytes.old page low }
+{
+    for byte in bytes.iter_mut() {
+        *byte = moved_up(page, low, *byte);
+    }
+}
+
+// A byte, at this place or past it where it is of the page.
+fn moved_up(page: u64, low: u64, byte: u64) -> u64
+    ensures { result ≡ moved_up page low byte }
+{
+    if byte / 4096 == page {
+        max(byte, low)
+    } else {
+        byte
+    }
+}
+
+/// The first page of a span that has grown.
+pub(crate) fn first_in(bytes: &[u64], span: Option<Span>) -> Option<u64>
+    ensures { result
+        ≡ option_map (λ byte. byte / 4096) (find (λ byte. span_has span (byte / 4096)) bytes.now) }
+{
+    bytes
+        .iter()
+        .find(|byte| span_has(span, u128::from(**byte / 4096)))
+        .map(|byte| *byte / 4096)
+}
