@@ -30,7 +30,7 @@ pub loop-file-preserved : goal.loop-file-preserved
 loop-file-preserved g c =
     let first : (slice_get c.args.row.now.items (length c.loop-file.places.items) ≡ Some c.in-Some.file) × (reverse c.pop.new.self.items ≡ drop (suc (length c.loop-file.places.items)) c.args.row.now.items) =
     next_left c.args.row.now.items c.loop-file.row.items c.pop.new.self.items (length c.loop-file.places.items) c.in-Some.file
-        c.in-Some.ensures.items c.loop-file.invariant.left in
+    c.in-Some.ensures.items c.loop-file.invariant.left in
     let more : length c.push_reserved.new.self.items ≡ length c.loop-file.places.items + 1 = longer _ _ (Some c.new.result) c.push_reserved.ensures.items in
     let next : length c.push_reserved.new.self.items ≡ suc (length c.loop-file.places.items) = omega (arith, more) in
     record {
