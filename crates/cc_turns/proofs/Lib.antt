@@ -6,3 +6,4 @@ pub mod Homes
 pub mod DeskSteps
 pub mod RowSteps
 pub mod Fresh
+pub mod Taking
