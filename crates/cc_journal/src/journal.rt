@@ -1,6 +1,6 @@
 //! The journal: entries, and what is kept of them.
 
-ghost use Rattle.std.specs.Prelude.{◌≡◌, ◌↔◌, ℕ, suc, ◌+◌, ◌-◌, ◌^◌, ◌<◌, ◌≤◌, true, false, if◌then◌else◌, [], ◌∷◌, ◌++◌, List, Option, Some, slice_get, length, reverse, OnOk, OnErr, IfOk, IsErrOf, IfErr, All, drop, ◌⊎◌, ◌==◌, ◌&&◌, ◌||◌, nat_lt};
+ghost use Rattle.std.specs.Prelude.{◌≡◌, ◌↔◌, ℕ, suc, ◌+◌, ◌-◌, ◌^◌, ◌<◌, ◌≤◌, true, false, if◌then◌else◌, [], ◌∷◌, ◌++◌, List, Option, Some, slice_get, length, reverse, map, OnOk, OnErr, IfOk, IsErrOf, IfErr, All, drop, ◌⊎◌, ◌==◌, ◌&&◌, ◌||◌, nat_lt};
 ghost use Rattle.std.specs.Option.{option_map};
 ghost use Rattle.cc_entry.specs.declared.call.Call.TheVariants as call;
 ghost use Rattle.cc_entry.specs.declared.entry.Entry.{Entry};
@@ -350,6 +350,7 @@ impl<Q> Journal<Q> {
     pub fn end(self) -> (Vec<Entry>, Vec<(u64, Q)>)
         ensures entries { reverse result.0.items ≡ self.entries }
         ensures routines { result.1.items ≡ routines_of self.queue }
+        ensures ids { map (λ w. w.0) result.1.items ≡ map (λ d. d.id) (queue self.entries) }
     {
         let Journal {
             entries,

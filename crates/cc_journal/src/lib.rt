@@ -17,6 +17,7 @@
 mod calls;
 mod journal;
 pub mod laws;
+mod parts;
 mod places;
 mod queue;
 mod scans;
@@ -24,3 +25,4 @@ mod streams;
 mod table;
 
 pub use journal::Journal;
+pub use parts::Parts;

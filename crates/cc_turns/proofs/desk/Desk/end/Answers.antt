@@ -1,0 +1,23 @@
+use Rattle.std.proofs.Common.{subst, ap, ◌∙◌}
+use Rattle.cc_turns.specs.Desk.{DisksEnded, LogsEnded}
+use Rattle.cc_turns.proofs.RowSteps.{all_home}
+use Rattle.cc_turns.proofs.Fresh.{disks_end, logs_end}
+use Rattle.cc_turns.proofs.desk.Desk.end.Goals as goal
+
+pub back_to-requires-clause-home : goal.back_to-requires-clause-home
+back_to-requires-clause-home g c =
+    all_home _ _ _ (ap (λ d. d.held.device) c.self.view_is ∙ ap (λ held. held.device) c.requires) c.self.invariant.0.disks_are
+
+pub back_to_logs-requires-clause-home : goal.back_to_logs-requires-clause-home
+back_to_logs-requires-clause-home g c =
+    all_home _ _ _ (ap (λ d. d.held.log) c.self.view_is ∙ ap (λ held. held.log) c.requires) c.self.invariant.0.logs_are
+
+pub returns-clause-disks : goal.returns-clause-disks
+returns-clause-disks g c =
+    subst (λ d. DisksEnded g.D.Told.told g.D.Told.faults d c.back_to.result.items) c.self.view_is
+    (disks_end g.D.Told.told g.D.Told.faults _ c.self.inside.disks.items c.back_to.result.items _ c.self.invariant.0.disks_are c.back_to.ensures)
+
+pub returns-clause-logs : goal.returns-clause-logs
+returns-clause-logs g c =
+    subst (λ d. LogsEnded g.L.LogFile.told g.L.LogFile.faults d c.back_to_logs.result.items) c.self.view_is
+    (logs_end g.L.LogFile.told g.L.LogFile.faults _ c.self.inside.logs.items c.back_to_logs.result.items _ c.self.invariant.0.logs_are c.back_to_logs.ensures)

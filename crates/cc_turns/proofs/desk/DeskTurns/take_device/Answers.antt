@@ -1,0 +1,24 @@
+use Rattle.std.proofs.Common.{◌<◌, length, sym, subst, ap, ◌∙◌}
+use Rattle.cc_turns.proofs.DeskSteps.{found, device_taken}
+use Rattle.cc_turns.proofs.desk.DeskTurns.take_device.Goals as goal
+
+pub invariant_of-self : goal.invariant_of-self
+invariant_of-self g c = (
+  device_taken _ _ _ _ _ _ c.from.result c.args.stream _ c.take.new.self (c.from.ensures ∙ c.number.ensures.same) c.take.ensures.after
+      (subst (λ d. c.args.stream < length d.begun.disks) (sym c.self.view_is) c.requires.known)
+      (ap (λ d. d.held.device) c.self.view_is ∙ ap (λ held. held.device) c.requires.free) c.self.invariant.0,
+  c.self.invariant.1,
+  c.self.invariant.2,
+)
+
+pub returns-clause-stands : goal.returns-clause-stands
+returns-clause-stands g c =
+    (found _ _ _ c.from.result c.args.stream c.index_mut.result.now c.take.result c.unwrap-disk.result c.self.invariant.0.disks_are
+    (c.from.ensures ∙ c.number.ensures.same) (subst (λ d. c.args.stream < length d.begun.disks) (sym c.self.view_is) c.requires.known)
+    c.index_mut.ensures.value c.take.ensures.value c.unwrap-disk.ensures).stands
+
+pub returns-clause-at_rest : goal.returns-clause-at_rest
+returns-clause-at_rest g c =
+    (found _ _ _ c.from.result c.args.stream c.index_mut.result.now c.take.result c.unwrap-disk.result c.self.invariant.0.disks_are
+    (c.from.ensures ∙ c.number.ensures.same) (subst (λ d. c.args.stream < length d.begun.disks) (sym c.self.view_is) c.requires.known)
+    c.index_mut.ensures.value c.take.ensures.value c.unwrap-disk.ensures).at_rest

@@ -1,0 +1,37 @@
+use Rattle.std.proofs.Common.{◌≡◌, [], ◌∷◌, ◌++◌, length, ap, ◌∙◌, arith, rules}
+use Rattle.cc_turns.proofs.RowSteps.{back_begun, back_next, back_ended, at_last, at_rest, longer, no_items}
+use Rattle.cc_turns.proofs.places.back_to.Goals as goal
+
+pub loop-place-init : goal.loop-place-init
+loop-place-init g c = record {
+  home = c.requires.home;
+  moved = back_begun c.args.places.items c.args.row.items c.requires.room.empty;
+  room = omega (arith, ap length c.requires.room.empty, c.requires.room.room);
+}
+
+pub unwrap-requires : goal.unwrap-requires
+unwrap-requires g c = at_last _ _ c.in-Some.place c.in-Some.ensures.items c.loop-place.invariant.home
+
+pub push_reserved-requires : goal.push_reserved-requires
+push_reserved-requires g c =
+    omega (arith, longer _ _ c.in-Some.place c.in-Some.ensures.items, c.loop-place.invariant.room, c.loop-place.row.ok.0)
+
+pub loop-place-preserved : goal.loop-place-preserved
+loop-place-preserved g c = record {
+  home = at_rest _ _ c.in-Some.place c.in-Some.ensures.items c.loop-place.invariant.home;
+  moved = rw c.push_reserved.ensures.items (back_next _ _ c.pop.new.self.items c.loop-place.row.items c.unwrap.result
+      (c.in-Some.ensures.items ∙ ap (λ o. c.pop.new.self.items ++ o ∷ []) c.unwrap.ensures) c.loop-place.invariant.moved);
+  room = omega (
+    arith,
+    longer _ _ c.in-Some.place c.in-Some.ensures.items,
+    longer _ _ c.unwrap.result c.push_reserved.ensures.items,
+    c.push_reserved.ensures.capacity,
+    c.loop-place.invariant.room,
+  );
+}
+
+pub returns : goal.returns
+returns g c =
+    let none : c.loop-place.places.len ≡ 0 = search rules in
+    rw c.reverse.ensures.items (back_ended _ _ c.loop-place.row.items
+    (no_items _ c.loop-place.places.len c.loop-place.places.ok.0 none) c.loop-place.invariant.moved)

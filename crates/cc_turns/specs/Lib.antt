@@ -1,0 +1,8 @@
+-- What the contracts cite.
+pub mod Standing
+pub mod Disk
+pub mod Log
+pub mod Journal
+pub mod Takes
+pub mod Places
+pub mod Desk

@@ -1,0 +1,264 @@
+//! The turns of one thread, over which nobody else goes on.
+
+ghost use Rattle.std.specs.Prelude.{◌≡◌, ℕ, List, length, reverse, map, IfOk, IfErr, Some, true, false};
+ghost use Rattle.cc_entry.specs.declared.error.CcError.TheVariants as error;
+ghost use Rattle.cc_model.specs.Throttle.{queue};
+ghost use Rattle.cc_turns.specs.Standing.{Standing, nothing};
+ghost use Rattle.cc_turns.specs.Log.{LogStands};
+ghost use Rattle.cc_turns.specs.Journal.{JournalStands};
+ghost use Rattle.cc_turns.specs.Takes.{Adds, without_log, without_journal};
+ghost use Rattle.cc_turns.specs.Desk.{AreRowsFor, DisksEnded, LogsEnded, IsFresh, made_from, standing_of};
+
+use crate::places;
+use crate::turns::Turns;
+use cc_book::Book;
+use cc_entry::{CcError, NoMemory, StreamId};
+use cc_journal::{Journal, Parts};
+use cc_log::LogTurn;
+use cc_traits::{LogFile, PageDisk, PostRoutine, Setup};
+use std::alloc::Global;
+use std::marker::Model;
+use std::snapshot::Snapshot;
+
+/// The turns that are out.
+#[derive(Clone, Copy, Debug)]
+struct Held {
+    device: Option<StreamId>,
+    book: Option<StreamId>,
+    log: Option<u8>,
+    journal: bool,
+}
+
+/// The disks, books, logs and journal of a run on one thread, which acts as one pass at a time.
+pub struct Desk<D: PageDisk, L: LogFile, Q: PostRoutine> {
+    disks: Vec<Option<D>>,
+    books: Vec<Option<Book>>,
+    logs: Vec<Option<LogTurn<L>>>,
+    journal: Option<Journal<Q>>,
+    /// Empty, with room for the disks as they are given back.
+    disk_room: Vec<D>,
+    /// The same for the logs.
+    log_room: Vec<L>,
+    pass: u32,
+    held: Held,
+    device_turns: u64,
+    /// What the run was made from.
+    begun: Snapshot<Setup<D, L>>,
+    /// The journal as it last was at home.
+    last: Snapshot<Journal<Q>>,
+}
+
+// rows with room for all that a run is made from, and its journal
+struct Rows<D, L, Q> {
+    journal: Journal<Q>,
+    books: Vec<Option<Book>>,
+    logs: Vec<Option<LogTurn<L>>>,
+    disks: Vec<Option<D>>,
+}
+
+impl<D: PageDisk, L: LogFile, Q: PostRoutine> Model for Desk<D, L, Q> {
+    ghost use Rattle.std.specs.Prelude.{length, vec_capacity};
+    ghost use Rattle.cc_turns.specs.Places.{IsRoomFor};
+    ghost use Rattle.cc_turns.specs.Desk.{DeskState, DeskStands, state_of, tells_of};
+
+    ghost Value = { DeskState D L Q };
+
+    ghost view = { λ d. state_of d.begun.value d.last.value d.pass d.held d.device_turns };
+
+    ghost invariant = { λ d.
+        DeskStands (tells_of D.told D.faults L.told L.faults Q.posted)
+        (state_of d.begun.value d.last.value d.pass d.held d.device_turns)
+        d.disks.items d.books.items d.logs.items d.journal
+        × IsRoomFor (length d.begun.value.disks.items) d.disk_room.items (vec_capacity d.disk_room)
+        × IsRoomFor (length d.begun.value.logs.items) d.log_room.items (vec_capacity d.log_room) };
+}
+
+impl<D: PageDisk, L: LogFile, Q: PostRoutine> Rows<D, L, Q> {
+    fn new(alloc: Global, setup: &Setup<D, L>) -> Result<Rows<D, L, Q>, NoMemory>
+        ensures { IfOk result (λ rows. AreRowsFor (made_from setup.now) rows) }
+    {
+        let streams = setup.disks.len();
+        let logs = setup.logs.len();
+        Ok(Rows {
+            journal: Journal::new(alloc, setup.journal, setup.threshold, logs as u8)?,
+            books: Vec::with_capacity(alloc, streams)?,
+            logs: Vec::with_capacity(alloc, logs)?,
+            disks: Vec::with_capacity(alloc, streams)?,
+        })
+    }
+}
+
+impl<D: PageDisk, L: LogFile, Q: PostRoutine> Desk<D, L, Q> {
+    /// The desk of a run of which nothing happened yet, acting as pass 0. Where memory is wanting the setup comes
+    /// back.
+    pub fn new(alloc: Global, setup: Setup<D, L>) -> Result<Desk<D, L, Q>, (Setup<D, L>, CcError)>
+        ensures fresh { IfOk result (λ desk. IsFresh (made_from setup) desk) }
+        ensures err { IfErr result (λ back. (back.0 ≡ setup) × (back.1 ≡ error.NoMemory)) }
+    {
+        match Rows::new(alloc, &setup) {
+            Ok(rows) => Ok(Desk::over(alloc, setup, rows)),
+            Err(NoMemory) => Err((setup, CcError::NoMemory)),
+        }
+    }
+
+    // The desk of a setup, over rows with room for it. It takes no memory.
+    fn over(alloc: Global, setup: Setup<D, L>, rows: Rows<D, L, Q>) -> Desk<D, L, Q>
+        requires { AreRowsFor (made_from setup) rows }
+        ensures { IsFresh (made_from setup) result }
+    {
+        let begun = Snapshot::of(&setup);
+        let Setup {
+            mut disks,
+            mut logs,
+            ..
+        } = setup;
+        let Rows {
+            journal,
+            books,
+            logs: log_places,
+            disks: disk_places,
+        } = rows;
+        let last = Snapshot::of(&journal);
+        Desk {
+            books: places::of_books(alloc, disks.len() as u8, books),
+            disks: places::out_of(&mut disks, disk_places),
+            logs: places::of_logs(&mut logs, log_places),
+            journal: Some(journal),
+            disk_room: disks,
+            log_room: logs,
+            pass: 0,
+            held: Held {
+                device: None,
+                book: None,
+                log: None,
+                journal: false,
+            },
+            device_turns: 0,
+            begun,
+            last,
+        }
+    }
+
+    /// Acts as this pass from now on.
+    pub fn act_as(&mut self, pass: u32)
+        ensures { self.new ≡ record self.old { pass = pass } }
+    {
+        self.pass = pass;
+    }
+
+    /// Gives all back. It takes no memory.
+    pub fn end(self) -> Parts<D, L, Q>
+        requires { self.held ≡ nothing }
+        ensures journal { reverse result.journal.items ≡ self.last.entries }
+        ensures disks { DisksEnded D.told D.faults self result.disks.items }
+        ensures logs { LogsEnded L.told L.faults self result.logs.items }
+        ensures queued { map (λ waiting. waiting.0) result.queued.items
+            ≡ map (λ d. d.id) (queue self.last.entries) }
+    {
+        let Desk {
+            disks,
+            logs,
+            journal,
+            disk_room,
+            log_room,
+            books: _,
+            pass: _,
+            held: _,
+            device_turns: _,
+            begun: _,
+            last: _,
+        } = self;
+        let (journal, queued) = journal.unwrap().end();
+        Parts {
+            disks: places::back_to(disks, disk_room),
+            logs: places::back_to_logs(logs, log_room),
+            journal,
+            queued,
+        }
+    }
+}
+
+impl<D: PageDisk, L: LogFile, Q: PostRoutine> Turns for Desk<D, L, Q> {
+    type Disk = D;
+
+    type Log = L;
+
+    type Post = Q;
+
+    ghost standing = { standing_of D.told D.faults L.told L.faults };
+
+    fn me(&self) -> u32 {
+        self.pass
+    }
+
+    fn streams(&self) -> u8 {
+        self.disks.len() as u8
+    }
+
+    fn logs(&self) -> u8 {
+        self.logs.len() as u8
+    }
+
+    fn take_device(&mut self, stream: StreamId) -> D {
+        let disk = self.disks[usize::from(stream.number())].take().unwrap();
+        self.held.device = Some(stream);
+        self.device_turns = self.device_turns.saturating_add(1);
+        disk
+    }
+
+    fn give_device(&mut self, stream: StreamId, disk: D) {
+        match self.disks[usize::from(stream.number())].replace(disk) {
+            None => self.held.device = None,
+            Some(_) => unreachable!(),
+        }
+    }
+
+    fn take_book(&mut self, stream: StreamId) -> Book {
+        let book = self.books[usize::from(stream.number())].take().unwrap();
+        self.held.book = Some(stream);
+        book
+    }
+
+    fn give_book(&mut self, stream: StreamId, book: Book) {
+        self.books[usize::from(stream.number())] = Some(book);
+        self.held.book = None;
+    }
+
+    fn take_log(&mut self, handle: u8) -> LogTurn<L> {
+        let log = self.logs[usize::from(handle)].take().unwrap();
+        self.held.log = Some(handle);
+        log
+    }
+
+    fn give_log(&mut self, handle: u8, log: LogTurn<L>)
+        requires held { self.old.held.log ≡ Some handle }
+        requires no_journal { self.old.held.journal ≡ false }
+        requires handle { log.handle ≡ handle }
+        requires stands { LogStands L.told L.faults
+            ((standing_of D.told D.faults L.told L.faults self.old).logs handle) self.old.last.entries log }
+        ensures { standing_of D.told D.faults L.told L.faults self.new
+            ≡ without_log (standing_of D.told D.faults L.told L.faults self.old) }
+    {
+        self.logs[usize::from(handle)] = Some(log);
+        self.held.log = None;
+    }
+
+    fn take_journal(&mut self) -> Journal<Q> {
+        let journal = self.journal.take().unwrap();
+        self.held.journal = true;
+        journal
+    }
+
+    fn give_journal(&mut self, journal: Journal<Q>)
+        requires held { self.old.held.journal ≡ true }
+        requires adds { Adds (standing_of D.told D.faults L.told L.faults self.old) journal.entries }
+        requires stands { JournalStands Q.posted
+            (without_journal journal (standing_of D.told D.faults L.told L.faults self.old)) journal }
+        ensures { standing_of D.told D.faults L.told L.faults self.new
+            ≡ without_journal journal (standing_of D.told D.faults L.told L.faults self.old) }
+    {
+        self.last = Snapshot::of(&journal);
+        self.journal = Some(journal);
+        self.held.journal = false;
+    }
+}
