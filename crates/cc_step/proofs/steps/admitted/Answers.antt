@@ -1,0 +1,25 @@
+use Rattle.std.specs.Prelude.{refl}
+use Rattle.std.proofs.Common.{sym, ◌∙◌}
+use Rattle.cc_model.specs.History.{history}
+use Rattle.cc_step.proofs.Filled.{filled-none}
+use Rattle.cc_step.proofs.steps.admitted.Goals as goal
+
+pub finish-requires-clause-may : goal.finish-requires-clause-may
+finish-requires-clause-may g c =
+    let u = c.requires.may.0 in
+    let may = c.requires.may.1 in
+    let admitted = c.requires.may.2 in
+    let past = c.args.journal.now.entries in
+    let none = sym (c.absent.ensures u (u.opening c.args.book.now.stream) past may.stand.stands admitted) ∙ c.in-None.is in
+    (u, may, record { admitted = admitted; filled = filled-none (history past c.args.book.now.stream) _ none })
+
+pub returns-in-Some : goal.returns-in-Some
+returns-in-Some g c u may admitted =
+    let least = sym (c.absent.ensures u (u.opening c.args.book.now.stream) c.args.journal.now.entries may.stand.stands admitted) ∙ c.in-Some.is in
+    record { admitted = admitted; least = least; call_is = refl; same_book = refl; same_journal = refl }
+
+pub returns-in-None : goal.returns-in-None
+returns-in-None g c u may admitted =
+    let past = c.args.journal.now.entries in
+    let none = sym (c.absent.ensures u (u.opening c.args.book.now.stream) past may.stand.stands admitted) ∙ c.in-None.is in
+    c.finish.ensures u may (record { admitted = admitted; filled = filled-none (history past c.args.book.now.stream) _ none })

@@ -1,0 +1,68 @@
+//! What a call answers that may be done.
+
+ghost use Rattle.std.specs.Prelude.{◌≡◌, ℕ, true, List, Option, Some, IfOk};
+ghost use Rattle.cc_entry.specs.declared.entry.Entry.{Entry};
+ghost use Rattle.cc_book.specs.Book.{BookStands};
+ghost use Rattle.cc_model.specs.Acts.{file_of};
+ghost use Rattle.cc_model.specs.Filing.{IsFiled};
+ghost use Rattle.cc_model.specs.History.{history};
+ghost use Rattle.cc_model.specs.Holds.{holds_of};
+ghost use Rattle.cc_model.specs.Replies.{IsReply, state_of};
+ghost use Rattle.cc_model.specs.Setup.{Setup};
+ghost use Rattle.cc_step.specs.Step.{is_stepped, StandUnder, IsReadyFor};
+
+use cc_book::Book;
+use cc_entry::{Call, FileSizes, FileState, NoMemory, Reply};
+use cc_journal::Journal;
+use std::alloc::Global;
+
+/// What a call answers that nothing refuses and whose pages are resident.
+pub(crate) fn reply<Q>(
+    alloc: Global,
+    book: &Book,
+    journal: &Journal<Q>,
+    call: &Call,
+) -> Result<Reply, NoMemory>
+    requires { is_stepped call.now ≡ true }
+    ensures { IfOk result (λ r. (u : Setup) (pass : ℕ) → StandUnder u book.now journal.now →
+        IsFiled (holds_of (history journal.now.entries book.now.stream)) pass (Some book.now.stream) call.now
+        (file_of call.now) →
+        IsReadyFor u journal.now.entries book.now.stream call.now →
+        IsReply u journal.now.entries (u.opening book.now.stream)
+        (history journal.now.entries book.now.stream) pass call.now r) }
+{
+    match call {
+        Call::CopyRead { at, len, .. } => Ok(Reply::Read(book.read(alloc, *at, *len)?)),
+        Call::Map { .. }
+        | Call::PinRead { .. }
+        | Call::PreparePin { .. }
+        | Call::Repin { .. }
+        | Call::MdlRead { .. }
+        | Call::MdlWrite { .. } => Ok(Reply::Hold(journal.next_hold())),
+        Call::PinMapped { hold, .. } => Ok(Reply::Hold(*hold)),
+        Call::Uninitialise { file, truncate } => {
+            Ok(Reply::Flag(!journal.stays_mapped(*file, *truncate)))
+        }
+        Call::State { .. } => Ok(Reply::State(state_of(book))),
+        Call::AskAhead { file, at, len } => Ok(Reply::Ahead(book.ahead_of(*file, *at, *len))),
+        Call::CanWrite { file, bytes } => {
+            Ok(Reply::Flag(journal.may_go(file.stream(), bytes.div_ceil(4096))))
+        }
+        _ => Ok(Reply::Unit),
+    }
+}
+
+// The sizes and the log of the book's stream.
+fn state_of(book: &Book) -> FileState
+    ensures { (opening : Option (ℕ → List ℕ)) (past : List Entry) → BookStands opening past book.now →
+        result ≡ state_of (history past book.now.stream) }
+{
+    FileState {
+        sizes: FileSizes {
+            allocation: book.allocation(),
+            size: book.size(),
+            valid: book.valid(),
+        },
+        log: book.log(),
+    }
+}

@@ -1,0 +1,171 @@
+//! The step of a call.
+
+ghost use Rattle.std.specs.Prelude.{◌≡◌, ℕ, ◌<◌, true, List, Option, None, Some};
+ghost use Rattle.cc_entry.specs.declared.entry.Entry.{Entry};
+ghost use Rattle.cc_model.specs.History.{history};
+ghost use Rattle.cc_model.specs.Ranges.{range_of, cut_range};
+ghost use Rattle.cc_model.specs.Refusals.{refusal};
+ghost use Rattle.cc_model.specs.Setup.{Setup};
+ghost use Rattle.cc_model.specs.Touches.{size_of};
+ghost use Rattle.cc_book.specs.Book.{BookStands};
+ghost use Rattle.cc_step.specs.Step.{is_stepped, asks_one, MayStep, IsReadyFor, StepLeft, AttemptLeft, has_placed, least_absent};
+
+use crate::replies::reply;
+use cc_book::Book;
+use cc_entry::{Call, CcError};
+use cc_journal::Journal;
+use std::alloc::Global;
+
+/// How the step of a call ended.
+#[derive(Drop)]
+pub enum Stepped {
+    /// The call was done. Its entry, the journal's last, has the reply.
+    Done,
+    /// The call was refused. Its entry has the refusal too.
+    Refused(CcError),
+    /// The call waits for this page, and is handed back.
+    Waits(u64, Call),
+    /// There was no room in the journal (`JournalFull`) or no memory (`NoMemory`). The call left no entry.
+    Stopped(CcError),
+}
+
+/// Takes the step of a call by this pass where the journal has room for its entry. The call, done or refused, asks one
+/// place alone.
+///
+/// `JournalFull` exactly where there is no room, with the number of entries; `NoMemory`.
+pub fn attempt<Q>(
+    alloc: Global,
+    book: &mut Book,
+    journal: &mut Journal<Q>,
+    pass: u32,
+    call: Call,
+) -> Stepped
+    requires one { asks_one call ≡ true }
+    requires may { (u : Setup) × MayStep u pass call book.old journal.old }
+    ensures { (u : Setup) → MayStep u pass call book.old journal.old →
+        AttemptLeft u pass call result book.old book.new journal.old journal.new }
+{
+    match journal.reserve(1) {
+        Ok(()) => {
+            let ended = step(alloc, book, journal, pass, call);
+            if !has_placed(&ended) {
+                journal.release(1);
+            }
+            ended
+        }
+        Err(error) => Stepped::Stopped(error),
+    }
+}
+
+// Whether the step of a call that ended so placed an entry.
+fn has_placed(ended: &Stepped) -> bool
+    ensures { result ≡ has_placed ended.now }
+{
+    match ended {
+        Stepped::Done | Stepped::Refused(_) => true,
+        Stepped::Waits(..) | Stepped::Stopped(_) => false,
+    }
+}
+
+// Takes the step of a call by this pass, for whose entry a place is reserved.
+fn step<Q>(
+    alloc: Global,
+    book: &mut Book,
+    journal: &mut Journal<Q>,
+    pass: u32,
+    call: Call,
+) -> Stepped
+    requires stepped { is_stepped call ≡ true }
+    requires reserved { 0 < journal.old.reserved }
+    requires may { (u : Setup) × MayStep u pass call book.old journal.old }
+    ensures { (u : Setup) → MayStep u pass call book.old journal.old →
+        StepLeft u pass call result book.old book.new journal.old journal.new }
+{
+    match book.refusal(alloc, journal, &call) {
+        Ok(None) => admitted(alloc, book, journal, pass, call),
+        Ok(Some(error)) => {
+            book.fail(journal, pass, call, error);
+            Stepped::Refused(error)
+        }
+        Err(_) => Stepped::Stopped(CcError::NoMemory),
+    }
+}
+
+// Takes the step of a call that nothing refuses.
+fn admitted<Q>(
+    alloc: Global,
+    book: &mut Book,
+    journal: &mut Journal<Q>,
+    pass: u32,
+    call: Call,
+) -> Stepped
+    requires stepped { is_stepped call ≡ true }
+    requires reserved { 0 < journal.old.reserved }
+    requires may { (u : Setup) × MayStep u pass call book.old journal.old
+        × (refusal u journal.old.entries (history journal.old.entries book.old.stream) call ≡ None) }
+    ensures { (u : Setup) → MayStep u pass call book.old journal.old →
+        refusal u journal.old.entries (history journal.old.entries book.old.stream) call ≡ None →
+        StepLeft u pass call result book.old book.new journal.old journal.new }
+{
+    match absent(book, &call) {
+        Some(page) => Stepped::Waits(page, call),
+        None => finish(alloc, book, journal, pass, call),
+    }
+}
+
+// Takes the step of a call that may be done.
+fn finish<Q>(
+    alloc: Global,
+    book: &mut Book,
+    journal: &mut Journal<Q>,
+    pass: u32,
+    call: Call,
+) -> Stepped
+    requires stepped { is_stepped call ≡ true }
+    requires reserved { 0 < journal.old.reserved }
+    requires may { (u : Setup) × MayStep u pass call book.old journal.old
+        × IsReadyFor u journal.old.entries book.old.stream call }
+    ensures { (u : Setup) → MayStep u pass call book.old journal.old →
+        IsReadyFor u journal.old.entries book.old.stream call →
+        StepLeft u pass call result book.old book.new journal.old journal.new }
+{
+    match reply(alloc, book, journal, &call) {
+        Ok(answer) => match book.done(alloc, journal, pass, call, answer) {
+            Ok(()) => Stepped::Done,
+            Err(_) => Stepped::Stopped(CcError::NoMemory),
+        },
+        Err(_) => Stepped::Stopped(CcError::NoMemory),
+    }
+}
+
+// The least page that a call needs which nothing refuses, and that is not resident.
+fn absent(book: &Book, call: &Call) -> Option<u64>
+    requires { is_stepped call.now ≡ true }
+    ensures { (u : Setup) (opening : Option (ℕ → List ℕ)) (past : List Entry) → BookStands opening past book.now →
+        refusal u past (history past book.now.stream) call.now ≡ None →
+        result ≡ least_absent (history past book.now.stream)
+        (range_of (size_of (history past book.now.stream)) call.now) }
+{
+    match call {
+        Call::CopyWrite { at, bytes, .. } => absent_below(book, *at, bytes.len()),
+        Call::Zero { span, .. } => book.first_absent(span.from(), span.to()),
+        Call::CopyRead { at, len, .. } => absent_below(book, *at, *len),
+        Call::Map { at, len, .. } => absent_below(book, *at, *len),
+        Call::PinRead { at, len, .. } => absent_below(book, *at, *len),
+        Call::PreparePin { at, len, .. } => absent_below(book, *at, *len),
+        Call::MdlRead { at, len, .. } => absent_below(book, *at, *len),
+        Call::MdlWrite { at, len, .. } => absent_below(book, *at, *len),
+        _ => None,
+    }
+}
+
+// The least page of so many bytes from a place on, as far as the size, that is not resident.
+fn absent_below(book: &Book, at: u64, len: u64) -> Option<u64>
+    ensures { (opening : Option (ℕ → List ℕ)) (past : List Entry) → BookStands opening past book.now →
+        result ≡ least_absent (history past book.now.stream)
+        (Some (cut_range (size_of (history past book.now.stream)) at len)) }
+{
+    let end = u128::from(at) + u128::from(len);
+    let to = end.min(u128::from(book.size())) as u64;
+    book.first_absent(at, to)
+}
