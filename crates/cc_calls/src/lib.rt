@@ -1,0 +1,16 @@
+//! The calls of the cache, each one function over any turns.
+//!
+//! What the layer keeps true: a call leaves in the journal what `cc_effects` says of its answer, after all that its
+//! pass had seen, and its answer is the one that the definitions give at its entry's front. At its end the pass holds
+//! the turns that it held, and has no more entries reserved.
+//!
+//! `turned` takes the turn of a stream's book for a call, `settings` has the calls that need no page and set something
+//! of their stream. Below are the turns (`cc_turns`) and the step of a call on a book (`cc_step`).
+#![tactic(auto)]
+
+mod settings;
+mod turned;
+
+pub use settings::{
+    initialize, set_attributes, set_file_sizes, set_granularity, set_log_handle, set_threshold,
+};

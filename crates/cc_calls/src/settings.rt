@@ -1,0 +1,150 @@
+//! The calls that set something of their stream: they need no page, and answer no value.
+
+ghost use Rattle.std.specs.Prelude.{◌≡◌, true};
+ghost use Rattle.cc_entry.specs.declared.call.Call.TheVariants as call;
+ghost use Rattle.cc_calls.specs.Turned.{IsOf};
+ghost use Rattle.cc_calls.specs.Answers.{CanCall, CallSets, is_setting};
+
+use crate::turned::turned;
+use cc_entry::{Call, CcError, FileId, FileSizes, Quota, StreamId};
+use cc_step::Stepped;
+use cc_turns::Turns;
+use std::alloc::Global;
+
+/// Makes the shared cache map of a stream, with a private one for the file object, or the private one alone where there
+/// is a shared map (`CcInitializeCacheMap`). Sizes are in bytes, the quota is in view blocks.
+///
+/// `BadSizes`, `NoVacbs`, `JournalFull`, `NoMemory`.
+pub fn initialize<T: Turns>(
+    alloc: Global,
+    turns: &mut T,
+    file: FileId,
+    sizes: FileSizes,
+    quota: Quota,
+    temporary: bool,
+) -> Result<(), CcError>
+    requires { CanCall (T.standing turns.old) file.stream }
+    ensures { CallSets (T.standing turns.old) (T.standing turns.new) (call.Initialise file sizes quota temporary) result }
+{
+    let call = Call::Initialise {
+        file,
+        sizes,
+        quota,
+        temporary,
+    };
+    set(alloc, turns, file.stream(), call)
+}
+
+/// Sets the allocation and the size of a stream, in bytes (`CcSetFileSizes`). Pages at or past the size go.
+///
+/// `NotCached`, `BadSizes`, `Held`, `JournalFull`, `NoMemory`.
+pub fn set_file_sizes<T: Turns>(
+    alloc: Global,
+    turns: &mut T,
+    file: FileId,
+    allocation: u64,
+    size: u64,
+) -> Result<(), CcError>
+    requires { CanCall (T.standing turns.old) file.stream }
+    ensures { CallSets (T.standing turns.old) (T.standing turns.new) (call.SetSizes file allocation size) result }
+{
+    let call = Call::SetSizes {
+        file,
+        allocation,
+        size,
+    };
+    set(alloc, turns, file.stream(), call)
+}
+
+/// Sets the log of a stream (`CcSetLogHandleForFile`).
+///
+/// `NotCached`, `NoLog`, `JournalFull`, `NoMemory`.
+pub fn set_log_handle<T: Turns>(
+    alloc: Global,
+    turns: &mut T,
+    file: FileId,
+    handle: u8,
+) -> Result<(), CcError>
+    requires { CanCall (T.standing turns.old) file.stream }
+    ensures { CallSets (T.standing turns.old) (T.standing turns.new) (call.SetLog file handle) result }
+{
+    set(alloc, turns, file.stream(), Call::SetLog { file, handle })
+}
+
+/// Sets the granularity of a file object's read-ahead, in bytes (`CcSetReadAheadGranularity`).
+///
+/// `NotCached`, `BadGranularity`, `JournalFull`, `NoMemory`.
+pub fn set_granularity<T: Turns>(
+    alloc: Global,
+    turns: &mut T,
+    file: FileId,
+    bytes: u64,
+) -> Result<(), CcError>
+    requires { CanCall (T.standing turns.old) file.stream }
+    ensures { CallSets (T.standing turns.old) (T.standing turns.new) (call.SetGranularity file bytes) result }
+{
+    set(
+        alloc,
+        turns,
+        file.stream(),
+        Call::SetGranularity { file, bytes },
+    )
+}
+
+/// Sets whether a stream is read ahead and written behind (`CcSetAdditionalCacheAttributes`).
+///
+/// `NotCached`, `JournalFull`, `NoMemory`.
+pub fn set_attributes<T: Turns>(
+    alloc: Global,
+    turns: &mut T,
+    file: FileId,
+    no_read_ahead: bool,
+    no_write_behind: bool,
+) -> Result<(), CcError>
+    requires { CanCall (T.standing turns.old) file.stream }
+    ensures { CallSets (T.standing turns.old) (T.standing turns.new)
+        (call.SetAttributes file no_read_ahead no_write_behind) result }
+{
+    let call = Call::SetAttributes {
+        file,
+        no_read_ahead,
+        no_write_behind,
+    };
+    set(alloc, turns, file.stream(), call)
+}
+
+/// Sets how many pages of a stream may be dirty before its writes are held back, 0 for no limit
+/// (`CcSetDirtyPageThreshold`).
+///
+/// `NotCached`, `JournalFull`, `NoMemory`.
+pub fn set_threshold<T: Turns>(
+    alloc: Global,
+    turns: &mut T,
+    file: FileId,
+    pages: u32,
+) -> Result<(), CcError>
+    requires { CanCall (T.standing turns.old) file.stream }
+    ensures { CallSets (T.standing turns.old) (T.standing turns.new) (call.SetThreshold file pages) result }
+{
+    set(
+        alloc,
+        turns,
+        file.stream(),
+        Call::SetThreshold { file, pages },
+    )
+}
+
+// Makes such a call.
+fn set<T: Turns>(alloc: Global, turns: &mut T, stream: StreamId, call: Call) -> Result<(), CcError>
+    requires can { CanCall (T.standing turns.old) stream }
+    requires sets { is_setting call ≡ true }
+    requires filed { IsOf call stream }
+    ensures { CallSets (T.standing turns.old) (T.standing turns.new) call result }
+{
+    match turned(alloc, turns, stream, call) {
+        Stepped::Done => Ok(()),
+        Stepped::Refused(error) => Err(error),
+        Stepped::Stopped(error) => Err(error),
+        Stepped::Waits(..) => unreachable!(),
+    }
+}
