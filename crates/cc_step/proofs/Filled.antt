@@ -1,11 +1,11 @@
 -- A range of which no page is absent is filled.
-use Rattle.std.specs.Prelude.{◌≡◌, ℕ, Bool, true, false, not, List, [], ◌∷◌, Option, None, Some, refl, if◌then◌else◌}
+use Rattle.std.specs.Prelude.{◌≡◌, ℕ, Bool, true, false, not, List, [], ◌∷◌, Option, None, Some, refl}
 use Rattle.std.specs.List.{find, list_all}
 use Rattle.cc_entry.specs.Pages.{pages_of}
 use Rattle.cc_entry.specs.Place.{Range}
 use Rattle.cc_model.specs.Conditions.{IsFilled}
 use Rattle.cc_model.specs.History.{Effect}
-use Rattle.cc_model.specs.Residency.{is_resident, all_resident}
+use Rattle.cc_model.specs.Residency.{is_resident}
 use Rattle.cc_step.specs.Step.{least_absent}
 
 none-found : (test : ℕ → Bool) (ps : List ℕ) → find (λ p. not (test p)) ps ≡ None → list_all test ps ≡ true

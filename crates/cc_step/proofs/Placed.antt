@@ -1,6 +1,5 @@
 -- A good journal stays good with the entry of a step.
-use Rattle.std.specs.Prelude.{◌≡◌, ℕ, suc, Bool, true, false, List, [], ◌∷◌, Option, None, Some, refl}
-use Rattle.std.proofs.Common.{ap, sym, ◌∙◌, subst}
+use Rattle.std.specs.Prelude.{◌≡◌, ℕ, suc, Bool, true, false, List, ◌∷◌, None, Some, refl}
 use Rattle.std.specs.Bool.{OnTrue}
 use Rattle.cc_entry.specs.declared.call.Call.{Call}
 use Rattle.cc_entry.specs.declared.call.Call.TheVariants as call
@@ -13,8 +12,8 @@ use Rattle.cc_entry.specs.declared.reply.Outcome.TheVariants as outcome
 use Rattle.cc_entry.specs.declared.reply.Reply.{Reply}
 use Rattle.cc_book.specs.Book.{done, failed}
 use Rattle.cc_model.specs.Acts.{file_of}
-use Rattle.cc_model.specs.Allowed.{IsAllowed, IsAllowedSoFar, IsOwed, MayCall, MayEnd, owed_begin, begin_after, is_fault}
-use Rattle.cc_model.specs.Conditions.{IsFilled, IsReady}
+use Rattle.cc_model.specs.Allowed.{IsAllowed, IsAllowedSoFar, IsOwed, MayCall, owed_begin, begin_after, is_fault}
+use Rattle.cc_model.specs.Conditions.{IsReady}
 use Rattle.cc_model.specs.Covered.{IsCovered, IsCoveredEntry}
 use Rattle.cc_model.specs.Filing.{IsFiled}
 use Rattle.cc_model.specs.Good.{IsGood, IsGoodSoFar}
@@ -22,11 +21,10 @@ use Rattle.cc_model.specs.History.{history}
 use Rattle.cc_model.specs.Holds.{holds_of}
 use Rattle.cc_model.specs.Legal.{IsLegal, IsLegalEntry, IsOutcome, IsAdmitted, IsFailure, IsTooLong}
 use Rattle.cc_model.specs.Passes.{calls_of}
-use Rattle.cc_model.specs.Ranges.{needs_pages, range_of}
+use Rattle.cc_model.specs.Ranges.{needs_pages}
 use Rattle.cc_model.specs.Refusals.{refusal}
 use Rattle.cc_model.specs.Replies.{IsReply}
 use Rattle.cc_model.specs.Setup.{Setup}
-use Rattle.cc_model.specs.Touches.{size_of}
 use Rattle.cc_step.specs.Step.{is_stepped, IsReadyFor}
 use Rattle.cc_step.proofs.Reasons.{is_listed, refusal-listed}
 

@@ -1,8 +1,7 @@
 -- A refusal of the list is never a fault, nor for want of room or memory.
-use Rattle.std.specs.Prelude.{◌≡◌, ℕ, Bool, true, false, List, [], ◌∷◌, Option, None, Some, refl, ◌&&◌, not, ◌||◌, nat_lt, nat_le, if◌then◌else◌}
-use Rattle.std.proofs.Common.{ap, sym, ◌∙◌, subst}
-use Rattle.std.specs.List.{find}
-use Rattle.std.specs.Option.{option_map, option_and_then}
+use Rattle.std.specs.Prelude.{◌≡◌, ℕ, Bool, true, false, List, ◌∷◌, Option, None, Some, refl}
+use Rattle.std.proofs.Common.{subst}
+use Rattle.std.specs.Option.{option_map}
 use Rattle.cc_entry.specs.Place.{File, Range}
 use Rattle.cc_entry.specs.declared.call.Call.{Call}
 use Rattle.cc_entry.specs.declared.call.Call.TheVariants as call
@@ -15,7 +14,7 @@ use Rattle.cc_model.specs.Discards.{unsettled, grown}
 use Rattle.cc_model.specs.History.{Effect}
 use Rattle.cc_model.specs.Holds.{Hold, holds_of}
 use Rattle.cc_model.specs.Ranges.{range_of}
-use Rattle.cc_model.specs.Reasons.{refuse_if, not_cached, cached_file, longer, too_long, view_boundary, bad_sizes, bad_granularity, no_log, past_size, beyond_size, past_valid, beyond_valid}
+use Rattle.cc_model.specs.Reasons.{refuse_if, not_cached, cached_file, too_long, view_boundary, bad_sizes, bad_granularity, no_log, beyond_size, beyond_valid}
 use Rattle.cc_model.specs.Refusals.{first_of, refusal}
 use Rattle.cc_model.specs.Setup.{Setup}
 use Rattle.cc_model.specs.Touches.{size_of, valid_of}

@@ -1,5 +1,5 @@
 -- The entry of a call that asks one place leaves what is reserved as it was.
-use Rattle.std.specs.Prelude.{◌≡◌, ℕ, suc, ◌+◌, Bool, true, false, not, ◌&&◌, ◌||◌, ◌==◌, List, [], ◌∷◌, Option, None, Some, is_some, refl, if◌then◌else◌}
+use Rattle.std.specs.Prelude.{◌≡◌, ℕ, ◌+◌, Bool, true, false, ◌||◌, ◌==◌, List, [], ◌∷◌, Option, Some, refl, if◌then◌else◌}
 use Rattle.std.proofs.Common.{ap, sym, ◌∙◌, subst, arith}
 use Rattle.std.proofs.lemmas.Bool.{eqb-true, eq-eqb}
 use Rattle.std.specs.List.{sum_by}
@@ -16,13 +16,11 @@ use Rattle.cc_laws.proofs.HoldSteps.{changes_holds, holds_of-other}
 use Rattle.cc_laws.proofs.HistorySteps.{history-done, history-no_effect}
 use Rattle.cc_laws.proofs.ImageSteps.{open_of-done}
 use Rattle.cc_model.specs.Cache.{all_streams}
-use Rattle.cc_model.specs.History.{Effect, Did, effect_of, history}
-use Rattle.cc_model.specs.Holds.{holds_of}
-use Rattle.cc_model.specs.Images.{open_of}
+use Rattle.cc_model.specs.History.{history}
 use Rattle.cc_model.specs.Numbers.{is_among}
-use Rattle.cc_model.specs.Passes.{is_store, is_call_of, up_to_call}
-use Rattle.cc_model.specs.Room.{owed_by_hold, owed_by_stream, stores_unfinished, reserved_in}
-use Rattle.cc_step.specs.Step.{is_stepped, asks_one, ends_in_store, owes_store}
+use Rattle.cc_model.specs.Passes.{is_store, up_to_call}
+use Rattle.cc_model.specs.Room.{owed_by_stream, stores_unfinished, reserved_in}
+use Rattle.cc_step.specs.Step.{is_stepped, owes_store}
 
 none-more : (n : ℕ) → 0 + n ≡ n
 none-more n = omega arith
@@ -155,11 +153,15 @@ no-store other ended stepped = refl
 pub reserved-done : (past : List Entry) (pass nth stream : ℕ) (it : Call) (r : Reply) → is_stepped it ≡ true → changes_holds it ≡ false → owes_store past pass ≡ false → reserved_in (entry.Call pass nth (Some stream) it (outcome.Done r) ∷ past) ≡ reserved_in past
 unfolding reserved_in
 reserved-done past pass nth stream it r stepped kept none =
-    rw (sum-same (λ s. owed_by_stream (history (entry.Call pass nth (Some stream) it (outcome.Done r) ∷ past) s)) (λ s. owed_by_stream (history past s)) all_streams (λ s. owed-done past pass nth stream s it r kept),
-    stores-call past pass nth (Some stream) it (outcome.Done r) (no-store it (outcome.Done r) stepped) none) refl
+    rw (
+      sum-same (λ s. owed_by_stream (history (entry.Call pass nth (Some stream) it (outcome.Done r) ∷ past) s)) (λ s. owed_by_stream (history past s)) all_streams (λ s. owed-done past pass nth stream s it r kept),
+      stores-call past pass nth (Some stream) it (outcome.Done r) (no-store it (outcome.Done r) stepped) none,
+    ) refl
 
 pub reserved-failed : (past : List Entry) (pass nth stream : ℕ) (it : Call) (e : CcError) → is_stepped it ≡ true → owes_store past pass ≡ false → reserved_in (entry.Call pass nth (Some stream) it (outcome.Failed e) ∷ past) ≡ reserved_in past
 unfolding reserved_in
 reserved-failed past pass nth stream it e stepped none =
-    rw (sum-same (λ s. owed_by_stream (history (entry.Call pass nth (Some stream) it (outcome.Failed e) ∷ past) s)) (λ s. owed_by_stream (history past s)) all_streams (λ s. owed-failed past pass nth stream s it e),
-    stores-call past pass nth (Some stream) it (outcome.Failed e) (no-store it (outcome.Failed e) stepped) none) refl
+    rw (
+      sum-same (λ s. owed_by_stream (history (entry.Call pass nth (Some stream) it (outcome.Failed e) ∷ past) s)) (λ s. owed_by_stream (history past s)) all_streams (λ s. owed-failed past pass nth stream s it e),
+      stores-call past pass nth (Some stream) it (outcome.Failed e) (no-store it (outcome.Failed e) stepped) none,
+    ) refl

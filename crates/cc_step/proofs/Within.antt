@@ -1,6 +1,6 @@
 -- The range of a call that nothing refuses lies below the size.
-use Rattle.std.specs.Prelude.{◌≡◌, ℕ, ◌+◌, ◌≤◌, Bool, true, false, nat_lt, min, length, List, Option, None, Some, refl}
-use Rattle.std.proofs.Common.{ap, sym, ◌∙◌, arith}
+use Rattle.std.specs.Prelude.{◌≡◌, ℕ, ◌+◌, Bool, true, false, nat_lt, min, None, refl}
+use Rattle.std.proofs.Common.{ap, arith}
 use Rattle.std.proofs.lemmas.Bool.{ltb-false}
 use Rattle.cc_entry.specs.Pages.{whole_range}
 use Rattle.cc_entry.specs.declared.error.CcError.TheVariants as error

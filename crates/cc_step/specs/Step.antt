@@ -24,7 +24,6 @@ use Rattle.cc_model.specs.Holds.{holds_of}
 use Rattle.cc_model.specs.Passes.{is_store, up_to_call}
 use Rattle.cc_model.specs.Ranges.{range_of}
 use Rattle.cc_model.specs.Refusals.{refusal}
-use Rattle.cc_model.specs.Replies.{IsReply}
 use Rattle.cc_model.specs.Residency.{is_resident}
 use Rattle.cc_model.specs.Setup.{Setup}
 use Rattle.cc_model.specs.Touches.{size_of}

@@ -1,4 +1,3 @@
-use Rattle.std.specs.Prelude.{refl}
 use Rattle.std.proofs.Common.{ap}
 use Rattle.cc_entry.specs.declared.reply.Reply.TheVariants as reply
 use Rattle.cc_step.proofs.replies.reply.Goals as goal

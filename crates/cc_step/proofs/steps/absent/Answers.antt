@@ -1,18 +1,15 @@
-use Rattle.std.specs.Prelude.{◌≡◌, ℕ, ◌+◌, true, false, List, Option, None, Some, refl, length}
-use Rattle.std.proofs.Common.{ap, sym, ◌∙◌, subst}
+use Rattle.std.specs.Prelude.{◌≡◌, ℕ, ◌+◌, List, Option, None, Some, refl, length}
+use Rattle.std.proofs.Common.{ap, sym, ◌∙◌}
 use Rattle.cc_entry.specs.Pages.{whole_range}
 use Rattle.cc_entry.specs.Place.{Range}
 use Rattle.cc_entry.specs.declared.call.Call.{Call}
 use Rattle.cc_entry.specs.declared.call.Call.TheVariants as call
-use Rattle.cc_entry.specs.declared.entry.Entry.{Entry}
 use Rattle.cc_laws.proofs.UnrefusedCalls.{unrefused}
 use Rattle.cc_model.specs.History.{Effect, history}
 use Rattle.cc_model.specs.Ranges.{cut_range, range_of}
 use Rattle.cc_model.specs.Reasons.{past_size}
-use Rattle.cc_model.specs.Refusals.{refusal}
-use Rattle.cc_model.specs.Setup.{Setup}
 use Rattle.cc_model.specs.Touches.{size_of}
-use Rattle.cc_step.specs.Step.{least_absent, is_stepped}
+use Rattle.cc_step.specs.Step.{least_absent}
 use Rattle.cc_step.proofs.Within.{whole-cut}
 use Rattle.cc_step.proofs.steps.absent.Goals as goal
 

@@ -1,9 +1,7 @@
-use Rattle.std.specs.Prelude.{◌≡◌, ◌+◌, not, min, refl, Some}
-use Rattle.std.proofs.Common.{ap, sym, ◌∙◌, subst}
+use Rattle.std.specs.Prelude.{◌≡◌, ◌+◌, min, refl}
+use Rattle.std.proofs.Common.{◌∙◌}
 use Rattle.cc_model.specs.History.{history}
-use Rattle.cc_model.specs.Ranges.{cut_range}
 use Rattle.cc_model.specs.Touches.{size_of}
-use Rattle.cc_step.specs.Step.{least_absent}
 use Rattle.cc_step.proofs.steps.absent_below.Goals as goal
 
 pub returns : goal.returns

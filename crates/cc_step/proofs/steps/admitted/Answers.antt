@@ -1,5 +1,5 @@
-use Rattle.std.specs.Prelude.{◌≡◌, ℕ, List, Option, None, Some, refl}
-use Rattle.std.proofs.Common.{ap, sym, ◌∙◌, subst}
+use Rattle.std.specs.Prelude.{refl}
+use Rattle.std.proofs.Common.{sym, ◌∙◌}
 use Rattle.cc_model.specs.History.{history}
 use Rattle.cc_step.proofs.Filled.{filled-none}
 use Rattle.cc_step.proofs.steps.admitted.Goals as goal

@@ -1,8 +1,8 @@
-use Rattle.std.specs.Prelude.{◌≡◌, ℕ, ◌+◌, ◌≤◌, Bool, true, false, not, ◌&&◌, refl}
-use Rattle.std.proofs.Common.{ap, sym, ◌∙◌, subst, arith}
+use Rattle.std.specs.Prelude.{◌≡◌, ℕ, ◌+◌, ◌≤◌, false}
+use Rattle.std.proofs.Common.{sym, ◌∙◌, subst, arith}
 use Rattle.cc_journal.specs.Journal.{JournalState}
-use Rattle.cc_step.specs.Step.{MayStep, StepLeft, AttemptLeft, has_placed, is_stepped, asks_one}
-use Rattle.cc_step.proofs.Attempts.{reserving, releasing, may-reserving, placed-attempt, left-attempt, one-reserved}
+use Rattle.cc_step.specs.Step.{MayStep, StepLeft, AttemptLeft, has_placed}
+use Rattle.cc_step.proofs.Attempts.{reserving, may-reserving, placed-attempt, left-attempt, one-reserved}
 use Rattle.cc_step.proofs.steps.attempt.Goals as goal
 
 pub release-requires : goal.release-requires

@@ -1,7 +1,4 @@
-use Rattle.std.specs.Prelude.{◌≡◌, ℕ, true, false, List, ◌∷◌, Option, None, Some, refl}
-use Rattle.std.proofs.Common.{ap, sym, ◌∙◌, subst}
-use Rattle.cc_model.specs.History.{history}
-use Rattle.cc_model.specs.Refusals.{refusal}
+use Rattle.std.proofs.Common.{ap, sym, ◌∙◌}
 use Rattle.cc_step.proofs.Placed.{good-failed, so-far}
 use Rattle.cc_step.proofs.steps.step.Goals as goal
 
