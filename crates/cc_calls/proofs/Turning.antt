@@ -27,6 +27,7 @@ use Rattle.cc_model.specs.Passes.{calls_of, up_to_call}
 use Rattle.cc_model.specs.Ranges.{range_of}
 use Rattle.cc_model.specs.Refusals.{refusal}
 use Rattle.cc_model.specs.Room.{reserved_in}
+use Rattle.cc_model.specs.Setup.{Setup}
 use Rattle.cc_model.specs.Touches.{size_of}
 use Rattle.cc_model.specs.Turns.{Turn, Device, Book, Log as log_turn, Journal, is_book, call_needs, needs, is_quiet}
 use Rattle.cc_step.specs.Step.{StandUnder, MayStep, AttemptLeft, is_stepped, asks_one, ends_in_store, owes_store, least_absent}
@@ -137,7 +138,7 @@ module _ {Q : Type 0} (posted : Q → Bool) (w0 w1 w2 : Standing) (s : ℕ) (it 
   }
 
   module _ (c : BookState) (k : JournalState Q) where
-    pub book-after : (ended : Stepped) → AttemptLeft w2.setup w2.number it ended b c j k → c.stream ≡ s
+    book-after : (ended : Stepped) → AttemptLeft w2.setup w2.number it ended b c j k → c.stream ≡ s
     book-after stepped.Done left = left.1.stream ∙ b_is
     book-after (stepped.Refused e) left = ap (λ x. x.stream) left.same ∙ b_is
     book-after (stepped.Waits page again) left = ap (λ x. x.stream) left.same_book ∙ b_is
@@ -150,7 +151,7 @@ module _ {Q : Type 0} (posted : Q → Bool) (w0 w1 w2 : Standing) (s : ℕ) (it 
         subst (λ (x : BookState). StandUnder w2.setup x k) (sym left.same_book) (subst (λ (x : JournalState Q). StandUnder w2.setup b x) (sym left.same_journal) may.stand)
     stand-after (stepped.Stopped e) left = left.1.stand
 
-    pub stands-after : (ended : Stepped) → AttemptLeft w2.setup w2.number it ended b c j k → BookStands (w2.setup.opening s) k.entries c
+    stands-after : (ended : Stepped) → AttemptLeft w2.setup w2.number it ended b c j k → BookStands (w2.setup.opening s) k.entries c
     stands-after ended left = subst (λ (n : ℕ). BookStands (w2.setup.opening n) k.entries c) (book-after ended left) (stand-after ended left).stands
 
     -- the journal is the one that was taken, but for its entries and rows
@@ -168,7 +169,7 @@ module _ {Q : Type 0} (posted : Q → Bool) (w0 w1 w2 : Standing) (s : ℕ) (it 
       own = (eq-eqb w2.number w2.number refl, tt);
     }
 
-    pub adds-after : (ended : Stepped) → AttemptLeft w2.setup w2.number it ended b c j k → Adds w2 k.entries
+    adds-after : (ended : Stepped) → AttemptLeft w2.setup w2.number it ended b c j k → Adds w2 k.entries
     adds-after stepped.Done left = adds-one (outcome.Done left.0) (ap (λ x. x.entries) left.1.placed)
     adds-after (stepped.Refused e) left = adds-one (outcome.Failed e) (ap (λ x. x.entries) left.placed)
     adds-after (stepped.Waits page again) left = adds_nothing w2 k.entries (ap (λ x. x.entries) left.same_journal ∙ js.entries_are)
@@ -190,7 +191,7 @@ module _ {Q : Type 0} (posted : Q → Bool) (w0 w1 w2 : Standing) (s : ℕ) (it 
         rest : (n owed flight others : ℕ) → n ≡ owed + flight + others → n - (owed + others) ≡ flight
         rest n owed flight others same = omega (arith, same)
 
-    pub journal-after : (ended : Stepped) → AttemptLeft w2.setup w2.number it ended b c j k → JournalStands posted (without_journal k w2) k
+    journal-after : (ended : Stepped) → AttemptLeft w2.setup w2.number it ended b c j k → JournalStands posted (without_journal k w2) k
     journal-after ended left = record {
       entries_are = refl;
       good = (stand-after ended left).good;
@@ -202,7 +203,7 @@ module _ {Q : Type 0} (posted : Q → Bool) (w0 w1 w2 : Standing) (s : ℕ) (it 
     }
 
     -- the turn, from where the pass stood to where it stands with both given back
-    pub left-after : (ended : Stepped) → AttemptLeft w2.setup w2.number it ended b c j k → TurnLeft w0 (without_book (without_journal k w2)) s it ended
+    left-after : (ended : Stepped) → AttemptLeft w2.setup w2.number it ended b c j k → TurnLeft w0 (without_book (without_journal k w2)) s it ended
     left-after stepped.Done left = (
       left.0,
       record {
@@ -240,7 +241,7 @@ module _ {Q : Type 0} (posted : Q → Bool) (w0 w1 w2 : Standing) (s : ℕ) (it 
             least : (capacity entries reserved owed : ℕ) → reserved ≡ owed → capacity - (entries + reserved) < 1 → capacity < entries + owed + 1
             least capacity entries reserved owed same few = omega (arith, same, few)
 
-    pub goes_on-after : (ended : Stepped) → AttemptLeft w2.setup w2.number it ended b c j k → GoesOn w0 (without_book (without_journal k w2))
+    goes_on-after : (ended : Stepped) → AttemptLeft w2.setup w2.number it ended b c j k → GoesOn w0 (without_book (without_journal k w2))
     goes_on-after ended left = record {
       same =
           ap (λ (w : Standing). record w { seen = k.entries; held = record w.held { book = None; journal = false }; in_flight = k.reserved - (reserved_in k.entries + w2.others); others = w2.others }) base
@@ -254,8 +255,34 @@ module _ {Q : Type 0} (posted : Q → Bool) (w0 w1 w2 : Standing) (s : ℕ) (it 
         back : record w0.held { book = None; journal = false } ≡ w0.held
         back = subst (λ (h : Held). record h { book = None; journal = false } ≡ h) (sym free) refl
 
-    pub settled-after : (ended : Stepped) → AttemptLeft w2.setup w2.number it ended b c j k → owes_store k.entries w2.number ≡ false
+    settled-after : (ended : Stepped) → AttemptLeft w2.setup w2.number it ended b c j k → owes_store k.entries w2.number ≡ false
     settled-after stepped.Done left = subst (λ (past : List Entry). owes_store past w2.number ≡ false) (sym (ap (λ x. x.entries) left.1.placed)) (settled-call w2.number _ (Some b.stream) it (outcome.Done left.0) j.entries is)
     settled-after (stepped.Refused e) left = subst (λ (past : List Entry). owes_store past w2.number ≡ false) (sym (ap (λ x. x.entries) left.placed)) (settled-call w2.number _ (Some b.stream) it (outcome.Failed e) j.entries is)
     settled-after (stepped.Waits page again) left = subst (λ (past : List Entry). owes_store past w2.number ≡ false) (sym (ap (λ x. x.entries) left.same_journal)) settled-front
     settled-after (stepped.Stopped e) left = subst (λ (past : List Entry). owes_store past w2.number ≡ false) (sym (ap (λ x. x.entries) left.1.same_journal)) settled-front
+
+-- What a pass knows of one turn: what it placed may be given, the book stands, and what the turn left.
+pub record Turning {Q : Type 0} (posted : Q → Bool) (w0 w2 : Standing) (s : ℕ) (it : Call) (ended : Stepped) (c : BookState) (k : JournalState Q) : Type 0 where
+  pub adds : Adds w2 k.entries
+  pub journal : JournalStands posted (without_journal k w2) k
+  pub book : c.stream ≡ s
+  pub stands : BookStands (w2.setup.opening s) k.entries c
+  pub left : TurnLeft w0 (without_book (without_journal k w2)) s it ended
+  pub goes_on : GoesOn w0 (without_book (without_journal k w2))
+  pub settled : owes_store k.entries w2.number ≡ false
+
+pub turning : {Q : Type 0} (posted : Q → Bool) (w0 w1 w2 : Standing) (s pass : ℕ) (it : Call) (ended : Stepped) (b c : BookState) (j k : JournalState Q) → Takes (with_book s) w0 w1 → Takes with_journal w1 w2 → w0.held ≡ record nothing { device = w0.held.device } → b.stream ≡ s → BookStands (w1.setup.opening s) w1.seen b → JournalStands posted w2 j → asks_one it ≡ true → IsOf it s → IsSettled w0 → pass ≡ w2.number → ((u : Setup) → MayStep u pass it b j → AttemptLeft u pass it ended b c j k) → Turning posted w0 w2 s it ended c k
+turning posted w0 w1 w2 s pass it ended b c j k t1 t2 free b_is b_stands js one filed settled me attempted =
+    let m = may posted w0 w1 w2 s it b j t1 t2 free b_is b_stands js one filed settled in
+    let left : AttemptLeft w2.setup w2.number it ended b c j k =
+    subst (λ (n : ℕ). AttemptLeft w2.setup n it ended b c j k) me
+    (attempted w2.setup (subst (λ (n : ℕ). MayStep w2.setup n it b j) (sym me) m)) in
+    record {
+      adds = adds-after posted w0 w1 w2 s it b j t1 t2 free b_is b_stands js one filed settled c k ended left;
+      journal = journal-after posted w0 w1 w2 s it b j t1 t2 free b_is b_stands js one filed settled c k ended left;
+      book = book-after posted w0 w1 w2 s it b j t1 t2 free b_is b_stands js one filed settled c k ended left;
+      stands = stands-after posted w0 w1 w2 s it b j t1 t2 free b_is b_stands js one filed settled c k ended left;
+      left = left-after posted w0 w1 w2 s it b j t1 t2 free b_is b_stands js one filed settled c k ended left;
+      goes_on = goes_on-after posted w0 w1 w2 s it b j t1 t2 free b_is b_stands js one filed settled c k ended left;
+      settled = settled-after posted w0 w1 w2 s it b j t1 t2 free b_is b_stands js one filed settled c k ended left;
+    }
