@@ -256,3 +256,20 @@ fn a_stream_lives(rt: HostRuntime) -> Result<(), Fail> {
     assert_eq!(rt; entries.len(), 16);
     Ok(())
 }
+
+#[test]
+fn a_book_tells_what_was_set(rt: HostRuntime) -> Result<(), Fail> {
+    let file = object()?;
+    let quota = Quota::new(8).ok_or("quota")?;
+    let (mut journal, mut book) = start(rt.alloc(), file)?;
+    open(rt.alloc(), &mut journal, &mut book, file, quota)?;
+    assert!(rt; book.is_open(0) && !book.is_open(1));
+    assert!(rt; book.has_map() && book.had_map());
+    assert_eq!(rt;
+        (book.allocation(), book.quota(), book.log()),
+        (2 * BLOCK, 8, None)
+    );
+    assert_eq!(rt; (book.mapped(), book.is_block_mapped(0)), (0, false));
+    assert!(rt; !book.is_held(0) && book.hold(1).is_none());
+    Ok(())
+}
