@@ -1,20 +1,23 @@
 -- How the turns of one thread go on, by what is taken and given.
-use Rattle.std.specs.Prelude.{◌≡◌, ℕ, ◌+◌, ◌-◌, ◌<◌, Bool, true, false, List, [], length, slice_get, slice_set, slice_index_or, if◌then◌else◌}
+use Rattle.std.specs.Prelude.{◌≡◌, ℕ, ◌+◌, ◌-◌, ◌<◌, Bool, true, false, List, [], ◌∷◌, ◌++◌, length, slice_get, slice_set, slice_index_or, if◌then◌else◌}
 use Rattle.std.specs.declared.option.Option.{Option}
 use Rattle.std.specs.declared.option.Option.TheVariants.{Some, None}
-use Rattle.std.proofs.Common.{refl, sym, subst, ap, ◌∙◌, arith}
+use Rattle.std.specs.List.{AllByRecursion}
+use Rattle.std.proofs.Common.{refl, sym, subst, ap, ◌∙◌, arith, append_assoc}
+use Rattle.cc_entry.specs.declared.entry.Entry.{Entry}
 use Rattle.std.proofs.lemmas.Option.{slice_get_read, slice_get_within}
 use Rattle.cc_traits.specs.Disk.{Disk}
 use Rattle.cc_traits.specs.Log.{Log}
 use Rattle.cc_book.specs.Book.{BookState}
 use Rattle.cc_journal.specs.Journal.{JournalState}
 use Rattle.cc_log.specs.Turn.{LogState}
+use Rattle.cc_model.specs.Good.{IsGood}
 use Rattle.cc_model.specs.Room.{reserved_in}
 use Rattle.cc_model.specs.Turns.{Device, Book, Log as log_turn}
 use Rattle.cc_laws.proofs.TurnSteps.{is_quiet-none}
 use Rattle.cc_turns.specs.Standing.{Standing}
 use Rattle.cc_turns.specs.Journal.{JournalStands}
-use Rattle.cc_turns.specs.Takes.{Takes, Adds, without_journal}
+use Rattle.cc_turns.specs.Takes.{Takes, Adds, HasActed, may_be_of, without_journal}
 use Rattle.cc_turns.specs.Places.{AreHome}
 use Rattle.cc_turns.specs.Desk.{DeskState, DeskStands, Tells, DiskIsHome, BookIsHome, LogIsHome, openings, disk_at_first, log_at_first, standing_of}
 use Rattle.cc_turns.proofs.BookGrows.{book_grows}
@@ -23,11 +26,17 @@ use Rattle.cc_turns.proofs.LogGrows.{log_grows}
 use Rattle.cc_turns.proofs.Homes.{taken, given, grow}
 
 -- a turn is taken while nobody else goes on
-pub takes_alone : (now : Standing → Standing) (old new : Standing) → new ≡ now old → (now old).seen ≡ old.seen → Takes now old new
-takes_alone now old new is same = subst (λ w. Takes now old w) (sym is) (record {
+pub takes_alone : (now : Standing → Standing) (old new : Standing) → new ≡ now old → (now old).seen ≡ old.seen → IsGood (now old).setup (now old).seen → Takes now old new
+takes_alone now old new is same good = subst (λ w. Takes now old w) (sym is) (record {
   grows = record { later = []; grew = same; quiet = λ t holds. is_quiet-none t; others = tt };
+  good = good;
   same = refl;
 })
+
+-- a desk's pass has seen a good journal
+pub seen_good : {D L Q : Type 0} (tells : Tells D L Q) (d old : DeskState D L Q) (disks : List (Option D)) (books : List (Option BookState)) (logs : List (Option (LogState L))) (journal : Option (JournalState Q)) → d ≡ old → DeskStands tells d disks books logs journal → IsGood (standing_of tells.disk tells.disk_faults tells.log tells.log_faults old).setup (standing_of tells.disk tells.disk_faults tells.log tells.log_faults old).seen
+seen_good tells d old disks books logs journal is stands =
+    subst (λ x. IsGood (standing_of tells.disk tells.disk_faults tells.log tells.log_faults x).setup x.last.entries) is stands.journal_was.good
 
 -- the journal stands for all that knows as much of it
 pub journal_as : {Q : Type 0} (posted : Q → Bool) (w v : Standing) (j : JournalState Q) → v.setup ≡ w.setup → v.seen ≡ w.seen → v.in_flight ≡ w.in_flight → v.others ≡ w.others → JournalStands posted w j → JournalStands posted v j
@@ -75,16 +84,29 @@ pub given_at : {A : Type 0} {IsHome : ℕ → A → Type 0} (count : ℕ) (held 
 given_at {A} {IsHome} count held places at s now a same put is is_home are =
     rw (same, put) (given count s places a is_home (subst (λ h. AreHome count h IsHome places) is are))
 
+-- what a pass acted, and more of its own
+own-both : (me : ℕ) (later earlier : List Entry) → AllByRecursion (λ e. may_be_of me e ≡ true) later → AllByRecursion (λ e. may_be_of me e ≡ true) earlier → AllByRecursion (λ e. may_be_of me e ≡ true) (later ++ earlier)
+own-both me [] earlier all more = more
+own-both me (e ∷ later) earlier all more = (all.0, own-both me later earlier all.1 more)
+
+acted-more : (me : ℕ) (since seen now added : List Entry) → now ≡ added ++ seen → AllByRecursion (λ e. may_be_of me e ≡ true) added → HasActed me since seen → HasActed me since now
+acted-more me since seen now added grew own acted = record {
+  added = added ++ acted.added;
+  grew = grew ∙ (ap (λ past. added ++ past) acted.grew ∙ sym (append_assoc added acted.added since));
+  own = own-both me added acted.added own acted.own;
+}
+
 module _ {D L Q : Type 0} (tells : Tells D L Q) (d : DeskState D L Q) (disks : List (Option D)) (books : List (Option BookState)) (logs : List (Option (LogState L))) (journal : Option (JournalState Q)) where
   -- the desk acts as another pass
-  pub acts_as : (pass : ℕ) → DeskStands tells d disks books logs journal → DeskStands tells (record d { pass = pass }) disks books logs journal
-  acts_as pass stands = record {
+  pub acts_as : (pass : ℕ) (since : List Entry) → since ≡ d.last.entries → DeskStands tells d disks books logs journal → DeskStands tells (record d { pass = pass; since = since }) disks books logs journal
+  acts_as pass since is stands = record {
     disks_are = stands.disks_are;
     books_are = stands.books_are;
     logs_are = stands.logs_are;
     few = stands.few;
     journal_was = journal_as tells.posted _ _ d.last refl refl refl refl stands.journal_was;
     journal_is = stands.journal_is;
+    acted = record { added = []; grew = sym is; own = tt };
   }
 
   -- a disk is held
@@ -96,6 +118,7 @@ module _ {D L Q : Type 0} (tells : Tells D L Q) (d : DeskState D L Q) (disks : L
     few = stands.few;
     journal_was = journal_as tells.posted _ _ d.last refl refl refl refl stands.journal_was;
     journal_is = stands.journal_is;
+    acted = stands.acted;
   }
 
   pub device_given : (at s : ℕ) (now : Option D) (disk : D) → at ≡ s → now ≡ Some disk → d.held.device ≡ Some s → DiskIsHome tells.disk tells.disk_faults d.begun.disks d.last.entries s disk → DeskStands tells d disks books logs journal → DeskStands tells (record d { held = record d.held { device = None } }) (slice_set disks at now) books logs journal
@@ -106,6 +129,7 @@ module _ {D L Q : Type 0} (tells : Tells D L Q) (d : DeskState D L Q) (disks : L
     few = stands.few;
     journal_was = journal_as tells.posted _ _ d.last refl refl refl refl stands.journal_was;
     journal_is = stands.journal_is;
+    acted = stands.acted;
   }
 
   -- a book is held
@@ -117,6 +141,7 @@ module _ {D L Q : Type 0} (tells : Tells D L Q) (d : DeskState D L Q) (disks : L
     few = stands.few;
     journal_was = journal_as tells.posted _ _ d.last refl refl refl refl stands.journal_was;
     journal_is = stands.journal_is;
+    acted = stands.acted;
   }
 
   pub book_given : (at s : ℕ) (now : Option BookState) (book : BookState) → at ≡ s → now ≡ Some book → d.held.book ≡ Some s → BookIsHome (openings tells.disk tells.disk_faults d.begun.disks) d.last.entries s book → DeskStands tells d disks books logs journal → DeskStands tells (record d { held = record d.held { book = None } }) disks (slice_set books at now) logs journal
@@ -127,6 +152,7 @@ module _ {D L Q : Type 0} (tells : Tells D L Q) (d : DeskState D L Q) (disks : L
     few = stands.few;
     journal_was = journal_as tells.posted _ _ d.last refl refl refl refl stands.journal_was;
     journal_is = stands.journal_is;
+    acted = stands.acted;
   }
 
   -- a log is held
@@ -138,6 +164,7 @@ module _ {D L Q : Type 0} (tells : Tells D L Q) (d : DeskState D L Q) (disks : L
     few = stands.few;
     journal_was = journal_as tells.posted _ _ d.last refl refl refl refl stands.journal_was;
     journal_is = stands.journal_is;
+    acted = stands.acted;
   }
 
   pub log_given : (at s : ℕ) (now : Option (LogState L)) (log : LogState L) → at ≡ s → now ≡ Some log → d.held.log ≡ Some s → LogIsHome tells.log tells.log_faults d.begun.logs d.last.entries s log → DeskStands tells d disks books logs journal → DeskStands tells (record d { held = record d.held { log = None } }) disks books (slice_set logs at now) journal
@@ -148,6 +175,7 @@ module _ {D L Q : Type 0} (tells : Tells D L Q) (d : DeskState D L Q) (disks : L
     few = stands.few;
     journal_was = journal_as tells.posted _ _ d.last refl refl refl refl stands.journal_was;
     journal_is = stands.journal_is;
+    acted = stands.acted;
   }
 
   -- the journal is held
@@ -159,6 +187,7 @@ module _ {D L Q : Type 0} (tells : Tells D L Q) (d : DeskState D L Q) (disks : L
     few = stands.few;
     journal_was = journal_as tells.posted _ _ d.last refl refl refl refl stands.journal_was;
     journal_is = none;
+    acted = stands.acted;
   }
 
   -- it is the one that was last at home
@@ -191,6 +220,7 @@ module _ {D L Q : Type 0} (tells : Tells D L Q) (d : DeskState D L Q) (disks : L
     few = stands.few;
     journal_was = journal_as tells.posted _ _ j refl refl (same_rest j.reserved (reserved_in j.entries)) refl stood;
     journal_is = refl;
+    acted = acted-more d.pass d.since d.last.entries j.entries adds.added adds.grew adds.own stands.acted;
   })
     where
       same_rest : (reserved owed : ℕ) → reserved - owed ≡ reserved - (owed + 0)

@@ -43,7 +43,7 @@ pub open_of-quiet : (later past : List Entry) (s : ℕ) → is_quiet (Device s) 
 open_of-quiet later past s quiet = (SameImages-deviceless later past s quiet).same_transfer
 
 -- what has gone with a history has gone with one of the same images and crashes
-has_gone_same : (h g : List Effect) (opening now : Disk) → SameImages g h → SameCrash g h → ((p : ℕ) → all_ended_well g p ≡ all_ended_well h p) → HasGone h opening now → HasGone g opening now
+pub has_gone_same : (h g : List Effect) (opening now : Disk) → SameImages g h → SameCrash g h → ((p : ℕ) → all_ended_well g p ≡ all_ended_well h p) → HasGone h opening now → HasGone g opening now
 has_gone_same h g opening now images crash ended gone = record {
   images = λ p bytes is. gone.images p bytes (sym (images.same_image (page_of opening) p) ∙ is);
   crash = λ p content alone among. rw (crash.same_crash (page_of opening) p) (gone.crash p content alone among);
@@ -52,7 +52,7 @@ has_gone_same h g opening now images crash ended gone = record {
       ∙ sym (crash.same_crash (page_of opening) p);
 }
 
-both_same : {A : Type 0} (P Q : A → A → Type 0) (first now : Option A) → ((x y : A) → P x y → Q x y) → Both first now P → Both first now Q
+pub both_same : {A : Type 0} (P Q : A → A → Type 0) (first now : Option A) → ((x y : A) → P x y → Q x y) → Both first now P → Both first now Q
 both_same P Q None None so both = both
 both_same P Q None (Some now) so both = both
 both_same P Q (Some first) None so both = both

@@ -16,6 +16,7 @@ use Rattle.cc_turns.specs.Standing.{Standing, Held, DiskAtFirst, LogAtFirst, not
 use Rattle.cc_turns.specs.Disk.{DiskStands, opening_of}
 use Rattle.cc_turns.specs.Log.{LogStands, FileStands}
 use Rattle.cc_turns.specs.Journal.{JournalStands}
+use Rattle.cc_turns.specs.Takes.{HasActed}
 use Rattle.cc_turns.specs.Places.{AreHome, IsRoomFor}
 use Rattle.cc_turns.specs.declared.desk.Held.{Held as HeldTurns}
 use Rattle.cc_turns.specs.declared.desk.Rows.{Rows}
@@ -53,20 +54,22 @@ pub record IsNew {D L Q : Type 0} (begun : Begun D L) (j : JournalState Q) : Typ
   pub limits : (j.capacity ≡ begun.capacity) × (j.threshold ≡ begun.threshold) × (j.logs ≡ length begun.logs)
   pub empty : (j.entries ≡ []) × (j.reserved ≡ 0) × (j.queue ≡ [])
 
--- A desk as contracts see it: what the run was made from, the journal as it was last at home, the pass as which it
--- acts, the turns that are held, and how often the turn of a disk was taken.
+-- A desk as contracts see it: what the run was made from, the journal as it was last at home, what stood in it as the
+-- desk began to act as its pass, that pass, the turns that are held, and how often the turn of a disk was taken.
 pub record DeskState (D L Q : Type 0) : Type 0 where
   pub begun : Begun D L
   pub last : JournalState Q
+  pub since : List Entry
   pub pass : ℕ
   pub held : Held
   pub device_turns : ℕ
 
 -- the desk of these fields
-abbrev pub state_of : {D L Q : Type 0} → Setup D L → JournalState Q → ℕ → HeldTurns → ℕ → DeskState D L Q
-state_of begun last pass held device_turns = record {
+abbrev pub state_of : {D L Q : Type 0} → Setup D L → JournalState Q → List Entry → ℕ → HeldTurns → ℕ → DeskState D L Q
+state_of begun last since pass held device_turns = record {
   begun = made_from begun;
   last = last;
+  since = since;
   pass = pass;
   held = record { device = held.device; book = held.book; log = held.log; journal = held.journal };
   device_turns = device_turns;
@@ -86,6 +89,7 @@ standing_of told faults log_told log_faults d = record {
   logs = λ handle. log_at_first log_told log_faults (slice_get d.begun.logs handle);
   number = d.pass;
   seen = d.last.entries;
+  since = d.since;
   held = d.held;
   in_flight = d.last.reserved - reserved_in d.last.entries;
   others = 0;
@@ -127,7 +131,7 @@ tells_of told faults log_told log_faults posted = record {
 }
 
 -- What the turns of one thread keep: all that is not held is at home, and stands for the journal as it was last at
--- home; the journal is at home itself, or held.
+-- home; the journal is at home itself, or held; and what was placed since the desk acts as its pass is that pass's.
 pub record DeskStands {D L Q : Type 0} (tells : Tells D L Q) (d : DeskState D L Q) (disks : List (Option D))
     (books : List (Option BookState)) (logs : List (Option (LogState L))) (journal : Option (JournalState Q)) : Type 0 where
   pub disks_are : AreHome (length d.begun.disks) d.held.device
@@ -140,6 +144,7 @@ pub record DeskStands {D L Q : Type 0} (tells : Tells D L Q) (d : DeskState D L 
   pub journal_was : JournalStands tells.posted
       (standing_of tells.disk tells.disk_faults tells.log tells.log_faults d) d.last
   pub journal_is : journal ≡ (if d.held.journal then None else Some d.last)
+  pub acted : HasActed d.pass d.since d.last.entries
 
 -- Rows have room for all that a run is made from, and its journal is empty.
 pub record AreRowsFor {D L Q : Type 0} (begun : Begun D L) (rows : Rows D L Q) : Type 0 where
@@ -152,6 +157,7 @@ pub record AreRowsFor {D L Q : Type 0} (begun : Begun D L) (rows : Rows D L Q) :
 pub record IsFresh {D L Q : Type 0} (begun : Begun D L) (d : DeskState D L Q) : Type 0 where
   pub begun_is : d.begun ≡ begun
   pub journal_is : IsNew begun d.last
+  pub since_is : d.since ≡ []
   pub pass_is : d.pass ≡ 0
   pub held_is : d.held ≡ nothing
   pub turns_are : d.device_turns ≡ 0

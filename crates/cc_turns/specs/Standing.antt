@@ -42,9 +42,9 @@ pub record LogAtFirst : Type 0 where
   pub faults : ℕ
 
 -- What a pass knows. Of the run: its setup, how many streams have a disk, and what each disk and each log was as it
--- began. Of itself: its number, the entries of the journal that it has seen, the turns that it holds, how many
--- entries it has reserved for what it has under way, how many others had, as it last took the journal, and how
--- often it took the turn of a disk.
+-- began. Of itself: its number, the entries of the journal that it has seen, those that it had seen as it began to
+-- act, the turns that it holds, how many entries it has reserved for what it has under way, how many others had, as it
+-- last took the journal, and how often it took the turn of a disk.
 pub record Standing : Type 0 where
   pub setup : Setup
   pub streams : ℕ
@@ -52,6 +52,7 @@ pub record Standing : Type 0 where
   pub logs : ℕ → LogAtFirst
   pub number : ℕ
   pub seen : List Entry
+  pub since : List Entry
   pub held : Held
   pub in_flight : ℕ
   pub others : ℕ

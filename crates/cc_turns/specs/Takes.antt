@@ -5,6 +5,7 @@ use Rattle.std.specs.List.{AllByRecursion}
 use Rattle.cc_entry.specs.declared.entry.Entry.{Entry}
 use Rattle.cc_entry.specs.declared.entry.Entry.TheVariants as entry
 use Rattle.cc_journal.specs.Journal.{JournalState}
+use Rattle.cc_model.specs.Good.{IsGood}
 use Rattle.cc_model.specs.Passes.{is_mine}
 use Rattle.cc_model.specs.Room.{reserved_in}
 use Rattle.cc_model.specs.Turns.{Turn, is_quiet}
@@ -18,10 +19,11 @@ pub record Grows (w : Standing) (seen : List Entry) : Type 0 where
   pub quiet : (t : Turn) → holds w.held t ≡ true → is_quiet t later ≡ true
   pub others : Others w.number later
 
--- A turn was taken: the pass holds it too, has seen what the others did meanwhile, and knows what they have
--- reserved.
+-- A turn was taken: the pass holds it too, has seen what the others did meanwhile, which is good, and knows what they
+-- have reserved.
 pub record Takes (now : Standing → Standing) (old new : Standing) : Type 0 where
   pub grows : Grows old new.seen
+  pub good : IsGood new.setup new.seen
   pub same : new ≡ record (now old) { seen = new.seen; others = new.others }
 
 -- the same pass with one turn more; of a disk it counts how often, up to the last number
@@ -67,3 +69,9 @@ pub record Adds (w : Standing) (seen : List Entry) : Type 0 where
   pub grew : seen ≡ added ++ w.seen
   pub held : (t : Turn) → holds w.held t ≡ false → is_quiet t added ≡ true
   pub own : AllByRecursion (λ e. may_be_of w.number e ≡ true) added
+
+-- What was placed since a moment is the pass's own: nobody else went on.
+pub record HasActed (me : ℕ) (since seen : List Entry) : Type 0 where
+  pub added : List Entry
+  pub grew : seen ≡ added ++ since
+  pub own : AllByRecursion (λ e. may_be_of me e ≡ true) added

@@ -2,11 +2,12 @@
 
 ghost use Rattle.std.specs.Prelude.{◌≡◌, ℕ, List, length, reverse, map, IfOk, IfErr, Some, true, false};
 ghost use Rattle.cc_entry.specs.declared.error.CcError.TheVariants as error;
+ghost use Rattle.cc_model.specs.Good.{IsGood};
 ghost use Rattle.cc_model.specs.Throttle.{queue};
 ghost use Rattle.cc_turns.specs.Standing.{Standing, nothing};
 ghost use Rattle.cc_turns.specs.Log.{LogStands};
 ghost use Rattle.cc_turns.specs.Journal.{JournalStands};
-ghost use Rattle.cc_turns.specs.Takes.{Adds, without_log, without_journal};
+ghost use Rattle.cc_turns.specs.Takes.{Adds, HasActed, without_log, without_journal};
 ghost use Rattle.cc_turns.specs.Desk.{AreRowsFor, DisksEnded, LogsEnded, IsFresh, made_from, standing_of};
 
 use crate::places;
@@ -46,6 +47,8 @@ pub struct Desk<D: PageDisk, L: LogFile, Q: PostRoutine> {
     begun: Snapshot<Setup<D, L>>,
     /// The journal as it last was at home.
     last: Snapshot<Journal<Q>>,
+    /// The journal as it was as the desk began to act as its pass.
+    since: Snapshot<Snapshot<Journal<Q>>>,
 }
 
 // rows with room for all that a run is made from, and its journal
@@ -63,11 +66,11 @@ impl<D: PageDisk, L: LogFile, Q: PostRoutine> Model for Desk<D, L, Q> {
 
     ghost Value = { DeskState D L Q };
 
-    ghost view = { λ d. state_of d.begun.value d.last.value d.pass d.held d.device_turns };
+    ghost view = { λ d. state_of d.begun.value d.last.value d.since.value.value.entries d.pass d.held d.device_turns };
 
     ghost invariant = { λ d.
         DeskStands (tells_of D.told D.faults L.told L.faults Q.posted)
-        (state_of d.begun.value d.last.value d.pass d.held d.device_turns)
+        (state_of d.begun.value d.last.value d.since.value.value.entries d.pass d.held d.device_turns)
         d.disks.items d.books.items d.logs.items d.journal
         × IsRoomFor (length d.begun.value.disks.items) d.disk_room.items (vec_capacity d.disk_room)
         × IsRoomFor (length d.begun.value.logs.items) d.log_room.items (vec_capacity d.log_room) };
@@ -119,6 +122,7 @@ impl<D: PageDisk, L: LogFile, Q: PostRoutine> Desk<D, L, Q> {
             disks: disk_places,
         } = rows;
         let last = Snapshot::of(&journal);
+        let since = Snapshot::of(&last);
         Desk {
             books: places::of_books(alloc, disks.len() as u8, books),
             disks: places::out_of(&mut disks, disk_places),
@@ -136,20 +140,38 @@ impl<D: PageDisk, L: LogFile, Q: PostRoutine> Desk<D, L, Q> {
             device_turns: 0,
             begun,
             last,
+            since,
         }
     }
 
     /// Acts as this pass from now on.
     pub fn act_as(&mut self, pass: u32)
-        ensures { self.new ≡ record self.old { pass = pass } }
+        ensures { self.new ≡ record self.old { pass = pass; since = self.old.last.entries } }
     {
         self.pass = pass;
+        self.since = Snapshot::of(&self.last);
+    }
+
+    /// What was placed since the desk acts as its pass is that pass's own.
+    pub fn own(&self)
+        ensures { HasActed self.now.pass self.now.since self.now.last.entries }
+    {
+        let _pass = self.pass;
+    }
+
+    /// The journal, where its turn is not held.
+    pub fn journal(&self) -> &Journal<Q>
+        requires { self.now.held.journal ≡ false }
+        ensures { result.now ≡ self.now.last }
+    {
+        self.journal.as_ref().unwrap()
     }
 
     /// Gives all back. It takes no memory.
     pub fn end(self) -> Parts<D, L, Q>
         requires { self.held ≡ nothing }
         ensures journal { reverse result.journal.items ≡ self.last.entries }
+        ensures good { IsGood (standing_of D.told D.faults L.told L.faults self).setup self.last.entries }
         ensures disks { DisksEnded D.told D.faults self result.disks.items }
         ensures logs { LogsEnded L.told L.faults self result.logs.items }
         ensures queued { map (λ waiting. waiting.0) result.queued.items
@@ -167,6 +189,7 @@ impl<D: PageDisk, L: LogFile, Q: PostRoutine> Desk<D, L, Q> {
             device_turns: _,
             begun: _,
             last: _,
+            since: _,
         } = self;
         let (journal, queued) = journal.unwrap().end();
         Parts {

@@ -1,6 +1,7 @@
 use Rattle.std.proofs.Common.{subst, ap, ◌∙◌}
 use Rattle.cc_turns.specs.Desk.{DisksEnded, LogsEnded}
 use Rattle.cc_turns.proofs.RowSteps.{all_home}
+use Rattle.cc_turns.proofs.DeskSteps.{seen_good}
 use Rattle.cc_turns.proofs.Fresh.{disks_end, logs_end}
 use Rattle.cc_turns.proofs.desk.Desk.end.Goals as goal
 
@@ -21,3 +22,6 @@ pub returns-clause-logs : goal.returns-clause-logs
 returns-clause-logs g c =
     subst (λ d. LogsEnded g.L.LogFile.told g.L.LogFile.faults d c.back_to_logs.result.items) c.self.view_is
     (logs_end g.L.LogFile.told g.L.LogFile.faults _ c.self.inside.logs.items c.back_to_logs.result.items _ c.self.invariant.0.logs_are c.back_to_logs.ensures)
+
+pub returns-clause-good : goal.returns-clause-good
+returns-clause-good g c = seen_good _ _ _ _ _ _ _ c.self.view_is c.self.invariant.0

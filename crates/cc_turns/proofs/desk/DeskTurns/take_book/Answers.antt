@@ -1,7 +1,7 @@
 use Rattle.std.proofs.Common.{◌<◌, length, refl, sym, subst, ap, ◌∙◌}
 use Rattle.cc_turns.specs.Takes.{with_book}
 use Rattle.cc_turns.specs.Desk.{standing_of}
-use Rattle.cc_turns.proofs.DeskSteps.{found, book_taken, takes_alone}
+use Rattle.cc_turns.proofs.DeskSteps.{found, book_taken, takes_alone, seen_good}
 use Rattle.cc_turns.proofs.desk.DeskTurns.take_book.Goals as goal
 
 pub invariant_of-self : goal.invariant_of-self
@@ -16,6 +16,7 @@ invariant_of-self g c = (
 pub returns-clause-took : goal.returns-clause-took
 returns-clause-took g c = takes_alone (with_book c.args.stream) _ _
     (ap (λ d. with_book c.args.stream (standing_of g.D.Told.told g.D.Told.faults g.L.LogFile.told g.L.LogFile.faults d)) c.self.view_is) refl
+    (seen_good _ _ _ _ _ _ _ c.self.view_is c.self.invariant.0)
 
 pub returns-clause-stream : goal.returns-clause-stream
 returns-clause-stream g c =

@@ -1,5 +1,7 @@
-use Rattle.std.proofs.Common.{◌<◌, length, sym, subst, ap, ◌∙◌}
-use Rattle.cc_turns.proofs.DeskSteps.{found, device_taken}
+use Rattle.std.proofs.Common.{◌≡◌, ◌<◌, ◌-◌, ◌^◌, suc, min, arith, length, refl, sym, subst, ap, ◌∙◌}
+use Rattle.cc_turns.specs.Takes.{with_device}
+use Rattle.cc_turns.specs.Desk.{standing_of}
+use Rattle.cc_turns.proofs.DeskSteps.{found, device_taken, takes_alone, seen_good}
 use Rattle.cc_turns.proofs.desk.DeskTurns.take_device.Goals as goal
 
 pub invariant_of-self : goal.invariant_of-self
@@ -10,6 +12,15 @@ invariant_of-self g c = (
   c.self.invariant.1,
   c.self.invariant.2,
 )
+
+pub returns-clause-took : goal.returns-clause-took
+returns-clause-took g c =
+    let turns : c.saturating_add-self-inside.result ≡ min (suc c.self.inside.device_turns) (2 ^ 64 - 1) = omega (arith, c.saturating_add-self-inside.ensures) in
+    let counted : c.self.inside.device_turns ≡ c.args.self.now.device_turns = ap (λ d. d.device_turns) c.self.view_is in
+    takes_alone (with_device c.args.stream) _ _
+    (ap (λ d. record (with_device c.args.stream (standing_of g.D.Told.told g.D.Told.faults g.L.LogFile.told g.L.LogFile.faults d)) { device_turns = c.saturating_add-self-inside.result }) c.self.view_is
+    ∙ ap (λ n. record (with_device c.args.stream (standing_of g.D.Told.told g.D.Told.faults g.L.LogFile.told g.L.LogFile.faults c.args.self.now)) { device_turns = n }) (turns ∙ ap (λ n. min (suc n) (2 ^ 64 - 1)) counted))
+    refl (seen_good _ _ _ _ _ _ _ c.self.view_is c.self.invariant.0)
 
 pub returns-clause-stands : goal.returns-clause-stands
 returns-clause-stands g c =
