@@ -81,6 +81,13 @@ impl Book {
         }
     }
 
+    /// The stream that the book is of.
+    pub fn stream(&self) -> StreamId
+        ensures { result ≡ self.now.stream }
+    {
+        self.stream
+    }
+
     /// The size in bytes, 0 before the first initialise.
     pub fn size(&self) -> u64
         ensures { (opening : Option (ℕ → List ℕ)) (past : List Entry) → BookStands opening past self.now →

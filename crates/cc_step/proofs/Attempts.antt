@@ -2,10 +2,11 @@
 use Rattle.std.specs.Prelude.{◌≡◌, ℕ, ◌+◌, ◌-◌, true, false, ◌∷◌}
 use Rattle.std.proofs.Common.{ap, ◌∙◌, arith, inr}
 use Rattle.cc_entry.specs.declared.call.Call.{Call}
-use Rattle.cc_book.specs.Book.{BookState, done, failed}
+use Rattle.cc_entry.specs.declared.entry.Entry.{Entry}
+use Rattle.cc_book.specs.Book.{BookState, Gains, done, failed}
 use Rattle.cc_journal.specs.Journal.{JournalState}
 use Rattle.cc_model.specs.Setup.{Setup}
-use Rattle.cc_step.specs.Step.{MayStep, StepLeft, AttemptLeft, has_placed}
+use Rattle.cc_step.specs.Step.{MayStep, StepLeft, AttemptLeft, Adds, has_placed}
 use Rattle.cc_step.specs.declared.steps.Stepped.{Stepped}
 use Rattle.cc_step.specs.declared.steps.Stepped.TheVariants as stepped
 
@@ -18,6 +19,10 @@ releasing j = record j { reserved = j.reserved - 1 }
 
 back : (n : ℕ) → (n + 1) - 1 ≡ n
 back n = omega arith
+
+-- an entry for which one place was reserved
+pub adds-reserving : {Q : Type 0} (e : Entry) (j k : JournalState Q) → Gains e (reserving j) k → Adds e j k
+adds-reserving e j k placed = placed ∙ ap (λ (n : ℕ). record j { entries = e ∷ j.entries; reserved = n; rows = k.rows }) (back j.reserved)
 
 pub may-reserving : {Q : Type 0} (u : Setup) (pass : ℕ) (it : Call) (b : BookState) (j : JournalState Q) → MayStep u pass it b j → MayStep u pass it b (reserving j)
 may-reserving u pass it b j may = record {

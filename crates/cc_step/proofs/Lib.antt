@@ -5,3 +5,4 @@ pub mod Filled
 pub mod Placed
 pub mod Reserved
 pub mod Attempts
+pub mod Ended

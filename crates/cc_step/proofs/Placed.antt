@@ -19,12 +19,13 @@ use Rattle.cc_model.specs.Filing.{IsFiled}
 use Rattle.cc_model.specs.Good.{IsGood, IsGoodSoFar}
 use Rattle.cc_model.specs.History.{history}
 use Rattle.cc_model.specs.Holds.{holds_of}
-use Rattle.cc_model.specs.Legal.{IsLegal, IsLegalEntry, IsOutcome, IsAdmitted, IsFailure, IsTooLong}
+use Rattle.cc_model.specs.Legal.{IsLegal, IsLegalEntry, IsOutcome, IsAdmitted, IsFailure, IsTooLong, NothingElse}
 use Rattle.cc_model.specs.Passes.{calls_of}
 use Rattle.cc_model.specs.Ranges.{needs_pages}
 use Rattle.cc_model.specs.Refusals.{refusal}
 use Rattle.cc_model.specs.Replies.{IsReply}
 use Rattle.cc_model.specs.Setup.{Setup}
+use Rattle.cc_step.specs.Faults.{IsMet}
 use Rattle.cc_step.specs.Step.{is_stepped, IsReadyFor}
 use Rattle.cc_step.proofs.Reasons.{is_listed, refusal-listed}
 
@@ -99,6 +100,25 @@ good-failed u past pass s it e stepped good filed is =
     good-call u pass (suc (calls_of past pass)) s it (outcome.Failed e) past stepped
     (failure u past pass s it e stepped listed is)
     (record { number = refl; filed = filed; may_end = no_fault e _ listed })
+    good
+
+-- beside a fault nothing refuses such a call
+alone : (u : Setup) (past : List Entry) (pass s : ℕ) (it : Call) → is_stepped it ≡ true → refusal u past (history past s) it ≡ None → NothingElse u past pass (Some s) it
+alone u past pass s (call.NcWrite file page) stepped none = absurd (cc)
+alone u past pass s other stepped none = none
+
+-- a fault that the call met is its failure, and a fault alone
+met-failure : (u : Setup) (past : List Entry) (pass s : ℕ) (it : Call) (fault : CcError) → IsMet past pass it fault → NothingElse u past pass (Some s) it → IsFailure u past pass (Some s) it fault
+met-failure u past pass s it (error.ReadFault page) met else = (met, else)
+met-failure u past pass s it (error.WriteFault page) met else = (met, else)
+met-failure u past pass s it (error.LogFault handle) met else = (met, else)
+met-failure u past pass s it other met else = absurd met
+
+pub good-met : (u : Setup) (past : List Entry) (pass s : ℕ) (it : Call) (fault : CcError) → is_stepped it ≡ true → IsGood u past → IsFiled (holds_of (history past s)) pass (Some s) it (file_of it) → IsMet past pass it fault → refusal u past (history past s) it ≡ None → IsGood u (failed pass past s it fault ∷ past)
+good-met u past pass s it fault stepped good filed met none =
+    let failed_so = met-failure u past pass s it fault met (alone u past pass s it stepped none) in
+    good-call u pass (suc (calls_of past pass)) s it (outcome.Failed fault) past stepped failed_so
+    (record { number = refl; filed = filed; may_end = on_needed (is_fault fault) _ failed_so })
     good
 
 pub so-far : (u : Setup) (past : List Entry) → IsGood u past → IsGoodSoFar u past

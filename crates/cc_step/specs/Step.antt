@@ -152,3 +152,11 @@ has_placed stepped.Done = true
 has_placed (stepped.Refused e) = true
 has_placed (stepped.Waits page again) = false
 has_placed (stepped.Stopped e) = false
+
+-- What a call waits for: the least page that it needs and that is not resident, where nothing refuses it. Where no page
+-- is named nothing is said.
+abbrev pub WaitsFor : Setup → List Entry → ℕ → Call → Option ℕ → Type 0
+WaitsFor u past s it None = Unit {0}
+WaitsFor u past s it (Some page) =
+    (refusal u past (history past s) it ≡ None)
+    × (least_absent (history past s) (range_of (size_of (history past s)) it) ≡ Some page)

@@ -5,11 +5,13 @@
 //! call's one entry. The journal stays good, the book goes on standing for it, and a call that waits, or finds no
 //! memory, changes nothing. So no call is decided twice, and what a caller is answered stands in the journal.
 //!
-//! `steps` has the step, `replies` what a call answers. The calls over turns stand above; below is the book of a stream
-//! (`cc_book`) with the journal (`cc_journal`).
+//! `steps` has the step, `replies` what a call answers, and `faults` the end of a call that met a fault. The calls over
+//! turns stand above; below is the book of a stream (`cc_book`) with the journal (`cc_journal`).
 #![tactic(auto)]
 
+mod faults;
 mod replies;
 mod steps;
 
-pub use steps::{Stepped, attempt};
+pub use faults::{Failed, fail};
+pub use steps::{Stepped, attempt, waits_for};

@@ -1,6 +1,6 @@
 //! The step of a call.
 
-ghost use Rattle.std.specs.Prelude.{◌≡◌, ℕ, ◌<◌, true, List, Option, None, Some};
+ghost use Rattle.std.specs.Prelude.{◌≡◌, ℕ, ◌<◌, true, List, Option, None, Some, IfOk};
 ghost use Rattle.cc_entry.specs.declared.entry.Entry.{Entry};
 ghost use Rattle.cc_model.specs.History.{history};
 ghost use Rattle.cc_model.specs.Ranges.{range_of, cut_range};
@@ -8,11 +8,11 @@ ghost use Rattle.cc_model.specs.Refusals.{refusal};
 ghost use Rattle.cc_model.specs.Setup.{Setup};
 ghost use Rattle.cc_model.specs.Touches.{size_of};
 ghost use Rattle.cc_book.specs.Book.{BookStands};
-ghost use Rattle.cc_step.specs.Step.{is_stepped, asks_one, MayStep, IsReadyFor, StepLeft, AttemptLeft, has_placed, least_absent};
+ghost use Rattle.cc_step.specs.Step.{is_stepped, asks_one, StandUnder, MayStep, IsReadyFor, WaitsFor, StepLeft, AttemptLeft, has_placed, least_absent};
 
 use crate::replies::reply;
 use cc_book::Book;
-use cc_entry::{Call, CcError};
+use cc_entry::{Call, CcError, NoMemory};
 use cc_journal::Journal;
 use std::alloc::Global;
 
@@ -54,6 +54,23 @@ pub fn attempt<Q>(
             ended
         }
         Err(error) => Stepped::Stopped(error),
+    }
+}
+
+/// The least page that a call needs that nothing refuses and that is not resident, where it waits for one.
+pub fn waits_for<Q>(
+    alloc: Global,
+    book: &Book,
+    journal: &Journal<Q>,
+    call: &Call,
+) -> Result<Option<u64>, NoMemory>
+    requires { is_stepped call.now ≡ true }
+    ensures { IfOk result (λ page. (u : Setup) → StandUnder u book.now journal.now →
+        WaitsFor u journal.now.entries book.now.stream call.now page) }
+{
+    match book.refusal(alloc, journal, call)? {
+        None => Ok(absent(book, call)),
+        Some(_) => Ok(None),
     }
 }
 
