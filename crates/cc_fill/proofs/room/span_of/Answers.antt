@@ -1,0 +1,51 @@
+use Rattle.std.specs.Prelude.{◌≡◌, ℕ, ◌+◌, ◌<◌, nat_lt, Bool, true, List, length, min, Option, Some}
+use Rattle.std.proofs.Common.{ap, sym, ◌∙◌, subst}
+use Rattle.std.proofs.lemmas.Bool.{and_parts, ltb-true}
+use Rattle.cc_entry.specs.Pages.{has_page, whole_range}
+use Rattle.cc_entry.specs.Place.{File, Range}
+use Rattle.cc_entry.specs.declared.call.Call.TheVariants as call
+use Rattle.cc_entry.specs.declared.entry.Entry.{Entry}
+use Rattle.cc_laws.proofs.UnrefusedCalls.{unrefused}
+use Rattle.cc_model.specs.History.{history}
+use Rattle.cc_model.specs.Ranges.{cut_range}
+use Rattle.cc_model.specs.Setup.{Setup}
+use Rattle.cc_model.specs.Touches.{size_of}
+use Rattle.cc_step.proofs.Within.{whole-cut}
+use Rattle.cc_fill.specs.Room.{IsWaiting}
+use Rattle.cc_fill.proofs.Waiting.{needs}
+use Rattle.cc_fill.proofs.room.span_of.Goals as goal
+
+-- a range that has a page has its ends in order
+in-order : (r other : Range) (page : ℕ) → Some r ≡ Some other → has_page other page ≡ true → r.from < r.to
+in-order r other page is has =
+    let same : other ≡ r = cc in
+    ltb-true r.from r.to (and_parts (nat_lt r.from r.to) _ (subst (λ (it : Range). has_page it page ≡ true) same has)).0
+
+written : (u : Setup) (past : List Entry) (s : ℕ) (file : File) (at : ℕ) (bytes : List ℕ) (page : ℕ) (o : Option Range) → IsWaiting u past s (call.CopyWrite file at bytes) page → (at < min (at + length bytes) (size_of (history past s)) → o ≡ Some (cut_range (size_of (history past s)) at (length bytes))) → o ≡ Some (whole_range at (length bytes))
+written u past s file at bytes page o waits found =
+    let size = size_of (history past s) in
+    let n = needs u past s (call.CopyWrite file at bytes) page waits in
+    let within = (unrefused u past (history past s) (call.CopyWrite file at bytes) waits.admitted).within_size in
+    let same : cut_range size at (length bytes) ≡ whole_range at (length bytes) = whole-cut size at (length bytes) within in
+    let order = in-order (whole_range at (length bytes)) n.range page n.range_is n.has in
+    found (subst (λ (r : Range). r.from < r.to) (sym same) order) ∙ ap (λ (r : Range). Some r) same
+
+read : (u : Setup) (past : List Entry) (s : ℕ) (file : File) (at len : ℕ) (wait : Bool) (page : ℕ) (o : Option Range) → IsWaiting u past s (call.CopyRead file at len wait) page → (at < min (at + len) (size_of (history past s)) → o ≡ Some (cut_range (size_of (history past s)) at len)) → o ≡ Some (cut_range (size_of (history past s)) at len)
+read u past s file at len wait page o waits found =
+    let n = needs u past s (call.CopyRead file at len wait) page waits in
+    found (in-order (cut_range (size_of (history past s)) at len) n.range page n.range_is n.has)
+
+pub returns-in-CopyWrite : goal.returns-in-CopyWrite
+returns-in-CopyWrite c u opening past page stands waits =
+    let s = c.args.book.now.stream in
+    let size = size_of (history past s) in
+    rw c.in-CopyWrite.is
+    (written u past s c.in-CopyWrite.file c.in-CopyWrite.at c.in-CopyWrite.bytes page c.span_below.result (rw c.in-CopyWrite.is at waits)
+    (subst (λ (n : ℕ). c.in-CopyWrite.at < min (c.in-CopyWrite.at + n) size → c.span_below.result ≡ Some (cut_range size c.in-CopyWrite.at n)) c.len.ensures (c.span_below.ensures opening past stands)))
+
+pub returns-in-CopyRead : goal.returns-in-CopyRead
+returns-in-CopyRead c u opening past page stands waits =
+    let s = c.args.book.now.stream in
+    rw c.in-CopyRead.is
+    (read u past s c.in-CopyRead.file c.in-CopyRead.at c.in-CopyRead.len c.in-CopyRead.wait page c.span_below-in-CopyRead.result (rw c.in-CopyRead.is at waits)
+    (c.span_below-in-CopyRead.ensures opening past stands))
