@@ -1,0 +1,60 @@
+-- What a read of a page and a transfer of one may rest on, and what they leave in the journal.
+use Rattle.std.specs.Prelude.{◌≡◌, ℕ, ◌+◌, ◌*◌, ◌<◌, false, List, ◌∷◌, ◌++◌, length, slice_index, Result, Ok, Err}
+use Rattle.std.specs.declared.option.Option.{Option}
+use Rattle.std.specs.declared.option.Option.TheVariants.{None}
+use Rattle.cc_entry.specs.declared.entry.Entry.{Entry}
+use Rattle.cc_entry.specs.declared.entry.Entry.TheVariants as entry
+use Rattle.cc_entry.specs.declared.entry.End.{End}
+use Rattle.cc_entry.specs.declared.entry.End.TheVariants as how
+use Rattle.cc_traits.specs.Disk.{Disk}
+use Rattle.cc_traits.specs.declared.stop.Stop.{Stop}
+use Rattle.cc_traits.specs.declared.stop.Stop.TheVariants as stop
+use Rattle.cc_content.specs.Contents.{IsByteOf}
+use Rattle.cc_model.specs.Good.{IsGoodSoFar}
+use Rattle.cc_model.specs.History.{history}
+use Rattle.cc_model.specs.Images.{open_of}
+use Rattle.cc_model.specs.Residency.{is_resident}
+use Rattle.cc_model.specs.Setup.{Setup}
+use Rattle.cc_turns.specs.Standing.{DiskAtFirst}
+use Rattle.cc_turns.specs.Disk.{DiskStands, opening_of}
+
+-- A page may be read for what the plain file has of it: the disk stands for a good past, in which the page is not
+-- resident. So it is not dirty either, and what the disk holds of it is known.
+pub record CanRead {D : Type 0} (told : D → Option Disk) (faults : D → ℕ) (u : Setup) (first : DiskAtFirst)
+    (past : List Entry) (s page : ℕ) (disk : D) : Type 0 where
+  pub stands : DiskStands told faults first past s disk
+  pub good : IsGoodSoFar u past
+  pub absent : is_resident (history past s) page ≡ false
+
+-- A page may be transferred: the disk stands for what was before the transfer began, when no other was under way,
+-- and the bytes are a whole page, as the page then was.
+pub record CanTransfer {D : Type 0} (told : D → Option Disk) (faults : D → ℕ) (first : DiskAtFirst)
+    (before : List Entry) (s page : ℕ) (bytes : List ℕ) (disk : D) : Type 0 where
+  pub stands : DiskStands told faults first before s disk
+  pub at_rest : open_of (history before s) ≡ None
+  pub whole : length bytes ≡ 4096
+  pub bytes_are : (i : ℕ) → i < 4096 →
+      IsByteOf (opening_of first.told) (history before s) (4096 * page + i) (slice_index bytes i)
+
+-- the entry of a pass for a page that the disk failed to read
+abbrev pub fill_failed : ℕ → ℕ → ℕ → Entry
+fill_failed pass s page = entry.FillFailed pass (record { stream = s; page = page })
+
+-- The past after a transfer of a page by a pass that ended so: its begin, then what others placed meanwhile, then
+-- its end.
+abbrev pub transferred : ℕ → ℕ → ℕ → End → List Entry → List Entry → List Entry
+transferred pass s page how later before =
+    entry.WriteEnd pass (record { stream = s; page = page }) how
+    ∷ (later ++ entry.WriteBegin pass (record { stream = s; page = page }) ∷ before)
+
+-- how a transfer ended whose write was answered so
+abbrev pub end_of : Result (Unit {0}) Stop → End
+end_of (Ok written) = how.Good
+end_of (Err stop.Failed) = how.Failed
+end_of (Err stop.NoMemory) = how.NoMemory
+
+-- by how much a transfer that ended so raises its disk's count of faults: by one exactly where it failed
+abbrev pub faults_by : End → ℕ
+faults_by how.Good = 0
+faults_by how.Failed = 1
+faults_by how.NoMemory = 0

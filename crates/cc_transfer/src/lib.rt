@@ -1,0 +1,14 @@
+//! The two functions of a disk that carry data: a page is read, and a page is transferred.
+//!
+//! What the layer keeps true: a disk that tells what it holds goes on standing for what the journal says of its
+//! stream (`DiskStands` of `cc_turns`). What is read of a page that is not resident is the plain file, below the
+//! valid data length; and after a transfer the disk stands for the journal with the transfer's begin and its end.
+//!
+//! It stands on the disks of `cc_traits` and the definitions. It knows no turn and no book: it says of any past what
+//! the disk then stands for. Whoever has the turns of the disk, the book and the journal chooses the page and places
+//! the entries; `cc_transfer.proofs.Keeping` has what they need for the other entries that they place meanwhile.
+#![tactic(auto)]
+
+mod transfers;
+
+pub use transfers::{read, transfer};
