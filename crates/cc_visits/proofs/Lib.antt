@@ -1,0 +1,19 @@
+-- Lemmas of the visits, each before those that cite it.
+pub mod Copying
+pub mod Telling
+pub mod Others
+pub mod Refusals
+pub mod Disks
+pub mod Owing
+pub mod Visiting
+pub mod Placing
+pub mod Ending
+pub mod Replies
+pub mod Attempting
+pub mod Resting
+pub mod Pages
+pub mod Stepping
+pub mod Halting
+pub mod Landing
+pub mod Failing
+pub mod Releasing

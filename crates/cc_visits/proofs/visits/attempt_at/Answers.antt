@@ -1,0 +1,114 @@
+use Rattle.std.proofs.Common.{sym, subst}
+use Rattle.cc_turns.specs.Standing.{Standing}
+use Rattle.cc_visits.specs.Hands.{HasBook, WentWith}
+use Rattle.cc_visits.specs.Visits.{TriedLeft, IsFullTried}
+use Rattle.cc_visits.proofs.Attempting.{may-as, attempted, fits-stepped, visited-attempt, left-attempt, full-attempt}
+use Rattle.cc_visits.proofs.Visiting.{visiting}
+use Rattle.cc_visits.proofs.visits.attempt_at.Goals as goal
+
+pub attempt-ended-requires-clause-may : goal.attempt-ended-requires-clause-may
+attempt-ended-requires-clause-may g c =
+    let w = g.T.Turns.standing c.args.turns.now in
+    let v = g.T.Turns.standing c.take_journal-journal.new.self in
+    let posted = g.T.Post.PostRoutine.posted in
+    let b = c.args.book.now in
+    let j = c.take_journal-journal.result in
+    let vis = visiting posted w v b.stream b j c.requires.book c.take_journal-journal.ensures.took c.take_journal-journal.ensures.stands in
+    (w.setup, may-as posted w v c.args.call b b j j c.requires.book vis c.requires.one c.requires.filed c.me-pass.result c.me-pass.ensures)
+
+pub tried_of-tried-requires : goal.tried_of-tried-requires
+tried_of-tried-requires g c =
+    let w = g.T.Turns.standing c.args.turns.now in
+    let v = g.T.Turns.standing c.take_journal-journal.new.self in
+    let posted = g.T.Post.PostRoutine.posted in
+    let b = c.args.book.now in
+    let j = c.take_journal-journal.result in
+    let vis = visiting posted w v b.stream b j c.requires.book c.take_journal-journal.ensures.took c.take_journal-journal.ensures.stands in
+    let n = c.attempt-ended.new.book in
+    let k = c.attempt-ended.new.journal in
+    let left = attempted posted w v c.args.call b n j k c.requires.book vis c.requires.one c.requires.filed c.me-pass.result c.attempt-ended.result c.me-pass.ensures c.attempt-ended.ensures in
+    record { fits = fits-stepped posted w v c.args.call b n j k c.requires.book vis c.requires.one c.requires.filed c.attempt-ended.result c.args.out.now left c.requires.fits }
+
+pub give_journal-requires-clause-adds : goal.give_journal-requires-clause-adds
+give_journal-requires-clause-adds g c =
+    let w = g.T.Turns.standing c.args.turns.now in
+    let v = g.T.Turns.standing c.take_journal-journal.new.self in
+    let posted = g.T.Post.PostRoutine.posted in
+    let b = c.args.book.now in
+    let j = c.take_journal-journal.result in
+    let vis = visiting posted w v b.stream b j c.requires.book c.take_journal-journal.ensures.took c.take_journal-journal.ensures.stands in
+    let n = c.attempt-ended.new.book in
+    let k = c.attempt-ended.new.journal in
+    let left = attempted posted w v c.args.call b n j k c.requires.book vis c.requires.one c.requires.filed c.me-pass.result c.attempt-ended.result c.me-pass.ensures c.attempt-ended.ensures in
+    let given = visited-attempt posted w v c.args.call b n j k c.requires.book vis c.requires.one c.requires.filed c.attempt-ended.result left in
+    given.adds
+
+pub give_journal-requires-clause-stands : goal.give_journal-requires-clause-stands
+give_journal-requires-clause-stands g c =
+    let w = g.T.Turns.standing c.args.turns.now in
+    let v = g.T.Turns.standing c.take_journal-journal.new.self in
+    let posted = g.T.Post.PostRoutine.posted in
+    let b = c.args.book.now in
+    let j = c.take_journal-journal.result in
+    let vis = visiting posted w v b.stream b j c.requires.book c.take_journal-journal.ensures.took c.take_journal-journal.ensures.stands in
+    let n = c.attempt-ended.new.book in
+    let k = c.attempt-ended.new.journal in
+    let left = attempted posted w v c.args.call b n j k c.requires.book vis c.requires.one c.requires.filed c.me-pass.result c.attempt-ended.result c.me-pass.ensures c.attempt-ended.ensures in
+    let given = visited-attempt posted w v c.args.call b n j k c.requires.book vis c.requires.one c.requires.filed c.attempt-ended.result left in
+    given.journal
+
+pub returns-clause-book : goal.returns-clause-book
+returns-clause-book g c =
+    let w = g.T.Turns.standing c.args.turns.now in
+    let v = g.T.Turns.standing c.take_journal-journal.new.self in
+    let posted = g.T.Post.PostRoutine.posted in
+    let b = c.args.book.now in
+    let j = c.take_journal-journal.result in
+    let vis = visiting posted w v b.stream b j c.requires.book c.take_journal-journal.ensures.took c.take_journal-journal.ensures.stands in
+    let n = c.attempt-ended.new.book in
+    let k = c.attempt-ended.new.journal in
+    let left = attempted posted w v c.args.call b n j k c.requires.book vis c.requires.one c.requires.filed c.me-pass.result c.attempt-ended.result c.me-pass.ensures c.attempt-ended.ensures in
+    let given = visited-attempt posted w v c.args.call b n j k c.requires.book vis c.requires.one c.requires.filed c.attempt-ended.result left in
+    subst (λ (x : Standing). HasBook x b.stream n) (sym c.give_journal.ensures) given.book
+
+pub returns-clause-went : goal.returns-clause-went
+returns-clause-went g c =
+    let w = g.T.Turns.standing c.args.turns.now in
+    let v = g.T.Turns.standing c.take_journal-journal.new.self in
+    let posted = g.T.Post.PostRoutine.posted in
+    let b = c.args.book.now in
+    let j = c.take_journal-journal.result in
+    let vis = visiting posted w v b.stream b j c.requires.book c.take_journal-journal.ensures.took c.take_journal-journal.ensures.stands in
+    let n = c.attempt-ended.new.book in
+    let k = c.attempt-ended.new.journal in
+    let left = attempted posted w v c.args.call b n j k c.requires.book vis c.requires.one c.requires.filed c.me-pass.result c.attempt-ended.result c.me-pass.ensures c.attempt-ended.ensures in
+    let given = visited-attempt posted w v c.args.call b n j k c.requires.book vis c.requires.one c.requires.filed c.attempt-ended.result left in
+    subst (λ (x : Standing). WentWith w.in_flight w x) (sym c.give_journal.ensures) given.went
+
+pub returns-clause-left : goal.returns-clause-left
+returns-clause-left g c begun way =
+    let w = g.T.Turns.standing c.args.turns.now in
+    let v = g.T.Turns.standing c.take_journal-journal.new.self in
+    let posted = g.T.Post.PostRoutine.posted in
+    let b = c.args.book.now in
+    let j = c.take_journal-journal.result in
+    let vis = visiting posted w v b.stream b j c.requires.book c.take_journal-journal.ensures.took c.take_journal-journal.ensures.stands in
+    let n = c.attempt-ended.new.book in
+    let k = c.attempt-ended.new.journal in
+    let left = attempted posted w v c.args.call b n j k c.requires.book vis c.requires.one c.requires.filed c.me-pass.result c.attempt-ended.result c.me-pass.ensures c.attempt-ended.ensures in
+    let ended = left-attempt posted w v c.args.call b n j k c.requires.book vis c.requires.one c.requires.filed c.attempt-ended.result c.tried_of-tried.result c.args.out.now c.tried_of-tried.new.out left c.tried_of-tried.ensures begun way in
+    subst (λ (x : Standing). TriedLeft w.setup w.number b.stream c.args.call c.tried_of-tried.result begun x.seen c.args.out.now c.tried_of-tried.new.out) (sym c.give_journal.ensures) ended
+
+pub returns-clause-full : goal.returns-clause-full
+returns-clause-full g c =
+    let w = g.T.Turns.standing c.args.turns.now in
+    let v = g.T.Turns.standing c.take_journal-journal.new.self in
+    let posted = g.T.Post.PostRoutine.posted in
+    let b = c.args.book.now in
+    let j = c.take_journal-journal.result in
+    let vis = visiting posted w v b.stream b j c.requires.book c.take_journal-journal.ensures.took c.take_journal-journal.ensures.stands in
+    let n = c.attempt-ended.new.book in
+    let k = c.attempt-ended.new.journal in
+    let left = attempted posted w v c.args.call b n j k c.requires.book vis c.requires.one c.requires.filed c.me-pass.result c.attempt-ended.result c.me-pass.ensures c.attempt-ended.ensures in
+    let full = full-attempt posted w v c.args.call b n j k c.requires.book vis c.requires.one c.requires.filed c.attempt-ended.result c.tried_of-tried.result c.args.out.now c.tried_of-tried.new.out left c.tried_of-tried.ensures in
+    subst (λ (x : Standing). IsFullTried x c.tried_of-tried.result) (sym c.give_journal.ensures) full

@@ -1,0 +1,5 @@
+-- What the contracts cite.
+pub mod Hands
+pub mod Ways
+pub mod Visits
+pub mod Told
