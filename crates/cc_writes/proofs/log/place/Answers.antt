@@ -1,0 +1,44 @@
+use Rattle.std.proofs.Common.{◌-◌, sym, subst}
+use Rattle.cc_model.specs.Good.{IsGood}
+use Rattle.cc_turns.specs.Standing.{Standing}
+use Rattle.cc_visits.specs.Hands.{WentWith}
+use Rattle.cc_writes.proofs.Visits.{visiting}
+use Rattle.cc_writes.proofs.Logging.{may_log-pushed, logged}
+use Rattle.cc_writes.proofs.log.place.Goals as goal
+
+pub push-requires-clause-may : goal.push-requires-clause-may
+push-requires-clause-may g c =
+    let w = g.T.Turns.standing c.args.turns.now in
+    let v = g.T.Turns.standing c.take_journal-journal.new.self in
+    let vis = visiting g.T.Post.PostRoutine.posted w v c.take_journal-journal.result c.take_journal-journal.ensures.took c.take_journal-journal.ensures.stands in
+    may_log-pushed g.T.Post.PostRoutine.posted w v c.args.entry c.take_journal-journal.result c.requires.may vis
+
+pub give_journal-requires-clause-adds : goal.give_journal-requires-clause-adds
+give_journal-requires-clause-adds g c =
+    let w = g.T.Turns.standing c.args.turns.now in
+    let v = g.T.Turns.standing c.take_journal-journal.new.self in
+    let vis = visiting g.T.Post.PostRoutine.posted w v c.take_journal-journal.result c.take_journal-journal.ensures.took c.take_journal-journal.ensures.stands in
+    (logged g.T.Post.PostRoutine.posted w v c.args.entry c.take_journal-journal.result c.push.new.self c.requires.away c.requires.reserved c.requires.may vis c.push.ensures.placed).adds
+
+pub give_journal-requires-clause-stands : goal.give_journal-requires-clause-stands
+give_journal-requires-clause-stands g c =
+    let w = g.T.Turns.standing c.args.turns.now in
+    let v = g.T.Turns.standing c.take_journal-journal.new.self in
+    let vis = visiting g.T.Post.PostRoutine.posted w v c.take_journal-journal.result c.take_journal-journal.ensures.took c.take_journal-journal.ensures.stands in
+    (logged g.T.Post.PostRoutine.posted w v c.args.entry c.take_journal-journal.result c.push.new.self c.requires.away c.requires.reserved c.requires.may vis c.push.ensures.placed).journal
+
+pub returns-clause-good : goal.returns-clause-good
+returns-clause-good g c =
+    let w = g.T.Turns.standing c.args.turns.now in
+    let v = g.T.Turns.standing c.take_journal-journal.new.self in
+    let vis = visiting g.T.Post.PostRoutine.posted w v c.take_journal-journal.result c.take_journal-journal.ensures.took c.take_journal-journal.ensures.stands in
+    subst (λ (x : Standing). IsGood x.setup x.seen) (sym c.give_journal.ensures)
+    (logged g.T.Post.PostRoutine.posted w v c.args.entry c.take_journal-journal.result c.push.new.self c.requires.away c.requires.reserved c.requires.may vis c.push.ensures.placed).good
+
+pub returns-clause-went : goal.returns-clause-went
+returns-clause-went g c =
+    let w = g.T.Turns.standing c.args.turns.now in
+    let v = g.T.Turns.standing c.take_journal-journal.new.self in
+    let vis = visiting g.T.Post.PostRoutine.posted w v c.take_journal-journal.result c.take_journal-journal.ensures.took c.take_journal-journal.ensures.stands in
+    subst (λ (x : Standing). WentWith (w.in_flight - 1) w x) (sym c.give_journal.ensures)
+    (logged g.T.Post.PostRoutine.posted w v c.args.entry c.take_journal-journal.result c.push.new.self c.requires.away c.requires.reserved c.requires.may vis c.push.ensures.placed).went

@@ -1,0 +1,4 @@
+-- What the contracts cite.
+pub mod Writes
+pub mod Logs
+pub mod Transfers
