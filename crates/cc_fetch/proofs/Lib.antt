@@ -1,0 +1,10 @@
+-- Lemmas of the rounds of a call, each before those that cite it.
+mod Disks
+mod Reading
+mod Reached
+mod Going
+mod Bringing
+mod Writing
+mod Stepping
+mod Repeated
+mod Beginning

@@ -1,0 +1,14 @@
+use Rattle.std.proofs.Common.{subst, sym}
+use Rattle.std.specs.Prelude.{Result}
+use Rattle.cc_entry.specs.declared.call.Call.{Call}
+use Rattle.cc_entry.specs.declared.error.CcError.{CcError}
+use Rattle.cc_fetch.specs.Rounds.{PageLeft}
+use Rattle.cc_fetch.proofs.Going.{no-memory}
+use Rattle.cc_fetch.proofs.pages.land.Goals as goal
+
+pub returns-in-Err-clause-left : goal.returns-in-Err-clause-left
+returns-in-Err-clause-left g c begun way =
+    let w = g.T.Turns.standing c.args.turns.now in
+    let v = g.T.Turns.standing c.land_at.new.turns in
+    subst (λ (r : Result Call CcError). PageLeft w.setup w.number c.args.call r begun v.seen) (sym c.given_up.ensures)
+    (no-memory w.number c.args.call begun v.seen c.requires.one (c.land_at.ensures.left begun way))

@@ -1,0 +1,15 @@
+-- What a call asks that fetches its pages, and what it leaves.
+use Rattle.std.specs.Prelude.{◌≡◌, ℕ, ◌<◌}
+use Rattle.cc_turns.specs.Standing.{Standing, nothing}
+use Rattle.cc_visits.specs.Hands.{IsSettled}
+
+-- A pass may call on a stream: the stream has a disk, the pass holds no turn, and it owes no end of a noncached write.
+pub record CanCall (w : Standing) (s : ℕ) : Type 0 where
+  pub known : s < w.streams
+  pub free : w.held ≡ nothing
+  pub settled : IsSettled w
+
+-- A pass goes on as it stood: it has seen more, what others have reserved may be other, and it may have taken the turn
+-- of a disk.
+pub record WentOn (old new : Standing) : Type 0 where
+  pub same : new ≡ record old { seen = new.seen; others = new.others; device_turns = new.device_turns }
