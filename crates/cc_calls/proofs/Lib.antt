@@ -1,3 +1,6 @@
 -- Lemmas of the calls, each before those that cite it.
 pub mod Turning
+pub mod Replies
+pub mod Waiting
+pub mod Copying
 pub mod SettingCalls

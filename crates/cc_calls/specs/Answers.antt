@@ -1,16 +1,17 @@
 -- What a call that is answered without a value leaves.
-use Rattle.std.specs.Prelude.{◌≡◌, ℕ, ◌+◌, ◌<◌, Bool, true, false, Result, Ok, Err, length}
+use Rattle.std.specs.Prelude.{Bool, true, false, Result, Ok, Err}
 use Rattle.cc_entry.specs.declared.call.Call.{Call}
 use Rattle.cc_entry.specs.declared.call.Call.TheVariants as call
 use Rattle.cc_entry.specs.declared.error.CcError.{CcError}
-use Rattle.cc_entry.specs.declared.error.CcError.TheVariants as error
 use Rattle.cc_entry.specs.declared.reply.Outcome.{Outcome}
 use Rattle.cc_entry.specs.declared.reply.Outcome.TheVariants as outcome
 use Rattle.cc_entry.specs.declared.reply.Reply.TheVariants as reply
 use Rattle.cc_effects.specs.Calls.{CallLeft}
-use Rattle.cc_model.specs.Room.{reserved_in}
-use Rattle.cc_turns.specs.Standing.{Standing, nothing}
-use Rattle.cc_calls.specs.Turned.{GoesOn, IsSettled}
+use Rattle.cc_turns.specs.Standing.{Standing}
+use Rattle.cc_visits.specs.Hands.{IsSettled, Went}
+use Rattle.cc_visits.specs.Ways as ways
+-- A pass may call on a stream: the stream has a disk, the pass holds no turn, and it owes no end of a noncached write.
+pub use Rattle.cc_fetch.specs.Fetch.{CanCall}
 
 -- how the entry of a call says that it ended, whose caller was answered so
 abbrev pub outcome_of : Result (Unit {0}) CcError → Outcome
@@ -20,10 +21,7 @@ outcome_of (Err e) = outcome.Failed e
 -- Where a call finds the journal full, it has so many entries, and no room for one more beside what is owed and
 -- under way.
 abbrev pub IsFull : Standing → Result (Unit {0}) CcError → Type 0
-IsFull w (Err (error.JournalFull entries)) =
-    (entries ≡ length w.seen)
-    × (w.setup.capacity < length w.seen + (reserved_in w.seen + w.in_flight + w.others) + 1)
-IsFull w other = Unit {0}
+IsFull w answer = ways.IsFull 1 w answer
 
 -- Whether a call needs no page, and is answered without a value: it sets something of its stream.
 abbrev pub is_setting : Call → Bool
@@ -35,16 +33,10 @@ is_setting (call.SetAttributes file no_read_ahead no_write_behind) = true
 is_setting (call.SetThreshold file pages) = true
 is_setting other = false
 
--- A pass may call on a stream: the stream has a disk, the pass holds no turn, and it owes no end of a noncached write.
-pub record CanCall (w : Standing) (s : ℕ) : Type 0 where
-  pub known : s < w.streams
-  pub free : w.held ≡ nothing
-  pub settled : IsSettled w
-
 -- A call that sets something was answered so: it left what explains the answer, a journal that is full is full, and the
 -- pass goes on as it stood, and may call again.
 pub record CallSets (old new : Standing) (it : Call) (answer : Result (Unit {0}) CcError) : Type 0 where
   pub left : CallLeft old.setup old.number it (outcome_of answer) old.seen new.seen
   pub full : IsFull new answer
-  pub goes_on : GoesOn old new
+  pub goes_on : Went old new
   pub settled : IsSettled new

@@ -1,3 +1,4 @@
 -- What the contracts cite.
-pub mod Turned
 pub mod Answers
+pub mod Pages
+pub mod Copied

@@ -4,13 +4,16 @@
 //! pass had seen, and its answer is the one that the definitions give at its entry's front. At its end the pass holds
 //! the turns that it held, and has no more entries reserved.
 //!
-//! `turned` takes the turn of a stream's book for a call, `settings` has the calls that need no page and set something
-//! of their stream. Below are the turns (`cc_turns`) and the step of a call on a book (`cc_step`).
+//! `turned` takes the turn of a stream's book for a call. `settings` has the calls that need no page and set something
+//! of their stream, `copies` those that copy bytes out of a stream's pages and into them. Below are the turns
+//! (`cc_turns`), the visits of a pass to the journal (`cc_visits`) and the fetch of pages (`cc_fetch`).
 #![tactic(auto)]
 
+mod copies;
 mod settings;
 mod turned;
 
+pub use copies::{copy_read, copy_write, zero_data};
 pub use settings::{
     initialize, set_attributes, set_file_sizes, set_granularity, set_log_handle, set_threshold,
 };

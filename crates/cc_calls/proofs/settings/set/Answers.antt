@@ -1,38 +1,24 @@
-use Rattle.cc_calls.proofs.SettingCalls.{done-left, refused-turn, refused-full, stopped-left, stopped-full}
+use Rattle.cc_effects.proofs.Starts.{begins}
+use Rattle.cc_calls.proofs.SettingCalls.{never-waits, set-done, set-failed}
 use Rattle.cc_calls.proofs.settings.set.Goals as goal
 
-pub returns-in-Done : goal.returns-in-Done
-returns-in-Done g c =
+pub returns-in-Ended-Ok : goal.returns-in-Ended-Ok
+returns-in-Ended-Ok g c =
     let w = g.T.Turns.standing c.args.turns.now in
-    let v = g.T.Turns.standing c.turned.new.turns in
-    let left = rw c.in-Done.is at c.turned.ensures.left in
-    record {
-      left = done-left w v c.args.stream c.args.call c.requires.sets c.requires.filed left.0 left.1;
-      full = tt;
-      goes_on = c.turned.ensures.goes_on;
-      settled = c.turned.ensures.settled;
-    }
+    let left = rw (c.in-Ended-Ok.is, c.in-Ended-Ok.field-0-is) at (c.turned.ensures.left w.seen (begins w.number c.args.call w.seen)) in
+    set-done w (g.T.Turns.standing c.turned.new.turns) c.args.call c.requires.sets c.turned.ensures.went c.turned.ensures.settled
+    c.in-Ended-Ok.field-0-0 _ _ c.turned.ensures.good left
 
-pub returns-in-Refused : goal.returns-in-Refused
-returns-in-Refused g c =
+pub returns-in-Ended-Err : goal.returns-in-Ended-Err
+returns-in-Ended-Err g c =
     let w = g.T.Turns.standing c.args.turns.now in
-    let v = g.T.Turns.standing c.turned.new.turns in
-    let left = rw c.in-Refused.is at c.turned.ensures.left in
-    record {
-      left = refused-turn w v c.args.stream c.args.call c.requires.sets c.requires.filed c.in-Refused.error left;
-      full = refused-full w v c.args.stream c.args.call c.requires.sets c.requires.filed c.in-Refused.error left;
-      goes_on = c.turned.ensures.goes_on;
-      settled = c.turned.ensures.settled;
-    }
+    let left = rw (c.in-Ended-Err.is, c.in-Ended-Err.field-0-is) at (c.turned.ensures.left w.seen (begins w.number c.args.call w.seen)) in
+    set-failed w (g.T.Turns.standing c.turned.new.turns) c.args.call c.requires.sets c.turned.ensures.went c.turned.ensures.settled
+    c.in-Ended-Err.error _ _ (rw (c.in-Ended-Err.is, c.in-Ended-Err.field-0-is) at c.turned.ensures.full) left
 
-pub returns-in-Stopped : goal.returns-in-Stopped
-returns-in-Stopped g c =
+pub unreachable-requires : goal.unreachable-requires
+unreachable-requires g c =
     let w = g.T.Turns.standing c.args.turns.now in
     let v = g.T.Turns.standing c.turned.new.turns in
-    let left = rw c.in-Stopped.is at c.turned.ensures.left in
-    record {
-      left = stopped-left w v c.args.stream c.args.call c.requires.sets c.requires.filed c.in-Stopped.error left;
-      full = stopped-full w v c.args.stream c.args.call c.requires.sets c.requires.filed c.in-Stopped.error left;
-      goes_on = c.turned.ensures.goes_on;
-      settled = c.turned.ensures.settled;
-    }
+    let left = rw c.in-Waits.is at (c.turned.ensures.left w.seen (begins w.number c.args.call w.seen)) in
+    never-waits w.setup c.args.stream c.in-Waits.field-0 c.args.call v.seen c.requires.sets left.2

@@ -1,0 +1,49 @@
+use Rattle.cc_effects.proofs.Starts.{begins}
+use Rattle.cc_calls.proofs.Copying.{has-waited, in-turn, with-disk}
+use Rattle.cc_calls.proofs.Waiting.{asks, brings}
+use Rattle.cc_calls.proofs.copies.copied.Goals as goal
+
+pub fetch-requires-clause-one : goal.fetch-requires-clause-one
+fetch-requires-clause-one g c κs within =
+    let w = g.T.Turns.standing c.args.turns.now in
+    let v = g.T.Turns.standing c.turned.new.turns in
+    let has = has-waited w v c.args.stream c.in-Waits.field-0 c.args.call c.in-Waits.call c.args.out.now c.turned.new.out c.turned.result c.in-Waits.is c.turned.ensures.left in
+    rw has.call_is (asks c.args.call c.requires.copies)
+
+pub fetch-requires-clause-brings : goal.fetch-requires-clause-brings
+fetch-requires-clause-brings g c κs within =
+    let w = g.T.Turns.standing c.args.turns.now in
+    let v = g.T.Turns.standing c.turned.new.turns in
+    let has = has-waited w v c.args.stream c.in-Waits.field-0 c.args.call c.in-Waits.call c.args.out.now c.turned.new.out c.turned.result c.in-Waits.is c.turned.ensures.left in
+    rw has.call_is (brings w.setup c.args.call c.args.stream c.in-Waits.field-0 v.seen c.requires.copies has.waits)
+
+pub fetch-requires-clause-filed : goal.fetch-requires-clause-filed
+fetch-requires-clause-filed g c κs within =
+    let w = g.T.Turns.standing c.args.turns.now in
+    let v = g.T.Turns.standing c.turned.new.turns in
+    let has = has-waited w v c.args.stream c.in-Waits.field-0 c.args.call c.in-Waits.call c.args.out.now c.turned.new.out c.turned.result c.in-Waits.is c.turned.ensures.left in
+    rw has.call_is c.requires.filed
+
+pub fetch-requires-clause-fits : goal.fetch-requires-clause-fits
+fetch-requires-clause-fits g c κs within =
+    let w = g.T.Turns.standing c.args.turns.now in
+    let v = g.T.Turns.standing c.turned.new.turns in
+    let has = has-waited w v c.args.stream c.in-Waits.field-0 c.args.call c.in-Waits.call c.args.out.now c.turned.new.out c.turned.result c.in-Waits.is c.turned.ensures.left in
+    rw (has.call_is, has.same) c.requires.fits
+
+pub returns-in-Ended : goal.returns-in-Ended
+returns-in-Ended g c =
+    let w = g.T.Turns.standing c.args.turns.now in
+    in-turn w (g.T.Turns.standing c.turned.new.turns) c.args.call c.in-Ended.answer c.args.out.now c.turned.new.out
+    c.turned.ensures.went c.turned.ensures.settled c.turned.ensures.good
+    (rw c.in-Ended.is at c.turned.ensures.full)
+    (rw c.in-Ended.is at (c.turned.ensures.left w.seen (begins w.number c.args.call w.seen)))
+
+pub returns-in-Waits : goal.returns-in-Waits
+returns-in-Waits g c =
+    let w = g.T.Turns.standing c.args.turns.now in
+    let v = g.T.Turns.standing c.turned.new.turns in
+    let has = has-waited w v c.args.stream c.in-Waits.field-0 c.args.call c.in-Waits.call c.args.out.now c.turned.new.out c.turned.result c.in-Waits.is c.turned.ensures.left in
+    with-disk w v (g.T.Turns.standing c.fetch.new.turns) c.args.stream c.in-Waits.field-0 c.args.call c.in-Waits.call c.fetch.result
+    c.args.out.now c.turned.new.out c.fetch.new.out c.requires.copies c.requires.filed c.turned.ensures.went has
+    c.fetch.ensures.goes_on c.fetch.ensures.settled c.fetch.ensures.good c.fetch.ensures.full c.fetch.ensures.left

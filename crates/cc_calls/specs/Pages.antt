@@ -1,0 +1,67 @@
+-- What a call that needs pages leaves: a copied read, a copied write, a zeroing.
+use Rattle.std.specs.Prelude.{◌≡◌, ℕ, ◌≤◌, ◌⊎◌, Bool, true, false, Result, Ok, Err, List, length, take, drop}
+use Rattle.cc_entry.specs.Place.{File, Page}
+use Rattle.cc_entry.specs.declared.call.Call.{Call}
+use Rattle.cc_entry.specs.declared.call.Call.TheVariants as call
+use Rattle.cc_entry.specs.declared.error.CcError.{CcError}
+use Rattle.cc_entry.specs.declared.entry.Entry.{Entry}
+use Rattle.cc_entry.specs.declared.reply.Outcome.{Outcome}
+use Rattle.cc_entry.specs.declared.reply.Outcome.TheVariants as outcome
+use Rattle.cc_entry.specs.declared.reply.Reply.TheVariants as reply
+use Rattle.cc_effects.specs.Asked.{reaches}
+use Rattle.cc_effects.specs.Calls.{CallLeft}
+use Rattle.cc_effects.specs.Moments.{AtSome}
+use Rattle.cc_model.specs.History.{history}
+use Rattle.cc_model.specs.Residency.{is_resident}
+use Rattle.cc_turns.specs.Standing.{Standing}
+use Rattle.cc_visits.specs.Hands.{IsSettled}
+use Rattle.cc_visits.specs.Ways.{IsFull}
+use Rattle.cc_calls.specs.Answers.{outcome_of}
+-- A pass goes on as it stood: it has seen more, what others have reserved may be other, and it may have taken the
+-- turn of a disk.
+pub use Rattle.cc_fetch.specs.Fetch.{WentOn}
+
+-- Where a call finds the journal full, it has so many entries, and no room beside what is owed and under way: for one
+-- more, or for the two of a transfer.
+abbrev pub IsFullOf : {A : Type 0} → Standing → Result A CcError → Type 0
+IsFullOf w answer = IsFull 2 w answer
+
+-- at a moment of the call a page of its range was not resident
+abbrev pub HadMissed : Call → List Entry → List Entry → Type 0
+HadMissed it old new =
+    AtSome (λ moment. (page : Page) × (reaches it page moment ≡ true) × (is_resident (history moment page.stream) page.page ≡ false)) old new
+
+-- The turn of a disk was taken no more often than before, or a page of the call's range was not resident.
+abbrev pub TookDeviceFor : Call → Standing → Standing → Type 0
+TookDeviceFor it old new = (new.device_turns ≡ old.device_turns) ⊎ HadMissed it old.seen new.seen
+
+-- What a call that needs pages left: what explains that it ended so, the pass as it stood, settled, and a turn of a
+-- disk taken only for a page that was not resident.
+pub record PagesLeft (old new : Standing) (it : Call) (ended : Outcome) : Type 0 where
+  pub left : CallLeft old.setup old.number it ended old.seen new.seen
+  pub goes_on : WentOn old new
+  pub settled : IsSettled new
+  pub missed : TookDeviceFor it old new
+
+-- A call that changes bytes was answered so.
+pub record ChangeEnds (old new : Standing) (it : Call) (answer : Result (Unit {0}) CcError) : Type 0 where
+  pub pages : PagesLeft old new it (outcome_of answer)
+  pub full : IsFullOf new answer
+
+-- how the entry of a read says that it ended, whose caller was answered so, with these bytes in what it handed in
+abbrev pub read_outcome : Result ℕ CcError → List ℕ → Outcome
+read_outcome (Ok n) out = outcome.Done (reply.Read (take n out))
+read_outcome (Err e) out = outcome.Failed e
+
+-- what the caller handed in is as it was beyond the answer, and as a whole where there is none
+abbrev pub KeepsRest : Result ℕ CcError → List ℕ → List ℕ → Type 0
+KeepsRest (Ok n) was now = (n ≤ length was) × (drop n now ≡ drop n was)
+KeepsRest (Err e) was now = now ≡ was
+
+-- A read into so many bytes was answered so; one that may not wait took no turn of a disk.
+pub record ReadEnds (old new : Standing) (file : File) (at : ℕ) (wait : Bool) (answer : Result ℕ CcError)
+    (was now : List ℕ) : Type 0 where
+  pub pages : PagesLeft old new (call.CopyRead file at (length was) wait) (read_outcome answer now)
+  pub full : IsFullOf new answer
+  pub rest : KeepsRest answer was now
+  pub no_wait : wait ≡ false → new.device_turns ≡ old.device_turns
