@@ -2,13 +2,14 @@
 use Rattle.std.proofs.Common.{◌≡◌, Some, None, refl, ap, sym, ◌∙◌}
 use Rattle.cc_script.specs.declared.verb.Verb.{Verb}
 use Rattle.cc_script.specs.declared.verb.Verb.TheVariants as verb
-use Rattle.cc_script.specs.Words.{caller_of}
+use Rattle.cc_script.specs.Words.{caller_of, number_between, number_of}
 use Rattle.cc_script.specs.Verbs.{verb_text, verb_of}
 
 pub verbs_found : (v : Verb) → verb_of (verb_text v) ≡ Some v
 unfolding verb_of
 verbs_found verb.Stream = refl
 verbs_found verb.Journal = refl
+verbs_found verb.Threshold = refl
 verbs_found verb.Phase = refl
 verbs_found verb.CopyRead = refl
 verbs_found verb.CopyWrite = refl
@@ -23,9 +24,10 @@ verbs_differ v w e =
     let same : Some v ≡ Some w = sym (verbs_found v) ∙ (ap verb_of e ∙ verbs_found w) in cc
 
 pub verbs_no_callers : (v : Verb) → caller_of (verb_text v) ≡ None
-unfolding caller_of
+unfolding caller_of number_between number_of
 verbs_no_callers verb.Stream = refl
 verbs_no_callers verb.Journal = refl
+verbs_no_callers verb.Threshold = refl
 verbs_no_callers verb.Phase = refl
 verbs_no_callers verb.CopyRead = refl
 verbs_no_callers verb.CopyWrite = refl

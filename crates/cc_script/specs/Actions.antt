@@ -1,5 +1,5 @@
 -- The actions by cases on their verb: the words behind it, in their order.
-use Rattle.std.specs.Prelude.{ℕ, true, ◌==◌, Option, Some, None, option_map, List, [], ◌∷◌, length, nat_le, if◌then◌else◌}
+use Rattle.std.specs.Prelude.{ℕ, Bool, true, false, not, ◌==◌, Option, Some, None, option_map, List, [], ◌∷◌, length, nat_le, if◌then◌else◌, codes}
 use Rattle.std.specs.List.{position}
 use Rattle.std.specs.Str.{bytes_eq}
 use Rattle.cc_entry.specs.Place.{File, Range}
@@ -15,6 +15,11 @@ use Rattle.cc_script.specs.Words.{number_of, number_between, bytes_of}
 abbrev pub next : {A : Type 0} → (List ℕ → Option A) → List (List ℕ) → Option (A × List (List ℕ))
 next form [] = None
 next form (word ∷ more) = option_map (λ a. (a, more)) (form word)
+
+-- whether a given word stands next, and the words behind it
+abbrev pub flag : List ℕ → List (List ℕ) → Bool × List (List ℕ)
+flag given [] = (false, [])
+flag given (word ∷ more) = if bytes_eq word given then (true, more) else (false, word ∷ more)
 
 -- no words are left
 abbrev pub ended : {A : Type 0} → List (List ℕ) → A → Option A
@@ -35,13 +40,13 @@ span_of ws = do
   to ← next number_of from.1
   if nat_le from.0 to.0 then Some (record { from = from.0; to = to.0 }, to.1) else None
 
--- cread FILE AT LEN
+-- cread FILE AT LEN [nowait]
 unfoldable pub copy_read_of : List StreamLine → List (List ℕ) → Option Action
 copy_read_of streams ws = do
   file ← next (file_of streams) ws
   at ← next number_of file.1
   len ← next (number_between 0 2097152) at.1
-  ended len.1 (action.CopyRead file.0 at.0 len.0 true)
+  ended (flag (codes "nowait") len.1).1 (action.CopyRead file.0 at.0 len.0 (not (flag (codes "nowait") len.1).0))
 
 -- cwrite FILE AT BYTES
 unfoldable pub copy_write_of : List StreamLine → List (List ℕ) → Option Action
@@ -63,7 +68,7 @@ unfoldable pub set_sizes_of : List StreamLine → List (List ℕ) → Option Act
 set_sizes_of streams ws = do
   file ← next (file_of streams) ws
   allocation ← next number_of file.1
-  size ← next (number_between 0 4194304) allocation.1
+  size ← next number_of allocation.1
   ended size.1 (action.SetSizes file.0 allocation.0 size.0)
 
 -- state FILE
@@ -95,6 +100,7 @@ action_of streams verb.Flush ws = flush_of streams ws
 action_of streams verb.IsDirtyData ws = ended ws action.IsDirtyData
 action_of streams verb.Stream ws = None
 action_of streams verb.Journal ws = None
+action_of streams verb.Threshold ws = None
 action_of streams verb.Phase ws = None
 
 -- how many bytes an action reads or writes

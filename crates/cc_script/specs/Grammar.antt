@@ -1,5 +1,5 @@
 -- The script that bytes spell: line after line, or the first line that is not in the grammar.
-use Rattle.std.specs.Prelude.{ℕ, ◌+◌, ◌==◌, Bool, true, false, ◌&&◌, not, Option, Some, None, Result, Ok, Err, is_some, List, [], ◌∷◌, ◌++◌, length, nat_lt, nat_le, slice_index, if◌then◌else◌}
+use Rattle.std.specs.Prelude.{ℕ, ◌+◌, ◌==◌, Bool, true, false, ◌&&◌, not, Option, Some, None, Result, Ok, Err, is_some, List, [], ◌∷◌, ◌++◌, length, nat_lt, nat_le, slice_index, if◌then◌else◌, codes}
 use Rattle.std.specs.List.{list_all}
 use Rattle.std.specs.Str.Lines.{strip_carriage_return}
 use Rattle.cc_script.specs.declared.script.Mode.{Mode}
@@ -14,8 +14,8 @@ use Rattle.cc_script.specs.declared.reading.Reading.{Reading}
 use Rattle.cc_script.specs.Outcome.{◌>>=◌}
 use Rattle.cc_script.specs.Text.{lines, words}
 use Rattle.cc_script.specs.Words.{number_of, number_between, name_of, caller_of}
-use Rattle.cc_script.specs.Verbs.{verb_in, has_callers, most_streams, is_valid_offered}
-use Rattle.cc_script.specs.Actions.{next, ended, stream_named, action_of, bytes_moved}
+use Rattle.cc_script.specs.Verbs.{verb_in}
+use Rattle.cc_script.specs.Actions.{next, flag, ended, stream_named, action_of, bytes_moved}
 
 -- before the first line
 abbrev pub nothing_read : Reading
@@ -23,46 +23,60 @@ nothing_read = record {
   script = record { journal = 1048576; threshold = 1024; ticks = 0; aheads = 0; phases = 1; streams = []; lines = [] };
   total = 0;
   has_journal = false;
+  has_threshold = false;
 }
 
--- a stream may follow: before the first action, while there are fewer than are offered, by a new name
-unfoldable pub may_add : Offer → StreamLine → Reading → Bool
-may_add offer stream r =
-    (length r.script.lines == 0) && (nat_lt (length r.script.streams) (most_streams offer)
-    && (is_valid_offered offer stream.size stream.valid && not (is_some (stream_named r.script.streams stream.name))))
+-- a stream may follow: before the first action, while there are fewer than 16, by a new name
+unfoldable pub may_add : StreamLine → Reading → Bool
+may_add stream r =
+    (length r.script.lines == 0) && (nat_lt (length r.script.streams) 16
+    && not (is_some (stream_named r.script.streams stream.name)))
 
-unfoldable pub with_stream : Offer → StreamLine → Reading → Option Reading
-with_stream offer stream r =
-    if may_add offer stream r
+unfoldable pub with_stream : StreamLine → Reading → Option Reading
+with_stream stream r =
+    if may_add stream r
     then Some (record r { script = record r.script { streams = r.script.streams ++ stream ∷ [] } })
     else None
 
--- stream NAME SIZE VALID
+-- [quota Q]: a stream's quota in view blocks, 16 where it is not said
+unfoldable pub quota_of : List (List ℕ) → Option (ℕ × List (List ℕ))
+quota_of ws = if (flag (codes "quota") ws).0 then next (number_between 8 64) (flag (codes "quota") ws).1 else Some (16, ws)
+
+-- stream NAME SIZE VALID [quota Q] [temporary]
 unfoldable pub stream_of : ℕ → List (List ℕ) → Option StreamLine
 stream_of n ws = do
   name ← next name_of ws
-  size ← next (number_between 0 4194304) name.1
+  size ← next number_of name.1
   valid ← next number_of size.1
-  ended valid.1 (record {
+  quota ← quota_of valid.1
+  ended (flag (codes "temporary") quota.1).1 (record {
     line = n;
     name = name.0;
     size = size.0;
     valid = valid.0;
-    quota = 16;
-    temporary = false;
+    quota = quota.0;
+    temporary = (flag (codes "temporary") quota.1).0;
     log = None;
   })
 
--- journal N: at most once, before the first action
-unfoldable pub journal_of : List (List ℕ) → Option ℕ
-journal_of ws = do
-  capacity ← next (number_between 64 1048576) ws
-  ended capacity.1 capacity.0
+-- the number of a line that sets one
+unfoldable pub setting_of : ℕ → ℕ → List (List ℕ) → Option ℕ
+setting_of low high ws = do
+  n ← next (number_between low high) ws
+  ended n.1 n.0
 
+-- journal N: at most once, before the first action
 unfoldable pub with_journal : ℕ → Reading → Option Reading
 with_journal capacity r =
     if (length r.script.lines == 0) && not r.has_journal
     then Some (record r { script = record r.script { journal = capacity }; has_journal = true })
+    else None
+
+-- threshold N: likewise
+unfoldable pub with_threshold : ℕ → Reading → Option Reading
+with_threshold pages r =
+    if (length r.script.lines == 0) && not r.has_threshold
+    then Some (record r { script = record r.script { threshold = pages }; has_threshold = true })
     else None
 
 -- phase: at most 1000 times
@@ -92,25 +106,24 @@ action_line n caller v ws r = do
   with_action n caller action r
 
 -- a line of a verb, without a caller word
-unfoldable pub verb_line : Offer → ℕ → Verb → List (List ℕ) → Reading → Option Reading
-verb_line offer n verb.Stream ws r = do
+unfoldable pub verb_line : ℕ → Verb → List (List ℕ) → Reading → Option Reading
+verb_line n verb.Stream ws r = do
   stream ← stream_of n ws
-  with_stream offer stream r
-verb_line offer n verb.Journal ws r = do
-  capacity ← journal_of ws
+  with_stream stream r
+verb_line n verb.Journal ws r = do
+  capacity ← setting_of 64 1048576 ws
   with_journal capacity r
-verb_line offer n verb.Phase ws r = with_phase ws r
-verb_line offer n verb.CopyRead ws r = action_line n 1 verb.CopyRead ws r
-verb_line offer n verb.CopyWrite ws r = action_line n 1 verb.CopyWrite ws r
-verb_line offer n verb.Zero ws r = action_line n 1 verb.Zero ws r
-verb_line offer n verb.SetSizes ws r = action_line n 1 verb.SetSizes ws r
-verb_line offer n verb.State ws r = action_line n 1 verb.State ws r
-verb_line offer n verb.Flush ws r = action_line n 1 verb.Flush ws r
-verb_line offer n verb.IsDirtyData ws r = action_line n 1 verb.IsDirtyData ws r
-
--- the caller that a word names, where callers are offered
-unfoldable pub caller_in : Offer → List ℕ → Option ℕ
-caller_in offer word = if has_callers offer then caller_of word else None
+verb_line n verb.Threshold ws r = do
+  pages ← setting_of 1 16384 ws
+  with_threshold pages r
+verb_line n verb.Phase ws r = with_phase ws r
+verb_line n verb.CopyRead ws r = action_line n 1 verb.CopyRead ws r
+verb_line n verb.CopyWrite ws r = action_line n 1 verb.CopyWrite ws r
+verb_line n verb.Zero ws r = action_line n 1 verb.Zero ws r
+verb_line n verb.SetSizes ws r = action_line n 1 verb.SetSizes ws r
+verb_line n verb.State ws r = action_line n 1 verb.State ws r
+verb_line n verb.Flush ws r = action_line n 1 verb.Flush ws r
+verb_line n verb.IsDirtyData ws r = action_line n 1 verb.IsDirtyData ws r
 
 -- an action behind a caller word
 unfoldable pub called_line : Offer → Mode → ℕ → ℕ → List (List ℕ) → Reading → Option Reading
@@ -122,7 +135,7 @@ called_line offer mode n caller ws r = do
 unfoldable pub uncalled_line : Offer → Mode → ℕ → List (List ℕ) → Reading → Option Reading
 uncalled_line offer mode n ws r = do
   v ← next (verb_in offer mode) ws
-  verb_line offer n v.0 v.1 r
+  verb_line n v.0 v.1 r
 
 -- a line, by the caller that its first word names, if any
 abbrev pub line_by : Offer → Mode → ℕ → Option ℕ → List ℕ → List (List ℕ) → Reading → Option Reading
@@ -132,7 +145,7 @@ line_by offer mode n None word more r = uncalled_line offer mode n (word ∷ mor
 -- a line of these words; one of no words says nothing
 unfoldable pub words_line : Offer → Mode → ℕ → List (List ℕ) → Reading → Option Reading
 words_line offer mode n [] r = Some r
-words_line offer mode n (word ∷ more) r = line_by offer mode n (caller_in offer word) word more r
+words_line offer mode n (word ∷ more) r = line_by offer mode n (caller_of word) word more r
 
 -- printable ASCII, or a space
 abbrev pub is_printable : ℕ → Bool

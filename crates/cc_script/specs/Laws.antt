@@ -1,11 +1,22 @@
 -- What the definitions of the grammar come to, in words of their own.
-use Rattle.std.specs.Prelude.{ℕ, ◌≡◌, ◌==◌, ◌<◌, ◌^◌, ◌↔◌, not, IsTrue, Some, None, List, [], ◌∷◌, ◌++◌, ◌⊎◌, true, ◌≤◌, ◌/◌, ◌%◌, length, map, replicate, nat_lt, codes}
-use Rattle.std.specs.List.{join_with_byte, list_all, flat_map}
+use Rattle.std.specs.Prelude.{ℕ, ◌≡◌, ◌==◌, ◌<◌, ◌^◌, ◌↔◌, Bool, not, IsTrue, Some, None, Ok, List, [], ◌∷◌, ◌++◌, ◌⊎◌, true, ◌≤◌, ◌/◌, ◌%◌, length, map, replicate, nat_lt, codes, if◌then◌else◌}
+use Rattle.std.specs.List.{join_with_byte, list_all, flat_map, AllPairs}
 use Rattle.std.specs.Fmt.{decimal, digit_glyph}
+use Rattle.cc_entry.specs.Place.{File}
 use Rattle.cc_script.specs.declared.verb.Verb.{Verb}
+use Rattle.cc_script.specs.declared.script.StreamLine.{StreamLine}
+use Rattle.cc_script.specs.declared.script.Action.{Action}
+use Rattle.cc_script.specs.declared.script.Action.TheVariants as action
+use Rattle.cc_script.specs.declared.script.ActionLine.{ActionLine}
 use Rattle.cc_script.specs.Text.{lines}
-use Rattle.cc_script.specs.Words.{number_of, caller_of, bytes_of}
+use Rattle.cc_script.specs.Words.{number_of, is_name, caller_of, bytes_of}
+use Rattle.cc_script.specs.Actions.{file_of, copy_read_of}
 use Rattle.cc_script.specs.Verbs.{verb_text, verb_of}
+use Rattle.cc_script.specs.declared.script.Mode.{Mode}
+use Rattle.cc_script.specs.declared.script.Offer.{Offer}
+use Rattle.cc_script.specs.declared.script.Script.{Script}
+use Rattle.cc_script.specs.Grammar.{stream_of, setting_of, script_of}
+use Rattle.cc_script.specs.Within.{PhasesAscend, IsWithin}
 
 -- a number's word is exactly its decimal text
 abbrev pub NumbersAreDecimal : Type 0
@@ -74,3 +85,65 @@ Spells word bytes = ((word ≡ codes "-") × (bytes ≡ [])) ⊎ ((items : List 
 -- the words that are read as bytes are those that spell them
 abbrev pub WordsSpell : Type 0
 WordsSpell = (word bytes : List ℕ) → (bytes_of word ≡ Some bytes) ↔ Spells word bytes
+
+-- a word where a flag is set, and none where it is not
+abbrev pub flag_words : List ℕ → Bool → List (List ℕ)
+flag_words word is_set = if is_set then word ∷ [] else []
+
+-- the words of a stream's quota: none, or its number behind `quota`
+abbrev pub SpellsQuota : ℕ → List (List ℕ) → Type 0
+SpellsQuota quota ws =
+    ((quota ≡ 16) × (ws ≡ [])) ⊎ ((8 ≤ quota) × (quota ≤ 64) × (ws ≡ codes "quota" ∷ decimal quota ∷ []))
+
+-- the words behind `stream` for this stream, on line n
+pub record IsStreamSpelling (n : ℕ) (ws : List (List ℕ)) (stream : StreamLine) : Type 0 where
+  pub quota_words : List (List ℕ)
+  pub words :
+      ws ≡ stream.name ∷ decimal stream.size ∷ decimal stream.valid
+      ∷ (quota_words ++ flag_words (codes "temporary") stream.temporary)
+  pub quota : SpellsQuota stream.quota quota_words
+  pub name : is_name stream.name ≡ true
+  pub size : stream.size < 2 ^ 64
+  pub valid : stream.valid < 2 ^ 64
+  pub line : stream.line ≡ n
+  pub log : stream.log ≡ None
+
+-- the words that are read as a stream are those that spell it
+abbrev pub StreamsSpell : Type 0
+StreamsSpell =
+    (n : ℕ) (ws : List (List ℕ)) (stream : StreamLine) → (stream_of n ws ≡ Some stream) ↔ IsStreamSpelling n ws stream
+
+-- the words behind `cread` for this read
+pub record IsReadSpelling (streams : List StreamLine) (ws : List (List ℕ)) (asked : Action) : Type 0 where
+  pub name : List ℕ
+  pub file : File
+  pub at : ℕ
+  pub len : ℕ
+  pub wait : Bool
+  pub words : ws ≡ name ∷ decimal at ∷ decimal len ∷ flag_words (codes "nowait") (not wait)
+  pub named : file_of streams name ≡ Some file
+  pub at_fits : at < 2 ^ 64
+  pub len_fits : len ≤ 2097152
+  pub asks : asked ≡ action.CopyRead file at len wait
+
+abbrev pub ReadsSpell : Type 0
+ReadsSpell =
+    (streams : List StreamLine) (ws : List (List ℕ)) (asked : Action) → (copy_read_of streams ws ≡ Some asked) ↔ IsReadSpelling streams ws asked
+
+-- the word behind the verb of a line that sets a number
+abbrev pub SpellsSetting : ℕ → ℕ → List (List ℕ) → ℕ → Type 0
+SpellsSetting low high ws n = (low ≤ n) × (n ≤ high) × (ws ≡ decimal n ∷ [])
+
+abbrev pub SettingsSpell : Type 0
+SettingsSpell =
+    (low high : ℕ) (ws : List (List ℕ)) (n : ℕ) → high < 2 ^ 64 → (setting_of low high ws ≡ Some n) ↔ SpellsSetting low high ws n
+
+-- every script of the grammar keeps within its offer
+abbrev pub ScriptsAreWithin : Type 0
+ScriptsAreWithin =
+    (offer : Offer) (mode : Mode) (bytes : List ℕ) (script : Script) → script_of offer mode bytes ≡ Ok script → IsWithin offer script
+
+-- lines whose phases ascend: none is of an earlier phase than one before it
+abbrev pub PhasesRise : Type 0
+PhasesRise =
+    (from : ℕ) (lines : List ActionLine) → PhasesAscend from lines → AllPairs (λ first later. first.phase ≤ later.phase) lines

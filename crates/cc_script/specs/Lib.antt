@@ -5,4 +5,5 @@ pub mod Verbs
 pub mod Actions
 pub mod Grammar
 pub mod Answers
+pub mod Within
 pub mod Laws

@@ -13,9 +13,6 @@ use crate::verb::Verb;
 use cc_entry::Span;
 use std::alloc::Global;
 
-/// The largest size of a stream.
-pub(crate) const LARGEST: u64 = 4194304;
-
 #[tactic(auto, unfolding(crate::specs::Actions::copy_read_of))]
 fn copy_read(streams: &StreamLines, words: &mut Words) -> Option<Action>
     ensures { result ≡ copy_read_of streams.now words.old }
@@ -23,12 +20,13 @@ fn copy_read(streams: &StreamLines, words: &mut Words) -> Option<Action>
     let file = words.file(streams)?;
     let at = words.number()?;
     let len = words.number_between(0, LONGEST)?;
+    let wait = !words.flag(b"nowait");
     if words.is_empty() {
         Some(Action::CopyRead {
             file,
             at,
             len,
-            wait: true,
+            wait,
         })
     } else {
         None
@@ -68,7 +66,7 @@ fn set_sizes(streams: &StreamLines, words: &mut Words) -> Option<Action>
 {
     let file = words.file(streams)?;
     let allocation = words.number()?;
-    let size = words.number_between(0, LARGEST)?;
+    let size = words.number()?;
     if words.is_empty() {
         Some(Action::SetSizes {
             file,
@@ -144,7 +142,7 @@ pub(crate) fn action(
         Verb::State => state(streams, words).ok_or(LineFault::Syntax),
         Verb::Flush => flush(streams, words).ok_or(LineFault::Syntax),
         Verb::IsDirtyData => is_dirty_data(words).ok_or(LineFault::Syntax),
-        Verb::Stream | Verb::Journal | Verb::Phase => Err(LineFault::Syntax),
+        Verb::Stream | Verb::Journal | Verb::Threshold | Verb::Phase => Err(LineFault::Syntax),
     }
 }
 

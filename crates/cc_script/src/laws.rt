@@ -1,6 +1,6 @@
 //! Laws of the grammar: functions without a body, whose clauses are proved.
 
-ghost use Rattle.cc_script.specs.Laws.{NumbersAreDecimal, VerbsDiffer, VerbsAreFound, VerbsAreNoCallers, LinesJoin, LinesAreWhole, WordsSpell};
+ghost use Rattle.cc_script.specs.Laws.{NumbersAreDecimal, VerbsDiffer, VerbsAreFound, VerbsAreNoCallers, LinesJoin, LinesAreWhole, WordsSpell, StreamsSpell, ReadsSpell, SettingsSpell, ScriptsAreWithin, PhasesRise};
 
 /// A number's word is exactly its decimal text, and stands for a number below 2^64.
 
@@ -24,4 +24,18 @@ pub fn lines_join()
 /// A word is read as bytes exactly where it spells them: `-` spells none, items spell theirs.
 pub fn words_spell()
     ensures { WordsSpell }
+{}
+
+/// The words of a stream, of a read and of a line that sets a number are exactly those that spell them.
+pub fn lines_spell()
+    ensures streams { StreamsSpell }
+    ensures reads { ReadsSpell }
+    ensures settings { SettingsSpell }
+{}
+
+/// Every script of the grammar keeps within its offer, in which no line is of an earlier phase than one
+/// before it.
+pub fn scripts_are_within()
+    ensures within { ScriptsAreWithin }
+    ensures phases { PhasesRise }
 {}

@@ -2,8 +2,9 @@
 //!
 //! The grammar is a definition in specs/: bytes as lines, a line as words, and a table by cases over the
 //! verbs. `read_script` answers exactly the script that the bytes spell, else the number of the first
-//! line that is not in the grammar, or want of memory. Laws of the grammar in words of their own, as
-//! that a number's word is its decimal text, are clauses of functions without a body.
+//! line that is not in the grammar, or want of memory. What it answers keeps within what is offered, so
+//! that a run needs no test of its script. Laws of the grammar in words of their own, as that a number's
+//! word is its decimal text, are clauses of functions without a body.
 //!
 //! It stands on cc_entry, for the values of the words; the program's runs stand on it.
 #![tactic(auto)]
@@ -21,7 +22,9 @@ mod slot;
 mod verb;
 mod word;
 
-pub use laws::{lines_join, numbers_are_decimal, verbs_differ, words_spell};
+pub use laws::{
+    lines_join, lines_spell, numbers_are_decimal, scripts_are_within, verbs_differ, words_spell,
+};
 pub use name::Name;
 pub use read::{OFFERED, read_offered, read_script};
 pub use script::{

@@ -1,12 +1,13 @@
 //! The reader of scripts: lines, words, and the script that they spell.
 
-ghost use Rattle.std.specs.Prelude.{◌≡◌};
+ghost use Rattle.std.specs.Prelude.{◌≡◌, IfOk};
 ghost use Rattle.std.specs.List.{list_all};
 ghost use Rattle.std.specs.Str.Lines.{strip_carriage_return};
 ghost use Rattle.cc_script.specs.Outcome.{Becomes};
 ghost use Rattle.cc_script.specs.Answers.{Reads};
+ghost use Rattle.cc_script.specs.Within.{IsWithin};
 ghost use Rattle.cc_script.specs.Verbs.{offered};
-ghost use Rattle.cc_script.specs.Grammar.{is_printable, caller_in, called_line, uncalled_line, words_line, text_line, line_of, script_of};
+ghost use Rattle.cc_script.specs.Grammar.{is_printable, called_line, uncalled_line, words_line, text_line, line_of, script_of};
 
 use crate::fault::LineFault;
 use crate::part::{Words, first_line};
@@ -16,27 +17,35 @@ use crate::word;
 use std::alloc::Global;
 
 /// What the program offers.
-pub const OFFERED: Offer = Offer::Copies;
+pub const OFFERED: Offer = Offer::Pages;
 
 /// The most lines of a script.
 const MOST_LINES: u32 = 65536;
 
 /// The script that bytes spell with the verbs that the program offers, or the first line that is not
-/// in the grammar.
+/// in the grammar. A run may rely on what a script that was read keeps within, and needs no test of it.
 pub fn read_script(alloc: Global, bytes: &[u8], mode: Mode) -> Result<Script, ScriptFault>
-    ensures { Reads (script_of offered mode bytes.now) result }
+    ensures read { Reads (script_of offered mode bytes.now) result }
+    ensures within { IfOk result (IsWithin offered) }
 {
     read_offered(alloc, bytes, mode, OFFERED)
 }
 
 /// The same with the verbs of an offer.
-#[tactic(auto, using(crate::proofs::Parts::lines_none), unfolding(crate::specs::Grammar::script_of, crate::specs::Grammar::lines_of))]
 pub fn read_offered(
     alloc: Global,
     bytes: &[u8],
     mode: Mode,
     offer: Offer,
 ) -> Result<Script, ScriptFault>
+    ensures read { Reads (script_of offer mode bytes.now) result }
+    ensures within { IfOk result (IsWithin offer) }
+{
+    read_lines(alloc, bytes, mode, offer)
+}
+
+#[tactic(auto, using(crate::proofs::Parts::lines_none), unfolding(crate::specs::Grammar::script_of, crate::specs::Grammar::lines_of))]
+fn read_lines(alloc: Global, bytes: &[u8], mode: Mode, offer: Offer) -> Result<Script, ScriptFault>
     ensures { Reads (script_of offer mode bytes.now) result }
 {
     let mut reading = Reading::new(alloc);
@@ -108,7 +117,7 @@ impl Reading {
         let Some((word, mut behind)) = words.split_first() else {
             return Ok(());
         };
-        match caller_in(offer, word) {
+        match word::caller(word) {
             Some(caller) => self.called(alloc, offer, mode, number, caller, &mut behind),
             None => self.uncalled(alloc, offer, mode, number, words),
         }
@@ -144,18 +153,7 @@ impl Reading {
         ensures { Becomes (uncalled_line offer mode number words.old self.old) result self.new }
     {
         let verb = words.verb(offer, mode).ok_or(LineFault::Syntax)?;
-        self.verb(alloc, offer, number, verb, words)
-    }
-}
-
-#[tactic(auto, unfolding(crate::specs::Grammar::caller_in))]
-fn caller_in(offer: Offer, word: &[u8]) -> Option<u32>
-    ensures { result ≡ caller_in offer word.now }
-{
-    if offer.has_callers() {
-        word::caller(word)
-    } else {
-        None
+        self.verb(alloc, number, verb, words)
     }
 }
 

@@ -1,20 +1,22 @@
 //! What the lines so far say, and how one more line changes it.
 
-ghost use Rattle.std.specs.Prelude.{◌≡◌, ◌<◌, length};
+ghost use Rattle.std.specs.Prelude.{◌≡◌, ◌<◌, ◌^◌, length};
 ghost use Rattle.std.specs.Bool.{OnTrue};
 ghost use Rattle.cc_script.specs.Outcome.{Gives, Becomes};
-ghost use Rattle.cc_script.specs.Grammar.{nothing_read, may_add, with_stream, stream_of, journal_of, with_journal, with_phase, with_action, action_line, verb_line};
+ghost use Rattle.cc_script.specs.Grammar.{nothing_read, may_add, with_stream, stream_of, setting_of, with_journal, with_threshold, with_phase, with_action, action_line, verb_line};
 
-use crate::action::{LARGEST, action, bytes_moved};
+use crate::action::{action, bytes_moved};
 use crate::fault::LineFault;
 use crate::part::Words;
-use crate::script::{Action, ActionLine, ActionLines, Offer, Script, StreamLine, StreamLines};
+use crate::script::{Action, ActionLine, ActionLines, Script, StreamLine, StreamLines};
 use crate::verb::Verb;
-use cc_entry::Quota;
 use std::alloc::Global;
 
 /// The most entries of a journal, and what it has where no line says so.
 pub(crate) const MOST_ENTRIES: u64 = 1048576;
+
+/// The highest cache threshold, in pages.
+const MOST_PAGES: u64 = 16384;
 
 /// The most bytes that the lines of a script read and write.
 const MOST_BYTES: u64 = 33554432;
@@ -25,6 +27,7 @@ pub(crate) struct Reading {
     pub(crate) script: Script,
     pub(crate) total: u64,
     pub(crate) has_journal: bool,
+    pub(crate) has_threshold: bool,
 }
 
 impl Reading {
@@ -44,25 +47,25 @@ impl Reading {
             script,
             total: 0,
             has_journal: false,
+            has_threshold: false,
         }
     }
 
     #[tactic(auto, unfolding(crate::specs::Grammar::may_add))]
-    fn may_add(&self, offer: Offer, stream: &StreamLine) -> bool
-        ensures value { result ≡ may_add offer stream.now self.now }
+    fn may_add(&self, stream: &StreamLine) -> bool
+        ensures value { result ≡ may_add stream.now self.now }
         ensures room { OnTrue result (length self.now.script.streams < 16) }
     {
         self.script.lines.is_empty()
-            && self.script.streams.len() < offer.most_streams()
-            && offer.is_valid_offered(stream.size, stream.valid)
+            && self.script.streams.len() < 16
             && self.script.streams.find(stream.name.as_bytes()).is_none()
     }
 
     #[tactic(auto, unfolding(crate::specs::Grammar::with_stream))]
-    fn add_stream(&mut self, offer: Offer, stream: StreamLine) -> Result<(), LineFault>
-        ensures { Becomes (with_stream offer stream self.old) result self.new }
+    fn add_stream(&mut self, stream: StreamLine) -> Result<(), LineFault>
+        ensures { Becomes (with_stream stream self.old) result self.new }
     {
-        if !self.may_add(offer, &stream) {
+        if !self.may_add(&stream) {
             return Err(LineFault::Syntax);
         }
         self.script.streams.push(stream)?;
@@ -78,6 +81,18 @@ impl Reading {
         }
         self.script.journal = capacity;
         self.has_journal = true;
+        Ok(())
+    }
+
+    #[tactic(auto, unfolding(crate::specs::Grammar::with_threshold))]
+    fn set_threshold(&mut self, pages: u32) -> Result<(), LineFault>
+        ensures { Becomes (with_threshold pages self.old) result self.new }
+    {
+        if !self.script.lines.is_empty() || self.has_threshold {
+            return Err(LineFault::Syntax);
+        }
+        self.script.threshold = pages;
+        self.has_threshold = true;
         Ok(())
     }
 
@@ -133,21 +148,24 @@ impl Reading {
     pub(crate) fn verb(
         &mut self,
         alloc: Global,
-        offer: Offer,
         number: u32,
         verb: Verb,
         words: &mut Words,
     ) -> Result<(), LineFault>
-        ensures { Becomes (verb_line offer number verb words.old self.old) result self.new }
+        ensures { Becomes (verb_line number verb words.old self.old) result self.new }
     {
         match verb {
             Verb::Stream => {
                 let stream = stream(alloc, number, words)?;
-                self.add_stream(offer, stream)
+                self.add_stream(stream)
             }
             Verb::Journal => {
-                let capacity = journal(words).ok_or(LineFault::Syntax)?;
+                let capacity = setting(64, MOST_ENTRIES, words).ok_or(LineFault::Syntax)?;
                 self.set_journal(capacity)
+            }
+            Verb::Threshold => {
+                let pages = setting(1, MOST_PAGES, words).ok_or(LineFault::Syntax)?;
+                self.set_threshold(pages)
             }
             Verb::Phase => self.begin_phase(words),
             Verb::CopyRead
@@ -166,8 +184,10 @@ fn stream(alloc: Global, number: u32, words: &mut Words) -> Result<StreamLine, L
     ensures { Gives (stream_of number words.old) result }
 {
     let name = words.name(alloc)?;
-    let size = words.number_between(0, LARGEST).ok_or(LineFault::Syntax)?;
+    let size = words.number().ok_or(LineFault::Syntax)?;
     let valid = words.number().ok_or(LineFault::Syntax)?;
+    let quota = words.quota().ok_or(LineFault::Syntax)?;
+    let temporary = words.flag(b"temporary");
     if !words.is_empty() {
         return Err(LineFault::Syntax);
     }
@@ -176,19 +196,20 @@ fn stream(alloc: Global, number: u32, words: &mut Words) -> Result<StreamLine, L
         name,
         size,
         valid,
-        quota: Quota::new(16).unwrap(),
-        temporary: false,
+        quota,
+        temporary,
         log: None,
     })
 }
 
-#[tactic(auto, unfolding(crate::specs::Grammar::journal_of))]
-fn journal(words: &mut Words) -> Option<u32>
-    ensures { result ≡ journal_of words.old }
+#[tactic(auto, unfolding(crate::specs::Grammar::setting_of))]
+fn setting(low: u64, high: u64, words: &mut Words) -> Option<u32>
+    requires { high < 2 ^ 32 }
+    ensures { result ≡ setting_of low high words.old }
 {
-    let capacity = words.number_between(64, MOST_ENTRIES)?;
+    let number = words.number_between(low, high)?;
     if words.is_empty() {
-        Some(capacity as u32)
+        Some(number as u32)
     } else {
         None
     }

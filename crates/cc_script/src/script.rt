@@ -19,8 +19,9 @@ pub enum Mode {
 /// The verbs and the header lines that are offered.
 #[derive(Clone, Copy, Debug, PartialEq, Eq)]
 pub enum Offer {
-    /// One stream whose valid data ends within its size, and copies of the one caller.
-    Copies,
+    /// The header lines, callers and phases, and the actions that a run over the cache serves: copied reads and
+    /// writes, zeroing and sizes.
+    Pages,
     /// Every line of the table.
     Whole,
 }

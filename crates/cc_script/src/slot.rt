@@ -1,10 +1,11 @@
 //! The words behind a verb, taken one after another in the form that the verb asks.
 
-ghost use Rattle.std.specs.Prelude.{◌≤◌, IfSome};
+ghost use Rattle.std.specs.Prelude.{◌≡◌, ◌≤◌, IfSome};
 ghost use Rattle.cc_script.specs.Outcome.{Takes, TakesIf};
 ghost use Rattle.cc_script.specs.Words.{number_of, number_between, name_of, bytes_of};
 ghost use Rattle.cc_script.specs.Verbs.{verb_in};
-ghost use Rattle.cc_script.specs.Actions.{next, file_of, span_of};
+ghost use Rattle.cc_script.specs.Actions.{next, flag, file_of, span_of};
+ghost use Rattle.cc_script.specs.Grammar.{quota_of};
 
 use crate::fault::LineFault;
 use crate::name::Name;
@@ -12,7 +13,7 @@ use crate::part::Words;
 use crate::script::{Mode, Offer, StreamLines};
 use crate::verb::Verb;
 use crate::{byte_word, word};
-use cc_entry::{Bytes, FileId, Span};
+use cc_entry::{Bytes, FileId, Quota, Span};
 use std::alloc::Global;
 
 impl Words<'_> {
@@ -33,6 +34,33 @@ impl Words<'_> {
         ensures { Takes (next (verb_in offer mode) self.old) result self.new }
     {
         Verb::offered(offer, mode, self.next()?)
+    }
+
+    /// Whether a given word stands next, which is taken then.
+    pub(crate) fn flag(&mut self, given: &[u8]) -> bool
+        ensures { flag given.now self.old ≡ (result, self.new) }
+    {
+        let Some((word, behind)) = self.split_first() else {
+            return false;
+        };
+        if word != given {
+            return false;
+        }
+        *self = behind;
+        true
+    }
+
+    /// The quota of a stream, 16 view blocks where the words don't say it.
+    #[tactic(auto, unfolding(crate::specs::Grammar::quota_of))]
+    pub(crate) fn quota(&mut self) -> Option<Quota>
+        ensures { Takes (quota_of self.old) result self.new }
+    {
+        if self.flag(b"quota") {
+            let blocks = self.number_between(8, 64)?;
+            Quota::new(blocks as u8)
+        } else {
+            Quota::new(16)
+        }
     }
 
     #[tactic(auto, unfolding(crate::specs::Actions::span_of))]

@@ -1,7 +1,7 @@
 //! The table of the verbs.
 
 ghost use Rattle.std.specs.Prelude.{◌≡◌};
-ghost use Rattle.cc_script.specs.Verbs.{verb_text, is_offered, is_in_mode, verb_of, verb_in, has_callers, most_streams, is_valid_offered};
+ghost use Rattle.cc_script.specs.Verbs.{verb_text, is_offered, is_in_mode, verb_of, verb_in};
 
 use crate::script::{Mode, Offer};
 
@@ -10,6 +10,7 @@ use crate::script::{Mode, Offer};
 pub(crate) enum Verb {
     Stream,
     Journal,
+    Threshold,
     Phase,
     CopyRead,
     CopyWrite,
@@ -20,9 +21,10 @@ pub(crate) enum Verb {
     IsDirtyData,
 }
 
-pub(crate) const VERBS: [Verb; 10] = [
+pub(crate) const VERBS: [Verb; 11] = [
     Verb::Stream,
     Verb::Journal,
+    Verb::Threshold,
     Verb::Phase,
     Verb::CopyRead,
     Verb::CopyWrite,
@@ -40,6 +42,7 @@ impl Verb {
         match self {
             Verb::Stream => b"stream",
             Verb::Journal => b"journal",
+            Verb::Threshold => b"threshold",
             Verb::Phase => b"phase",
             Verb::CopyRead => b"cread",
             Verb::CopyWrite => b"cwrite",
@@ -64,7 +67,7 @@ impl Verb {
     {
         match offer {
             Offer::Whole => true,
-            Offer::Copies => matches!(self, Verb::Stream | Verb::CopyRead | Verb::CopyWrite),
+            Offer::Pages => !matches!(self, Verb::State | Verb::Flush | Verb::IsDirtyData),
         }
     }
 
@@ -87,32 +90,6 @@ impl Verb {
             Some(verb)
         } else {
             None
-        }
-    }
-}
-
-impl Offer {
-    pub(crate) fn has_callers(self) -> bool
-        ensures { result ≡ has_callers self }
-    {
-        matches!(self, Offer::Whole)
-    }
-
-    pub(crate) fn most_streams(self) -> usize
-        ensures { result ≡ most_streams self }
-    {
-        match self {
-            Offer::Copies => 1,
-            Offer::Whole => 16,
-        }
-    }
-
-    pub(crate) fn is_valid_offered(self, size: u64, valid: u64) -> bool
-        ensures { result ≡ is_valid_offered self size valid }
-    {
-        match self {
-            Offer::Copies => valid <= size,
-            Offer::Whole => true,
         }
     }
 }

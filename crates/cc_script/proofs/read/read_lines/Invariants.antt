@@ -1,7 +1,7 @@
 use Rattle.std.proofs.Common.{◌≡◌, ◌≤◌, length}
 use Rattle.cc_script.specs.Text.{lines}
 use Rattle.cc_script.specs.Grammar.{script_of, lines_of}
-use Rattle.cc_script.proofs.read.read_offered.Given as goal
+use Rattle.cc_script.proofs.read.read_lines.Given as goal
 
 abbrev pub invariant-loop-rest : goal.invariant-loop-rest
 invariant-loop-rest l = (l.line ≤ 65536) × (script_of l.offer l.mode l.bytes ≡ lines_of l.offer l.mode l.line (lines l.rest) l.reading)

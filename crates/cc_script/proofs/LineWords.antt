@@ -1,0 +1,195 @@
+-- The words of a line, and what they are read as, one from the other.
+use Rattle.std.proofs.Common.{◌≡◌, ℕ, ◌^◌, ◌<◌, ◌≤◌, Bool, true, false, not, Some, None, List, [], ◌∷◌, ◌++◌, ◌↔◌, inl, inr, nat_le, codes, if◌then◌else◌, refl, ap, sym, ◌∙◌, subst, arith}
+use Rattle.std.specs.Str.{bytes_eq}
+use Rattle.std.specs.Fmt.{decimal}
+use Rattle.std.proofs.lemmas.Option.{same_Some}
+use Rattle.std.proofs.lemmas.Slice.Eq.{bytes_eq-Decides}
+use Rattle.std.proofs.lemmas.Bool.Decides.{nat_tests}
+use Rattle.cc_script.specs.declared.script.StreamLine.{StreamLine}
+use Rattle.cc_script.specs.declared.script.Action.{Action}
+use Rattle.cc_script.specs.declared.script.Action.TheVariants as action
+use Rattle.cc_script.specs.Words.{number_of, number_between, is_name, name_of}
+use Rattle.cc_script.specs.Actions.{next, flag, ended, file_of, copy_read_of}
+use Rattle.cc_script.specs.Grammar.{quota_of, stream_of, setting_of}
+use Rattle.cc_script.specs.Laws.{SpellsQuota, flag_words, IsStreamSpelling, IsReadSpelling, SpellsSetting}
+use Rattle.cc_script.proofs.Numbers.{decimal-number_of, number_of-decimal}
+use Rattle.cc_script.proofs.Steps.{then-gives, if-gives, next-gives, ended-gives, between-gives}
+
+-- a number of a range is read from its decimal text
+between-decimal : (low high n : ℕ) → low ≤ n → n ≤ high → high < 2 ^ 64 → number_between low high (decimal n) ≡ Some n
+unfolding number_between
+between-decimal low high n least most fits =
+    let read : number_of (decimal n) ≡ Some n = number_of-decimal n (omega arith) in
+    let s : nat_le low n ≡ true = grind (arith, nat_tests) in
+    let t : nat_le n high ≡ true = grind (arith, nat_tests) in
+    rw read (simp (s, t))
+
+setting_spelled : (low high : ℕ) (ws : List (List ℕ)) (n : ℕ) → setting_of low high ws ≡ Some n → SpellsSetting low high ws n
+unfolding setting_of
+setting_spelled low high ws n e =
+    let found = then-gives (next (number_between low high) ws) _ n e in
+    let end = ended-gives _ _ n found.2 in
+    let w = next-gives (number_between low high) ws found.0.0 found.0.1 found.1 in
+    let b = between-gives low high w.word found.0.0 w.reads in
+    let text : w.word ≡ decimal n = (decimal-number_of w.word found.0.0 b.number).1 ∙ ap decimal end.1 in
+    (omega (arith, end.1, b.least), omega (arith, end.1, b.most), w.words ∙ rw (text, end.0) refl)
+
+setting_read : (low high : ℕ) (ws : List (List ℕ)) (n : ℕ) → high < 2 ^ 64 → SpellsSetting low high ws n → setting_of low high ws ≡ Some n
+unfolding setting_of
+setting_read low high ws n fits s =
+    let read : number_between low high (decimal n) ≡ Some n = between-decimal low high n s.0 s.1 fits in
+    rw (s.2, read) refl
+
+pub settings_spell : (low high : ℕ) (ws : List (List ℕ)) (n : ℕ) → high < 2 ^ 64 → (setting_of low high ws ≡ Some n) ↔ SpellsSetting low high ws n
+settings_spell low high ws n fits = (setting_spelled low high ws n, setting_read low high ws n fits)
+
+-- a flag is the given word, where that stands next
+flag_spelled : (given : List ℕ) (ws : List (List ℕ)) → ws ≡ flag_words given (flag given ws).0 ++ (flag given ws).1
+flag_spelled given [] = refl
+flag_spelled given (word ∷ more) = either (bytes_eq word given) refl
+  where
+    either : (t : Bool) → bytes_eq word given ≡ t → word ∷ more ≡ flag_words given (flag given (word ∷ more)).0 ++ (flag given (word ∷ more)).1
+    either true e = let same : word ≡ given = (bytes_eq-Decides word given).0 e in simp e (ap (λ (w : List ℕ). w ∷ more) same)
+    either false e = simp e
+
+-- and is read so at the end of the line
+flag_read : (given : List ℕ) (is_set : Bool) → bytes_eq given given ≡ true → flag given (flag_words given is_set) ≡ (is_set, [])
+flag_read given true e = simp e
+flag_read given false e = refl
+
+read_spelled : (streams : List StreamLine) (ws : List (List ℕ)) (asked : Action) → copy_read_of streams ws ≡ Some asked → IsReadSpelling streams ws asked
+unfolding copy_read_of
+read_spelled streams ws asked e =
+    let file = then-gives (next (file_of streams) ws) _ asked e in
+    let at = then-gives (next number_of file.0.1) _ asked file.2 in
+    let len = then-gives (next (number_between 0 2097152) at.0.1) _ asked at.2 in
+    let is_set = (flag (codes "nowait") len.0.1).0 in
+    let end = ended-gives (flag (codes "nowait") len.0.1).1 (action.CopyRead file.0.0 at.0.0 len.0.0 (not is_set)) asked len.2 in
+    let f = next-gives (file_of streams) ws file.0.0 file.0.1 file.1 in
+    let a = next-gives number_of file.0.1 at.0.0 at.0.1 at.1 in
+    let l = next-gives (number_between 0 2097152) at.0.1 len.0.0 len.0.1 len.1 in
+    let b = between-gives 0 2097152 l.word len.0.0 l.reads in
+    let at_is = decimal-number_of a.word at.0.0 a.reads in
+    let len_is = decimal-number_of l.word len.0.0 b.number in
+    let last : len.0.1 ≡ flag_words (codes "nowait") is_set ++ [] = flag_spelled (codes "nowait") len.0.1 ∙ ap (flag_words (codes "nowait") is_set ++◌) end.0 in
+    record {
+      name = f.word;
+      file = file.0.0;
+      at = at.0.0;
+      len = len.0.0;
+      wait = not is_set;
+      words = f.words ∙ ap (f.word ∷◌) (a.words ∙ rw at_is.1 (ap (decimal at.0.0 ∷◌) (l.words ∙ rw len_is.1 (ap (decimal len.0.0 ∷◌) (last ∙ flag_end is_set)))));
+      named = f.reads;
+      at_fits = at_is.0;
+      len_fits = b.most;
+      asks = sym end.1;
+    }
+  where
+    flag_end : (t : Bool) → flag_words (codes "nowait") t ++ [] ≡ flag_words (codes "nowait") (not (not t))
+    flag_end true = refl
+    flag_end false = refl
+
+read_read : (streams : List StreamLine) (ws : List (List ℕ)) (asked : Action) → IsReadSpelling streams ws asked → copy_read_of streams ws ≡ Some asked
+unfolding copy_read_of
+read_read streams ws asked s =
+    let named : file_of streams s.name ≡ Some s.file = s.named in
+    let at : number_of (decimal s.at) ≡ Some s.at = number_of-decimal s.at s.at_fits in
+    let len : number_between 0 2097152 (decimal s.len) ≡ Some s.len = between-decimal 0 2097152 s.len (omega arith) s.len_fits (omega arith) in
+    rw (s.words, named, at, len) (last s.wait ∙ ap Some (sym s.asks))
+  where
+    last : (wait : Bool) → ended (flag (codes "nowait") (flag_words (codes "nowait") (not wait))).1 (action.CopyRead s.file s.at s.len (not (flag (codes "nowait") (flag_words (codes "nowait") (not wait))).0)) ≡ Some (action.CopyRead s.file s.at s.len wait)
+    last true = refl
+    last false = refl
+
+pub reads_spell : (streams : List StreamLine) (ws : List (List ℕ)) (asked : Action) → (copy_read_of streams ws ≡ Some asked) ↔ IsReadSpelling streams ws asked
+reads_spell streams ws asked = (read_spelled streams ws asked, read_read streams ws asked)
+
+-- the words of a quota
+record QuotaWords (ws : List (List ℕ)) (quota : ℕ) (more : List (List ℕ)) : Type 0 where
+  own : List (List ℕ)
+  words : ws ≡ own ++ more
+  spells : SpellsQuota quota own
+
+quota_spelled : (ws : List (List ℕ)) (quota : ℕ) (more : List (List ℕ)) → quota_of ws ≡ Some (quota, more) → QuotaWords ws quota more
+unfolding quota_of
+quota_spelled ws quota more e = either (flag (codes "quota") ws).0 (flag_spelled (codes "quota") ws) e
+  where
+    either : (t : Bool) → ws ≡ flag_words (codes "quota") t ++ (flag (codes "quota") ws).1 → (if t then next (number_between 8 64) (flag (codes "quota") ws).1 else Some (16, ws)) ≡ Some (quota, more) → QuotaWords ws quota more
+    either true words g =
+        let w = next-gives (number_between 8 64) (flag (codes "quota") ws).1 quota more g in
+        let b = between-gives 8 64 w.word quota w.reads in
+        let text : w.word ≡ decimal quota = (decimal-number_of w.word quota b.number).1 in
+        record {
+          own = codes "quota" ∷ decimal quota ∷ [];
+          words = words ∙ ap (codes "quota" ∷◌) (w.words ∙ ap (λ (word : List ℕ). word ∷ more) text);
+          spells = inr (b.least, b.most, refl);
+        }
+    either false words g =
+        let pair : (let it : ℕ × List (List ℕ) = (16, ws) in it) ≡ (quota, more) = cc in
+        record {
+          own = [];
+          words = ap (λ (it : ℕ × List (List ℕ)). it.1) pair;
+          spells = inl (sym (ap (λ (it : ℕ × List (List ℕ)). it.0) pair), refl);
+        }
+
+-- and they are read so before the flag at the end of the line
+quota_read : (quota : ℕ) (own : List (List ℕ)) (temporary : Bool) → SpellsQuota quota own → quota_of (own ++ flag_words (codes "temporary") temporary) ≡ Some (quota, flag_words (codes "temporary") temporary)
+unfolding quota_of
+quota_read quota own true (inl none) = rw (none.0, none.1) refl
+quota_read quota own false (inl none) = rw (none.0, none.1) refl
+quota_read quota own temporary (inr said) =
+    let read : number_between 8 64 (decimal quota) ≡ Some quota = between-decimal 8 64 quota said.0 said.1 (omega arith) in
+    rw (said.2, read) refl
+
+stream_spelled : (n : ℕ) (ws : List (List ℕ)) (stream : StreamLine) → stream_of n ws ≡ Some stream → IsStreamSpelling n ws stream
+unfolding stream_of name_of
+stream_spelled n ws stream e =
+    let name = then-gives (next name_of ws) _ stream e in
+    let size = then-gives (next number_of name.0.1) _ stream name.2 in
+    let valid = then-gives (next number_of size.0.1) _ stream size.2 in
+    let quota = then-gives (quota_of valid.0.1) _ stream valid.2 in
+    let is_set = (flag (codes "temporary") quota.0.1).0 in
+    let end = ended-gives _ _ stream quota.2 in
+    let m = next-gives name_of ws name.0.0 name.0.1 name.1 in
+    let s = next-gives number_of name.0.1 size.0.0 size.0.1 size.1 in
+    let v = next-gives number_of size.0.1 valid.0.0 valid.0.1 valid.1 in
+    let q = quota_spelled valid.0.1 quota.0.0 quota.0.1 quota.1 in
+    let named = if-gives (is_name m.word) (Some m.word) name.0.0 m.reads in
+    let same_name : m.word ≡ name.0.0 = same_Some m.word name.0.0 named.1 in
+    let size_is = decimal-number_of s.word size.0.0 s.reads in
+    let valid_is = decimal-number_of v.word valid.0.0 v.reads in
+    let last : quota.0.1 ≡ flag_words (codes "temporary") is_set ++ [] = flag_spelled (codes "temporary") quota.0.1 ∙ ap (flag_words (codes "temporary") is_set ++◌) end.0 in
+    subst (IsStreamSpelling n ws) end.1
+    (record {
+      quota_words = q.own;
+      words = m.words ∙ rw same_name (ap (name.0.0 ∷◌) (s.words ∙ rw size_is.1 (ap (decimal size.0.0 ∷◌) (v.words ∙ rw valid_is.1 (ap (decimal valid.0.0 ∷◌) (q.words ∙ ap (q.own ++◌) (last ∙ flag_end is_set)))))));
+      quota = q.spells;
+      name = ap is_name (sym same_name) ∙ named.0;
+      size = size_is.0;
+      valid = valid_is.0;
+      line = refl;
+      log = refl;
+    })
+  where
+    flag_end : (t : Bool) → flag_words (codes "temporary") t ++ [] ≡ flag_words (codes "temporary") t
+    flag_end true = refl
+    flag_end false = refl
+
+stream_read : (n : ℕ) (ws : List (List ℕ)) (stream : StreamLine) → IsStreamSpelling n ws stream → stream_of n ws ≡ Some stream
+unfolding stream_of name_of
+stream_read n ws stream s =
+    let named : is_name stream.name ≡ true = s.name in
+    let size : number_of (decimal stream.size) ≡ Some stream.size = number_of-decimal stream.size s.size in
+    let valid : number_of (decimal stream.valid) ≡ Some stream.valid = number_of-decimal stream.valid s.valid in
+    let quota = quota_read stream.quota s.quota_words stream.temporary s.quota in
+    rw (s.words, named, size, valid, quota) (last stream.temporary ∙ ap Some same)
+  where
+    last : (t : Bool) → ended (flag (codes "temporary") (flag_words (codes "temporary") t)).1 (let made : StreamLine = record { line = n; name = stream.name; size = stream.size; valid = stream.valid; quota = stream.quota; temporary = (flag (codes "temporary") (flag_words (codes "temporary") t)).0; log = None } in made) ≡ Some (let made : StreamLine = record { line = n; name = stream.name; size = stream.size; valid = stream.valid; quota = stream.quota; temporary = t; log = None } in made)
+    last true = refl
+    last false = refl
+
+    same : (let made : StreamLine = record { line = n; name = stream.name; size = stream.size; valid = stream.valid; quota = stream.quota; temporary = stream.temporary; log = None } in made) ≡ stream
+    same = rw (← s.line, ← s.log) refl
+
+pub streams_spell : (n : ℕ) (ws : List (List ℕ)) (stream : StreamLine) → (stream_of n ws ≡ Some stream) ↔ IsStreamSpelling n ws stream
+streams_spell n ws stream = (stream_spelled n ws stream, stream_read n ws stream)

@@ -1,0 +1,473 @@
+-- Every script of the grammar keeps within its offer.
+use Rattle.std.proofs.Common.{◌≡◌, ℕ, zero, suc, ◌+◌, ◌<◌, ◌≤◌, ◌==◌, Bool, true, false, ◌&&◌, not, Some, None, Option, Result, Ok, Err, IfOk, List, [], ◌∷◌, ◌++◌, length, nat_lt, nat_le, if◌then◌else◌, slice_index, codes, refl, ap, sym, ◌∙◌, subst, length-append, lit≤, arith}
+use Rattle.std.specs.List.{AllByRecursion, list_all, AllPairs, slice_index_or}
+use Rattle.std.specs.Str.Lines.{strip_carriage_return}
+use Rattle.std.proofs.lemmas.List.{nil_from_length}
+use Rattle.std.proofs.lemmas.Bool.Decides.{nat_tests}
+use Rattle.cc_script.specs.declared.script.Mode.{Mode}
+use Rattle.cc_script.specs.declared.script.Offer.{Offer}
+use Rattle.cc_script.specs.declared.script.Script.{Script}
+use Rattle.cc_script.specs.declared.script.StreamLine.{StreamLine}
+use Rattle.cc_script.specs.declared.script.Action.{Action}
+use Rattle.cc_script.specs.declared.script.Action.TheVariants as action
+use Rattle.cc_script.specs.declared.script.ActionLine.{ActionLine}
+use Rattle.cc_script.specs.declared.verb.Verb.{Verb}
+use Rattle.cc_script.specs.declared.verb.Verb.TheVariants as verb
+use Rattle.cc_script.specs.declared.reading.Reading.{Reading}
+use Rattle.cc_script.specs.Text.{lines, words}
+use Rattle.cc_script.specs.Words.{number_of, number_between, name_of, bytes_of, caller_of}
+use Rattle.cc_script.specs.Verbs.{is_offered, verb_in}
+use Rattle.cc_script.specs.Actions.{next, flag, ended, file_of, span_of, copy_read_of, copy_write_of, zero_of, set_sizes_of, state_of, flush_span_of, flush_of, action_of, bytes_moved}
+use Rattle.cc_script.specs.Grammar.{nothing_read, may_add, with_stream, quota_of, stream_of, setting_of, with_journal, with_threshold, with_phase, placed, with_action, action_line, verb_line, called_line, uncalled_line, line_by, words_line, is_printable, text_line, line_of, or_wrong, lines_of, script_of}
+use Rattle.cc_script.specs.declared.script.ScriptFault.{ScriptFault}
+use Rattle.cc_script.specs.Answers.{Reads}
+use Rattle.cc_script.specs.Within.{IsActionWithin, verb_of_action, IsStreamWithin, IsLineWithin, PhasesAscend, IsWithin}
+use Rattle.cc_script.proofs.Steps.{then-gives, if-gives, both, next-gives, ended-gives, between-gives, caller-gives, verb-gives, file-gives, bytes-give}
+
+-- an action that is read by a verb
+record IsRead (streams : List StreamLine) (v : Verb) (a : Action) : Type 0 where
+  file : IsActionWithin streams a
+  moved : bytes_moved a ≤ 2097152
+  verb_is : verb_of_action a ≡ v
+
+copy_read-gives : (streams : List StreamLine) (ws : List (List ℕ)) (a : Action) → copy_read_of streams ws ≡ Some a → IsRead streams verb.CopyRead a
+unfolding copy_read_of
+copy_read-gives streams ws a e =
+    let file = then-gives (next (file_of streams) ws) _ a e in
+    let at = then-gives (next number_of file.0.1) _ a file.2 in
+    let len = then-gives (next (number_between 0 2097152) at.0.1) _ a at.2 in
+    let end = ended-gives _ _ a len.2 in
+    let f = next-gives (file_of streams) ws file.0.0 file.0.1 file.1 in
+    let l = next-gives (number_between 0 2097152) at.0.1 len.0.0 len.0.1 len.1 in
+    let b = between-gives 0 2097152 l.word len.0.0 l.reads in
+    subst (IsRead streams verb.CopyRead) end.1
+    (record { file = file-gives streams f.word file.0.0 f.reads; moved = b.most; verb_is = refl })
+
+copy_write-gives : (streams : List StreamLine) (ws : List (List ℕ)) (a : Action) → copy_write_of streams ws ≡ Some a → IsRead streams verb.CopyWrite a
+unfolding copy_write_of
+copy_write-gives streams ws a e =
+    let file = then-gives (next (file_of streams) ws) _ a e in
+    let at = then-gives (next number_of file.0.1) _ a file.2 in
+    let bytes = then-gives (next bytes_of at.0.1) _ a at.2 in
+    let end = ended-gives _ _ a bytes.2 in
+    let f = next-gives (file_of streams) ws file.0.0 file.0.1 file.1 in
+    let b = next-gives bytes_of at.0.1 bytes.0.0 bytes.0.1 bytes.1 in
+    subst (IsRead streams verb.CopyWrite) end.1
+    (record { file = file-gives streams f.word file.0.0 f.reads; moved = bytes-give b.word bytes.0.0 b.reads; verb_is = refl })
+
+zero-gives : (streams : List StreamLine) (ws : List (List ℕ)) (a : Action) → zero_of streams ws ≡ Some a → IsRead streams verb.Zero a
+unfolding zero_of
+zero-gives streams ws a e =
+    let file = then-gives (next (file_of streams) ws) _ a e in
+    let span = then-gives (span_of file.0.1) _ a file.2 in
+    let end = ended-gives _ _ a span.2 in
+    let f = next-gives (file_of streams) ws file.0.0 file.0.1 file.1 in
+    subst (IsRead streams verb.Zero) end.1
+    (record { file = file-gives streams f.word file.0.0 f.reads; moved = omega arith; verb_is = refl })
+
+set_sizes-gives : (streams : List StreamLine) (ws : List (List ℕ)) (a : Action) → set_sizes_of streams ws ≡ Some a → IsRead streams verb.SetSizes a
+unfolding set_sizes_of
+set_sizes-gives streams ws a e =
+    let file = then-gives (next (file_of streams) ws) _ a e in
+    let allocation = then-gives (next number_of file.0.1) _ a file.2 in
+    let size = then-gives (next number_of allocation.0.1) _ a allocation.2 in
+    let end = ended-gives _ _ a size.2 in
+    let f = next-gives (file_of streams) ws file.0.0 file.0.1 file.1 in
+    subst (IsRead streams verb.SetSizes) end.1
+    (record { file = file-gives streams f.word file.0.0 f.reads; moved = omega arith; verb_is = refl })
+
+state-gives : (streams : List StreamLine) (ws : List (List ℕ)) (a : Action) → state_of streams ws ≡ Some a → IsRead streams verb.State a
+unfolding state_of
+state-gives streams ws a e =
+    let file = then-gives (next (file_of streams) ws) _ a e in
+    let end = ended-gives _ _ a file.2 in
+    let f = next-gives (file_of streams) ws file.0.0 file.0.1 file.1 in
+    subst (IsRead streams verb.State) end.1
+    (record { file = file-gives streams f.word file.0.0 f.reads; moved = omega arith; verb_is = refl })
+
+flush-gives : (streams : List StreamLine) (ws : List (List ℕ)) (a : Action) → flush_of streams ws ≡ Some a → IsRead streams verb.Flush a
+unfolding flush_of
+flush-gives streams ws a e =
+    let file = then-gives (next (file_of streams) ws) _ a e in
+    let span = then-gives (flush_span_of file.0.1) _ a file.2 in
+    let f = next-gives (file_of streams) ws file.0.0 file.0.1 file.1 in
+    let same : action.Flush file.0.0 span.0 ≡ a = cc in
+    subst (IsRead streams verb.Flush) same
+    (record { file = file-gives streams f.word file.0.0 f.reads; moved = omega arith; verb_is = refl })
+
+is_dirty-gives : (streams : List StreamLine) (ws : List (List ℕ)) (a : Action) → ended ws action.IsDirtyData ≡ Some a → IsRead streams verb.IsDirtyData a
+is_dirty-gives streams ws a e =
+    subst (IsRead streams verb.IsDirtyData) (ended-gives ws action.IsDirtyData a e).1
+    (record { file = tt; moved = omega arith; verb_is = refl })
+
+-- an action keeps within what a line may name and move, and is of the verb that it is read by
+action-gives : (streams : List StreamLine) (v : Verb) (ws : List (List ℕ)) (a : Action) → action_of streams v ws ≡ Some a → IsRead streams v a
+unfolding action_of
+action-gives streams verb.CopyRead ws a e = copy_read-gives streams ws a e
+action-gives streams verb.CopyWrite ws a e = copy_write-gives streams ws a e
+action-gives streams verb.Zero ws a e = zero-gives streams ws a e
+action-gives streams verb.SetSizes ws a e = set_sizes-gives streams ws a e
+action-gives streams verb.State ws a e = state-gives streams ws a e
+action-gives streams verb.Flush ws a e = flush-gives streams ws a e
+action-gives streams verb.IsDirtyData ws a e = is_dirty-gives streams ws a e
+action-gives streams verb.Stream ws a e = absurd (cc)
+action-gives streams verb.Journal ws a e = absurd (cc)
+action-gives streams verb.Threshold ws a e = absurd (cc)
+action-gives streams verb.Phase ws a e = absurd (cc)
+
+-- a quota is in its range
+quota-gives : (ws : List (List ℕ)) (q : ℕ) (more : List (List ℕ)) → quota_of ws ≡ Some (q, more) → (8 ≤ q) × (q ≤ 64)
+unfolding quota_of
+quota-gives ws q more e = either (flag (codes "quota") ws).0 e
+  where
+    either : (t : Bool) → (if t then next (number_between 8 64) (flag (codes "quota") ws).1 else Some (16, ws)) ≡ Some (q, more) → (8 ≤ q) × (q ≤ 64)
+    either true g =
+        let w = next-gives (number_between 8 64) (flag (codes "quota") ws).1 q more g in
+        let b = between-gives 8 64 w.word q w.reads in (b.least, b.most)
+    either false g =
+        let pair : (let it : ℕ × List (List ℕ) = (16, ws) in it) ≡ (q, more) = cc in
+        let same : 16 ≡ q = ap (λ (it : ℕ × List (List ℕ)). it.0) pair in (omega (arith, same), omega (arith, same))
+
+record IsStreamRead (stream : StreamLine) : Type 0 where
+  least_quota : 8 ≤ stream.quota
+  most_quota : stream.quota ≤ 64
+  unlogged : stream.log ≡ None
+
+stream-gives : (n : ℕ) (ws : List (List ℕ)) (stream : StreamLine) → stream_of n ws ≡ Some stream → IsStreamRead stream
+unfolding stream_of
+stream-gives n ws stream e =
+    let name = then-gives (next name_of ws) _ stream e in
+    let size = then-gives (next number_of name.0.1) _ stream name.2 in
+    let valid = then-gives (next number_of size.0.1) _ stream size.2 in
+    let quota = then-gives (quota_of valid.0.1) _ stream valid.2 in
+    let end = ended-gives _ _ stream quota.2 in
+    let q = quota-gives valid.0.1 quota.0.0 quota.0.1 quota.1 in
+    subst IsStreamRead end.1 (record { least_quota = q.0; most_quota = q.1; unlogged = refl })
+
+-- a number that is set is in its range
+setting-gives : (low high : ℕ) (ws : List (List ℕ)) (n : ℕ) → setting_of low high ws ≡ Some n → (low ≤ n) × (n ≤ high)
+unfolding setting_of
+setting-gives low high ws n e =
+    let found = then-gives (next (number_between low high) ws) _ n e in
+    let end = ended-gives _ _ n found.2 in
+    let w = next-gives (number_between low high) ws found.0.0 found.0.1 found.1 in
+    let b = between-gives low high w.word found.0.0 w.reads in
+    (omega (arith, end.1, b.least), omega (arith, end.1, b.most))
+
+-- of lists
+all-onto : {A : Type 0} (P : A → Type 0) (xs : List A) (x : A) → AllByRecursion P xs → P x → AllByRecursion P (xs ++ x ∷ [])
+all-onto P [] x all is = (is, tt)
+all-onto P (y ∷ xs) x all is = (all.0, all-onto P xs x all.1 is)
+
+all-weaker : {A : Type 0} (P Q : A → Type 0) → ((x : A) → P x → Q x) → (xs : List A) → AllByRecursion P xs → AllByRecursion Q xs
+all-weaker P Q more [] all = tt
+all-weaker P Q more (x ∷ xs) all = (more x all.0, all-weaker P Q more xs all.1)
+
+-- a line of the last phase may follow
+ascend-onto : (offer : Offer) (streams : List StreamLine) (from : ℕ) (lines : List ActionLine) (line : ActionLine) → from ≤ line.phase → AllByRecursion (IsLineWithin offer streams line.phase) lines → PhasesAscend from lines → PhasesAscend from (lines ++ line ∷ [])
+ascend-onto offer streams from [] line low all order = (low, tt)
+ascend-onto offer streams from (first ∷ lines) line low all order =
+    (order.0, ascend-onto offer streams first.phase lines line all.0.last_phase all.1 order.1)
+
+-- The script so far keeps within the offer, and has no more lines than were read.
+record IsSoFar (offer : Offer) (n : ℕ) (r : Reading) : Type 0 where
+  within : IsWithin offer r.script
+  few : length r.script.lines ≤ n
+
+nothing-so_far : (offer : Offer) → IsSoFar offer 0 nothing_read
+nothing-so_far offer =
+    record {
+      within = record {
+        header = record {
+          least_journal = lit≤ tt;
+          most_journal = lit≤ tt;
+          least_threshold = lit≤ tt;
+          most_threshold = lit≤ tt;
+          no_ticks = refl;
+          no_aheads = refl;
+        };
+        first_phase = lit≤ tt;
+        last_phase = lit≤ tt;
+        few_streams = omega arith;
+        streams = tt;
+        few_lines = lit≤ tt;
+        lines = tt;
+        in_order = tt;
+      };
+      few = lit≤ tt;
+    }
+
+-- a line that adds no action leaves room for it
+later : (offer : Offer) (n : ℕ) (r : Reading) → IsSoFar offer n r → IsSoFar offer (n + 1) r
+later offer n r is = record { within = is.within; few = let few = is.few in omega (arith, few) }
+
+no_lines : (xs : List ActionLine) → (length xs == 0) ≡ true → xs ≡ []
+no_lines xs e = let z : length xs ≡ 0 = grind (arith, nat_tests, e) in nil_from_length xs z
+
+stream-so_far : (offer : Offer) (n : ℕ) (stream : StreamLine) (r new : Reading) → IsStreamRead stream → IsSoFar offer n r → with_stream stream r ≡ Some new → IsSoFar offer n new
+unfolding with_stream may_add
+stream-so_far offer n stream r new read is e =
+    let t = if-gives (may_add stream r) _ new e in
+    let none = both (length r.script.lines == 0) _ t.0 in
+    let room = both (nat_lt (length r.script.streams) 16) _ none.1 in
+    let w = is.within in
+    let below : length r.script.streams < 16 = grind (arith, nat_tests, room.0) in
+    let len : length (r.script.streams ++ stream ∷ []) ≡ length r.script.streams + 1 = length-append r.script.streams (stream ∷ []) in
+    let empty : r.script.lines ≡ [] = no_lines r.script.lines none.0 in
+    let same : (let made : Reading = record r { script = record r.script { streams = r.script.streams ++ stream ∷ [] } } in made) ≡ new = cc in
+    let one : IsStreamWithin stream = record { least_quota = read.least_quota; most_quota = read.most_quota; unlogged = read.unlogged } in
+    subst (IsSoFar offer n) same
+    (record {
+      within = record {
+        header = record {
+          least_journal = w.header.least_journal;
+          most_journal = w.header.most_journal;
+          least_threshold = w.header.least_threshold;
+          most_threshold = w.header.most_threshold;
+          no_ticks = w.header.no_ticks;
+          no_aheads = w.header.no_aheads;
+        };
+        first_phase = w.first_phase;
+        last_phase = w.last_phase;
+        few_streams = omega (arith, len, below);
+        streams = all-onto IsStreamWithin r.script.streams stream w.streams one;
+        few_lines = w.few_lines;
+        lines = subst (AllByRecursion (IsLineWithin offer (r.script.streams ++ stream ∷ []) r.script.phases)) (sym empty) tt;
+        in_order = w.in_order;
+      };
+      few = is.few;
+    })
+
+journal-so_far : (offer : Offer) (n capacity : ℕ) (r new : Reading) → (64 ≤ capacity) × (capacity ≤ 1048576) → IsSoFar offer n r → with_journal capacity r ≡ Some new → IsSoFar offer n new
+unfolding with_journal
+journal-so_far offer n capacity r new range is e =
+    let w = is.within in
+    let made : Reading = record r { script = record r.script { journal = capacity }; has_journal = true } in
+    let t = if-gives ((length r.script.lines == 0) && not r.has_journal) (Some made) new e in
+    let same : made ≡ new = cc in
+    subst (IsSoFar offer n) same
+    (record {
+      within = record {
+        header = record {
+          least_journal = range.0;
+          most_journal = range.1;
+          least_threshold = w.header.least_threshold;
+          most_threshold = w.header.most_threshold;
+          no_ticks = w.header.no_ticks;
+          no_aheads = w.header.no_aheads;
+        };
+        first_phase = w.first_phase;
+        last_phase = w.last_phase;
+        few_streams = w.few_streams;
+        streams = w.streams;
+        few_lines = w.few_lines;
+        lines = w.lines;
+        in_order = w.in_order;
+      };
+      few = is.few;
+    })
+
+threshold-so_far : (offer : Offer) (n pages : ℕ) (r new : Reading) → (1 ≤ pages) × (pages ≤ 16384) → IsSoFar offer n r → with_threshold pages r ≡ Some new → IsSoFar offer n new
+unfolding with_threshold
+threshold-so_far offer n pages r new range is e =
+    let w = is.within in
+    let made : Reading = record r { script = record r.script { threshold = pages }; has_threshold = true } in
+    let t = if-gives ((length r.script.lines == 0) && not r.has_threshold) (Some made) new e in
+    let same : made ≡ new = cc in
+    subst (IsSoFar offer n) same
+    (record {
+      within = record {
+        header = record {
+          least_journal = w.header.least_journal;
+          most_journal = w.header.most_journal;
+          least_threshold = range.0;
+          most_threshold = range.1;
+          no_ticks = w.header.no_ticks;
+          no_aheads = w.header.no_aheads;
+        };
+        first_phase = w.first_phase;
+        last_phase = w.last_phase;
+        few_streams = w.few_streams;
+        streams = w.streams;
+        few_lines = w.few_lines;
+        lines = w.lines;
+        in_order = w.in_order;
+      };
+      few = is.few;
+    })
+
+-- a line keeps within one phase more
+one_phase-more : (offer : Offer) (streams : List StreamLine) (phases : ℕ) (line : ActionLine) → IsLineWithin offer streams phases line → IsLineWithin offer streams (phases + 1) line
+one_phase-more offer streams phases line is =
+    let last = is.last_phase in
+    record {
+      first_caller = is.first_caller;
+      last_caller = is.last_caller;
+      first_phase = is.first_phase;
+      last_phase = omega (arith, last);
+      file = is.file;
+      moved = is.moved;
+      verb_offered = is.verb_offered;
+    }
+
+phase-so_far : (offer : Offer) (n : ℕ) (ws : List (List ℕ)) (r new : Reading) → IsSoFar offer n r → with_phase ws r ≡ Some new → IsSoFar offer n new
+unfolding with_phase
+phase-so_far offer n ws r new is e =
+    let t = if-gives ((length ws == 0) && nat_le r.script.phases 1000) _ new e in
+    let w = is.within in
+    let first = w.first_phase in
+    let below : r.script.phases ≤ 1000 = grind (arith, nat_tests, (both (length ws == 0) (nat_le r.script.phases 1000) t.0).1) in
+    let same : (let made : Reading = record r { script = record r.script { phases = r.script.phases + 1 } } in made) ≡ new = cc in
+    subst (IsSoFar offer n) same
+    (record {
+      within = record {
+        header = record {
+          least_journal = w.header.least_journal;
+          most_journal = w.header.most_journal;
+          least_threshold = w.header.least_threshold;
+          most_threshold = w.header.most_threshold;
+          no_ticks = w.header.no_ticks;
+          no_aheads = w.header.no_aheads;
+        };
+        first_phase = omega (arith, first);
+        last_phase = omega (arith, below);
+        few_streams = w.few_streams;
+        streams = w.streams;
+        few_lines = w.few_lines;
+        lines = all-weaker (IsLineWithin offer r.script.streams r.script.phases) (IsLineWithin offer r.script.streams (r.script.phases + 1)) (one_phase-more offer r.script.streams r.script.phases) r.script.lines w.lines;
+        in_order = w.in_order;
+      };
+      few = is.few;
+    })
+
+-- a line of a caller's action, by a verb that is offered
+action-so_far : (offer : Offer) (n line caller : ℕ) (v : Verb) (ws : List (List ℕ)) (r new : Reading) → n < 65536 → (1 ≤ caller) × (caller ≤ 16) → is_offered offer v ≡ true → IsSoFar offer n r → action_line line caller v ws r ≡ Some new → IsSoFar offer (n + 1) new
+unfolding action_line with_action
+action-so_far offer n line caller v ws r new room range offered is e =
+    let found = then-gives (action_of r.script.streams v ws) _ new e in
+    let a = found.0 in
+    let read = action-gives r.script.streams v ws a found.1 in
+    let t = if-gives (nat_le (r.total + bytes_moved a) 33554432) _ new found.2 in
+    let w = is.within in
+    let few = is.few in
+    let last : ActionLine = placed line caller a r in
+    let len : length (r.script.lines ++ last ∷ []) ≡ length r.script.lines + 1 = length-append r.script.lines (last ∷ []) in
+    let same : (let made : Reading = record r { script = record r.script { lines = r.script.lines ++ last ∷ [] }; total = r.total + bytes_moved a } in made) ≡ new = cc in
+    let one : IsLineWithin offer r.script.streams r.script.phases last = record {
+      first_caller = range.0;
+      last_caller = range.1;
+      first_phase = w.first_phase;
+      last_phase = omega arith;
+      file = read.file;
+      moved = read.moved;
+      verb_offered = ap (is_offered offer) read.verb_is ∙ offered;
+    } in
+    subst (IsSoFar offer (n + 1)) same
+    (record {
+      within = record {
+        header = record {
+          least_journal = w.header.least_journal;
+          most_journal = w.header.most_journal;
+          least_threshold = w.header.least_threshold;
+          most_threshold = w.header.most_threshold;
+          no_ticks = w.header.no_ticks;
+          no_aheads = w.header.no_aheads;
+        };
+        first_phase = w.first_phase;
+        last_phase = w.last_phase;
+        few_streams = w.few_streams;
+        streams = w.streams;
+        few_lines = omega (arith, len, few, room);
+        lines = all-onto (IsLineWithin offer r.script.streams r.script.phases) r.script.lines last w.lines one;
+        in_order = ascend-onto offer r.script.streams 1 r.script.lines last w.first_phase w.lines w.in_order;
+      };
+      few = omega (arith, len, few);
+    })
+
+verb-so_far : (offer : Offer) (n line : ℕ) (v : Verb) (ws : List (List ℕ)) (r new : Reading) → n < 65536 → is_offered offer v ≡ true → IsSoFar offer n r → verb_line line v ws r ≡ Some new → IsSoFar offer (n + 1) new
+unfolding verb_line
+verb-so_far offer n line verb.Stream ws r new room offered is e =
+    let found = then-gives (stream_of line ws) _ new e in
+    later offer n new (stream-so_far offer n found.0 r new (stream-gives line ws found.0 found.1) is found.2)
+verb-so_far offer n line verb.Journal ws r new room offered is e =
+    let found = then-gives (setting_of 64 1048576 ws) _ new e in
+    later offer n new (journal-so_far offer n found.0 r new (setting-gives 64 1048576 ws found.0 found.1) is found.2)
+verb-so_far offer n line verb.Threshold ws r new room offered is e =
+    let found = then-gives (setting_of 1 16384 ws) _ new e in
+    later offer n new (threshold-so_far offer n found.0 r new (setting-gives 1 16384 ws found.0 found.1) is found.2)
+verb-so_far offer n line verb.Phase ws r new room offered is e = later offer n new (phase-so_far offer n ws r new is e)
+verb-so_far offer n line verb.CopyRead ws r new room offered is e = action-so_far offer n line 1 verb.CopyRead ws r new room (lit≤ tt, lit≤ tt) offered is e
+verb-so_far offer n line verb.CopyWrite ws r new room offered is e = action-so_far offer n line 1 verb.CopyWrite ws r new room (lit≤ tt, lit≤ tt) offered is e
+verb-so_far offer n line verb.Zero ws r new room offered is e = action-so_far offer n line 1 verb.Zero ws r new room (lit≤ tt, lit≤ tt) offered is e
+verb-so_far offer n line verb.SetSizes ws r new room offered is e = action-so_far offer n line 1 verb.SetSizes ws r new room (lit≤ tt, lit≤ tt) offered is e
+verb-so_far offer n line verb.State ws r new room offered is e = action-so_far offer n line 1 verb.State ws r new room (lit≤ tt, lit≤ tt) offered is e
+verb-so_far offer n line verb.Flush ws r new room offered is e = action-so_far offer n line 1 verb.Flush ws r new room (lit≤ tt, lit≤ tt) offered is e
+verb-so_far offer n line verb.IsDirtyData ws r new room offered is e = action-so_far offer n line 1 verb.IsDirtyData ws r new room (lit≤ tt, lit≤ tt) offered is e
+
+-- a line by a caller, or without a caller word
+by-so_far : (offer : Offer) (mode : Mode) (n line : ℕ) (caller : Option ℕ) (word : List ℕ) (more : List (List ℕ)) (r new : Reading) → n < 65536 → caller_of word ≡ caller → IsSoFar offer n r → line_by offer mode line caller word more r ≡ Some new → IsSoFar offer (n + 1) new
+unfolding called_line uncalled_line
+by-so_far offer mode n line (Some caller) word more r new room by is e =
+    let c = caller-gives word caller by in
+    let found = then-gives (next (verb_in offer mode) more) _ new e in
+    let w = next-gives (verb_in offer mode) more found.0.0 found.0.1 found.1 in
+    action-so_far offer n line caller found.0.0 found.0.1 r new room c (verb-gives offer mode w.word found.0.0 w.reads) is found.2
+by-so_far offer mode n line None word more r new room by is e =
+    let found = then-gives (next (verb_in offer mode) (word ∷ more)) _ new e in
+    let w = next-gives (verb_in offer mode) (word ∷ more) found.0.0 found.0.1 found.1 in
+    verb-so_far offer n line found.0.0 found.0.1 r new room (verb-gives offer mode w.word found.0.0 w.reads) is found.2
+
+words-so_far : (offer : Offer) (mode : Mode) (n line : ℕ) (ws : List (List ℕ)) (r new : Reading) → n < 65536 → IsSoFar offer n r → words_line offer mode line ws r ≡ Some new → IsSoFar offer (n + 1) new
+unfolding words_line
+words-so_far offer mode n line [] r new room is e = let same : r ≡ new = cc in subst (IsSoFar offer (n + 1)) same (later offer n r is)
+words-so_far offer mode n line (word ∷ more) r new room is e = by-so_far offer mode n line (caller_of word) word more r new room refl is e
+
+text-so_far : (offer : Offer) (mode : Mode) (n line : ℕ) (text : List ℕ) (r new : Reading) → n < 65536 → IsSoFar offer n r → text_line offer mode line text r ≡ Some new → IsSoFar offer (n + 1) new
+unfolding text_line
+text-so_far offer mode n line text r new room is e = either (slice_index text 0 == 35) (if-gives (list_all is_printable text) _ new e).1
+  where
+    either : (t : Bool) → (if t then Some r else words_line offer mode line (words text) r) ≡ Some new → IsSoFar offer (n + 1) new
+    either true g = let same : r ≡ new = cc in subst (IsSoFar offer (n + 1)) same (later offer n r is)
+    either false g = words-so_far offer mode n line (words text) r new room is g
+
+line-so_far : (offer : Offer) (mode : Mode) (n line : ℕ) (bytes : List ℕ) (r new : Reading) → n < 65536 → IsSoFar offer n r → line_of offer mode line bytes r ≡ Some new → IsSoFar offer (n + 1) new
+unfolding line_of
+line-so_far offer mode n line bytes r new room is e = text-so_far offer mode n line (strip_carriage_return bytes) r new room is e
+
+lines-within : (offer : Offer) (mode : Mode) (n : ℕ) (ls : List (List ℕ)) (r : Reading) (script : Script) → IsSoFar offer n r → lines_of offer mode n ls r ≡ Ok script → IsWithin offer script
+unfolding lines_of
+lines-within offer mode n [] r script is e = let same : r.script ≡ script = cc in subst (IsWithin offer) same is.within
+lines-within offer mode n (line ∷ more) r script is e = either (nat_lt n 65536) refl e (λ new. lines-within offer mode (n + 1) more new script)
+  where
+    on : (o : Option Reading) → line_of offer mode (n + 1) line r ≡ o → n < 65536 → or_wrong (n + 1) o (λ next. lines_of offer mode (n + 1) more next) ≡ Ok script → ((new : Reading) → IsSoFar offer (n + 1) new → lines_of offer mode (n + 1) more new ≡ Ok script → IsWithin offer script) → IsWithin offer script
+    on None f room g go = absurd (cc)
+    on (Some new) f room g go = go new (line-so_far offer mode n (n + 1) line r new room is f) g
+
+    either : (t : Bool) → nat_lt n 65536 ≡ t → (if t then or_wrong (n + 1) (line_of offer mode (n + 1) line r) (λ next. lines_of offer mode (n + 1) more next) else Err (n + 1)) ≡ Ok script → ((new : Reading) → IsSoFar offer (n + 1) new → lines_of offer mode (n + 1) more new ≡ Ok script → IsWithin offer script) → IsWithin offer script
+    either true f g go = on (line_of offer mode (n + 1) line r) refl (grind (arith, nat_tests, f)) g go
+    either false f g go = absurd (cc)
+
+pub script-within : (offer : Offer) (mode : Mode) (bytes : List ℕ) (script : Script) → script_of offer mode bytes ≡ Ok script → IsWithin offer script
+unfolding script_of
+script-within offer mode bytes script e = lines-within offer mode 0 (lines bytes) nothing_read script (nothing-so_far offer) e
+
+-- so what is read does
+pub reads-within : (offer : Offer) (mode : Mode) (bytes : List ℕ) (answer : Result Script ScriptFault) → Reads (script_of offer mode bytes) answer → IfOk answer (IsWithin offer)
+reads-within offer mode bytes (Ok script) reads = script-within offer mode bytes script reads
+reads-within offer mode bytes (Err why) reads = tt
+
+-- a line is of no earlier phase than the one from which they ascend
+phase-from : (from : ℕ) (lines : List ActionLine) (i : ℕ) (d : ActionLine) → i < length lines → PhasesAscend from lines → from ≤ (slice_index_or lines i d).phase
+phase-from from [] i d low order = absurd (omega (arith, low))
+phase-from from (line ∷ lines) zero d low order = order.0
+phase-from from (line ∷ lines) (suc i) d low order =
+    let behind : line.phase ≤ (slice_index_or lines i d).phase = phase-from line.phase lines i d (omega (arith, low)) order.1 in
+    omega (arith, order.0, behind)
+
+pub phases-rise : (from : ℕ) (lines : List ActionLine) → PhasesAscend from lines → AllPairs (λ first later. first.phase ≤ later.phase) lines
+phases-rise from [] order i j d before low = absurd (omega (arith, low))
+phases-rise from (line ∷ lines) order zero zero d before low = absurd (omega (arith, before))
+phases-rise from (line ∷ lines) order zero (suc j) d before low = phase-from line.phase lines j d (omega (arith, low)) order.1
+phases-rise from (line ∷ lines) order (suc i) zero d before low = absurd (omega (arith, before))
+phases-rise from (line ∷ lines) order (suc i) (suc j) d before low =
+    phases-rise line.phase lines order.1 i j d (omega (arith, before)) (omega (arith, low))

@@ -1,0 +1,8 @@
+use Rattle.cc_script.proofs.Within.{script-within, phases-rise}
+use Rattle.cc_script.proofs.laws.scripts_are_within.Goals as goal
+
+pub returns-clause-within : goal.returns-clause-within
+returns-clause-within c = script-within
+
+pub returns-clause-phases : goal.returns-clause-phases
+returns-clause-phases c = phases-rise
