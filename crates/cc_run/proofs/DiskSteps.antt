@@ -1,96 +1,112 @@
--- The disks that come back, where nothing was written.
-use Rattle.std.proofs.Common.{◌≡◌, ◌≢◌, ℕ, zero, suc, ◌+◌, ◌==◌, ◌≤◌, Bool, true, false, List, [], ◌∷◌, length, slice_get, slice_set, refl, sym, ◌∙◌, ap, arith, Option, Some, Result, Ok, Err, OnErr}
-use Rattle.std.proofs.lemmas.Bool.{eqb-true, eqb-false}
+-- The disks that come back from a run.
+use Rattle.std.specs.Prelude.{◌≡◌, ℕ, zero, suc, ◌+◌, ◌≤◌, List, [], ◌∷◌, ◌++◌, length, reverse, take, drop, slice_get, refl, Contains}
+use Rattle.std.specs.declared.option.Option.{Option}
+use Rattle.std.specs.declared.option.Option.TheVariants.{Some, None}
+use Rattle.std.proofs.Common.{sym, ap, ◌∙◌, subst, arith}
+use Rattle.std.proofs.lemmas.List.{length-append, length-take, take-append-drop}
 use Rattle.cc_entry.specs.declared.entry.Entry.{Entry}
 use Rattle.cc_traits.specs.Disk.{Disk, page_of}
+use Rattle.cc_traits.specs.Told.{Both}
+use Rattle.cc_model.specs.Allowed.{IsAllowed, IsAllowedSoFar}
+use Rattle.cc_model.specs.Covered.{IsCovered}
+use Rattle.cc_model.specs.Good.{IsGood}
 use Rattle.cc_model.specs.History.{history}
-use Rattle.cc_model.specs.Images.{image}
+use Rattle.cc_model.specs.Images.{image, crash_pages}
+use Rattle.cc_model.specs.Legal.{IsLegal}
+use Rattle.cc_model.specs.Setup.{Setup}
 use Rattle.cc_effects.specs.Failures.{failures}
-use Rattle.cc_run.specs.Stands.{Agrees}
-use Rattle.cc_run.specs.Disks.{IsUnchanged, Pairwise, HoldsImages, DisksAre, HaveRisen, AreCounted}
-use Rattle.cc_run.proofs.FailureSteps.{failures-none}
-
-pub unchanged-none : IsUnchanged []
-unfolding history image
-unchanged-none pages s p = refl
-
-pub unchanged-agrees : {size valid : ℕ} {resident dirty : List Bool} {past : List Entry} → Agrees size valid resident dirty past → IsUnchanged past
-unfolding history
-unchanged-agrees {past = past} a pages s p = by (s == 0) refl
-  where
-    by : (b : Bool) → (s == 0) ≡ b → image pages (history past s) p ≡ Some (pages p)
-    by true is = rw (eqb-true s 0 is) (a.images_are pages p)
-    by false is =
-        let none : image pages (history [] s) p ≡ Some (pages p) = unchanged-none pages s p in
-        rw (a.others s (eqb-false s 0 is)) none
+use Rattle.cc_turns.specs.Disk.{DiskStands, HasGone}
+use Rattle.cc_turns.specs.Desk.{disk_at_first}
+use Rattle.cc_run.specs.Disks.{Pairwise, DisksAre, DisksStand, HaveRisen, AreCounted}
+use Rattle.cc_run.proofs.RowSteps.{taken}
 
 some-same : {A : Type 0} (a b : A) → Some a ≡ Some b → a ≡ b
 some-same a b is = cc is
 
--- where a disk tells what it told, it holds the images
-holds-images : {D : Type 0} (told : D → Option Disk) (past : List Entry) (s : ℕ) (before after : D) → IsUnchanged past → told after ≡ told before → HoldsImages told past s before after
-holds-images told past s before after unchanged same opening held was is p bytes image_is =
-    let one : held ≡ opening = some-same held opening (sym is ∙ (same ∙ was)) in
-    let two : page_of opening p ≡ bytes = some-same (page_of opening p) bytes (sym (unchanged (page_of opening) s p) ∙ image_is) in
-    ap (λ d. page_of d p) one ∙ two
+-- a relation of the first disks and of those that stay as they are
+pairwise-parts : {D : Type 0} (R : D → D → Type 0) (xs ys rest : List D) → length xs ≡ length ys → ((d : D) → R d d) → Pairwise (λ s. R) xs ys → Pairwise (λ s. R) (xs ++ rest) (ys ++ rest)
+pairwise-parts R [] [] rest same stays each s before after was is =
+    let one : after ≡ before = some-same after before (sym is ∙ was) in
+    rw one (stays before)
+pairwise-parts R [] (y ∷ ys) rest same stays each s before after was is = absurd (omega (arith, same))
+pairwise-parts R (x ∷ xs) [] rest same stays each s before after was is = absurd (omega (arith, same))
+pairwise-parts R (x ∷ xs) (y ∷ ys) rest same stays each zero before after was is = each 0 before after was is
+pairwise-parts R (x ∷ xs) (y ∷ ys) rest same stays each (suc s) before after was is =
+    pairwise-parts R xs ys rest (omega (arith, same)) stays (λ n. each (suc n)) s before after was is
 
--- disks that stay as they are
+-- Disks of a run that stand for a past, before those that the run did not take.
+module _ {D : Type 0} (told : D → Option Disk) (faults : D → ℕ) (past : List Entry) (old front new : List D) (stand : DisksStand told faults (λ s. disk_at_first told faults (slice_get (take 16 old) s)) (length (take 16 old)) past front) (back : new ≡ front ++ drop 16 old) where
+  long : length front + length (drop 16 old) ≡ length old
+  long = ap (λ n. n + length (drop 16 old)) stand.counted ∙ (sym (length-append (take 16 old) (drop 16 old)) ∙ ap length (take-append-drop 16 old))
+
+  parts : (take 16 (front ++ drop 16 old) ≡ front) × (drop 16 (front ++ drop 16 old) ≡ drop 16 old)
+  parts = taken 16 front (drop 16 old) (omega (arith, stand.counted, length-take 16 old, length-append front (drop 16 old), long))
+
+  front-is : take 16 new ≡ front
+  front-is = ap (take 16) back ∙ parts.0
+
+  stands-at : (s : ℕ) (before after : D) → slice_get (take 16 old) s ≡ Some before → slice_get (take 16 new) s ≡ Some after → DiskStands told faults (disk_at_first told faults (Some before)) past s after
+  stands-at s before after was is =
+      subst (λ o. DiskStands told faults (disk_at_first told faults o) past s after) was (stand.each s after (ap (λ l. slice_get l s) (sym front-is) ∙ is))
+
+  pub disks-are : DisksAre told past old new
+  disks-are = record {
+    count = ap length back ∙ (length-append front (drop 16 old) ∙ long);
+    went = λ s before after was is. (stands-at s before after was is).has_gone;
+    rest = ap (drop 16) back ∙ parts.1;
+  }
+
+  pub are-counted : AreCounted faults past old new
+  are-counted s before after was is = (stands-at s before after was is).counted
+
+  pub have-risen : HaveRisen faults old new
+  have-risen =
+      subst (λ l. HaveRisen faults l new) (take-append-drop 16 old)
+      (subst (HaveRisen faults (take 16 old ++ drop 16 old)) (sym back)
+      (pairwise-parts (λ before after. faults before ≤ faults after) (take 16 old) front (drop 16 old) (sym stand.counted) (λ d. omega arith) at))
+    where
+      at : (s : ℕ) (before after : D) → slice_get (take 16 old) s ≡ Some before → slice_get front s ≡ Some after → faults before ≤ faults after
+      at s before after was is = omega (arith, (stands-at s before after was (ap (λ l. slice_get l s) front-is ∙ is)).counted)
+
+-- a disk that was not used has gone nowhere
+gone-none : (now : Option Disk) → Both now now (HasGone (history [] 0))
+unfolding history image crash_pages
+gone-none None = tt
+gone-none (Some disk) = record {
+  images = λ p bytes is. some-same (page_of disk p) bytes is;
+  crash = λ p content alone among. subst (λ contents. Contains contents content) alone among;
+  exact = λ p alone free well. alone;
+}
+
 pairwise-same : {D : Type 0} (R : ℕ → D → D → Type 0) (disks : List D) → ((s : ℕ) (d : D) → R s d d) → Pairwise R disks disks
 pairwise-same R disks each s before after was is =
     let same : after ≡ before = some-same after before (sym is ∙ was) in
     rw same (each s before)
 
--- disks that stay as they are but for the first
-pairwise-first : {D : Type 0} (R : ℕ → D → D → Type 0) (disks : List D) (old new : D) → ((x : D) → slice_get disks 0 ≡ Some x → x ≡ old) → R 0 old new → ((s : ℕ) (d : D) → s ≢ 0 → R s d d) → Pairwise R disks (slice_set disks 0 new)
-pairwise-first R [] old new first changed others s before after was is = absurd (cc was)
-pairwise-first R (d ∷ disks) old new first changed others zero before after was is =
-    let one : before ≡ old = sym (some-same d before was) ∙ first d refl in
-    let two : after ≡ new = sym (some-same new after is) in
-    rw (one, two) changed
-pairwise-first R (d ∷ disks) old new first changed others (suc s) before after was is =
-    let same : after ≡ before = some-same after before (sym is ∙ was) in
-    rw same (others (suc s) before (λ e. absurd (cc e)))
+failures-none : (s : ℕ) → failures s [] ≡ 0
+unfolding failures
+failures-none s = refl
 
-disks-kept : {D : Type 0} (told : D → Option Disk) (past : List Entry) (old new : List D) → length new ≡ length old → Pairwise (λ s before after. told after ≡ told before) old new → IsUnchanged past → DisksAre told past old new
-disks-kept told past old new count same unchanged = record {
-  count = count;
-  same = same;
-  holds = λ s before after was is. holds-images told past s before after unchanged (same s before after was is);
-}
+history-none : (s : ℕ) → history [] s ≡ history [] 0
+unfolding history
+history-none s = refl
 
 -- the disks as they were
 pub disks-same : {D : Type 0} (told : D → Option Disk) (disks : List D) → DisksAre told [] disks disks
-disks-same told disks =
-    disks-kept told [] disks disks refl (pairwise-same (λ s before after. told after ≡ told before) disks (λ s d. refl)) unchanged-none
+disks-same told disks = record {
+  count = refl;
+  went = pairwise-same (λ s before after. Both (told before) (told after) (HasGone (history [] s))) (take 16 disks) (λ s d. rw (history-none s) (gone-none (told d)));
+  rest = refl;
+}
 
 pub risen-same : {D : Type 0} (faults : D → ℕ) (disks : List D) → HaveRisen faults disks disks
 risen-same faults disks = pairwise-same (λ s before after. faults before ≤ faults after) disks (λ s d. omega arith)
 
 pub counted-same : {D : Type 0} (faults : D → ℕ) (disks : List D) → AreCounted faults [] disks disks
 counted-same faults disks =
-    pairwise-same (λ s before after. faults after ≡ faults before + failures s []) disks (λ s d. omega (arith, failures-none s))
+    pairwise-same (λ s before after. faults before + failures s [] ≤ faults after) (take 16 disks) (λ s d. omega (arith, failures-none s))
 
--- the first disk was used
-module _ {D : Type 0} (disks : List D) (old new : D) (first : (x : D) → slice_get disks 0 ≡ Some x → x ≡ old) where
-  length-set_first : (ds : List D) → length (slice_set ds 0 new) ≡ length ds
-  length-set_first [] = refl
-  length-set_first (d ∷ ds) = refl
-
-  pub disks-first : (told : D → Option Disk) (past : List Entry) → told new ≡ told old → IsUnchanged past → DisksAre told past disks (slice_set disks 0 new)
-  disks-first told past same unchanged =
-      disks-kept told past disks (slice_set disks 0 new) (length-set_first disks)
-      (pairwise-first (λ s before after. told after ≡ told before) disks old new first same (λ s d other. refl))
-      unchanged
-
-  pub risen-first : (faults : D → ℕ) → faults old ≤ faults new → HaveRisen faults disks (slice_set disks 0 new)
-  risen-first faults risen =
-      pairwise-first (λ s before after. faults before ≤ faults after) disks old new first risen (λ s d other. omega arith)
-
-  pub counted-first : (faults : D → ℕ) (past : List Entry) → faults new ≡ faults old + failures 0 past → ((s : ℕ) → s ≢ 0 → failures s past ≡ 0) → AreCounted faults past disks (slice_set disks 0 new)
-  counted-first faults past counted calm =
-      pairwise-first (λ s before after. faults after ≡ faults before + failures s past) disks old new first counted (λ s d other. omega (arith, calm s other))
-
--- a fact that holds, where an answer is a refusal
-pub on_err : {T E : Type 0} {P : Type 0} (r : Result T E) → P → OnErr r P
-on_err (Ok value) fact = tt
-on_err (Err e) fact = fact
+-- the empty journal is good
+pub good-none : (u : Setup) (journal : List Entry) → journal ≡ [] → IsGood u (reverse journal)
+unfolding IsLegal IsAllowed IsAllowedSoFar IsCovered
+good-none u journal is = rw is (record { legal = tt; allowed = (tt, refl); covered = tt })

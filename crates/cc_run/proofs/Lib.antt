@@ -1,18 +1,13 @@
-pub mod GoodSteps
-pub mod Lists
-pub mod AgreeSteps
-pub mod StandsSteps
-pub mod Refused
-pub mod CallSteps
-pub mod Opening
-pub mod Fills
-pub mod Stops
-pub mod Ascending
-pub mod Rows
-pub mod Told
-pub mod Left
-pub mod LineSteps
-pub mod FailureSteps
-pub mod Explained
-pub mod DiskSteps
-pub mod Statuses
+mod Acting
+mod Ascending
+mod Calls
+mod LinesRan
+mod Lists
+mod Opening
+mod Others
+mod RowSteps
+mod RunSteps
+mod Statuses
+mod DirtyRows
+mod DiskSteps
+mod Told

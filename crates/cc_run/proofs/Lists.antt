@@ -1,87 +1,49 @@
--- Lists of numbers and of flags.
-use Rattle.std.proofs.Common.{◌≡◌, ℕ, zero, suc, ◌+◌, ◌<◌, ◌≤◌, Bool, true, false, ◌||◌, cond, List, [], ◌∷◌, length, map, refl, sym, ◌∙◌, ap, arith, eqb, get_or, slice_index, take, drop, add-one, add-zero}
-use Rattle.std.proofs.lemmas.Bool.{eqb-true}
-use Rattle.std.specs.List.{list_all, range_with_len, IsDistinct, AllByRecursion}
-use Rattle.std.specs.Set.{unique_keys, distinct_count, is_member}
-use Rattle.std.proofs.lemmas.Map.Steps.{length-le_from_distinct_below}
-use Rattle.std.proofs.Math.Seq.{drop-cons}
-use Rattle.cc_run.specs.Stands.{flag_at}
+-- Facts of lists and answers.
+use Rattle.std.specs.Prelude.{◌≡◌, ℕ, zero, suc, ◌<◌, List, [], ◌∷◌, ◌++◌, length, take, drop, refl, Result, Ok, Err, IfOk, IfSome, OnErr, Option}
+use Rattle.std.specs.Result.{result_ok}
+use Rattle.std.specs.List.{AllByRecursion}
+use Rattle.std.proofs.Common.{ap, arith, get_or}
 
--- a number that is kept once is in the list
-is_member-unique : (xs : List ℕ) (q : ℕ) → is_member eqb (unique_keys eqb xs) q ≡ true → is_member eqb xs q ≡ true
-is_member-unique [] q m = m
-is_member-unique (x ∷ xs) q m = by (is_member-unique xs q) (is_member eqb xs x) (eqb q x) refl m
-  where
-    by : (is_member eqb (unique_keys eqb xs) q ≡ true → is_member eqb xs q ≡ true) → (b c : Bool) → eqb q x ≡ c → is_member eqb (cond b (unique_keys eqb xs) (x ∷ unique_keys eqb xs)) q ≡ true → (c || is_member eqb xs q) ≡ true
-    by rest b true same found = refl
-    by rest true false other found = rest found
-    by rest false false other found = rest (rw other at found)
+-- two facts of an answer give a third
+pub if_ok-both : {T E : Type 0} {P Q R : T → Type 0} (r : Result T E) → ((t : T) → P t → Q t → R t) → IfOk r P → IfOk r Q → IfOk r R
+if_ok-both (Ok t) join p q = join t p q
+if_ok-both (Err e) join p q = tt
 
--- a number that is not in a list is apart from each of it
-apart : (x : ℕ) (xs : List ℕ) → is_member eqb xs x ≡ false → AllByRecursion (λ y. eqb x y ≡ false) xs
-apart x [] none = tt
-apart x (y ∷ ys) none = by (apart x ys) (eqb x y) refl none
-  where
-    by : (is_member eqb ys x ≡ false → AllByRecursion (λ z. eqb x z ≡ false) ys) → (b : Bool) → eqb x y ≡ b → (b || is_member eqb ys x) ≡ false → (eqb x y ≡ false) × AllByRecursion (λ z. eqb x z ≡ false) ys
-    by rest true same none' = absurd (cc)
-    by rest false other none' = (other, rest none')
+-- a fact that holds, where an answer is a refusal
+pub on_err : {T E : Type 0} {P : Type 0} (r : Result T E) → P → OnErr r P
+on_err (Ok value) fact = tt
+on_err (Err e) fact = fact
 
--- the numbers that are kept once are distinct
-IsDistinct-unique : (xs : List ℕ) → IsDistinct eqb (unique_keys eqb xs)
-unfolding IsDistinct
-IsDistinct-unique [] = tt
-IsDistinct-unique (x ∷ xs) = by (IsDistinct-unique xs) (is_member eqb xs x) refl
-  where
-    absent : (b : Bool) → is_member eqb (unique_keys eqb xs) x ≡ b → is_member eqb xs x ≡ false → b ≡ false
-    absent true found none = sym (is_member-unique xs x found) ∙ none
-    absent false found none = refl
+-- a fact of each element, of one
+pub all-at : {X : Type 0} (P : X → Type 0) (xs : List X) (i : ℕ) (d : X) → i < length xs → AllByRecursion P xs → P (get_or xs i d)
+all-at P [] i d low all = absurd (omega (arith, low))
+all-at P (x ∷ xs) zero d low all = all.0
+all-at P (x ∷ xs) (suc i) d low all = all-at P xs i d (omega (arith, low)) all.1
 
-    by : IsDistinct eqb (unique_keys eqb xs) → (b : Bool) → is_member eqb xs x ≡ b → IsDistinct eqb (cond b (unique_keys eqb xs) (x ∷ unique_keys eqb xs))
-    by rest true found = rest
-    by rest false none = (apart x (unique_keys eqb xs) (absent _ refl none), rest)
+-- a list is what stands before an element, it, and what stands behind
+pub parted : {X : Type 0} (xs : List X) (i : ℕ) (d : X) → i < length xs → xs ≡ take i xs ++ get_or xs i d ∷ drop (suc i) xs
+parted [] i d low = absurd (omega (arith, low))
+parted (x ∷ xs) zero d low = refl
+parted (x ∷ xs) (suc i) d low = ap (λ l. x ∷ l) (parted xs i d (omega (arith, low)))
 
--- numbers below n are at most n distinct ones
-pub distinct_count-below : (xs : List ℕ) (n : ℕ) → ((q : ℕ) → is_member eqb xs q ≡ true → q < n) → distinct_count eqb xs ≤ n
-distinct_count-below xs n all =
-    length-le_from_distinct_below (unique_keys eqb xs) n (IsDistinct-unique xs) (λ q m. all q (is_member-unique xs q m))
+-- facts of each element, of others, and of the parts of a list
+pub all-map : {X : Type 0} (P Q : X → Type 0) (xs : List X) → ((x : X) → P x → Q x) → AllByRecursion P xs → AllByRecursion Q xs
+all-map P Q [] more all = tt
+all-map P Q (x ∷ xs) more all = (more x all.0, all-map P Q xs more all.1)
 
--- a part of a list, by its elements
-pub take-drop-map : (f : ℕ → ℕ) (xs : List ℕ) (n a : ℕ) → a + n ≤ length xs → ((i : ℕ) → a ≤ i → i < a + n → slice_index xs i ≡ f i) → take n (drop a xs) ≡ map f (range_with_len a n)
-take-drop-map f xs zero a within same = refl
-take-drop-map f xs (suc n) a within same =
-    let rest : take n (drop (a + 1) xs) ≡ map f (range_with_len (a + 1) n) =
-    take-drop-map f xs n (a + 1) (omega arith) (λ i low high. same i (omega arith) (omega arith)) in
-    let first : get_or xs a 0 ≡ f a = same a (omega arith) (omega arith) in
-    let inside : a < length xs = omega arith in
-    rw (drop-cons xs a 0, first, ← add-one a, rest) refl
+pub all-both : {X : Type 0} (P Q : X → Type 0) (xs : List X) → AllByRecursion P xs → AllByRecursion Q xs → AllByRecursion (λ x. P x × Q x) xs
+all-both P Q [] ps qs = tt
+all-both P Q (x ∷ xs) ps qs = ((ps.0, qs.0), all-both P Q xs ps.1 qs.1)
 
--- a test that holds of each number from a on holds of them all
-pub list_all-range : (test : ℕ → Bool) (n a : ℕ) → ((i : ℕ) → a ≤ i → i < a + n → test i ≡ true) → list_all test (range_with_len a n) ≡ true
-list_all-range test zero a each = refl
-list_all-range test (suc n) a each =
-    let first : test a ≡ true = each a (omega arith) (omega arith) in
-    rw first (list_all-range test n (a + 1) (λ i low high. each i (omega arith) (omega arith)))
+pub all-front : {X : Type 0} (P : X → Type 0) (xs ys : List X) → AllByRecursion P (xs ++ ys) → AllByRecursion P xs
+all-front P [] ys all = tt
+all-front P (x ∷ xs) ys all = (all.0, all-front P xs ys all.1)
 
--- a number among those from a on is one of them
-pub is_member-range : (n a q : ℕ) → is_member eqb (range_with_len a n) q ≡ true → q < a + n
-is_member-range zero a q m = absurd (cc)
-is_member-range (suc n) a q m = by (is_member-range n (a + 1) q) (eqb q a) refl m
-  where
-    by : (is_member eqb (range_with_len (a + 1) n) q ≡ true → q < a + 1 + n) → (b : Bool) → eqb q a ≡ b → (b || is_member eqb (range_with_len (a + 1) n) q) ≡ true → q < a + suc n
-    by rest true same found = omega (arith, eqb-true q a same)
-    by rest false other found = omega (arith, rest found)
+pub all-back : {X : Type 0} (P : X → Type 0) (xs ys : List X) → AllByRecursion P (xs ++ ys) → AllByRecursion P ys
+all-back P [] ys all = all
+all-back P (x ∷ xs) ys all = all-back P xs ys all.1
 
--- a list, by its elements
-pub list-map : (f : ℕ → ℕ) (xs : List ℕ) (a : ℕ) → ((k : ℕ) → k < length xs → slice_index xs k ≡ f (a + k)) → xs ≡ map f (range_with_len a (length xs))
-list-map f [] a same = refl
-list-map f (x ∷ xs) a same =
-    let first : x ≡ f a = same 0 (omega arith) ∙ ap f (add-zero a) in
-    let rest : xs ≡ map f (range_with_len (a + 1) (length xs)) =
-    list-map f xs (a + 1) (λ k low. same (suc k) (omega arith) ∙ ap f (omega arith)) in
-    ap (λ y. y ∷ xs) first ∙ ap (λ ys. f a ∷ ys) rest
-
--- a flag that is set is that of a page of the list
-pub flag-below : (flags : List Bool) (p : ℕ) → flag_at flags p ≡ true → p < length flags
-flag-below [] p f = absurd (cc)
-flag-below (x ∷ xs) zero f = omega arith
-flag-below (x ∷ xs) (suc p) f = omega (arith, flag-below xs p f)
+-- a fact of an answer is one of what it gives, if anything
+pub if_some-ok : {T E : Type 0} {P Q : T → Type 0} (r : Result T E) (o : Option T) → o ≡ result_ok r → ((t : T) → P t → Q t) → IfOk r P → IfSome o Q
+if_some-ok (Ok t) o is more fact = rw is (more t fact)
+if_some-ok (Err e) o is more fact = rw is tt

@@ -1,71 +1,54 @@
--- The list of pages stands for its past once the first object was initialised.
-use Rattle.std.proofs.Common.{◌≡◌, ℕ, zero, suc, replicate, ◌/◌, ◌^◌, ◌≤◌, Bool, true, false, nat_lt, nat_le, List, [], ◌∷◌, reverse, refl, arith, Option, Some, None}
-use Rattle.std.proofs.lemmas.Bool.{lt-ltb, le-leb}
-use Rattle.cc_entry.specs.declared.call.Call.TheVariants as call
-use Rattle.cc_entry.specs.declared.reply.Reply.TheVariants as reply
-use Rattle.cc_entry.specs.declared.reply.Outcome.TheVariants as outcome
+-- The streams that were opened so far.
+use Rattle.std.specs.Prelude.{◌≡◌, ℕ, suc, ◌+◌, List, [], ◌∷◌, ◌++◌, length, refl}
+use Rattle.std.specs.declared.option.Option.TheVariants.{None}
+use Rattle.std.proofs.Common.{subst, ap, sym, ◌∙◌, arith, append_assoc, append-nil}
+use Rattle.std.proofs.lemmas.List.{map-append}
+use Rattle.cc_entry.specs.declared.answer.Answer.{Answer}
+use Rattle.cc_entry.specs.declared.answer.LineReply.{LineReply}
 use Rattle.cc_entry.specs.declared.entry.Entry.{Entry}
-use Rattle.cc_entry.specs.declared.entry.Entry.TheVariants as entry
-use Rattle.cc_traits.specs.Disk.{Disk}
+use Rattle.cc_script.specs.declared.script.StreamLine.{StreamLine}
 use Rattle.cc_model.specs.Setup.{Setup}
-use Rattle.cc_model.specs.History.{history}
-use Rattle.cc_model.specs.Objects.{objects, had_map}
-use Rattle.cc_model.specs.Holds.{holds_of}
-use Rattle.cc_model.specs.Touches.{touched}
-use Rattle.cc_model.specs.Bytes.{content}
-use Rattle.cc_model.specs.Settings.{quota_of}
-use Rattle.cc_model.specs.Images.{open_of}
-use Rattle.cc_model.specs.Cache.{views_taken}
-use Rattle.cc_model.specs.Passes.{calls_of}
-use Rattle.cc_model.specs.Refusals.{refusal}
-use Rattle.cc_model.specs.Legal.{IsLegal}
-use Rattle.cc_model.specs.Covered.{IsCovered}
-use Rattle.cc_model.specs.Allowed.{IsAllowed, IsAllowedSoFar}
-use Rattle.cc_model.specs.Good.{IsGood}
-use Rattle.cc_run.specs.Stands.{Stands, flag_at, first_object, opening_of}
-use Rattle.cc_run.proofs.GoodSteps.{good-call}
-use Rattle.cc_run.proofs.AgreeSteps.{agrees-opened}
+use Rattle.cc_effects.proofs.Stretches.{idle-none}
+use Rattle.cc_pieces.specs.Answered.{CallAnswered}
+use Rattle.cc_pieces.specs.Openings.{Opened, Opens, opening_call}
+use Rattle.cc_pieces.specs.Rooms.{HadNoRoom}
+use Rattle.cc_turns.specs.Standing.{Standing}
+use Rattle.cc_visits.specs.Hands.{Went}
+use Rattle.cc_run.specs.Lines.{IsFullTold, StreamsLeft, StreamsOpened}
+use Rattle.cc_run.proofs.Acting.{room-left}
 
--- the empty journal is good
-pub good-empty : (u : Setup) → IsGood u []
-unfolding IsLegal IsAllowed IsAllowedSoFar IsCovered
-good-empty u = record { legal = tt; allowed = (tt, refl); covered = tt }
+-- one stream more
+left-more : (u : Setup) (s n : ℕ) (streams : List StreamLine) (replies : List LineReply) (stream : StreamLine) (reply : LineReply) (old between new : List Entry) → n ≡ s + length streams → StreamsLeft u s streams replies old between → Opens u n stream reply.answer between new → StreamsLeft u s (streams ++ stream ∷ []) (replies ++ reply ∷ []) old new
+left-more u s n [] [] stream reply old between new is left one =
+    let same : between ≡ old = left in
+    let number : n ≡ s = omega (arith, is) in
+    (new, rw (same, number) at one, refl)
+left-more u s n [] (r ∷ replies) stream reply old between new is left one = absurd left
+left-more u s n (l ∷ streams) [] stream reply old between new is left one = absurd left
+left-more u s n (l ∷ streams) (r ∷ replies) stream reply old between new is left one =
+    (left.0, left.1, left-more u (suc s) n streams replies stream reply left.0 between new (omega (arith, is)) left.2 one)
 
--- a list without entries is good, oldest first too
-pub good-none : (u : Setup) (entries : List Entry) → entries ≡ [] → IsGood u (reverse entries)
-good-none u entries empty = rw empty (good-empty u)
+-- what the lines of the streams left is what explains them
+pub opened-left : (u : Setup) (s : ℕ) (streams : List StreamLine) (replies : List LineReply) (old new : List Entry) → StreamsLeft u s streams replies old new → Opened u s streams replies old new
+opened-left u s [] [] old new left = let same : new ≡ old = left in rw same (idle-none 0 old)
+opened-left u s [] (r ∷ replies) old new left = absurd left
+opened-left u s (l ∷ streams) [] old new left = absurd left
+opened-left u s (l ∷ streams) (r ∷ replies) old new left = (left.0, left.1, opened-left u (suc s) streams replies left.0 new left.2)
 
--- an initialise of an empty cache with sizes in order is not refused
-opening_admitted : (u : Setup) (size valid : ℕ) → valid ≤ size → size ≤ 4194304 → refusal u [] [] (call.Initialise first_object (record { allocation = size; size = size; valid = valid }) 16 false) ≡ None
-unfolding refusal objects had_map touched views_taken history
-opening_admitted u size valid below small =
-    let first : nat_le valid size ≡ true = le-leb valid size below in
-    let second : nat_le size size ≡ true = le-leb size size (omega arith) in
-    let third : nat_lt size (2 ^ 63) ≡ true = lt-ltb size (2 ^ 63) (omega arith) in
-    rw (first, second, third) refl
+pub opened-none : (u : Setup) (s : ℕ) (replies : List LineReply) (past : List Entry) → StreamsOpened u s [] replies replies past past
+opened-none u s replies past = record { answers = []; grew = sym (append-nil replies); lines_are = refl; left = refl }
 
-pub stands-opened : {u : Setup} {told : Option Disk} (size valid : ℕ) (bytes : List ℕ) (resident dirty : List Bool) → valid ≤ size → size ≤ 4194304 → u.opening 0 ≡ opening_of told → ((p : ℕ) → flag_at resident p ≡ false) → ((p : ℕ) → flag_at dirty p ≡ false) → Stands u told size valid 0 bytes resident dirty (entry.Call 0 1 (Some 0) (call.Initialise first_object (record { allocation = size; size = size; valid = valid }) 16 false) (outcome.Done reply.Unit) ∷ [])
-unfolding history objects had_map touched holds_of quota_of open_of content calls_of
-stands-opened {u = u} size valid bytes resident dirty below small opening clear clean =
-    record {
-      good = good-call u 0 1 (Some 0) (call.Initialise first_object (record { allocation = size; size = size; valid = valid }) 16 false) (outcome.Done reply.Unit) [] refl (opening_admitted u size valid below small, refl) (record {
-        number = refl;
-        filed = refl;
-        may_end = (tt, tt);
-      }) (good-empty u);
-      opening = opening;
-      agrees = agrees-opened size valid resident dirty clear clean;
-      no_hold = refl;
-      quota_is = refl;
-      no_transfer = refl;
-      calls_are = refl;
-      bytes_are = λ disk is i flag. absurd (cc (clear (i / 4096)));
-      opening_bytes = λ disk is i flag. refl;
-      zeros = λ i flag past_valid. absurd (cc (clear (i / 4096)));
-    }
+pub stream-more : (u : Setup) (s n : ℕ) (streams : List StreamLine) (stream : StreamLine) (told : Answer) (before after : List LineReply) (old between new : List Entry) → n ≡ s + length streams → StreamsOpened u s streams before after old between → Opens u n stream told between new → StreamsOpened u s (streams ++ stream ∷ []) before (after ++ record { line = stream.line; answer = told } ∷ []) old new
+stream-more u s n streams stream told before after old between new is opened one = record {
+  answers = opened.answers ++ record { line = stream.line; answer = told } ∷ [];
+  grew = ap (λ l. l ++ record { line = stream.line; answer = told } ∷ []) opened.grew ∙ append_assoc before opened.answers (record { line = stream.line; answer = told } ∷ []);
+  lines_are = map-append (λ r. r.line) opened.answers _ ∙ (ap (λ l. l ++ stream.line ∷ []) opened.lines_are ∙ sym (map-append (λ l. l.line) streams (stream ∷ [])));
+  left = left-more u s n streams opened.answers stream (record { line = stream.line; answer = told }) old between new is opened.left one;
+}
 
--- flags that are all clear are clear at every page
-pub flag-clear : (n p : ℕ) → flag_at (replicate n false) p ≡ false
-flag-clear zero p = refl
-flag-clear (suc n) zero = refl
-flag-clear (suc n) (suc p) = flag-clear n p
+-- the line of a stream without a log left what explains its answer
+pub opens-one : (w0 w1 : Standing) (s : ℕ) (stream : StreamLine) (told : Answer) → stream.log ≡ None → Went w0 w1 → w0.number ≡ 0 → w1.in_flight ≡ 0 → w1.others ≡ 0 → CallAnswered w0.setup w0.number (opening_call s stream) told w0.seen w1.seen → IsFullTold w1 told → Opens w0.setup s stream told w0.seen w1.seen
+opens-one w0 w1 s stream told unlogged went first rest alone left full = record {
+  opened = rw unlogged (rw first at left);
+  room = subst (λ u. HadNoRoom u 4 told w0.seen w1.seen) (ap (λ w. w.setup) went.same) (room-left w1 w0.setup w0.number (opening_call s stream) told w0.seen left rest alone full);
+}

@@ -44,10 +44,10 @@ read-few i told w is read = omega (arith, read-count i.left i.left_after told w.
 many-told : (i : Input) (told : List ℕ) → WasTaken i.left i.left_after i.taken i.taken_after → i.left ≡ Some told → TookMany i → 16777216 < length told
 many-told i told w is many = omega (arith, taken-count i.left i.left_after told w.bytes is w.front, w.count, many)
 
-wrong-is : (left : Option (List ℕ)) (told : List ℕ) (line : ℕ) → left ≡ Some told → IsWrong left line → script_of offer.Copies mode.Run told ≡ Err line
+wrong-is : (left : Option (List ℕ)) (told : List ℕ) (line : ℕ) → left ≡ Some told → IsWrong left line → script_of offer.Pages mode.Run told ≡ Err line
 wrong-is left told line is w = rw (told-same left told w.bytes is w.all) at w.wrong
 
-spells-is : (left : Option (List ℕ)) (told : List ℕ) (script : Script) → left ≡ Some told → Spells left script → script_of offer.Copies mode.Run told ≡ Ok script
+spells-is : (left : Option (List ℕ)) (told : List ℕ) (script : Script) → left ≡ Some told → Spells left script → script_of offer.Pages mode.Run told ≡ Ok script
 spells-is left told script is w = rw (told-same left told w.bytes is w.all) at w.spelled
 
 not-both : (r : Result Script ℕ) (script : Script) (line : ℕ) → r ≡ Ok script → r ≡ Err line → ⊥
@@ -190,7 +190,7 @@ module _ (i : Input) (o : Output) (script : Option Script) (replies : List LineR
       go None e = at e.2.why e.2.status_is (by e.2.why e.2.cause)
       go (Some one) e = run one e
 
-  pub syntax-always : WasTaken i.left i.left_after i.taken i.taken_after → (bytes : List ℕ) (line : ℕ) → Comes i bytes → script_of offer.Copies mode.Run bytes ≡ Err line → (status ≡ 2) ⊎ (status ≡ 6)
+  pub syntax-always : WasTaken i.left i.left_after i.taken i.taken_after → (bytes : List ℕ) (line : ℕ) → Comes i bytes → script_of offer.Pages mode.Run bytes ≡ Err line → (status ≡ 2) ⊎ (status ≡ 6)
   syntax-always w bytes line comes wrong = refused-at 2 by run
     where
       by : (why : NoRun) → IsCause i why → (status_of why ≡ 2) ⊎ (status_of why ≡ 6)
@@ -232,7 +232,7 @@ module _ (i : Input) (o : Output) (script : Option Script) (replies : List LineR
       run : (made : Script) → IsRun i o made replies journal status → (status ≡ 5) ⊎ (status ≡ 6)
       run made e = absurd (omega (arith, read-few i bytes w told e.read, many))
 
-  pub too_few-always : WasTaken i.left i.left_after i.taken i.taken_after → (bytes : List ℕ) (made : Script) → Comes i bytes → script_of offer.Copies mode.Run bytes ≡ Ok made → i.disks < length made.streams → (status ≡ 7) ⊎ (status ≡ 6)
+  pub too_few-always : WasTaken i.left i.left_after i.taken i.taken_after → (bytes : List ℕ) (made : Script) → Comes i bytes → script_of offer.Pages mode.Run bytes ≡ Ok made → i.disks < length made.streams → (status ≡ 7) ⊎ (status ≡ 6)
   too_few-always w bytes made comes spelled few = refused-at 7 by run
     where
       by : (why : NoRun) → IsCause i why → (status_of why ≡ 7) ⊎ (status_of why ≡ 6)
@@ -248,7 +248,7 @@ module _ (i : Input) (o : Output) (script : Option Script) (replies : List LineR
           let same : one ≡ made = one-script _ one made (spells-is i.left bytes one comes.told e.spelled) spelled in
           absurd (omega (arith, few, e.enough, ap (λ s. length s.streams) same))
 
-  pub complete : WasTaken i.left i.left_after i.taken i.taken_after → (bytes : List ℕ) (made : Script) → Comes i bytes → script_of offer.Copies mode.Run bytes ≡ Ok made → length made.streams ≤ i.disks → o.faults_after ≡ o.faults → o.stalls_after ≡ o.stalls → (status ≡ 0) ⊎ (status ≡ 6)
+  pub complete : WasTaken i.left i.left_after i.taken i.taken_after → (bytes : List ℕ) (made : Script) → Comes i bytes → script_of offer.Pages mode.Run bytes ≡ Ok made → length made.streams ≤ i.disks → o.faults_after ≡ o.faults → o.stalls_after ≡ o.stalls → (status ≡ 0) ⊎ (status ≡ 6)
   complete w bytes made comes spelled enough calm steady = refused-at 0 by run
     where
       by : (why : NoRun) → IsCause i why → (status_of why ≡ 0) ⊎ (status_of why ≡ 6)

@@ -17,7 +17,7 @@ pub record Comes (i : Input) (bytes : List ℕ) : Type 0 where
 
 -- the script that bytes spell, or their first wrong line
 abbrev pub spelled_by : List ℕ → Result Script ℕ
-spelled_by bytes = script_of offer.Copies mode.Run bytes
+spelled_by bytes = script_of offer.Pages mode.Run bytes
 
 -- this status, or want of memory
 abbrev pub EndsWith : ℕ → ℕ → Type 0

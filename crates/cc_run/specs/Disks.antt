@@ -1,39 +1,42 @@
 -- The disks that a run gives back.
-use Rattle.std.specs.Prelude.{◌≡◌, ℕ, ◌+◌, ◌≤◌, List, length, slice_get, Option, Some}
+use Rattle.std.specs.Prelude.{◌≡◌, ℕ, ◌+◌, ◌≤◌, List, length, slice_get, drop}
+use Rattle.std.specs.declared.option.Option.{Option}
+use Rattle.std.specs.declared.option.Option.TheVariants.{Some}
 use Rattle.cc_entry.specs.declared.entry.Entry.{Entry}
-use Rattle.cc_traits.specs.Disk.{Disk, page_of}
+use Rattle.cc_traits.specs.Disk.{Disk}
+use Rattle.cc_traits.specs.Told.{Both}
 use Rattle.cc_model.specs.History.{history}
-use Rattle.cc_model.specs.Images.{image}
 use Rattle.cc_effects.specs.Failures.{failures}
-
--- nothing was written back, so the image of each page is the opening page
-abbrev pub IsUnchanged : List Entry → Type 0
-IsUnchanged past = (pages : ℕ → List ℕ) (s p : ℕ) → image pages (history past s) p ≡ Some (pages p)
+use Rattle.cc_turns.specs.Standing.{DiskAtFirst}
+use Rattle.cc_turns.specs.Disk.{DiskStands, HasGone}
+use Rattle.cc_run.specs.Setups.{run_disks}
 
 -- a relation of each disk as it was handed in and as it came back, with the number of its stream
 abbrev pub Pairwise : {D : Type 0} → (ℕ → D → D → Type 0) → List D → List D → Type 0
 Pairwise {D} R old new = (s : ℕ) (before after : D) → slice_get old s ≡ Some before → slice_get new s ≡ Some after → R s before after
 
--- where a disk tells its pages before and after, it holds the image of each page whose image is known
-abbrev pub HoldsImages : {D : Type 0} → (D → Option Disk) → List Entry → ℕ → D → D → Type 0
-HoldsImages told past s before after =
-    (opening held : Disk) → told before ≡ Some opening → told after ≡ Some held → (p : ℕ) (bytes : List ℕ) →
-    image (page_of opening) (history past s) p ≡ Some bytes → page_of held p ≡ bytes
+-- a disk that tells its pages has gone with its stream: it holds each page's image, where that is known
+abbrev pub WentWith : {D : Type 0} → (D → Option Disk) → List Entry → ℕ → D → D → Type 0
+WentWith told past s before after = Both (told before) (told after) (HasGone (history past s))
 
--- as many disks come back, in their order; each tells what it told, and holds its images
+-- As many disks come back, in their order. Those of the run have gone with their streams, and the others are as they
+-- were.
 pub record DisksAre {D : Type 0} (told : D → Option Disk) (past : List Entry) (old new : List D) : Type 0 where
   pub count : length new ≡ length old
-  pub same : Pairwise (λ s before after. told after ≡ told before) old new
-  pub holds : Pairwise (HoldsImages told past) old new
+  pub went : Pairwise (WentWith told past) (run_disks old) (run_disks new)
+  pub rest : drop 16 new ≡ drop 16 old
 
 -- no disk's count of faults fell
 abbrev pub HaveRisen : {D : Type 0} → (D → ℕ) → List D → List D → Type 0
 HaveRisen faults old new = Pairwise (λ s before after. faults before ≤ faults after) old new
 
--- each disk's count of faults rose by the failures of its stream's disk that the past shows
+-- the count of faults of each disk of the run rose at least by the failures of it that the past shows
 abbrev pub AreCounted : {D : Type 0} → (D → ℕ) → List Entry → List D → List D → Type 0
-AreCounted faults past old new = Pairwise (λ s before after. faults after ≡ faults before + failures s past) old new
+AreCounted faults past old new =
+    Pairwise (λ s before after. faults before + failures s past ≤ faults after) (run_disks old) (run_disks new)
 
--- between two moments a disk's count of faults rose by the failures of the first stream's disk that were placed
-abbrev pub FailuresAreCounted : {D : Type 0} → (D → ℕ) → D → D → List Entry → List Entry → Type 0
-FailuresAreCounted faults before after old new = faults after + failures 0 old ≡ faults before + failures 0 new
+-- The disks of a run stand for a past, each having begun so.
+pub record DisksStand {D : Type 0} (told : D → Option Disk) (faults : D → ℕ) (first : ℕ → DiskAtFirst) (count : ℕ)
+    (past : List Entry) (disks : List D) : Type 0 where
+  pub counted : length disks ≡ count
+  pub each : (s : ℕ) (disk : D) → slice_get disks s ≡ Some disk → DiskStands told faults (first s) past s disk

@@ -100,13 +100,13 @@ pub record WasTaken (left left_after : Option (List ℕ)) (taken taken_after : �
 pub record Spells (left : Option (List ℕ)) (script : Script) : Type 0 where
   pub bytes : List ℕ
   pub all : IfTold left (λ told. bytes ≡ told)
-  pub spelled : script_of offer.Copies mode.Run bytes ≡ Ok script
+  pub spelled : script_of offer.Pages mode.Run bytes ≡ Ok script
 
 -- some bytes, all that were left where the source told them, have this line as their first wrong one
 pub record IsWrong (left : Option (List ℕ)) (line : ℕ) : Type 0 where
   pub bytes : List ℕ
   pub all : IfTold left (λ told. bytes ≡ told)
-  pub wrong : script_of offer.Copies mode.Run bytes ≡ Err line
+  pub wrong : script_of offer.Pages mode.Run bytes ≡ Err line
 
 -- no more bytes were taken than a script may have
 abbrev pub TookFew : Input → Type 0

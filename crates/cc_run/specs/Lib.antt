@@ -1,12 +1,8 @@
-pub mod Past
-pub mod Stands
-pub mod Rows
-pub mod Fills
-pub mod Caches
-pub mod Served
+pub mod Desks
+pub mod Setups
 pub mod Lines
+pub mod Rows
 pub mod Words
-pub mod Opens
 pub mod Disks
 pub mod Ends
 pub mod Complete

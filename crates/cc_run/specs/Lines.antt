@@ -1,30 +1,95 @@
--- What the lines of the first caller left.
-use Rattle.std.specs.Prelude.{◌≡◌, ◌≢◌, ℕ, [], List, ◌++◌, map}
+-- What the lines of a script leave, one after the other.
+use Rattle.std.specs.Prelude.{◌≡◌, ◌≢◌, ◌⊎◌, ℕ, suc, ◌<◌, Bool, false, List, [], ◌∷◌, ◌++◌, map, Result, Ok, Err}
 use Rattle.cc_entry.specs.declared.answer.Answer.{Answer}
+use Rattle.cc_entry.specs.declared.answer.Answer.TheVariants as answer
 use Rattle.cc_entry.specs.declared.answer.LineReply.{LineReply}
 use Rattle.cc_entry.specs.declared.entry.Entry.{Entry}
+use Rattle.cc_entry.specs.declared.error.CcError.{CcError}
+use Rattle.cc_entry.specs.declared.reply.Reply.TheVariants as reply
 use Rattle.cc_script.specs.declared.script.Action.{Action}
+use Rattle.cc_script.specs.declared.script.Action.TheVariants as action
 use Rattle.cc_script.specs.declared.script.ActionLine.{ActionLine}
 use Rattle.cc_script.specs.declared.script.StreamLine.{StreamLine}
 use Rattle.cc_script.specs.declared.script.Script.{Script}
 use Rattle.cc_model.specs.Setup.{Setup}
-use Rattle.cc_effects.specs.Moments.{IsIdle}
-use Rattle.cc_pieces.specs.Runs.{Explains, Ran, asked_of}
-use Rattle.cc_pieces.specs.Phases.{is_of_phase}
-use Rattle.cc_pieces.specs.Explained.{Given, Answered, answered_lines}
+use Rattle.cc_effects.specs.Moments.{Between, IsIdle}
+use Rattle.cc_pieces.specs.Bindings.{Binding}
+use Rattle.cc_pieces.specs.Openings.{Opens}
+use Rattle.cc_pieces.specs.Runs.{Explains}
+use Rattle.cc_pieces.specs.Explained.{Given, Answered, IsExplained, answered_lines}
+use Rattle.cc_turns.specs.Standing.{Standing, nothing}
+use Rattle.cc_visits.specs.Hands.{IsSettled}
+use Rattle.cc_calls.specs.Pages.{IsFullOf}
 
--- the caller's line left what explains its answer, and no other pass placed anything
-pub record Serves (u : Setup) (asked : Action) (told : Answer) (old new : List Entry) : Type 0 where
-  pub explained : (limit : ℕ) → Explains u limit 1 [] asked told old new
-  pub alone : (me : ℕ) → me ≢ 1 → IsIdle me old new
+-- an action that a run serves, on one of so many streams
+abbrev pub IsServable : ℕ → Action → Type 0
+IsServable streams (action.CopyRead file at len wait) = file.stream < streams
+IsServable streams (action.CopyWrite file at bytes) = file.stream < streams
+IsServable streams (action.Zero file span) = file.stream < streams
+IsServable streams (action.SetSizes file allocation size) = file.stream < streams
+IsServable streams other = ⊥
 
--- each of the lines has its reply behind those that were there, and its calls ran
-pub record ServedLines (u : Setup) (lines : List ActionLine) (before after : List LineReply) (old new : List Entry) : Type 0 where
+-- a pass may make the call of an action
+pub record CanServe (w : Standing) (asked : Action) : Type 0 where
+  pub servable : IsServable w.streams asked
+  pub free : w.held ≡ nothing
+  pub settled : IsSettled w
+
+-- the answer of a line whose call answers no value
+abbrev pub told_of : Result (Unit {0}) CcError → Answer
+told_of (Ok done) = answer.Given reply.Unit
+told_of (Err e) = answer.Refused e
+
+-- an answer, which is none of a noncached call, says that the journal is full only where it is
+abbrev pub IsFullTold : Standing → Answer → Type 0
+IsFullTold w (answer.Refused e) = IsFullOf {A = Unit {0}} w (Err e)
+IsFullTold w (answer.NcRefused done cause) = ⊥
+IsFullTold w other = Unit {0}
+
+-- A line left what explains its answer, and its caller alone placed anything.
+pub record LineLeft (u : Setup) (line : ActionLine) (told : Answer) (old new : List Entry) : Type 0 where
+  pub explained : (bindings : List Binding) → Explains u 4 line.caller bindings line.action told old new
+  pub alone : (me : ℕ) → me ≢ line.caller → IsIdle me old new
+
+-- lines left what explains their answers, each with a reply of its own
+abbrev pub LinesLeft : Setup → List ActionLine → List LineReply → Between
+LinesLeft u [] [] old new = new ≡ old
+LinesLeft u (line ∷ lines) (reply ∷ replies) old new =
+    (between : List Entry)
+    × (reply.line ≡ line.line)
+    × LineLeft u line reply.answer old between
+    × LinesLeft u lines replies between new
+LinesLeft u lines replies old new = ⊥
+
+-- The lines were served, and their replies stand behind those that were there.
+pub record LinesServed (u : Setup) (lines : List ActionLine) (before after : List LineReply) (old new : List Entry) : Type 0 where
   pub answers : List LineReply
   pub grew : after ≡ before ++ answers
-  pub lines_are : answered_lines answers ≡ map (λ line. line.line) lines
-  pub ran : (limit : ℕ) → Ran u limit 1 [] (asked_of (is_of_phase 1 1) lines answers) old new
-  pub alone : (me : ℕ) → me ≢ 1 → IsIdle me old new
+  pub left : LinesLeft u lines answers old new
+
+-- Memory was wanting for the reply of a line: those before it were served, and then its caller alone placed anything.
+pub record LinesCut (u : Setup) (lines : List ActionLine) (before after : List LineReply) (old new : List Entry) : Type 0 where
+  pub served : List ActionLine
+  pub line : ActionLine
+  pub rest : List ActionLine
+  pub lines_are : lines ≡ served ++ line ∷ rest
+  pub between : List Entry
+  pub went : LinesServed u served before after old between
+  pub alone : (me : ℕ) → me ≢ line.caller → IsIdle me between new
+
+-- the streams, numbered from one on, were opened one after the other, each with a reply of its own
+abbrev pub StreamsLeft : Setup → ℕ → List StreamLine → List LineReply → Between
+StreamsLeft u s [] [] old new = new ≡ old
+StreamsLeft u s (stream ∷ streams) (reply ∷ replies) old new =
+    (between : List Entry) × Opens u s stream reply.answer old between × StreamsLeft u (suc s) streams replies between new
+StreamsLeft u s streams replies old new = ⊥
+
+-- The streams were opened, and the replies of their lines stand behind those that were there.
+pub record StreamsOpened (u : Setup) (s : ℕ) (streams : List StreamLine) (before after : List LineReply) (old new : List Entry) : Type 0 where
+  pub answers : List LineReply
+  pub grew : after ≡ before ++ answers
+  pub lines_are : answered_lines answers ≡ map (λ stream. stream.line) streams
+  pub left : StreamsLeft u s streams answers old new
 
 -- what a script gives a run
 abbrev pub given_of : Script → Given
@@ -36,10 +101,26 @@ given_of script = record {
   aheads = script.aheads;
 }
 
--- these lines in one phase without workers
-abbrev pub one_phase : List StreamLine → List ActionLine → Given
-one_phase streams lines = record { streams = streams; lines = lines; phases = 1; ticks = 0; aheads = 0 }
-
 -- the answers of a run without workers
 abbrev pub lines_answered : List LineReply → Answered
 lines_answered replies = record { replies = replies; ticked = []; stepped = [] }
+
+-- A run was cut short for want of memory for the reply of a line: what was answered is explained as the run of the
+-- lines before it, and then the caller of that line alone placed anything.
+pub record IsCutShort (u : Setup) (given : Given) (told : Answered) (past : List Entry) : Type 0 where
+  pub served : List ActionLine
+  pub line : ActionLine
+  pub rest : List ActionLine
+  pub lines_are : given.lines ≡ served ++ line ∷ rest
+  pub between : List Entry
+  pub explained : IsExplained u (record given { lines = served }) told between
+  pub alone : (me : ℕ) → me ≢ line.caller → IsIdle me between past
+
+-- what a run answered is explained; only where it is not whole it may have been cut short
+abbrev pub IsRunExplained : Setup → Given → List LineReply → Bool → List Entry → Type 0
+IsRunExplained u given replies whole past =
+    IsExplained u given (lines_answered replies) past ⊎ ((whole ≡ false) × IsCutShort u given (lines_answered replies) past)
+
+-- the answers of a run that ended with a status are explained; only at 6 it may have been cut short
+abbrev pub ExplainsRun : Setup → ℕ → Given → Answered → List Entry → Type 0
+ExplainsRun u status given told past = IsExplained u given told past ⊎ ((status ≡ 6) × IsCutShort u given told past)

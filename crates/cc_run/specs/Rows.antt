@@ -1,6 +1,11 @@
--- The rows of pages of the first stream without a stamp.
-use Rattle.std.specs.Prelude.{ℕ, None}
+-- A row of the dirty page table, as it is printed.
+use Rattle.std.specs.Prelude.{option_map}
+use Rattle.cc_entry.specs.Lsns.{joined}
+use Rattle.cc_dirty.specs.declared.row.Row.{Row}
 use Rattle.cc_print.specs.declared.table.TableRow.{TableRow}
 
-abbrev pub unstamped_row : ℕ → TableRow
-unstamped_row p = record { page = record { stream = 0; page = p }; oldest = None; newest = None }
+-- the least and the greatest LSN of both its parts
+abbrev pub printed_row : Row → TableRow
+printed_row row =
+    let lsns = joined row.begun.lsns row.later.lsns in
+    record { page = row.page; oldest = option_map (λ pair. pair.0) lsns; newest = option_map (λ pair. pair.1) lsns }

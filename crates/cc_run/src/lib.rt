@@ -1,24 +1,23 @@
 //! The run of a script: the top call `cache_main`.
 //!
 //! One direction: the words of the command line, the script's bytes from a source, the script, the run,
-//! the text, the exit status. What is here is the first path: one caller's copied reads and writes of one
-//! stream, served on a list of pages over any disk. Whatever is handed in, the journal that comes
-//! back is good, it explains the answer of every line, and the text is that of both; each exit status has
-//! its cause. How the pages are kept is said in `cache` alone.
+//! the text, the exit status. A run is made on the desk of one thread: the streams are opened, and the lines
+//! of every caller are served, each by one call. Whatever is handed in, the journal that comes back is good, it
+//! explains the answer of every line, each disk holds what it says, and the text is that of both; each exit
+//! status has its cause. Want of memory after a run began loses nothing of what happened.
 //!
-//! It stands on the script, on the text, on the traits of the outside, on what a journal means and on how
-//! it explains answers. The program stands on it.
+//! It stands on the script, on the text, on the calls and the turns of one thread, on the traits of the outside,
+//! on what a journal means and on how it explains answers. The program stands on it.
 #![tactic(auto)]
 
-mod cache;
-mod frames;
 mod intake;
-mod journal;
+mod line;
+mod lines;
 mod no_run;
+mod openings;
 mod output;
-mod places;
+mod row;
 mod run;
-mod served;
 mod table;
 mod top;
 mod words;

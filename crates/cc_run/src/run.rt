@@ -1,125 +1,136 @@
-//! The run of a script's lines: one caller's copied reads and writes of one stream, in their order.
+//! The run of a script on a desk: its streams are opened, each of its lines is served, and all comes back.
 
-ghost use Rattle.std.specs.Prelude.{◌≡◌, ◌≢◌, ℕ, ◌∷◌, ◌++◌, ◌<◌, ◌≤◌, ◌+◌, ◌-◌, ◌^◌, [], length, reverse, IfOk, OnOk};
+ghost use Rattle.std.specs.Prelude.{◌≡◌, ℕ, ◌+◌, ◌≤◌, [], IfOk, IfErr, IfSome, OnErr, IsOk, is_some, length, reverse, true, vec_len, vec_capacity};
 ghost use Rattle.std.specs.List.{AllByRecursion};
-ghost use Rattle.cc_model.specs.Setup.{Setup};
 ghost use Rattle.cc_model.specs.Good.{IsGood};
-ghost use Rattle.cc_pieces.specs.Explained.{IsExplained};
 ghost use Rattle.cc_pieces.specs.Table.{table_of};
-ghost use Rattle.cc_effects.specs.Failures.{failures};
-ghost use Rattle.cc_run.specs.Stands.{opening_of};
-ghost use Rattle.cc_run.specs.Served.{IsServedStream, IsServedLine, IsCopy};
-ghost use Rattle.cc_run.specs.Disks.{IsUnchanged, FailuresAreCounted};
-ghost use Rattle.cc_run.specs.Lines.{Serves, ServedLines, one_phase, lines_answered};
+ghost use Rattle.cc_script.specs.Verbs.{offered};
+ghost use Rattle.cc_script.specs.Within.{IsWithin};
+ghost use Rattle.cc_turns.specs.Standing.{nothing};
+ghost use Rattle.cc_turns.specs.Desk.{IsFresh, standing_of};
+ghost use Rattle.cc_run.specs.Disks.{DisksAre, DisksStand, AreCounted, HaveRisen};
+ghost use Rattle.cc_run.specs.Lines.{IsRunExplained, given_of};
+ghost use Rattle.cc_run.specs.Setups.{run_disks, setup_of};
 
-use crate::cache::Cache;
-use cc_entry::{Answer, Entry, LineReply, NoMemory, Reply};
+use crate::lines::serve_lines;
+use crate::openings::open_streams;
+use crate::row::{first_of, put_back};
+use crate::table::printed_rows;
+use cc_entry::{Entry, LineReply, NoMemory};
+use cc_journal::Parts;
 use cc_print::TableRow;
-use cc_script::{Action, ActionLine, StreamLine};
-use cc_traits::PageDisk;
+use cc_script::Script;
+use cc_traits::{LogFile, PageDisk, PostRoutine, Setup};
+use cc_turns::Desk;
 use std::alloc::Global;
 
-/// The most lines of a script.
-const MOST_LINES: usize = 65536;
-
-/// What a run left: the answer of each line, the stream's own first, the journal, oldest entry first,
-/// and the rows of the pages that are dirty at the end.
-#[derive(Debug, Drop)]
-pub struct RunResult {
-    pub replies: Vec<LineReply>,
-    pub journal: Vec<Entry>,
-    pub table: Vec<TableRow>,
+/// What a run left.
+pub(crate) struct RunResult<D> {
+    /// The answer of each line, those of the streams first; the last ones are missing where memory was wanting.
+    pub(crate) replies: Vec<LineReply>,
+    /// The oldest entry first.
+    pub(crate) journal: Vec<Entry>,
+    /// The rows of the pages that are dirty at the end; None where memory was wanting after the run began.
+    pub(crate) table: Option<Vec<TableRow>>,
+    pub(crate) disks: Vec<D>,
 }
 
-/// Runs the lines on the stream, over a disk of its own. Where the disk tells its pages, every read
-/// answers the plain file's bytes. More lines than a script has are want of memory.
-pub fn run_stream<D: PageDisk>(
+/// Runs a script over the first disks that are handed in, 16 at most, which come back with the others. Where memory is
+/// wanting before the run begins, they come back as they were.
+pub(crate) fn run_script<D: PageDisk, L: LogFile, Q: PostRoutine>(
     alloc: Global,
-    stream: &StreamLine,
-    disk: &mut D,
-    lines: &[ActionLine],
-) -> Result<RunResult, NoMemory>
-    requires stream { IsServedStream stream.now }
-    requires lines { AllByRecursion IsServedLine lines.now }
-    ensures good { IfOk result (λ ran. (u : Setup) → u.opening 0 ≡ opening_of (D.told disk.old) → IsGood u (reverse ran.journal.items)) }
-    ensures explained { IfOk result (λ ran. (u : Setup) → u.opening 0 ≡ opening_of (D.told disk.old) →
-        IsExplained u (one_phase (stream.now ∷ []) lines.now) (lines_answered ran.replies.items) (reverse ran.journal.items)) }
-    ensures table { IfOk result (λ ran. ran.table.items ≡ table_of (reverse ran.journal.items)) }
-    ensures told { D.told disk.new ≡ D.told disk.old }
-    ensures counted { IfOk result (λ ran. D.faults disk.new ≡ D.faults disk.old + failures 0 (reverse ran.journal.items)) }
-    ensures risen { D.faults disk.old ≤ D.faults disk.new }
-    ensures unchanged { IfOk result (λ ran. IsUnchanged (reverse ran.journal.items)) }
-    ensures others { IfOk result (λ ran. (s : ℕ) → s ≢ 0 → failures s (reverse ran.journal.items) ≡ 0) }
+    script: &Script,
+    disks: Vec<D>,
+) -> Result<RunResult<D>, Vec<D>>
+    requires within { IsWithin offered script.now }
+    requires enough { length script.now.streams ≤ length disks.items }
+    ensures good { IfOk result (λ ran. IsGood (setup_of D.told D.faults script.now disks.items) (reverse ran.journal.items)) }
+    ensures explained { IfOk result (λ ran. IsRunExplained (setup_of D.told D.faults script.now disks.items)
+        (given_of script.now) ran.replies.items (is_some ran.table) (reverse ran.journal.items)) }
+    ensures table { IfOk result (λ ran. IfSome ran.table (λ rows. rows.items ≡ table_of (reverse ran.journal.items))) }
+    ensures disks { IfOk result (λ ran. DisksAre D.told (reverse ran.journal.items) disks.items ran.disks.items) }
+    ensures counted { IfOk result (λ ran. AreCounted D.faults (reverse ran.journal.items) disks.items ran.disks.items) }
+    ensures risen { IfOk result (λ ran. HaveRisen D.faults disks.items ran.disks.items) }
+    ensures kept { IfErr result (λ back. back.items ≡ disks.items) }
 {
-    let mut replies = Vec::new(alloc);
-    replies.reserve(1)?;
-    replies.push_reserved(LineReply {
-        line: stream.line,
-        answer: Answer::Given(Reply::Unit),
-    });
-    let mut cache = Cache::open(alloc, stream.size, stream.valid)?;
-    serve_lines(alloc, &mut cache, disk, lines, &mut replies)?;
-    let table = cache.table(alloc)?;
-    let journal = cache.into_journal().into_entries();
-    Ok(RunResult {
+    let mut rest = disks;
+    let count = script.streams.len() + script.lines.as_slice().len();
+    let Ok(replies) = Vec::with_capacity(alloc, count) else {
+        return Err(rest);
+    };
+    let Ok(first) = first_of(alloc, &mut rest) else {
+        return Err(rest);
+    };
+    let setup = Setup {
+        disks: first,
+        logs: Vec::new(alloc),
+        journal: script.journal,
+        threshold: script.threshold,
+    };
+    match Desk::<D, L, Q>::new(alloc, setup) {
+        Ok(desk) => {
+            let RunResult {
+                replies,
+                journal,
+                table,
+                disks,
+            } = run_on(alloc, script, desk, replies);
+            Ok(RunResult {
+                replies,
+                journal,
+                table,
+                disks: put_back(disks, rest),
+            })
+        }
+        Err((setup, _)) => Err(put_back(setup.disks, rest)),
+    }
+}
+
+// Runs a script on a desk of which nothing happened yet, with room for the replies.
+fn run_on<D: PageDisk, L: LogFile, Q: PostRoutine>(
+    alloc: Global,
+    script: &Script,
+    desk: Desk<D, L, Q>,
+    replies: Vec<LineReply>,
+) -> RunResult<D>
+    requires fresh { IsFresh desk.begun desk }
+    requires within { IsWithin offered script.now }
+    requires enough { length script.now.streams ≤ length desk.begun.disks }
+    requires none { replies.items ≡ [] }
+    requires room { length script.now.streams + length script.now.lines ≤ vec_capacity replies }
+    ensures good { IsGood (standing_of D.told D.faults L.told L.faults desk).setup (reverse result.journal.items) }
+    ensures explained { IsRunExplained (standing_of D.told D.faults L.told L.faults desk).setup
+        (given_of script.now) result.replies.items (is_some result.table) (reverse result.journal.items) }
+    ensures table { IfSome result.table (λ rows. rows.items ≡ table_of (reverse result.journal.items)) }
+    ensures disks { DisksStand D.told D.faults (standing_of D.told D.faults L.told L.faults desk).disks
+        (length desk.begun.disks) (reverse result.journal.items) result.disks.items }
+{
+    let mut desk = desk;
+    let mut replies = replies;
+    open_streams(alloc, &mut desk, script.streams.as_slice(), &mut replies);
+    let served = serve_lines(alloc, &mut desk, script.lines.as_slice(), &mut replies);
+    let table = table_after(alloc, &desk, served);
+    let Parts { disks, journal, .. } = desk.end();
+    RunResult {
         replies,
         journal,
         table,
-    })
+        disks,
+    }
 }
 
-ghost use Rattle.cc_run.specs.Caches.{CacheStands};
-
-/// Serves the lines, and puts the answer of each behind the replies.
-fn serve_lines<D: PageDisk>(
+// The rows of the dirty page table at the end, where the lines were served and there is memory for them.
+fn table_after<D: PageDisk, L: LogFile, Q: PostRoutine>(
     alloc: Global,
-    cache: &mut Cache,
-    disk: &mut D,
-    lines: &[ActionLine],
-    replies: &mut Vec<LineReply>,
-) -> Result<(), NoMemory>
-    requires lines { AllByRecursion IsServedLine lines.now }
-    requires calls { cache.old.calls ≡ 0 }
-    ensures stands { (u : Setup) → CacheStands u (D.told disk.old) cache.old → CacheStands u (D.told disk.new) cache.new }
-    ensures told { D.told disk.new ≡ D.told disk.old }
-    ensures counted { FailuresAreCounted D.faults disk.old disk.new cache.old.journal.entries cache.new.journal.entries }
-    ensures served { OnOk result ((u : Setup) → CacheStands u (D.told disk.old) cache.old →
-        ServedLines u lines.now replies.old.items replies.new.items cache.old.journal.entries cache.new.journal.entries) }
+    desk: &Desk<D, L, Q>,
+    served: Result<(), NoMemory>,
+) -> Option<Vec<TableRow>>
+    requires { desk.now.held ≡ nothing }
+    ensures served { is_some result ≡ true → IsOk served }
+    ensures table { IfSome result (λ rows. rows.items ≡ table_of desk.now.last.entries) }
 {
-    if lines.len() > MOST_LINES {
-        return Err(NoMemory);
-    }
-    for line in lines {
-        let answer = serve(alloc, cache, disk, &line.action);
-        replies.reserve(1)?;
-        replies.push_reserved(LineReply {
-            line: line.line,
-            answer,
-        });
-    }
-    Ok(())
-}
-
-/// The answer of one line.
-fn serve<D: PageDisk>(alloc: Global, cache: &mut Cache, disk: &mut D, action: &Action) -> Answer
-    requires copy { IsCopy action.now }
-    requires calls { cache.old.calls < 2 ^ 32 - 1 }
-    ensures stands { (u : Setup) → CacheStands u (D.told disk.old) cache.old → CacheStands u (D.told disk.new) cache.new }
-    ensures told { D.told disk.new ≡ D.told disk.old }
-    ensures counted { FailuresAreCounted D.faults disk.old disk.new cache.old.journal.entries cache.new.journal.entries }
-    ensures explained { (u : Setup) → CacheStands u (D.told disk.old) cache.old →
-        Serves u action.now result cache.old.journal.entries cache.new.journal.entries }
-    ensures calls { cache.new.calls ≤ cache.old.calls + 1 }
-{
-    match action {
-        Action::CopyRead { at, len, .. } => match cache.copy_read(alloc, disk, *at, *len) {
-            Ok(bytes) => Answer::Given(Reply::Read(bytes)),
-            Err(error) => Answer::Refused(error),
-        },
-        Action::CopyWrite { at, bytes, .. } => match cache.copy_write(alloc, disk, *at, bytes) {
-            Ok(()) => Answer::Given(Reply::Unit),
-            Err(error) => Answer::Refused(error),
-        },
-        _ => unreachable!(),
+    match served {
+        Ok(()) => printed_rows(alloc, desk.journal().dirty().rows()).ok(),
+        Err(NoMemory) => None,
     }
 }

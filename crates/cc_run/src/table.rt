@@ -1,29 +1,60 @@
 //! The rows of the pages that are dirty at the end of a run.
 
-ghost use Rattle.std.specs.Prelude.{◌≡◌, ℕ, ◌<◌, ◌≤◌, IfOk, None, map, length, vec_len};
-ghost use Rattle.std.specs.List.{filter, range_with_len};
-ghost use Rattle.cc_run.specs.Stands.{flag_at};
-ghost use Rattle.cc_run.specs.Rows.{unstamped_row};
+ghost use Rattle.std.specs.Prelude.{◌≡◌, IfOk, map, min, max};
+ghost use Rattle.cc_entry.specs.Lsns.{joined};
+ghost use Rattle.cc_run.specs.Rows.{printed_row};
 
-use crate::places::page_of_stream;
-use cc_entry::NoMemory;
+use cc_dirty::Row;
+use cc_entry::{Lsn, NoMemory};
 use cc_print::TableRow;
 use std::alloc::Global;
 
-/// A row for each page of the first stream whose flag is set.
-pub fn rows_of(alloc: Global, dirty: &[bool]) -> Result<Vec<TableRow>, NoMemory>
-    requires { length dirty.now ≤ 1024 }
-    ensures { IfOk result (λ rows. rows.items ≡ map unstamped_row (filter (flag_at dirty.now) (range_with_len 0 (length dirty.now)))) }
+/// The rows of the dirty page table, as they are printed.
+pub(crate) fn printed_rows(alloc: Global, rows: &[Row]) -> Result<Vec<TableRow>, NoMemory>
+    ensures { IfOk result (λ printed. printed.items ≡ map printed_row rows.now) }
 {
-    let mut rows = Vec::with_capacity(alloc, dirty.len())?;
-    for page in 0..dirty.len() {
-        if dirty[page] {
-            rows.push_reserved(TableRow {
-                page: page_of_stream(page as u64),
-                oldest: None,
-                newest: None,
-            });
+    let mut printed = Vec::with_capacity(alloc, rows.len())?;
+    for row in rows {
+        printed.push_reserved(printed_row(*row));
+    }
+    Ok(printed)
+}
+
+fn printed_row(row: Row) -> TableRow
+    ensures { result ≡ printed_row row }
+{
+    let (oldest, newest) = match joined(row.begun.lsns, row.later.lsns) {
+        None => (None, None),
+        Some((oldest, newest)) => (Some(oldest), Some(newest)),
+    };
+    TableRow {
+        page: row.page,
+        oldest,
+        newest,
+    }
+}
+
+// The least and the greatest LSN of both.
+fn joined(a: Option<(Lsn, Lsn)>, b: Option<(Lsn, Lsn)>) -> Option<(Lsn, Lsn)>
+    ensures { result ≡ joined a b }
+{
+    match (a, b) {
+        (None, others) => others,
+        (Some(lsns), None) => Some(lsns),
+        (Some((oldest, newest)), Some((older, newer))) => {
+            Some((least(oldest, older), greatest(newest, newer)))
         }
     }
-    Ok(rows)
+}
+
+fn least(a: Lsn, b: Lsn) -> Lsn
+    ensures { result ≡ min a b }
+{
+    if a.number() <= b.number() { a } else { b }
+}
+
+fn greatest(a: Lsn, b: Lsn) -> Lsn
+    ensures { result ≡ max a b }
+{
+    if a.number() <= b.number() { b } else { a }
 }

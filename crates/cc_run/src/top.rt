@@ -3,27 +3,25 @@
 ghost use Rattle.std.specs.Prelude.{◌≡◌, ◌⊎◌, ◌<◌, List, ◌≤◌, ◌+◌, ℕ, [], Some, None, true, false, is_some, reverse, map, length, string_bytes, vec_len, IfSome, IfOk, IfErr, OnOk, OnErr};
 ghost use Rattle.cc_model.specs.Setup.{Setup};
 ghost use Rattle.cc_model.specs.Good.{IsGood};
-ghost use Rattle.cc_script.specs.declared.script.Script.{Script as TheScript};
-ghost use Rattle.cc_pieces.specs.Explained.{IsExplained};
+ghost use Rattle.cc_script.specs.Verbs.{offered};
+ghost use Rattle.cc_script.specs.Within.{IsWithin};
 ghost use Rattle.cc_pieces.specs.Table.{table_of};
 ghost use Rattle.cc_print.specs.Text.{text_of as the_text_of};
 ghost use Rattle.cc_traits.specs.Told.{Both, Took};
-ghost use Rattle.cc_run.specs.Opens.{OpensWith};
-ghost use Rattle.cc_run.specs.Served.{IsServed};
+ghost use Rattle.cc_run.specs.Setups.{IsSetupOf, setup_of};
 ghost use Rattle.cc_run.specs.Ends.{Input, input, output, IsCause, IsRefused, IsEnded, IsRead, Spells, IsWrong, WasTaken, HasTooFewDisks, IsFaultPut, IsPrinted};
 ghost use Rattle.cc_run.specs.Complete.{EndsWith, SyntaxAlways, TooLongAlways, TooLongTold, TooFewAlways, Completes};
 ghost use Rattle.cc_run.specs.declared.no_run.NoRun.TheVariants as no_run;
 ghost use Rattle.cc_run.specs.Disks.{DisksAre, AreCounted, HaveRisen};
 ghost use Rattle.cc_run.specs.Words.{is_run};
-ghost use Rattle.cc_run.specs.Lines.{given_of, lines_answered};
+ghost use Rattle.cc_run.specs.Lines.{ExplainsRun, given_of, lines_answered};
 
 use crate::intake::{IntakeError, take_all};
 use crate::no_run::{NoRun, syntax_text};
 use crate::output::{OutputError, put_all};
-use crate::run::{RunResult, run_stream};
-use crate::served::is_served;
+use crate::run::{RunResult, run_script};
 use crate::words::command_of;
-use cc_entry::{Entry, LineReply, NoMemory};
+use cc_entry::{Entry, LineReply};
 use cc_print::text_of;
 use cc_script::{Mode, Script, ScriptFault, read_script};
 use cc_traits::{Gate, LogFile, PageDisk, PostRoutine, Sink, Source};
@@ -36,9 +34,9 @@ pub struct Ended<D, L = Box<dyn LogFile + Send>, Q = Box<dyn PostRoutine + Send>
     /// 7 there are too few disks.
     pub status: u8,
     /// The script that was run, where one was: at the statuses 0 and 4, and at 6 where memory was wanting
-    /// after the run.
+    /// after the run began.
     pub script: Option<Script>,
-    /// The answer of each line.
+    /// The answer of each line; the last ones are missing where memory was wanting for one.
     pub replies: Vec<LineReply>,
     /// The answers of the lazy writer, with the number of the phase, from 1, as line. There is none yet.
     pub ticks: Vec<LineReply>,
@@ -52,11 +50,12 @@ pub struct Ended<D, L = Box<dyn LogFile + Send>, Q = Box<dyn PostRoutine + Send>
 }
 
 /// What was made of the words, the script and the disks.
-struct Report {
+struct Report<D> {
     status: u8,
     script: Option<Script>,
     replies: Vec<LineReply>,
     journal: Vec<Entry>,
+    disks: Vec<D>,
 }
 
 /// Puts out why no run was made, as far as the sink takes it. What ends the program is answered: where
@@ -79,10 +78,11 @@ fn put_fault<K: Sink>(alloc: Global, out: &mut K, why: NoRun) -> NoRun
 }
 
 /// A report without a run.
-fn refused<K: Sink>(alloc: Global, out: &mut K, why: NoRun) -> Report
+fn refused<K: Sink, D>(alloc: Global, out: &mut K, why: NoRun, disks: Vec<D>) -> Report<D>
     ensures script { result.script ≡ None }
     ensures replies { result.replies.items ≡ [] }
     ensures journal { result.journal.items ≡ [] }
+    ensures disks { result.disks ≡ disks }
     ensures refused { (i : Input) → IsCause i why → IsRefused i (output K.told K.faults K.stalls out.old out.new) result.status }
 {
     let why = put_fault(alloc, out, why);
@@ -91,6 +91,7 @@ fn refused<K: Sink>(alloc: Global, out: &mut K, why: NoRun) -> Report
         script: None,
         replies: Vec::new(alloc),
         journal: Vec::new(alloc),
+        disks,
     }
 }
 
@@ -106,6 +107,7 @@ fn prepare<S: Source>(
     ensures untouched { is_run (map string_bytes words.now) ≡ false → source.new ≡ source.old }
     ensures given { WasTaken (S.told source.old) (S.told source.new) (S.taken source.old) (S.taken source.new) }
     ensures bounded { S.taken source.new ≤ S.taken source.old + 16777217 }
+    ensures within { IfOk result (IsWithin offered) }
     ensures enough { IfOk result (λ script. length script.streams ≤ disks) }
     ensures cause { IfErr result (IsCause (input S.told S.faults S.taken (map string_bytes words.now) source.old source.new disks)) }
 {
@@ -129,45 +131,19 @@ fn prepare<S: Source>(
     Ok(script)
 }
 
-/// Runs a script. A script that is not served is want of memory: the reader lets none through.
-fn run_script<D: PageDisk>(
-    alloc: Global,
-    script: &Script,
-    disks: &mut Vec<D>,
-) -> Result<RunResult, NoMemory>
-    requires { length script.now.streams ≤ vec_len disks.old }
-    ensures good { IfOk result (λ ran. (u : Setup) → OpensWith u D.told disks.old.items → IsGood u (reverse ran.journal.items)) }
-    ensures explained { IfOk result (λ ran. (u : Setup) → OpensWith u D.told disks.old.items →
-        IsExplained u (given_of script.now) (lines_answered ran.replies.items) (reverse ran.journal.items)) }
-    ensures table { IfOk result (λ ran. ran.table.items ≡ table_of (reverse ran.journal.items)) }
-    ensures disks { IfOk result (λ ran. DisksAre D.told (reverse ran.journal.items) disks.old.items disks.new.items) }
-    ensures counted { IfOk result (λ ran. AreCounted D.faults (reverse ran.journal.items) disks.old.items disks.new.items) }
-    ensures kept { OnErr result (DisksAre D.told [] disks.old.items disks.new.items) }
-    ensures risen { HaveRisen D.faults disks.old.items disks.new.items }
-{
-    if !is_served(script) {
-        return Err(NoMemory);
-    }
-    let Some(stream) = script.streams.as_slice().first() else {
-        return Ok(RunResult {
-            replies: Vec::new(alloc),
-            journal: Vec::new(alloc),
-            table: Vec::new(alloc),
-        });
-    };
-    let ran = run_stream(alloc, stream, &mut disks[0], script.lines.as_slice())?;
-    Ok(ran)
-}
-
 /// Prints a run, and answers the status: 0 where all of the text went out, 4 where the sink failed, 6
 /// where memory was wanting.
-fn print<K: Sink>(alloc: Global, out: &mut K, script: &Script, ran: &RunResult) -> u8
-    requires { ran.now.table.items ≡ table_of (reverse ran.now.journal.items) }
-    ensures { IsPrinted (output K.told K.faults K.stalls out.old out.new)
+fn print<K: Sink, D>(alloc: Global, out: &mut K, script: &Script, ran: &RunResult<D>) -> u8
+    requires { IfSome ran.now.table (λ rows. rows.items ≡ table_of (reverse ran.now.journal.items)) }
+    ensures printed { IsPrinted (output K.told K.faults K.stalls out.old out.new)
         (the_text_of script.now ran.now.replies.items ran.now.journal.items (table_of (reverse ran.now.journal.items)))
         result }
+    ensures whole { is_some ran.now.table ≡ false → result ≡ 6 }
 {
-    match text_of(alloc, script, &ran.replies, &ran.journal, &ran.table) {
+    let Some(table) = &ran.table else {
+        return 6;
+    };
+    match text_of(alloc, script, &ran.replies, &ran.journal, table) {
         Ok(text) => match put_all(out, &text) {
             Ok(()) => 0,
             Err(OutputError::Failed) => 4,
@@ -183,48 +159,52 @@ fn conduct<S: Source, K: Sink, D: PageDisk>(
     words: &[String],
     source: &mut S,
     out: &mut K,
-    disks: &mut Vec<D>,
-) -> Report
-    ensures good { (u : Setup) → OpensWith u D.told disks.old.items → IsGood u (reverse result.journal.items) }
+    disks: Vec<D>,
+) -> Report<D>
+    ensures good { (u : Setup) → IsSetupOf D.told D.faults result.script disks.items u → IsGood u (reverse result.journal.items) }
     ensures ended { IsEnded
-        (input S.told S.faults S.taken (map string_bytes words.now) source.old source.new (length disks.old.items))
+        (input S.told S.faults S.taken (map string_bytes words.now) source.old source.new (length disks.items))
         (output K.told K.faults K.stalls out.old out.new)
         result.script result.replies.items result.journal.items result.status }
-    ensures explained { IfSome result.script (λ made. (u : Setup) → OpensWith u D.told disks.old.items →
-        IsExplained u (given_of made) (lines_answered result.replies.items) (reverse result.journal.items)) }
+    ensures explained { IfSome result.script (λ made. ExplainsRun (setup_of D.told D.faults made disks.items)
+        result.status (given_of made) (lines_answered result.replies.items) (reverse result.journal.items)) }
     ensures untouched { is_run (map string_bytes words.now) ≡ false → source.new ≡ source.old }
     ensures given { WasTaken (S.told source.old) (S.told source.new) (S.taken source.old) (S.taken source.new) }
     ensures bounded { S.taken source.new ≤ S.taken source.old + 16777217 }
-    ensures disks { DisksAre D.told (reverse result.journal.items) disks.old.items disks.new.items }
-    ensures counted { is_some result.script ≡ true → AreCounted D.faults (reverse result.journal.items) disks.old.items disks.new.items }
-    ensures risen { HaveRisen D.faults disks.old.items disks.new.items }
+    ensures disks { DisksAre D.told (reverse result.journal.items) disks.items result.disks.items }
+    ensures counted { AreCounted D.faults (reverse result.journal.items) disks.items result.disks.items }
+    ensures risen { HaveRisen D.faults disks.items result.disks.items }
 {
     let script = match prepare(alloc, words, source, disks.len()) {
         Ok(prepared) => prepared,
-        Err(why) => return refused(alloc, out, why),
+        Err(why) => return refused(alloc, out, why, disks),
     };
-    let ran = match run_script(alloc, &script, disks) {
+    let ran = match run_script::<D, Box<dyn LogFile + Send>, Box<dyn PostRoutine + Send>>(
+        alloc, &script, disks,
+    ) {
         Ok(ran) => ran,
-        Err(_) => return refused(alloc, out, NoRun::NoMemory),
+        Err(disks) => return refused(alloc, out, NoRun::NoMemory, disks),
     };
     let status = print(alloc, out, &script, &ran);
     let RunResult {
         replies,
         journal,
-        ..
+        table: _,
+        disks,
     } = ran;
     Report {
         status,
         script: Some(script),
         replies,
         journal,
+        disks,
     }
 }
 
 /// The run of the program: the words of the command line without its name, the script's bytes from a
 /// source, the text to a sink, a disk for each stream, and the logs and post routines, which come back
 /// as they were. Whatever is handed in, the journal that is given back is good over the pages that the
-/// first disk tells.
+/// disks tell, and it is what happened, also where memory was wanting after the run began.
 pub fn cache_main<S: Source, K: Sink, D: PageDisk, P: Gate>(
     alloc: Global,
     words: &[String],
@@ -235,7 +215,7 @@ pub fn cache_main<S: Source, K: Sink, D: PageDisk, P: Gate>(
     posts: Vec<Box<dyn PostRoutine + Send>>,
     _gate: &P,
 ) -> Ended<D>
-    ensures good { (u : Setup) → OpensWith u D.told disks.items → IsGood u (reverse result.journal.items) }
+    ensures good { (u : Setup) → IsSetupOf D.told D.faults result.script disks.items u → IsGood u (reverse result.journal.items) }
     ensures ended { IsEnded
         (input S.told S.faults S.taken (map string_bytes words.now) script.old script.new (length disks.items))
         (output K.told K.faults K.stalls out.old out.new)
@@ -270,8 +250,8 @@ pub fn cache_main<S: Source, K: Sink, D: PageDisk, P: Gate>(
     ensures bounded { S.taken script.new ≤ S.taken script.old + 16777217 }
     ensures made { (result.status ≡ 0) ⊎ (result.status ≡ 4) → is_some result.script ≡ true }
     ensures spelled { IfSome result.script (Spells (S.told script.old)) }
-    ensures explained { IfSome result.script (λ made. (u : Setup) → OpensWith u D.told disks.items →
-        IsExplained u (given_of made)
+    ensures explained { IfSome result.script (λ made. ExplainsRun (setup_of D.told D.faults made disks.items)
+        result.status (given_of made)
         (record { replies = result.replies.items; ticked = result.ticks.items; stepped = result.aheads.items })
         (reverse result.journal.items)) }
     ensures empty { result.script ≡ None → result.journal.items ≡ [] }
@@ -280,19 +260,18 @@ pub fn cache_main<S: Source, K: Sink, D: PageDisk, P: Gate>(
     ensures ticks { result.ticks.items ≡ [] }
     ensures aheads { result.aheads.items ≡ [] }
     ensures disks { DisksAre D.told (reverse result.journal.items) disks.items result.disks.items }
-    ensures counted { is_some result.script ≡ true →
-        AreCounted D.faults (reverse result.journal.items) disks.items result.disks.items }
+    ensures counted { AreCounted D.faults (reverse result.journal.items) disks.items result.disks.items }
     ensures risen { HaveRisen D.faults disks.items result.disks.items }
     ensures logs { result.logs ≡ logs }
     ensures posts { result.posts ≡ posts }
 {
-    let mut disks = disks;
     let Report {
         status,
         script,
         replies,
         journal,
-    } = conduct(alloc, words, script, out, &mut disks);
+        disks,
+    } = conduct(alloc, words, script, out, disks);
     Ended {
         status,
         script,

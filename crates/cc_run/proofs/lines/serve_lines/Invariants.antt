@@ -1,0 +1,17 @@
+use Rattle.std.proofs.Common.{◌≡◌, ◌+◌, length, take}
+use Rattle.std.specs.Prelude.{vec_capacity}
+use Rattle.cc_turns.specs.Desk.{standing_of}
+use Rattle.cc_run.specs.Desks.{IsReady, IsSameRun}
+use Rattle.cc_run.specs.Lines.{LinesServed}
+use Rattle.cc_run.proofs.lines.serve_lines.Given as goal
+
+abbrev pub invariant-loop-line : goal.invariant-loop-line
+invariant-loop-line g l =
+    let at = standing_of g.D.Told.told g.D.Told.faults g.L.LogFile.told g.L.LogFile.faults in
+    record {
+      run : IsSameRun (at l.initial.desk) (at l.desk);
+      ready : IsReady (at l.desk);
+      long : length l.replies.items ≡ length l.initial.replies.items + l.line-index;
+      room : vec_capacity l.replies ≡ vec_capacity l.initial.replies;
+      served : LinesServed (at l.initial.desk).setup (take l.line-index l.lines) l.initial.replies.items l.replies.items l.initial.desk.last.entries l.desk.last.entries;
+    }

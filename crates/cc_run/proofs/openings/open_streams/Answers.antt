@@ -1,0 +1,52 @@
+use Rattle.std.proofs.Common.{◌≡◌, ◌+◌, ◌++◌, ◌∷◌, [], take, false, refl, sym, subst, ◌∙◌, arith, ap}
+use Rattle.std.proofs.lemmas.List.{take_more, length-take}
+use Rattle.cc_script.specs.Within.{IsStreamWithin}
+use Rattle.cc_pieces.specs.Openings.{Opens}
+use Rattle.cc_turns.specs.Desk.{standing_of}
+use Rattle.cc_turns.specs.Takes.{HasActed}
+use Rattle.cc_step.specs.Step.{owes_store}
+use Rattle.cc_run.proofs.Acting.{goes-pass, pass-then}
+use Rattle.cc_run.proofs.Opening.{opens-one, stream-more}
+use Rattle.cc_run.proofs.Others.{idle-acted, settled-all}
+use Rattle.cc_run.proofs.Lists.{all-at}
+use Rattle.cc_run.proofs.RowSteps.{longer}
+use Rattle.cc_run.proofs.openings.open_streams.Goals as goal
+
+pub loop-stream-preserved : goal.loop-stream-preserved
+loop-stream-preserved g c =
+    let before = c.loop-stream.invariant in
+    let went = c.open_stream-answer.ensures.goes_on in
+    let more : take (c.loop-stream.stream-index + 1) c.args.streams.now ≡ take c.loop-stream.stream-index c.args.streams.now ++ c.stream-item.result ∷ [] =
+    take_more c.args.streams.now c.loop-stream.stream-index c.stream-item.result c.loop-stream-test.true ∙ ap (λ x. take c.loop-stream.stream-index c.args.streams.now ++ x ∷ []) (sym c.stream-item.is) in
+    let within : IsStreamWithin c.stream-item.result = rw c.stream-item.is (all-at IsStreamWithin c.args.streams.now c.loop-stream.stream-index c.stream-item.result c.loop-stream-test.true c.requires.within) in
+    let rest = ap (λ w. w.in_flight) went.same ∙ before.rest in
+    let one = opens-one (standing_of g.D.Told.told g.D.Told.faults g.L.LogFile.told g.L.LogFile.faults c.loop-stream.desk) _ c.loop-stream.number c.stream-item.result c.open_stream-answer.result
+    within.unlogged went (before.pass.number ∙ c.requires.first) rest refl c.open_stream-answer.ensures.opened c.open_stream-answer.ensures.full in
+    record {
+      pass = pass-then _ _ _ before.pass (goes-pass _ _ went);
+      free = ap (λ w. w.held) went.same ∙ before.free;
+      rest = rest;
+      settled = c.open_stream-answer.ensures.settled;
+      number = ap (λ n. n + 1) before.number;
+      long = omega (arith, longer _ _ _ c.push_reserved.ensures.items, before.long);
+      room = c.push_reserved.ensures.capacity ∙ before.room;
+      opened = rw (more, c.push_reserved.ensures.items) (stream-more _ 0 c.loop-stream.number (take c.loop-stream.stream-index c.args.streams.now) c.stream-item.result c.open_stream-answer.result _ _ _ _ _
+          (omega (arith, before.number, length-take c.loop-stream.stream-index c.args.streams.now, c.loop-stream-test.true)) before.opened
+          (subst (λ u. Opens u c.loop-stream.number c.stream-item.result c.open_stream-answer.result c.loop-stream.desk.last.entries c.open_stream-answer.new.turns.last.entries) before.pass.run.setup one));
+    }
+
+pub returns-clause-alone : goal.returns-clause-alone
+returns-clause-alone g c = λ me other.
+    let pass = c.loop-stream.invariant.pass in
+    let acted : HasActed 0 c.args.desk.now.last.entries c.loop-stream.desk.last.entries = rw (pass.number ∙ c.requires.first, pass.since ∙ c.requires.begins) at c.own.ensures in
+    idle-acted me 0 _ _ other acted
+
+pub returns-clause-ready : goal.returns-clause-ready
+returns-clause-ready g c =
+    let pass = c.loop-stream.invariant.pass in
+    let acted : HasActed 0 c.args.desk.now.last.entries c.loop-stream.desk.last.entries = rw (pass.number ∙ c.requires.first, pass.since ∙ c.requires.begins) at c.own.ensures in
+    record {
+      free = c.loop-stream.invariant.free;
+      at_rest = c.loop-stream.invariant.rest;
+      settled = settled-all 0 _ _ acted (subst (λ n. owes_store c.loop-stream.desk.last.entries n ≡ false) (pass.number ∙ c.requires.first) c.loop-stream.invariant.settled) c.requires.ready.settled;
+    }

@@ -1,0 +1,116 @@
+//! One line: its action's call, over any turns, and its answer.
+
+ghost use Rattle.std.specs.Prelude.{IfOk, ℕ, List};
+ghost use Rattle.cc_entry.specs.declared.call.Call.TheVariants as call;
+ghost use Rattle.cc_pieces.specs.Answered.{CallAnswered};
+ghost use Rattle.cc_pieces.specs.Bindings.{Binding};
+ghost use Rattle.cc_pieces.specs.Served.{Served};
+ghost use Rattle.cc_turns.specs.Standing.{Standing};
+ghost use Rattle.cc_calls.specs.Answers.{CanCall};
+ghost use Rattle.cc_visits.specs.Hands.{IsSettled};
+ghost use Rattle.cc_calls.specs.Pages.{WentOn};
+ghost use Rattle.cc_run.specs.Lines.{CanServe, IsFullTold, told_of};
+ghost use Rattle.std.specs.Prelude.{◌≡◌};
+
+use cc_calls::{copy_read, copy_write, set_file_sizes, zero_data};
+use cc_entry::{Answer, Bytes, CcError, FileId, NoMemory, Reply, Span};
+use cc_script::Action;
+use cc_turns::Turns;
+use std::alloc::Global;
+
+/// Serves an action, and answers its line. Want of memory for the call is an answer; for the reply of a call that was
+/// done it is not, since the journal has the call then.
+pub(crate) fn serve<T: Turns>(
+    alloc: Global,
+    turns: &mut T,
+    action: &Action,
+) -> Result<Answer, NoMemory>
+    requires { CanServe (T.standing turns.old) action.now }
+    ensures served { IfOk result (λ told. (bindings : List Binding) → Served (T.standing turns.old).setup
+        (T.standing turns.old).number bindings action.now told (T.standing turns.old).seen (T.standing turns.new).seen) }
+    ensures full { IfOk result (IsFullTold (T.standing turns.new)) }
+    ensures goes_on { WentOn (T.standing turns.old) (T.standing turns.new) }
+    ensures settled { IsSettled (T.standing turns.new) }
+{
+    match action {
+        Action::CopyRead {
+            file,
+            at,
+            len,
+            wait,
+        } => read(alloc, turns, *file, *at, *len, *wait),
+        Action::CopyWrite { file, at, bytes } => Ok(write(alloc, turns, *file, *at, bytes)),
+        Action::Zero { file, span } => Ok(zero(alloc, turns, *file, *span)),
+        Action::SetSizes {
+            file,
+            allocation,
+            size,
+        } => Ok(answered(set_file_sizes(alloc, turns, *file, *allocation, *size))),
+        Action::State { .. } | Action::Flush { .. } | Action::IsDirtyData => unreachable!(),
+    }
+}
+
+/// The answer of a line whose call answers no value.
+pub(crate) fn answered(ended: Result<(), CcError>) -> Answer
+    ensures { result ≡ told_of ended }
+{
+    match ended {
+        Ok(()) => Answer::Given(Reply::Unit),
+        Err(error) => Answer::Refused(error),
+    }
+}
+
+// A copied read, whose bytes are the answer.
+fn read<T: Turns>(
+    alloc: Global,
+    turns: &mut T,
+    file: FileId,
+    at: u64,
+    len: u64,
+    wait: bool,
+) -> Result<Answer, NoMemory>
+    requires { CanCall (T.standing turns.old) file.stream }
+    ensures answered { IfOk result (λ told. CallAnswered (T.standing turns.old).setup (T.standing turns.old).number
+        (call.CopyRead file at len wait) told (T.standing turns.old).seen (T.standing turns.new).seen) }
+    ensures full { IfOk result (IsFullTold (T.standing turns.new)) }
+    ensures goes_on { WentOn (T.standing turns.old) (T.standing turns.new) }
+    ensures settled { IsSettled (T.standing turns.new) }
+{
+    let Ok(mut out) = vec![in alloc; 0; len as usize] else {
+        return Ok(Answer::Refused(CcError::NoMemory));
+    };
+    match copy_read(alloc, turns, file, at, wait, &mut out) {
+        Ok(count) => {
+            let bytes = Bytes::of(alloc, &out[..count])?;
+            Ok(Answer::Given(Reply::Read(bytes)))
+        }
+        Err(error) => Ok(Answer::Refused(error)),
+    }
+}
+
+// A copied write.
+fn write<T: Turns>(alloc: Global, turns: &mut T, file: FileId, at: u64, bytes: &Bytes) -> Answer
+    requires { CanCall (T.standing turns.old) file.stream }
+    ensures answered { CallAnswered (T.standing turns.old).setup (T.standing turns.old).number
+        (call.CopyWrite file at bytes.now) result (T.standing turns.old).seen (T.standing turns.new).seen }
+    ensures full { IsFullTold (T.standing turns.new) result }
+    ensures goes_on { WentOn (T.standing turns.old) (T.standing turns.new) }
+    ensures settled { IsSettled (T.standing turns.new) }
+{
+    let Ok(piece) = bytes.to_vec(alloc) else {
+        return Answer::Refused(CcError::NoMemory);
+    };
+    answered(copy_write(alloc, turns, file, at, &piece))
+}
+
+// A zeroing.
+fn zero<T: Turns>(alloc: Global, turns: &mut T, file: FileId, span: Span) -> Answer
+    requires { CanCall (T.standing turns.old) file.stream }
+    ensures answered { CallAnswered (T.standing turns.old).setup (T.standing turns.old).number
+        (call.Zero file span) result (T.standing turns.old).seen (T.standing turns.new).seen }
+    ensures full { IsFullTold (T.standing turns.new) result }
+    ensures goes_on { WentOn (T.standing turns.old) (T.standing turns.new) }
+    ensures settled { IsSettled (T.standing turns.new) }
+{
+    answered(zero_data(alloc, turns, file, span))
+}

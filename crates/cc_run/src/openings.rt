@@ -1,0 +1,75 @@
+//! The streams of a script on a desk, each of which is opened before the first line.
+
+ghost use Rattle.std.specs.Prelude.{◌≡◌, ◌≢◌, ℕ, ◌+◌, ◌<◌, ◌≤◌, length, vec_len, vec_capacity};
+ghost use Rattle.std.specs.List.{AllByRecursion};
+ghost use Rattle.cc_effects.specs.Moments.{IsIdle};
+ghost use Rattle.cc_pieces.specs.Answered.{CallAnswered};
+ghost use Rattle.cc_pieces.specs.Openings.{opening_call};
+ghost use Rattle.cc_script.specs.Within.{IsStreamWithin};
+ghost use Rattle.cc_calls.specs.Answers.{CanCall};
+ghost use Rattle.cc_visits.specs.Hands.{Went, IsSettled};
+ghost use Rattle.cc_turns.specs.Desk.{standing_of};
+ghost use Rattle.cc_run.specs.Desks.{IsReady, IsSameRun};
+ghost use Rattle.cc_run.specs.Lines.{IsFullTold, StreamsOpened};
+
+use crate::line::answered;
+use cc_calls::initialize;
+use cc_entry::{Answer, FileId, FileSizes, LineReply};
+use cc_script::StreamLine;
+use cc_traits::{LogFile, PageDisk, PostRoutine};
+use cc_turns::{Desk, Turns};
+use std::alloc::Global;
+
+/// Opens the streams in their order as pass 0, and puts the answer of each line behind the replies.
+pub(crate) fn open_streams<D: PageDisk, L: LogFile, Q: PostRoutine>(
+    alloc: Global,
+    desk: &mut Desk<D, L, Q>,
+    streams: &[StreamLine],
+    replies: &mut Vec<LineReply>,
+)
+    requires first { desk.old.pass ≡ 0 }
+    requires begins { desk.old.since ≡ desk.old.last.entries }
+    requires ready { IsReady (standing_of D.told D.faults L.told L.faults desk.old) }
+    requires known { length streams.now ≤ (standing_of D.told D.faults L.told L.faults desk.old).streams }
+    requires few { length streams.now ≤ 16 }
+    requires within { AllByRecursion IsStreamWithin streams.now }
+    requires room { vec_len replies.old + length streams.now ≤ vec_capacity replies.old }
+    ensures opened { StreamsOpened (standing_of D.told D.faults L.told L.faults desk.old).setup 0 streams.now
+        replies.old.items replies.new.items desk.old.last.entries desk.new.last.entries }
+    ensures alone { (me : ℕ) → me ≢ 0 → IsIdle me desk.old.last.entries desk.new.last.entries }
+    ensures run { IsSameRun (standing_of D.told D.faults L.told L.faults desk.old)
+        (standing_of D.told D.faults L.told L.faults desk.new) }
+    ensures ready { IsReady (standing_of D.told D.faults L.told L.faults desk.new) }
+    ensures capacity { vec_capacity replies.new ≡ vec_capacity replies.old }
+{
+    let mut number = 0;
+    for stream in streams {
+        let answer = open_stream(alloc, desk, number, stream);
+        replies.push_reserved(LineReply {
+            line: stream.line,
+            answer,
+        });
+        number += 1;
+    }
+    desk.own();
+}
+
+// Initialises the first object of a stream, with what is allocated as large as the size.
+fn open_stream<T: Turns>(alloc: Global, turns: &mut T, number: u8, stream: &StreamLine) -> Answer
+    requires can { CanCall (T.standing turns.old) number }
+    requires few { number < 16 }
+    ensures opened { CallAnswered (T.standing turns.old).setup (T.standing turns.old).number
+        (opening_call number stream.now) result (T.standing turns.old).seen (T.standing turns.new).seen }
+    ensures full { IsFullTold (T.standing turns.new) result }
+    ensures goes_on { Went (T.standing turns.old) (T.standing turns.new) }
+    ensures settled { IsSettled (T.standing turns.new) }
+{
+    let file = FileId::new(number, 0).unwrap();
+    let sizes = FileSizes {
+        allocation: stream.size,
+        size: stream.size,
+        valid: stream.valid,
+    };
+    let ended = initialize(alloc, turns, file, sizes, stream.quota, stream.temporary);
+    answered(ended)
+}
