@@ -1,15 +1,16 @@
-//! Runs at the largest sizes, with memory to spare: no clause can forbid that want of memory is answered.
+//! Runs at the largest sizes, with memory to spare: no clause can forbid that want of memory is answered. And a
+//! journal that fills up.
 
 use crate::program::{disk, run, sink, status_of, text_of};
 use cc_memdev::MemSource;
 use std::alloc::{AllocError, Global};
 use std::test::Fail;
 
-/// A script of one stream and so many reads of no byte.
-fn script_of(alloc: Global, reads: u32) -> Result<String, AllocError> {
-    let mut script = String::from_str(alloc, "stream a 8192 8192\n")?;
-    for _ in 0..reads {
-        script.push_str("cread a 0 0\n")?;
+/// A script of these header lines, and one line so many times.
+fn script_of(alloc: Global, header: &str, line: &str, times: u32) -> Result<String, AllocError> {
+    let mut script = String::from_str(alloc, header)?;
+    for _ in 0..times {
+        script.push_str(line)?;
     }
     Ok(script)
 }
@@ -31,7 +32,7 @@ fn lines_of(text: &str) -> u32 {
 fn many_lines_and_single_bytes(rt: HostRuntime) -> Result<(), Fail> {
     let alloc = rt.alloc();
     for (reads, chunk, lines) in [(65535, 4096, 131075), (416, 1, 837)] {
-        let script = script_of(alloc, reads)?;
+        let script = script_of(alloc, "stream a 8192 8192\n", "cread a 0 0\n", reads)?;
         let bytes = script.as_bytes().to_vec(alloc)?;
         let mut source = MemSource::new(bytes, chunk, Vec::new(alloc));
         let mut sink = sink(alloc);
@@ -52,5 +53,27 @@ fn a_write_of_a_mebibyte(rt: HostRuntime) -> Result<(), Fail> {
     let seen = run(rt.alloc(), script)?;
     assert_eq!(rt; seen.status, 0);
     assert!(rt; seen.text.starts_with(answers));
+    Ok(())
+}
+
+// One entry opens the stream and one brings the page in, so a journal of 64 has room for 62 reads. The text has
+// six lines beside those of the 63 reads and the 64 entries.
+#[test]
+fn a_journal_that_fills_up(rt: HostRuntime) -> Result<(), Fail> {
+    let alloc = rt.alloc();
+    let script = script_of(
+        alloc,
+        "journal 64\nstream a 8192 8192\n",
+        "cread a 0 1\n",
+        63,
+    )?;
+    let seen = run(alloc, script.as_str())?;
+    let text = seen.text;
+    assert_eq!(rt; (seen.status, lines_of(text.as_str())), (0, 133));
+    assert!(rt; text.starts_with("setup\n2 ok\ncaller t1\n3 ok 5A\n4 ok 5A\n"));
+    assert!(rt;
+        text.contains("\n64 ok 5A\n65 error 13 JournalFull 64\njournal\n1 call 0 1 init a:0")
+    );
+    assert!(rt; text.ends_with("\n64 call 1 62 cread a:0 0 1 = ok 5A\ntrace\nread a 0\n"));
     Ok(())
 }

@@ -130,23 +130,26 @@ journal
 ",
 };
 
-const READ_TOO_LONG: Row = Row {
+const TOO_LONG: Row = Row {
     script: "stream a 2097152 2097152
+zero a 0 1048577
 cread a 0 1048577
 ",
     text: "setup
 1 ok
 caller t1
 2 error 4 TooLong 1048576
+3 error 4 TooLong 1048576
 journal
 1 call 0 1 init a:0 2097152 2097152 2097152 quota 16 = ok
-2 call 1 1 cread a:0 0 1048577 = error 4 TooLong 1048576
+2 call 1 1 zero a:0 0 1048577 = error 4 TooLong 1048576
+3 call 1 2 cread a:0 0 1048577 = error 4 TooLong 1048576
 ",
 };
 
 #[test]
 fn refusals(rt: HostRuntime) -> Result<(), Fail> {
-    for row in [WRITE_BEYOND_SIZE, WRITE_BEYOND_VALID, READ_TOO_LONG] {
+    for row in [WRITE_BEYOND_SIZE, WRITE_BEYOND_VALID, TOO_LONG] {
         let seen = run(rt.alloc(), row.script)?;
         assert_eq!(rt;
             (seen.status, seen.text.as_str()),

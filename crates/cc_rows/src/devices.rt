@@ -84,10 +84,12 @@ impl Source for LineFeeds {
     }
 }
 
-/// A disk of one byte that tells nothing, as a file does, and whose first reads fail.
+/// A disk of one byte that tells nothing, as a file does, and whose first reads fail; those before them find no
+/// memory.
 #[derive(Drop)]
 pub struct UntoldDisk {
     pub fill: u8,
+    pub wants: u32,
     pub fails: u32,
     pub faults: Faults,
 }
@@ -100,6 +102,10 @@ impl Told for UntoldDisk {
 
 impl PageDisk for UntoldDisk {
     fn read_page(&mut self, _page: u64, out: &mut [u8; 4096]) -> Result<(), Stop> {
+        if self.wants > 0 {
+            self.wants -= 1;
+            return Err(Stop::NoMemory);
+        }
         if self.fails > 0 {
             self.fails -= 1;
             return Err(self.faults.raise());

@@ -181,19 +181,22 @@ fn no_bytes_and_the_size(rt: HostRuntime) -> Result<(), Fail> {
 }
 
 const LARGEST_FILE: Row = Row {
-    script: "stream a 4194304 4194304
-cread a 4194303 2
+    script: "stream a 9223372036854775807 9223372036854775807
+cread a 9223372036854775806 5
+cread a 9223372036854775807 1
 ",
     text: "setup
 1 ok
 caller t1
 2 ok 5A
+3 ok -
 journal
-1 call 0 1 init a:0 4194304 4194304 4194304 quota 16 = ok
-2 in a 1023 disk
-3 call 1 1 cread a:0 4194303 2 = ok 5A
+1 call 0 1 init a:0 9223372036854775807 9223372036854775807 9223372036854775807 quota 16 = ok
+2 in a 2251799813685247 disk
+3 call 1 1 cread a:0 9223372036854775806 5 = ok 5A
+4 call 1 2 cread a:0 9223372036854775807 1 = ok -
 trace
-read a 1023
+read a 2251799813685247
 ",
 };
 
@@ -202,7 +205,7 @@ fn the_largest_file(rt: HostRuntime) -> Result<(), Fail> {
     let row = LARGEST_FILE;
     let seen = run(rt.alloc(), row.script)?;
     assert_eq!(rt; (seen.status, seen.text.as_str()), (0, row.text));
-    let seen = run(rt.alloc(), "stream a 4194305 0\n")?;
+    let seen = run(rt.alloc(), "stream a 18446744073709551616 0\n")?;
     assert_eq!(rt;
         (seen.status, seen.text.as_str()),
         (2, "syntax at line 1\n")

@@ -96,17 +96,45 @@ fn the_second_read_fails(rt: HostRuntime) -> Result<(), Fail> {
     Ok(())
 }
 
-// A disk that tells nothing serves like one that tells its pages.
+const READ_AFTER_WANT_OF_MEMORY: Row = Row {
+    script: "stream a 8192 8192
+cread a 0 1
+cread a 0 1
+",
+    text: "setup
+1 ok
+caller t1
+2 error 19 NoMemory
+3 ok 5A
+journal
+1 call 0 1 init a:0 8192 8192 8192 quota 16 = ok
+2 in a 0 disk
+3 call 1 1 cread a:0 0 1 = ok 5A
+trace
+read a 0
+",
+};
+
+// A disk that tells nothing serves like one that tells its pages. A call that found no memory leaves no entry.
 #[test]
 fn a_disk_that_tells_nothing(rt: HostRuntime) -> Result<(), Fail> {
-    for (fails, row) in [(0, WRITE_AT_VALID), (1, READ_AFTER_A_FAULT)] {
+    for (wants, fails, row) in [
+        (0, 0, WRITE_AT_VALID),
+        (0, 1, READ_AFTER_A_FAULT),
+        (1, 0, READ_AFTER_WANT_OF_MEMORY),
+    ] {
         let disk = UntoldDisk {
             fill: 0x5A,
+            wants,
             fails,
             faults: Faults::new(),
         };
         let seen = run_over(rt.alloc(), row.script, disk)?;
-        assert_eq!(rt; (seen.status, seen.text.as_str()), (0, row.text), "{fails}");
+        assert_eq!(rt;
+            (seen.status, seen.text.as_str()),
+            (0, row.text),
+            "{wants} {fails}"
+        );
     }
     Ok(())
 }

@@ -25,3 +25,7 @@ mod files;
 mod program;
 #[cfg(test)]
 mod statuses;
+#[cfg(test)]
+mod streams;
+#[cfg(test)]
+mod views;

@@ -28,14 +28,32 @@ pub(crate) struct Seen {
     pub(crate) text: String,
 }
 
-/// A disk of 5A whose reads with these numbers fail.
-pub(crate) fn disk(alloc: Global, reads: &[u64]) -> Result<MemDisk, AllocError> {
+/// What a run gave back: its status, how many replies and entries there are, and the disks.
+#[derive(Drop)]
+pub(crate) struct Left<D> {
+    pub(crate) status: u8,
+    pub(crate) replies: usize,
+    pub(crate) entries: usize,
+    pub(crate) disks: Vec<D>,
+}
+
+/// A disk of 5A whose reads and writes with these numbers fail.
+pub(crate) fn disk_failing(
+    alloc: Global,
+    reads: &[u64],
+    writes: &[u64],
+) -> Result<MemDisk, AllocError> {
     let fails = DiskFails {
         reads: reads.to_vec(alloc)?,
-        writes: Vec::new(alloc),
+        writes: writes.to_vec(alloc)?,
         syncs: Vec::new(alloc),
     };
     Ok(MemDisk::new(alloc, 0x5A, fails))
+}
+
+/// A disk of 5A whose reads with these numbers fail.
+pub(crate) fn disk(alloc: Global, reads: &[u64]) -> Result<MemDisk, AllocError> {
+    disk_failing(alloc, reads, &[])
 }
 
 /// No disk.
@@ -59,30 +77,26 @@ pub(crate) fn text_of(alloc: Global, sink: &MemSink) -> Result<String, AllocErro
     String::from_utf8_lossy(alloc, sink.taken())
 }
 
-/// Runs the program, and answers its status.
-pub(crate) fn status_of<S: Source, K: Sink, D: PageDisk + Drop>(
+/// Runs the program over these disks.
+pub(crate) fn left_by<S: Source, K: Sink, D: PageDisk + Drop>(
     alloc: Global,
     words: &[&str],
     source: &mut S,
     sink: &mut K,
-    disk: Option<D>,
-) -> Result<u8, AllocError> {
+    disks: Vec<D>,
+) -> Result<Left<D>, AllocError> {
     let mut own = Vec::new(alloc);
     for word in words {
         own.push(String::from_str(alloc, word)?)?;
     }
-    let mut disks = Vec::new(alloc);
-    if let Some(disk) = disk {
-        disks.push(disk).map_err(|_| AllocError)?;
-    }
     let Ended {
         status,
         script: _script,
-        replies: _replies,
+        replies,
         ticks: _ticks,
         aheads: _aheads,
-        journal: _journal,
-        disks: _disks,
+        journal,
+        disks,
         logs: _logs,
         posts: _posts,
     } = cache_main(
@@ -95,7 +109,27 @@ pub(crate) fn status_of<S: Source, K: Sink, D: PageDisk + Drop>(
         Vec::new(alloc),
         &Free,
     );
-    Ok(status)
+    Ok(Left {
+        status,
+        replies: replies.len(),
+        entries: journal.len(),
+        disks,
+    })
+}
+
+/// Runs the program over a disk or none, and answers its status.
+pub(crate) fn status_of<S: Source, K: Sink, D: PageDisk + Drop>(
+    alloc: Global,
+    words: &[&str],
+    source: &mut S,
+    sink: &mut K,
+    disk: Option<D>,
+) -> Result<u8, AllocError> {
+    let mut disks = Vec::new(alloc);
+    if let Some(disk) = disk {
+        disks.push(disk).map_err(|_| AllocError)?;
+    }
+    Ok(left_by(alloc, words, source, sink, disks)?.status)
 }
 
 /// Runs a script over a disk.
@@ -109,6 +143,41 @@ pub(crate) fn run_over<D: PageDisk + Drop>(
     let status = status_of(alloc, &["run", "s"], &mut source, &mut sink, Some(disk))?;
     let text = text_of(alloc, &sink)?;
     Ok(Seen { status, text })
+}
+
+/// Runs a script over a disk that it gives back.
+pub(crate) fn run_on(
+    alloc: Global,
+    script: &str,
+    disk: MemDisk,
+) -> Result<(Seen, MemDisk), AllocError> {
+    let mut source = source(alloc, script)?;
+    let mut sink = sink(alloc);
+    let mut disks = Vec::new(alloc);
+    disks.push(disk).map_err(|_| AllocError)?;
+    let mut left = left_by(alloc, &["run", "s"], &mut source, &mut sink, disks)?;
+    let text = text_of(alloc, &sink)?;
+    let seen = Seen {
+        status: left.status,
+        text,
+    };
+    Ok((seen, left.disks.pop().ok_or(AllocError)?))
+}
+
+/// Runs a script over five disks that never fail.
+pub(crate) fn run_over_five(alloc: Global, script: &str) -> Result<Seen, AllocError> {
+    let mut source = source(alloc, script)?;
+    let mut sink = sink(alloc);
+    let mut disks = Vec::new(alloc);
+    for _ in 0..5 {
+        disks.push(disk(alloc, &[])?).map_err(|_| AllocError)?;
+    }
+    let left = left_by(alloc, &["run", "s"], &mut source, &mut sink, disks)?;
+    let text = text_of(alloc, &sink)?;
+    Ok(Seen {
+        status: left.status,
+        text,
+    })
 }
 
 /// Runs a script over a disk that never fails.

@@ -1,6 +1,6 @@
 //! The exit statuses, and what of the text goes out.
 
-use crate::program::{disk, no_disk, sink, source, status_of, text_of};
+use crate::program::{disk, left_by, no_disk, sink, source, status_of, text_of};
 use crate::{LineFeeds, NarrowSink};
 use cc_memdev::{MemSink, MemSource};
 use cc_traits::Source;
@@ -164,6 +164,21 @@ fn sinks_that_stop(rt: HostRuntime) -> Result<(), Fail> {
         assert_eq!(rt; (ended, printed.as_str()), (status, text), "{most} {call}");
         assert_eq!(rt; sink.inner.faults(), faults);
     }
+    Ok(())
+}
+
+// Where memory is wanting for the text, what happened comes back: the answers, the journal and the disks.
+#[test]
+fn a_sink_that_finds_no_memory(rt: HostRuntime) -> Result<(), Fail> {
+    let alloc = rt.alloc();
+    let mut sink = narrow_sink(alloc, 0, 9)?;
+    sink.stalls = u64::MAX;
+    let disks = vec![in alloc; disk(alloc, &[])?]?;
+    let left = left_by(alloc, &RUN, &mut source(alloc, SCRIPT)?, &mut sink, disks)?;
+    assert_eq!(rt;
+        (left.status, left.replies, left.entries, left.disks.len()),
+        (6, 2, 2, 1)
+    );
     Ok(())
 }
 

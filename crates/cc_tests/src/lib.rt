@@ -11,6 +11,8 @@ mod ahead;
 #[cfg(test)]
 mod bcb;
 #[cfg(test)]
+mod desk;
+#[cfg(test)]
 mod devices;
 #[cfg(test)]
 mod dirty;

@@ -16,33 +16,58 @@ fn wrong_line(answer: Result<Script, ScriptFault>) -> Option<u32> {
 }
 
 /// Scripts with every verb offered, each with its first wrong line.
-const WHOLE: [(&str, u32); 34] = [
+const WHOLE: [(&str, u32); 50] = [
     ("", 0),
     ("# a comment\n\n  \n\r\n  stream   a  8192 8192  \r", 0),
     (" # no comment", 1),
     ("#\u{7f}", 1),
     ("stream a 8192\r 8192", 1),
     ("stream a 8192\t8192", 1),
-    ("stream abcdefghijklmn16 4194304 18446744073709551615", 0),
+    (
+        "stream abcdefghijklmn16 18446744073709551615 18446744073709551615",
+        0,
+    ),
+    ("stream a 8192 9000", 0),
     ("stream abcdefghijklmno17 1 1", 1),
     ("stream 1a 1 1", 1),
-    ("stream a 4194305 0", 1),
+    ("stream a 18446744073709551616 0", 1),
     ("stream a 1 18446744073709551616", 1),
+    (
+        "stream a 1 1 quota 8\nstream b 1 1 temporary\nstream c 1 1 quota 64 temporary",
+        0,
+    ),
+    ("stream a 1 1 quota", 1),
+    ("stream a 1 1 quota 7", 1),
+    ("stream a 1 1 quota 65", 1),
+    ("stream a 1 1 quota 8 quota 8", 1),
+    ("stream a 1 1 temporary quota 8", 1),
+    ("stream a 1 1 temporary temporary", 1),
+    ("stream a 1 1 log 0", 1),
     ("stream a 01 0", 1),
     ("stream a 1", 1),
     ("stream a 1 1 1", 1),
     ("stream a 1 1\nstream a 1 1", 2),
     ("stream a 1 1\nstate a\nstream b 1 1", 3),
     (
-        "journal 64\nstream a 1 1\nt16 state a\nt1 sizes a 18446744073709551615 4194304",
+        "journal 64\nstream a 1 1\nt16 state a\nt1 sizes a 18446744073709551615 18446744073709551615",
         0,
     ),
     ("journal 63", 1),
     ("journal 1048577", 1),
     ("journal 64\njournal 64", 2),
+    ("threshold 1\nstream a 1 1\njournal 64\nstream b 1 1", 0),
+    ("threshold 16384\nthreshold 16384", 2),
+    ("threshold 0", 1),
+    ("threshold 16385", 1),
+    ("t1 threshold 1", 1),
+    ("workers 0 1", 1),
     ("stream a 1 1\nt1 phase", 2),
     ("stream a 1 1\nt17 state a", 2),
     ("stream a 1 1\nt1 t2 state a", 2),
+    (
+        "stream a 1 1\ncread a 0 1 nowait\ncread a 0 1 nowait nowait",
+        3,
+    ),
     ("stream a 1 1\ncread a 0", 2),
     ("stream a 1 1\ncread b 0 1", 2),
     ("stream a 1 1\ncread a:0 0 1", 2),
@@ -62,15 +87,19 @@ const WHOLE: [(&str, u32); 34] = [
     ("stream a 1 1\nflush a\nflush a 0 1\nisdirty\nflush a 1", 5),
 ];
 
-/// What the program offers: one stream, valid to its end at most, and copies.
-const COPIES: [(&str, u32); 7] = [
-    ("stream a 8192 8192\ncread a 0 1\ncwrite a 0 AB", 0),
-    ("stream a 8192 8193", 1),
-    ("stream a 1 1\nstream b 1 1", 2),
-    ("journal 64", 1),
-    ("stream a 1 1\nphase", 2),
-    ("stream a 1 1\nt1 cread a 0 1", 2),
+/// Scripts with what a run over the cache serves: no question, and no flush.
+const PAGES: [(&str, u32); 5] = [
+    (
+        "journal 64\nthreshold 1\nstream a 8192 8193 quota 8 temporary\nstream b 4194305 0",
+        0,
+    ),
+    (
+        "stream a 1 1\ncread a 0 1 nowait\nzero a 0 1\nphase\nt2 sizes a 1 1\nt2 cwrite a 0 AB",
+        0,
+    ),
+    ("stream a 1 1\nstate a", 2),
     ("stream a 1 1\nflush a", 2),
+    ("stream a 1 1\nisdirty", 2),
 ];
 
 fn reads(alloc: Global, offer: Offer, mode: Mode, text: &str, line: u32) -> bool {
@@ -90,7 +119,7 @@ fn mistaken<'a>(alloc: Global, offer: Offer, rows: &[(&'a str, u32)]) -> Option<
 #[test]
 fn takes_the_lines_of_the_grammar(rt: HostRuntime) {
     assert_eq!(rt; mistaken(rt.alloc(), Offer::Whole, &WHOLE), None);
-    assert_eq!(rt; mistaken(rt.alloc(), Offer::Copies, &COPIES), None);
+    assert_eq!(rt; mistaken(rt.alloc(), Offer::Pages, &PAGES), None);
     let phases = "stream a 1 1\nphase\nstate a";
     assert!(rt; reads(rt.alloc(), Offer::Whole, Mode::Run, phases, 0));
     assert!(rt; reads(rt.alloc(), Offer::Whole, Mode::Steps, phases, 2));
@@ -109,16 +138,42 @@ fn first_write(script: &Script) -> Option<(u32, u32, u32, u64, u64)> {
 
 #[test]
 fn keeps_values(rt: HostRuntime) -> Result<(), Fail> {
-    let text = b"# r\n\njournal 64\nstream a 9 7\nphase\nt3 cwrite a 5 AB,00x2\nflush a 1 4\n";
-    let script = read_offered(rt.alloc(), text, Mode::Run, Offer::Whole)
-        .ok()
-        .ok_or("read")?;
+    let text = b"# r\n\njournal 64\nstream a 9 7\nphase\nt3 cwrite a 5 AB,00x2\nzero a 1 4\n";
+    let script = read_script(rt.alloc(), text, Mode::Run).ok().ok_or("read")?;
     assert_eq!(rt; first_write(&script), Some((6, 2, 3, 5, 3)));
     assert_eq!(rt;
         (script.journal, script.threshold, script.phases),
         (64, 1024, 2)
     );
     Ok(())
+}
+
+/// What a script says of its first stream and its first read: the quota, whether it is temporary, whether
+/// the read may wait; and the threshold.
+fn options_of(alloc: Global, text: &str) -> Option<(u8, bool, bool, u32)> {
+    let script = read_script(alloc, text.as_bytes(), Mode::Run).ok()?;
+    let stream = script.streams.as_slice().first()?;
+    let first = script.lines.as_slice().first()?;
+    match first.action {
+        Action::CopyRead { wait, .. } => Some((
+            stream.quota.blocks(),
+            stream.temporary,
+            wait,
+            script.threshold,
+        )),
+        _ => None,
+    }
+}
+
+#[test]
+fn keeps_options(rt: HostRuntime) {
+    let said = "threshold 4\nstream a 9 7 quota 8 temporary\ncread a 0 1 nowait";
+    assert_eq!(rt; options_of(rt.alloc(), said), Some((8, true, false, 4)));
+    let unsaid = "stream a 9 7\ncread a 0 1";
+    assert_eq!(rt;
+        options_of(rt.alloc(), unsaid),
+        Some((16, false, true, 1024))
+    );
 }
 
 /// A script of one text, and another so many times.

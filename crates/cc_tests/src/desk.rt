@@ -1,0 +1,93 @@
+//! A test of a desk that is made, acted on and ended, and of the calls over it that no script makes.
+
+ghost use Rattle.std.specs.Prelude.{◌≡◌, length, IfOk};
+ghost use Rattle.cc_turns.specs.Desk.{IsFresh};
+
+use crate::devices::Routine;
+use cc_calls::{initialize, set_attributes, set_granularity, set_log_handle, set_threshold};
+use cc_entry::{CcError, FileId, FileSizes, Quota};
+use cc_journal::Parts;
+use cc_memdev::{DiskFails, LogFails, MemDisk, MemLog};
+use cc_traits::Setup;
+use cc_turns::{Desk, Turns};
+use std::alloc::Global;
+use std::test::Fail;
+
+fn disk(alloc: Global) -> MemDisk {
+    let fails = DiskFails {
+        reads: Vec::new(alloc),
+        writes: Vec::new(alloc),
+        syncs: Vec::new(alloc),
+    };
+    MemDisk::new(alloc, 0x5A, fails)
+}
+
+fn log(alloc: Global) -> MemLog {
+    let fails = LogFails {
+        appends: Vec::new(alloc),
+        flushes: Vec::new(alloc),
+    };
+    MemLog::new(alloc, fails)
+}
+
+/// A desk of one disk and four logs.
+fn desk(alloc: Global) -> Result<Desk<MemDisk, MemLog, Routine>, Fail>
+    ensures { IfOk result (λ desk. IsFresh desk.begun desk × (length desk.begun.disks ≡ 1)) }
+{
+    let setup = Setup {
+        disks: vec![in alloc; disk(alloc)]?,
+        logs: vec![in alloc; log(alloc), log(alloc), log(alloc), log(alloc)]?,
+        journal: 64,
+        threshold: 4,
+    };
+    match Desk::new(alloc, setup) {
+        Ok(desk) => Ok(desk),
+        Err(_) => Err(Fail::from("no memory")),
+    }
+}
+
+/// The first object of the first stream.
+fn object() -> Result<FileId, Fail>
+    ensures { IfOk result (λ file. file.stream ≡ 0) }
+{
+    Ok(FileId::new(0, 0).ok_or("file")?)
+}
+
+#[test]
+fn a_desk_is_made_acted_on_and_ended(rt: HostRuntime) -> Result<(), Fail> {
+    let alloc = rt.alloc();
+    let file = object()?;
+    let quota = Quota::new(8).ok_or("quota")?;
+    let sizes = FileSizes {
+        allocation: 8192,
+        size: 8192,
+        valid: 8192,
+    };
+    let mut desk = desk(alloc)?;
+    desk.act_as(3);
+    assert_eq!(rt; (desk.me(), desk.streams(), desk.logs()), (3, 1, 4));
+    assert_eq!(rt;
+        initialize(alloc, &mut desk, file, sizes, quota, false),
+        Ok(())
+    );
+    assert_eq!(rt;
+        set_log_handle(alloc, &mut desk, file, 4),
+        Err(CcError::NoLog { handle: 4 })
+    );
+    assert_eq!(rt; set_log_handle(alloc, &mut desk, file, 3), Ok(()));
+    assert_eq!(rt; set_granularity(alloc, &mut desk, file, 4096), Ok(()));
+    assert_eq!(rt; set_attributes(alloc, &mut desk, file, true, false), Ok(()));
+    assert_eq!(rt; set_threshold(alloc, &mut desk, file, 2), Ok(()));
+    assert_eq!(rt; desk.journal().entries().len(), 6);
+    let Parts {
+        disks,
+        logs,
+        journal,
+        queued,
+    } = desk.end();
+    assert_eq!(rt;
+        (disks.len(), logs.len(), journal.len(), queued.len()),
+        (1, 4, 6, 0)
+    );
+    Ok(())
+}
