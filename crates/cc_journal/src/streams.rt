@@ -155,11 +155,12 @@ impl Streams {
         ensures views { (past : List Entry) → StandFor past self.now → result ≡ views_of (history past stream) }
         ensures most { result ≤ 255 }
     {
-        if self.is_mapped(stream) {
-            u16::from(self.state(stream).quota())
-        } else {
-            0
+        // A stream never initialised has no quota, and its dirty pages need no count.
+        let quota = u16::from(self.state(stream).quota());
+        if quota == 0 {
+            return 0;
         }
+        if self.is_mapped(stream) { quota } else { 0 }
     }
 
     /// Whether the lazy writer looks at the pages of each stream.

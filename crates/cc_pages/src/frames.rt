@@ -51,9 +51,10 @@ enum Kept {
 }
 
 /// The pages of one view block, each its 4096 bytes, owned or shared with snapshots of it, or absent.
+/// They stand in a box, so a move of them moves no page.
 #[derive(Drop)]
 pub struct Frames {
-    slots: [Option<Kept>; PAGES],
+    slots: Box<[Option<Kept>; PAGES]>,
     alloc: Global,
 }
 
@@ -64,18 +65,21 @@ impl Model for Frames {
 
     ghost Value = { List (Option Page) };
 
-    ghost view = { λ f. pages_in f.slots };
+    ghost view = { λ f. pages_in f.slots.value };
 
-    ghost invariant = { λ f. length f.slots ≡ PAGES };
+    ghost invariant = { λ f. length f.slots.value ≡ PAGES };
 }
 
 impl Frames {
     /// No page.
-    pub fn new(alloc: Global) -> Frames
-        ensures empty { (i : ℕ) → page_at result i ≡ None }
+    pub fn new(alloc: Global) -> Result<Frames, NoMemory>
+        ensures empty { IfOk result (λ frames. (i : ℕ) → page_at frames i ≡ None) }
     {
         let slots = array::from_fn(|_| None);
-        Frames { slots, alloc }
+        let Ok(slots) = Box::new(alloc, slots) else {
+            return Err(NoMemory);
+        };
+        Ok(Frames { slots, alloc })
     }
 
     /// The bytes of a page.
@@ -83,7 +87,7 @@ impl Frames {
         requires { i < PAGES }
         ensures { option_copied result ≡ bytes_at self.now i }
     {
-        match &self.slots[i as usize] {
+        match &(*self.slots)[i as usize] {
             Some(kept) => Some(kept.bytes()),
             None => None,
         }
@@ -98,7 +102,7 @@ impl Frames {
     {
         match Box::new(self.alloc, *bytes) {
             Ok(frame) => {
-                self.slots[i as usize] = Some(Kept::Owned(frame));
+                (*self.slots)[i as usize] = Some(Kept::Owned(frame));
                 Ok(())
             }
             Err(_) => Err(NoMemory),
@@ -114,7 +118,7 @@ impl Frames {
             (λ page. page_at self.new i ≡ Some (owned (overwritten page.bytes at bytes.now))) }
         ensures others { KeepsOthers self.old self.new i }
     {
-        overwrite(&mut self.slots[i as usize], at as usize, bytes);
+        overwrite(&mut (*self.slots)[i as usize], at as usize, bytes);
     }
 
     /// Makes a snapshot of a page, which is shared then; `None` where there is no page.
@@ -124,11 +128,11 @@ impl Frames {
         ensures others { KeepsOthers self.old self.new i }
         ensures err { OnErr result (self.new ≡ self.old) }
     {
-        let Some(kept) = &self.slots[i as usize] else {
+        let Some(kept) = &(*self.slots)[i as usize] else {
             return Ok(None);
         };
         let (frame, kept) = kept.shared(self.alloc)?;
-        self.slots[i as usize] = Some(kept);
+        (*self.slots)[i as usize] = Some(kept);
         Ok(Some(frame))
     }
 
@@ -141,7 +145,7 @@ impl Frames {
         ensures others { KeepsOthers self.old self.new i }
         ensures err { OnErr result (self.new ≡ self.old) }
     {
-        if let Some(Kept::Shared(frame)) = &self.slots[i as usize] {
+        if let Some(Kept::Shared(frame)) = &(*self.slots)[i as usize] {
             let bytes = **frame;
             return self.put(i, &bytes);
         }
@@ -154,7 +158,7 @@ impl Frames {
         ensures page { page_at self.new i ≡ None }
         ensures others { KeepsOthers self.old self.new i }
     {
-        self.slots[i as usize] = None;
+        (*self.slots)[i as usize] = None;
     }
 }
 

@@ -112,10 +112,13 @@ impl Views {
         ensures size { self.new.size ≡ self.old.size }
         ensures err { OnErr result (self.new ≡ self.old) }
     {
+        let Ok(frames) = Frames::new(self.alloc) else {
+            return Err(NoMemory);
+        };
         self.order.reserve(1)?;
         let place = self.order.len() as u16;
         self.index.put(block, place).map_err(|_| NoMemory)?;
-        let _old = self.order.insert(block, Frames::new(self.alloc)).unwrap();
+        let _old = self.order.insert(block, frames).unwrap();
         Ok(())
     }
 

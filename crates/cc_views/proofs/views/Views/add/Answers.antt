@@ -10,7 +10,7 @@ returns-clause-last c =
     let none : lookup (nat_eq c.args.block) m.entries ≡ None = ap (lookup (nat_eq c.args.block)) same ∙ c.requires.unmapped in
     let entries = rw c.unwrap-old.ensures at c.insert.ensures.entries in
     record {
-      frames = c.new.result;
-      empty = c.new.ensures.empty;
-      last = entries ∙ insert_entry-new nat_eq m c.args.block c.new.result none ∙ ap (λ l. l ++ (c.args.block, c.new.result) ∷ []) same;
+      frames = c.in-Ok.frames;
+      empty = rw c.in-Ok.is at c.new.ensures.empty;
+      last = entries ∙ insert_entry-new nat_eq m c.args.block c.in-Ok.frames none ∙ ap (λ l. l ++ (c.args.block, c.in-Ok.frames) ∷ []) same;
     }
