@@ -1,25 +1,26 @@
 //! Entries of the journal as they are printed.
 
-ghost use Rattle.std.specs.Prelude.{◌≡◌, ◌++◌, IfOk, OnOk, string_bytes};
+ghost use Rattle.std.specs.Prelude.{◌≡◌, ◌++◌, OnOk, string_bytes};
 ghost use Rattle.cc_print.specs.Entries.{outcome_text, end_text, pages_text, scan_text, called_text, appended_text, deferred_text, entry_text};
 
-use crate::answer::{error_text, reply_text};
-use crate::call::call_text;
-use crate::words::{bytes_text, name_of, page_text, word_if};
+use crate::answer::{push_error, push_reply};
+use crate::call::push_call;
+use crate::words::{name_of, push_bytes, push_page, word_if};
 use cc_entry::{Bytes, Call, End, Entry, FileId, Lsn, Outcome, PageId};
 use cc_script::StreamLine;
-use std::alloc::{AllocError, Global};
+use std::alloc::AllocError;
 
-fn outcome_text(
-    alloc: Global,
+fn push_outcome(
+    text: &mut String,
     streams: &[StreamLine],
     outcome: &Outcome,
-) -> Result<String, AllocError>
-    ensures { IfOk result (λ text. string_bytes text ≡ outcome_text streams.now outcome.now) }
+) -> Result<(), AllocError>
+    ensures { OnOk result
+        (string_bytes text.new ≡ string_bytes text.old ++ outcome_text streams.now outcome.now) }
 {
     match outcome {
-        Outcome::Done(reply) => reply_text(alloc, streams, reply),
-        Outcome::Failed(error) => error_text(alloc, *error),
+        Outcome::Done(reply) => push_reply(text, streams, reply),
+        Outcome::Failed(error) => push_error(text, *error),
     }
 }
 
@@ -34,57 +35,58 @@ pub(crate) fn end_text(how: End) -> &'static str
     }
 }
 
-fn called_text(
-    alloc: Global,
+fn push_called(
+    text: &mut String,
     streams: &[StreamLine],
     number: (u32, u32),
     call: &Call,
     outcome: &Outcome,
-) -> Result<String, AllocError>
-    ensures { IfOk result
-        (λ text. string_bytes text ≡ called_text streams.now number.0 number.1 call.now outcome.now) }
+) -> Result<(), AllocError>
+    ensures { OnOk result
+        (string_bytes text.new ≡ string_bytes text.old ++ called_text streams.now number.0 number.1 call.now outcome.now) }
 {
     let pass = number.0;
     let nth = number.1;
-    let call = call_text(alloc, streams, call)?;
-    let outcome = outcome_text(alloc, streams, outcome)?;
-    format!(in alloc; "call {pass} {nth} {call} = {outcome}")
+    write!(text, "call {pass} {nth} ")?;
+    push_call(text, streams, call)?;
+    text.push_str(" = ")?;
+    push_outcome(text, streams, outcome)
 }
 
-fn appended_text(
-    alloc: Global,
+fn push_appended(
+    text: &mut String,
     pass: u32,
     handle: u8,
     lsn: Lsn,
     bytes: &Bytes,
-) -> Result<String, AllocError>
-    ensures { IfOk result (λ text. string_bytes text ≡ appended_text pass handle lsn bytes.now) }
+) -> Result<(), AllocError>
+    ensures { OnOk result
+        (string_bytes text.new ≡ string_bytes text.old ++ appended_text pass handle lsn bytes.now) }
 {
     let lsn = lsn.number();
-    let bytes = bytes_text(alloc, bytes)?;
-    format!(in alloc; "append {pass} {handle} {lsn} {bytes}")
+    write!(text, "append {pass} {handle} {lsn} ")?;
+    push_bytes(text, bytes)
 }
 
-fn deferred_text(
-    alloc: Global,
+fn push_deferred(
+    text: &mut String,
     streams: &[StreamLine],
     number: (u32, u64),
     file: FileId,
     pages: u64,
     retrying: bool,
-) -> Result<String, AllocError>
-    ensures { IfOk result
-        (λ text. string_bytes text ≡ deferred_text streams.now number.0 number.1 file pages retrying) }
+) -> Result<(), AllocError>
+    ensures { OnOk result
+        (string_bytes text.new ≡ string_bytes text.old ++ deferred_text streams.now number.0 number.1 file pages retrying) }
 {
     let pass = number.0;
     let id = number.1;
     let name = name_of(streams, file.stream());
     let retry = word_if(retrying, " retry");
-    format!(in alloc; "defer {pass} {id} {name} {pages}{retry}")
+    write!(text, "defer {pass} {id} {name} {pages}{retry}")
 }
 
 fn push_pages(
-    alloc: Global,
     text: &mut String,
     streams: &[StreamLine],
     pages: &[PageId],
@@ -93,33 +95,33 @@ fn push_pages(
         (string_bytes text.new ≡ string_bytes text.old ++ pages_text streams.now pages.now) }
 {
     for &page in pages {
-        let page = page_text(alloc, streams, page)?;
         text.push_str("; ")?;
-        text.push_str(page.as_str())?;
+        push_page(text, streams, page)?;
     }
     Ok(())
 }
 
-fn scan_text(
-    alloc: Global,
+fn push_scan(
+    text: &mut String,
     streams: &[StreamLine],
     pass: u32,
     picked: &[PageId],
-) -> Result<String, AllocError>
-    ensures { IfOk result (λ text. string_bytes text ≡ scan_text streams.now pass picked.now) }
+) -> Result<(), AllocError>
+    ensures { OnOk result
+        (string_bytes text.new ≡ string_bytes text.old ++ scan_text streams.now pass picked.now) }
 {
-    let mut text = format!(in alloc; "scan {pass}")?;
-    push_pages(alloc, &mut text, streams, picked)?;
-    Ok(text)
+    write!(text, "scan {pass}")?;
+    push_pages(text, streams, picked)
 }
 
 /// One entry of the journal.
-pub(crate) fn entry_text(
-    alloc: Global,
+pub(crate) fn push_entry(
+    text: &mut String,
     streams: &[StreamLine],
     entry: &Entry,
-) -> Result<String, AllocError>
-    ensures { IfOk result (λ text. string_bytes text ≡ entry_text streams.now entry.now) }
+) -> Result<(), AllocError>
+    ensures { OnOk result
+        (string_bytes text.new ≡ string_bytes text.old ++ entry_text streams.now entry.now) }
 {
     match entry {
         Entry::Call {
@@ -128,57 +130,59 @@ pub(crate) fn entry_text(
             call,
             outcome,
             ..
-        } => { called_text(alloc, streams, (*pass, *nth), call, outcome) }
+        } => { push_called(text, streams, (*pass, *nth), call, outcome) }
         Entry::PageIn {
             page,
             from_disk,
             ..
         } => {
-            let page = page_text(alloc, streams, *page)?;
             let source = if *from_disk { "disk" } else { "zero" };
-            format!(in alloc; "in {page} {source}")
+            text.push_str("in ")?;
+            push_page(text, streams, *page)?;
+            write!(text, " {source}")
         }
         Entry::PageOut { page, .. } => {
-            let page = page_text(alloc, streams, *page)?;
-            format!(in alloc; "out {page}")
+            text.push_str("out ")?;
+            push_page(text, streams, *page)
         }
         Entry::FillFailed { pass, page } => {
-            let page = page_text(alloc, streams, *page)?;
-            format!(in alloc; "fillfailed {pass} {page}")
+            write!(text, "fillfailed {pass} ")?;
+            push_page(text, streams, *page)
         }
         Entry::WriteBegin { pass, page } => {
-            let page = page_text(alloc, streams, *page)?;
-            format!(in alloc; "begin {pass} {page}")
+            write!(text, "begin {pass} ")?;
+            push_page(text, streams, *page)
         }
         Entry::WriteEnd { pass, page, how } => {
-            let page = page_text(alloc, streams, *page)?;
             let how = end_text(*how);
-            format!(in alloc; "end {pass} {page} {how}")
+            write!(text, "end {pass} ")?;
+            push_page(text, streams, *page)?;
+            write!(text, " {how}")
         }
         Entry::Sync { pass, stream, how } => {
             let name = name_of(streams, *stream);
             let how = end_text(*how);
-            format!(in alloc; "sync {pass} {name} {how}")
+            write!(text, "sync {pass} {name} {how}")
         }
         Entry::Append {
             pass,
             handle,
             lsn,
             bytes,
-        } => appended_text(alloc, *pass, *handle, *lsn, bytes),
+        } => push_appended(text, *pass, *handle, *lsn, bytes),
         Entry::Flushed { handle, to, .. } => {
             let to = to.number();
-            format!(in alloc; "flushed {handle} {to}")
+            write!(text, "flushed {handle} {to}")
         }
-        Entry::LogFailed { pass, handle } => format!(in alloc; "logfailed {pass} {handle}"),
+        Entry::LogFailed { pass, handle } => write!(text, "logfailed {pass} {handle}"),
         Entry::Defer {
             pass,
             id,
             file,
             pages,
             retrying,
-        } => { deferred_text(alloc, streams, (*pass, *id), *file, *pages, *retrying) }
-        Entry::Posted { id } => format!(in alloc; "posted {id}"),
-        Entry::Scan { pass, picked } => scan_text(alloc, streams, *pass, picked.as_slice()),
+        } => { push_deferred(text, streams, (*pass, *id), *file, *pages, *retrying) }
+        Entry::Posted { id } => write!(text, "posted {id}"),
+        Entry::Scan { pass, picked } => push_scan(text, streams, *pass, picked.as_slice()),
     }
 }

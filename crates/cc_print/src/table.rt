@@ -1,13 +1,13 @@
 //! The dirty page table at the end of a run.
 
-ghost use Rattle.std.specs.Prelude.{◌≡◌, IfOk, string_bytes};
+ghost use Rattle.std.specs.Prelude.{◌≡◌, ◌++◌, OnOk, string_bytes};
 ghost use Rattle.cc_print.specs.Text.{table_line};
 
-use crate::answer::{lsn_number, number_or_dash};
-use crate::words::page_text;
+use crate::answer::{lsn_number, push_number_or_dash};
+use crate::words::push_page;
 use cc_entry::{Lsn, PageId};
 use cc_script::StreamLine;
-use std::alloc::{AllocError, Global};
+use std::alloc::AllocError;
 
 /// A dirty page, and the least and greatest LSN not yet written to it, where it is stamped.
 #[derive(Clone, Copy, Debug, PartialEq, Eq)]
@@ -18,15 +18,18 @@ pub struct TableRow {
 }
 
 /// The line of a dirty page.
-pub(crate) fn table_line(
-    alloc: Global,
+pub(crate) fn push_table_line(
+    text: &mut String,
     streams: &[StreamLine],
     row: &TableRow,
-) -> Result<String, AllocError>
-    ensures { IfOk result (λ text. string_bytes text ≡ table_line streams.now row.now) }
+) -> Result<(), AllocError>
+    ensures { OnOk result
+        (string_bytes text.new ≡ string_bytes text.old ++ table_line streams.now row.now) }
 {
-    let page = page_text(alloc, streams, row.page)?;
-    let oldest = number_or_dash(alloc, lsn_number(row.oldest))?;
-    let newest = number_or_dash(alloc, lsn_number(row.newest))?;
-    format!(in alloc; "{page} {oldest} {newest}\n")
+    push_page(text, streams, row.page)?;
+    text.push_str(" ")?;
+    push_number_or_dash(text, lsn_number(row.oldest))?;
+    text.push_str(" ")?;
+    push_number_or_dash(text, lsn_number(row.newest))?;
+    text.push_str("\n")
 }

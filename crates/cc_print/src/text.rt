@@ -1,25 +1,20 @@
 //! The text of a run: its five kinds of section.
 
 ghost use Rattle.std.specs.Prelude.{◌≡◌, ◌++◌, IfOk, OnOk, string_bytes};
+ghost use Rattle.cc_print.specs.Entries.{entry_text};
 ghost use Rattle.cc_print.specs.Text.{numbered, section, reply_line, setup_lines, caller_lines, each_caller, callers_text, caller_heading, journal_from, table_lines, trace_lines, text_of};
 
-use crate::answer::answer_text;
-use crate::entry::entry_text;
+use crate::answer::push_answer;
+use crate::entry::push_entry;
 use crate::replies::Replies;
-use crate::table::{TableRow, table_line};
-use crate::trace::trace_line;
+use crate::table::{TableRow, push_table_line};
+use crate::trace::push_trace_line;
 use cc_entry::{Entry, LineReply, NoMemory};
 use cc_script::{ActionLine, Script, StreamLine};
 use std::alloc::{AllocError, Global};
 
 /// The callers of a script, in their order.
 const CALLERS: [u32; 16] = [1, 2, 3, 4, 5, 6, 7, 8, 9, 10, 11, 12, 13, 14, 15, 16];
-
-fn numbered(alloc: Global, number: u64, text: &str) -> Result<String, AllocError>
-    ensures { IfOk result (λ line. string_bytes line ≡ numbered number text.now) }
-{
-    format!(in alloc; "{number} {text}\n")
-}
 
 fn push_section(text: &mut String, heading: &str, lines: &str) -> Result<(), AllocError>
     ensures { OnOk result
@@ -33,20 +28,23 @@ fn push_section(text: &mut String, heading: &str, lines: &str) -> Result<(), All
     Ok(())
 }
 
-fn reply_line(
-    alloc: Global,
+fn push_reply_line(
+    text: &mut String,
     streams: &[StreamLine],
     replies: &Replies,
     line: u32,
-) -> Result<String, AllocError>
-    ensures { IfOk result (λ text. string_bytes text ≡ reply_line streams.now replies.now line) }
+) -> Result<(), AllocError>
+    ensures { OnOk result
+        (string_bytes text.new ≡ string_bytes text.old ++ reply_line streams.now replies.now line) }
 {
     match replies.of_line(line) {
         Some(reply) => {
-            let answer = answer_text(alloc, streams, &reply.answer)?;
-            numbered(alloc, u64::from(reply.line), answer.as_str())
+            let number = reply.line;
+            write!(text, "{number} ")?;
+            push_answer(text, streams, &reply.answer)?;
+            text.push_str("\n")
         }
-        None => Ok(String::new(alloc)),
+        None => Ok(()),
     }
 }
 
@@ -59,8 +57,7 @@ fn setup_lines(
 {
     let mut text = String::new(alloc);
     for stream in streams {
-        let line = reply_line(alloc, streams, replies, stream.line)?;
-        text.push_str(line.as_str())?;
+        push_reply_line(&mut text, streams, replies, stream.line)?;
     }
     Ok(text)
 }
@@ -78,8 +75,7 @@ fn caller_lines(
     let mut text = String::new(alloc);
     for action in lines {
         if action.caller == caller {
-            let line = reply_line(alloc, streams, replies, action.line)?;
-            text.push_str(line.as_str())?;
+            push_reply_line(&mut text, streams, replies, action.line)?;
         }
     }
     Ok(text)
@@ -124,6 +120,20 @@ fn push_callers(
     push_each_caller(alloc, text, streams, lines, replies, &CALLERS)
 }
 
+fn push_entry_line(
+    text: &mut String,
+    streams: &[StreamLine],
+    number: u64,
+    entry: &Entry,
+) -> Result<(), AllocError>
+    ensures { OnOk result
+        (string_bytes text.new ≡ string_bytes text.old ++ numbered number (entry_text streams.now entry.now)) }
+{
+    write!(text, "{number} ")?;
+    push_entry(text, streams, entry)?;
+    text.push_str("\n")
+}
+
 fn journal_lines(
     alloc: Global,
     streams: &[StreamLine],
@@ -133,9 +143,7 @@ fn journal_lines(
 {
     let mut text = String::new(alloc);
     for (i, entry) in journal.iter().enumerate() {
-        let entry = entry_text(alloc, streams, entry)?;
-        let line = numbered(alloc, i as u64 + 1, entry.as_str())?;
-        text.push_str(line.as_str())?;
+        push_entry_line(&mut text, streams, i as u64 + 1, entry)?;
     }
     Ok(text)
 }
@@ -149,8 +157,7 @@ fn table_lines(
 {
     let mut text = String::new(alloc);
     for row in table {
-        let line = table_line(alloc, streams, row)?;
-        text.push_str(line.as_str())?;
+        push_table_line(&mut text, streams, row)?;
     }
     Ok(text)
 }
@@ -164,8 +171,7 @@ fn trace_lines(
 {
     let mut text = String::new(alloc);
     for entry in journal {
-        let line = trace_line(alloc, streams, entry)?;
-        text.push_str(line.as_str())?;
+        push_trace_line(&mut text, streams, entry)?;
     }
     Ok(text)
 }

@@ -1,13 +1,13 @@
 //! The trace: what the disks and the logs did, from the journal's entries in order.
 
-ghost use Rattle.std.specs.Prelude.{◌≡◌, IfOk, string_bytes};
+ghost use Rattle.std.specs.Prelude.{◌≡◌, ◌++◌, OnOk, string_bytes};
 ghost use Rattle.cc_print.specs.Trace.{read_line, has_read, trace_call, trace_line};
 
 use crate::entry::end_text;
-use crate::words::{name_of, page_text};
+use crate::words::{name_of, push_page};
 use cc_entry::{Call, Entry, Outcome, Reply, StreamId};
 use cc_script::StreamLine;
-use std::alloc::{AllocError, Global};
+use std::alloc::AllocError;
 
 // A noncached read counts where it answered at least one byte.
 fn has_read(outcome: &Outcome) -> bool
@@ -19,79 +19,85 @@ fn has_read(outcome: &Outcome) -> bool
     }
 }
 
-fn read_line(
-    alloc: Global,
+fn push_read_line(
+    text: &mut String,
     streams: &[StreamLine],
     stream: StreamId,
     page: u64,
-) -> Result<String, AllocError>
-    ensures { IfOk result (λ text. string_bytes text ≡ read_line streams.now stream page) }
+) -> Result<(), AllocError>
+    ensures { OnOk result
+        (string_bytes text.new ≡ string_bytes text.old ++ read_line streams.now stream page) }
 {
     let name = name_of(streams, stream);
-    format!(in alloc; "read {name} {page}\n")
+    write!(text, "read {name} {page}\n")
 }
 
-fn trace_call(
-    alloc: Global,
+fn push_trace_call(
+    text: &mut String,
     streams: &[StreamLine],
     call: &Call,
     outcome: &Outcome,
-) -> Result<String, AllocError>
-    ensures { IfOk result (λ text. string_bytes text ≡ trace_call streams.now call.now outcome.now) }
+) -> Result<(), AllocError>
+    ensures { OnOk result
+        (string_bytes text.new ≡ string_bytes text.old ++ trace_call streams.now call.now outcome.now) }
 {
     match call {
-        Call::NcRead { file, page } if has_read(outcome) => read_line(
-            alloc,
+        Call::NcRead { file, page } if has_read(outcome) => push_read_line(
+            text,
             streams,
             file.stream(),
             *page,
         ),
-        _ => Ok(String::new(alloc)),
+        _ => Ok(()),
     }
 }
 
 /// The line of an entry in the trace, with its line feed; nothing where the entry has none.
-pub(crate) fn trace_line(
-    alloc: Global,
+pub(crate) fn push_trace_line(
+    text: &mut String,
     streams: &[StreamLine],
     entry: &Entry,
-) -> Result<String, AllocError>
-    ensures { IfOk result (λ text. string_bytes text ≡ trace_line streams.now entry.now) }
+) -> Result<(), AllocError>
+    ensures { OnOk result
+        (string_bytes text.new ≡ string_bytes text.old ++ trace_line streams.now entry.now) }
 {
     match entry {
-        Entry::Call { call, outcome, .. } => trace_call(alloc, streams, call, outcome),
+        Entry::Call { call, outcome, .. } => push_trace_call(text, streams, call, outcome),
         Entry::PageIn {
             page,
             from_disk: true,
             ..
-        } => { read_line(alloc, streams, page.stream(), page.page()) }
+        } => { push_read_line(text, streams, page.stream(), page.page()) }
         Entry::FillFailed { page, .. } => {
-            let page = page_text(alloc, streams, *page)?;
-            format!(in alloc; "read {page} failed\n")
+            text.push_str("read ")?;
+            push_page(text, streams, *page)?;
+            text.push_str(" failed\n")
         }
         Entry::WriteBegin { page, .. } => {
-            let page = page_text(alloc, streams, *page)?;
-            format!(in alloc; "write {page} begin\n")
+            text.push_str("write ")?;
+            push_page(text, streams, *page)?;
+            text.push_str(" begin\n")
         }
         Entry::WriteEnd { page, how, .. } => {
-            let page = page_text(alloc, streams, *page)?;
             let how = end_text(*how);
-            format!(in alloc; "write {page} {how}\n")
+            text.push_str("write ")?;
+            push_page(text, streams, *page)?;
+            write!(text, " {how}\n")
         }
         Entry::Sync { stream, how, .. } => {
             let name = name_of(streams, *stream);
             let how = end_text(*how);
-            format!(in alloc; "sync {name} {how}\n")
+            write!(text, "sync {name} {how}\n")
         }
         Entry::Append { handle, lsn, .. } => {
             let lsn = lsn.number();
-            format!(in alloc; "log {handle} append {lsn}\n")
+            write!(text, "log {handle} append {lsn}\n")
         }
         Entry::Flushed { handle, to, .. } => {
             let to = to.number();
-            format!(in alloc; "log {handle} flush {to}\n")
+            write!(text, "log {handle} flush {to}\n")
         }
-        Entry::LogFailed { handle, .. } => format!(in alloc; "log {handle} failed\n"),
+        Entry::LogFailed { handle, .. } => write!(text, "log {handle} failed\n"),
         Entry::PageIn {
             from_disk: false,
             ..
@@ -99,6 +105,6 @@ pub(crate) fn trace_line(
         | Entry::PageOut { .. }
         | Entry::Defer { .. }
         | Entry::Posted { .. }
-        | Entry::Scan { .. } => Ok(String::new(alloc)),
+        | Entry::Scan { .. } => Ok(()),
     }
 }

@@ -1,12 +1,12 @@
 //! The words that lines are made of: names, files, pages, numbers that may be absent, bytes.
 
-ghost use Rattle.std.specs.Prelude.{◌≡◌, ◌<◌, ◌++◌, true, IfOk, OnOk, codes, decimal, string_bytes};
+ghost use Rattle.std.specs.Prelude.{◌≡◌, ◌<◌, ◌++◌, true, OnOk, codes, decimal, string_bytes};
 ghost use Rattle.std.specs.Fmt.{digit_glyph};
 ghost use Rattle.cc_print.specs.Words.{name_at, file_text, page_text, word_if, number_if, span_if, hex_pair, run_text, more_runs, bytes_text};
 
 use cc_entry::{Bytes, FileId, PageId, Run, Runs, Span, StreamId};
 use cc_script::StreamLine;
-use std::alloc::{AllocError, Global};
+use std::alloc::AllocError;
 
 /// The name of a stream, empty where the script has no such stream.
 pub(crate) fn name_of(streams: &[StreamLine], stream: StreamId) -> &str
@@ -19,29 +19,31 @@ pub(crate) fn name_of(streams: &[StreamLine], stream: StreamId) -> &str
 }
 
 /// A file object as its stream's name and its number.
-pub(crate) fn file_text(
-    alloc: Global,
+pub(crate) fn push_file(
+    text: &mut String,
     streams: &[StreamLine],
     file: FileId,
-) -> Result<String, AllocError>
-    ensures { IfOk result (λ text. string_bytes text ≡ file_text streams.now file) }
+) -> Result<(), AllocError>
+    ensures { OnOk result
+        (string_bytes text.new ≡ string_bytes text.old ++ file_text streams.now file) }
 {
     let name = name_of(streams, file.stream());
     let object = file.object();
-    format!(in alloc; "{name}:{object}")
+    write!(text, "{name}:{object}")
 }
 
 /// A page as its stream's name and its number.
-pub(crate) fn page_text(
-    alloc: Global,
+pub(crate) fn push_page(
+    text: &mut String,
     streams: &[StreamLine],
     page: PageId,
-) -> Result<String, AllocError>
-    ensures { IfOk result (λ text. string_bytes text ≡ page_text streams.now page) }
+) -> Result<(), AllocError>
+    ensures { OnOk result
+        (string_bytes text.new ≡ string_bytes text.old ++ page_text streams.now page) }
 {
     let name = name_of(streams, page.stream());
     let page = page.page();
-    format!(in alloc; "{name} {page}")
+    write!(text, "{name} {page}")
 }
 
 /// A word that stands only where a flag is set.
@@ -52,26 +54,26 @@ pub(crate) fn word_if(is_set: bool, word: &str) -> &str
 }
 
 /// A number behind a space, or nothing.
-pub(crate) fn number_if(alloc: Global, number: Option<u64>) -> Result<String, AllocError>
-    ensures { IfOk result (λ text. string_bytes text ≡ number_if number) }
+pub(crate) fn push_number_if(text: &mut String, number: Option<u64>) -> Result<(), AllocError>
+    ensures { OnOk result (string_bytes text.new ≡ string_bytes text.old ++ number_if number) }
 {
     match number {
-        Some(n) => format!(in alloc; " {n}"),
-        None => Ok(String::new(alloc)),
+        Some(n) => write!(text, " {n}"),
+        None => Ok(()),
     }
 }
 
 /// The ends of a span, each behind a space, or nothing.
-pub(crate) fn span_if(alloc: Global, span: Option<Span>) -> Result<String, AllocError>
-    ensures { IfOk result (λ text. string_bytes text ≡ span_if span) }
+pub(crate) fn push_span_if(text: &mut String, span: Option<Span>) -> Result<(), AllocError>
+    ensures { OnOk result (string_bytes text.new ≡ string_bytes text.old ++ span_if span) }
 {
     match span {
         Some(span) => {
             let from = span.from();
             let to = span.to();
-            format!(in alloc; " {from} {to}")
+            write!(text, " {from} {to}")
         }
-        None => Ok(String::new(alloc)),
+        None => Ok(()),
     }
 }
 
@@ -98,45 +100,42 @@ fn push_pair(text: &mut String, byte: u8) -> Result<(), AllocError>
 
 // Apart from `push_run`, which most bytes go through without it.
 #[inline(never)]
-fn push_count(alloc: Global, text: &mut String, count: u64) -> Result<(), AllocError>
+fn push_count(text: &mut String, count: u64) -> Result<(), AllocError>
     ensures { OnOk result (string_bytes text.new ≡ string_bytes text.old ++ (codes "x" ++ decimal count)) }
 {
-    let times = format!(in alloc; "x{count}")?;
-    text.push_str(times.as_str())
+    write!(text, "x{count}")
 }
 
-fn push_run(alloc: Global, text: &mut String, run: Run) -> Result<(), AllocError>
+fn push_run(text: &mut String, run: Run) -> Result<(), AllocError>
     ensures { OnOk result (string_bytes text.new ≡ string_bytes text.old ++ run_text run) }
 {
     push_pair(text, run.byte)?;
     if run.count != 1 {
-        push_count(alloc, text, run.count)?;
+        push_count(text, run.count)?;
     }
     Ok(())
 }
 
-fn push_more(alloc: Global, text: &mut String, runs: Runs) -> Result<(), AllocError>
+fn push_more(text: &mut String, runs: Runs) -> Result<(), AllocError>
     ensures { OnOk result (string_bytes text.new ≡ string_bytes text.old ++ more_runs runs.entry) }
 {
     for run in runs {
         text.push(',')?;
-        push_run(alloc, text, run)?;
+        push_run(text, run)?;
     }
     Ok(())
 }
 
 /// Bytes as their longest runs, parted by commas.
-pub(crate) fn bytes_text(alloc: Global, bytes: &Bytes) -> Result<String, AllocError>
-    ensures { IfOk result (λ text. string_bytes text ≡ bytes_text bytes.now) }
+pub(crate) fn push_bytes(text: &mut String, bytes: &Bytes) -> Result<(), AllocError>
+    ensures { OnOk result (string_bytes text.new ≡ string_bytes text.old ++ bytes_text bytes.now) }
 {
     let mut runs = bytes.runs();
     match runs.next() {
         Some(first) => {
-            let mut text = String::new(alloc);
-            push_run(alloc, &mut text, first)?;
-            push_more(alloc, &mut text, runs)?;
-            Ok(text)
+            push_run(text, first)?;
+            push_more(text, runs)
         }
-        None => String::from_str(alloc, "-"),
+        None => text.push_str("-"),
     }
 }
