@@ -60,11 +60,7 @@ fn push_row(text: &mut String, streams: &[StreamLine], row: &DirtyRow) -> Result
     write!(text, " {oldest} {newest}")
 }
 
-fn push_rows(
-    text: &mut String,
-    streams: &[StreamLine],
-    rows: &[DirtyRow],
-) -> Result<(), AllocError>
+fn push_rows(text: &mut String, streams: &[StreamLine], rows: &[DirtyRow]) -> Result<(), AllocError>
     ensures { OnOk result
         (string_bytes text.new ≡ string_bytes text.old ++ rows_text streams.now rows.now) }
 {
@@ -101,10 +97,7 @@ fn push_lsns(text: &mut String, lsns: Option<(Lsn, Lsn)>) -> Result<(), AllocErr
 }
 
 /// A number, as that of a log or an LSN; `-` where there is none.
-pub(crate) fn push_number_or_dash(
-    text: &mut String,
-    number: Option<u64>,
-) -> Result<(), AllocError>
+pub(crate) fn push_number_or_dash(text: &mut String, number: Option<u64>) -> Result<(), AllocError>
     ensures { OnOk result (string_bytes text.new ≡ string_bytes text.old ++ number_or_dash number) }
 {
     match number {
@@ -252,7 +245,10 @@ fn push_tick(text: &mut String, tick: &Tick) -> Result<(), AllocError>
     let written = tick.written;
     let skipped = tick.skipped;
     let failed = tick.failed;
-    write!(text, "ok tick picked {picked} written {written} skipped {skipped} failed {failed}")
+    write!(
+        text,
+        "ok tick picked {picked} written {written} skipped {skipped} failed {failed}"
+    )
 }
 
 /// The answer of a line.

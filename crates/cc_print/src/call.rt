@@ -99,12 +99,7 @@ fn push_of_file_bytes(
     push_bytes(text, bytes)
 }
 
-fn push_of_hold(
-    text: &mut String,
-    verb: &str,
-    hold: u64,
-    behind: &str,
-) -> Result<(), AllocError>
+fn push_of_hold(text: &mut String, verb: &str, hold: u64, behind: &str) -> Result<(), AllocError>
     ensures { OnOk result
         (string_bytes text.new ≡ string_bytes text.old ++ of_hold verb.now hold behind.now) }
 {
@@ -169,7 +164,10 @@ fn push_initialise(
     let temporary = word_if(temporary, " temporary");
     text.push_str("init ")?;
     push_file(text, streams, file)?;
-    write!(text, " {allocation} {size} {valid} quota {quota}{temporary}")
+    write!(
+        text,
+        " {allocation} {size} {valid} quota {quota}{temporary}"
+    )
 }
 
 fn push_prepare(
@@ -266,7 +264,9 @@ pub(crate) fn push_call(
         Call::MappedRead { hold, at, len } | Call::PinnedRead { hold, at, len } => {
             push_of_hold_numbers(text, "hread", *hold, *at, *len)
         }
-        Call::PinnedWrite { hold, at, bytes } => push_of_hold_bytes(text, "pwrite", *hold, *at, bytes),
+        Call::PinnedWrite { hold, at, bytes } => push_of_hold_bytes(
+            text, "pwrite", *hold, *at, bytes,
+        ),
         Call::SetDirty { hold, lsn } => {
             push_of_hold_number_if(text, "stamp", *hold, lsn_number(*lsn))
         }
@@ -345,6 +345,8 @@ pub(crate) fn push_call(
             "",
         ),
         Call::AheadStep { request } => push_request(text, streams, *request),
-        Call::CanWrite { file, bytes } => push_of_file_number(text, "canwrite", streams, *file, *bytes),
+        Call::CanWrite { file, bytes } => push_of_file_number(
+            text, "canwrite", streams, *file, *bytes,
+        ),
     }
 }

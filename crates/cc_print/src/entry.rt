@@ -86,11 +86,7 @@ fn push_deferred(
     write!(text, "defer {pass} {id} {name} {pages}{retry}")
 }
 
-fn push_pages(
-    text: &mut String,
-    streams: &[StreamLine],
-    pages: &[PageId],
-) -> Result<(), AllocError>
+fn push_pages(text: &mut String, streams: &[StreamLine], pages: &[PageId]) -> Result<(), AllocError>
     ensures { OnOk result
         (string_bytes text.new ≡ string_bytes text.old ++ pages_text streams.now pages.now) }
 {
