@@ -4,3 +4,4 @@ pub mod Replies
 pub mod Waiting
 pub mod Copying
 pub mod SettingCalls
+pub mod LogCalls

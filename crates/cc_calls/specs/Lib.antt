@@ -2,3 +2,4 @@
 pub mod Answers
 pub mod Pages
 pub mod Copied
+pub mod Logs

@@ -5,15 +5,18 @@
 //! the turns that it held, and has no more entries reserved.
 //!
 //! `turned` takes the turn of a stream's book for a call. `settings` has the calls that need no page and set something
-//! of their stream, `copies` those that copy bytes out of a stream's pages and into them. Below are the turns
-//! (`cc_turns`), the visits of a pass to the journal (`cc_visits`) and the fetch of pages (`cc_fetch`).
+//! of their stream, `copies` those that copy bytes out of a stream's pages and into them, `logs` the two calls on a log,
+//! an append and a flush. Below are the turns (`cc_turns`), the visits of a pass to the journal (`cc_visits`), the
+//! writing of a page with the flush of its log (`cc_writes`) and the fetch of pages (`cc_fetch`).
 #![tactic(auto)]
 
 mod copies;
+mod logs;
 mod settings;
 mod turned;
 
 pub use copies::{copy_read, copy_write, zero_data};
+pub use logs::{log_append, log_flush};
 pub use settings::{
     initialize, set_attributes, set_file_sizes, set_granularity, set_log_handle, set_threshold,
 };

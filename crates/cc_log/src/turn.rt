@@ -65,6 +65,7 @@ impl<L: LogFile> LogTurn<L> {
     pub fn append(&mut self, bytes: &[u8]) -> Result<Lsn, CcError>
         ensures next { IfOk result (λ lsn. lsn ≡ self.old.floor + 1) }
         ensures full { IsErrOf result (error.LogFull self.old.handle) ↔ (self.old.floor ≡ 2 ^ 62) }
+        ensures within { self.old.floor ≤ 2 ^ 62 }
         ensures causes { IfErr result (λ e. IsAppendError self.old.handle e) }
         ensures counted { L.faults self.new.file ≡ L.faults self.old.file + faults_by result }
         ensures handle { self.new.handle ≡ self.old.handle }

@@ -2,6 +2,7 @@
 use Rattle.std.specs.Prelude.{◌≡◌, ℕ, suc, ◌+◌, ◌-◌, ◌<◌, ◌≤◌, Bool, true, false, List, [], ◌∷◌, Result, Ok, Err, Option, None, Some, refl}
 use Rattle.std.proofs.Common.{ap, sym, ◌∙◌, subst, arith, inl, inr, ⊎_elim}
 use Rattle.std.proofs.lemmas.Bool.{eq-eqb}
+use Rattle.std.specs.List.{cons_option}
 use Rattle.cc_entry.specs.Place.{Page}
 use Rattle.cc_entry.specs.declared.entry.Entry.{Entry}
 use Rattle.cc_entry.specs.declared.entry.Entry.TheVariants as entry
@@ -11,11 +12,11 @@ use Rattle.cc_traits.specs.Log.{Log}
 use Rattle.cc_journal.specs.Journal.{JournalState, MayBePushed}
 use Rattle.cc_journal.proofs.GoodEntries.{MayBePushed-good}
 use Rattle.cc_laws.proofs.QueueSteps.{is_defer_or_post}
-use Rattle.cc_log.specs.Turn.{LogState, Stands, past_flushed, faults_by}
+use Rattle.cc_log.specs.Turn.{LogState, Stands, left_by, faults_by}
 use Rattle.cc_model.specs.Good.{IsGood}
 use Rattle.cc_model.specs.History.{history}
 use Rattle.cc_model.specs.Images.{open_of}
-use Rattle.cc_model.specs.Logs.{flushed_to}
+use Rattle.cc_model.specs.Logs.{floor_of, flushed_to}
 use Rattle.cc_model.specs.Room.{reserved_in}
 use Rattle.cc_model.specs.Turns.{Turn, Device, Book, Log as log_turn, Journal, is_quiet}
 use Rattle.cc_step.proofs.Placed.{so-far}
@@ -30,28 +31,33 @@ use Rattle.cc_writes.specs.Logs.{MayLog, HasLogged, LogLeft, ReservedLeft}
 use Rattle.cc_writes.specs.declared.log.LogFlush.{LogFlush}
 use Rattle.cc_writes.specs.declared.log.LogFlush.TheVariants as flush
 use Rattle.cc_writes.proofs.Visits.{Visiting, Visited, visited, stepping-none, grows-then, placed-then}
-use Rattle.cc_writes.proofs.Quiet.{is_held, flushed_to-grows, flushed_to-held}
-use Rattle.cc_writes.proofs.Placed.{good-flushed, good-log_failed, quiet-log}
-use Rattle.cc_writes.proofs.Rooms.{reserved-flushed, reserved-log_failed}
+use Rattle.cc_writes.proofs.Quiet.{is_held, floor_of-held, flushed_to-grows, flushed_to-held, next_lsn-held}
+use Rattle.cc_writes.proofs.Placed.{good-appended, good-flushed, good-log_failed, quiet-log}
+use Rattle.cc_writes.proofs.Rooms.{reserved-appended, reserved-flushed, reserved-log_failed}
 
 -- the entry of a log whose turn is held may stand
 pub may_log-good : (w : Standing) (e : Entry) (past : List Entry) → MayLog w e → Grows w past → IsGood w.setup past → IsGood w.setup (e ∷ past)
+may_log-good w (entry.Append pass handle lsn bytes) past may grows good =
+    good-appended w.setup past pass handle lsn bytes good (next_lsn-held w past handle lsn may.1 grows may.2)
 may_log-good w (entry.Flushed pass handle to) past may grows good =
     good-flushed w.setup past pass handle to good (subst (λ (n : ℕ). n < to) (sym (flushed_to-held w past handle may.1 grows)) may.2)
 may_log-good w (entry.LogFailed pass handle) past may grows good = good-log_failed w.setup past pass handle good
 may_log-good w other past may grows good = absurd may
 
 may_log-own : (w : Standing) (e : Entry) → MayLog w e → may_be_of w.number e ≡ true
+may_log-own w (entry.Append pass handle lsn bytes) may = eq-eqb pass w.number may.0
 may_log-own w (entry.Flushed pass handle to) may = eq-eqb pass w.number may.0
 may_log-own w (entry.LogFailed pass handle) may = eq-eqb pass w.number may.0
 may_log-own w other may = absurd may
 
 may_log-quiet : (w : Standing) (e : Entry) → MayLog w e → (t : Turn) → holds (record w.held { journal = true }) t ≡ false → is_quiet t (e ∷ []) ≡ true
+may_log-quiet w (entry.Append pass handle lsn bytes) may = quiet-log (record w.held { journal = true }) handle (entry.Append pass handle lsn bytes) (λ t. refl) may.1 refl
 may_log-quiet w (entry.Flushed pass handle to) may = quiet-log (record w.held { journal = true }) handle (entry.Flushed pass handle to) (λ t. refl) may.1 refl
 may_log-quiet w (entry.LogFailed pass handle) may = quiet-log (record w.held { journal = true }) handle (entry.LogFailed pass handle) (λ t. refl) may.1 refl
 may_log-quiet w other may = absurd may
 
 may_log-reserved : (w : Standing) (e : Entry) (past : List Entry) → MayLog w e → reserved_in (e ∷ past) ≡ reserved_in past
+may_log-reserved w (entry.Append pass handle lsn bytes) past may = reserved-appended pass handle lsn bytes past
 may_log-reserved w (entry.Flushed pass handle to) past may = reserved-flushed pass handle to past
 may_log-reserved w (entry.LogFailed pass handle) past may = reserved-log_failed pass handle past
 may_log-reserved w other past may = absurd may
@@ -60,6 +66,7 @@ pub may_log-pushed : {Q : Type 0} (posted : Q → Bool) (w v : Standing) (e : En
 may_log-pushed posted w v e j may vis = MayBePushed-good w.setup j.entries e (so-far w.setup (e ∷ j.entries) (may_log-good w e j.entries may vis.grows vis.good))
 
 pub may_log-kind : (w : Standing) (e : Entry) → MayLog w e → is_defer_or_post e ≡ false
+may_log-kind w (entry.Append pass handle lsn bytes) may = refl
 may_log-kind w (entry.Flushed pass handle to) may = refl
 may_log-kind w (entry.LogFailed pass handle) may = refl
 may_log-kind w other may = absurd may
@@ -96,7 +103,7 @@ log-after told faults first log after front now m same more failed stands before
     still : (a b c d e m : ℕ) → a + b ≤ d → c ≡ b + m → e ≡ d + m → a + c ≤ e
     still a b c d e m less x y = omega (arith, less, x, y)
 
-failures-flushed : (pass handle to log : ℕ) (past : List Entry) → log_failures log (entry.Flushed pass handle to ∷ past) ≡ log_failures log past + 0
+pub failures-flushed : (pass handle to log : ℕ) (past : List Entry) → log_failures log (entry.Flushed pass handle to ∷ past) ≡ log_failures log past + 0
 unfolding log_failures
 failures-flushed pass handle to log past = omega arith
 
@@ -107,77 +114,75 @@ failures-failed pass log past = rw (eq-eqb log log refl) (more (log_failures log
     more : (n : ℕ) → suc n ≡ n + 1
     more n = omega arith
 
--- What a call of the log's flush gave.
-pub record Flush {L : Type 0} (told : L → Option Log) (faults : L → ℕ) (to : ℕ) (result : Result (Unit {0}) CcError) (log after : LogState L) : Type 0 where
+-- What a step of a log gave, told by its own entry where it was done.
+pub record Gave {L T : Type 0} (told : L → Option Log) (faults : L → ℕ) (done : ℕ → ℕ → T → Entry) (result : Result T CcError) (log after : LogState L) : Type 0 where
   pub counted : faults after.file ≡ faults log.file + faults_by result
   pub handle : after.handle ≡ log.handle
-  pub stands : (begun : Option Log) (past : List Entry) (pass : ℕ) → Stands told begun past log → Stands told begun (past_flushed pass log.handle to result past) after
+  pub stands : (begun : Option Log) (past : List Entry) (pass : ℕ) → Stands told begun past log → Stands told begun (cons_option (left_by (done pass log.handle) pass log.handle result) past) after
 
-module _ {L : Type 0} (told : L → Option Log) (faults : L → ℕ) (w x : Standing) (n handle to : ℕ) (log : LogState L)
+module _ {L : Type 0} (told : L → Option Log) (faults : L → ℕ) (w x : Standing) (n handle : ℕ) (log : LogState L)
     (held : w.held.log ≡ Some handle) (is : log.handle ≡ handle) (stands : LogStands told faults (w.logs handle) w.seen log)
     (went : WentWith n w x) where
   logs : x.logs handle ≡ w.logs handle
   logs = ap (λ y. y.logs handle) went.same
 
+  -- while others went on
+  held-before : (seen : List Entry) → Grows w seen → LogStands told faults (w.logs handle) seen log
+  held-before seen grows = log-grown told faults (w.logs handle) w handle log seen held is grows stands
+
   -- where nothing was placed
   pub held-kept : Grows w x.seen → LogStands told faults (x.logs handle) x.seen log
-  held-kept grows = subst (λ (first : LogAtFirst). LogStands told faults first x.seen log) (sym logs) (log-grown told faults (w.logs handle) w handle log x.seen held is grows stands)
+  held-kept grows = subst (λ (first : LogAtFirst). LogStands told faults first x.seen log) (sym logs) (held-before x.seen grows)
 
-  pub held-reached : Grows w x.seen → to ≤ log.flushed → to ≤ flushed_to x.seen handle
-  held-reached grows within = still to log.flushed (flushed_to w.seen handle) (flushed_to x.seen handle) within
+  pub held-reached : (to : ℕ) → Grows w x.seen → to ≤ log.flushed → to ≤ flushed_to x.seen handle
+  held-reached to grows within = still to log.flushed (flushed_to w.seen handle) (flushed_to x.seen handle) within
       (stands.stands.flushed_is ∙ ap (λ m. flushed_to w.seen m) is) (flushed_to-grows w x.seen handle grows)
     where
       still : (a b c d : ℕ) → a ≤ b → b ≡ c → c ≤ d → a ≤ d
       still a b c d first same second = omega (arith, first, same, second)
 
   -- the log was not flushed so far, at the front of what was placed
-  pub held-due : (seen : List Entry) → Grows w seen → log.flushed < to → flushed_to seen handle < to
-  held-due seen grows less = subst (λ (m : ℕ). m < to)
+  pub held-due : (to : ℕ) (seen : List Entry) → Grows w seen → log.flushed < to → flushed_to seen handle < to
+  held-due to seen grows less = subst (λ (m : ℕ). m < to)
       (stands.stands.flushed_is ∙ (ap (λ m. flushed_to w.seen m) is ∙ sym (flushed_to-held w seen handle held grows))) less
 
-  pub held-now : log.flushed < to → flushed_to w.seen handle < to
-  held-now less = subst (λ (m : ℕ). m < to) (stands.stands.flushed_is ∙ ap (λ m. flushed_to w.seen m) is) less
+  -- its floor there is the one that it has
+  pub held-floor : (seen : List Entry) → Grows w seen → floor_of seen handle ≡ log.floor
+  held-floor seen grows = floor_of-held w seen handle held grows ∙ sym (stands.stands.floor_is ∙ ap (λ m. floor_of w.seen m) is)
 
-  module _ (after : LogState L) (result : Result (Unit {0}) CcError) (gave : Flush told faults to result log after) where
-    handle-kept : after.handle ≡ handle
-    handle-kept = gave.handle ∙ is
-
-    pub held-flushed : result ≡ Ok tt → (placed : HasPlaced w (entry.Flushed w.number handle to) x.seen) → LogStands told faults (x.logs handle) x.seen after
-    held-flushed ok placed =
-        let front = placed.front in
-        let before : LogStands told faults (w.logs handle) front log = log-grown told faults (w.logs handle) w handle log front held is placed.grows stands in
-        let step : Stands told (w.logs handle).told (entry.Flushed w.number log.handle to ∷ front) after =
-        subst (λ (r : Result (Unit {0}) CcError). Stands told (w.logs handle).told (past_flushed w.number log.handle to r front) after) ok (gave.stands (w.logs handle).told front w.number before.stands) in
+  -- A step of the log was told by the entry that was placed, or by none: it stands for what was seen since.
+  module _ {T : Type 0} (done : ℕ → ℕ → T → Entry) (result : Result T CcError) (after : LogState L) (gave : Gave told faults done result log after) where
+    told-by : (e : Entry) → left_by (done w.number handle) w.number handle result ≡ Some e → ((past : List Entry) → log_failures log.handle (e ∷ past) ≡ log_failures log.handle past + faults_by result) → HasPlaced w e x.seen → LogStands told faults (x.logs handle) x.seen after
+    told-by e left failed placed =
+        let step : Stands told (w.logs handle).told (e ∷ placed.front) after =
+        rw (is, left) at (gave.stands (w.logs handle).told placed.front w.number (held-before placed.front placed.grows).stands) in
         subst (λ (first : LogAtFirst). LogStands told faults first x.seen after) (sym logs)
-        (subst (λ (past : List Entry). LogStands told faults (w.logs handle) past after) (sym (placed.placed ∙ ap (λ (m : ℕ). entry.Flushed w.number m to ∷ front) (sym is)))
-        (log-after told faults (w.logs handle) log after front (entry.Flushed w.number log.handle to ∷ front) 0 gave.handle
-        (gave.counted ∙ ap (λ (r : Result (Unit {0}) CcError). faults log.file + faults_by r) ok)
-        (failures-flushed w.number log.handle to log.handle front) step before))
+        (subst (λ (past : List Entry). LogStands told faults (w.logs handle) past after) (sym placed.placed)
+        (log-after told faults (w.logs handle) log after placed.front (e ∷ placed.front) (faults_by result) gave.handle gave.counted
+        (failed placed.front) step (held-before placed.front placed.grows)))
 
-    pub held-failed : (failed : ℕ) → result ≡ Err (error.LogFault failed) → (placed : HasPlaced w (entry.LogFailed w.number handle) x.seen) → LogStands told faults (x.logs handle) x.seen after
-    held-failed failed err placed =
-        let front = placed.front in
-        let before : LogStands told faults (w.logs handle) front log = log-grown told faults (w.logs handle) w handle log front held is placed.grows stands in
-        let step : Stands told (w.logs handle).told (entry.LogFailed w.number log.handle ∷ front) after =
-        subst (λ (r : Result (Unit {0}) CcError). Stands told (w.logs handle).told (past_flushed w.number log.handle to r front) after) err (gave.stands (w.logs handle).told front w.number before.stands) in
-        subst (λ (first : LogAtFirst). LogStands told faults first x.seen after) (sym logs)
-        (subst (λ (past : List Entry). LogStands told faults (w.logs handle) past after) (sym (placed.placed ∙ ap (λ (m : ℕ). entry.LogFailed w.number m ∷ front) (sym is)))
-        (log-after told faults (w.logs handle) log after front (entry.LogFailed w.number log.handle ∷ front) 1 gave.handle
-        (gave.counted ∙ ap (λ (r : Result (Unit {0}) CcError). faults log.file + faults_by r) err)
-        (failures-failed w.number log.handle front) step before))
+    pub held-done : (value : T) → result ≡ Ok value → ((past : List Entry) → log_failures log.handle (done w.number handle value ∷ past) ≡ log_failures log.handle past + 0) → HasPlaced w (done w.number handle value) x.seen → LogStands told faults (x.logs handle) x.seen after
+    held-done value ok none placed = told-by (done w.number handle value) (rw ok refl) (rw ok none) placed
 
-    pub held-wanted : result ≡ Err error.NoMemory → Grows w x.seen → LogStands told faults (x.logs handle) x.seen after
-    held-wanted err grows =
-        let before : LogStands told faults (w.logs handle) x.seen log = log-grown told faults (w.logs handle) w handle log x.seen held is grows stands in
-        let step : Stands told (w.logs handle).told x.seen after =
-        subst (λ (r : Result (Unit {0}) CcError). Stands told (w.logs handle).told (past_flushed w.number log.handle to r x.seen) after) err (gave.stands (w.logs handle).told x.seen w.number before.stands) in
+    pub held-failed : (failed : ℕ) → result ≡ Err (error.LogFault failed) → HasPlaced w (entry.LogFailed w.number handle) x.seen → LogStands told faults (x.logs handle) x.seen after
+    held-failed failed err placed = told-by (entry.LogFailed w.number handle) (rw err refl) (rw (err, is) (failures-failed w.number handle)) placed
+
+    pub held-refused : (e : CcError) → result ≡ Err e → ((failed : ℕ) → e ≡ error.LogFault failed → ⊥) → Grows w x.seen → LogStands told faults (x.logs handle) x.seen after
+    held-refused e err other grows =
         subst (λ (first : LogAtFirst). LogStands told faults first x.seen after) (sym logs)
-        (log-after told faults (w.logs handle) log after x.seen x.seen 0 gave.handle
-        (gave.counted ∙ ap (λ (r : Result (Unit {0}) CcError). faults log.file + faults_by r) err)
-        (none (log_failures log.handle x.seen)) step before)
+        (log-after told faults (w.logs handle) log after x.seen x.seen 0 gave.handle (rw (err, unraised e other) at gave.counted)
+        (none (log_failures log.handle x.seen)) (rw (err, untold e other) at (gave.stands (w.logs handle).told x.seen w.number (held-before x.seen grows).stands)) (held-before x.seen grows))
       where
         none : (a : ℕ) → a ≡ a + 0
         none a = omega arith
+
+        unraised : (e : CcError) → ((failed : ℕ) → e ≡ error.LogFault failed → ⊥) → faults_by {T = T} (Err e) ≡ 0
+        unraised (error.LogFault failed) other = absurd (other failed refl)
+        unraised e other = refl
+
+        untold : (e : CcError) → ((failed : ℕ) → e ≡ error.LogFault failed → ⊥) → left_by {T = T} (done w.number log.handle) w.number log.handle (Err e) ≡ None
+        untold (error.LogFault failed) other = absurd (other failed refl)
+        untold e other = refl
 
 -- a turn of a log that is taken beside those that are held
 pub holds-log : (w x : Standing) (handle : ℕ) → Takes (with_log handle) w x → w.held.log ≡ None → (t : Turn) → holds w.held t ≡ true → holds x.held t ≡ true

@@ -1,4 +1,4 @@
--- A good journal stays good with the entries of a page's writing.
+-- A good journal stays good with the entries of a page's writing, and with those of a log.
 use Rattle.std.specs.Prelude.{◌≡◌, ℕ, ◌<◌, true, false, ◌==◌, List, [], ◌∷◌, Option, None, Some, refl}
 use Rattle.std.proofs.Common.{sym, ◌∙◌}
 use Rattle.cc_entry.specs.Place.{Page}
@@ -10,7 +10,7 @@ use Rattle.cc_laws.proofs.SoundFacts.{dirty_resident-good}
 use Rattle.cc_laws.proofs.TurnSteps.{is_quiet-none, is_quiet-unneeded}
 use Rattle.cc_model.specs.Allowed.{IsAllowed, IsAllowedSoFar, IsOwed, owed_begin}
 use Rattle.cc_model.specs.Conditions.{MayBegin}
-use Rattle.cc_model.specs.Covered.{IsCovered, IsCoveredEntry, IsLogged}
+use Rattle.cc_model.specs.Covered.{IsCovered, IsCoveredEntry, IsLogged, IsNextLsn}
 use Rattle.cc_model.specs.Good.{IsGood}
 use Rattle.cc_model.specs.History.{history}
 use Rattle.cc_model.specs.Images.{open_of}
@@ -48,6 +48,14 @@ good-ended u past pass page how good may = record {
   legal = (tt, good.legal);
   allowed = ((nothing_owed _ past good.allowed.1, may, good.allowed.0), refl);
   covered = (tt, good.covered);
+}
+
+pub good-appended : (u : Setup) (past : List Entry) (pass handle lsn : ℕ) (bytes : List ℕ) → IsGood u past → IsNextLsn past handle lsn → IsGood u (entry.Append pass handle lsn bytes ∷ past)
+unfolding IsLegal IsLegalEntry IsAllowed IsAllowedSoFar IsCovered IsCoveredEntry
+good-appended u past pass handle lsn bytes good may = record {
+  legal = (tt, good.legal);
+  allowed = ((nothing_owed _ past good.allowed.1, may, good.allowed.0), refl);
+  covered = (may, good.covered);
 }
 
 pub good-flushed : (u : Setup) (past : List Entry) (pass handle to : ℕ) → IsGood u past → flushed_to past handle < to → IsGood u (entry.Flushed pass handle to ∷ past)

@@ -1,18 +1,18 @@
 -- What a pass that holds a stream's book and disk goes on knowing while others go on.
-use Rattle.std.specs.Prelude.{◌≡◌, ℕ, ◌≤◌, true, false, List, [], ◌∷◌, ◌++◌, Option, None, Some, max, refl}
+use Rattle.std.specs.Prelude.{◌≡◌, ℕ, suc, ◌≤◌, true, false, List, [], ◌∷◌, ◌++◌, Option, None, Some, max, refl}
 use Rattle.std.proofs.Common.{ap, sym, ◌∙◌, subst, arith}
 use Rattle.std.proofs.lemmas.Bool.{eq-eqb}
 use Rattle.cc_entry.specs.declared.entry.Entry.{Entry}
 use Rattle.cc_book.specs.Book.{BookState, BookStands}
 use Rattle.cc_effects.specs.Moments.{Others}
-use Rattle.cc_laws.proofs.LogSteps.{flushed_to-entry, flushed_to-quiet}
+use Rattle.cc_laws.proofs.LogSteps.{floor_of-quiet, flushed_to-entry, flushed_to-quiet}
 use Rattle.cc_laws.proofs.PassSteps.{up_to_call-not_mine, up_to_call-other}
 use Rattle.cc_laws.proofs.QuietSteps.{history-quiet}
-use Rattle.cc_model.specs.Covered.{FlushedUpTo, IsLogged}
+use Rattle.cc_model.specs.Covered.{FlushedUpTo, IsLogged, IsNextLsn}
 use Rattle.cc_model.specs.Good.{IsGood}
 use Rattle.cc_model.specs.History.{history}
 use Rattle.cc_model.specs.Images.{open_of}
-use Rattle.cc_model.specs.Logs.{flush_of, flushed_to}
+use Rattle.cc_model.specs.Logs.{floor_of, flush_of, flushed_to}
 use Rattle.cc_model.specs.Passes.{up_to_call, is_call_of}
 use Rattle.cc_model.specs.Settings.{log_of}
 use Rattle.cc_model.specs.Stamps.{newest_of}
@@ -71,6 +71,13 @@ flushed_to-grows w seen log grows = subst (λ (past : List Entry). flushed_to w.
 -- and just as far while its turn is held
 pub flushed_to-held : (w : Standing) (seen : List Entry) (log : ℕ) → w.held.log ≡ Some log → Grows w seen → flushed_to seen log ≡ flushed_to w.seen log
 flushed_to-held w seen log held grows = ap (λ past. flushed_to past log) grows.grew ∙ flushed_to-quiet grows.later w.seen log (grows.quiet (Log log) (is_held log w.held.log held))
+
+-- so does its floor stay, and its next LSN
+pub floor_of-held : (w : Standing) (seen : List Entry) (log : ℕ) → w.held.log ≡ Some log → Grows w seen → floor_of seen log ≡ floor_of w.seen log
+floor_of-held w seen log held grows = ap (λ past. floor_of past log) grows.grew ∙ floor_of-quiet grows.later w.seen log (grows.quiet (Log log) (is_held log w.held.log held))
+
+pub next_lsn-held : (w : Standing) (seen : List Entry) (log lsn : ℕ) → w.held.log ≡ Some log → Grows w seen → IsNextLsn w.seen log lsn → IsNextLsn seen log lsn
+next_lsn-held w seen log lsn held grows is = record { next = is.next ∙ ap suc (sym (floor_of-held w seen log held grows)); in_range = is.in_range }
 
 flushed-further : (past now : List Entry) (log lsn : Option ℕ) → ((handle : ℕ) → flushed_to past handle ≤ flushed_to now handle) → FlushedUpTo past log lsn → FlushedUpTo now log lsn
 flushed-further past now None lsn further is = tt

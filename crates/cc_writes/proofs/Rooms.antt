@@ -99,6 +99,11 @@ reserved-ended pass page how past t known is =
     ) (one-before _ _)
 
 -- an entry of a log reserves nothing
+pub reserved-appended : (pass handle lsn : ℕ) (bytes : List ℕ) (past : List Entry) → reserved_in (entry.Append pass handle lsn bytes ∷ past) ≡ reserved_in past
+unfolding reserved_in stores_unfinished
+reserved-appended pass handle lsn bytes past =
+    rw (sum-same (λ s. owed_by_stream (history (entry.Append pass handle lsn bytes ∷ past) s)) (λ s. owed_by_stream (history past s)) all_streams (λ s. ap owed_by_stream (history-no_effect (entry.Append pass handle lsn bytes) past s refl))) refl
+
 pub reserved-flushed : (pass handle to : ℕ) (past : List Entry) → reserved_in (entry.Flushed pass handle to ∷ past) ≡ reserved_in past
 unfolding reserved_in stores_unfinished
 reserved-flushed pass handle to past =

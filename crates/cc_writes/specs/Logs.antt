@@ -11,7 +11,7 @@ use Rattle.cc_entry.specs.declared.entry.Entry.TheVariants as entry
 use Rattle.cc_dirty.specs.declared.row.Row.{Row}
 use Rattle.cc_journal.specs.Journal.{JournalState, room_of}
 use Rattle.cc_journal.specs.Rows.{later_in}
-use Rattle.cc_model.specs.Covered.{IsLogged}
+use Rattle.cc_model.specs.Covered.{IsLogged, IsNextLsn}
 use Rattle.cc_model.specs.History.{history}
 use Rattle.cc_model.specs.Logs.{flushed_to}
 use Rattle.cc_model.specs.Settings.{log_of}
@@ -78,9 +78,11 @@ NewestLeft old page (Ok None) new = (newest_on page new.seen ≡ None) × Went o
 NewestLeft old page (Ok (Some to)) new = (newest_on page new.seen ≡ Some to) × WentWith (suc old.in_flight) old new
 NewestLeft old page (Err e) new = IsWant e × Went old new
 
--- A pass may place an entry of its own of the log whose turn it holds: that the log was flushed further, or that it
--- failed.
+-- A pass may place an entry of its own of the log whose turn it holds: that its next LSN was appended, that it was
+-- flushed further, or that it failed.
 abbrev pub MayLog : Standing → Entry → Type 0
+MayLog w (entry.Append pass handle lsn bytes) =
+    (pass ≡ w.number) × (w.held.log ≡ Some handle) × IsNextLsn w.seen handle lsn
 MayLog w (entry.Flushed pass handle to) =
     (pass ≡ w.number) × (w.held.log ≡ Some handle) × (flushed_to w.seen handle < to)
 MayLog w (entry.LogFailed pass handle) = (pass ≡ w.number) × (w.held.log ≡ Some handle)

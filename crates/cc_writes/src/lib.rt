@@ -4,8 +4,8 @@
 //! after its log was flushed to the newest LSN that is stamped on it. Each transfer that begins ends, and its end says
 //! how. What the pass had under way is still under way, or was stopped by the fault that is answered.
 //!
-//! `writes` has the writing of a page, `log` the flush of its log, `transfers` the begin, the transfer itself and the
-//! end. What makes room, flushes, purges or writes behind stands above. Below are the visits of a pass to the journal
+//! `writes` has the writing of a page, `log` the flush of its log, which the calls on a log use too, `transfers` the
+//! begin, the transfer itself and the end. What makes room, flushes, purges or writes behind stands above. Below are the visits of a pass to the journal
 //! (`cc_visits`), the transfer itself (`cc_transfer`), and a log under its turn (`cc_log`).
 #![tactic(auto)]
 
@@ -13,4 +13,5 @@ mod log;
 mod transfers;
 mod writes;
 
+pub use log::{LogFlush, flush_to, give_back, place};
 pub use writes::{PageWrite, write_page};

@@ -1,4 +1,4 @@
-//! The log of a page that is to be written.
+//! The log of a page that is to be written, and what the calls on a log need of it.
 
 ghost use Rattle.std.specs.Prelude.{◌≡◌, ◌-◌, ◌<◌, false, None, Some};
 ghost use Rattle.cc_dirty.specs.Order.{same_page};
@@ -23,10 +23,10 @@ use cc_journal::Journal;
 use cc_log::LogTurn;
 use cc_turns::Turns;
 
-/// How the flush of a page's log ended.
+/// How the flush of a log ended.
 #[derive(Clone, Copy, Debug)]
-pub(crate) enum LogFlush {
-    /// The log is flushed to the page's newest LSN, or there is none to flush to.
+pub enum LogFlush {
+    /// The log is flushed to the LSN, or there is none to flush to.
     Reached,
     /// The log of this handle failed.
     Failed(u8),
@@ -125,9 +125,11 @@ fn is_of(row: &Row, page: PageId) -> bool
     row.page.stream().number() == page.stream().number() && row.page.page() == page.page()
 }
 
-// Flushes a log to an LSN, where it was not flushed so far. The place that is reserved for its entry is used, or given
-// back.
-fn flush_to<T: Turns>(turns: &mut T, handle: u8, to: Lsn) -> Result<LogFlush, CcError>
+/// Flushes a log to an LSN, where it was not flushed so far. The place that is reserved for its entry is used, or given
+/// back.
+///
+/// `NoMemory`.
+pub fn flush_to<T: Turns>(turns: &mut T, handle: u8, to: Lsn) -> Result<LogFlush, CcError>
     requires known { handle < (T.standing turns.old).setup.logs }
     requires no_log { (T.standing turns.old).held.log ≡ None }
     requires away { (T.standing turns.old).held.journal ≡ false }
@@ -185,8 +187,8 @@ fn flush_held<T: Turns>(
     }
 }
 
-// Places an entry of the log whose turn is held, for which a place is reserved.
-fn place<T: Turns>(turns: &mut T, entry: Entry)
+/// Places an entry of the log whose turn is held, for which a place is reserved.
+pub fn place<T: Turns>(turns: &mut T, entry: Entry)
     requires away { (T.standing turns.old).held.journal ≡ false }
     requires reserved { 0 < (T.standing turns.old).in_flight }
     requires may { MayLog (T.standing turns.old) entry }
@@ -199,8 +201,8 @@ fn place<T: Turns>(turns: &mut T, entry: Entry)
     turns.give_journal(journal);
 }
 
-// Gives a place back that is reserved.
-fn give_back<T: Turns>(turns: &mut T)
+/// Gives a place back that is reserved.
+pub fn give_back<T: Turns>(turns: &mut T)
     requires away { (T.standing turns.old).held.journal ≡ false }
     requires reserved { 0 < (T.standing turns.old).in_flight }
     ensures good { IsGood (T.standing turns.new).setup (T.standing turns.new).seen }
