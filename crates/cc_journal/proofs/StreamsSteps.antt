@@ -1,12 +1,12 @@
 -- How what is kept of the streams steps, by the kind of entry.
-use Rattle.std.specs.Prelude.{◌≡◌, ℕ, ◌<◌, ◌==◌, ◌||◌, not, nat_lt, Bool, true, false, List, [], ◌∷◌, length, count_by, All, map, slice_index_or, slice_set, Option, None, Some, if◌then◌else◌, refl}
+use Rattle.std.specs.Prelude.{◌≡◌, ℕ, ◌<◌, ◌≤◌, ◌⊎◌, ◌==◌, ◌||◌, not, nat_lt, Bool, true, false, List, [], ◌∷◌, length, count_by, All, map, slice_index_or, slice_set, Option, None, Some, if◌then◌else◌, refl}
 use Rattle.std.specs.List.{cons_option, filter}
 use Rattle.std.proofs.lemmas.List.Elements.{All-head, All-tail}
 use Rattle.std.specs.Option.{option_map, option_and_then}
-use Rattle.std.proofs.Common.{ap, sym, ◌∙◌, subst}
-use Rattle.std.proofs.lemmas.Bool.{eqb-true, eq-eqb}
+use Rattle.std.proofs.Common.{ap, sym, ◌∙◌, subst, inl, inr}
+use Rattle.std.proofs.lemmas.Bool.{eqb-true, eq-eqb, cases_lt}
 use Rattle.std.proofs.lemmas.Grind.{get_or-set_at}
-use Rattle.std.proofs.lemmas.List.{get_or-replicate, length-map}
+use Rattle.std.proofs.lemmas.List.{get_or-replicate, get_or_past, length-map}
 use Rattle.std.proofs.lemmas.List.Sums.{length-filter}
 use Rattle.std.specs.Prelude.{replicate}
 use Rattle.std.proofs.lemmas.List.{get_or-set_other}
@@ -31,7 +31,7 @@ use Rattle.cc_model.specs.History.{Effect, Did, CameIn, WentOut, Began, Ended, S
 use Rattle.cc_model.specs.Holds.{id_of}
 use Rattle.cc_model.specs.Images.{open_of}
 use Rattle.cc_model.specs.Numbers.{is_empty}
-use Rattle.cc_model.specs.Objects.{objects}
+use Rattle.cc_model.specs.Objects.{had_map, objects}
 use Rattle.cc_model.specs.Sizes.{ended_ok}
 use Rattle.cc_model.specs.Touches.{touches, is_mapped}
 use Rattle.cc_stream.specs.Stream.{Stream, StreamStands, is_done}
@@ -39,7 +39,7 @@ use Rattle.cc_stream.proofs.StreamSteps.{stands-other}
 use Rattle.cc_journal.specs.Alone.{IsOfStream}
 use Rattle.cc_journal.specs.Places.{Places, Holds, PlacesHolds}
 use Rattle.cc_journal.specs.Rows.{Follows, ChangesRows, row_after}
-use Rattle.cc_journal.specs.Streams.{StreamsStand, KeepsTransfersIn, leaves_streams, is_of_call, is_written_behind, MarksWritten}
+use Rattle.cc_journal.specs.Streams.{StreamsStand, no_state, KeepsTransfersIn, leaves_streams, is_of_call, is_written_behind, MarksWritten}
 use Rattle.cc_journal.specs.Scans.{is_marked}
 use Rattle.cc_model.specs.Cache.{lazy_pages, dirty_total, dirty_count}
 use Rattle.cc_journal.proofs.PlaceSteps.{places_step, places_other}
@@ -127,6 +127,20 @@ stands_ended pass page how past states places old new keeps ended others stands 
 
 apart : (b : Bool) → b ≡ true → b ≡ false → ⊥
 apart b yes_it no_it = absurd (cc)
+
+-- each of the 16 streams has its state among those that stand
+pub within_states : (past : List Entry) (states : List Stream) (places : Places) (rows : List Row) (s : ℕ) → s < 16 → StreamsStand past states places rows → s < length states
+within_states past states places rows s below stands = go (cases_lt s (length states))
+  where
+    -- past the last one, whatever stands for one past the last would have to stand for its history
+    has : (b : Bool) → length states ≤ s → b ≡ had_map (history past s)
+    has b beyond =
+        let d : Stream = record no_state { had_map = b } in
+        sym (ap (λ (state : Stream). state.had_map) (get_or_past states s d beyond)) ∙ (stands.each s d below).had_map
+
+    go : (s < length states) ⊎ (length states ≤ s) → s < length states
+    go (inl within) = within
+    go (inr beyond) = absurd (apart (had_map (history past s)) (sym (has true beyond)) (sym (has false beyond)))
 
 -- a done call
 pub stands_call : (pass nth stream : ℕ) (call : Call) (reply : Reply) (past : List Entry) (states : List Stream) (state : Stream) (places held : Places) (old new : List Row) → stream < length states → StreamStands (Did pass call reply ∷ history past stream) state → Holds places held stream (holding_of_call call (id_of reply)) → ChangesRows stream (λ p. touching_of (event_of_act (act_of call)) (history past stream) p) old new → StreamsStand past states places old → StreamsStand (entry.Call pass nth (Some stream) call (outcome.Done reply) ∷ past) (slice_set states stream state) held new

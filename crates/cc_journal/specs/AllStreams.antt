@@ -6,8 +6,8 @@ use Rattle.cc_journal.specs.Streams.{StreamsStand, HasRoomForEntry}
 
 -- it stands for a past
 abbrev pub StandFor : List Entry → Streams → Type 0
-StandFor past s = StreamsStand past s.states s.places.places.entries s.dirty.rows
+StandFor past s = StreamsStand past s.states.value s.places.places.entries s.dirty.rows
 
 -- there is room in it for what an entry touches
 abbrev pub HasRoomIn : Streams → Entry → Type 0
-HasRoomIn s e = HasRoomForEntry s.states s.places.places.entries s.dirty e
+HasRoomIn s e = HasRoomForEntry s.states.value s.places.places.entries s.dirty e

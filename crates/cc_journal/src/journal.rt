@@ -69,7 +69,7 @@ impl<Q> Model for Journal<Q> {
     } };
 
     ghost invariant = { λ j.
-        Kept (reverse j.entries.items) j.streams.states j.streams.places.places.entries j.streams.dirty
+        Kept (reverse j.entries.items) j.streams.states.value j.streams.places.places.entries j.streams.dirty
         j.calls.counts.entries j.holds j.waiting j.scans.total j.scans.cursor
         × HasMemory j.capacity (vec_len j.entries) j.reserved (vec_capacity j.entries - vec_len j.entries)
         (spare j.streams.places.places) (spare j.calls.counts) };

@@ -35,10 +35,10 @@ use std::alloc::Global;
 /// The dirty pages that a cache may have.
 const MOST_DIRTY: u32 = 16384;
 
-/// What is kept of the 16 streams.
+/// What is kept of the 16 streams. Their states stand in a box, so a move of the journal moves none of them.
 #[derive(Drop)]
 pub(crate) struct Streams {
-    states: [StreamState; 16],
+    states: Box<[StreamState; 16]>,
     places: HoldPlaces,
     dirty: DirtyTable,
 }
@@ -52,8 +52,11 @@ impl Streams {
     {
         let mut dirty = DirtyTable::new(alloc);
         dirty.reserve(MOST_DIRTY)?;
+        let Ok(states) = Box::new(alloc, [StreamState::new(); 16]) else {
+            return Err(NoMemory);
+        };
         Ok(Streams {
-            states: [StreamState::new(); 16],
+            states,
             places: HoldPlaces::new(alloc),
             dirty,
         })
@@ -61,12 +64,12 @@ impl Streams {
 
     /// What is kept of one stream beside its pages and holds.
     pub(crate) fn state(&self, stream: StreamId) -> &StreamState
-        ensures is { (d : Stream) → result.now ≡ slice_index_or self.now.states stream d }
+        ensures is { (d : Stream) → result.now ≡ slice_index_or self.now.states.value stream d }
         ensures numbered { stream < 16 }
         ensures stands { (past : List Entry) → StandFor past self.now →
             StreamStands (history past stream) result.now }
     {
-        &self.states[usize::from(stream.number())]
+        &(*self.states)[usize::from(stream.number())]
     }
 
     /// The dirty page table.
@@ -276,7 +279,7 @@ impl Streams {
     fn call_done(&mut self, stream: StreamId, call: &Call, reply: &Reply)
         requires places { 0 < spare self.old.places.places }
         requires rows { let what = event_of_act (act_of call.now) in
-            stream < 16 → HasRoomFor self.old.dirty stream (reach what (state_in self.old.states stream).size
+            stream < 16 → HasRoomFor self.old.dirty stream (reach what (state_in self.old.states.value stream).size
             (held_at self.old.places.places.entries stream (hold_named what))) }
         ensures stands { (past : List Entry) (pass nth : ℕ) →
             StandFor past self.old →
@@ -288,14 +291,14 @@ impl Streams {
         let mapped = self.is_mapped(stream);
         self.change_rows(stream, act(call));
         self.places.follow(stream, holding_by(call, id_in(reply)));
-        let mut state = self.states[place];
+        let mut state = (*self.states)[place];
         state.done(call, mapped);
-        self.states[place] = state;
+        (*self.states)[place] = state;
     }
 
     // What a done call does to the rows of its stream's pages.
     fn change_rows(&mut self, stream: StreamId, what: Event)
-        requires rows { HasRoomFor self.old.dirty stream (reach what (state_in self.old.states stream).size
+        requires rows { HasRoomFor self.old.dirty stream (reach what (state_in self.old.states.value stream).size
             (held_at self.old.places.places.entries stream (hold_named what))) }
         ensures rows { (past : List Entry) →
             StandFor past self.old →

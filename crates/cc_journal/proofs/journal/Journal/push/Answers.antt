@@ -13,7 +13,7 @@ pub follow-requires-clause-rows : goal.follow-requires-clause-rows
 follow-requires-clause-rows g c =
     let past : List Entry = reverse c.self.inside.entries.items in
     let same : c.args.self.now.entries ≡ past = sym (ap (λ j. j.entries) c.self.view_is) in
-    room_for c.args.entry past c.self.inside.streams.states c.self.inside.streams.places.places.entries c.self.inside.streams.dirty
+    room_for c.args.entry past c.self.inside.streams.states.value c.self.inside.streams.places.places.entries c.self.inside.streams.dirty
     (rw (ap (λ t. t.rows) c.dirty.ensures) at (rw c.rows-rows.ensures.rows at c.rows-rows.ensures.sound)) c.self.invariant.0.streams c.self.invariant.0.few c.self.invariant.0.capacity (rw same at c.requires.may)
 
 pub follow-requires-2-clause-few : goal.follow-requires-2-clause-few
@@ -37,7 +37,7 @@ invariant_of-self g c =
     let scans = c.follow-3.ensures past (rw same at c.looked_at-looked_at.ensures.scan) kept.scans in
     let reserved = ap (λ j. j.reserved) c.self.view_is in (
       rw grown
-          (kept_push c.args.entry past c.self.inside.streams.states c.follow.new.self.states c.self.inside.streams.places.places.entries c.follow.new.self.places.places.entries
+          (kept_push c.args.entry past c.self.inside.streams.states.value c.follow.new.self.states.value c.self.inside.streams.places.places.entries c.follow.new.self.places.places.entries
           c.self.inside.streams.dirty c.follow.new.self.dirty c.self.inside.calls.counts.entries c.follow-2.new.self.counts.entries c.self.inside.holds c.holds_made_by.result
           c.self.inside.waiting c.self.inside.scans.total c.follow-3.new.self.total c.self.inside.scans.cursor c.follow-3.new.self.cursor kept c.requires.kind may.few
           (c.follow.ensures.stands past may.transfers kept.streams) c.follow.ensures.sound c.follow.ensures.capacity (c.follow-2.ensures.counted past kept.calls)

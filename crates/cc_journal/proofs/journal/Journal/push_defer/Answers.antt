@@ -26,7 +26,7 @@ invariant_of-self g c =
     let short : length c.defer-id.new.self.writes ≤ 64 =
     omega (arith, stands_length c.defer-id.new.self.writes c.defer-id.new.self.count (e ∷ past) stands, queue_more c.args.pass c.defer-id.result c.args.file c.args.pages c.args.retrying past, room) in (
       rw grown
-          (kept_queue e past c.self.inside.streams.states c.self.inside.streams.places.places.entries c.self.inside.streams.dirty c.self.inside.calls.counts.entries c.self.inside.holds
+          (kept_queue e past c.self.inside.streams.states.value c.self.inside.streams.places.places.entries c.self.inside.streams.dirty c.self.inside.calls.counts.entries c.self.inside.holds
           c.self.inside.waiting c.defer-id.new.self c.self.inside.scans.total c.self.inside.scans.cursor kept refl (λ me. refl) refl refl stands short),
       record {
         within = omega (arith, memory.within, c.push_reserved.ensures.len, c.requires.reserved, reserved);

@@ -16,7 +16,7 @@ invariant_of-self g c =
     let reserved = ap (λ j. j.reserved) c.self.view_is in
     let short : length c.post-posted.new.self.writes ≤ 64 = omega (arith, ap length c.post-posted.ensures.writes, length-drop 1 c.self.inside.waiting.writes, kept.short) in (
       rw grown
-          (kept_queue e past c.self.inside.streams.states c.self.inside.streams.places.places.entries c.self.inside.streams.dirty c.self.inside.calls.counts.entries c.self.inside.holds
+          (kept_queue e past c.self.inside.streams.states.value c.self.inside.streams.places.places.entries c.self.inside.streams.dirty c.self.inside.calls.counts.entries c.self.inside.holds
           c.self.inside.waiting c.post-posted.new.self c.self.inside.scans.total c.self.inside.scans.cursor kept refl (λ me. refl) refl refl (c.post-posted.ensures.stands past kept.queue) short),
       record {
         within = omega (arith, memory.within, c.push_reserved.ensures.len, c.requires.reserved, reserved);

@@ -24,10 +24,10 @@ no_stream pass nth (Some stream) it ended not_it = absurd (not_it stream refl)
 
 pub returns-in_default-outcome-clause-stands : goal.returns-in_default-outcome-clause-stands
 returns-in_default-outcome-clause-stands c past pass nth stands =
-    stands_left _ past c.args.self.now.states c.args.self.now.places.places.entries c.args.self.now.dirty.rows
+    stands_left _ past c.args.self.now.states.value c.args.self.now.places.places.entries c.args.self.now.dirty.rows
     (not_done pass nth c.args.stream.now c.args.call.now c.args.outcome.now c.in_default-outcome.not-Done) stands
 
 pub returns-in_default-clause-stands : goal.returns-in_default-clause-stands
 returns-in_default-clause-stands c past pass nth stands =
-    stands_left _ past c.args.self.now.states c.args.self.now.places.places.entries c.args.self.now.dirty.rows
+    stands_left _ past c.args.self.now.states.value c.args.self.now.places.places.entries c.args.self.now.dirty.rows
     (no_stream pass nth c.args.stream.now c.args.call.now c.args.outcome.now c.in_default.not-Some) stands

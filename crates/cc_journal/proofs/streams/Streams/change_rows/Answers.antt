@@ -22,8 +22,8 @@ touch_range-requires-clause-room c = (rw c.in-Changes.is at c.requires.rows).roo
 
 stored : (c : goal.After-touch_range-arg-in-Stores-1) → HasRoomFor c.args.self.now.dirty c.args.stream (record { from = 4096 * c.from-from.result; to = c.stored_end-to.result })
 stored c =
-    let size : c.size.result ≡ (state_in c.args.self.now.states c.args.stream).size = c.size.ensures.same ∙ ap (λ (s : Stream). s.size) (c.state.ensures.is no_state) in
-    let range : record { from = 4096 * c.from-from.result; to = c.stored_end-to.result } ≡ stored_range c.in-Stores.page (state_in c.args.self.now.states c.args.stream).size =
+    let size : c.size.result ≡ (state_in c.args.self.now.states.value c.args.stream).size = c.size.ensures.same ∙ ap (λ (s : Stream). s.size) (c.state.ensures.is no_state) in
+    let range : record { from = 4096 * c.from-from.result; to = c.stored_end-to.result } ≡ stored_range c.in-Stores.page (state_in c.args.self.now.states.value c.args.stream).size =
     ap (λ (n : ℕ). record { from = 4096 * n; to = c.stored_end-to.result }) c.from-from.ensures
     ∙ (ap (λ (n : ℕ). record { from = 4096 * c.in-Stores.page; to = n }) c.stored_end-to.ensures
     ∙ ap (λ (n : ℕ). stored_range c.in-Stores.page n) size) in

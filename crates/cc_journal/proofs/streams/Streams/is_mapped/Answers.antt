@@ -18,5 +18,5 @@ returns-else-has_objects c past stands =
     let d = c.state.result.now in
     let state = subst (λ (s : Stream). StreamStands h s) (sym (c.state.ensures.is d)) (stands.each c.args.stream d c.state.ensures.numbered) in
     ap (nat_lt 0) c.total.ensures.count
-    ∙ sym (mapped_by past c.args.self.now.states c.args.self.now.places.places.entries c.args.self.now.dirty.rows c.args.stream false c.total.ensures.sound stands
+    ∙ sym (mapped_by past c.args.self.now.states.value c.args.self.now.places.places.entries c.args.self.now.dirty.rows c.args.stream false c.total.ensures.sound stands
     (sym c.if-has_objects.false ∙ c.has_objects.ensures.stands h state))

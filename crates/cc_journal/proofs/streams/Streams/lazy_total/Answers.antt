@@ -6,5 +6,5 @@ pub returns : goal.returns
 returns c past stands =
     c.lazy_count.ensures
     ∙ rw c.rows.ensures.rows
-    (lazy_count_by past c.args.self.now.states c.args.self.now.places.places.entries c.args.self.now.dirty.rows c.marks.result (c.marks.ensures past stands)
+    (lazy_count_by past c.args.self.now.states.value c.args.self.now.places.places.entries c.args.self.now.dirty.rows c.marks.result (c.marks.ensures past stands)
     (rw c.rows.ensures.rows at c.rows.ensures.sound) stands)

@@ -7,6 +7,6 @@ use Rattle.cc_journal.proofs.streams.Streams.marks.Given as goal
 abbrev pub invariant-loop-n : goal.invariant-loop-n
 invariant-loop-n l = record {
   long : length l.marks ≡ 16;
-  marked : (past : List Entry) → StreamsStand past l.fn.self.states l.fn.self.places.places.entries l.fn.self.dirty.rows →
+  marked : (past : List Entry) → StreamsStand past l.fn.self.states.value l.fn.self.places.places.entries l.fn.self.dirty.rows →
       (s : ℕ) → s < l.n → slice_index_or l.marks s false ≡ is_written_behind (history past s);
 }

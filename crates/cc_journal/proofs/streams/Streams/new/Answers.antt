@@ -7,5 +7,5 @@ use Rattle.cc_journal.proofs.streams.Streams.new.Goals as goal
 pub returns-clause-stands : goal.returns-clause-stands
 returns-clause-stands c =
     let s = c.new.result in
-    stands_none (s ∷ s ∷ s ∷ s ∷ s ∷ s ∷ s ∷ s ∷ s ∷ s ∷ s ∷ s ∷ s ∷ s ∷ s ∷ s ∷ []) c.new-2.result.places.entries c.reserve.new.self.rows
-    (each_of s c.new.ensures.stands) c.new-2.ensures (c.in_ok-reserve.ensures.rows ∙ c.new-dirty.ensures)
+    rw c.in-Ok.ensures.ok (stands_none (s ∷ s ∷ s ∷ s ∷ s ∷ s ∷ s ∷ s ∷ s ∷ s ∷ s ∷ s ∷ s ∷ s ∷ s ∷ s ∷ []) c.new-3.result.places.entries c.reserve.new.self.rows
+    (each_of s c.new.ensures.stands) c.new-3.ensures (c.in_ok-reserve.ensures.rows ∙ c.new-dirty.ensures))
