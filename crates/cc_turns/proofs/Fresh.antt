@@ -30,6 +30,7 @@ use Rattle.cc_turns.specs.Disk.{HasGone}
 use Rattle.cc_turns.specs.Log.{FileStands, log_failures}
 use Rattle.cc_turns.specs.Places.{AreHome, IsRoomFor}
 use Rattle.cc_turns.specs.Desk.{Begun, DeskState, DeskStands, Tells, DiskIsHome, BookIsHome, LogIsHome, DisksEnded, LogsEnded, IsNew, made_from, openings, log_at_first}
+use Rattle.cc_turns.proofs.RowSteps.{all_at_home}
 
 -- the empty journal is good, and owes nothing
 good_none : (u : ModelSetup) → IsGood u []
@@ -61,23 +62,8 @@ disk_fresh told faults disks s disk is = record {
 }
 
 -- each disk is at its place
-some_of : {A : Type 0} (o : Option A) (a : A) → option_map (λ (x : A). Some x) o ≡ Some (Some a) → o ≡ Some a
-some_of None a is = absurd (cc)
-some_of (Some b) a is = cc
-
-none_of : {A : Type 0} (o : Option A) → option_map (λ (x : A). Some x) o ≡ Some None → ⊥
-none_of None is = absurd (cc)
-none_of (Some b) is = absurd (cc)
-
-no_number : (n : ℕ) → None ≡ Some n → ⊥
-no_number n is = absurd (cc)
-
 disks_fresh : {D : Type 0} (told : D → Option Disk) (faults : D → ℕ) (disks : List D) → AreHome (length disks) None (DiskIsHome told faults disks []) (map (λ a. Some a) disks)
-disks_fresh {D} told faults disks = record {
-  counted = length-map disks (λ (a : D). Some a);
-  home = λ s disk is. disk_fresh told faults disks s disk (some_of (slice_get disks s) disk (sym (slice_get-map (λ (a : D). Some a) disks s) ∙ is));
-  out = λ s. (λ is. absurd (none_of (slice_get disks s) (sym (slice_get-map (λ (a : D). Some a) disks s) ∙ is)), λ is. absurd (no_number s is));
-}
+disks_fresh told faults disks = all_at_home _ (length disks) disks refl (disk_fresh told faults disks)
 
 -- a log as the run begins
 pub log_fresh : {L : Type 0} (told : L → Option Log) (faults : L → ℕ) (logs : List L) (handle at : ℕ) (file : L) (log : LogState L) → slice_get logs handle ≡ Some file → at ≡ handle → log ≡ record { handle = at; floor = 0; flushed = 0; file = file } → Stands told (told file) [] log → LogIsHome told faults logs [] handle log

@@ -6,4 +6,5 @@ pub mod Homes
 pub mod DeskSteps
 pub mod RowSteps
 pub mod Fresh
+pub mod SlotSteps
 pub mod Taking

@@ -3,11 +3,13 @@ use Rattle.std.specs.Prelude.{◌≡◌, ◌⊎◌, ℕ, zero, suc, ◌+◌, tru
 use Rattle.std.specs.declared.option.Option.{Option}
 use Rattle.std.specs.declared.option.Option.TheVariants.{Some, None}
 use Rattle.std.specs.List.{list_all}
+use Rattle.std.specs.Option.{option_map}
 use Rattle.std.proofs.Common.{refl, sym, subst, ap, ◌∙◌, arith, append_assoc}
 use Rattle.std.proofs.Math.Logic.{inl, inr, ⊎_elim}
 use Rattle.std.proofs.lemmas.Bool.{and_parts}
-use Rattle.std.proofs.lemmas.List.{reverse-append, append-nil, map-append, length-append}
+use Rattle.std.proofs.lemmas.List.{reverse-append, append-nil, map-append, length-append, length-map}
 use Rattle.std.proofs.lemmas.List.Folds.{list_all-append}
+use Rattle.std.proofs.lemmas.Option.{slice_get-map}
 use Rattle.cc_turns.specs.Places.{AreHome}
 
 pub reverse_twice : {A : Type 0} (xs : List A) → reverse (reverse xs) ≡ xs
@@ -19,19 +21,20 @@ reverse_twice (x ∷ xs) =
 last_first : {A : Type 0} (row rest : List A) (x : A) → row ≡ rest ++ x ∷ [] → reverse row ≡ x ∷ reverse rest
 last_first row rest x is = ap reverse is ∙ reverse-append rest (x ∷ [])
 
--- What moved out, and what is left of the row, which was turned round, are the row as it was.
-pub out_begun : {A : Type 0} (old row : List A) (places : List (Option A)) → row ≡ reverse old → places ≡ [] → places ++ map (λ a. Some a) (reverse row) ≡ map (λ a. Some a) old
-out_begun old row places turned empty = rw empty (ap (map (λ a. Some a)) (ap reverse turned ∙ reverse_twice old))
+-- What moved out behind what was there, and what is left of the row, which was turned round, are what was there and
+-- the row as it was.
+pub out_begun : {A P : Type 0} (f : A → P) (old row : List A) (places : List P) → row ≡ reverse old → places ++ map f (reverse row) ≡ places ++ map f old
+out_begun f old row places turned = ap (λ xs. places ++ map f xs) (ap reverse turned ∙ reverse_twice old)
 
-pub out_next : {A : Type 0} (old row rest : List A) (x : A) (places : List (Option A)) → row ≡ rest ++ x ∷ [] → places ++ map (λ a. Some a) (reverse row) ≡ map (λ a. Some a) old → (places ++ Some x ∷ []) ++ map (λ a. Some a) (reverse rest) ≡ map (λ a. Some a) old
-out_next old row rest x places is moved =
-    append_assoc places (Some x ∷ []) (map (λ a. Some a) (reverse rest))
-    ∙ ap (λ ys. places ++ ys) (sym (ap (map (λ a. Some a)) (last_first row rest x is)))
+pub out_next : {A P : Type 0} (f : A → P) (row rest : List A) (x : A) (places all : List P) → row ≡ rest ++ x ∷ [] → places ++ map f (reverse row) ≡ all → (places ++ f x ∷ []) ++ map f (reverse rest) ≡ all
+out_next f row rest x places all is moved =
+    append_assoc places (f x ∷ []) (map f (reverse rest))
+    ∙ ap (λ ys. places ++ ys) (sym (ap (map f) (last_first row rest x is)))
     ∙ moved
 
-pub out_ended : {A : Type 0} (old row : List A) (places : List (Option A)) → row ≡ [] → places ++ map (λ a. Some a) (reverse row) ≡ map (λ a. Some a) old → places ≡ map (λ a. Some a) old
-out_ended old row places empty moved =
-    sym (append-nil places) ∙ subst (λ xs. places ++ map (λ a. Some a) (reverse xs) ≡ map (λ a. Some a) old) empty moved
+pub out_ended : {A P : Type 0} (f : A → P) (row : List A) (places all : List P) → row ≡ [] → places ++ map f (reverse row) ≡ all → places ≡ all
+out_ended f row places all empty moved =
+    sym (append-nil places) ∙ subst (λ xs. places ++ map f (reverse xs) ≡ all) empty moved
 
 -- What has a place still, and what moved back, the last one first, are the places as they were.
 pub back_begun : {A : Type 0} (old : List (Option A)) (row : List A) → row ≡ [] → old ++ map (λ a. Some a) (reverse row) ≡ old
@@ -125,6 +128,34 @@ all_home count held places free are = each places (λ n is. no_number n (sym fre
     each [] home = refl
     each (None ∷ ps) home = absurd (home 0 refl)
     each (Some a ∷ ps) home = each ps (λ n is. home (suc n) is)
+
+-- it is so of the row turned round
+pub all_turned : {A : Type 0} (places : List (Option A)) → list_all is_some places ≡ true → list_all is_some (reverse places) ≡ true
+all_turned [] all = refl
+all_turned (o ∷ places) all =
+    let both : (is_some o ≡ true) × (list_all is_some places ≡ true) = and_parts _ _ all in
+    ap (list_all is_some) (reverse-append (o ∷ []) places)
+    ∙ list_all-append is_some (reverse places) (o ∷ [])
+    ∙ rw (all_turned places both.1, both.0) refl
+
+-- so many things that belong at home are there
+pub all_at_home : {A : Type 0} (IsHome : ℕ → A → Type 0) (count : ℕ) (things : List A) → length things ≡ count → ((n : ℕ) (a : A) → slice_get things n ≡ Some a → IsHome n a) → AreHome count None IsHome (map (λ a. Some a) things)
+all_at_home {A} IsHome count things counted home = record {
+  counted = length-map things (λ (a : A). Some a) ∙ counted;
+  home = λ n a is. home n a (some_of (slice_get things n) a (sym (slice_get-map (λ (a : A). Some a) things n) ∙ is));
+  out = λ n. (λ is. absurd (none_of (slice_get things n) (sym (slice_get-map (λ (a : A). Some a) things n) ∙ is)), λ is. absurd (no_number n is));
+}
+  where
+    some_of : {A : Type 0} (o : Option A) (a : A) → option_map (λ (x : A). Some x) o ≡ Some (Some a) → o ≡ Some a
+    some_of None a is = absurd (cc)
+    some_of (Some b) a is = cc
+
+    none_of : {A : Type 0} (o : Option A) → option_map (λ (x : A). Some x) o ≡ Some None → ⊥
+    none_of None is = absurd (cc)
+    none_of (Some b) is = absurd (cc)
+
+    no_number : (n : ℕ) → None ≡ Some n → ⊥
+    no_number n is = absurd (cc)
 
 -- a row with one item more is one longer, and one of no length has none
 pub longer : {A : Type 0} (xs rest : List A) (x : A) → xs ≡ rest ++ x ∷ [] → length xs ≡ length rest + 1

@@ -75,9 +75,11 @@ state_of begun last since pass held device_turns = record {
   device_turns = device_turns;
 }
 
--- What the pass knows, who has seen the whole journal: nobody else has anything under way.
+-- What the pass knows, who has seen the whole journal: it shares its turns with no other, and nobody else has anything
+-- under way.
 abbrev pub standing_of : {D L Q : Type 0} → (D → Option Disk) → (D → ℕ) → (L → Option Log) → (L → ℕ) → DeskState D L Q → Standing
 standing_of told faults log_told log_faults d = record {
+  shared = [];
   setup = record {
     opening = openings told faults d.begun.disks;
     logs = length d.begun.logs;

@@ -6,3 +6,4 @@ pub mod Journal
 pub mod Takes
 pub mod Places
 pub mod Desk
+pub mod Slots

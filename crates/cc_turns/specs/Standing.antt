@@ -41,11 +41,13 @@ pub record LogAtFirst : Type 0 where
   pub told : Option Log
   pub faults : ℕ
 
--- What a pass knows. Of the run: its setup, how many streams have a disk, and what each disk and each log was as it
--- began. Of itself: its number, the entries of the journal that it has seen, those that it had seen as it began to
--- act, the turns that it holds, how many entries it has reserved for what it has under way, how many others had, as it
--- last took the journal, and how often it took the turn of a disk.
+-- What a pass knows. Of the run: the name of what it shares its turns by, [] where it shares them with nobody, its
+-- setup, how many streams have a disk, and what each disk and each log was as it began. Of itself: its number, the
+-- entries of the journal that it has seen, those that it had seen as it began to act, the turns that it holds, how many
+-- entries it has reserved for what it has under way, how many others had, as it last took the journal, and how often it
+-- took the turn of a disk.
 pub record Standing : Type 0 where
+  pub shared : List ℕ
   pub setup : Setup
   pub streams : ℕ
   pub disks : ℕ → DiskAtFirst

@@ -23,32 +23,32 @@ use std::snapshot::Snapshot;
 
 /// The turns that are out.
 #[derive(Clone, Copy, Debug)]
-struct Held {
-    device: Option<StreamId>,
-    book: Option<StreamId>,
-    log: Option<u8>,
-    journal: bool,
+pub(crate) struct Held {
+    pub(crate) device: Option<StreamId>,
+    pub(crate) book: Option<StreamId>,
+    pub(crate) log: Option<u8>,
+    pub(crate) journal: bool,
 }
 
 /// The disks, books, logs and journal of a run on one thread, which acts as one pass at a time.
 pub struct Desk<D: PageDisk, L: LogFile, Q: PostRoutine> {
-    disks: Vec<Option<D>>,
-    books: Vec<Option<Book>>,
-    logs: Vec<Option<LogTurn<L>>>,
-    journal: Option<Journal<Q>>,
+    pub(crate) disks: Vec<Option<D>>,
+    pub(crate) books: Vec<Option<Book>>,
+    pub(crate) logs: Vec<Option<LogTurn<L>>>,
+    pub(crate) journal: Option<Journal<Q>>,
     /// Empty, with room for the disks as they are given back.
-    disk_room: Vec<D>,
+    pub(crate) disk_room: Vec<D>,
     /// The same for the logs.
-    log_room: Vec<L>,
-    pass: u32,
-    held: Held,
-    device_turns: u64,
+    pub(crate) log_room: Vec<L>,
+    pub(crate) pass: u32,
+    pub(crate) held: Held,
+    pub(crate) device_turns: u64,
     /// What the run was made from.
-    begun: Snapshot<Setup<D, L>>,
+    pub(crate) begun: Snapshot<Setup<D, L>>,
     /// The journal as it last was at home.
-    last: Snapshot<Journal<Q>>,
+    pub(crate) last: Snapshot<Journal<Q>>,
     /// The journal as it was as the desk began to act as its pass.
-    since: Snapshot<Snapshot<Journal<Q>>>,
+    pub(crate) since: Snapshot<Snapshot<Journal<Q>>>,
 }
 
 // rows with room for all that a run is made from, and its journal

@@ -6,14 +6,17 @@
 //! book, a log, the journal; at most one of each kind is held, and the last taken is given first.
 //!
 //! `turns` has the trait that every call of the cache is written over, `desk` the turns of one thread, over which
-//! nobody else goes on, `places` how its disks and logs move out into places and back. The calls stand above, and
-//! so do the turns that threads share. Below are what is taken: the book of a stream (`cc_book`), a log (`cc_log`),
-//! the journal (`cc_journal`), and the disks of `cc_traits`.
+//! nobody else goes on, `places` how its disks and logs move out into places and back, `slots` how it comes apart
+//! into slots, one for each turn, and is put together again. The calls stand above, and so do the turns that threads
+//! share. Below are what is taken: the book of a stream (`cc_book`), a log (`cc_log`), the journal (`cc_journal`),
+//! and the disks of `cc_traits`.
 #![tactic(auto)]
 
 mod desk;
 mod places;
+mod slots;
 mod turns;
 
 pub use desk::Desk;
+pub use slots::{Apart, Emptied, Place};
 pub use turns::Turns;

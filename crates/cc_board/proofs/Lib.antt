@@ -1,0 +1,12 @@
+-- Lemmas.
+pub mod Views
+pub mod Standing
+pub mod Parts
+pub mod Taking
+pub mod Giving
+pub mod Seating
+pub mod GivingJournal
+pub mod Resting
+pub mod Passes
+pub mod Closing
+pub mod Opening

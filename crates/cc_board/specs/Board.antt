@@ -1,0 +1,101 @@
+-- A board and its passes, as contracts see them.
+use Rattle.std.specs.Prelude.{◌≡◌, ◌≢◌, ℕ, ◌+◌, ◌<◌, ◌≤◌, Bool, true, false, suc, List, [], ◌∷◌, ◌++◌, length, Contains, vec_capacity}
+use Rattle.std.specs.declared.option.Option.{Option}
+use Rattle.std.specs.declared.option.Option.TheVariants.{Some, None}
+use Rattle.atomic_table.specs.Seated.{TableId}
+use Rattle.cc_entry.specs.declared.entry.Entry.{Entry}
+use Rattle.cc_effects.specs.Moments.{IsIdle}
+use Rattle.cc_model.specs.Turns.{Turn, Device, Book, Log, Journal}
+use Rattle.cc_turns.specs.Standing.{Held, nothing}
+use Rattle.cc_turns.specs.Desk.{Begun, DeskState}
+use Rattle.cc_turns.specs.Slots.{slot_of, slots_of, under_way_in}
+use Rattle.cc_turns.specs.declared.slots.Place.{Place}
+use Rattle.cc_board.specs.declared.rule.View.{View}
+use Rattle.cc_board.specs.View.{run_of, held_of, split_left, split_right, with_number, joined}
+
+-- which board it is, and the run that it is of
+pub record BoardState (D L : Type 0) : Type 0 where
+  pub id : TableId
+  pub begun : Begun D L
+
+-- a pass: of which board, what it knows, and how often it took the turn of a disk
+pub record PassState (D L : Type 0) : Type 0 where
+  pub board : TableId
+  pub knows : View D L
+  pub device_turns : ℕ
+
+-- a pass is of a board
+abbrev pub IsOf : {D L : Type 0} → BoardState D L → PassState D L → Type 0
+IsOf board pass = pass.board ≡ board.id
+
+-- it is pass 0, which makes passes and takes them back
+abbrev pub IsFirst : {D L : Type 0} → PassState D L → Type 0
+IsFirst pass = pass.knows.number ≡ 0
+
+-- What is true of each pass that holds no turn.
+pub record IsAtRest {D L : Type 0} (v : View D L) : Type 0 where
+  pub is_live : v.live ≡ true
+  pub held_is : held_of v ≡ nothing
+  pub none_drawn : v.drawn ≡ false
+
+-- The board of a desk, and its first pass: it is of the desk's run, and the pass has seen the desk's whole journal.
+pub record IsOpened {D L Q : Type 0} (desk : DeskState D L Q) (board : BoardState D L) (pass : PassState D L) : Type 0 where
+  pub run_is : board.begun ≡ desk.begun
+  pub is_of : IsOf board pass
+  pub is_first : IsFirst pass
+  pub seen_is : pass.knows.seen ≡ desk.last.entries
+  pub under_way_is : pass.knows.in_flight ≡ under_way_in desk
+  pub one_made : pass.knows.made ≡ 1
+  pub none_ended : pass.knows.ended ≡ []
+  pub turns_are : pass.device_turns ≡ 0
+
+-- A pass was split from pass 0: it has the next number, and has seen what pass 0 has seen.
+pub record IsSplit {D L : Type 0} (old new made : PassState D L) : Type 0 where
+  pub old_is : new ≡ record old { knows = split_left (with_number old.knows) }
+  pub made_is : made ≡ record { board = old.board; knows = split_right (with_number old.knows); device_turns = 0 }
+
+-- A pass was joined to pass 0, which keeps its number and what it had seen.
+abbrev pub after_join : {D L : Type 0} → PassState D L → PassState D L → PassState D L
+after_join pass other = record pass { knows = joined pass.knows other.knows }
+
+-- each other pass that was made was joined
+abbrev pub AllJoined : {D L : Type 0} → View D L → Type 0
+AllJoined v = suc (length v.ended) ≡ v.made
+
+-- The desk that a board closed into. It has the whole journal: all that pass 0 and each pass that was joined had seen,
+-- and no entry of theirs that they had not; and none of a number that was not given to a pass.
+pub record IsClosed {D L Q : Type 0} (board : BoardState D L) (pass : PassState D L) (desk : DeskState D L Q) : Type 0 where
+  pub run_is : desk.begun ≡ board.begun
+  pub held_is : desk.held ≡ nothing
+  pub pass_is : desk.pass ≡ 0
+  pub first : IsIdle 0 pass.knows.seen desk.last.entries
+  pub others : (number : ℕ) (seen : List Entry) → Contains pass.knows.ended (number, seen) → IsIdle number seen desk.last.entries
+  pub unmade : (number : ℕ) → pass.knows.made ≤ number → IsIdle number pass.knows.seen desk.last.entries
+
+-- the slots that are out with a pass, the last taken first
+abbrev pub one_slot : {D L Q : Type 0} → Begun D L → (ℕ → Turn) → Option ℕ → List (ℕ × Option (Place D L Q))
+one_slot begun turn None = []
+one_slot begun turn (Some n) = (slot_of begun (turn n), None) ∷ []
+
+abbrev pub journal_slot : {D L Q : Type 0} → Begun D L → Bool → List (ℕ × Option (Place D L Q))
+journal_slot begun false = []
+journal_slot begun true = (slot_of begun Journal, None) ∷ []
+
+abbrev pub carried_of : {D L Q : Type 0} → Begun D L → Held → List (ℕ × Option (Place D L Q))
+carried_of begun held =
+    journal_slot begun held.journal ++ (one_slot begun Log held.log ++ (one_slot begun Book held.book ++ one_slot begun Device held.device))
+
+-- The turns that a pass holds are of its board's run.
+pub record HoldsOwn {D L : Type 0} (begun : Begun D L) (held : Held) : Type 0 where
+  pub device : (stream : ℕ) → held.device ≡ Some stream → stream < length begun.disks
+  pub book : (stream : ℕ) → held.book ≡ Some stream → stream < length begun.disks
+  pub log : (handle : ℕ) → held.log ≡ Some handle → handle < length begun.logs
+
+-- a pass with its board, as it takes turns
+pub record SeatedState (D L : Type 0) : Type 0 where
+  pub board : BoardState D L
+  pub knows : View D L
+  pub device_turns : ℕ
+
+abbrev pub pass_of : {D L : Type 0} → SeatedState D L → PassState D L
+pass_of s = record { board = s.board.id; knows = s.knows; device_turns = s.device_turns }

@@ -1,0 +1,214 @@
+//! The turns of a pass of a board.
+
+ghost use Rattle.std.specs.Prelude.{◌≡◌, ℕ, true, false, None, Some};
+ghost use Rattle.cc_book.specs.Book.{BookStands};
+ghost use Rattle.cc_model.specs.History.{history};
+ghost use Rattle.cc_model.specs.Images.{open_of};
+ghost use Rattle.cc_turns.specs.Standing.{nothing};
+ghost use Rattle.cc_turns.specs.Desk.{tells_of};
+ghost use Rattle.cc_turns.specs.Disk.{DiskStands, opening_of};
+ghost use Rattle.cc_turns.specs.Log.{LogStands};
+ghost use Rattle.cc_turns.specs.Journal.{JournalStands};
+ghost use Rattle.cc_turns.specs.Takes.{Takes, Adds, with_device, with_book, with_log, with_journal, without_device, without_book, without_log, without_journal};
+ghost use Rattle.cc_board.specs.View.{held_of, standing_at};
+ghost use Rattle.cc_board.specs.Board.{IsOf, pass_of};
+
+use crate::board::{Board, Pass, Rest};
+use crate::rule::{
+    GivesBook, GivesDevice, GivesJournal, GivesLog, Slot, TakesBook, TakesDevice, TakesJournal,
+    TakesLog, View,
+};
+use atomic_table::Seat;
+use cc_book::Book;
+use cc_entry::StreamId;
+use cc_journal::Journal;
+use cc_log::LogTurn;
+use cc_traits::{LogFile, PageDisk, PostRoutine, Told};
+use cc_turns::{Place, Turns};
+use std::marker::Model;
+use std::sync::Wait;
+
+/// A pass of a board, as it takes turns and gives them. Taking one may wait.
+pub struct Seated<'b, R: Wait, D: Told, L: LogFile, Q: PostRoutine> {
+    rt: &'b R,
+    board: &'b Board<D, L, Q>,
+    seat: Seat<Slot<D, L, Q>, View<D, L>>,
+    number: u32,
+    joined: u32,
+    device_turns: u64,
+    rest: Option<Rest<D, L, Q>>,
+}
+
+impl<'b, R: Wait, D: Told, L: LogFile, Q: PostRoutine> Model for Seated<'b, R, D, L, Q> {
+    ghost use Rattle.std.specs.Prelude.{◌≡◌, true, false, length};
+    ghost use Rattle.cc_board.specs.View.{run_of, held_of};
+    ghost use Rattle.cc_board.specs.Board.{SeatedState, HoldsOwn, carried_of};
+    ghost use Rattle.cc_board.specs.Rest.{KeepsRest};
+
+    ghost Value = { SeatedState D L };
+
+    ghost view = { λ s. record { board = s.board.now; knows = s.seat.me.0; device_turns = s.device_turns } };
+
+    ghost invariant = { λ s.
+        (s.seat.table_id ≡ s.board.now.id) × (run_of s.seat.me.0 ≡ s.board.now.begun)
+        × (s.seat.me.1 ≡ carried_of s.board.now.begun (held_of s.seat.me.0))
+        × (s.seat.me.0.live ≡ true) × (s.seat.me.0.drawn ≡ false)
+        × (s.number ≡ s.seat.me.0.number) × (s.joined ≡ length s.seat.me.0.ended)
+        × KeepsRest s.seat.me.0 s.rest
+        × HoldsOwn s.board.now.begun (held_of s.seat.me.0) };
+}
+
+impl<'b, R: Wait, D: Told, L: LogFile, Q: PostRoutine> Seated<'b, R, D, L, Q> {
+    /// Seats a pass at its board.
+    pub fn new(rt: &'b R, board: &'b Board<D, L, Q>, pass: Pass<D, L, Q>) -> Seated<'b, R, D, L, Q>
+        requires here { IsOf board.now pass }
+        ensures board { result.board ≡ board.now }
+        ensures pass { pass_of result ≡ pass }
+    {
+        let Pass {
+            mut seat,
+            number,
+            joined,
+            device_turns,
+            rest,
+        } = pass;
+        board.learn(&mut seat);
+        Seated {
+            rt,
+            board,
+            seat,
+            number,
+            joined,
+            device_turns,
+            rest,
+        }
+    }
+
+    /// Gives the pass back.
+    pub fn into_pass(self) -> Pass<D, L, Q>
+        requires free { held_of self.knows ≡ nothing }
+        ensures pass { result ≡ pass_of self.entry }
+        ensures here { IsOf self.entry.board result }
+    {
+        let Seated {
+            rt: _,
+            board: _,
+            seat,
+            number,
+            joined,
+            device_turns,
+            rest,
+        } = self;
+        Pass {
+            seat,
+            number,
+            joined,
+            device_turns,
+            rest,
+        }
+    }
+}
+
+impl<'b, R: Wait, D: PageDisk, L: LogFile, Q: PostRoutine> Turns for Seated<'b, R, D, L, Q> {
+    type Disk = D;
+
+    type Log = L;
+
+    type Post = Q;
+
+    ghost standing = { λ s. standing_at (tells_of D.told D.faults L.told L.faults Q.posted) s.board.id s.knows s.device_turns };
+
+    fn me(&self) -> u32 {
+        self.number
+    }
+
+    fn streams(&self) -> u8 {
+        self.board.streams()
+    }
+
+    fn logs(&self) -> u8 {
+        self.board.logs()
+    }
+
+    fn take_device(&mut self, stream: StreamId) -> D {
+        let slot = usize::from(stream.number());
+        let place = self
+            .board
+            .take::<TakesDevice, R>(self.rt, &mut self.seat, slot);
+        self.device_turns = self.device_turns.saturating_add(1);
+        match place {
+            Some(Place::Device(disk)) => disk,
+            _ => unreachable!(),
+        }
+    }
+
+    fn give_device(&mut self, stream: StreamId, disk: D) {
+        let slot = usize::from(stream.number());
+        self.board
+            .give::<GivesDevice>(&mut self.seat, slot, Place::Device(disk));
+    }
+
+    fn take_book(&mut self, stream: StreamId) -> Book {
+        let slot = usize::from(self.board.streams()) + usize::from(stream.number());
+        match self
+            .board
+            .take::<TakesBook, R>(self.rt, &mut self.seat, slot)
+        {
+            Some(Place::Book(book)) => book,
+            _ => unreachable!(),
+        }
+    }
+
+    fn give_book(&mut self, stream: StreamId, book: Book) {
+        let slot = usize::from(self.board.streams()) + usize::from(stream.number());
+        self.board
+            .give::<GivesBook>(&mut self.seat, slot, Place::Book(book));
+    }
+
+    fn take_log(&mut self, handle: u8) -> LogTurn<L> {
+        let slot = 2 * usize::from(self.board.streams()) + usize::from(handle);
+        match self
+            .board
+            .take::<TakesLog, R>(self.rt, &mut self.seat, slot)
+        {
+            Some(Place::Log(log)) => log,
+            _ => unreachable!(),
+        }
+    }
+
+    fn give_log(&mut self, handle: u8, log: LogTurn<L>)
+        requires held { (held_of self.old.knows).log ≡ Some handle }
+        requires no_journal { (held_of self.old.knows).journal ≡ false }
+        requires handle { log.handle ≡ handle }
+        requires stands { LogStands L.told L.faults ((standing_at (tells_of D.told D.faults L.told L.faults Q.posted) self.old.board.id self.old.knows self.old.device_turns).logs handle) self.old.knows.seen log }
+        ensures { standing_at (tells_of D.told D.faults L.told L.faults Q.posted) self.new.board.id self.new.knows self.new.device_turns
+            ≡ without_log (standing_at (tells_of D.told D.faults L.told L.faults Q.posted) self.old.board.id self.old.knows self.old.device_turns) }
+    {
+        let slot = 2 * usize::from(self.board.streams()) + usize::from(handle);
+        self.board
+            .give::<GivesLog>(&mut self.seat, slot, Place::Log(log));
+    }
+
+    fn take_journal(&mut self) -> Journal<Q> {
+        let slot = 2 * usize::from(self.board.streams()) + usize::from(self.board.logs());
+        match self
+            .board
+            .take::<TakesJournal, R>(self.rt, &mut self.seat, slot)
+        {
+            Some(Place::Journal(journal)) => journal,
+            _ => unreachable!(),
+        }
+    }
+
+    fn give_journal(&mut self, journal: Journal<Q>)
+        requires held { (held_of self.old.knows).journal ≡ true }
+        requires adds { Adds (standing_at (tells_of D.told D.faults L.told L.faults Q.posted) self.old.board.id self.old.knows self.old.device_turns) journal.entries }
+        requires stands { JournalStands Q.posted (without_journal journal (standing_at (tells_of D.told D.faults L.told L.faults Q.posted) self.old.board.id self.old.knows self.old.device_turns)) journal }
+        ensures { standing_at (tells_of D.told D.faults L.told L.faults Q.posted) self.new.board.id self.new.knows self.new.device_turns
+            ≡ without_journal journal (standing_at (tells_of D.told D.faults L.told L.faults Q.posted) self.old.board.id self.old.knows self.old.device_turns) }
+    {
+        let slot = 2 * self.board.streams() as usize + self.board.logs() as usize;
+        self.board
+            .give::<GivesJournal>(&mut self.seat, slot, Place::Journal(journal));
+    }
+}
