@@ -10,3 +10,4 @@ pub mod Resting
 pub mod Passes
 pub mod Closing
 pub mod Opening
+pub mod Names

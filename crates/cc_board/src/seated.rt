@@ -64,6 +64,7 @@ impl<'b, R: Wait, D: Told, L: LogFile, Q: PostRoutine> Seated<'b, R, D, L, Q> {
         requires here { IsOf board.now pass }
         ensures board { result.board ≡ board.now }
         ensures pass { pass_of result ≡ pass }
+        ensures free { held_of result.knows ≡ nothing }
     {
         let Pass {
             mut seat,
