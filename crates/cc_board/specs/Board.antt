@@ -38,11 +38,12 @@ pub record IsAtRest {D L : Type 0} (v : View D L) : Type 0 where
   pub held_is : held_of v ≡ nothing
   pub none_drawn : v.drawn ≡ false
 
--- The board of a desk, and its first pass: it is of the desk's run, and the pass has seen the desk's whole journal.
+-- The board of a desk, and its first pass: both are of the desk's run, and the pass has seen the desk's whole journal.
 pub record IsOpened {D L Q : Type 0} (desk : DeskState D L Q) (board : BoardState D L) (pass : PassState D L) : Type 0 where
   pub run_is : board.begun ≡ desk.begun
   pub is_of : IsOf board pass
   pub is_first : IsFirst pass
+  pub pass_run : run_of pass.knows ≡ board.begun
   pub seen_is : pass.knows.seen ≡ desk.last.entries
   pub under_way_is : pass.knows.in_flight ≡ under_way_in desk
   pub one_made : pass.knows.made ≡ 1
