@@ -3,7 +3,7 @@
 //! Contracts see the list, and its longest runs of equal bytes, which are a function of it; so is each
 //! text that is printed of the bytes.
 
-ghost use Rattle.std.specs.Prelude.{◌≡◌, ◌<◌, ◌+◌, ◌^◌, [], ◌++◌, length, replicate, slice_get, IfOk, OnOk, OnErr, IsTrue, ◌↔◌};
+ghost use Rattle.std.specs.Prelude.{◌≡◌, ◌<◌, ◌≤◌, ◌+◌, ◌^◌, [], ◌++◌, length, replicate, slice_get, IfOk, OnOk, OnErr, IsTrue, ◌↔◌};
 ghost use Rattle.std.specs.List.{concat};
 ghost use Rattle.cc_entry.specs.Runs.{runs_of, spelled, AreLongest};
 
@@ -31,6 +31,53 @@ impl Model for Bytes {
     ghost invariant = { λ b. (b.len ≡ length (concat b.parts.items)) × (b.len < 2 ^ 64) };
 }
 
+/// Room for a list of bytes of a greatest length, so that no memory is taken as they come.
+#[derive(Debug, Drop)]
+pub struct BytesRoom {
+    parts: Vec<Part>,
+    most: usize,
+}
+
+impl Model for BytesRoom {
+    ghost use Rattle.std.specs.Prelude.{◌≡◌, ◌≤◌, ◌*◌, ◌+◌, ℕ, [], vec_capacity};
+
+    ghost Value = { ℕ };
+
+    ghost view = { λ r. r.most };
+
+    ghost invariant = { λ r. (r.parts.items ≡ []) × (r.most ≤ 14 * vec_capacity r.parts) };
+}
+
+impl BytesRoom {
+    /// Room for as many bytes at most.
+    pub fn new(alloc: Global, most: usize) -> Result<BytesRoom, NoMemory>
+        ensures { IfOk result (λ room. room ≡ most) }
+    {
+        // No part is shorter than 14 bytes but the last.
+        let parts = Vec::with_capacity(alloc, most / 14 + 1)?;
+        Ok(BytesRoom { parts, most })
+    }
+
+    /// The bytes of a slice, in as little memory as they need.
+    pub fn keep(self, slice: &[u8]) -> Bytes
+        requires { length slice.now ≤ self }
+        ensures { result ≡ slice.now }
+    {
+        let BytesRoom { mut parts, most: _ } = self;
+        let mut at = 0;
+        while at < slice.len() {
+            let part = Part::from(slice, at);
+            at += part.len() as usize;
+            parts.push_reserved(part);
+        }
+        parts.shrink_to_fit();
+        Bytes {
+            parts,
+            len: at as u64,
+        }
+    }
+}
+
 impl Bytes {
     /// No bytes.
     pub fn new(alloc: Global) -> Bytes
@@ -46,17 +93,8 @@ impl Bytes {
     pub fn of(alloc: Global, slice: &[u8]) -> Result<Bytes, NoMemory>
         ensures { IfOk result (λ bytes. bytes ≡ slice.now) }
     {
-        let mut parts = Vec::new(alloc);
-        let mut at = 0;
-        while at < slice.len() {
-            let part = Part::from(slice, at);
-            at += part.len() as usize;
-            parts.push(part)?;
-        }
-        Ok(Bytes {
-            parts,
-            len: at as u64,
-        })
+        let room = BytesRoom::new(alloc, slice.len())?;
+        Ok(room.keep(slice))
     }
 
     /// Adds `count` bytes of one value at the end.

@@ -21,7 +21,7 @@ pub mod reply;
 pub mod runs;
 
 pub use answer::{AheadDone, Answer, LineReply, Tick};
-pub use bytes::Bytes;
+pub use bytes::{Bytes, BytesRoom};
 pub use call::Call;
 pub use entry::{End, Entry};
 pub use error::{CcError, NoMemory};

@@ -1,6 +1,6 @@
 //! A part of a list of bytes, in 16 bytes of memory: a few bytes as they are, or more of one value.
 
-ghost use Rattle.std.specs.Prelude.{◌≡◌, ◌≢◌, ◌<◌, ◌≤◌, ◌+◌, ◌-◌, ◌^◌, ◌++◌, length, take, drop, replicate, slice_get, Some, IfSome, OnOk};
+ghost use Rattle.std.specs.Prelude.{◌≡◌, ◌≢◌, ◌⊎◌, ◌<◌, ◌≤◌, ◌+◌, ◌-◌, ◌^◌, ◌++◌, length, take, drop, replicate, slice_get, Some, IfSome, OnOk};
 
 use crate::error::NoMemory;
 use std::marker::Model;
@@ -65,6 +65,7 @@ impl Part {
         requires { at < length slice.now }
         ensures next { take (at + length result) slice.now ≡ take at slice.now ++ result }
         ensures within { at + length result ≤ length slice.now }
+        ensures long { (at + length result ≡ length slice.now) ⊎ (14 ≤ length result) }
     {
         let end = end_of_same(slice, at, slice[at]);
         if end - at > 14 {
