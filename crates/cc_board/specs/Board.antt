@@ -28,9 +28,20 @@ pub record PassState (D L : Type 0) : Type 0 where
 abbrev pub IsOf : {D L : Type 0} → BoardState D L → PassState D L → Type 0
 IsOf board pass = pass.board ≡ board.id
 
--- it is pass 0, which makes passes and takes them back
-abbrev pub IsFirst : {D L : Type 0} → PassState D L → Type 0
-IsFirst pass = pass.knows.number ≡ 0
+-- What is true of each pass but the first: it has one entry under way at most, and the others had, as it last looked,
+-- no more than was under way at first, and one for each pass.
+pub record IsWithin {D L : Type 0} (v : View D L) : Type 0 where
+  pub is_other : v.number ≢ 0
+  pub one : v.in_flight ≤ 1
+  pub few : v.others ≤ v.before + v.passes
+
+-- pass 0: of which board, and what it knows
+pub record FirstState (D L : Type 0) : Type 0 where
+  pub board : TableId
+  pub knows : View D L
+
+abbrev pub IsFirstOf : {D L : Type 0} → BoardState D L → FirstState D L → Type 0
+IsFirstOf board first = first.board ≡ board.id
 
 -- What is true of each pass that holds no turn.
 pub record IsAtRest {D L : Type 0} (v : View D L) : Type 0 where
@@ -39,39 +50,44 @@ pub record IsAtRest {D L : Type 0} (v : View D L) : Type 0 where
   pub none_drawn : v.drawn ≡ false
 
 -- The board of a desk, and its first pass: both are of the desk's run, and the pass has seen the desk's whole journal.
-pub record IsOpened {D L Q : Type 0} (desk : DeskState D L Q) (board : BoardState D L) (pass : PassState D L) : Type 0 where
+pub record IsOpened {D L Q : Type 0} (desk : DeskState D L Q) (passes : ℕ) (board : BoardState D L) (first : FirstState D L) : Type 0 where
   pub run_is : board.begun ≡ desk.begun
-  pub is_of : IsOf board pass
-  pub is_first : IsFirst pass
-  pub pass_run : run_of pass.knows ≡ board.begun
-  pub seen_is : pass.knows.seen ≡ desk.last.entries
-  pub under_way_is : pass.knows.in_flight ≡ under_way_in desk
-  pub one_made : pass.knows.made ≡ 1
-  pub none_ended : pass.knows.ended ≡ []
-  pub turns_are : pass.device_turns ≡ 0
+  pub is_of : IsFirstOf board first
+  pub first_run : run_of first.knows ≡ board.begun
+  pub seen_is : first.knows.seen ≡ desk.last.entries
+  pub under_way_is : first.knows.in_flight ≡ under_way_in desk
+  pub before_is : first.knows.before ≡ under_way_in desk
+  pub passes_are : first.knows.passes ≡ passes
+  pub one_made : first.knows.made ≡ 1
+  pub none_ended : first.knows.ended ≡ []
+
+-- No board was made of a desk: it came back as it was.
+pub record IsHandedBack {D L Q : Type 0} (desk back : DeskState D L Q) : Type 0 where
+  pub run_is : back.begun ≡ desk.begun
+  pub entries_are : back.last.entries ≡ desk.last.entries
+  pub under_way_is : under_way_in back ≡ under_way_in desk
+  pub held_is : back.held ≡ nothing
 
 -- A pass was split from pass 0: it has the next number, and has seen what pass 0 has seen.
-pub record IsSplit {D L : Type 0} (old new made : PassState D L) : Type 0 where
+pub record IsSplit {D L : Type 0} (old new : FirstState D L) (made : PassState D L) : Type 0 where
   pub old_is : new ≡ record old { knows = split_left (with_number old.knows) }
   pub made_is : made ≡ record { board = old.board; knows = split_right (with_number old.knows); device_turns = 0 }
 
 -- A pass was joined to pass 0, which keeps its number and what it had seen.
-abbrev pub after_join : {D L : Type 0} → PassState D L → PassState D L → PassState D L
-after_join pass other = record pass { knows = joined pass.knows other.knows }
-
--- each other pass that was made was joined
-abbrev pub AllJoined : {D L : Type 0} → View D L → Type 0
-AllJoined v = suc (length v.ended) ≡ v.made
+abbrev pub after_join : {D L : Type 0} → FirstState D L → PassState D L → FirstState D L
+after_join first other = record first { knows = joined first.knows other.knows }
 
 -- The desk that a board closed into. It has the whole journal: all that pass 0 and each pass that was joined had seen,
--- and no entry of theirs that they had not; and none of a number that was not given to a pass.
-pub record IsClosed {D L Q : Type 0} (board : BoardState D L) (pass : PassState D L) (desk : DeskState D L Q) : Type 0 where
+-- and no entry of theirs that they had not; and none of a number that was not given to a pass. What they had under way
+-- is still under way.
+pub record IsClosed {D L Q : Type 0} (board : BoardState D L) (first : FirstState D L) (desk : DeskState D L Q) : Type 0 where
   pub run_is : desk.begun ≡ board.begun
   pub held_is : desk.held ≡ nothing
   pub pass_is : desk.pass ≡ 0
-  pub first : IsIdle 0 pass.knows.seen desk.last.entries
-  pub others : (number : ℕ) (seen : List Entry) → Contains pass.knows.ended (number, seen) → IsIdle number seen desk.last.entries
-  pub unmade : (number : ℕ) → pass.knows.made ≤ number → IsIdle number pass.knows.seen desk.last.entries
+  pub under_way_is : under_way_in desk ≡ first.knows.in_flight
+  pub first : IsIdle 0 first.knows.seen desk.last.entries
+  pub others : (number : ℕ) (seen : List Entry) → Contains first.knows.ended (number, seen) → IsIdle number seen desk.last.entries
+  pub unmade : (number : ℕ) → first.knows.made ≤ number → IsIdle number first.knows.seen desk.last.entries
 
 -- the slots that are out with a pass, the last taken first
 abbrev pub one_slot : {D L Q : Type 0} → Begun D L → (ℕ → Turn) → Option ℕ → List (ℕ × Option (Place D L Q))

@@ -1,5 +1,5 @@
 -- What the steps of a pass tell it.
-use Rattle.std.specs.Prelude.{◌≡◌, ◌≢◌, ℕ, ◌-◌, ◌+◌, ◌*◌, ◌<◌, ◌≤◌, ◌==◌, Bool, List, [], ◌∷◌, length, Contains}
+use Rattle.std.specs.Prelude.{◌≡◌, ◌≢◌, ℕ, ◌-◌, ◌+◌, ◌*◌, ◌<◌, ◌≤◌, ◌==◌, suc, Bool, List, [], ◌∷◌, length, Contains}
 use Rattle.std.specs.declared.option.Option.{Option}
 use Rattle.std.specs.declared.option.Option.TheVariants.{Some, None}
 use Rattle.std.specs.Bool.{MatchBool}
@@ -32,7 +32,7 @@ abbrev pub journal_at : {D L : Type 0} → Begun D L → ℕ → Turn
 journal_at begun word = Journal
 
 -- A turn was taken: the pass holds it too, with what it is of, has seen what the others did meanwhile, which is good,
--- and knows what they have under way.
+-- and knows what they have under way: no more than was at first, and one entry for each pass.
 pub record Took {D L Q : Type 0} (tells : Tells D L Q) (turn : Turn) (me now : Me (Slot D L Q) (View D L)) : Type 0 where
   pub place : Place D L Q
   pub carried : now.1 ≡ (slot_of (run_of me.0) turn, Some place) ∷ me.1
@@ -40,6 +40,7 @@ pub record Took {D L Q : Type 0} (tells : Tells D L Q) (turn : Turn) (me now : M
   pub grows : Grows (standing_of tells me.0 0) now.0.seen
   pub good : IsGood (setup_in tells (run_of me.0)) now.0.seen
   pub fits : Fits tells (run_of me.0) now.0.seen (me.0.in_flight + now.0.others) turn place
+  pub few : now.0.others ≤ me.0.before + me.0.passes
 
 -- the turn was free and was taken, or nothing changed
 abbrev pub TakesTurn : {D L Q : Type 0} → Tells D L Q → (Begun D L → ℕ → Turn) → Step (Slot D L Q) → Me (Slot D L Q) (View D L) → ℕ → Me (Slot D L Q) (View D L) → Type 0
@@ -56,11 +57,12 @@ abbrev pub GivesTurn : {D L Q : Type 0} → (Begun D L → ℕ → Turn) → Ste
 GivesTurn turn_at step me stored now =
     now ≡ (last_place me.1 (λ place. without_turn (turn_at (run_of me.0) step.word) place me.0) me.0, rest me.1)
 
--- How many passes were made, as pass 0 knows: at most 65536. Fewer than that were joined, and none of them is pass 0.
+-- How many passes were made, as pass 0 knows, itself among them. Fewer than that were joined, and none of them is pass
+-- 0.
 pub record Counted {D L Q : Type 0} (me : Me (Slot D L Q) (View D L)) (found : ℕ) (now : Me (Slot D L Q) (View D L)) : Type 0 where
   pub count : found ≡ me.0.made
   pub same : now ≡ me
-  pub few : me.0.made ≤ 65536
+  pub few : me.0.made ≤ suc me.0.passes
   pub fewer_ended : length me.0.ended < me.0.made
   pub others_ended : (number : ℕ) (seen : List Entry) → Contains me.0.ended (number, seen) → number ≢ 0
 

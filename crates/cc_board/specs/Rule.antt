@@ -55,12 +55,14 @@ pub record IsHeld {D L : Type 0} (views : List (View D L)) (turn : Turn) : Type 
 
 -- What is true of each view. A pass that was not joined is of this run; the others went on since it looked, but
 -- nowhere that it holds a turn, and placed nothing under its number; the words of what it holds say so. A pass that
--- was joined holds nothing.
+-- was joined holds nothing, and has nothing under way. Each pass but the first has one entry under way at most.
 pub record IsView {D L Q : Type 0} (tells : Tells D L Q) (begun : Begun D L) (past : List Entry) (words : List ℕ)
     (v : View D L) : Type 0 where
   pub of_run : v.live ≡ true → run_of v ≡ begun
   pub grows : v.live ≡ true → Grows (standing_of tells v 0) past
   pub spent : v.live ≡ false → held_of v ≡ nothing
+  pub none : v.live ≡ false → v.in_flight ≡ 0
+  pub one : v.number ≢ 0 → v.in_flight ≤ 1
   pub taken : (turn : Turn) → holds (held_of v) turn ≡ true → IsTaken begun words turn
 
 -- how many numbers were given away: one may be drawn whose pass is not made yet
@@ -69,13 +71,18 @@ given_numbers first = if first.drawn then first.made - 1 else first.made
 
 -- What is true of the numbers of passes: those that were not joined have different ones, pass 0 is the first, and each
 -- is below the number of those that were made, which is the first word. What pass 0 keeps of each that ended is true
--- of the past still. No entry that pass 0 has not seen has a number that was not given away. At most 65536 are made.
+-- of the past still. No entry that pass 0 has not seen has a number that was not given away. Each pass knows how many
+-- are made at most, and what was under way at first; pass 0 has that under way, and one entry for each pass that was
+-- joined, at most.
 pub record AreNumbered {D L : Type 0} (past : List Entry) (words : List ℕ) (views : List (View D L)) (first : View D L) : Type 0 where
   pub there : get_elem? views 0 ≡ some first
   pub is_live : first.live ≡ true
   pub is_first : first.number ≡ 0
   pub word : slice_index words 0 ≡ first.made
-  pub few : first.made ≤ 65536
+  pub few : first.made ≤ suc first.passes
+  pub alike : (id : ℕ) (v : View D L) → get_elem? views id ≡ some v → v.live ≡ true →
+      (v.passes ≡ first.passes) × (v.before ≡ first.before)
+  pub kept : first.in_flight ≤ first.before + length first.ended
   pub apart : (a b : ℕ) (u v : View D L) → get_elem? views a ≡ some u → get_elem? views b ≡ some v →
       u.live ≡ true → v.live ≡ true → u.number ≡ v.number → a ≡ b
   pub below : (id : ℕ) (v : View D L) → get_elem? views id ≡ some v → v.live ≡ true → v.number < given_numbers first

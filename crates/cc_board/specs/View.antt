@@ -40,6 +40,7 @@ standing_of tells v device_turns = record {
   held = held_of v;
   in_flight = v.in_flight;
   others = v.others;
+  most_others = v.before + v.passes;
   device_turns = device_turns;
 }
 
@@ -71,6 +72,8 @@ first_view key = record {
   journal = false;
   in_flight = key.journal.value.reserved - reserved_in key.journal.value.entries;
   others = 0;
+  passes = key.passes;
+  before = key.journal.value.reserved - reserved_in key.journal.value.entries;
   made = 1;
   drawn = false;
   ended = [];
@@ -123,6 +126,8 @@ spent = record {
   journal = false;
   in_flight = 0;
   others = 0;
+  passes = 0;
+  before = 0;
   made = 0;
   drawn = false;
   ended = [];

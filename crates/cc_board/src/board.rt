@@ -5,7 +5,7 @@ ghost use Rattle.std.specs.Mem.Slots.{slots_items, slots_len, IsFull};
 ghost use Rattle.cc_entry.specs.declared.error.CcError.TheVariants as error;
 ghost use Rattle.cc_turns.specs.Standing.{nothing};
 ghost use Rattle.cc_turns.specs.Places.{IsRoomFor};
-ghost use Rattle.cc_board.specs.Board.{IsOf, IsFirst, IsOpened, IsSplit, IsClosed, AllJoined, after_join};
+ghost use Rattle.cc_board.specs.Board.{IsOf, IsFirstOf, IsOpened, IsHandedBack, IsSplit, IsClosed, after_join};
 
 use crate::rule::{BoardRule, CountsPasses, DrawsNumber, Key, Parting, Slot, View};
 use atomic_table::{Closed, Refused, Seat, Table};
@@ -15,9 +15,6 @@ use cc_turns::{Apart, Desk, Emptied, Turns};
 use std::alloc::{AllocError, Global};
 use std::marker::Model;
 use std::snapshot::Snapshot;
-
-/// The most passes that are made of a board.
-pub const PASSES: u64 = 65536;
 
 /// The turns of one run, which threads share.
 pub struct Board<D: Told, L: LogFile, Q: PostRoutine> {
@@ -32,20 +29,28 @@ pub(crate) struct Rest<D: Told, L: LogFile, Q: PostRoutine> {
     pub(crate) room: Vec<Slot<D, L, Q>>,
 }
 
+/// Pass 0 of a board, which makes the other passes and takes them back.
+pub struct FirstPass<D: Told, L: LogFile, Q: PostRoutine> {
+    seat: Seat<Slot<D, L, Q>, View<D, L>>,
+    /// How many passes were joined to it.
+    joined: u32,
+    /// How many are made at most.
+    passes: u16,
+    rest: Rest<D, L, Q>,
+}
+
 /// A caller's token of a board. It holds no turn.
+#[derive(Drop)]
 pub struct Pass<D: Told, L: LogFile, Q: PostRoutine> {
     pub(crate) seat: Seat<Slot<D, L, Q>, View<D, L>>,
     pub(crate) number: u32,
-    /// How many passes were joined to it.
-    pub(crate) joined: u32,
     pub(crate) device_turns: u64,
-    pub(crate) rest: Option<Rest<D, L, Q>>,
 }
 
 /// The board, where some passes were not joined yet.
 pub struct StillOut<D: Told, L: LogFile, Q: PostRoutine> {
     pub board: Board<D, L, Q>,
-    pub pass: Pass<D, L, Q>,
+    pub first: FirstPass<D, L, Q>,
     /// How many.
     pub passes: u32,
 }
@@ -68,10 +73,24 @@ impl<D: Told, L: LogFile, Q: PostRoutine> Model for Board<D, L, Q> {
         × (b.streams ≤ 16) × (b.logs ≤ 4) };
 }
 
-impl<D: Told, L: LogFile, Q: PostRoutine> Model for Pass<D, L, Q> {
+impl<D: Told, L: LogFile, Q: PostRoutine> Model for FirstPass<D, L, Q> {
     ghost use Rattle.std.specs.Prelude.{◌≡◌, [], length};
-    ghost use Rattle.cc_board.specs.Board.{PassState, IsAtRest};
-    ghost use Rattle.cc_board.specs.Rest.{KeepsRest};
+    ghost use Rattle.cc_board.specs.Board.{FirstState, IsAtRest};
+    ghost use Rattle.cc_board.specs.Rest.{IsRestOf};
+
+    ghost Value = { FirstState D L };
+
+    ghost view = { λ f. record { board = f.seat.table_id; knows = f.seat.me.0 } };
+
+    ghost invariant = { λ f.
+        (f.seat.me.1 ≡ []) × IsAtRest f.seat.me.0
+        × (f.seat.me.0.number ≡ 0) × (f.joined ≡ length f.seat.me.0.ended) × (f.passes ≡ f.seat.me.0.passes)
+        × IsRestOf f.seat.me.0 f.rest };
+}
+
+impl<D: Told, L: LogFile, Q: PostRoutine> Model for Pass<D, L, Q> {
+    ghost use Rattle.std.specs.Prelude.{◌≡◌, ◌≢◌, []};
+    ghost use Rattle.cc_board.specs.Board.{PassState, IsAtRest, IsWithin};
 
     ghost Value = { PassState D L };
 
@@ -79,8 +98,7 @@ impl<D: Told, L: LogFile, Q: PostRoutine> Model for Pass<D, L, Q> {
 
     ghost invariant = { λ p.
         (p.seat.me.1 ≡ []) × IsAtRest p.seat.me.0
-        × (p.number ≡ p.seat.me.0.number) × (p.joined ≡ length p.seat.me.0.ended)
-        × KeepsRest p.seat.me.0 p.rest };
+        × (p.number ≡ p.seat.me.0.number) × IsWithin p.seat.me.0 };
 }
 
 // The words of a board with so many turns, each of them free, of which one pass was made.
@@ -109,15 +127,16 @@ fn take_out<S>(mut closed: Closed<S, Global>, mut room: Vec<S>) -> Vec<S>
 }
 
 impl<D: PageDisk, L: LogFile, Q: PostRoutine> Board<D, L, Q> {
-    /// The board of a desk, with pass 0. Where memory is wanting, the desk comes back.
+    /// The board of a desk, with pass 0, of which so many passes can be split. Where memory is wanting, the desk comes
+    /// back.
     pub fn new(
         alloc: Global,
         desk: Desk<D, L, Q>,
-    ) -> Result<(Board<D, L, Q>, Pass<D, L, Q>), (Desk<D, L, Q>, CcError)>
+        passes: u16,
+    ) -> Result<(Board<D, L, Q>, FirstPass<D, L, Q>), (Desk<D, L, Q>, CcError)>
         requires free { desk.held ≡ nothing }
-        ensures opened { IfOk result (λ made. IsOpened desk made.0 made.1) }
-        ensures err { IfErr result (λ back. (back.0.begun ≡ desk.begun) × (back.0.last.entries ≡ desk.last.entries)
-            × (back.0.held ≡ nothing) × (back.1 ≡ error.NoMemory)) }
+        ensures opened { IfOk result (λ made. IsOpened desk passes made.0 made.1) }
+        ensures err { IfErr result (λ back. IsHandedBack desk back.0 × (back.1 ≡ error.NoMemory)) }
     {
         let streams = desk.streams();
         let logs = desk.logs();
@@ -136,6 +155,7 @@ impl<D: PageDisk, L: LogFile, Q: PostRoutine> Board<D, L, Q> {
         let key = Key {
             begun: Snapshot::of(emptied.begun()),
             journal,
+            passes: u64::from(passes),
         };
         match Table::new(alloc, words.as_slice(), slots, &key) {
             Ok((table, seat)) => {
@@ -144,14 +164,13 @@ impl<D: PageDisk, L: LogFile, Q: PostRoutine> Board<D, L, Q> {
                     streams,
                     logs,
                 };
-                let pass = Pass {
+                let first = FirstPass {
                     seat,
-                    number: 0,
                     joined: 0,
-                    device_turns: 0,
-                    rest: Some(Rest { emptied, room }),
+                    passes,
+                    rest: Rest { emptied, room },
                 };
-                Ok((board, pass))
+                Ok((board, first))
             }
             Err(Refused { slots }) => {
                 room.destroy_empty();
@@ -161,35 +180,30 @@ impl<D: PageDisk, L: LogFile, Q: PostRoutine> Board<D, L, Q> {
     }
 
     /// Closes the board into a desk, which is refused exactly where another pass was not joined. It takes no memory.
-    pub fn close(self, pass: Pass<D, L, Q>) -> Result<Desk<D, L, Q>, StillOut<D, L, Q>>
-        requires here { IsOf self pass }
-        requires first { IsFirst pass }
-        ensures closed { IfOk result (λ desk. IsClosed self pass desk) }
-        ensures refused { IsErr result ↔ (suc (length pass.knows.ended) < pass.knows.made) }
-        ensures out { IfErr result (λ still. (still.board ≡ self) × (still.pass ≡ pass)
-            × (suc (length pass.knows.ended) + still.passes ≡ pass.knows.made)) }
+    pub fn close(self, first: FirstPass<D, L, Q>) -> Result<Desk<D, L, Q>, StillOut<D, L, Q>>
+        requires here { IsFirstOf self first }
+        ensures closed { IfOk result (λ desk. IsClosed self first desk) }
+        ensures refused { IsErr result ↔ (suc (length first.knows.ended) < first.knows.made) }
+        ensures out { IfErr result (λ still. (still.board ≡ self) × (still.first ≡ first)
+            × (suc (length first.knows.ended) + still.passes ≡ first.knows.made)) }
     {
-        let mut pass = pass;
-        self.learn(&mut pass.seat);
-        let made = self.table.shared.load::<CountsPasses>(&mut pass.seat, 0);
-        let joined = u64::from(pass.joined) + 1;
+        let mut first = first;
+        self.learn(&mut first.seat);
+        let made = self.table.shared.load::<CountsPasses>(&mut first.seat, 0);
+        let joined = u64::from(first.joined) + 1;
         if joined < made {
             return Err(StillOut {
                 board: self,
-                pass,
+                first,
                 passes: (made - joined) as u32,
             });
         }
-        let Pass {
+        let FirstPass {
             seat,
-            number: _,
             joined: _,
-            device_turns: _,
-            rest,
-        } = pass;
-        let Some(Rest { emptied, room }) = rest else {
-            unreachable!()
-        };
+            passes: _,
+            rest: Rest { emptied, room },
+        } = first;
         let Board {
             table,
             streams: _,
@@ -214,49 +228,43 @@ impl<D: Told, L: LogFile, Q: PostRoutine> Board<D, L, Q> {
         self.logs
     }
 
-    /// Makes a pass, with the next number. `None` comes exactly where 65536 were made. It takes no memory.
-    pub fn split(&self, pass: &mut Pass<D, L, Q>) -> Option<Pass<D, L, Q>>
-        requires here { IsOf self.now pass.old }
-        requires first { IsFirst pass.old }
-        ensures none { IsNone result ↔ (65536 ≤ pass.old.knows.made) }
-        ensures kept { IfNone result (pass.new ≡ pass.old) }
-        ensures made { IfSome result (λ made. IsSplit pass.old pass.new made) }
+    /// Makes a pass, with the next number. `None` comes exactly where as many were made as the board has at most. It
+    /// takes no memory.
+    pub fn split(&self, first: &mut FirstPass<D, L, Q>) -> Option<Pass<D, L, Q>>
+        requires here { IsFirstOf self.now first.old }
+        ensures none { IsNone result ↔ (first.old.knows.passes < first.old.knows.made) }
+        ensures kept { IfNone result (first.new ≡ first.old) }
+        ensures made { IfSome result (λ made. IsSplit first.old first.new made) }
     {
-        let made = self.table.shared.load::<CountsPasses>(&mut pass.seat, 0);
-        if made >= PASSES {
+        let made = self.table.shared.load::<CountsPasses>(&mut first.seat, 0);
+        if u64::from(first.passes) < made {
             return None;
         }
         self.table
             .shared
-            .store::<DrawsNumber>(&mut pass.seat, 0, made + 1);
-        let seat = self.table.shared.split_seat::<Parting>(&mut pass.seat);
+            .store::<DrawsNumber>(&mut first.seat, 0, made + 1);
+        let seat = self.table.shared.split_seat::<Parting>(&mut first.seat);
         Some(Pass {
             seat,
             number: made as u32,
-            joined: 0,
             device_turns: 0,
-            rest: None,
         })
     }
 
     /// Takes a pass back.
-    pub fn join(&self, pass: &mut Pass<D, L, Q>, other: Pass<D, L, Q>)
-        requires here { IsOf self.now pass.old }
+    pub fn join(&self, first: &mut FirstPass<D, L, Q>, other: Pass<D, L, Q>)
+        requires here { IsFirstOf self.now first.old }
         requires other_here { IsOf self.now other }
-        requires first { IsFirst pass.old }
-        ensures { pass.new ≡ after_join pass.old other }
+        ensures { first.new ≡ after_join first.old other }
     {
         let Pass {
             seat,
             number: _,
-            joined: _,
             device_turns: _,
-            rest,
         } = other;
-        self.table.shared.join_seat::<Parting>(&mut pass.seat, seat);
-        // The count shows that the other was not pass 0, and so kept no rest.
-        self.table.shared.load::<CountsPasses>(&mut pass.seat, 0);
-        pass.joined += 1;
-        let None = rest else { unreachable!() };
+        self.table.shared.join_seat::<Parting>(&mut first.seat, seat);
+        // The count shows how many there are to join at most.
+        self.table.shared.load::<CountsPasses>(&mut first.seat, 0);
+        first.joined += 1;
     }
 }

@@ -14,6 +14,6 @@ mod rule;
 mod seated;
 mod steps;
 
-pub use board::{Board, Pass, StillOut};
+pub use board::{Board, FirstPass, Pass, StillOut};
 pub use rule::{BoardRule, Key, Slot, View};
 pub use seated::Seated;

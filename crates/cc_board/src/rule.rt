@@ -33,6 +33,9 @@ pub struct View<D, L> {
     /// How many entries it has reserved for what it has under way, and how many others had, as it last took a turn.
     pub in_flight: u64,
     pub others: u64,
+    /// How many passes the board has at most beside pass 0, and how many entries were under way as it was made.
+    pub passes: u64,
+    pub before: u64,
     /// Of pass 0: how many passes were made, whether a number was drawn for one that is not made yet, and of each that
     /// was joined its number and what it had seen.
     pub made: u64,
@@ -40,11 +43,13 @@ pub struct View<D, L> {
     pub ended: LinkedList<(u32, LinkedList<Entry>)>,
 }
 
-/// What a board was made from: the run, and the journal as it was then.
+/// What a board was made from: the run, and the journal as it was then; and how many passes it has at most beside
+/// pass 0.
 #[derive(Drop)]
 pub struct Key<D, L, Q> {
     pub begun: Snapshot<Snapshot<Setup<D, L>>>,
     pub journal: Snapshot<Journal<Q>>,
+    pub passes: u64,
 }
 
 /// The rule of a board.

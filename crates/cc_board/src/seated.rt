@@ -1,6 +1,6 @@
 //! The turns of a pass of a board.
 
-ghost use Rattle.std.specs.Prelude.{◌≡◌, ℕ, true, false, None, Some};
+ghost use Rattle.std.specs.Prelude.{◌≡◌, ℕ, ◌+◌, ◌≤◌, true, false, None, Some};
 ghost use Rattle.cc_book.specs.Book.{BookStands};
 ghost use Rattle.cc_model.specs.History.{history};
 ghost use Rattle.cc_model.specs.Images.{open_of};
@@ -13,7 +13,7 @@ ghost use Rattle.cc_turns.specs.Takes.{Takes, Adds, with_device, with_book, with
 ghost use Rattle.cc_board.specs.View.{held_of, standing_at};
 ghost use Rattle.cc_board.specs.Board.{IsOf, pass_of};
 
-use crate::board::{Board, Pass, Rest};
+use crate::board::{Board, Pass};
 use crate::rule::{
     GivesBook, GivesDevice, GivesJournal, GivesLog, Slot, TakesBook, TakesDevice, TakesJournal,
     TakesLog, View,
@@ -34,16 +34,13 @@ pub struct Seated<'b, R: Wait, D: Told, L: LogFile, Q: PostRoutine> {
     board: &'b Board<D, L, Q>,
     seat: Seat<Slot<D, L, Q>, View<D, L>>,
     number: u32,
-    joined: u32,
     device_turns: u64,
-    rest: Option<Rest<D, L, Q>>,
 }
 
 impl<'b, R: Wait, D: Told, L: LogFile, Q: PostRoutine> Model for Seated<'b, R, D, L, Q> {
-    ghost use Rattle.std.specs.Prelude.{◌≡◌, true, false, length};
+    ghost use Rattle.std.specs.Prelude.{◌≡◌, true, false};
     ghost use Rattle.cc_board.specs.View.{run_of, held_of};
-    ghost use Rattle.cc_board.specs.Board.{SeatedState, HoldsOwn, carried_of};
-    ghost use Rattle.cc_board.specs.Rest.{KeepsRest};
+    ghost use Rattle.cc_board.specs.Board.{SeatedState, HoldsOwn, IsWithin, carried_of};
 
     ghost Value = { SeatedState D L };
 
@@ -53,8 +50,7 @@ impl<'b, R: Wait, D: Told, L: LogFile, Q: PostRoutine> Model for Seated<'b, R, D
         (s.seat.table_id ≡ s.board.now.id) × (run_of s.seat.me.0 ≡ s.board.now.begun)
         × (s.seat.me.1 ≡ carried_of s.board.now.begun (held_of s.seat.me.0))
         × (s.seat.me.0.live ≡ true) × (s.seat.me.0.drawn ≡ false)
-        × (s.number ≡ s.seat.me.0.number) × (s.joined ≡ length s.seat.me.0.ended)
-        × KeepsRest s.seat.me.0 s.rest
+        × (s.number ≡ s.seat.me.0.number) × IsWithin s.seat.me.0
         × HoldsOwn s.board.now.begun (held_of s.seat.me.0) };
 }
 
@@ -69,9 +65,7 @@ impl<'b, R: Wait, D: Told, L: LogFile, Q: PostRoutine> Seated<'b, R, D, L, Q> {
         let Pass {
             mut seat,
             number,
-            joined,
             device_turns,
-            rest,
         } = pass;
         board.learn(&mut seat);
         Seated {
@@ -79,10 +73,14 @@ impl<'b, R: Wait, D: Told, L: LogFile, Q: PostRoutine> Seated<'b, R, D, L, Q> {
             board,
             seat,
             number,
-            joined,
             device_turns,
-            rest,
         }
+    }
+
+    /// Notes that others never have more under way than their most.
+    pub fn note_others(&self)
+        ensures { self.now.knows.others ≤ self.now.knows.before + self.now.knows.passes }
+    {
     }
 
     /// Gives the pass back.
@@ -96,16 +94,12 @@ impl<'b, R: Wait, D: Told, L: LogFile, Q: PostRoutine> Seated<'b, R, D, L, Q> {
             board: _,
             seat,
             number,
-            joined,
             device_turns,
-            rest,
         } = self;
         Pass {
             seat,
             number,
-            joined,
             device_turns,
-            rest,
         }
     }
 }
@@ -205,6 +199,7 @@ impl<'b, R: Wait, D: PageDisk, L: LogFile, Q: PostRoutine> Turns for Seated<'b, 
         requires held { (held_of self.old.knows).journal ≡ true }
         requires adds { Adds (standing_at (tells_of D.told D.faults L.told L.faults Q.posted) self.old.board.id self.old.knows self.old.device_turns) journal.entries }
         requires stands { JournalStands Q.posted (without_journal journal (standing_at (tells_of D.told D.faults L.told L.faults Q.posted) self.old.board.id self.old.knows self.old.device_turns)) journal }
+        requires few { (without_journal journal (standing_at (tells_of D.told D.faults L.told L.faults Q.posted) self.old.board.id self.old.knows self.old.device_turns)).in_flight ≤ 1 }
         ensures { standing_at (tells_of D.told D.faults L.told L.faults Q.posted) self.new.board.id self.new.knows self.new.device_turns
             ≡ without_journal journal (standing_at (tells_of D.told D.faults L.told L.faults Q.posted) self.old.board.id self.old.knows self.old.device_turns) }
     {

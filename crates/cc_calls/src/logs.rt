@@ -89,10 +89,10 @@ fn append_to<T: Turns>(
 ) -> Result<Lsn, CcError>
     requires no_log { (T.standing turns.old).held.log ≡ None }
     requires away { (T.standing turns.old).held.journal ≡ false }
-    requires reserved { 0 < (T.standing turns.old).in_flight }
+    requires reserved { (T.standing turns.old).in_flight ≡ 1 }
     requires known { handle < (T.standing turns.old).setup.logs }
     requires same { bytes ≡ piece.now }
-    ensures went { WentWith ((T.standing turns.old).in_flight - 1) (T.standing turns.old) (T.standing turns.new) }
+    ensures went { WentWith 0 (T.standing turns.old) (T.standing turns.new) }
     ensures left { AppendLeft (T.standing turns.old).setup (T.standing turns.old).number handle piece.now result
         (T.standing turns.old).seen (T.standing turns.new).seen }
     ensures room { IsNotFull result }
@@ -113,13 +113,13 @@ fn append_held<T: Turns>(
 ) -> Result<Lsn, CcError>
     requires held { (T.standing turns.old).held.log ≡ Some handle }
     requires away { (T.standing turns.old).held.journal ≡ false }
-    requires reserved { 0 < (T.standing turns.old).in_flight }
+    requires reserved { (T.standing turns.old).in_flight ≡ 1 }
     requires known { handle < (T.standing turns.old).setup.logs }
     requires same { bytes ≡ piece.now }
     requires handle { log.old.handle ≡ handle }
     requires stands { LogStands T.Log.told T.Log.faults ((T.standing turns.old).logs handle)
         (T.standing turns.old).seen log.old }
-    ensures went { WentWith ((T.standing turns.old).in_flight - 1) (T.standing turns.old) (T.standing turns.new) }
+    ensures went { WentWith 0 (T.standing turns.old) (T.standing turns.new) }
     ensures left { AppendLeft (T.standing turns.old).setup (T.standing turns.old).number handle piece.now result
         (T.standing turns.old).seen (T.standing turns.new).seen }
     ensures room { IsNotFull result }

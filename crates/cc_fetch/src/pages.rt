@@ -72,13 +72,13 @@ pub(crate) fn bring<T: Turns>(
 ) -> (Book, Result<Call, CcError>)
     requires known { book.stream < (T.standing turns.old).streams }
     requires both { HasBoth T.Disk.told T.Disk.faults (T.standing turns.old) book.stream book disk.old }
-    requires reserved { 0 < (T.standing turns.old).in_flight }
+    requires reserved { (T.standing turns.old).in_flight ≡ 1 }
     requires one { asks_one call ≡ true }
     requires brings { brings_in call ≡ true }
     requires filed { IsOf call book.stream }
     requires waited { IsWaitedFor (T.standing turns.old).setup book.stream call page (T.standing turns.old).seen }
     ensures both { HasBoth T.Disk.told T.Disk.faults (T.standing turns.new) book.stream result.0 disk.new }
-    ensures went { WentWith ((T.standing turns.old).in_flight - 1) (T.standing turns.old) (T.standing turns.new) }
+    ensures went { WentWith 0 (T.standing turns.old) (T.standing turns.new) }
     ensures left { (begun : List Entry) →
         IsUnderWay (T.standing turns.old).number call begun (T.standing turns.old).seen →
         PageLeft (T.standing turns.old).setup (T.standing turns.old).number call result.1
@@ -104,13 +104,13 @@ fn bring_read<T: Turns>(
 ) -> (Book, Result<Call, CcError>)
     requires known { book.stream < (T.standing turns.old).streams }
     requires both { HasBoth T.Disk.told T.Disk.faults (T.standing turns.old) book.stream book disk.old }
-    requires reserved { 0 < (T.standing turns.old).in_flight }
+    requires reserved { (T.standing turns.old).in_flight ≡ 1 }
     requires one { asks_one call ≡ true }
     requires brings { brings_in call ≡ true }
     requires filed { IsOf call book.stream }
     requires waited { IsWaitedFor (T.standing turns.old).setup book.stream call page (T.standing turns.old).seen }
     ensures both { HasBoth T.Disk.told T.Disk.faults (T.standing turns.new) book.stream result.0 disk.new }
-    ensures went { WentWith ((T.standing turns.old).in_flight - 1) (T.standing turns.old) (T.standing turns.new) }
+    ensures went { WentWith 0 (T.standing turns.old) (T.standing turns.new) }
     ensures left { (begun : List Entry) →
         IsUnderWay (T.standing turns.old).number call begun (T.standing turns.old).seen →
         PageLeft (T.standing turns.old).setup (T.standing turns.old).number call result.1
@@ -186,14 +186,14 @@ fn land<T: Turns>(
 ) -> (Book, Result<Call, CcError>)
     requires book { HasBook (T.standing turns.old) book.stream book }
     requires rest { IsAtRest (T.standing turns.old) book.stream }
-    requires reserved { 0 < (T.standing turns.old).in_flight }
+    requires reserved { (T.standing turns.old).in_flight ≡ 1 }
     requires one { asks_one call ≡ true }
     requires brings { brings_in call ≡ true }
     requires filed { IsOf call book.stream }
     requires read { WasReadFor (T.standing turns.old) book.stream page (option_map (λ bytes. bytes.now) raw) }
     ensures book { HasBook (T.standing turns.new) book.stream result.0 }
     ensures rest { IsAtRest (T.standing turns.new) book.stream }
-    ensures went { WentWith ((T.standing turns.old).in_flight - 1) (T.standing turns.old) (T.standing turns.new) }
+    ensures went { WentWith 0 (T.standing turns.old) (T.standing turns.new) }
     ensures disk { SameDisk (T.standing turns.old).seen (T.standing turns.new).seen book.stream }
     ensures left { (begun : List Entry) →
         IsUnderWay (T.standing turns.old).number call begun (T.standing turns.old).seen →
@@ -217,14 +217,14 @@ fn unread<T: Turns>(
 ) -> (Book, Result<Call, CcError>)
     requires book { HasBook (T.standing turns.old) book.stream book }
     requires rest { IsAtRest (T.standing turns.old) book.stream }
-    requires reserved { 0 < (T.standing turns.old).in_flight }
+    requires reserved { (T.standing turns.old).in_flight ≡ 1 }
     requires one { asks_one call ≡ true }
     requires brings { brings_in call ≡ true }
     requires filed { IsOf call book.stream }
     requires wanted { IsWanted (T.standing turns.old) book.stream call page }
     ensures book { HasBook (T.standing turns.new) book.stream result.0 }
     ensures rest { IsAtRest (T.standing turns.new) book.stream }
-    ensures went { WentWith ((T.standing turns.old).in_flight - 1) (T.standing turns.old) (T.standing turns.new) }
+    ensures went { WentWith 0 (T.standing turns.old) (T.standing turns.new) }
     ensures told { WasTold (T.standing turns.old) (T.standing turns.new) book.stream page }
     ensures left { (begun : List Entry) →
         IsUnderWay (T.standing turns.old).number call begun (T.standing turns.old).seen →
@@ -274,12 +274,12 @@ fn fail<T: Turns>(
 fn release<T: Turns>(turns: &mut T, book: Book, call: Call) -> (Book, Result<Call, CcError>)
     requires book { HasBook (T.standing turns.old) book.stream book }
     requires rest { IsAtRest (T.standing turns.old) book.stream }
-    requires reserved { 0 < (T.standing turns.old).in_flight }
+    requires reserved { (T.standing turns.old).in_flight ≡ 1 }
     requires one { asks_one call ≡ true }
     requires brings { brings_in call ≡ true }
     ensures book { HasBook (T.standing turns.new) book.stream result.0 }
     ensures rest { IsAtRest (T.standing turns.new) book.stream }
-    ensures went { WentWith ((T.standing turns.old).in_flight - 1) (T.standing turns.old) (T.standing turns.new) }
+    ensures went { WentWith 0 (T.standing turns.old) (T.standing turns.new) }
     ensures disk { SameDisk (T.standing turns.old).seen (T.standing turns.new).seen book.stream }
     ensures left { (begun : List Entry) →
         IsUnderWay (T.standing turns.old).number call begun (T.standing turns.old).seen →

@@ -95,6 +95,7 @@ standing_of told faults log_told log_faults d = record {
   held = d.held;
   in_flight = d.last.reserved - reserved_in d.last.entries;
   others = 0;
+  most_others = 0;
   device_turns = d.device_turns;
 }
 

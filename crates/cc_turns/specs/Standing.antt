@@ -44,8 +44,8 @@ pub record LogAtFirst : Type 0 where
 -- What a pass knows. Of the run: the name of what it shares its turns by, [] where it shares them with nobody, its
 -- setup, how many streams have a disk, and what each disk and each log was as it began. Of itself: its number, the
 -- entries of the journal that it has seen, those that it had seen as it began to act, the turns that it holds, how many
--- entries it has reserved for what it has under way, how many others had, as it last took the journal, and how often it
--- took the turn of a disk.
+-- entries it has reserved for what it has under way, how many others had, as it last took the journal, and have at most,
+-- and how often it took the turn of a disk.
 pub record Standing : Type 0 where
   pub shared : List ℕ
   pub setup : Setup
@@ -58,4 +58,5 @@ pub record Standing : Type 0 where
   pub held : Held
   pub in_flight : ℕ
   pub others : ℕ
+  pub most_others : ℕ
   pub device_turns : ℕ

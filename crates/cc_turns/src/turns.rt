@@ -1,6 +1,6 @@
 //! The turns of a pass.
 
-ghost use Rattle.std.specs.Prelude.{◌≡◌, ℕ, ◌<◌, true, false, None, Some};
+ghost use Rattle.std.specs.Prelude.{◌≡◌, ℕ, ◌<◌, ◌≤◌, true, false, None, Some};
 ghost use Rattle.cc_book.specs.Book.{BookStands};
 ghost use Rattle.cc_model.specs.History.{history};
 ghost use Rattle.cc_model.specs.Images.{open_of};
@@ -101,10 +101,11 @@ pub trait Turns {
         ensures stands { JournalStands Self.Post.posted (standing self.new) result };
 
     /// Gives it, with the entries of the pass that it was given since. Each stands where the turns that it needs are
-    /// held.
+    /// held. The pass has one entry at most reserved for what it has under way.
     fn give_journal(&mut self, journal: Journal<Self::Post>)
         requires held { (standing self.old).held.journal ≡ true }
         requires adds { Adds (standing self.old) journal.entries }
         requires stands { JournalStands Self.Post.posted (without_journal journal (standing self.old)) journal }
+        requires few { (without_journal journal (standing self.old)).in_flight ≤ 1 }
         ensures { standing self.new ≡ without_journal journal (standing self.old) };
 }

@@ -12,11 +12,11 @@ use cc_turns::Turns;
 /// Gives the place back that is reserved for a page which is not to come in.
 pub fn release_at<T: Turns>(turns: &mut T)
     requires free { (T.standing turns.old).held.journal ≡ false }
-    requires reserved { 0 < (T.standing turns.old).in_flight }
+    requires reserved { (T.standing turns.old).in_flight ≡ 1 }
     ensures book { (s : ℕ) (b : BookState) →
         HasBook (T.standing turns.old) s b → HasBook (T.standing turns.new) s b }
     ensures rest { (s : ℕ) → IsAtRest (T.standing turns.old) s → IsAtRest (T.standing turns.new) s }
-    ensures went { WentWith ((T.standing turns.old).in_flight - 1) (T.standing turns.old) (T.standing turns.new) }
+    ensures went { WentWith 0 (T.standing turns.old) (T.standing turns.new) }
     ensures disk { (s : ℕ) → (T.standing turns.old).held.device ≡ Some s →
         SameDisk (T.standing turns.old).seen (T.standing turns.new).seen s }
     ensures left { (it : Call) (begun : List Entry) →

@@ -54,6 +54,7 @@ pub fn attempt_at<T: Turns>(
     out: &mut [u8],
 ) -> Tried
     requires book { HasBook (T.standing turns.old) book.old.stream book.old }
+    requires none { (T.standing turns.old).in_flight ≡ 0 }
     requires one { asks_one call ≡ true }
     requires filed { IsOf call book.old.stream }
     requires fits { FitsIn call out.old }
@@ -83,6 +84,7 @@ pub fn next_at<T: Turns>(
 ) -> Step
     requires book { HasBook (T.standing turns.old) book.old.stream book.old }
     requires rest { IsAtRest (T.standing turns.old) book.old.stream }
+    requires none { (T.standing turns.old).in_flight ≡ 0 }
     requires one { asks_one call ≡ true }
     requires brings { brings_in call ≡ true }
     requires filed { IsOf call book.old.stream }
@@ -118,14 +120,14 @@ pub fn land_at<T: Turns>(
 ) -> Result<(), NoMemory>
     requires book { HasBook (T.standing turns.old) book.old.stream book.old }
     requires rest { IsAtRest (T.standing turns.old) book.old.stream }
-    requires reserved { 0 < (T.standing turns.old).in_flight }
+    requires reserved { (T.standing turns.old).in_flight ≡ 1 }
     requires one { asks_one call.now ≡ true }
     requires brings { brings_in call.now ≡ true }
     requires filed { IsOf call.now book.old.stream }
     requires read { WasReadFor (T.standing turns.old) book.old.stream page (option_copied raw) }
     ensures book { HasBook (T.standing turns.new) book.old.stream book.new }
     ensures rest { IsAtRest (T.standing turns.new) book.old.stream }
-    ensures went { WentWith ((T.standing turns.old).in_flight - 1) (T.standing turns.old) (T.standing turns.new) }
+    ensures went { WentWith 0 (T.standing turns.old) (T.standing turns.new) }
     ensures disk { SameDisk (T.standing turns.old).seen (T.standing turns.new).seen book.old.stream }
     ensures left { (begun : List Entry) →
         IsUnderWay (T.standing turns.old).number call.now begun (T.standing turns.old).seen →
@@ -143,10 +145,10 @@ pub fn land_at<T: Turns>(
 pub fn unread_at<T: Turns>(turns: &mut T, book: &Book, page: u64) -> bool
     requires book { HasBook (T.standing turns.old) book.now.stream book.now }
     requires rest { IsAtRest (T.standing turns.old) book.now.stream }
-    requires reserved { 0 < (T.standing turns.old).in_flight }
+    requires reserved { (T.standing turns.old).in_flight ≡ 1 }
     ensures book { HasBook (T.standing turns.new) book.now.stream book.now }
     ensures rest { IsAtRest (T.standing turns.new) book.now.stream }
-    ensures went { WentWith ((T.standing turns.old).in_flight - 1) (T.standing turns.old) (T.standing turns.new) }
+    ensures went { WentWith 0 (T.standing turns.old) (T.standing turns.new) }
     ensures placed { UnreadPlaced (T.standing turns.old) (T.standing turns.new) book.now.stream page result }
     ensures left { (it : Call) (begun : List Entry) → brings_in it ≡ true →
         IsUnderWay (T.standing turns.old).number it begun (T.standing turns.old).seen →
@@ -171,6 +173,7 @@ pub fn fail_at<T: Turns>(
     fault: CcError,
 ) -> CcError
     requires book { HasBook (T.standing turns.old) book.old.stream book.old }
+    requires none { (T.standing turns.old).in_flight ≡ 0 }
     requires one { asks_one call ≡ true }
     requires brings { brings_in call ≡ true }
     requires filed { IsOf call book.old.stream }

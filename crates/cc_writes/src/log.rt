@@ -133,9 +133,9 @@ pub fn flush_to<T: Turns>(turns: &mut T, handle: u8, to: Lsn) -> Result<LogFlush
     requires known { handle < (T.standing turns.old).setup.logs }
     requires no_log { (T.standing turns.old).held.log ≡ None }
     requires away { (T.standing turns.old).held.journal ≡ false }
-    requires reserved { 0 < (T.standing turns.old).in_flight }
+    requires reserved { (T.standing turns.old).in_flight ≡ 1 }
     ensures good { IsGood (T.standing turns.new).setup (T.standing turns.new).seen }
-    ensures went { WentWith ((T.standing turns.old).in_flight - 1) (T.standing turns.old) (T.standing turns.new) }
+    ensures went { WentWith 0 (T.standing turns.old) (T.standing turns.new) }
     ensures left { LogLeft (T.standing turns.old) handle to result (T.standing turns.new).seen }
 {
     let mut log = turns.take_log(handle);
@@ -153,12 +153,12 @@ fn flush_held<T: Turns>(
 ) -> Result<LogFlush, CcError>
     requires held { (T.standing turns.old).held.log ≡ Some handle }
     requires away { (T.standing turns.old).held.journal ≡ false }
-    requires reserved { 0 < (T.standing turns.old).in_flight }
+    requires reserved { (T.standing turns.old).in_flight ≡ 1 }
     requires handle { log.old.handle ≡ handle }
     requires stands { LogStands T.Log.told T.Log.faults ((T.standing turns.old).logs handle)
         (T.standing turns.old).seen log.old }
     ensures good { IsGood (T.standing turns.new).setup (T.standing turns.new).seen }
-    ensures went { WentWith ((T.standing turns.old).in_flight - 1) (T.standing turns.old) (T.standing turns.new) }
+    ensures went { WentWith 0 (T.standing turns.old) (T.standing turns.new) }
     ensures left { LogLeft (T.standing turns.old) handle to result (T.standing turns.new).seen }
     ensures handle { log.new.handle ≡ handle }
     ensures stands { LogStands T.Log.told T.Log.faults ((T.standing turns.new).logs handle)
@@ -190,10 +190,10 @@ fn flush_held<T: Turns>(
 /// Places an entry of the log whose turn is held, for which a place is reserved.
 pub fn place<T: Turns>(turns: &mut T, entry: Entry)
     requires away { (T.standing turns.old).held.journal ≡ false }
-    requires reserved { 0 < (T.standing turns.old).in_flight }
+    requires reserved { (T.standing turns.old).in_flight ≡ 1 }
     requires may { MayLog (T.standing turns.old) entry }
     ensures good { IsGood (T.standing turns.new).setup (T.standing turns.new).seen }
-    ensures went { WentWith ((T.standing turns.old).in_flight - 1) (T.standing turns.old) (T.standing turns.new) }
+    ensures went { WentWith 0 (T.standing turns.old) (T.standing turns.new) }
     ensures placed { HasPlaced (T.standing turns.old) entry (T.standing turns.new).seen }
 {
     let mut journal = turns.take_journal();
@@ -204,9 +204,9 @@ pub fn place<T: Turns>(turns: &mut T, entry: Entry)
 /// Gives a place back that is reserved.
 pub fn give_back<T: Turns>(turns: &mut T)
     requires away { (T.standing turns.old).held.journal ≡ false }
-    requires reserved { 0 < (T.standing turns.old).in_flight }
+    requires reserved { (T.standing turns.old).in_flight ≡ 1 }
     ensures good { IsGood (T.standing turns.new).setup (T.standing turns.new).seen }
-    ensures went { WentWith ((T.standing turns.old).in_flight - 1) (T.standing turns.old) (T.standing turns.new) }
+    ensures went { WentWith 0 (T.standing turns.old) (T.standing turns.new) }
     ensures grows { Grows (T.standing turns.old) (T.standing turns.new).seen }
 {
     let mut journal = turns.take_journal();
