@@ -59,6 +59,8 @@ module _ {D L Q : Type 0} (tells : Tells D L Q) (key : Key D L Q) (turns : ℕ) 
     is_first = refl;
     word = refl;
     few = omega arith;
+    alike = λ id v at lv. let is = (one_there first v id at).1 in (ap (λ (x : View D L). x.passes) (sym is), ap (λ (x : View D L). x.before) (sym is));
+    kept = omega arith;
     apart = λ a b u v at bt lu lv e. (one_there first u a at).0 ∙ sym (one_there first v b bt).0;
     below = λ id v at lv. subst (λ (x : View D L). x.number < 1) (one_there first v id at).1 (omega arith);
     ended = λ number seen has. absurd (contains_none (number, seen) has);
@@ -73,6 +75,8 @@ module _ {D L Q : Type 0} (tells : Tells D L Q) (key : Key D L Q) (turns : ℕ) 
     of_run = λ h. refl;
     grows = λ h. record { later = []; grew = refl; quiet = λ t k. absurd (none_held nothing t refl k); others = tt };
     spent = λ h. refl;
+    none = λ h. absurd (cc);
+    one = λ h. absurd (h refl);
     taken = λ turn h. absurd (none_held nothing turn refl h);
   }
 

@@ -49,7 +49,7 @@ module _ {D L Q : Type 0} (tells : Tells D L Q) (begun : Begun D L) where
   taken_still same turn t = record { known = t.known; word = same.same (slot_of begun turn) ∙ t.word }
 
   pub view_still : {past : List Entry} {words others : List ℕ} (v : View D L) → SameWords words others → IsView tells begun past words v → IsView tells begun past others v
-  view_still v same i = record { of_run = i.of_run; grows = i.grows; spent = i.spent; taken = λ turn h. taken_still same turn (i.taken turn h) }
+  view_still v same i = record { of_run = i.of_run; grows = i.grows; spent = i.spent; none = i.none; one = i.one; taken = λ turn h. taken_still same turn (i.taken turn h) }
 
   module _ (s : Table) (r : IsBoard tells begun s) (words : List ℕ) (views : List (View D L)) (same_word : SameWords s.words words) (same : SameTurns s.views views) where
     home_still : (turn : Turn) → HasTurn begun turn → get_or words (word_of begun turn) 0 ≡ 0 → IsAtHome tells begun r.past (under_way views) s.homes turn
