@@ -1,25 +1,23 @@
 -- How a board is closed: its slots are taken out, and where all passes were joined they hold what all turns are of.
-use Rattle.std.proofs.Common.{◌≡◌, ◌≢◌, ℕ, zero, suc, ◌+◌, ◌-◌, ◌<◌, ◌≤◌, ◌⊎◌, Bool, true, false, List, [], ◌∷◌, ◌++◌, length, get_or, take, set, refl, sym, ap, ◌∙◌, subst, inl, inr, ⊎_elim, arith, get_or-set_other, get_or-set_same, if◌then◌else◌}
+use Rattle.std.proofs.Common.{◌≡◌, ◌≢◌, ℕ, zero, suc, ◌+◌, ◌<◌, Bool, true, false, List, [], ◌∷◌, ◌++◌, length, get_or, take, set, refl, sym, ap, ◌∙◌, subst, arith, get_or-set_other, get_or-set_same}
 use mathlib.Core.Option.{some, some-injective, some-ne-none}
 use mathlib.Core.Logic.{dite}
 use native.Mathlib.Decide.{ℕ_discrete}
 use lib.ListN.{get_elem?}
 use Rattle.std.specs.Mem.Slots.Ownership.{Filled}
-use Rattle.std.specs.List.{slice_get, Contains}
-use Rattle.std.specs.declared.option.Option.TheVariants.{Some, None}
-use mathlib.Core.Option.{Option as Maybe}
+use Rattle.std.specs.List.{slice_get}
+use Rattle.std.specs.declared.option.Option.TheVariants.{Some}
 use Rattle.atomic_table.specs.Table.{State, Final, Seen}
 use Rattle.cc_entry.specs.declared.entry.Entry.{Entry}
-use Rattle.cc_effects.specs.Moments.{IsIdle}
 use Rattle.cc_model.specs.Turns.{Turn}
-use Rattle.cc_turns.specs.Standing.{holds, nothing}
+use Rattle.cc_turns.specs.Standing.{nothing}
 use Rattle.cc_turns.specs.Desk.{Begun, Tells, DeskState}
-use Rattle.cc_turns.specs.Slots.{HasTurn, slot_of, AreInSlots, IsInSlot, IsPutTogether}
+use Rattle.cc_turns.specs.Slots.{HasTurn, slot_of, AreInSlots, IsPutTogether}
 use Rattle.cc_board.specs.declared.rule.View.{View}
 use Rattle.cc_board.specs.View.{held_of}
 use Rattle.cc_board.specs.Plays.{Slot}
 use Rattle.cc_board.specs.Board.{BoardState, FirstState, IsAtRest, IsClosed}
-use Rattle.cc_board.specs.Rule.{IsBoard, IsAtHome, IsHeld, AreNumbered, under_way, living, given_numbers, word_of}
+use Rattle.cc_board.specs.Rule.{IsBoard, IsAtHome, AreNumbered, under_way, given_numbers, word_of}
 use Rattle.cc_board.proofs.Views.{total-at, total-two}
 use Rattle.cc_board.proofs.UnderWay.{counts, lives, beside_first}
 use Rattle.cc_board.proofs.Resting.{none_held}

@@ -1,27 +1,25 @@
 -- Counting passes, drawing a number, splitting a pass and joining it keep the rule.
-use Rattle.std.proofs.Common.{◌≡◌, ◌≢◌, ℕ, zero, suc, ◌+◌, ◌-◌, ◌<◌, ◌≤◌, ◌⊎◌, Bool, true, false, List, [], ◌∷◌, ◌++◌, length, get_or, set, refl, sym, ap, ◌∙◌, subst, inl, inr, ⊎_elim, arith, length-set, get_or-set_other, get_or-set_same, if◌then◌else◌}
+use Rattle.std.proofs.Common.{◌≡◌, ◌≢◌, ℕ, zero, suc, ◌+◌, ◌-◌, ◌<◌, ◌≤◌, ◌⊎◌, true, false, List, [], ◌∷◌, ◌++◌, length, set, refl, sym, ap, ◌∙◌, subst, inl, inr, ⊎_elim, arith, get_or-set_same, if◌then◌else◌}
 use Rattle.std.proofs.lemmas.List.{set-get_or}
 use mathlib.Core.Option.{none, some, some-injective, some-ne-none}
 use mathlib.Core.Logic.{dite}
 use native.Mathlib.Decide.{ℕ_discrete}
 use lib.ListN.{get_elem?}
 use Rattle.std.specs.List.{Contains}
-use Rattle.atomic_table.specs.Table.{State, Me, Step, step, keeps, stepped, Allows, Splits, Joins}
+use Rattle.atomic_table.specs.Table.{State, Me, step, keeps, Allows, Splits, Joins}
 use Rattle.atomic_table.proofs.Lists.{at_set, set_here, set_else, set_again, at_longer}
 use Rattle.cc_entry.specs.declared.entry.Entry.{Entry}
-use Rattle.cc_effects.specs.Moments.{IsIdle, Others}
-use Rattle.cc_model.specs.Turns.{Turn}
-use Rattle.cc_turns.specs.Standing.{holds, nothing, Held}
+use Rattle.cc_effects.specs.Moments.{IsIdle}
+use Rattle.cc_turns.specs.Standing.{nothing}
 use Rattle.cc_turns.specs.Desk.{Begun, Tells}
-use Rattle.cc_turns.specs.Takes.{Grows}
 use Rattle.cc_board.specs.declared.rule.View.{View}
-use Rattle.cc_board.specs.View.{run_of, held_of, standing_of, with_number, split_left, split_right, joined, spent}
-use Rattle.cc_board.specs.Plays.{Slot, Counted, CountsPasses, LearnsRun, DrawsNumber}
+use Rattle.cc_board.specs.View.{held_of, with_number, split_left, split_right, joined, spent}
+use Rattle.cc_board.specs.Plays.{Slot, CountsPasses, LearnsRun, DrawsNumber}
 use Rattle.cc_board.specs.Board.{IsAtRest}
-use Rattle.cc_board.specs.Rule.{IsBoard, IsView, IsTaken, AreNumbered, under_way, living, total, given_numbers}
+use Rattle.cc_board.specs.Rule.{IsBoard, IsView, AreNumbered, living, given_numbers}
 use Rattle.cc_board.proofs.Views.{total-at, total-set, total-snoc}
 use Rattle.cc_board.proofs.UnderWay.{counts, lives}
-use Rattle.cc_board.proofs.Resting.{SameTurns, SameWords, same_words, first_word, view_still, board_still, none_held}
+use Rattle.cc_board.proofs.Resting.{SameTurns, same_words, first_word, view_still, board_still, none_held}
 
 -- what is in a longer list is its first, or in the rest
 pub contains_rest : {A : Type 0} (x y : A) (xs : List A) → Contains (x ∷ xs) y → (x ≡ y) ⊎ Contains xs y

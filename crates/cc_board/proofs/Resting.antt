@@ -1,16 +1,16 @@
 -- A step that changes views only of passes that hold no turn leaves what the rule says of turns.
-use Rattle.std.proofs.Common.{◌≡◌, ◌≢◌, ℕ, zero, suc, ◌+◌, ◌-◌, ◌<◌, ◌≤◌, ◌⊎◌, Bool, true, false, List, [], ◌∷◌, ◌++◌, length, get_or, set, refl, sym, ap, ◌∙◌, subst, inl, inr, ⊎_elim, arith, length-set, get_or-set_other}
-use mathlib.Core.Option.{some, some-injective, some-ne-none}
+use Rattle.std.proofs.Common.{◌≡◌, ◌≢◌, ℕ, suc, ◌+◌, ◌⊎◌, true, List, length, get_or, set, refl, sym, ◌∙◌, subst, ⊎_elim, arith, length-set, get_or-set_other}
+use mathlib.Core.Option.{some}
 use lib.ListN.{get_elem?}
 use Rattle.cc_entry.specs.declared.entry.Entry.{Entry}
 use Rattle.cc_model.specs.Turns.{Turn, Device, Book, Log, Journal}
 use Rattle.cc_turns.specs.Standing.{holds, nothing, Held}
 use Rattle.cc_turns.specs.Desk.{Begun, Tells}
-use Rattle.cc_turns.specs.Slots.{HasTurn, slot_of, slots_of, Fits}
+use Rattle.cc_turns.specs.Slots.{HasTurn, slot_of, Fits}
 use Rattle.cc_board.specs.Plays.{Slot}
 use Rattle.atomic_table.specs.Table.{State}
 use Rattle.cc_board.specs.declared.rule.View.{View}
-use Rattle.cc_board.specs.View.{run_of, held_of, standing_of}
+use Rattle.cc_board.specs.View.{held_of}
 use Rattle.cc_board.specs.Rule.{IsBoard, IsView, IsTaken, IsHeld, IsAtHome, AreNumbered, under_way, word_of}
 
 -- nothing is held where no turn is

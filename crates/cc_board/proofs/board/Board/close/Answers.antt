@@ -1,5 +1,5 @@
-use Rattle.std.proofs.Common.{rules, arith, ◌≡◌, ℕ, suc, length, ap, sym, ◌∙◌}
-use Rattle.cc_board.specs.View.{run_of, run_in}
+use Rattle.std.proofs.Common.{rules, arith, ◌≡◌, suc, length, ap, sym, ◌∙◌}
+use Rattle.cc_board.specs.View.{run_in}
 use Rattle.cc_board.proofs.Passes.{counts_passes}
 use Rattle.cc_board.proofs.Closing.{ended}
 use Rattle.cc_board.proofs.board.Board.close.Goals as goal

@@ -1,4 +1,4 @@
-use Rattle.std.proofs.Common.{rules, arith, ◌≡◌, ◌+◌, ◌*◌, ℕ, suc, length, refl, ap, sym, ◌∙◌}
+use Rattle.std.proofs.Common.{arith, ◌≡◌, ◌+◌, ◌*◌, ℕ, suc, length, refl, ap, sym, ◌∙◌}
 use Rattle.cc_turns.specs.Desk.{made_from}
 use Rattle.cc_turns.specs.Slots.{slots_of}
 use Rattle.cc_board.specs.View.{run_in}

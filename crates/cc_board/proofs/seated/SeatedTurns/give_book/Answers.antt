@@ -1,4 +1,4 @@
-use Rattle.std.proofs.Common.{rules, Some, length, refl, sym, ap, ◌∙◌, ◌≡◌, ◌+◌, arith}
+use Rattle.std.proofs.Common.{rules, Some, refl, ap, ◌∙◌, ◌≡◌, ◌+◌, arith}
 use Rattle.atomic_table.specs.Table.{rest}
 use Rattle.cc_model.specs.Turns.{Book}
 use Rattle.cc_turns.specs.Desk.{tells_of}

@@ -1,4 +1,4 @@
-use Rattle.std.proofs.Common.{rules, length, sym, ap, ◌∙◌}
+use Rattle.std.proofs.Common.{rules, ap, ◌∙◌}
 use Rattle.atomic_table.specs.Table.{Me}
 use Rattle.cc_turns.specs.Desk.{tells_of}
 use Rattle.cc_turns.specs.Takes.{without_journal}
