@@ -1,28 +1,27 @@
 -- How a board is closed: its slots are taken out, and where all passes were joined they hold what all turns are of.
-use Rattle.std.proofs.Common.{◌≡◌, ◌≢◌, ℕ, zero, suc, ◌+◌, ◌-◌, ◌<◌, ◌≤◌, ◌⊎◌, Bool, true, false, List, [], ◌∷◌, ◌++◌, length, get_or, take, set, refl, sym, ap, ◌∙◌, subst, inl, inr, ⊎_elim, arith, get_or-set_other, get_or-set_same, if◌then◌else◌}
+use Rattle.std.proofs.Common.{◌≡◌, ◌≢◌, ℕ, zero, suc, ◌+◌, ◌<◌, Bool, true, false, List, [], ◌∷◌, ◌++◌, length, get_or, take, set, refl, sym, ap, ◌∙◌, subst, arith, get_or-set_other, get_or-set_same}
 use mathlib.Core.Option.{some, some-injective, some-ne-none}
 use mathlib.Core.Logic.{dite}
 use native.Mathlib.Decide.{ℕ_discrete}
 use lib.ListN.{get_elem?}
 use Rattle.std.specs.Mem.Slots.Ownership.{Filled}
-use Rattle.std.specs.List.{slice_get, Contains}
-use Rattle.std.specs.declared.option.Option.TheVariants.{Some, None}
-use mathlib.Core.Option.{Option as Maybe}
+use Rattle.std.specs.List.{slice_get}
+use Rattle.std.specs.declared.option.Option.TheVariants.{Some}
 use Rattle.atomic_table.specs.Table.{State, Final, Seen}
 use Rattle.cc_entry.specs.declared.entry.Entry.{Entry}
-use Rattle.cc_effects.specs.Moments.{IsIdle}
 use Rattle.cc_model.specs.Turns.{Turn}
-use Rattle.cc_turns.specs.Standing.{holds, nothing}
+use Rattle.cc_turns.specs.Standing.{nothing}
 use Rattle.cc_turns.specs.Desk.{Begun, Tells, DeskState}
-use Rattle.cc_turns.specs.Slots.{HasTurn, slot_of, AreInSlots, IsInSlot, IsPutTogether}
+use Rattle.cc_turns.specs.Slots.{HasTurn, slot_of, AreInSlots, IsPutTogether}
 use Rattle.cc_board.specs.declared.rule.View.{View}
 use Rattle.cc_board.specs.View.{held_of}
 use Rattle.cc_board.specs.Plays.{Slot}
-use Rattle.cc_board.specs.Board.{BoardState, PassState, IsAtRest, IsFirst, IsClosed, AllJoined}
-use Rattle.cc_board.specs.Rule.{IsBoard, IsAtHome, IsHeld, AreNumbered, under_way, living, given_numbers, word_of}
-use Rattle.cc_board.proofs.Views.{total-two}
+use Rattle.cc_board.specs.Board.{BoardState, FirstState, IsAtRest, IsClosed}
+use Rattle.cc_board.specs.Rule.{IsBoard, IsAtHome, AreNumbered, under_way, given_numbers, word_of}
+use Rattle.cc_board.proofs.Views.{total-at, total-two}
+use Rattle.cc_board.proofs.UnderWay.{counts, lives, beside_first}
 use Rattle.cc_board.proofs.Resting.{none_held}
-use Rattle.cc_board.proofs.Passes.{counts, lives, given_at_rest, numbers_of}
+use Rattle.cc_board.proofs.Passes.{given_at_rest, numbers_of}
 
 -- a place was emptied: those above it are full still
 pub filled_after : (filled : List Bool) (i high : ℕ) → Filled filled i high → Filled (set filled i false) (i + 1) high
@@ -49,6 +48,10 @@ found_at [] i a e = absurd (some-ne-none a (sym e))
 found_at {A = A} (x ∷ xs) zero a e = ap (λ (y : A). Some y) (some-injective x a e)
 found_at (x ∷ xs) (suc i) a e = found_at xs i a e
 
+-- each other pass that was made was joined
+abbrev pub AllJoined : {D L : Type 0} → View D L → Type 0
+AllJoined v = suc (length v.ended) ≡ v.made
+
 module _ {D L Q : Type 0} (tells : Tells D L Q) (begun : Begun D L) (s : State (Slot D L Q) (View D L)) (r : IsBoard tells begun s)
     (id : ℕ) (v : View D L) (there : get_elem? s.views id ≡ some v) (rest : IsAtRest v) (zero_is : v.number ≡ 0) where
   numbers : AreNumbered r.past s.words s.views v
@@ -74,6 +77,12 @@ module _ {D L Q : Type 0} (tells : Tells D L Q) (begun : Begun D L) (s : State (
     all_home turn has = dite (ℕ_discrete (get_or s.words (word_of begun turn) 0) 0) (λ free. r.home turn has free)
         (λ taken. let h = r.out turn has taken in absurd (none_held (held_of h.view) turn (at_rest h.id h.view h.there h.view.live refl) h.held))
 
+    -- and none but the first has anything under way
+    all_under_way : under_way s.views ≡ v.in_flight
+    all_under_way =
+        let most = beside_first tells begun r.past s.words s.views v numbers r.views in let least = total-at (λ (x : View D L). x.in_flight) s.views 0 v numbers.there in
+        let d = numbers.counted in let e = given in omega arith
+
     -- what all turns are of is in the slots
     pub closed_slots : (slots : List (Slot D L Q)) → length s.homes ≡ length slots
         → ((k : ℕ) (y : Slot D L Q) → get_elem? s.homes k ≡ some (some y) → get_elem? slots k ≡ some y)
@@ -87,14 +96,15 @@ module _ {D L Q : Type 0} (tells : Tells D L Q) (begun : Begun D L) (s : State (
     }
 
 -- the desk that is put together of them
-pub closed_desk : {D L Q : Type 0} (tells : Tells D L Q) (board : BoardState D L) (pass : PassState D L) (desk : DeskState D L Q) (s : State (Slot D L Q) (View D L)) (r : IsBoard tells board.begun s)
-    (id : ℕ) → get_elem? s.views id ≡ some pass.knows → IsAtRest pass.knows → IsFirst pass → IsPutTogether board.begun r.past (under_way s.views) desk → IsClosed board pass desk
-closed_desk tells board pass desk s r id there rest zero_is made = let n = numbers tells board.begun s r id pass.knows there rest zero_is in let g = (r.views id pass.knows there).grows rest.is_live in
-    let e : given_numbers pass.knows ≡ pass.knows.made = given_at_rest pass.knows rest.none_drawn in
+closed_desk : {D L Q : Type 0} (tells : Tells D L Q) (board : BoardState D L) (first : FirstState D L) (desk : DeskState D L Q) (s : State (Slot D L Q) (View D L)) (r : IsBoard tells board.begun s)
+    (id : ℕ) → get_elem? s.views id ≡ some first.knows → IsAtRest first.knows → first.knows.number ≡ 0 → AllJoined first.knows → IsPutTogether board.begun r.past (under_way s.views) desk → IsClosed board first desk
+closed_desk tells board first desk s r id there rest zero_is all made = let n = numbers tells board.begun s r id first.knows there rest zero_is in let g = (r.views id first.knows there).grows rest.is_live in
+    let e : given_numbers first.knows ≡ first.knows.made = given_at_rest first.knows rest.none_drawn in
     record {
       run_is = made.begun_is;
       held_is = made.held_is;
       pass_is = made.pass_is;
+      under_way_is = made.under_way_is ∙ all_under_way tells board.begun s r id first.knows there rest zero_is all;
       first = rw made.past_is record { during = g.later; grew = g.grew; others = rw (← zero_is) g.others };
       others = λ number seen has. rw made.past_is (n.ended number seen has);
       unmade = λ number more. rw made.past_is (n.unmade number (omega arith));
@@ -105,7 +115,7 @@ pub record Ended {D L Q : Type 0} (tells : Tells D L Q) (begun emptied : Begun D
   pub past : List Entry
   pub reserved : ℕ
   pub are : AreInSlots tells emptied past reserved room
-  pub closes : (board : BoardState D L) (pass : PassState D L) (desk : DeskState D L Q) → board.begun ≡ begun → pass.knows ≡ v → IsPutTogether emptied past reserved desk → IsClosed board pass desk
+  pub closes : (board : BoardState D L) (first : FirstState D L) (desk : DeskState D L Q) → board.begun ≡ begun → first.knows ≡ v → IsPutTogether emptied past reserved desk → IsClosed board first desk
 
 pub ended : {D L Q : Type 0} (tells : Tells D L Q) (begun emptied : Begun D L) (id : ℕ) (v : View D L) (words : List ℕ) (slots room : List (Slot D L Q))
     → Final (Seen (IsBoard tells begun) id v) words slots → IsAtRest v → v.number ≡ 0 → AllJoined v → emptied ≡ begun → room ≡ slots → Ended tells begun emptied v room
@@ -115,9 +125,9 @@ ended {D = D} {L = L} {Q = Q} tells begun emptied id v words slots room final re
       past = r.past;
       reserved = under_way s.views;
       are = rw (same_run, same_slots) (closed_slots tells begun s r id v there rest zero_is all slots final.3 final.4);
-      closes = λ board pass desk begun_is knows made.
-          subst (λ (z : Begun D L × View D L). IsClosed record { id = board.id; begun = z.0 } record { board = pass.board; knows = z.1; device_turns = pass.device_turns } desk)
+      closes = λ board first desk begun_is knows made.
+          subst (λ (z : Begun D L × View D L). IsClosed record { id = board.id; begun = z.0 } record { board = first.board; knows = z.1 } desk)
           (λ i. (sym begun_is i, sym knows i))
-          (closed_desk tells record { id = board.id; begun = begun } record { board = pass.board; knows = v; device_turns = pass.device_turns } desk s r id there rest zero_is
+          (closed_desk tells record { id = board.id; begun = begun } record { board = first.board; knows = v } desk s r id there rest zero_is all
           (subst (λ (x : Begun D L). IsPutTogether x r.past (under_way s.views) desk) same_run made));
     }

@@ -65,9 +65,9 @@ record SameBut {D L : Type 0} (v w : View D L) : Type 0 where
   journal : w.journal ≡ v.journal
 
 same-but : {D L Q : Type 0} (t : Turn) (given : Place D L Q) (v : View D L) → is_journal t ≡ false → SameBut v (without_turn t given v)
-same-but (Device s) given v other = record { number = record { live = refl; number = refl; made = refl; drawn = refl; ended = refl }; run = refl; seen = refl; in_flight = refl; others = refl; journal = refl }
-same-but (Book s) given v other = record { number = record { live = refl; number = refl; made = refl; drawn = refl; ended = refl }; run = refl; seen = refl; in_flight = refl; others = refl; journal = refl }
-same-but (Log h) given v other = record { number = record { live = refl; number = refl; made = refl; drawn = refl; ended = refl }; run = refl; seen = refl; in_flight = refl; others = refl; journal = refl }
+same-but (Device s) given v other = record { number = record { live = refl; number = refl; made = refl; drawn = refl; ended = refl; passes = refl; before = refl; in_flight = λ first. refl }; run = refl; seen = refl; in_flight = refl; others = refl; journal = refl }
+same-but (Book s) given v other = record { number = record { live = refl; number = refl; made = refl; drawn = refl; ended = refl; passes = refl; before = refl; in_flight = λ first. refl }; run = refl; seen = refl; in_flight = refl; others = refl; journal = refl }
+same-but (Log h) given v other = record { number = record { live = refl; number = refl; made = refl; drawn = refl; ended = refl; passes = refl; before = refl; in_flight = λ first. refl }; run = refl; seen = refl; in_flight = refl; others = refl; journal = refl }
 same-but Journal given v other = absurd (cc)
 
 -- ---- the parts of the rule after a turn was given
@@ -147,6 +147,8 @@ module _ {D L Q : Type 0} (tells : Tells D L Q) (run : Begun D L) (t : Turn) (pl
           others = rw same.number.number grows.others;
         };
         spent = λ dead. let lives = same.number.live in absurd (cc);
+        none = λ dead. let lives = same.number.live in absurd (cc);
+        one = λ apart. rw same.in_flight ((r.views id v at).one (λ is. apart (same.number.number ∙ is)));
         taken = λ u held. taken-on u (now-held u held) ((r.views id v at).taken u (without-held t place v u other held));
       }
 

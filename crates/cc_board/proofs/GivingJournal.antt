@@ -1,5 +1,5 @@
 -- The step that gives the journal back: it places what the pass added, and keeps the rule.
-use Rattle.std.specs.Prelude.{◌≡◌, ◌≢◌, ℕ, suc, ◌+◌, ◌==◌, Bool, true, false, List, [], ◌∷◌, ◌++◌, length, slice_index, slice_set, refl}
+use Rattle.std.specs.Prelude.{◌≡◌, ◌≢◌, ℕ, suc, ◌+◌, ◌-◌, ◌≤◌, ◌==◌, Bool, true, false, List, [], ◌∷◌, ◌++◌, length, slice_index, slice_set, refl}
 use Rattle.std.specs.declared.option.Option.{Option}
 use Rattle.std.specs.declared.option.Option.TheVariants.{Some}
 use Rattle.std.specs.List.{AllByRecursion}
@@ -18,6 +18,7 @@ use Rattle.cc_journal.specs.Journal.{JournalState}
 use Rattle.cc_laws.proofs.TurnSteps.{is_quiet-none}
 use Rattle.cc_model.specs.Good.{IsGood}
 use Rattle.cc_model.specs.Passes.{is_mine}
+use Rattle.cc_model.specs.Room.{reserved_in}
 use Rattle.cc_model.specs.Turns.{Turn, Device, Book, Log, Journal, is_journal, is_quiet}
 use Rattle.cc_turns.specs.Standing.{holds}
 use Rattle.cc_turns.specs.Desk.{Begun, Tells}
@@ -72,8 +73,9 @@ not-true false never = refl
 slot-else : {D L : Type 0} (begun : Begun D L) (t : Turn) → HasTurn begun t → is_journal t ≡ false → slot_of begun t ≢ slot_of begun Journal
 slot-else begun t known other same = let is = ap is_journal (slot-apart begun t Journal known tt same) in absurd (cc)
 
--- A pass of the board holds the journal, and gives it with what it added.
-module _ {D L Q : Type 0} (tells : Tells D L Q) (begun : Begun D L) (s : State (Option (Place D L Q)) (View D L)) (id : ℕ) (v : View D L) (turns : ℕ) (j : JournalState Q) (rule : IsBoard tells begun s) (at : get_elem? s.views id ≡ some v) (live : v.live ≡ true) (journal : v.journal ≡ true) (adds : Adds (standing_of tells v turns) j.entries) where
+-- A pass of the board, not the first, holds the journal, and gives it with what it added; it has one entry under way at
+-- most then.
+module _ {D L Q : Type 0} (tells : Tells D L Q) (begun : Begun D L) (s : State (Option (Place D L Q)) (View D L)) (id : ℕ) (v : View D L) (turns : ℕ) (j : JournalState Q) (rule : IsBoard tells begun s) (at : get_elem? s.views id ≡ some v) (live : v.live ≡ true) (journal : v.journal ≡ true) (other : v.number ≢ 0) (few : j.reserved - (reserved_in j.entries + v.others) ≤ 1) (adds : Adds (standing_of tells v turns) j.entries) where
   -- what the pass knows then, and the words, the slots and the views
   abbrev after : View D L
   after = without_turn Journal (place.Journal j) v
@@ -216,6 +218,8 @@ module _ {D L Q : Type 0} (tells : Tells D L Q) (begun : Begun D L) (s : State (
     of_run = λ is. run;
     grows = λ is. record { later = []; grew = refl; quiet = λ t held. is_quiet-none t; others = tt };
     spent = λ is. absurd (cc (is, live));
+    none = λ is. absurd (cc (is, live));
+    one = λ apart. few;
     taken = λ t held. let was = held-before t held in other-taken t was.1 ((rule.views id v at).taken t was.0);
   }
 
@@ -229,6 +233,8 @@ module _ {D L Q : Type 0} (tells : Tells D L Q) (begun : Begun D L) (s : State (
             (others-of x.number (λ same. apart (rule.numbers.apart a id x v there at lives live same)))
             (λ t held. quiet-held a x t apart there held));
         spent = is.spent;
+        none = is.none;
+        one = is.one;
         taken = λ t held. other-taken t (no-journal a x t apart there held) (is.taken t held);
       }
 
@@ -258,7 +264,7 @@ module _ {D L Q : Type 0} (tells : Tells D L Q) (begun : Begun D L) (s : State (
 
   numbers-after : (first : View D L) × AreNumbered j.entries words views first
   numbers-after = numbers-set rule.past j.entries s.words words s.views id v after rule.first at
-      (record { live = refl; number = refl; made = refl; drawn = refl; ended = refl })
+      (record { live = refl; number = refl; made = refl; drawn = refl; ended = refl; passes = refl; before = refl; in_flight = λ first. absurd (other first) })
       (word-first begun s.words Journal 0)
       (λ number seen among. idle-on number seen (λ same. rule.numbers.ended_apart number seen id v among at live (sym same)) (rule.numbers.ended number seen among))
       (λ u there number free. ⊎_elim
@@ -288,28 +294,28 @@ module _ {D L Q : Type 0} (tells : Tells D L Q) (begun : Begun D L) (s : State (
   }
 
 -- A pass may give the journal back with what it added.
-pub gives_journal : {D L Q : Type 0} (tells : Tells D L Q) (begun : Begun D L) (id : ℕ) (v : View D L) (carried : List (ℕ × Option (Place D L Q))) (turns : ℕ) (j : JournalState Q) (slot : ℕ) → slot ≡ slot_of begun Journal → v.live ≡ true → run_of v ≡ begun → v.journal ≡ true →
+pub gives_journal : {D L Q : Type 0} (tells : Tells D L Q) (begun : Begun D L) (id : ℕ) (v : View D L) (carried : List (ℕ × Option (Place D L Q))) (turns : ℕ) (j : JournalState Q) (slot : ℕ) → slot ≡ slot_of begun Journal → v.live ≡ true → run_of v ≡ begun → v.journal ≡ true → v.number ≢ 0 → j.reserved - (reserved_in j.entries + v.others) ≤ 1 →
     Adds (standing_of tells v turns) j.entries → JournalStands tells.posted (without_journal j (standing_of tells v turns)) j →
     Allows (IsBoard tells begun) (slots_of begun) id (v, (slot, Some (place.Journal j)) ∷ carried) (suc slot) (λ _. 0)
     (λ _. GivesTurn journal_at (step (slots_of begun) (suc slot) 0 0 none) (v, (slot, Some (place.Journal j)) ∷ carried) 0)
-gives_journal {D} {L} {Q} tells begun id v carried turns j slot is live run journal adds stands =
+gives_journal {D} {L} {Q} tells begun id v carried turns j slot is live run journal other few adds stands =
     subst (λ (n : ℕ). Allows (IsBoard tells begun) (slots_of begun) id (v, (n, Some (place.Journal j)) ∷ carried) (suc n) (λ _. 0)
     (λ _. GivesTurn journal_at (step (slots_of begun) (suc n) 0 0 none) (v, (n, Some (place.Journal j)) ∷ carried) 0)) (sym is)
     (λ s rule sized at small. (
       without_turn Journal (place.Journal j) v,
       gives,
       tt,
-      kept tells begun s id v turns j rule at live journal adds run stands,
+      kept tells begun s id v turns j rule at live journal other few adds run stands,
       refl,
     ))
 
 -- the same, of a pass whose standing names its board
-pub gives_journal_at : {D L Q : Type 0} (tells : Tells D L Q) (begun : Begun D L) (at : TableId) (id : ℕ) (v : View D L) (carried : List (ℕ × Option (Place D L Q))) (turns : ℕ) (j : JournalState Q) (slot : ℕ) → slot ≡ slot_of begun Journal → v.live ≡ true → run_of v ≡ begun → v.journal ≡ true →
+pub gives_journal_at : {D L Q : Type 0} (tells : Tells D L Q) (begun : Begun D L) (at : TableId) (id : ℕ) (v : View D L) (carried : List (ℕ × Option (Place D L Q))) (turns : ℕ) (j : JournalState Q) (slot : ℕ) → slot ≡ slot_of begun Journal → v.live ≡ true → run_of v ≡ begun → v.journal ≡ true → v.number ≢ 0 → j.reserved - (reserved_in j.entries + v.others) ≤ 1 →
     Adds (standing_at tells at v turns) j.entries → JournalStands tells.posted (without_journal j (standing_at tells at v turns)) j →
     Allows (IsBoard tells begun) (slots_of begun) id (v, (slot, Some (place.Journal j)) ∷ carried) (suc slot) (λ _. 0)
     (λ _. GivesTurn journal_at (step (slots_of begun) (suc slot) 0 0 none) (v, (slot, Some (place.Journal j)) ∷ carried) 0)
-gives_journal_at tells begun at id v carried turns j slot is live run journal adds stands =
-    gives_journal tells begun id v carried turns j slot is live run journal
+gives_journal_at tells begun at id v carried turns j slot is live run journal other few adds stands =
+    gives_journal tells begun id v carried turns j slot is live run journal other few
     (record { added = adds.added; grew = adds.grew; held = adds.held; own = adds.own })
     (record {
       entries_are = stands.entries_are;

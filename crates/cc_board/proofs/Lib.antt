@@ -1,5 +1,6 @@
 -- Lemmas.
 pub mod Views
+pub mod UnderWay
 pub mod Standing
 pub mod Parts
 pub mod Taking

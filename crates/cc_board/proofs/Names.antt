@@ -1,5 +1,5 @@
 -- The name of a board says which it is.
-use Rattle.std.specs.Prelude.{◌≡◌, ℕ, List, drop}
+use Rattle.std.specs.Prelude.{◌≡◌, drop}
 use Rattle.std.proofs.Common.{get_or}
 use Rattle.atomic_table.specs.Seated.{TableId}
 use Rattle.cc_board.specs.View.{name_of}

@@ -1,24 +1,23 @@
 -- A board that was just made keeps its rule.
-use Rattle.std.proofs.Common.{◌≡◌, ◌≢◌, ℕ, zero, suc, ◌+◌, ◌-◌, ◌<◌, ◌≤◌, ◌⊎◌, Bool, true, false, List, [], ◌∷◌, ◌++◌, length, map, replicate, get_or, refl, sym, ap, ◌∙◌, subst, arith, if◌then◌else◌}
+use Rattle.std.proofs.Common.{◌≡◌, ℕ, zero, suc, ◌-◌, ◌<◌, false, List, [], ◌∷◌, map, replicate, get_or, refl, sym, ap, ◌∙◌, subst, arith}
 use mathlib.Core.Option.{some, some-injective, some-ne-none}
 use lib.ListN.{get_elem?}
-use Rattle.std.specs.List.{slice_get, Contains}
-use Rattle.std.specs.declared.option.Option.TheVariants.{Some, None}
+use Rattle.std.specs.List.{slice_get}
+use Rattle.std.specs.declared.option.Option.TheVariants.{Some}
 use Rattle.std.proofs.lemmas.List.{length-replicate, length-map}
 use Rattle.atomic_table.specs.Table.{opening}
 use Rattle.cc_entry.specs.declared.entry.Entry.{Entry}
-use Rattle.cc_effects.specs.Moments.{IsIdle}
 use Rattle.cc_journal.specs.Journal.{JournalState}
 use Rattle.cc_model.specs.Room.{reserved_in}
 use Rattle.cc_model.specs.Turns.{Turn}
-use Rattle.cc_turns.specs.Standing.{holds, nothing}
+use Rattle.cc_turns.specs.Standing.{nothing}
 use Rattle.cc_turns.specs.Desk.{Begun, Tells, DeskState}
 use Rattle.cc_turns.specs.Slots.{HasTurn, slot_of, slots_of, AreInSlots, Fits, under_way_in}
 use Rattle.cc_board.specs.declared.rule.View.{View}
 use Rattle.cc_board.specs.declared.rule.Key.{Key}
-use Rattle.cc_board.specs.View.{run_of, run_in, held_of, first_view}
+use Rattle.cc_board.specs.View.{run_in, first_view}
 use Rattle.cc_board.specs.Plays.{Slot}
-use Rattle.cc_board.specs.Rule.{IsBoard, IsView, IsAtHome, IsHeld, AreNumbered, under_way, word_of}
+use Rattle.cc_board.specs.Rule.{IsBoard, IsView, IsAtHome, AreNumbered, under_way}
 use Rattle.cc_board.proofs.Resting.{none_held}
 use Rattle.cc_board.proofs.Passes.{contains_none}
 
@@ -59,6 +58,8 @@ module _ {D L Q : Type 0} (tells : Tells D L Q) (key : Key D L Q) (turns : ℕ) 
     is_first = refl;
     word = refl;
     few = omega arith;
+    alike = λ id v at lv. let is = (one_there first v id at).1 in (ap (λ (x : View D L). x.passes) (sym is), ap (λ (x : View D L). x.before) (sym is));
+    kept = omega arith;
     apart = λ a b u v at bt lu lv e. (one_there first u a at).0 ∙ sym (one_there first v b bt).0;
     below = λ id v at lv. subst (λ (x : View D L). x.number < 1) (one_there first v id at).1 (omega arith);
     ended = λ number seen has. absurd (contains_none (number, seen) has);
@@ -73,6 +74,8 @@ module _ {D L Q : Type 0} (tells : Tells D L Q) (key : Key D L Q) (turns : ℕ) 
     of_run = λ h. refl;
     grows = λ h. record { later = []; grew = refl; quiet = λ t k. absurd (none_held nothing t refl k); others = tt };
     spent = λ h. refl;
+    none = λ h. absurd (cc);
+    one = λ h. absurd (h refl);
     taken = λ turn h. absurd (none_held nothing turn refl h);
   }
 

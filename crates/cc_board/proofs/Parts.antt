@@ -78,6 +78,8 @@ view-else tells begun past words changed v kept is = record {
   of_run = is.of_run;
   grows = is.grows;
   spent = is.spent;
+  none = is.none;
+  one = is.one;
   taken = λ u held. kept u held (is.taken u held);
 }
 
@@ -121,16 +123,19 @@ reserved-set {D} {L} views id w same knows reserved a v at held = ⊎_elim
 
 -- ---- the numbers of passes
 
--- A view keeps what is true of the numbers of passes.
+-- A view keeps what is true of the numbers of passes; that of pass 0 keeps what it has under way too.
 pub record SameNumber {D L : Type 0} (v w : View D L) : Type 0 where
   pub live : w.live ≡ v.live
   pub number : w.number ≡ v.number
   pub made : w.made ≡ v.made
   pub drawn : w.drawn ≡ v.drawn
   pub ended : w.ended ≡ v.ended
+  pub passes : w.passes ≡ v.passes
+  pub before : w.before ≡ v.before
+  pub in_flight : v.number ≡ 0 → w.in_flight ≡ v.in_flight
 
 same-itself : {D L : Type 0} (v : View D L) → SameNumber v v
-same-itself v = record { live = refl; number = refl; made = refl; drawn = refl; ended = refl }
+same-itself v = record { live = refl; number = refl; made = refl; drawn = refl; ended = refl; passes = refl; before = refl; in_flight = λ first. refl }
 
 -- it gave away as many numbers
 given-same : {D L : Type 0} (v w : View D L) → SameNumber v w → given_numbers w ≡ given_numbers v
@@ -189,7 +194,12 @@ numbers-set {D} {L} past later words changed views id v w first at same word end
         is_live = head.same.live ∙ are.is_live;
         is_first = head.same.number ∙ are.is_first;
         word = word ∙ are.word ∙ sym head.same.made;
-        few = rw head.same.made are.few;
+        few = rw (head.same.made, head.same.passes) are.few;
+        alike = λ a u at_a live.
+            let old = was a u at_a in
+            let is = are.alike a old.before old.there (sym old.same.live ∙ live) in
+            (old.same.passes ∙ is.0 ∙ sym head.same.passes, old.same.before ∙ is.1 ∙ sym head.same.before);
+        kept = rw (head.same.in_flight are.is_first, head.same.before, head.same.ended) are.kept;
         apart = λ a b u x at_a at_b live_u live_x n.
             let old = was a u at_a in let other = was b x at_b in
             are.apart a b old.before other.before old.there other.there (sym old.same.live ∙ live_u) (sym other.same.live ∙ live_x) (sym old.same.number ∙ n ∙ other.same.number);

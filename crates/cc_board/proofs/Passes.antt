@@ -1,26 +1,25 @@
 -- Counting passes, drawing a number, splitting a pass and joining it keep the rule.
-use Rattle.std.proofs.Common.{◌≡◌, ◌≢◌, ℕ, zero, suc, ◌+◌, ◌-◌, ◌<◌, ◌≤◌, ◌⊎◌, Bool, true, false, List, [], ◌∷◌, ◌++◌, length, get_or, set, refl, sym, ap, ◌∙◌, subst, inl, inr, ⊎_elim, arith, length-set, get_or-set_other, get_or-set_same, if◌then◌else◌}
+use Rattle.std.proofs.Common.{◌≡◌, ◌≢◌, ℕ, zero, suc, ◌+◌, ◌-◌, ◌<◌, ◌≤◌, ◌⊎◌, true, false, List, [], ◌∷◌, ◌++◌, length, set, refl, sym, ap, ◌∙◌, subst, inl, inr, ⊎_elim, arith, get_or-set_same, if◌then◌else◌}
 use Rattle.std.proofs.lemmas.List.{set-get_or}
 use mathlib.Core.Option.{none, some, some-injective, some-ne-none}
 use mathlib.Core.Logic.{dite}
 use native.Mathlib.Decide.{ℕ_discrete}
 use lib.ListN.{get_elem?}
 use Rattle.std.specs.List.{Contains}
-use Rattle.atomic_table.specs.Table.{State, Me, Step, step, keeps, stepped, Allows, Splits, Joins}
+use Rattle.atomic_table.specs.Table.{State, Me, step, keeps, Allows, Splits, Joins}
 use Rattle.atomic_table.proofs.Lists.{at_set, set_here, set_else, set_again, at_longer}
 use Rattle.cc_entry.specs.declared.entry.Entry.{Entry}
-use Rattle.cc_effects.specs.Moments.{IsIdle, Others}
-use Rattle.cc_model.specs.Turns.{Turn}
-use Rattle.cc_turns.specs.Standing.{holds, nothing, Held}
+use Rattle.cc_effects.specs.Moments.{IsIdle}
+use Rattle.cc_turns.specs.Standing.{nothing}
 use Rattle.cc_turns.specs.Desk.{Begun, Tells}
-use Rattle.cc_turns.specs.Takes.{Grows}
 use Rattle.cc_board.specs.declared.rule.View.{View}
-use Rattle.cc_board.specs.View.{run_of, held_of, standing_of, with_number, split_left, split_right, joined, spent}
-use Rattle.cc_board.specs.Plays.{Slot, Counted, CountsPasses, LearnsRun, DrawsNumber}
+use Rattle.cc_board.specs.View.{held_of, with_number, split_left, split_right, joined, spent}
+use Rattle.cc_board.specs.Plays.{Slot, CountsPasses, LearnsRun, DrawsNumber}
 use Rattle.cc_board.specs.Board.{IsAtRest}
-use Rattle.cc_board.specs.Rule.{IsBoard, IsView, IsTaken, AreNumbered, under_way, living, total, given_numbers}
-use Rattle.cc_board.proofs.Views.{total-at, total-set, total-snoc, total-two}
-use Rattle.cc_board.proofs.Resting.{SameTurns, SameWords, same_words, first_word, view_still, board_still, none_held}
+use Rattle.cc_board.specs.Rule.{IsBoard, IsView, AreNumbered, living, given_numbers}
+use Rattle.cc_board.proofs.Views.{total-at, total-set, total-snoc}
+use Rattle.cc_board.proofs.UnderWay.{counts, lives}
+use Rattle.cc_board.proofs.Resting.{SameTurns, same_words, first_word, view_still, board_still, none_held}
 
 -- what is in a longer list is its first, or in the rest
 pub contains_rest : {A : Type 0} (x y : A) (xs : List A) → Contains (x ∷ xs) y → (x ≡ y) ⊎ Contains xs y
@@ -51,12 +50,9 @@ given_at_rest v is = rw is refl
 given_drawn : {D L : Type 0} (v : View D L) → v.drawn ≡ true → given_numbers v ≡ v.made - 1
 given_drawn v is = rw is refl
 
--- a pass that was not joined counts once
-abbrev pub counts : {D L : Type 0} → View D L → ℕ
-counts v = if v.live then 1 else 0
-
-pub lives : {D L : Type 0} (v : View D L) → v.live ≡ true → counts v ≡ 1
-lives v is = rw is refl
+-- what each pass knows of the whole board: how many passes there are at most, and what was under way at first
+abbrev limits : {D L : Type 0} → View D L → ℕ × ℕ
+limits v = (v.passes, v.before)
 
 module _ {D L : Type 0} where
   -- the pass whose number is 0 is the first
@@ -65,10 +61,11 @@ module _ {D L : Type 0} where
   first_is past words views first n id v there live zero_is = let at : id ≡ 0 = n.apart id 0 v first there n.there live n.is_live (zero_is ∙ sym n.is_first) in
       (at, some-injective first v (sym n.there ∙ subst (λ (k : ℕ). get_elem? views k ≡ some v) at there))
 
-  -- each pass that was not joined has a pass of its number among the others, at the same place
+  -- each pass that was not joined has a pass of its number among the others, at the same place, which knows the same of
+  -- the whole board
   pub record SameNumbers (views ws : List (View D L)) : Type 0 where
     pub was : (id : ℕ) (u : View D L) → get_elem? ws id ≡ some u → u.live ≡ true
-        → (w : View D L) × (get_elem? views id ≡ some w) × (w.live ≡ true) × (u.number ≡ w.number)
+        → (w : View D L) × (get_elem? views id ≡ some w) × (w.live ≡ true) × (u.number ≡ w.number) × (limits u ≡ limits w)
 
   -- the number of a pass that was not joined is not that of another
   pub apart_still : (past : List Entry) (words : List ℕ) (views ws : List (View D L)) (first : View D L) → AreNumbered past words views first → SameNumbers views ws
@@ -86,19 +83,25 @@ module _ {D L : Type 0} where
       → (number : ℕ) (seen : List Entry) (id : ℕ) (v : View D L) → Contains first.ended (number, seen) → get_elem? ws id ≡ some v → v.live ≡ true → v.number ≢ number
   ended_still past words views ws first n same number seen id v has at lv e = let x = same.was id v at lv in n.ended_apart number seen id x.0 has x.1 x.2 (sym x.3 ∙ e)
 
+  -- and knows what all do of the whole board
+  alike_still : (past : List Entry) (words : List ℕ) (views ws : List (View D L)) (first : View D L) → AreNumbered past words views first → SameNumbers views ws
+      → (id : ℕ) (v : View D L) → get_elem? ws id ≡ some v → v.live ≡ true → (v.passes ≡ first.passes) × (v.before ≡ first.before)
+  alike_still past words views ws first n same id v at lv = let x = same.was id v at lv in let is = n.alike id x.0 x.1 x.2 in
+      (ap (λ (l : ℕ × ℕ). l.0) x.4 ∙ is.0, ap (λ (l : ℕ × ℕ). l.1) x.4 ∙ is.1)
+
   -- a view was changed, but not its number
-  pub one_changed : (views : List (View D L)) (i : ℕ) (v w : View D L) → get_elem? views i ≡ some v → v.live ≡ true → w.number ≡ v.number → SameNumbers views (set views i w)
-  one_changed views i v w there is_live number = record {
+  one_changed : (views : List (View D L)) (i : ℕ) (v w : View D L) → get_elem? views i ≡ some v → v.live ≡ true → w.number ≡ v.number → limits w ≡ limits v → SameNumbers views (set views i w)
+  one_changed views i v w there is_live number knows = record {
     was = λ id u at lu. ⊎_elim
-        (λ h. (v, subst (λ (k : ℕ). get_elem? views k ≡ some v) (sym h.0) there, is_live, ap (λ (x : View D L). x.number) (sym h.1) ∙ number))
-        (λ h. (u, h.1, lu, refl)) (at_set views i id w u at);
+        (λ h. (v, subst (λ (k : ℕ). get_elem? views k ≡ some v) (sym h.0) there, is_live, ap (λ (x : View D L). x.number) (sym h.1) ∙ number, ap (λ (x : View D L). limits x) (sym h.1) ∙ knows))
+        (λ h. (u, h.1, lu, refl, refl)) (at_set views i id w u at);
   }
 
   -- the first pass has drawn a number
-  pub numbers_drawn : (past : List Entry) (words : List ℕ) (views : List (View D L)) (v : View D L) (new : ℕ) → AreNumbered past words views v → v.drawn ≡ false → v.made < 65536
+  pub numbers_drawn : (past : List Entry) (words : List ℕ) (views : List (View D L)) (v : View D L) (new : ℕ) → AreNumbered past words views v → v.drawn ≡ false → v.made ≤ v.passes
       → 0 < length words → new ≡ v.made + 1 → AreNumbered past (set words 0 new) (set views 0 (with_number v)) (with_number v)
   numbers_drawn past words views v new n none_drawn few long is =
-      let same : SameNumbers views (set views 0 (with_number v)) = one_changed views 0 v (with_number v) n.there n.is_live refl in
+      let same : SameNumbers views (set views 0 (with_number v)) = one_changed views 0 v (with_number v) n.there n.is_live refl refl in
       let given : given_numbers v ≡ v.made = given_at_rest v none_drawn in
       let given' : given_numbers (with_number v) ≡ v.made = omega arith in
       record {
@@ -107,6 +110,8 @@ module _ {D L : Type 0} where
         is_first = n.is_first;
         word = get_or-set_same words 0 new 0 long ∙ is;
         few = omega arith;
+        alike = alike_still past words views (set views 0 (with_number v)) v n same;
+        kept = n.kept;
         apart = apart_still past words views (set views 0 (with_number v)) v n same;
         below = λ id u at lu. rw (given' ∙ sym given) (below_still past words views (set views 0 (with_number v)) v n same id u at lu);
         ended = n.ended;
@@ -124,7 +129,7 @@ module _ {D L : Type 0} where
     parts = lefts ++ split_right v ∷ []
 
     left_same : SameNumbers views lefts
-    left_same = one_changed views 0 v (split_left v) n.there n.is_live refl
+    left_same = one_changed views 0 v (split_left v) n.there n.is_live refl refl
 
     given_then : given_numbers v ≡ v.made - 1
     given_then = given_drawn v drawn
@@ -152,6 +157,10 @@ module _ {D L : Type 0} where
         (λ (h : (id ≡ length lefts) × (split_right v ≡ u)). let is : v.made - 1 ≡ u.number = ap (λ (x : View D L). x.number) h.1 in let r = n.ended_below number seen has in let d = given_then in omega arith)
         (at_end lefts (split_right v) u id at)
 
+    split_alike : (id : ℕ) (u : View D L) → get_elem? parts id ≡ some u → u.live ≡ true → (u.passes ≡ v.passes) × (u.before ≡ v.before)
+    split_alike id u at lu = ⊎_elim (λ (h : get_elem? lefts id ≡ some u). alike_still past words views lefts v n left_same id u h lu)
+        (λ (h : (id ≡ length lefts) × (split_right v ≡ u)). (ap (λ (x : View D L). x.passes) (sym h.1), ap (λ (x : View D L). x.before) (sym h.1))) (at_end lefts (split_right v) u id at)
+
     split_counted : living parts + length v.ended ≡ v.made
     split_counted = let a = total-snoc counts lefts (split_right v) in let b = total-set counts views 0 v (split_left v) n.there in let c = n.counted in let d = given_then in
         let one : counts v ≡ 1 = lives v n.is_live in let m = two_made in omega arith
@@ -164,6 +173,8 @@ module _ {D L : Type 0} where
       is_first = n.is_first;
       word = n.word;
       few = n.few;
+      alike = split_alike;
+      kept = n.kept;
       apart = split_apart;
       below = split_below;
       ended = n.ended;
@@ -174,7 +185,7 @@ module _ {D L : Type 0} where
     }
 
   module _ (past : List Entry) (words : List ℕ) (views : List (View D L)) (v w : View D L) (other : ℕ) (n : AreNumbered past words views v) (idle : IsIdle w.number w.seen past)
-      (elsewhere : other ≢ 0) (there : get_elem? views other ≡ some w) (is_live : w.live ≡ true) where
+      (one : w.in_flight ≤ 1) (elsewhere : other ≢ 0) (there : get_elem? views other ≡ some w) (is_live : w.live ≡ true) where
     abbrev both : List (View D L)
     both = set views 0 (joined v w)
 
@@ -186,7 +197,7 @@ module _ {D L : Type 0} where
     still_else id u at lu = ⊎_elim (λ (h : (id ≡ other) × (spent ≡ u)). let dead : false ≡ u.live = ap (λ (x : View D L). x.live) h.1 in absurd (cc)) (λ h. h) (at_set both other id spent u at)
 
     join_same : SameNumbers views after
-    join_same = record { was = λ id u at lu. (one_changed views 0 v (joined v w) n.there n.is_live refl).was id u (still_else id u at lu).1 lu }
+    join_same = record { was = λ id u at lu. (one_changed views 0 v (joined v w) n.there n.is_live refl refl).was id u (still_else id u at lu).1 lu }
 
     join_ended : (number : ℕ) (seen : List Entry) → Contains ((w.number, w.seen) ∷ v.ended) (number, seen) → IsIdle number seen past
     join_ended number seen has = ⊎_elim (λ (e : (w.number, w.seen) ≡ (number, seen)). subst (λ (x : ℕ × List Entry). IsIdle x.0 x.1 past) e idle) (λ h. n.ended number seen h) (contains_rest (w.number, w.seen) (number, seen) v.ended has)
@@ -213,6 +224,8 @@ module _ {D L : Type 0} where
       is_first = n.is_first;
       word = n.word;
       few = n.few;
+      alike = alike_still past words views after v n join_same;
+      kept = let kept = n.kept in omega arith;
       apart = apart_still past words views after v n join_same;
       below = below_still past words views after v n join_same;
       ended = join_ended;
@@ -266,10 +279,6 @@ module _ {D L : Type 0} where
         (rest_changed views i v v' at none_v none_v' id u h);
   }
 
-  -- a pass that was joined is not the first, where none of those that were is
-  pub joined_other : (v w now : View D L) → now ≡ joined v w → ((number : ℕ) (seen : List Entry) → Contains now.ended (number, seen) → number ≢ 0) → w.number ≢ 0
-  joined_other v w now is others = others w.number w.seen (subst (λ (x : View D L). Contains x.ended (w.number, w.seen)) (sym is) (0, omega arith, refl))
-
 module _ {D L Q : Type 0} (tells : Tells D L Q) (begun : Begun D L) where
   abbrev St : Type 0
   St = State (Slot D L Q) (View D L)
@@ -320,7 +329,7 @@ module _ {D L Q : Type 0} (tells : Tells D L Q) (begun : Begun D L) where
   )
 
   -- drawing a number keeps the rule
-  pub draws_number : (slots id new : ℕ) (me : Me (Slot D L Q) V) → IsAtRest me.0 → me.0.number ≡ 0 → me.0.made < 65536 → new ≡ me.0.made + 1
+  pub draws_number : (slots id new : ℕ) (me : Me (Slot D L Q) V) → IsAtRest me.0 → me.0.number ≡ 0 → me.0.made ≤ me.0.passes → new ≡ me.0.made + 1
       → Allows (IsBoard tells begun) slots id me 0 (λ _. new) (λ _. DrawsNumber (step slots 0 new 0 none) me new)
   draws_number slots id new me rest zero_is few is s r counted there small = let m = numbers_of s r id me.0 there rest.is_live zero_is in let v : V = me.0 in (
     with_number v,
@@ -330,14 +339,14 @@ module _ {D L Q : Type 0} (tells : Tells D L Q) (begun : Begun D L) where
         (board_still tells begun s r (set s.words 0 new) (set s.views 0 (with_number v)) (first_word s.words new)
         (same_one s.views 0 v (with_number v) m.1.there rest.held_is rest.held_is refl)
         (views_set r.past (set s.words 0 new) s.views 0 (with_number v) (λ j u at. view_still tells begun u (first_word s.words new) (r.views j u at))
-        (let i = view_still tells begun v (first_word s.words new) (r.views 0 v m.1.there) in record { of_run = i.of_run; grows = i.grows; spent = i.spent; taken = i.taken }))
+        (let i = view_still tells begun v (first_word s.words new) (r.views 0 v m.1.there) in record { of_run = i.of_run; grows = i.grows; spent = i.spent; none = i.none; one = i.one; taken = i.taken }))
         (with_number v) (numbers_drawn r.past s.words s.views v new m.1 rest.none_drawn few (let z = r.sized.0 in omega arith) is)),
     refl,
   )
 
   -- what no pass knows is right
   pub spent_view : (past : List Entry) (words : List ℕ) → IsView tells begun past words spent
-  spent_view past words = record { of_run = λ h. absurd (cc); grows = λ h. absurd (cc); spent = λ h. refl; taken = λ turn h. absurd (none_held nothing turn refl h) }
+  spent_view past words = record { of_run = λ h. absurd (cc); grows = λ h. absurd (cc); spent = λ h. refl; none = λ h. refl; one = λ h. omega arith; taken = λ turn h. absurd (none_held nothing turn refl h) }
 
   -- what pass 0 has seen, a pass of a number that was not given away may know
   right_view : (past : List Entry) (words : List ℕ) (v : V) → IsView tells begun past words v → v.live ≡ true → IsIdle (v.made - 1) v.seen past → IsView tells begun past words (split_right v)
@@ -345,6 +354,8 @@ module _ {D L Q : Type 0} (tells : Tells D L Q) (begun : Begun D L) where
     of_run = i.of_run;
     grows = λ h. record { later = idle.during; grew = idle.grew; quiet = λ t k. absurd (none_held nothing t refl k); others = idle.others };
     spent = λ h. refl;
+    none = λ h. refl;
+    one = λ h. omega arith;
     taken = λ turn h. absurd (none_held nothing turn refl h);
   }
 
@@ -356,7 +367,7 @@ module _ {D L Q : Type 0} (tells : Tells D L Q) (begun : Begun D L) where
       (board_still tells begun s r s.words (lefts ++ split_right v ∷ []) (same_words s.words)
       (same_split s.views 0 v (split_left v) (split_right v) n.there no_turn no_turn refl refl refl)
       (λ j u at. ⊎_elim
-      (λ (h : get_elem? lefts j ≡ some u). views_set r.past s.words s.views 0 (split_left v) r.views record { of_run = i.of_run; grows = i.grows; spent = i.spent; taken = i.taken } j u h)
+      (λ (h : get_elem? lefts j ≡ some u). views_set r.past s.words s.views 0 (split_left v) r.views record { of_run = i.of_run; grows = i.grows; spent = i.spent; none = i.none; one = i.one; taken = i.taken } j u h)
       (λ (h : (j ≡ length lefts) × (split_right v ≡ u)). subst (λ (x : V). IsView tells begun r.past s.words x) h.1
       (right_view r.past s.words v i is_live (n.unmade (v.made - 1) (let e : given_numbers v ≡ v.made - 1 = given_drawn v drawn in omega arith))))
       (at_end lefts (split_right v) u j at))
@@ -369,6 +380,7 @@ module _ {D L Q : Type 0} (tells : Tells D L Q) (begun : Begun D L) where
       let apart : other ≢ 0 = λ e. elsewhere (e ∙ sym m.0) in
       let at : get_elem? s.views other ≡ some w = sym (set_else s.views id other (joined v w) elsewhere) ∙ other_there in
       let g = (r.views other w at).grows other_rest.is_live in let f = i.grows rest.is_live in
+      let one = (r.views other w at).one (λ e. apart (numbers_of s r other w at other_rest.is_live e).0) in
       subst (λ (k : ℕ). IsBoard tells begun record { words = s.words; homes = s.homes; views = set (set s.views k (joined v w)) other spent }) (sym m.0)
       (board_still tells begun s r s.words (set (set s.views 0 (joined v w)) other spent) (same_words s.words)
       (same_two s.views 0 other v w (joined v w) spent apart n.there at rest.held_is other_rest.held_is rest.held_is refl (omega arith))
@@ -377,7 +389,9 @@ module _ {D L Q : Type 0} (tells : Tells D L Q) (begun : Begun D L) where
         of_run = i.of_run;
         grows = λ h. record { later = f.later; grew = f.grew; quiet = f.quiet; others = f.others };
         spent = i.spent;
+        none = λ h. absurd (cc (h, rest.is_live));
+        one = λ other_than. absurd (other_than zero_is);
         taken = i.taken;
       })
       (spent_view r.past s.words))
-      (joined v w) (numbers_joined r.past s.words s.views v w other n record { during = g.later; grew = g.grew; others = g.others } apart at other_rest.is_live))
+      (joined v w) (numbers_joined r.past s.words s.views v w other n record { during = g.later; grew = g.grew; others = g.others } one apart at other_rest.is_live))

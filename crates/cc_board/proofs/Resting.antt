@@ -1,16 +1,16 @@
 -- A step that changes views only of passes that hold no turn leaves what the rule says of turns.
-use Rattle.std.proofs.Common.{◌≡◌, ◌≢◌, ℕ, zero, suc, ◌+◌, ◌-◌, ◌<◌, ◌≤◌, ◌⊎◌, Bool, true, false, List, [], ◌∷◌, ◌++◌, length, get_or, set, refl, sym, ap, ◌∙◌, subst, inl, inr, ⊎_elim, arith, length-set, get_or-set_other}
-use mathlib.Core.Option.{some, some-injective, some-ne-none}
+use Rattle.std.proofs.Common.{◌≡◌, ◌≢◌, ℕ, suc, ◌+◌, ◌⊎◌, true, List, length, get_or, set, refl, sym, ◌∙◌, subst, ⊎_elim, arith, length-set, get_or-set_other}
+use mathlib.Core.Option.{some}
 use lib.ListN.{get_elem?}
 use Rattle.cc_entry.specs.declared.entry.Entry.{Entry}
 use Rattle.cc_model.specs.Turns.{Turn, Device, Book, Log, Journal}
 use Rattle.cc_turns.specs.Standing.{holds, nothing, Held}
 use Rattle.cc_turns.specs.Desk.{Begun, Tells}
-use Rattle.cc_turns.specs.Slots.{HasTurn, slot_of, slots_of, Fits}
+use Rattle.cc_turns.specs.Slots.{HasTurn, slot_of, Fits}
 use Rattle.cc_board.specs.Plays.{Slot}
 use Rattle.atomic_table.specs.Table.{State}
 use Rattle.cc_board.specs.declared.rule.View.{View}
-use Rattle.cc_board.specs.View.{run_of, held_of, standing_of}
+use Rattle.cc_board.specs.View.{held_of}
 use Rattle.cc_board.specs.Rule.{IsBoard, IsView, IsTaken, IsHeld, IsAtHome, AreNumbered, under_way, word_of}
 
 -- nothing is held where no turn is
@@ -49,7 +49,7 @@ module _ {D L Q : Type 0} (tells : Tells D L Q) (begun : Begun D L) where
   taken_still same turn t = record { known = t.known; word = same.same (slot_of begun turn) ∙ t.word }
 
   pub view_still : {past : List Entry} {words others : List ℕ} (v : View D L) → SameWords words others → IsView tells begun past words v → IsView tells begun past others v
-  view_still v same i = record { of_run = i.of_run; grows = i.grows; spent = i.spent; taken = λ turn h. taken_still same turn (i.taken turn h) }
+  view_still v same i = record { of_run = i.of_run; grows = i.grows; spent = i.spent; none = i.none; one = i.one; taken = λ turn h. taken_still same turn (i.taken turn h) }
 
   module _ (s : Table) (r : IsBoard tells begun s) (words : List ℕ) (views : List (View D L)) (same_word : SameWords s.words words) (same : SameTurns s.views views) where
     home_still : (turn : Turn) → HasTurn begun turn → get_or words (word_of begun turn) 0 ≡ 0 → IsAtHome tells begun r.past (under_way views) s.homes turn

@@ -1,5 +1,5 @@
 -- The step that takes a turn keeps the rule, and tells what was taken.
-use Rattle.std.specs.Prelude.{◌≡◌, ◌≢◌, ◌⊎◌, ℕ, suc, ◌+◌, ◌-◌, ◌==◌, Bool, true, false, List, [], ◌∷◌, length, slice_index, slice_set, refl}
+use Rattle.std.specs.Prelude.{◌≡◌, ◌≢◌, ◌⊎◌, ℕ, suc, ◌+◌, ◌-◌, ◌≤◌, ◌==◌, Bool, true, false, List, [], ◌∷◌, length, slice_index, slice_set, refl}
 use Rattle.std.specs.declared.option.Option.TheVariants.{Some, None}
 use Rattle.std.specs.Bool.{MatchBool}
 use Rattle.std.proofs.Common.{sym, ap, ◌∙◌, subst, inl, inr, ⊎_elim, arith, length-set}
@@ -21,7 +21,9 @@ use Rattle.cc_turns.specs.Slots.{slot_of, slots_of, HasTurn, Fits}
 use Rattle.cc_board.specs.declared.rule.View.{View}
 use Rattle.cc_board.specs.View.{run_of, held_of, with_turn}
 use Rattle.cc_board.specs.Plays.{Slot, Took, TakesTurn}
+use Rattle.cc_board.specs.Board.{IsWithin}
 use Rattle.cc_board.specs.Rule.{under_way, word_of, IsAtHome, IsTaken, IsHeld, IsView, AreNumbered, IsBoard}
+use Rattle.cc_board.proofs.UnderWay.{under_way_most}
 use Rattle.cc_board.proofs.Standing.{slot-apart}
 use Rattle.cc_board.proofs.Parts.{set-there, word-here, word-else, word-first, home-else, held-kept, view-else, apart-set, under_way-kept, under_way-at, reserved-set, SameNumber, numbers-kept}
 
@@ -68,10 +70,10 @@ with-old Journal v other lacks held = held
 
 -- it is of the same number and run, and has as much under way
 same-taken : {D L : Type 0} (t : Turn) (past : List Entry) (n : ℕ) (v : View D L) → SameNumber v (taken_view t past n v)
-same-taken (Device s) past n v = record { live = refl; number = refl; made = refl; drawn = refl; ended = refl }
-same-taken (Book s) past n v = record { live = refl; number = refl; made = refl; drawn = refl; ended = refl }
-same-taken (Log h) past n v = record { live = refl; number = refl; made = refl; drawn = refl; ended = refl }
-same-taken Journal past n v = record { live = refl; number = refl; made = refl; drawn = refl; ended = refl }
+same-taken (Device s) past n v = record { live = refl; number = refl; made = refl; drawn = refl; ended = refl; passes = refl; before = refl; in_flight = λ first. refl }
+same-taken (Book s) past n v = record { live = refl; number = refl; made = refl; drawn = refl; ended = refl; passes = refl; before = refl; in_flight = λ first. refl }
+same-taken (Log h) past n v = record { live = refl; number = refl; made = refl; drawn = refl; ended = refl; passes = refl; before = refl; in_flight = λ first. refl }
+same-taken Journal past n v = record { live = refl; number = refl; made = refl; drawn = refl; ended = refl; passes = refl; before = refl; in_flight = λ first. refl }
 
 run-taken : {D L : Type 0} (t : Turn) (past : List Entry) (n : ℕ) (v : View D L) → run_of (taken_view t past n v) ≡ run_of v
 run-taken (Device s) past n v = refl
@@ -84,6 +86,17 @@ in_flight-taken (Device s) past n v = refl
 in_flight-taken (Book s) past n v = refl
 in_flight-taken (Log h) past n v = refl
 in_flight-taken Journal past n v = refl
+
+-- a pass that knows what the others have under way at most, still does
+within-taken : {D L : Type 0} (t : Turn) (past : List Entry) (n : ℕ) (v : View D L) → n ≤ v.before + v.passes → IsWithin v → IsWithin (taken_view t past n v)
+within-taken t past n v few within = let same = same-taken t past n v in record {
+  is_other = λ first. within.is_other (sym same.number ∙ first);
+  one = rw (in_flight-taken t past n v) within.one;
+  few = rw (same.before, same.passes) few;
+}
+
+pub within-took : {D L Q : Type 0} (tells : Tells D L Q) (t : Turn) (me now : Me (Slot D L Q) (View D L)) → Took tells t me now → IsWithin me.0 → IsWithin now.0
+within-took {D} {L} tells t me now took within = subst (λ (x : View D L). IsWithin x) (sym took.same) (within-taken t now.0.seen now.0.others me.0 took.few within)
 
 -- ---- a turn that is taken stays taken
 
@@ -147,6 +160,9 @@ module _ {D L Q : Type 0} (tells : Tells D L Q) (t : Turn) (id : ℕ) (v : View 
     of_run = λ lives. run-taken t r.past (under_way s.views - v.in_flight) v;
     grows = λ lives. record { later = []; grew = refl; quiet = λ u held. is_quiet-none u; others = tt };
     spent = λ dead. let lives = (same-taken t r.past (under_way s.views - v.in_flight) v).live in absurd (cc);
+    none = λ dead. let lives = (same-taken t r.past (under_way s.views - v.in_flight) v).live in absurd (cc);
+    one = λ apart. rw (in_flight-taken t r.past (under_way s.views - v.in_flight) v)
+        ((r.views id v at).one (λ is. apart ((same-taken t r.past (under_way s.views - v.in_flight) v).number ∙ is)));
     taken = now-taken;
   }
 
@@ -191,6 +207,13 @@ module _ {D L Q : Type 0} (tells : Tells D L Q) (t : Turn) (id : ℕ) (v : View 
     numbers = numbers.1;
   }
 
+  -- the others have no more under way than was at first, and one for each pass
+  few : under_way s.views - v.in_flight ≤ v.before + v.passes
+  few =
+      let most = under_way_most tells run r.past s.words s.views r.first r.numbers r.views in
+      let alike = r.numbers.alike id v at live in
+      omega arith
+
   -- what the step tells
   took : (c : List (ℕ × Slot D L Q)) → Took tells t (v, c) (now, (slot_of run t, Some (r.home t known free).place) ∷ c)
   took c =
@@ -203,6 +226,7 @@ module _ {D L Q : Type 0} (tells : Tells D L Q) (t : Turn) (id : ℕ) (v : View 
         grows = (r.views id v at).grows live;
         good = r.good;
         fits = subst (λ n. Fits tells run r.past n t (r.home t known free).place) sum (r.home t known free).fits;
+        few = few;
       }
 
 -- ---- the step

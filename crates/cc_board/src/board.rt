@@ -262,7 +262,9 @@ impl<D: Told, L: LogFile, Q: PostRoutine> Board<D, L, Q> {
             number: _,
             device_turns: _,
         } = other;
-        self.table.shared.join_seat::<Parting>(&mut first.seat, seat);
+        self.table
+            .shared
+            .join_seat::<Parting>(&mut first.seat, seat);
         // The count shows how many there are to join at most.
         self.table.shared.load::<CountsPasses>(&mut first.seat, 0);
         first.joined += 1;

@@ -81,6 +81,8 @@ impl<'b, R: Wait, D: Told, L: LogFile, Q: PostRoutine> Seated<'b, R, D, L, Q> {
     pub fn note_others(&self)
         ensures { self.now.knows.others ≤ self.now.knows.before + self.now.knows.passes }
     {
+        // What is true of each pass is known where a field is used.
+        let _ = &self.rt;
     }
 
     /// Gives the pass back.

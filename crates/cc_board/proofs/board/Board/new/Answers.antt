@@ -1,4 +1,4 @@
-use Rattle.std.proofs.Common.{rules, arith, ◌≡◌, ◌+◌, ◌*◌, ℕ, suc, length, refl, ap, sym, ◌∙◌}
+use Rattle.std.proofs.Common.{arith, ◌≡◌, ◌+◌, ◌*◌, ℕ, suc, length, refl, ap, sym, ◌∙◌}
 use Rattle.cc_turns.specs.Desk.{made_from}
 use Rattle.cc_turns.specs.Slots.{slots_of}
 use Rattle.cc_board.specs.View.{run_in}
@@ -9,7 +9,7 @@ use Rattle.cc_board.proofs.board.Board.new.Goals as goal
 pub new-requires : goal.new-requires
 new-requires g c =
     let counted : 2 * c.from.result + c.from-2.result + 1 ≡ slots_of c.args.desk.begun = omega (arith, c.from.ensures, c.from-2.ensures, c.streams-streams.ensures, c.logs-logs.ensures) in
-    opens _ record { begun = c.of.result; journal = c.of-journal.result } c.as_slice.result.now c.in-Ok-take_apart.apart.slots.items (2 * c.from.result + c.from-2.result + 1) c.args.desk
+    opens _ record { begun = c.of.result; journal = c.of-journal.result; passes = c.from-3.result } c.as_slice.result.now c.in-Ok-take_apart.apart.slots.items (2 * c.from.result + c.from-2.result + 1) c.args.desk
     c.in-Ok-take_apart.ensures.slots (ap (λ s. made_from s.value) c.of.ensures ∙ c.begun.ensures ∙ c.in-Ok-take_apart.ensures.run) (c.of-journal.ensures ∙ c.journal.ensures)
     (c.as_slice.ensures.value ∙ c.in-Ok.ensures) counted
 
@@ -35,4 +35,4 @@ returns-clause-err g c =
     let run = c.in-Ok-take_apart.ensures.run in
     let back = c.put_together.ensures.desk _ _ (refused _ c.args.desk.begun c.in-Ok-take_apart.apart.emptied _ _ c.in-Ok-take_apart.apart.slots.items c.in-Err-new.field-0.slots.items
     c.in-Ok-take_apart.ensures.slots run c.in-Err-new.ensures.err) in
-    (back.begun_is ∙ run, back.past_is, back.held_is, refl)
+    (record { run_is = back.begun_is ∙ run; entries_are = back.past_is; under_way_is = back.under_way_is; held_is = back.held_is }, refl)

@@ -13,6 +13,6 @@ give-requires-clause-allowed g c =
     let v = c.self.inside.seat.me.0 in
     let held : v.device ≡ Some c.args.stream = ap (λ s. s.knows.device) c.self.view_is ∙ ap (λ h. h.device) c.requires.held in
     give-allowed (tells_of g.D.Told.told g.D.Told.faults g.L.LogFile.told g.L.LogFile.faults g.Q.PostRoutine.posted) begun device_at (Device c.args.stream) (place.Device c.args.disk) c.from-slot.result 0 c.self.inside.seat.id v (rest c.self.inside.seat.me.1)
-    (c.from-slot.ensures ∙ c.number.ensures.same) c.self.invariant.1 c.self.invariant.3 (c.self.invariant.8.device c.args.stream held) refl (holds-the c.args.stream v.device held)
+    (c.from-slot.ensures ∙ c.number.ensures.same) c.self.invariant.1 c.self.invariant.3 (c.self.invariant.7.device c.args.stream held) refl (holds-the c.args.stream v.device held)
     (fits-device (tells_of g.D.Told.told g.D.Told.faults g.L.LogFile.told g.L.LogFile.faults g.Q.PostRoutine.posted) begun v c.args.self.now.knows c.args.stream c.args.disk (ap (λ s. s.knows) c.self.view_is) c.self.invariant.1 c.requires.stands c.requires.at_rest)
     (device-word begun c.args.stream)

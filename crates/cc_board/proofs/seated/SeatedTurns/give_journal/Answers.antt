@@ -1,4 +1,4 @@
-use Rattle.std.proofs.Common.{rules, length, sym, ap, ◌∙◌}
+use Rattle.std.proofs.Common.{rules, ap, ◌∙◌}
 use Rattle.atomic_table.specs.Table.{Me}
 use Rattle.cc_turns.specs.Desk.{tells_of}
 use Rattle.cc_turns.specs.Takes.{without_journal}
@@ -13,15 +13,14 @@ use Rattle.cc_board.proofs.seated.SeatedTurns.give_journal.Goals as goal
 pub give-requires-clause-allowed : goal.give-requires-clause-allowed
 give-requires-clause-allowed g c = gives_journal_at (tells_of g.D.Told.told g.D.Told.faults g.L.LogFile.told g.L.LogFile.faults g.Q.PostRoutine.posted)
     c.self.inside.board.now.begun c.self.inside.board.now.id c.self.inside.seat.id c.self.inside.seat.me.0 _ c.self.inside.device_turns c.args.journal _
-    (search rules) (search rules) (search rules) (search rules) (search rules) (search rules)
+    (search rules) (search rules) (search rules) (search rules) c.self.invariant.6.is_other (search rules) (search rules) (search rules)
 
 pub invariant_of-self : goal.invariant_of-self
 invariant_of-self g c =
     let is = c.self.view_is in
     let seats = seats-no_journal c.self.inside.board.now.begun c.self.inside.seat.me c.give.new.seat.me (ap (λ m. m.1) c.give.ensures.told) (ap (λ m. held_of m.0) c.give.ensures.told)
-    (ap (λ s. s.knows.journal) is ∙ c.requires.held) c.self.invariant.8 c.self.invariant.2 in
-    let same = ap (λ m. length m.0.ended) c.give.ensures.told in
-    (search rules, search rules, seats.carried_is, search rules, search rules, search rules, c.self.invariant.6 ∙ sym same, search rules, seats.own)
+    (ap (λ s. s.knows.journal) is ∙ c.requires.held) c.self.invariant.7 c.self.invariant.2 in
+    (search rules, search rules, seats.carried_is, search rules, search rules, search rules, search rules, seats.own)
 
 pub returns : goal.returns
 returns g c =

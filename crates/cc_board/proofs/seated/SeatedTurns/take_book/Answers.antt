@@ -3,6 +3,7 @@ use Rattle.cc_model.specs.Turns.{Book}
 use Rattle.cc_turns.specs.Desk.{tells_of}
 use Rattle.cc_turns.specs.Slots.{slot_of}
 use Rattle.cc_board.specs.Plays.{book_at}
+use Rattle.cc_board.proofs.Taking.{within-took}
 use Rattle.cc_board.proofs.Seating.{book-word, take-allowed, took-turn, seats-book}
 use Rattle.cc_board.proofs.seated.SeatedTurns.take_book.Goals as goal
 
@@ -25,6 +26,5 @@ invariant_of-self g c =
     let seats = seats-book begun v c.take.new.seat.me.0 c.args.stream (c.from.result + c.from-2.result) c.self.inside.seat.me.1 c.take.new.seat.me.1 took.same slot
     (subst (λ n. c.args.stream < n) (ap (λ s. length s.knows.disks) (sym is) ∙ ap (λ b. length b.disks) c.self.invariant.1) c.requires.known)
     (ap (λ s. s.knows.journal) is ∙ ap (λ h. h.journal) c.requires.free) (ap (λ s. s.knows.log) is ∙ ap (λ h. h.log) c.requires.free) (ap (λ s. s.knows.book) is ∙ ap (λ h. h.book) c.requires.free)
-    c.self.invariant.8 c.self.invariant.2 c.take.ensures.out in
-    let same = took.same in
-    (search rules, search rules, seats.carried_is, search rules, search rules, search rules, search rules, search rules, seats.own)
+    c.self.invariant.7 c.self.invariant.2 c.take.ensures.out in
+    (search rules, search rules, seats.carried_is, search rules, search rules, search rules, within-took _ _ _ _ took c.self.invariant.6, seats.own)

@@ -5,6 +5,7 @@ use Rattle.cc_turns.specs.Slots.{slot_of}
 use Rattle.cc_turns.specs.Takes.{Takes, with_journal}
 use Rattle.cc_board.specs.View.{standing_at}
 use Rattle.cc_board.specs.Plays.{journal_at}
+use Rattle.cc_board.proofs.Taking.{within-took}
 use Rattle.cc_board.proofs.Seating.{take-allowed, took-turn, seats-journal, takes-journal}
 use Rattle.cc_board.proofs.seated.SeatedTurns.take_journal.Goals as goal
 
@@ -22,9 +23,8 @@ invariant_of-self g c =
     let took = took-turn (tells_of g.D.Told.told g.D.Told.faults g.L.LogFile.told g.L.LogFile.faults g.Q.PostRoutine.posted) journal_at begun Journal (2 * c.from.result + c.from-2.result) c.self.inside.seat.me
     (c.take.new.seat.me.0, (2 * c.from.result + c.from-2.result, c.take.result) ∷ c.self.inside.seat.me.1) c.self.invariant.1 slot refl c.take.ensures.told in
     let seats = seats-journal begun v c.take.new.seat.me.0 (2 * c.from.result + c.from-2.result) c.self.inside.seat.me.1 c.take.new.seat.me.1 took.same slot
-    (ap (λ s. s.knows.journal) is ∙ c.requires.free) c.self.invariant.8 c.self.invariant.2 c.take.ensures.out in
-    let same = took.same in
-    (search rules, search rules, seats.carried_is, search rules, search rules, search rules, search rules, search rules, seats.own)
+    (ap (λ s. s.knows.journal) is ∙ c.requires.free) c.self.invariant.7 c.self.invariant.2 c.take.ensures.out in
+    (search rules, search rules, seats.carried_is, search rules, search rules, search rules, within-took _ _ _ _ took c.self.invariant.6, seats.own)
 
 pub returns-clause-took : goal.returns-clause-took
 returns-clause-took g c =

@@ -3,6 +3,7 @@ use Rattle.cc_model.specs.Turns.{Log}
 use Rattle.cc_turns.specs.Desk.{tells_of}
 use Rattle.cc_turns.specs.Slots.{slot_of}
 use Rattle.cc_board.specs.Plays.{log_at}
+use Rattle.cc_board.proofs.Taking.{within-took}
 use Rattle.cc_board.proofs.Seating.{log-word, take-allowed, took-turn, seats-log}
 use Rattle.cc_board.proofs.seated.SeatedTurns.take_log.Goals as goal
 
@@ -25,6 +26,5 @@ invariant_of-self g c =
     let seats = seats-log begun v c.take.new.seat.me.0 c.args.handle (2 * c.from.result + c.from-2.result) c.self.inside.seat.me.1 c.take.new.seat.me.1 took.same slot
     (subst (λ n. c.args.handle < n) (ap (λ s. length s.knows.logs) (sym is) ∙ ap (λ b. length b.logs) c.self.invariant.1) c.requires.known)
     (ap (λ s. s.knows.journal) is ∙ c.requires.no_journal) (ap (λ s. s.knows.log) is ∙ c.requires.no_log)
-    c.self.invariant.8 c.self.invariant.2 c.take.ensures.out in
-    let same = took.same in
-    (search rules, search rules, seats.carried_is, search rules, search rules, search rules, search rules, search rules, seats.own)
+    c.self.invariant.7 c.self.invariant.2 c.take.ensures.out in
+    (search rules, search rules, seats.carried_is, search rules, search rules, search rules, within-took _ _ _ _ took c.self.invariant.6, seats.own)
