@@ -31,7 +31,7 @@ fn log(alloc: Global) -> MemLog {
 }
 
 /// A desk of one disk and four logs.
-fn desk(alloc: Global) -> Result<Desk<MemDisk, MemLog, Routine>, Fail>
+pub(crate) fn desk(alloc: Global) -> Result<Desk<MemDisk, MemLog, Routine>, Fail>
     ensures { IfOk result (λ desk. IsFresh desk.begun desk × (length desk.begun.disks ≡ 1)) }
 {
     let setup = Setup {

@@ -11,6 +11,8 @@ mod ahead;
 #[cfg(test)]
 mod bcb;
 #[cfg(test)]
+mod board;
+#[cfg(test)]
 mod desk;
 #[cfg(test)]
 mod devices;
