@@ -1,5 +1,5 @@
 -- What the two calls on a log leave, of the journal and of the pass.
-use Rattle.std.specs.Prelude.{◌≡◌, ℕ, suc, ◌+◌, ◌-◌, ◌^◌, ◌<◌, ◌≤◌, false, true, List, [], ◌∷◌, ◌++◌, Result, Ok, Err, OnOk, OnErr, IsErrOf, ◌↔◌, refl}
+use Rattle.std.specs.Prelude.{◌≡◌, ℕ, suc, ◌+◌, ◌^◌, ◌<◌, ◌≤◌, false, true, List, [], ◌∷◌, ◌++◌, Result, Ok, Err, OnOk, OnErr, IsErrOf, ◌↔◌, refl}
 use Rattle.std.specs.Result.{IsErrAnd}
 use Rattle.std.proofs.Common.{ap, sym, ◌∙◌, subst, arith, inl, inr, ⊎_elim}
 use Rattle.std.proofs.lemmas.Bool.{eq-eqb}
@@ -213,7 +213,7 @@ module _ (w v : Standing) (handle : ℕ) (e : CcError) (can : CanLog w) (grows :
 
 -- One that got its place ends as it went on from there.
 module _ (w v x : Standing) (handle : ℕ) (can : CanLog w) (grows : Grows w v.seen) (place : PlaceLeft handle (Ok tt) w v)
-    (went : WentWith (v.in_flight - 1) v x) where
+    (went : WentWith 0 v x) where
   number : v.number ≡ w.number
   number = ap (λ y. y.number) place.1.same
 
@@ -221,12 +221,7 @@ module _ (w v x : Standing) (handle : ℕ) (can : CanLog w) (grows : Grows w v.s
   setup = ap (λ y. y.setup) place.1.same
 
   went-whole : WentWith w.in_flight w x
-  went-whole =
-      subst (λ (n : ℕ). WentWith n w x) (one-less v.in_flight w.in_flight (ap (λ y. y.in_flight) place.1.same))
-      (went-then (suc w.in_flight) (v.in_flight - 1) w v x place.1 went)
-    where
-      one-less : (n m : ℕ) → n ≡ suc m → n - 1 ≡ m
-      one-less n m is = omega (arith, is)
+  went-whole = subst (λ (n : ℕ). WentWith n w x) (sym can.none) (went-then (suc w.in_flight) 0 w v x place.1 went)
 
   settled-there : owes_store x.seen w.number ≡ false → IsSettled x
   settled-there none = rw (ap (λ y. y.number) went-whole.same) none

@@ -1,6 +1,6 @@
 //! The calls on a log: its own routines, which the cache calls for a file system.
 
-ghost use Rattle.std.specs.Prelude.{◌≡◌, ◌-◌, ◌<◌, false, None, Some};
+ghost use Rattle.std.specs.Prelude.{◌≡◌, ◌<◌, false, None, Some};
 ghost use Rattle.cc_effects.specs.LogCalls.{AppendLeft, LogFlushLeft};
 ghost use Rattle.cc_turns.specs.Log.{LogStands};
 ghost use Rattle.cc_turns.specs.Takes.{Grows};
@@ -53,6 +53,7 @@ pub fn log_flush<T: Turns>(turns: &mut T, handle: u8, lsn: Lsn) -> Result<(), Cc
 // Reserves a place for the entry of a log, which there has to be.
 fn reserve_for<T: Turns>(turns: &mut T, handle: u8) -> Result<(), CcError>
     requires away { (T.standing turns.old).held.journal ≡ false }
+    requires none { (T.standing turns.old).in_flight ≡ 0 }
     ensures grows { Grows (T.standing turns.old) (T.standing turns.new).seen }
     ensures left { PlaceLeft handle result (T.standing turns.old) (T.standing turns.new) }
     ensures full { IsFull 1 (T.standing turns.new) result }
@@ -70,6 +71,7 @@ fn reserve_for<T: Turns>(turns: &mut T, handle: u8) -> Result<(), CcError>
 // Reserves a place for one entry.
 fn reserve<T: Turns>(turns: &mut T) -> Result<(), CcError>
     requires away { (T.standing turns.old).held.journal ≡ false }
+    requires none { (T.standing turns.old).in_flight ≡ 0 }
     ensures grows { Grows (T.standing turns.old) (T.standing turns.new).seen }
     ensures left { RoomLeft result (T.standing turns.old) (T.standing turns.new) }
     ensures full { IsFull 1 (T.standing turns.new) result }

@@ -1,6 +1,6 @@
 //! The page steps of a round: a page is brought in, or one is written that is in the way.
 
-ghost use Rattle.std.specs.Prelude.{◌≡◌, ◌-◌, ◌<◌, true, List, OnOk, Some, Err};
+ghost use Rattle.std.specs.Prelude.{◌≡◌, ◌<◌, true, List, OnOk, Some, Err};
 ghost use Rattle.std.specs.Option.{option_map};
 ghost use Rattle.cc_entry.specs.declared.entry.Entry.{Entry};
 ghost use Rattle.cc_traits.specs.Stop.{OnFailed};
@@ -35,6 +35,7 @@ pub(crate) fn make_way<T: Turns>(
 ) -> (Book, Result<Call, CcError>)
     requires known { book.stream < (T.standing turns.old).streams }
     requires both { HasBoth T.Disk.told T.Disk.faults (T.standing turns.old) book.stream book disk.old }
+    requires none { (T.standing turns.old).in_flight ≡ 0 }
     requires one { asks_one call ≡ true }
     requires brings { brings_in call ≡ true }
     requires filed { IsOf call book.stream }
@@ -251,6 +252,7 @@ fn fail<T: Turns>(
 ) -> (Book, Result<Call, CcError>)
     requires book { HasBook (T.standing turns.old) book.stream book }
     requires rest { IsAtRest (T.standing turns.old) book.stream }
+    requires none { (T.standing turns.old).in_flight ≡ 0 }
     requires one { asks_one call ≡ true }
     requires brings { brings_in call ≡ true }
     requires filed { IsOf call book.stream }

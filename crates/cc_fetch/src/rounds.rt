@@ -68,6 +68,7 @@ fn until_ended<T: Turns>(
 ) -> (Book, Result<usize, CcError>)
     requires known { book.stream < (T.standing turns.old).streams }
     requires both { HasBoth T.Disk.told T.Disk.faults (T.standing turns.old) book.stream book disk.old }
+    requires none { (T.standing turns.old).in_flight ≡ 0 }
     requires one { asks_one call ≡ true }
     requires brings { brings_in call ≡ true }
     requires filed { IsOf call book.stream }
@@ -104,6 +105,7 @@ fn round<T: Turns>(
 ) -> (Book, Course)
     requires known { book.stream < (T.standing turns.old).streams }
     requires both { HasBoth T.Disk.told T.Disk.faults (T.standing turns.old) book.stream book disk.old }
+    requires none { (T.standing turns.old).in_flight ≡ 0 }
     requires one { asks_one call ≡ true }
     requires brings { brings_in call ≡ true }
     requires filed { IsOf call book.stream }

@@ -47,26 +47,26 @@ history-held w s seen book device grows =
     ∙ history-quiet grows.later w.seen s (grows.quiet (Book s) (is-held s w.held.book book)) (grows.quiet (Device s) (is-held s w.held.device device))
 
 module _ {Q : Type 0} (posted : Q → Bool) (w v : Standing) (b c : BookState) (j k : JournalState Q)
-    (has : HasBook w b.stream b) (vis : Visiting posted w v b.stream b j) (rest : IsAtRest w b.stream) (some : 0 < w.in_flight) where
+    (has : HasBook w b.stream b) (vis : Visiting posted w v b.stream b j) (rest : IsAtRest w b.stream) (reserved : w.in_flight ≡ 1) where
   -- there is a place to give back, or to use
   pub has-place : 0 < j.reserved
-  has-place = count j.reserved (reserved_in j.entries) w.in_flight v.others vis.reserved_is some
+  has-place = count j.reserved (reserved_in j.entries) w.in_flight v.others vis.reserved_is reserved
     where
-      count : (was owed flight others : ℕ) → was ≡ owed + flight + others → 0 < flight → 0 < was
-      count was owed flight others is more = omega (arith, is, more)
+      count : (was owed flight others : ℕ) → was ≡ owed + flight + others → flight ≡ 1 → 0 < was
+      count was owed flight others is one = omega (arith, is, one)
 
-  fewer : k.reserved ≡ j.reserved - 1 → k.reserved + w.in_flight ≡ j.reserved + (w.in_flight - 1)
-  fewer less = count k.reserved j.reserved w.in_flight less has-place some
+  fewer : k.reserved ≡ j.reserved - 1 → k.reserved + w.in_flight ≡ j.reserved + 0
+  fewer less = count k.reserved j.reserved w.in_flight less has-place reserved
     where
-      count : (now was flight : ℕ) → now ≡ was - 1 → 0 < was → 0 < flight → now + flight ≡ was + (flight - 1)
+      count : (now was flight : ℕ) → now ≡ was - 1 → 0 < was → flight ≡ 1 → now + flight ≡ was + 0
       count now was flight is a f = omega (arith, is, a, f)
 
   -- it was given back
-  pub visited-back : GivesBack j k → StandUnder w.setup c k → c.stream ≡ b.stream → Visited posted w v b.stream (w.in_flight - 1) c k
+  pub visited-back : GivesBack j k → StandUnder w.setup c k → c.stream ≡ b.stream → Visited posted w v b.stream 0 c k
   visited-back back stand stream =
       let less = ap (λ (x : JournalState Q). x.reserved) back in
-      visited posted w v b.stream (w.in_flight - 1) [] b c j k has vis
-      (stepping-none posted w v b c j k has vis (w.in_flight - 1) (back ∙ ap (λ (n : ℕ). record j { reserved = n }) (sym less)) stand stream (fewer less))
+      visited posted w v b.stream 0 [] b c j k has vis
+      (stepping-none posted w v b c j k has vis 0 (back ∙ ap (λ (n : ℕ). record j { reserved = n }) (sym less)) stand stream (fewer less))
 
   pub stand-back : GivesBack j k → c ≡ b → StandUnder w.setup c k
   stand-back back same = subst (λ (x : BookState). StandUnder w.setup x k) (sym same) (subst (λ (x : JournalState Q). StandUnder w.setup b x) (sym back) stand)
@@ -78,18 +78,18 @@ module _ {Q : Type 0} (posted : Q → Bool) (w v : Standing) (b c : BookState) (
   gains-kept : (e : Entry) → Gains e j k → k ≡ record j { entries = e ∷ j.entries; reserved = k.reserved; rows = k.rows }
   gains-kept e gains = gains ∙ ap (λ (n : ℕ). record j { entries = e ∷ j.entries; reserved = n; rows = k.rows }) (sym (ap (λ (x : JournalState Q). x.reserved) gains))
 
-  pub visited-in : (page : ℕ) → Gains (page_in w.number (page_of b page) b) j k → StandUnder w.setup c k → c.stream ≡ b.stream → Visited posted w v b.stream (w.in_flight - 1) c k
+  pub visited-in : (page : ℕ) → Gains (page_in w.number (page_of b page) b) j k → StandUnder w.setup c k → c.stream ≡ b.stream → Visited posted w v b.stream 0 c k
   visited-in page gains stand stream =
-      visited posted w v b.stream (w.in_flight - 1) (page_in w.number (page_of b page) b ∷ []) b c j k has vis
-      (stepping-one posted w v b c j k has vis (w.in_flight - 1) (page_in w.number (page_of b page) b) (gains-kept (page_in w.number (page_of b page) b) gains) stand stream
+      visited posted w v b.stream 0 (page_in w.number (page_of b page) b ∷ []) b c j k has vis
+      (stepping-one posted w v b c j k has vis 0 (page_in w.number (page_of b page) b) (gains-kept (page_in w.number (page_of b page) b) gains) stand stream
       (eq-eqb w.number w.number refl) (unneeded-page w.held b.stream (has-book posted w v b c j k has vis) rest.device)
       (reserved-page_in w.number (page_of b page) _ j.entries) (settled-other w.number (page_in w.number (page_of b page) b) j.entries refl vis.settled)
       (fewer (ap (λ (x : JournalState Q). x.reserved) gains)))
 
-  pub visited-unread : (page : ℕ) → Gains (entry.FillFailed w.number (page_of b page)) j k → StandUnder w.setup c k → c.stream ≡ b.stream → Visited posted w v b.stream (w.in_flight - 1) c k
+  pub visited-unread : (page : ℕ) → Gains (entry.FillFailed w.number (page_of b page)) j k → StandUnder w.setup c k → c.stream ≡ b.stream → Visited posted w v b.stream 0 c k
   visited-unread page gains stand stream =
-      visited posted w v b.stream (w.in_flight - 1) (entry.FillFailed w.number (page_of b page) ∷ []) b c j k has vis
-      (stepping-one posted w v b c j k has vis (w.in_flight - 1) (entry.FillFailed w.number (page_of b page)) (gains-kept (entry.FillFailed w.number (page_of b page)) gains) stand stream
+      visited posted w v b.stream 0 (entry.FillFailed w.number (page_of b page) ∷ []) b c j k has vis
+      (stepping-one posted w v b c j k has vis 0 (entry.FillFailed w.number (page_of b page)) (gains-kept (entry.FillFailed w.number (page_of b page)) gains) stand stream
       (eq-eqb w.number w.number refl) (unneeded-device w.held b.stream (has-book posted w v b c j k has vis) rest.device)
       (reserved-fill_failed w.number (page_of b page) j.entries) (settled-other w.number (entry.FillFailed w.number (page_of b page)) j.entries refl vis.settled)
       (fewer (ap (λ (x : JournalState Q). x.reserved) gains)))
@@ -97,7 +97,7 @@ module _ {Q : Type 0} (posted : Q → Bool) (w v : Standing) (b c : BookState) (
 -- A page for a call.
 module _ {Q : Type 0} (posted : Q → Bool) (w v : Standing) (it : Call) (b c : BookState) (j k : JournalState Q)
     (has : HasBook w b.stream b) (vis : Visiting posted w v b.stream b j) (one : asks_one it ≡ true) (filed : IsOf it b.stream)
-    (rest : IsAtRest w b.stream) (some : 0 < w.in_flight) (page : ℕ) where
+    (rest : IsAtRest w b.stream) (reserved : w.in_flight ≡ 1) (page : ℕ) where
   -- what was read of it is what its disk has of it, still
   pub still-read : (raw : Option (List ℕ)) → WasReadFor w b.stream page raw → IsRead w.setup j.entries b.stream page raw
   still-read None read = tt
@@ -114,11 +114,11 @@ module _ {Q : Type 0} (posted : Q → Bool) (w v : Standing) (it : Call) (b c : 
   pub landed : (pass : ℕ) (raw : Option (List ℕ)) (answer : Result (Unit {0}) NoMemory) → pass ≡ v.number → WasReadFor w b.stream page raw → ((u : Setup) → MayLand u pass it page raw b j → LandLeft u pass it page answer b c j k) → LandLeft w.setup w.number it page answer b c j k
   landed pass raw answer me read left = subst (λ (n : ℕ). LandLeft w.setup n it page answer b c j k) (number-is posted w v it b c j k has vis one filed pass me) (left w.setup (land-as pass raw me read))
 
-  pub visited-land : (answer : Result (Unit {0}) NoMemory) → LandLeft w.setup w.number it page answer b c j k → Visited posted w v b.stream (w.in_flight - 1) c k
-  visited-land (Ok done) (inl came) = visited-in posted w v b c j k has vis rest some page came.placed came.stand came.stream
+  pub visited-land : (answer : Result (Unit {0}) NoMemory) → LandLeft w.setup w.number it page answer b c j k → Visited posted w v b.stream 0 c k
+  visited-land (Ok done) (inl came) = visited-in posted w v b c j k has vis rest reserved page came.placed came.stand came.stream
   visited-land (Ok done) (inr none) =
-      visited-back posted w v b c j k has vis rest some none.given_back (stand-back posted w v b c j k has vis rest some none.given_back none.same) (ap (λ (x : BookState). x.stream) none.same)
-  visited-land (Err e) none = visited-back posted w v b c j k has vis rest some none.given_back none.stand none.stream
+      visited-back posted w v b c j k has vis rest reserved none.given_back (stand-back posted w v b c j k has vis rest reserved none.given_back none.same) (ap (λ (x : BookState). x.stream) none.same)
+  visited-land (Err e) none = visited-back posted w v b c j k has vis rest reserved none.given_back none.stand none.stream
 
   pub disk-land : (answer : Result (Unit {0}) NoMemory) → LandLeft w.setup w.number it page answer b c j k → SameDisk w.seen k.entries b.stream
   disk-land (Ok done) (inl came) =
@@ -138,13 +138,13 @@ module _ {Q : Type 0} (posted : Q → Bool) (w v : Standing) (it : Call) (b c : 
 
 -- A page that the disk failed to read.
 module _ {Q : Type 0} (posted : Q → Bool) (w v : Standing) (b : BookState) (j k : JournalState Q)
-    (has : HasBook w b.stream b) (vis : Visiting posted w v b.stream b j) (rest : IsAtRest w b.stream) (some : 0 < w.in_flight) (page : ℕ) where
+    (has : HasBook w b.stream b) (vis : Visiting posted w v b.stream b j) (rest : IsAtRest w b.stream) (reserved : w.in_flight ≡ 1) (page : ℕ) where
   pub unread : (pass : ℕ) (answer : Bool) → pass ≡ v.number → ((u : Setup) → StandUnder u b j → UnreadTold u pass page answer b j k) → UnreadTold w.setup w.number page answer b j k
   unread pass answer me left = subst (λ (n : ℕ). UnreadTold w.setup n page answer b j k) (me ∙ vis.number_is) (left w.setup vis.stand)
 
-  pub visited-told : (answer : Bool) → UnreadTold w.setup w.number page answer b j k → Visited posted w v b.stream (w.in_flight - 1) b k
-  visited-told true told = visited-unread posted w v b b j k has vis rest some page told.placed told.stand refl
-  visited-told false back = visited-back posted w v b b j k has vis rest some back (stand-back posted w v b b j k has vis rest some back refl) refl
+  pub visited-told : (answer : Bool) → UnreadTold w.setup w.number page answer b j k → Visited posted w v b.stream 0 b k
+  visited-told true told = visited-unread posted w v b b j k has vis rest reserved page told.placed told.stand refl
+  visited-told false back = visited-back posted w v b b j k has vis rest reserved back (stand-back posted w v b b j k has vis rest reserved back refl) refl
 
   pub rest-told : (answer : Bool) → UnreadTold w.setup w.number page answer b j k → IsAtRest (without_journal k v) b.stream
   rest-told answer told = record {

@@ -1,5 +1,5 @@
 -- One step of a call that may bring pages in, in a visit with the stream's disk in hand.
-use Rattle.std.specs.Prelude.{◌≡◌, ℕ, suc, ◌+◌, Bool, true, List, [], ◌∷◌, Some, refl}
+use Rattle.std.specs.Prelude.{◌≡◌, ℕ, suc, ◌+◌, ◌≤◌, Bool, true, List, [], ◌∷◌, Some, refl}
 use Rattle.std.proofs.Common.{ap, sym, ◌∙◌, subst, arith}
 use Rattle.std.proofs.lemmas.Bool.{eq-eqb}
 use Rattle.cc_entry.specs.declared.call.Call.{Call}
@@ -56,6 +56,11 @@ module _ {Q : Type 0} (posted : Q → Bool) (w v : Standing) (it : Call) (b c : 
   abbrev pub flight_after : Next → ℕ
   flight_after (next.Reads page again) = suc w.in_flight
   flight_after other = w.in_flight
+
+  -- at most the one for which a place is reserved
+  pub few-after : w.in_flight ≡ 0 → (ended : Next) → flight_after ended ≤ 1
+  few-after none (next.Reads page again) = omega (arith, none)
+  few-after none other = omega (arith, none)
 
   visited-out : (again : Call) → MadeWay w.setup w.number it again b c j k → Visited posted w v b.stream w.in_flight c k
   visited-out again left =

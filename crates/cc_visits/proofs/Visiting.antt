@@ -1,5 +1,5 @@
 -- One visit to the journal, with a book in hand: what the pass knows in it, and what it gives.
-use Rattle.std.specs.Prelude.{◌≡◌, ℕ, ◌+◌, ◌-◌, Bool, true, false, List, [], ◌∷◌, ◌++◌, Some, refl}
+use Rattle.std.specs.Prelude.{◌≡◌, ℕ, ◌+◌, ◌-◌, ◌≤◌, Bool, true, false, List, [], ◌∷◌, ◌++◌, Some, refl}
 use Rattle.std.specs.List.{AllByRecursion}
 use Rattle.std.proofs.Common.{ap, sym, ◌∙◌, subst, arith}
 use Rattle.cc_entry.specs.declared.entry.Entry.{Entry}
@@ -126,3 +126,7 @@ visited {Q = Q} posted w v s flight added b c j k has vis step = record {
 
     back : record w.held { journal = false } ≡ w.held
     back = subst (λ (h : Held). record h { journal = false } ≡ h) (sym has.held) refl
+
+-- so much under way at most is left to whom gives the journal
+pub few-left : {old new : Standing} (flight : ℕ) → WentWith flight old new → flight ≤ 1 → new.in_flight ≤ 1
+few-left flight went most = omega (arith, ap (λ (x : Standing). x.in_flight) went.same, most)

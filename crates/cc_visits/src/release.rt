@@ -1,6 +1,6 @@
 //! A place that is reserved is given back.
 
-ghost use Rattle.std.specs.Prelude.{◌≡◌, ℕ, ◌-◌, ◌<◌, false, List, Some};
+ghost use Rattle.std.specs.Prelude.{◌≡◌, ℕ, false, List, Some};
 ghost use Rattle.cc_entry.specs.declared.call.Call.{Call};
 ghost use Rattle.cc_entry.specs.declared.entry.Entry.{Entry};
 ghost use Rattle.cc_book.specs.Book.{BookState};

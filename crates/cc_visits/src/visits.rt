@@ -1,6 +1,6 @@
 //! The visits: each takes the journal's turn once.
 
-ghost use Rattle.std.specs.Prelude.{◌≡◌, ◌-◌, ◌<◌, true, List, Some, Err};
+ghost use Rattle.std.specs.Prelude.{◌≡◌, ◌<◌, true, List, Some, Err};
 ghost use Rattle.std.specs.Option.{option_copied};
 ghost use Rattle.cc_entry.specs.declared.entry.Entry.{Entry};
 ghost use Rattle.cc_entry.specs.declared.reply.Outcome.TheVariants as outcome;

@@ -72,19 +72,19 @@ may_log-kind w (entry.LogFailed pass handle) may = refl
 may_log-kind w other may = absurd may
 
 -- it was placed, at the place that was reserved for it
-pub logged : {Q : Type 0} (posted : Q → Bool) (w v : Standing) (e : Entry) (j k : JournalState Q) → w.held.journal ≡ false → 0 < w.in_flight → MayLog w e → Visiting posted w v j → k ≡ record j { entries = e ∷ j.entries; reserved = j.reserved - 1; rows = k.rows } → Visited posted w v (w.in_flight - 1) k
-logged {Q = Q} posted w v e j k away reserved may vis placed = visited posted w v (w.in_flight - 1) (e ∷ []) j k away vis (record {
+pub logged : {Q : Type 0} (posted : Q → Bool) (w v : Standing) (e : Entry) (j k : JournalState Q) → w.held.journal ≡ false → w.in_flight ≡ 1 → MayLog w e → Visiting posted w v j → k ≡ record j { entries = e ∷ j.entries; reserved = j.reserved - 1; rows = k.rows } → Visited posted w v 0 k
+logged {Q = Q} posted w v e j k away reserved may vis placed = visited posted w v 0 (e ∷ []) j k away vis (record {
   kept = placed ∙ ap (λ (n : ℕ). record j { entries = e ∷ j.entries; reserved = n; rows = k.rows }) (sym (ap (λ x. x.reserved) placed));
   good = subst (λ (past : List Entry). IsGood w.setup past) (sym (ap (λ x. x.entries) placed)) (may_log-good w e j.entries may vis.grows vis.good);
   own = (may_log-own w e may, tt);
   held = may_log-quiet w e may;
   reserved = ap (λ x. x.reserved) placed
       ∙ (less j.reserved (reserved_in j.entries) w.in_flight v.others reserved vis.reserved_is
-      ∙ ap (λ (n : ℕ). n + (w.in_flight - 1) + v.others) (sym (ap (λ x. reserved_in x.entries) placed ∙ may_log-reserved w e j.entries may)));
+      ∙ ap (λ (n : ℕ). n + 0 + v.others) (sym (ap (λ x. reserved_in x.entries) placed ∙ may_log-reserved w e j.entries may)));
 })
   where
-    less : (n owed mine others : ℕ) → 0 < mine → n ≡ owed + mine + others → n - 1 ≡ owed + (mine - 1) + others
-    less n owed mine others some is = omega (arith, some, is)
+    less : (n owed mine others : ℕ) → mine ≡ 1 → n ≡ owed + mine + others → n - 1 ≡ owed + 0 + others
+    less n owed mine others one is = omega (arith, one, is)
 
 -- a log whose turn is held goes on standing while others go on
 pub log-grown : {L : Type 0} (told : L → Option Log) (faults : L → ℕ) (first : LogAtFirst) (w : Standing) (handle : ℕ) (log : LogState L) (seen : List Entry) → w.held.log ≡ Some handle → log.handle ≡ handle → Grows w seen → LogStands told faults first w.seen log → LogStands told faults first seen log
@@ -213,6 +213,11 @@ abbrev pub flight_after : Result (Option ℕ) CcError → ℕ → ℕ
 flight_after (Ok (Some to)) n = suc n
 flight_after (Ok None) n = n
 flight_after (Err e) n = n
+
+-- at most the one that is reserved
+pub few-after : (result : Result (Option ℕ) CcError) (n : ℕ) → n ≡ 0 → flight_after result n ≤ 1
+few-after (Ok (Some to)) n none = omega (arith, none)
+few-after other n none = omega (arith, none)
 
 pub newest-visited : {Q : Type 0} (posted : Q → Bool) (w v : Standing) (page : Page) (result : Result (Option ℕ) CcError) (j k : JournalState Q) → w.held.journal ≡ false → Visiting posted w v j → ReservedLeft page result j k → Visited posted w v (flight_after result w.in_flight) k
 newest-visited posted w v page (Ok (Some to)) j k away vis left =

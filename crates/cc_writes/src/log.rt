@@ -1,6 +1,6 @@
 //! The log of a page that is to be written, and what the calls on a log need of it.
 
-ghost use Rattle.std.specs.Prelude.{◌≡◌, ◌-◌, ◌<◌, false, None, Some};
+ghost use Rattle.std.specs.Prelude.{◌≡◌, ◌<◌, false, None, Some};
 ghost use Rattle.cc_dirty.specs.Order.{same_page};
 ghost use Rattle.cc_dirty.specs.Table.{row_of};
 ghost use Rattle.cc_model.specs.Good.{IsGood};
@@ -43,6 +43,7 @@ pub(crate) fn flush_log<T: Turns>(
 ) -> Result<LogFlush, CcError>
     requires book { HasBook (T.standing turns.old) page.stream book.now }
     requires rest { IsAtRest (T.standing turns.old) page.stream }
+    requires none { (T.standing turns.old).in_flight ≡ 0 }
     requires to_write { IsToWrite page (T.standing turns.old).seen }
     ensures book { HasBook (T.standing turns.new) page.stream book.now }
     ensures went { Went (T.standing turns.old) (T.standing turns.new) }
@@ -59,6 +60,7 @@ pub(crate) fn flush_log<T: Turns>(
 fn flush_of<T: Turns>(turns: &mut T, page: PageId, handle: u8) -> Result<LogFlush, CcError>
     requires held { HoldsBoth (T.standing turns.old) page.stream }
     requires rest { open_of (history (T.standing turns.old).seen page.stream) ≡ None }
+    requires none { (T.standing turns.old).in_flight ≡ 0 }
     requires stamped { is_unstamped (history (T.standing turns.old).seen page.stream) page.page ≡ false }
     requires log { log_of (history (T.standing turns.old).seen page.stream) ≡ Some handle }
     requires known { handle < (T.standing turns.old).setup.logs }
@@ -78,6 +80,7 @@ fn flush_of<T: Turns>(turns: &mut T, page: PageId, handle: u8) -> Result<LogFlus
 fn newest_at<T: Turns>(turns: &mut T, page: PageId) -> Result<Option<Lsn>, CcError>
     requires away { (T.standing turns.old).held.journal ≡ false }
     requires rest { IsAtRest (T.standing turns.old) page.stream }
+    requires none { (T.standing turns.old).in_flight ≡ 0 }
     ensures good { IsGood (T.standing turns.new).setup (T.standing turns.new).seen }
     ensures grows { Grows (T.standing turns.old) (T.standing turns.new).seen }
     ensures left { NewestLeft (T.standing turns.old) page result (T.standing turns.new) }

@@ -30,6 +30,7 @@ pub(crate) fn begin_at<T: Turns>(
 ) -> Result<Frame, CcError>
     requires book { HasBook (T.standing turns.old) page.stream book.old }
     requires rest { IsAtRest (T.standing turns.old) page.stream }
+    requires none { (T.standing turns.old).in_flight ≡ 0 }
     requires dirty { is_dirty (history (T.standing turns.old).seen page.stream) page.page ≡ true }
     requires logged { IsLogged (T.standing turns.old).seen page.stream page.page }
     ensures book { HasBook (T.standing turns.new) page.stream book.new }
@@ -101,6 +102,7 @@ pub(crate) fn carry<T: Turns>(
 pub(crate) fn end_at<T: Turns>(turns: &mut T, book: &mut Book, page: PageId, how: End)
     requires book { HasBook (T.standing turns.old) page.stream book.old }
     requires device { (T.standing turns.old).held.device ≡ Some page.stream }
+    requires none { (T.standing turns.old).in_flight ≡ 0 }
     requires begun { open_of (history (T.standing turns.old).seen page.stream)
         ≡ Some (record { pass = (T.standing turns.old).number; page = page.page }) }
     ensures book { HasBook (T.standing turns.new) page.stream book.new }

@@ -41,6 +41,7 @@ pub fn write_page<T: Turns>(
 ) -> (Book, Result<PageWrite, CcError>)
     requires known { book.stream < (T.standing turns.old).streams }
     requires both { HasBoth T.Disk.told T.Disk.faults (T.standing turns.old) book.stream book disk.old }
+    requires none { (T.standing turns.old).in_flight ≡ 0 }
     requires to_write { IsToWrite (record { stream = book.stream; page = page }) (T.standing turns.old).seen }
     ensures both { HasBoth T.Disk.told T.Disk.faults (T.standing turns.new) book.stream result.0 disk.new }
     ensures went { Went (T.standing turns.old) (T.standing turns.new) }
@@ -71,6 +72,7 @@ fn put<T: Turns>(
 ) -> (Book, Result<PageWrite, CcError>)
     requires known { page.stream < (T.standing turns.old).streams }
     requires both { HasBoth T.Disk.told T.Disk.faults (T.standing turns.old) page.stream book disk.old }
+    requires none { (T.standing turns.old).in_flight ≡ 0 }
     requires dirty { is_dirty (history (T.standing turns.old).seen page.stream) page.page ≡ true }
     requires logged { IsLogged (T.standing turns.old).seen page.stream page.page }
     ensures both { HasBoth T.Disk.told T.Disk.faults (T.standing turns.new) page.stream result.0 disk.new }
@@ -95,6 +97,7 @@ fn finish<T: Turns>(
 ) -> (Book, Result<PageWrite, CcError>)
     requires known { page.stream < (T.standing turns.old).streams }
     requires begun { IsUnderWay T.Disk.told T.Disk.faults (T.standing turns.old) page frame book disk.old }
+    requires none { (T.standing turns.old).in_flight ≡ 0 }
     ensures both { HasBoth T.Disk.told T.Disk.faults (T.standing turns.new) page.stream result.0 disk.new }
     ensures went { Went (T.standing turns.old) (T.standing turns.new) }
     ensures left { FinishLeft (T.standing turns.old) page keeps result.1 (T.standing turns.new).seen }

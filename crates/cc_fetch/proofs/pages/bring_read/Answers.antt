@@ -1,4 +1,4 @@
-use Rattle.std.specs.Prelude.{ℕ, ◌-◌, List}
+use Rattle.std.specs.Prelude.{ℕ, List}
 use Rattle.std.proofs.Common.{subst, sym}
 use Rattle.cc_entry.specs.declared.entry.Entry.{Entry}
 use Rattle.cc_effects.specs.Calls.{IsUnderWay}
@@ -21,7 +21,7 @@ pub returns-in-Ok-clause-both : goal.returns-in-Ok-clause-both
 returns-in-Ok-clause-both g c =
     let v = g.T.Turns.standing c.read_page-book.new.turns in
     let both = c.read_page-book.ensures.both in
-    still_of g.T.Disk.Told.told g.T.Disk.Told.faults (v.in_flight - 1) v (g.T.Turns.standing c.land.new.turns) c.args.book.stream c.read_page-book.result.0.stream
+    still_of g.T.Disk.Told.told g.T.Disk.Told.faults 0 v (g.T.Turns.standing c.land.new.turns) c.args.book.stream c.read_page-book.result.0.stream
     c.read_page-book.result.0 c.land.result.0 c.read_page-book.new.disk both.book.stream both c.land.ensures.book c.land.ensures.rest c.land.ensures.went c.land.ensures.disk
 
 pub returns-in-Ok-clause-left : goal.returns-in-Ok-clause-left
@@ -35,7 +35,7 @@ pub returns-in-Err-Failed-clause-both : goal.returns-in-Err-Failed-clause-both
 returns-in-Err-Failed-clause-both g c =
     let v = g.T.Turns.standing c.read_page-book.new.turns in
     let both = c.read_page-book.ensures.both in
-    told_of g.T.Disk.Told.told g.T.Disk.Told.faults (v.in_flight - 1) v (g.T.Turns.standing c.unread.new.turns) c.args.book.stream c.read_page-book.result.0.stream
+    told_of g.T.Disk.Told.told g.T.Disk.Told.faults 0 v (g.T.Turns.standing c.unread.new.turns) c.args.book.stream c.read_page-book.result.0.stream
     c.read_page-book.result.0 c.unread.result.0 c.read_page-book.new.disk both.book.stream both c.unread.ensures.book c.unread.ensures.rest c.unread.ensures.went
     c.args.page (where_failed c.read_page-book.result.1 c.in-Err-Failed.field-0 c.in-Err-Failed.is (rw c.in-Err-Failed.is at c.in-Err-Failed.field-0-is) c.read_page-book.ensures.failed) c.unread.ensures.told
 
@@ -53,7 +53,7 @@ pub returns-in-Err-NoMemory-clause-both : goal.returns-in-Err-NoMemory-clause-bo
 returns-in-Err-NoMemory-clause-both g c =
     let v = g.T.Turns.standing c.read_page-book.new.turns in
     let both = c.read_page-book.ensures.both in
-    still_of g.T.Disk.Told.told g.T.Disk.Told.faults (v.in_flight - 1) v (g.T.Turns.standing c.release.new.turns) c.args.book.stream c.read_page-book.result.0.stream
+    still_of g.T.Disk.Told.told g.T.Disk.Told.faults 0 v (g.T.Turns.standing c.release.new.turns) c.args.book.stream c.read_page-book.result.0.stream
     c.read_page-book.result.0 c.release.result.0 c.read_page-book.new.disk both.book.stream both c.release.ensures.book c.release.ensures.rest c.release.ensures.went c.release.ensures.disk
 
 pub returns-in-Err-NoMemory-clause-left : goal.returns-in-Err-NoMemory-clause-left

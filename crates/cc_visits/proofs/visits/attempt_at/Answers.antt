@@ -1,9 +1,9 @@
-use Rattle.std.proofs.Common.{sym, subst}
+use Rattle.std.proofs.Common.{sym, subst, arith}
 use Rattle.cc_turns.specs.Standing.{Standing}
 use Rattle.cc_visits.specs.Hands.{HasBook, WentWith}
 use Rattle.cc_visits.specs.Visits.{TriedLeft, IsFullTried}
 use Rattle.cc_visits.proofs.Attempting.{may-as, attempted, fits-stepped, visited-attempt, left-attempt, full-attempt}
-use Rattle.cc_visits.proofs.Visiting.{visiting}
+use Rattle.cc_visits.proofs.Visiting.{few-left, visiting}
 use Rattle.cc_visits.proofs.visits.attempt_at.Goals as goal
 
 pub attempt-ended-requires-clause-may : goal.attempt-ended-requires-clause-may
@@ -56,6 +56,20 @@ give_journal-requires-clause-stands g c =
     let left = attempted posted w v c.args.call b n j k c.requires.book vis c.requires.one c.requires.filed c.me-pass.result c.attempt-ended.result c.me-pass.ensures c.attempt-ended.ensures in
     let given = visited-attempt posted w v c.args.call b n j k c.requires.book vis c.requires.one c.requires.filed c.attempt-ended.result left in
     given.journal
+
+pub give_journal-requires-clause-few : goal.give_journal-requires-clause-few
+give_journal-requires-clause-few g c =
+    let w = g.T.Turns.standing c.args.turns.now in
+    let v = g.T.Turns.standing c.take_journal-journal.new.self in
+    let posted = g.T.Post.PostRoutine.posted in
+    let b = c.args.book.now in
+    let j = c.take_journal-journal.result in
+    let vis = visiting posted w v b.stream b j c.requires.book c.take_journal-journal.ensures.took c.take_journal-journal.ensures.stands in
+    let n = c.attempt-ended.new.book in
+    let k = c.attempt-ended.new.journal in
+    let left = attempted posted w v c.args.call b n j k c.requires.book vis c.requires.one c.requires.filed c.me-pass.result c.attempt-ended.result c.me-pass.ensures c.attempt-ended.ensures in
+    let given = visited-attempt posted w v c.args.call b n j k c.requires.book vis c.requires.one c.requires.filed c.attempt-ended.result left in
+    few-left w.in_flight given.went (omega (arith, c.requires.none))
 
 pub returns-clause-book : goal.returns-clause-book
 returns-clause-book g c =

@@ -1,5 +1,5 @@
 use Rattle.std.specs.Prelude.{Err}
-use Rattle.std.proofs.Common.{sym, subst}
+use Rattle.std.proofs.Common.{sym, subst, arith}
 use Rattle.cc_entry.specs.declared.error.CcError.{CcError}
 use Rattle.cc_entry.specs.declared.reply.Outcome.TheVariants as outcome
 use Rattle.cc_effects.specs.Calls.{CallLeft}
@@ -8,7 +8,7 @@ use Rattle.cc_visits.specs.Hands.{HasBook, SameDisk, WentWith}
 use Rattle.cc_visits.specs.Told.{answer_of}
 use Rattle.cc_visits.specs.Ways.{IsFull}
 use Rattle.cc_visits.proofs.Failing.{is-fault, fail-as, has-failed, visited-fail, disk-fail, left-fail, full-fail}
-use Rattle.cc_visits.proofs.Visiting.{visiting}
+use Rattle.cc_visits.proofs.Visiting.{few-left, visiting}
 use Rattle.cc_visits.proofs.visits.fail_at.Goals as goal
 
 pub fail-ended-requires-clause-fault : goal.fail-ended-requires-clause-fault
@@ -58,6 +58,20 @@ give_journal-requires-clause-stands g c =
     let left = has-failed posted w v c.args.call b n j k c.requires.book vis c.requires.one c.requires.filed c.requires.brings c.args.fault c.requires.halted.0 c.requires.halted.1 c.me-pass.result c.fail-ended.result c.me-pass.ensures c.fail-ended.ensures in
     let given = visited-fail posted w v c.args.call b n j k c.requires.book vis c.requires.one c.requires.filed c.requires.brings c.args.fault c.requires.halted.0 c.requires.halted.1 c.fail-ended.result left in
     given.journal
+
+pub give_journal-requires-clause-few : goal.give_journal-requires-clause-few
+give_journal-requires-clause-few g c =
+    let w = g.T.Turns.standing c.args.turns.now in
+    let v = g.T.Turns.standing c.take_journal-journal.new.self in
+    let posted = g.T.Post.PostRoutine.posted in
+    let b = c.args.book.now in
+    let j = c.take_journal-journal.result in
+    let vis = visiting posted w v b.stream b j c.requires.book c.take_journal-journal.ensures.took c.take_journal-journal.ensures.stands in
+    let n = c.fail-ended.new.book in
+    let k = c.fail-ended.new.journal in
+    let left = has-failed posted w v c.args.call b n j k c.requires.book vis c.requires.one c.requires.filed c.requires.brings c.args.fault c.requires.halted.0 c.requires.halted.1 c.me-pass.result c.fail-ended.result c.me-pass.ensures c.fail-ended.ensures in
+    let given = visited-fail posted w v c.args.call b n j k c.requires.book vis c.requires.one c.requires.filed c.requires.brings c.args.fault c.requires.halted.0 c.requires.halted.1 c.fail-ended.result left in
+    few-left w.in_flight given.went (omega (arith, c.requires.none))
 
 pub returns-clause-book : goal.returns-clause-book
 returns-clause-book g c =

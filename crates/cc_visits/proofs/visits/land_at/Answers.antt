@@ -1,6 +1,5 @@
 use Rattle.std.specs.Option.{option_copied}
-use Rattle.std.specs.Prelude.{◌-◌}
-use Rattle.std.proofs.Common.{sym, subst}
+use Rattle.std.proofs.Common.{sym, subst, arith}
 use Rattle.cc_effects.specs.Calls.{IsUnderWay}
 use Rattle.cc_turns.specs.Standing.{Standing}
 use Rattle.cc_turns.specs.Takes.{without_journal}
@@ -8,7 +7,7 @@ use Rattle.cc_visits.specs.Hands.{HasBook, IsAtRest, SameDisk, WentWith}
 use Rattle.cc_visits.proofs.Landing.{has-place, land-as, landed, visited-land, disk-land, left-land}
 use Rattle.cc_visits.proofs.Placing.{both-stepped}
 use Rattle.cc_visits.proofs.Resting.{rest-went}
-use Rattle.cc_visits.proofs.Visiting.{visiting}
+use Rattle.cc_visits.proofs.Visiting.{few-left, visiting}
 use Rattle.cc_visits.proofs.visits.land_at.Goals as goal
 
 pub land_page-landed-requires-clause-stepped : goal.land_page-landed-requires-clause-stepped
@@ -62,6 +61,20 @@ give_journal-requires-clause-stands g c =
     let given = visited-land posted w v c.args.call.now b n j k c.requires.book vis c.requires.one c.requires.filed c.requires.rest c.requires.reserved c.args.page c.land_page-landed.result left in
     given.journal
 
+pub give_journal-requires-clause-few : goal.give_journal-requires-clause-few
+give_journal-requires-clause-few g c =
+    let w = g.T.Turns.standing c.args.turns.now in
+    let v = g.T.Turns.standing c.take_journal-journal.new.self in
+    let posted = g.T.Post.PostRoutine.posted in
+    let b = c.args.book.now in
+    let j = c.take_journal-journal.result in
+    let vis = visiting posted w v b.stream b j c.requires.book c.take_journal-journal.ensures.took c.take_journal-journal.ensures.stands in
+    let n = c.land_page-landed.new.book in
+    let k = c.land_page-landed.new.journal in
+    let left = landed posted w v c.args.call.now b n j k c.requires.book vis c.requires.one c.requires.filed c.requires.rest c.requires.reserved c.args.page c.me-pass.result (option_copied c.args.raw) c.land_page-landed.result c.me-pass.ensures c.requires.read c.land_page-landed.ensures in
+    let given = visited-land posted w v c.args.call.now b n j k c.requires.book vis c.requires.one c.requires.filed c.requires.rest c.requires.reserved c.args.page c.land_page-landed.result left in
+    few-left 0 given.went (omega arith)
+
 pub returns-clause-book : goal.returns-clause-book
 returns-clause-book g c =
     let w = g.T.Turns.standing c.args.turns.now in
@@ -89,7 +102,7 @@ returns-clause-rest g c =
     let left = landed posted w v c.args.call.now b n j k c.requires.book vis c.requires.one c.requires.filed c.requires.rest c.requires.reserved c.args.page c.me-pass.result (option_copied c.args.raw) c.land_page-landed.result c.me-pass.ensures c.requires.read c.land_page-landed.ensures in
     let given = visited-land posted w v c.args.call.now b n j k c.requires.book vis c.requires.one c.requires.filed c.requires.rest c.requires.reserved c.args.page c.land_page-landed.result left in
     let disk = disk-land posted w v c.args.call.now b n j k c.requires.book vis c.requires.one c.requires.filed c.requires.rest c.requires.reserved c.args.page c.land_page-landed.result left in
-    subst (λ (x : Standing). IsAtRest x b.stream) (sym c.give_journal.ensures) (rest-went (w.in_flight - 1) b.stream w (without_journal k v) c.requires.rest given.went disk)
+    subst (λ (x : Standing). IsAtRest x b.stream) (sym c.give_journal.ensures) (rest-went 0 b.stream w (without_journal k v) c.requires.rest given.went disk)
 
 pub returns-clause-went : goal.returns-clause-went
 returns-clause-went g c =
@@ -103,7 +116,7 @@ returns-clause-went g c =
     let k = c.land_page-landed.new.journal in
     let left = landed posted w v c.args.call.now b n j k c.requires.book vis c.requires.one c.requires.filed c.requires.rest c.requires.reserved c.args.page c.me-pass.result (option_copied c.args.raw) c.land_page-landed.result c.me-pass.ensures c.requires.read c.land_page-landed.ensures in
     let given = visited-land posted w v c.args.call.now b n j k c.requires.book vis c.requires.one c.requires.filed c.requires.rest c.requires.reserved c.args.page c.land_page-landed.result left in
-    subst (λ (x : Standing). WentWith (w.in_flight - 1) w x) (sym c.give_journal.ensures) given.went
+    subst (λ (x : Standing). WentWith 0 w x) (sym c.give_journal.ensures) given.went
 
 pub returns-clause-disk : goal.returns-clause-disk
 returns-clause-disk g c =

@@ -4,8 +4,8 @@ use Rattle.cc_turns.specs.Takes.{without_journal}
 use Rattle.cc_visits.specs.Hands.{HasBook, IsAtRest, SameDisk}
 use Rattle.cc_visits.specs.Visits.{StepLeft, StepWent, IsFullStep}
 use Rattle.cc_visits.proofs.Resting.{rest-went}
-use Rattle.cc_visits.proofs.Stepping.{fill-as, stepped, fits-next, flight_after, visited-next, disk-next, went-next, left-next, full-next}
-use Rattle.cc_visits.proofs.Visiting.{visiting}
+use Rattle.cc_visits.proofs.Stepping.{fill-as, stepped, fits-next, flight_after, few-after, visited-next, disk-next, went-next, left-next, full-next}
+use Rattle.cc_visits.proofs.Visiting.{few-left, visiting}
 use Rattle.cc_visits.proofs.visits.next_at.Goals as goal
 
 pub next-ended-requires-clause-may : goal.next-ended-requires-clause-may
@@ -58,6 +58,21 @@ give_journal-requires-clause-stands g c =
     let left = stepped posted w v c.args.call b n j k c.requires.book vis c.requires.one c.requires.filed c.requires.rest c.me-pass.result c.next-ended.result c.me-pass.ensures c.next-ended.ensures in
     let given = visited-next posted w v c.args.call b n j k c.requires.book vis c.requires.one c.requires.filed c.requires.rest c.next-ended.result left in
     given.journal
+
+pub give_journal-requires-clause-few : goal.give_journal-requires-clause-few
+give_journal-requires-clause-few g c =
+    let w = g.T.Turns.standing c.args.turns.now in
+    let v = g.T.Turns.standing c.take_journal-journal.new.self in
+    let posted = g.T.Post.PostRoutine.posted in
+    let b = c.args.book.now in
+    let j = c.take_journal-journal.result in
+    let vis = visiting posted w v b.stream b j c.requires.book c.take_journal-journal.ensures.took c.take_journal-journal.ensures.stands in
+    let n = c.next-ended.new.book in
+    let k = c.next-ended.new.journal in
+    let left = stepped posted w v c.args.call b n j k c.requires.book vis c.requires.one c.requires.filed c.requires.rest c.me-pass.result c.next-ended.result c.me-pass.ensures c.next-ended.ensures in
+    let given = visited-next posted w v c.args.call b n j k c.requires.book vis c.requires.one c.requires.filed c.requires.rest c.next-ended.result left in
+    few-left (flight_after posted w v c.args.call b n j k c.requires.book vis c.requires.one c.requires.filed c.requires.rest c.next-ended.result) given.went
+    (few-after posted w v c.args.call b n j k c.requires.book vis c.requires.one c.requires.filed c.requires.rest c.requires.none c.next-ended.result)
 
 pub returns-clause-book : goal.returns-clause-book
 returns-clause-book g c =

@@ -1,10 +1,9 @@
-use Rattle.std.specs.Prelude.{◌-◌}
-use Rattle.std.proofs.Common.{sym, subst}
+use Rattle.std.proofs.Common.{sym, subst, arith}
 use Rattle.cc_turns.specs.Standing.{Standing}
 use Rattle.cc_visits.specs.Hands.{HasBook, IsAtRest, WentWith}
 use Rattle.cc_visits.specs.Visits.{UnreadLeft, UnreadPlaced}
 use Rattle.cc_visits.proofs.Landing.{has-place, unread, visited-told, rest-told, placed-told, left-told}
-use Rattle.cc_visits.proofs.Visiting.{visiting}
+use Rattle.cc_visits.proofs.Visiting.{few-left, visiting}
 use Rattle.cc_visits.proofs.visits.unread_at.Goals as goal
 
 pub tell_unread-unread-requires-clause-reserved : goal.tell_unread-unread-requires-clause-reserved
@@ -53,6 +52,19 @@ give_journal-requires-clause-stands g c =
     let given = visited-told posted w v b j k c.requires.book vis c.requires.rest c.requires.reserved c.args.page c.tell_unread-unread.result told in
     given.journal
 
+pub give_journal-requires-clause-few : goal.give_journal-requires-clause-few
+give_journal-requires-clause-few g c =
+    let w = g.T.Turns.standing c.args.turns.now in
+    let v = g.T.Turns.standing c.take_journal-journal.new.self in
+    let posted = g.T.Post.PostRoutine.posted in
+    let b = c.args.book.now in
+    let j = c.take_journal-journal.result in
+    let vis = visiting posted w v b.stream b j c.requires.book c.take_journal-journal.ensures.took c.take_journal-journal.ensures.stands in
+    let k = c.tell_unread-unread.new.journal in
+    let told = unread posted w v b j k c.requires.book vis c.requires.rest c.requires.reserved c.args.page c.me-pass.result c.tell_unread-unread.result c.me-pass.ensures c.tell_unread-unread.ensures in
+    let given = visited-told posted w v b j k c.requires.book vis c.requires.rest c.requires.reserved c.args.page c.tell_unread-unread.result told in
+    few-left 0 given.went (omega arith)
+
 pub returns-clause-book : goal.returns-clause-book
 returns-clause-book g c =
     let w = g.T.Turns.standing c.args.turns.now in
@@ -89,7 +101,7 @@ returns-clause-went g c =
     let k = c.tell_unread-unread.new.journal in
     let told = unread posted w v b j k c.requires.book vis c.requires.rest c.requires.reserved c.args.page c.me-pass.result c.tell_unread-unread.result c.me-pass.ensures c.tell_unread-unread.ensures in
     let given = visited-told posted w v b j k c.requires.book vis c.requires.rest c.requires.reserved c.args.page c.tell_unread-unread.result told in
-    subst (λ (x : Standing). WentWith (w.in_flight - 1) w x) (sym c.give_journal.ensures) given.went
+    subst (λ (x : Standing). WentWith 0 w x) (sym c.give_journal.ensures) given.went
 
 pub returns-clause-placed : goal.returns-clause-placed
 returns-clause-placed g c =

@@ -1,8 +1,9 @@
 use Rattle.std.proofs.Common.{ap, ◌∙◌}
 use Rattle.cc_model.specs.History.{history}
 use Rattle.cc_model.specs.Images.{open_of}
+use Rattle.cc_visits.proofs.Visiting.{few-left}
 use Rattle.cc_writes.proofs.Visits.{visiting}
-use Rattle.cc_writes.proofs.Logging.{newest-visited, rest-there}
+use Rattle.cc_writes.proofs.Logging.{flight_after, few-after, newest-visited, rest-there}
 use Rattle.cc_writes.proofs.log.newest_at.Goals as goal
 
 pub newest_reserved-newest-requires : goal.newest_reserved-newest-requires
@@ -24,3 +25,11 @@ give_journal-requires-clause-stands g c =
     let v = g.T.Turns.standing c.take_journal-journal.new.self in
     let vis = visiting g.T.Post.PostRoutine.posted w v c.take_journal-journal.result c.take_journal-journal.ensures.took c.take_journal-journal.ensures.stands in
     (newest-visited g.T.Post.PostRoutine.posted w v c.args.page c.newest_reserved-newest.result c.take_journal-journal.result c.newest_reserved-newest.new.journal c.requires.away vis c.newest_reserved-newest.ensures).journal
+
+pub give_journal-requires-clause-few : goal.give_journal-requires-clause-few
+give_journal-requires-clause-few g c =
+    let w = g.T.Turns.standing c.args.turns.now in
+    let v = g.T.Turns.standing c.take_journal-journal.new.self in
+    let vis = visiting g.T.Post.PostRoutine.posted w v c.take_journal-journal.result c.take_journal-journal.ensures.took c.take_journal-journal.ensures.stands in
+    few-left (flight_after c.newest_reserved-newest.result w.in_flight)
+    (newest-visited g.T.Post.PostRoutine.posted w v c.args.page c.newest_reserved-newest.result c.take_journal-journal.result c.newest_reserved-newest.new.journal c.requires.away vis c.newest_reserved-newest.ensures).went (few-after c.newest_reserved-newest.result w.in_flight c.requires.none)

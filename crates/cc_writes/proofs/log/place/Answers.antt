@@ -1,7 +1,8 @@
-use Rattle.std.proofs.Common.{◌-◌, sym, subst}
+use Rattle.std.proofs.Common.{sym, subst, arith}
 use Rattle.cc_model.specs.Good.{IsGood}
 use Rattle.cc_turns.specs.Standing.{Standing}
 use Rattle.cc_visits.specs.Hands.{WentWith}
+use Rattle.cc_visits.proofs.Visiting.{few-left}
 use Rattle.cc_writes.proofs.Visits.{visiting}
 use Rattle.cc_writes.proofs.Logging.{may_log-pushed, logged}
 use Rattle.cc_writes.proofs.log.place.Goals as goal
@@ -27,6 +28,13 @@ give_journal-requires-clause-stands g c =
     let vis = visiting g.T.Post.PostRoutine.posted w v c.take_journal-journal.result c.take_journal-journal.ensures.took c.take_journal-journal.ensures.stands in
     (logged g.T.Post.PostRoutine.posted w v c.args.entry c.take_journal-journal.result c.push.new.self c.requires.away c.requires.reserved c.requires.may vis c.push.ensures.placed).journal
 
+pub give_journal-requires-clause-few : goal.give_journal-requires-clause-few
+give_journal-requires-clause-few g c =
+    let w = g.T.Turns.standing c.args.turns.now in
+    let v = g.T.Turns.standing c.take_journal-journal.new.self in
+    let vis = visiting g.T.Post.PostRoutine.posted w v c.take_journal-journal.result c.take_journal-journal.ensures.took c.take_journal-journal.ensures.stands in
+    few-left 0 (logged g.T.Post.PostRoutine.posted w v c.args.entry c.take_journal-journal.result c.push.new.self c.requires.away c.requires.reserved c.requires.may vis c.push.ensures.placed).went (omega arith)
+
 pub returns-clause-good : goal.returns-clause-good
 returns-clause-good g c =
     let w = g.T.Turns.standing c.args.turns.now in
@@ -40,5 +48,5 @@ returns-clause-went g c =
     let w = g.T.Turns.standing c.args.turns.now in
     let v = g.T.Turns.standing c.take_journal-journal.new.self in
     let vis = visiting g.T.Post.PostRoutine.posted w v c.take_journal-journal.result c.take_journal-journal.ensures.took c.take_journal-journal.ensures.stands in
-    subst (λ (x : Standing). WentWith (w.in_flight - 1) w x) (sym c.give_journal.ensures)
+    subst (λ (x : Standing). WentWith 0 w x) (sym c.give_journal.ensures)
     (logged g.T.Post.PostRoutine.posted w v c.args.entry c.take_journal-journal.result c.push.new.self c.requires.away c.requires.reserved c.requires.may vis c.push.ensures.placed).went

@@ -1,6 +1,7 @@
-use Rattle.std.proofs.Common.{◌≡◌, ◌<◌, ℕ, ap, sym, ◌∙◌, subst}
+use Rattle.std.proofs.Common.{◌≡◌, ◌<◌, ℕ, ap, sym, ◌∙◌, subst, arith}
 use Rattle.cc_turns.specs.Standing.{Standing}
 use Rattle.cc_visits.specs.Hands.{HasBook, WentWith}
+use Rattle.cc_visits.proofs.Visiting.{few-left}
 use Rattle.cc_writes.proofs.Visits.{visiting}
 use Rattle.cc_writes.proofs.Ending.{end-reserved, may_be_ended, ending}
 use Rattle.cc_writes.proofs.transfers.end_at.Goals as goal
@@ -42,6 +43,16 @@ give_journal-requires-clause-stands g c =
     let e = ending g.T.Post.PostRoutine.posted w v c.args.page c.args.how c.args.book.now c.take_journal-journal.result c.requires.book c.requires.device c.requires.begun (subst (λ (n : ℕ). n < 16) (c.number-stream.ensures.same ∙ c.stream.ensures) c.number-stream.ensures.in_range) vis
     c.me-pass.result me c.end.new.self c.end.new.journal c.end.ensures.placed c.end.ensures.stands c.end.ensures.stream in
     e.journal
+
+pub give_journal-requires-clause-few : goal.give_journal-requires-clause-few
+give_journal-requires-clause-few g c =
+    let w = g.T.Turns.standing c.args.turns.now in
+    let v = g.T.Turns.standing c.take_journal-journal.new.self in
+    let vis = visiting g.T.Post.PostRoutine.posted w v c.take_journal-journal.result c.take_journal-journal.ensures.took c.take_journal-journal.ensures.stands in
+    let me : c.me-pass.result ≡ w.number = c.me-pass.ensures ∙ ap (λ (y : Standing). y.number) c.take_journal-journal.ensures.took.same in
+    let e = ending g.T.Post.PostRoutine.posted w v c.args.page c.args.how c.args.book.now c.take_journal-journal.result c.requires.book c.requires.device c.requires.begun (subst (λ (n : ℕ). n < 16) (c.number-stream.ensures.same ∙ c.stream.ensures) c.number-stream.ensures.in_range) vis
+    c.me-pass.result me c.end.new.self c.end.new.journal c.end.ensures.placed c.end.ensures.stands c.end.ensures.stream in
+    few-left w.in_flight e.went (omega (arith, c.requires.none))
 
 pub returns-clause-book : goal.returns-clause-book
 returns-clause-book g c =
