@@ -10,7 +10,7 @@ use Rattle.cc_effects.specs.Calls.{CallLeft}
 use Rattle.cc_turns.specs.Standing.{Standing}
 use Rattle.cc_visits.specs.Hands.{IsSettled, Went}
 use Rattle.cc_visits.specs.Ways as ways
--- A pass may call on a stream: the stream has a disk, the pass holds no turn, and it owes no end of a noncached write.
+-- A pass may call on a stream.
 pub use Rattle.cc_fetch.specs.Fetch.{CanCall}
 
 -- how the entry of a call says that it ended, whose caller was answered so

@@ -8,9 +8,10 @@ use Rattle.cc_visits.specs.Hands.{IsSettled, Went, WentWith}
 use Rattle.cc_visits.specs.Ways.{IsFull}
 use Rattle.cc_writes.specs.Logs.{IsWant}
 
--- A pass may call on a log: it holds no turn, and owes no end of a noncached write.
+-- A pass may call on a log: it holds no turn, has nothing under way, and owes no end of a noncached write.
 pub record CanLog (w : Standing) : Type 0 where
   pub free : w.held ≡ nothing
+  pub none : w.in_flight ≡ 0
   pub settled : IsSettled w
 
 -- A call on a log was answered so: it left what explains the answer, a journal that is full is full, and the pass goes

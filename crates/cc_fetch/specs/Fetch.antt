@@ -3,10 +3,12 @@ use Rattle.std.specs.Prelude.{◌≡◌, ℕ, ◌<◌}
 use Rattle.cc_turns.specs.Standing.{Standing, nothing}
 use Rattle.cc_visits.specs.Hands.{IsSettled}
 
--- A pass may call on a stream: the stream has a disk, the pass holds no turn, and it owes no end of a noncached write.
+-- A pass may call on a stream: the stream has a disk, the pass holds no turn and has nothing under way, and it owes no
+-- end of a noncached write.
 pub record CanCall (w : Standing) (s : ℕ) : Type 0 where
   pub known : s < w.streams
   pub free : w.held ≡ nothing
+  pub none : w.in_flight ≡ 0
   pub settled : IsSettled w
 
 -- A pass goes on as it stood: it has seen more, what others have reserved may be other, and it may have taken the turn
