@@ -80,14 +80,14 @@ after_join first other = record first { knows = joined first.knows other.knows }
 -- The desk that a board closed into. It has the whole journal: all that pass 0 and each pass that was joined had seen,
 -- and no entry of theirs that they had not; and none of a number that was not given to a pass. What they had under way
 -- is still under way.
-pub record IsClosed {D L Q : Type 0} (board : BoardState D L) (first : FirstState D L) (desk : DeskState D L Q) : Type 0 where
+pub record IsClosed {D L Q : Type 0} (board : BoardState D L) (pass : FirstState D L) (desk : DeskState D L Q) : Type 0 where
   pub run_is : desk.begun ≡ board.begun
   pub held_is : desk.held ≡ nothing
   pub pass_is : desk.pass ≡ 0
-  pub under_way_is : under_way_in desk ≡ first.knows.in_flight
-  pub first : IsIdle 0 first.knows.seen desk.last.entries
-  pub others : (number : ℕ) (seen : List Entry) → Contains first.knows.ended (number, seen) → IsIdle number seen desk.last.entries
-  pub unmade : (number : ℕ) → first.knows.made ≤ number → IsIdle number first.knows.seen desk.last.entries
+  pub under_way_is : under_way_in desk ≡ pass.knows.in_flight
+  pub first : IsIdle 0 pass.knows.seen desk.last.entries
+  pub others : (number : ℕ) (seen : List Entry) → Contains pass.knows.ended (number, seen) → IsIdle number seen desk.last.entries
+  pub unmade : (number : ℕ) → pass.knows.made ≤ number → IsIdle number pass.knows.seen desk.last.entries
 
 -- the slots that are out with a pass, the last taken first
 abbrev pub one_slot : {D L Q : Type 0} → Begun D L → (ℕ → Turn) → Option ℕ → List (ℕ × Option (Place D L Q))
