@@ -1,11 +1,13 @@
-//! Devices of the tests: a sink that takes a few bytes a call, a source of line feeds and a disk that tells
-//! nothing.
+//! Devices of the tests: a sink that takes a few bytes a call, a source of line feeds, a disk that tells nothing, and
+//! one that waits inside a read for a moment.
 
 ghost use Rattle.std.specs.Prelude.{◌≡◌, ◌+◌, ◌-◌, ◌≤◌, ◌++◌, min, length, take, All, None, Some, IsOk, IfOk, OnErr};
 ghost use Rattle.cc_traits.specs.Stop.{faults_in, stalls_in, taken_in};
 
 use cc_memdev::MemSink;
 use cc_traits::{Faults, PageDisk, Sink, Source, Stop, Told};
+use std::sync::atomic::{AtomicBool, Ordering};
+use std::thread;
 
 /// A sink that takes at most `most` bytes a call, and counts the calls that took nothing where there were
 /// bytes.
@@ -109,6 +111,92 @@ impl PageDisk for UntoldDisk {
         if self.fails > 0 {
             self.fails -= 1;
             return Err(self.faults.raise());
+        }
+        *out = [self.fill; 4096];
+        Ok(())
+    }
+
+    fn write_page(&mut self, _page: u64, _bytes: &[u8; 4096]) -> Result<(), Stop> {
+        Err(self.faults.raise())
+    }
+
+    fn sync(&mut self) -> Result<(), Stop> {
+        Ok(())
+    }
+}
+
+/// A moment that threads wait for.
+pub struct Moment {
+    came: AtomicBool,
+    missed: AtomicBool,
+}
+
+impl Moment {
+    pub fn new() -> Moment {
+        Moment {
+            came: AtomicBool::new(false),
+            missed: AtomicBool::new(false),
+        }
+    }
+
+    /// It came.
+    pub fn come(&self) {
+        self.came.store(true, Ordering::SeqCst);
+    }
+
+    /// Waits until it came, at most ten million turns.
+    pub fn wait(&self) {
+        for _ in 0..10_000_000 {
+            if self.came.load(Ordering::SeqCst) {
+                return;
+            }
+            thread::yield_now();
+        }
+        self.missed.store(true, Ordering::SeqCst);
+    }
+
+    /// Whether it was waited for in vain.
+    pub fn was_missed(&self) -> bool {
+        self.missed.load(Ordering::SeqCst)
+    }
+}
+
+/// A disk of one byte that waits inside one of its reads. It tells nothing, and its writes fail.
+pub struct WaitingDisk<'a> {
+    fill: u8,
+    reads: u32,
+    waits_at: u32,
+    inside: &'a Moment,
+    until: &'a Moment,
+    faults: Faults,
+}
+
+impl<'a> WaitingDisk<'a> {
+    /// Inside the read of this number, from 1 on, the first moment comes, and the second is waited for.
+    pub fn new(fill: u8, waits_at: u32, inside: &'a Moment, until: &'a Moment) -> WaitingDisk<'a> {
+        WaitingDisk {
+            fill,
+            reads: 0,
+            waits_at,
+            inside,
+            until,
+            faults: Faults::new(),
+        }
+    }
+}
+
+impl<'a> Told for WaitingDisk<'a> {
+    ghost told = { λ _. None };
+
+    ghost faults = { λ disk. disk.faults };
+}
+
+impl<'a> PageDisk for WaitingDisk<'a> {
+    fn read_page(&mut self, _page: u64, out: &mut [u8; 4096]) -> Result<(), Stop> {
+        self.reads = self.reads.saturating_add(1);
+        if self.reads == self.waits_at {
+            self.inside.come();
+            self.until.wait();
         }
         *out = [self.fill; 4096];
         Ok(())

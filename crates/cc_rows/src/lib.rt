@@ -1,7 +1,7 @@
 //! Scripts that run whole: through the top call, over devices in memory.
 //!
 //! The crate has tests, and the devices that they need beside those of `cc_memdev` and `cc_filedev`: a sink
-//! that takes a few bytes a call, a source of line feeds and a disk that tells nothing. Each test runs a
+//! that takes a few bytes a call, a source of line feeds, a disk that tells nothing, and one that waits. Each test runs a
 //! script by the words of the command line and compares the exit status and the text with what the script
 //! language and the format of the text say (docs/SCRIPTS.md). No expected text is taken from the program.
 //! Nothing stands on this crate.
@@ -9,7 +9,7 @@
 
 mod devices;
 
-pub use devices::{LineFeeds, NarrowSink, UntoldDisk};
+pub use devices::{LineFeeds, Moment, NarrowSink, UntoldDisk, WaitingDisk};
 
 #[cfg(test)]
 mod ample;
@@ -27,5 +27,7 @@ mod program;
 mod statuses;
 #[cfg(test)]
 mod streams;
+#[cfg(test)]
+mod threads;
 #[cfg(test)]
 mod views;

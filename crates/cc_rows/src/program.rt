@@ -6,7 +6,7 @@ use cc_traits::{Gate, PageDisk, Sink, Source};
 use std::alloc::{AllocError, Global};
 
 /// A gate that holds nobody back.
-struct Free;
+pub(crate) struct Free;
 
 impl Gate for Free {
     fn before(&self, _caller: u32, _call: u32) {}
@@ -77,14 +77,16 @@ pub(crate) fn text_of(alloc: Global, sink: &MemSink) -> Result<String, AllocErro
     String::from_utf8_lossy(alloc, sink.taken())
 }
 
-/// Runs the program over these disks.
-pub(crate) fn left_by<S: Source, K: Sink, D: PageDisk + Drop>(
-    alloc: Global,
+/// Runs the program over these disks, with a gate.
+pub(crate) fn left_with<S: Source, K: Sink, D: PageDisk + Drop, P: Gate>(
+    rt: HostRuntime,
     words: &[&str],
     source: &mut S,
     sink: &mut K,
     disks: Vec<D>,
+    gate: &P,
 ) -> Result<Left<D>, AllocError> {
+    let alloc = rt.alloc();
     let mut own = Vec::new(alloc);
     for word in words {
         own.push(String::from_str(alloc, word)?)?;
@@ -100,6 +102,7 @@ pub(crate) fn left_by<S: Source, K: Sink, D: PageDisk + Drop>(
         logs: _logs,
         posts: _posts,
     } = cache_main(
+        &rt,
         alloc,
         &own,
         source,
@@ -107,7 +110,7 @@ pub(crate) fn left_by<S: Source, K: Sink, D: PageDisk + Drop>(
         disks,
         Vec::new(alloc),
         Vec::new(alloc),
-        &Free,
+        gate,
     );
     Ok(Left {
         status,
@@ -117,45 +120,58 @@ pub(crate) fn left_by<S: Source, K: Sink, D: PageDisk + Drop>(
     })
 }
 
+/// Runs the program over these disks.
+pub(crate) fn left_by<S: Source, K: Sink, D: PageDisk + Drop>(
+    rt: HostRuntime,
+    words: &[&str],
+    source: &mut S,
+    sink: &mut K,
+    disks: Vec<D>,
+) -> Result<Left<D>, AllocError> {
+    left_with(rt, words, source, sink, disks, &Free)
+}
+
 /// Runs the program over a disk or none, and answers its status.
 pub(crate) fn status_of<S: Source, K: Sink, D: PageDisk + Drop>(
-    alloc: Global,
+    rt: HostRuntime,
     words: &[&str],
     source: &mut S,
     sink: &mut K,
     disk: Option<D>,
 ) -> Result<u8, AllocError> {
-    let mut disks = Vec::new(alloc);
+    let mut disks = Vec::new(rt.alloc());
     if let Some(disk) = disk {
         disks.push(disk).map_err(|_| AllocError)?;
     }
-    Ok(left_by(alloc, words, source, sink, disks)?.status)
+    Ok(left_by(rt, words, source, sink, disks)?.status)
 }
 
 /// Runs a script over a disk.
 pub(crate) fn run_over<D: PageDisk + Drop>(
-    alloc: Global,
+    rt: HostRuntime,
     script: &str,
     disk: D,
 ) -> Result<Seen, AllocError> {
+    let alloc = rt.alloc();
     let mut source = source(alloc, script)?;
     let mut sink = sink(alloc);
-    let status = status_of(alloc, &["run", "s"], &mut source, &mut sink, Some(disk))?;
+    let status = status_of(rt, &["run", "s"], &mut source, &mut sink, Some(disk))?;
     let text = text_of(alloc, &sink)?;
     Ok(Seen { status, text })
 }
 
 /// Runs a script over a disk that it gives back.
 pub(crate) fn run_on(
-    alloc: Global,
+    rt: HostRuntime,
     script: &str,
     disk: MemDisk,
 ) -> Result<(Seen, MemDisk), AllocError> {
+    let alloc = rt.alloc();
     let mut source = source(alloc, script)?;
     let mut sink = sink(alloc);
     let mut disks = Vec::new(alloc);
     disks.push(disk).map_err(|_| AllocError)?;
-    let mut left = left_by(alloc, &["run", "s"], &mut source, &mut sink, disks)?;
+    let mut left = left_by(rt, &["run", "s"], &mut source, &mut sink, disks)?;
     let text = text_of(alloc, &sink)?;
     let seen = Seen {
         status: left.status,
@@ -165,14 +181,15 @@ pub(crate) fn run_on(
 }
 
 /// Runs a script over five disks that never fail.
-pub(crate) fn run_over_five(alloc: Global, script: &str) -> Result<Seen, AllocError> {
+pub(crate) fn run_over_five(rt: HostRuntime, script: &str) -> Result<Seen, AllocError> {
+    let alloc = rt.alloc();
     let mut source = source(alloc, script)?;
     let mut sink = sink(alloc);
     let mut disks = Vec::new(alloc);
     for _ in 0..5 {
         disks.push(disk(alloc, &[])?).map_err(|_| AllocError)?;
     }
-    let left = left_by(alloc, &["run", "s"], &mut source, &mut sink, disks)?;
+    let left = left_by(rt, &["run", "s"], &mut source, &mut sink, disks)?;
     let text = text_of(alloc, &sink)?;
     Ok(Seen {
         status: left.status,
@@ -181,6 +198,26 @@ pub(crate) fn run_over_five(alloc: Global, script: &str) -> Result<Seen, AllocEr
 }
 
 /// Runs a script over a disk that never fails.
-pub(crate) fn run(alloc: Global, script: &str) -> Result<Seen, AllocError> {
-    run_over(alloc, script, disk(alloc, &[])?)
+pub(crate) fn run(rt: HostRuntime, script: &str) -> Result<Seen, AllocError> {
+    run_over(rt, script, disk(rt.alloc(), &[])?)
+}
+
+/// Runs a script over a disk, with a gate.
+pub(crate) fn run_with<D: PageDisk + Drop, P: Gate>(
+    rt: HostRuntime,
+    script: &str,
+    disk: D,
+    gate: &P,
+) -> Result<Seen, AllocError> {
+    let alloc = rt.alloc();
+    let mut source = source(alloc, script)?;
+    let mut sink = sink(alloc);
+    let mut disks = Vec::new(alloc);
+    disks.push(disk).map_err(|_| AllocError)?;
+    let left = left_with(rt, &["run", "s"], &mut source, &mut sink, disks, gate)?;
+    let text = text_of(alloc, &sink)?;
+    Ok(Seen {
+        status: left.status,
+        text,
+    })
 }

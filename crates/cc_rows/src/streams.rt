@@ -98,23 +98,30 @@ read a 1
 ",
 };
 
-// Page 1 goes with the size and comes back as zeros, so it is dirty no more.
+// Each phase has one caller, so the journal is one. Page 1 goes with the size and comes back as zeros, so it is dirty no
+// more.
 const CALLERS_AND_PHASES: Row = Row {
     script: "threshold 1
 stream a 8192 8192
 stream b 4096 0 quota 8 temporary
 t2 cwrite a 1 ABCD
-cread a 0 4
-t3 cread a 4096 1 nowait
 phase
+cread a 0 4
+phase
+t3 cread a 4096 1 nowait
 t3 zero a 2 4097
+phase
 t1 cread a 0 4
+phase
 t3 cread a 4096 2 nowait
+phase
 t16 cwrite b 0 EF
 phase
 t2 sizes a 8192 4096
 t2 sizes a 8192 8192
+phase
 cread a 4096 1
+phase
 t2 cwrite a 4097 EF
 t2 cread b 0 3
 ",
@@ -122,21 +129,21 @@ t2 cread b 0 3
 2 ok
 3 ok
 caller t1
-5 ok 5A,AB,CD,5A
-9 ok 5A,AB,00x2
-15 ok 00
+6 ok 5A,AB,CD,5A
+11 ok 5A,AB,00x2
+20 ok 00
 caller t2
 4 ok
-13 ok
-14 ok
-16 error 3 BeyondValid 4096
-17 ok EF,00x2
+17 ok
+18 ok
+22 error 3 BeyondValid 4096
+23 ok EF,00x2
 caller t3
-6 error 11 NotResident 1
-8 ok
-10 ok 00,5A
+8 error 11 NotResident 1
+9 ok
+13 ok 00,5A
 caller t16
-11 ok
+15 ok
 journal
 1 call 0 1 init a:0 8192 8192 8192 quota 16 = ok
 2 call 0 2 init b:0 4096 4096 0 quota 8 temporary = ok
@@ -173,7 +180,7 @@ fn streams(rt: HostRuntime) -> Result<(), Fail> {
         SMALLER_AND_LARGER,
         CALLERS_AND_PHASES,
     ] {
-        let seen = run_over_five(rt.alloc(), row.script)?;
+        let seen = run_over_five(rt, row.script)?;
         assert_eq!(rt;
             (seen.status, seen.text.as_str()),
             (0, row.text),

@@ -6,3 +6,6 @@ pub mod Words
 pub mod Disks
 pub mod Ends
 pub mod Complete
+pub mod Phases
+pub mod Callers
+pub mod Threads

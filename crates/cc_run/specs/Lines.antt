@@ -1,5 +1,5 @@
 -- What the lines of a script leave, one after the other.
-use Rattle.std.specs.Prelude.{◌≡◌, ◌≢◌, ◌⊎◌, ℕ, suc, ◌<◌, Bool, false, List, [], ◌∷◌, ◌++◌, map, Result, Ok, Err}
+use Rattle.std.specs.Prelude.{◌≡◌, ◌≢◌, ℕ, suc, ◌<◌, ◌≤◌, List, [], ◌∷◌, ◌++◌, map, Result, Ok, Err}
 use Rattle.cc_entry.specs.declared.answer.Answer.{Answer}
 use Rattle.cc_entry.specs.declared.answer.Answer.TheVariants as answer
 use Rattle.cc_entry.specs.declared.answer.LineReply.{LineReply}
@@ -16,7 +16,7 @@ use Rattle.cc_effects.specs.Moments.{Between, IsIdle}
 use Rattle.cc_pieces.specs.Bindings.{Binding}
 use Rattle.cc_pieces.specs.Openings.{Opens}
 use Rattle.cc_pieces.specs.Runs.{Explains}
-use Rattle.cc_pieces.specs.Explained.{Given, Answered, IsExplained, answered_lines}
+use Rattle.cc_pieces.specs.Explained.{Given, Answered, answered_lines}
 use Rattle.cc_turns.specs.Standing.{Standing, nothing}
 use Rattle.cc_visits.specs.Hands.{IsSettled}
 use Rattle.cc_calls.specs.Pages.{IsFullOf}
@@ -33,7 +33,13 @@ IsServable streams other = ⊥
 pub record CanServe (w : Standing) (asked : Action) : Type 0 where
   pub servable : IsServable w.streams asked
   pub free : w.held ≡ nothing
+  pub none : w.in_flight ≡ 0
   pub settled : IsSettled w
+
+-- the number of a caller of a script
+pub record IsCaller (number : ℕ) : Type 0 where
+  pub first : 1 ≤ number
+  pub last : number ≤ 16
 
 -- the answer of a line whose call answers no value
 abbrev pub told_of : Result (Unit {0}) CcError → Answer
@@ -67,16 +73,6 @@ pub record LinesServed (u : Setup) (lines : List ActionLine) (before after : Lis
   pub grew : after ≡ before ++ answers
   pub left : LinesLeft u lines answers old new
 
--- Memory was wanting for the reply of a line: those before it were served, and then its caller alone placed anything.
-pub record LinesCut (u : Setup) (lines : List ActionLine) (before after : List LineReply) (old new : List Entry) : Type 0 where
-  pub served : List ActionLine
-  pub line : ActionLine
-  pub rest : List ActionLine
-  pub lines_are : lines ≡ served ++ line ∷ rest
-  pub between : List Entry
-  pub went : LinesServed u served before after old between
-  pub alone : (me : ℕ) → me ≢ line.caller → IsIdle me between new
-
 -- the streams, numbered from one on, were opened one after the other, each with a reply of its own
 abbrev pub StreamsLeft : Setup → ℕ → List StreamLine → List LineReply → Between
 StreamsLeft u s [] [] old new = new ≡ old
@@ -104,23 +100,3 @@ given_of script = record {
 -- the answers of a run without workers
 abbrev pub lines_answered : List LineReply → Answered
 lines_answered replies = record { replies = replies; ticked = []; stepped = [] }
-
--- A run was cut short for want of memory for the reply of a line: what was answered is explained as the run of the
--- lines before it, and then the caller of that line alone placed anything.
-pub record IsCutShort (u : Setup) (given : Given) (told : Answered) (past : List Entry) : Type 0 where
-  pub served : List ActionLine
-  pub line : ActionLine
-  pub rest : List ActionLine
-  pub lines_are : given.lines ≡ served ++ line ∷ rest
-  pub between : List Entry
-  pub explained : IsExplained u (record given { lines = served }) told between
-  pub alone : (me : ℕ) → me ≢ line.caller → IsIdle me between past
-
--- what a run answered is explained; only where it is not whole it may have been cut short
-abbrev pub IsRunExplained : Setup → Given → List LineReply → Bool → List Entry → Type 0
-IsRunExplained u given replies whole past =
-    IsExplained u given (lines_answered replies) past ⊎ ((whole ≡ false) × IsCutShort u given (lines_answered replies) past)
-
--- the answers of a run that ended with a status are explained; only at 6 it may have been cut short
-abbrev pub ExplainsRun : Setup → ℕ → Given → Answered → List Entry → Type 0
-ExplainsRun u status given told past = IsExplained u given told past ⊎ ((status ≡ 6) × IsCutShort u given told past)

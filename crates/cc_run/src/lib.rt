@@ -10,15 +10,19 @@
 //! on what a journal means and on how it explains answers. The program stands on it.
 #![tactic(auto)]
 
+mod callers;
+mod calls;
 mod intake;
 mod line;
 mod lines;
 mod no_run;
 mod openings;
 mod output;
+mod phases;
 mod row;
 mod run;
 mod table;
+mod threads;
 mod top;
 mod words;
 

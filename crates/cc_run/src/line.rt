@@ -1,6 +1,6 @@
 //! One line: its action's call, over any turns, and its answer.
 
-ghost use Rattle.std.specs.Prelude.{IfOk, ℕ, List};
+ghost use Rattle.std.specs.Prelude.{ℕ, List};
 ghost use Rattle.cc_entry.specs.declared.call.Call.TheVariants as call;
 ghost use Rattle.cc_pieces.specs.Answered.{CallAnswered};
 ghost use Rattle.cc_pieces.specs.Bindings.{Binding};
@@ -13,22 +13,41 @@ ghost use Rattle.cc_run.specs.Lines.{CanServe, IsFullTold, told_of};
 ghost use Rattle.std.specs.Prelude.{◌≡◌};
 
 use cc_calls::{copy_read, copy_write, set_file_sizes, zero_data};
-use cc_entry::{Answer, Bytes, CcError, FileId, NoMemory, Reply, Span};
+use cc_entry::{Answer, Bytes, BytesRoom, CcError, FileId, Reply, Span};
 use cc_script::Action;
+use cc_traits::Gate;
 use cc_turns::Turns;
 use std::alloc::Global;
 
-/// Serves an action, and answers its line. Want of memory for the call is an answer; for the reply of a call that was
-/// done it is not, since the journal has the call then.
-pub(crate) fn serve<T: Turns>(
+/// Serves an action between the two sides of the gate, as the call of its caller with this number.
+pub(crate) fn serve_at<T: Turns, P: Gate>(
     alloc: Global,
     turns: &mut T,
     action: &Action,
-) -> Result<Answer, NoMemory>
+    gate: &P,
+    number: u32,
+) -> Answer
     requires { CanServe (T.standing turns.old) action.now }
-    ensures served { IfOk result (λ told. (bindings : List Binding) → Served (T.standing turns.old).setup
-        (T.standing turns.old).number bindings action.now told (T.standing turns.old).seen (T.standing turns.new).seen) }
-    ensures full { IfOk result (IsFullTold (T.standing turns.new)) }
+    ensures served { (bindings : List Binding) → Served (T.standing turns.old).setup (T.standing turns.old).number
+        bindings action.now result (T.standing turns.old).seen (T.standing turns.new).seen }
+    ensures full { IsFullTold (T.standing turns.new) result }
+    ensures goes_on { WentOn (T.standing turns.old) (T.standing turns.new) }
+    ensures settled { IsSettled (T.standing turns.new) }
+{
+    let caller = turns.me();
+    gate.before(caller, number);
+    let answer = serve(alloc, turns, action);
+    gate.after(caller, number);
+    answer
+}
+
+/// Serves an action, and answers its line. Want of memory is an answer, of a call that was not done: what the answer
+/// of one that was done takes is there before.
+fn serve<T: Turns>(alloc: Global, turns: &mut T, action: &Action) -> Answer
+    requires { CanServe (T.standing turns.old) action.now }
+    ensures served { (bindings : List Binding) → Served (T.standing turns.old).setup (T.standing turns.old).number
+        bindings action.now result (T.standing turns.old).seen (T.standing turns.new).seen }
+    ensures full { IsFullTold (T.standing turns.new) result }
     ensures goes_on { WentOn (T.standing turns.old) (T.standing turns.new) }
     ensures settled { IsSettled (T.standing turns.new) }
 {
@@ -39,13 +58,13 @@ pub(crate) fn serve<T: Turns>(
             len,
             wait,
         } => read(alloc, turns, *file, *at, *len, *wait),
-        Action::CopyWrite { file, at, bytes } => Ok(write(alloc, turns, *file, *at, bytes)),
-        Action::Zero { file, span } => Ok(zero(alloc, turns, *file, *span)),
+        Action::CopyWrite { file, at, bytes } => write(alloc, turns, *file, *at, bytes),
+        Action::Zero { file, span } => zero(alloc, turns, *file, *span),
         Action::SetSizes {
             file,
             allocation,
             size,
-        } => Ok(answered(set_file_sizes(alloc, turns, *file, *allocation, *size))),
+        } => answered(set_file_sizes(alloc, turns, *file, *allocation, *size)),
         Action::State { .. } | Action::Flush { .. } | Action::IsDirtyData => unreachable!(),
     }
 }
@@ -68,23 +87,23 @@ fn read<T: Turns>(
     at: u64,
     len: u64,
     wait: bool,
-) -> Result<Answer, NoMemory>
+) -> Answer
     requires { CanCall (T.standing turns.old) file.stream }
-    ensures answered { IfOk result (λ told. CallAnswered (T.standing turns.old).setup (T.standing turns.old).number
-        (call.CopyRead file at len wait) told (T.standing turns.old).seen (T.standing turns.new).seen) }
-    ensures full { IfOk result (IsFullTold (T.standing turns.new)) }
+    ensures answered { CallAnswered (T.standing turns.old).setup (T.standing turns.old).number
+        (call.CopyRead file at len wait) result (T.standing turns.old).seen (T.standing turns.new).seen }
+    ensures full { IsFullTold (T.standing turns.new) result }
     ensures goes_on { WentOn (T.standing turns.old) (T.standing turns.new) }
     ensures settled { IsSettled (T.standing turns.new) }
 {
     let Ok(mut out) = vec![in alloc; 0; len as usize] else {
-        return Ok(Answer::Refused(CcError::NoMemory));
+        return Answer::Refused(CcError::NoMemory);
+    };
+    let Ok(room) = BytesRoom::new(alloc, out.len()) else {
+        return Answer::Refused(CcError::NoMemory);
     };
     match copy_read(alloc, turns, file, at, wait, &mut out) {
-        Ok(count) => {
-            let bytes = Bytes::of(alloc, &out[..count])?;
-            Ok(Answer::Given(Reply::Read(bytes)))
-        }
-        Err(error) => Ok(Answer::Refused(error)),
+        Ok(count) => Answer::Given(Reply::Read(room.keep(&out[..count]))),
+        Err(error) => Answer::Refused(error),
     }
 }
 

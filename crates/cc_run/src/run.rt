@@ -1,4 +1,4 @@
-//! The run of a script on a desk: its streams are opened, each of its lines is served, and all comes back.
+//! The run of a script: on a desk its streams are opened, its phases are served, and all comes back.
 
 ghost use Rattle.std.specs.Prelude.{◌≡◌, ℕ, ◌+◌, ◌≤◌, [], IfOk, IfErr, IfSome, OnErr, IsOk, is_some, length, reverse, true, vec_len, vec_capacity};
 ghost use Rattle.std.specs.List.{AllByRecursion};
@@ -9,24 +9,27 @@ ghost use Rattle.cc_script.specs.Within.{IsWithin};
 ghost use Rattle.cc_turns.specs.Standing.{nothing};
 ghost use Rattle.cc_turns.specs.Desk.{IsFresh, standing_of};
 ghost use Rattle.cc_run.specs.Disks.{DisksAre, DisksStand, AreCounted, HaveRisen};
-ghost use Rattle.cc_run.specs.Lines.{IsRunExplained, given_of};
+ghost use Rattle.cc_run.specs.Lines.{given_of, lines_answered};
+ghost use Rattle.cc_pieces.specs.Explained.{IsExplained};
 ghost use Rattle.cc_run.specs.Setups.{run_disks, setup_of};
 
-use crate::lines::serve_lines;
+use crate::phases::serve_phases;
 use crate::openings::open_streams;
 use crate::row::{first_of, put_back};
 use crate::table::printed_rows;
-use cc_entry::{Entry, LineReply, NoMemory};
+use cc_entry::{Entry, LineReply};
 use cc_journal::Parts;
 use cc_print::TableRow;
 use cc_script::Script;
-use cc_traits::{LogFile, PageDisk, PostRoutine, Setup};
+use cc_traits::{Gate, LogFile, PageDisk, PostRoutine, Setup};
 use cc_turns::Desk;
 use std::alloc::Global;
+use std::sync::Wait;
+use std::thread::Threads;
 
 /// What a run left.
 pub(crate) struct RunResult<D> {
-    /// The answer of each line, those of the streams first; the last ones are missing where memory was wanting.
+    /// The answer of each line, those of the streams first.
     pub(crate) replies: Vec<LineReply>,
     /// The oldest entry first.
     pub(crate) journal: Vec<Entry>,
@@ -37,16 +40,24 @@ pub(crate) struct RunResult<D> {
 
 /// Runs a script over the first disks that are handed in, 16 at most, which come back with the others. Where memory is
 /// wanting before the run begins, they come back as they were.
-pub(crate) fn run_script<D: PageDisk, L: LogFile, Q: PostRoutine>(
+pub(crate) fn run_script<
+    R: Threads + Wait + Sync,
+    D: PageDisk,
+    L: LogFile,
+    Q: PostRoutine,
+    P: Gate,
+>(
+    rt: &R,
     alloc: Global,
     script: &Script,
+    gate: &P,
     disks: Vec<D>,
 ) -> Result<RunResult<D>, Vec<D>>
     requires within { IsWithin offered script.now }
     requires enough { length script.now.streams ≤ length disks.items }
     ensures good { IfOk result (λ ran. IsGood (setup_of D.told D.faults script.now disks.items) (reverse ran.journal.items)) }
-    ensures explained { IfOk result (λ ran. IsRunExplained (setup_of D.told D.faults script.now disks.items)
-        (given_of script.now) ran.replies.items (is_some ran.table) (reverse ran.journal.items)) }
+    ensures explained { IfOk result (λ ran. IsExplained (setup_of D.told D.faults script.now disks.items)
+        (given_of script.now) (lines_answered ran.replies.items) (reverse ran.journal.items)) }
     ensures table { IfOk result (λ ran. IfSome ran.table (λ rows. rows.items ≡ table_of (reverse ran.journal.items))) }
     ensures disks { IfOk result (λ ran. DisksAre D.told (reverse ran.journal.items) disks.items ran.disks.items) }
     ensures counted { IfOk result (λ ran. AreCounted D.faults (reverse ran.journal.items) disks.items ran.disks.items) }
@@ -74,7 +85,7 @@ pub(crate) fn run_script<D: PageDisk, L: LogFile, Q: PostRoutine>(
                 journal,
                 table,
                 disks,
-            } = run_on(alloc, script, desk, replies);
+            } = run_on(rt, alloc, script, gate, desk, replies);
             Ok(RunResult {
                 replies,
                 journal,
@@ -87,9 +98,11 @@ pub(crate) fn run_script<D: PageDisk, L: LogFile, Q: PostRoutine>(
 }
 
 // Runs a script on a desk of which nothing happened yet, with room for the replies.
-fn run_on<D: PageDisk, L: LogFile, Q: PostRoutine>(
+fn run_on<R: Threads + Wait + Sync, D: PageDisk, L: LogFile, Q: PostRoutine, P: Gate>(
+    rt: &R,
     alloc: Global,
     script: &Script,
+    gate: &P,
     desk: Desk<D, L, Q>,
     replies: Vec<LineReply>,
 ) -> RunResult<D>
@@ -99,8 +112,8 @@ fn run_on<D: PageDisk, L: LogFile, Q: PostRoutine>(
     requires none { replies.items ≡ [] }
     requires room { length script.now.streams + length script.now.lines ≤ vec_capacity replies }
     ensures good { IsGood (standing_of D.told D.faults L.told L.faults desk).setup (reverse result.journal.items) }
-    ensures explained { IsRunExplained (standing_of D.told D.faults L.told L.faults desk).setup
-        (given_of script.now) result.replies.items (is_some result.table) (reverse result.journal.items) }
+    ensures explained { IsExplained (standing_of D.told D.faults L.told L.faults desk).setup
+        (given_of script.now) (lines_answered result.replies.items) (reverse result.journal.items) }
     ensures table { IfSome result.table (λ rows. rows.items ≡ table_of (reverse result.journal.items)) }
     ensures disks { DisksStand D.told D.faults (standing_of D.told D.faults L.told L.faults desk).disks
         (length desk.begun.disks) (reverse result.journal.items) result.disks.items }
@@ -108,29 +121,21 @@ fn run_on<D: PageDisk, L: LogFile, Q: PostRoutine>(
     let mut desk = desk;
     let mut replies = replies;
     open_streams(alloc, &mut desk, script.streams.as_slice(), &mut replies);
-    let served = serve_lines(alloc, &mut desk, script.lines.as_slice(), &mut replies);
-    let table = table_after(alloc, &desk, served);
+    let desk = serve_phases(
+        rt,
+        alloc,
+        desk,
+        script.phases,
+        script.lines.as_slice(),
+        gate,
+        &mut replies,
+    );
+    let table = printed_rows(alloc, desk.journal().dirty().rows()).ok();
     let Parts { disks, journal, .. } = desk.end();
     RunResult {
         replies,
         journal,
         table,
         disks,
-    }
-}
-
-// The rows of the dirty page table at the end, where the lines were served and there is memory for them.
-fn table_after<D: PageDisk, L: LogFile, Q: PostRoutine>(
-    alloc: Global,
-    desk: &Desk<D, L, Q>,
-    served: Result<(), NoMemory>,
-) -> Option<Vec<TableRow>>
-    requires { desk.now.held ≡ nothing }
-    ensures served { is_some result ≡ true → IsOk served }
-    ensures table { IfSome result (λ rows. rows.items ≡ table_of desk.now.last.entries) }
-{
-    match served {
-        Ok(()) => printed_rows(alloc, desk.journal().dirty().rows()).ok(),
-        Err(NoMemory) => None,
     }
 }

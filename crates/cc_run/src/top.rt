@@ -14,7 +14,8 @@ ghost use Rattle.cc_run.specs.Complete.{EndsWith, SyntaxAlways, TooLongAlways, T
 ghost use Rattle.cc_run.specs.declared.no_run.NoRun.TheVariants as no_run;
 ghost use Rattle.cc_run.specs.Disks.{DisksAre, AreCounted, HaveRisen};
 ghost use Rattle.cc_run.specs.Words.{is_run};
-ghost use Rattle.cc_run.specs.Lines.{ExplainsRun, given_of, lines_answered};
+ghost use Rattle.cc_run.specs.Lines.{given_of, lines_answered};
+ghost use Rattle.cc_pieces.specs.Explained.{IsExplained};
 
 use crate::intake::{IntakeError, take_all};
 use crate::no_run::{NoRun, syntax_text};
@@ -26,6 +27,8 @@ use cc_print::text_of;
 use cc_script::{Mode, Script, ScriptFault, read_script};
 use cc_traits::{Gate, LogFile, PageDisk, PostRoutine, Sink, Source};
 use std::alloc::Global;
+use std::sync::Wait;
+use std::thread::Threads;
 
 /// What a run of the program leaves. Disks, logs and posts come back in the order handed in.
 pub struct Ended<D, L = Box<dyn LogFile + Send>, Q = Box<dyn PostRoutine + Send>> {
@@ -36,7 +39,7 @@ pub struct Ended<D, L = Box<dyn LogFile + Send>, Q = Box<dyn PostRoutine + Send>
     /// The script that was run, where one was: at the statuses 0 and 4, and at 6 where memory was wanting
     /// after the run began.
     pub script: Option<Script>,
-    /// The answer of each line; the last ones are missing where memory was wanting for one.
+    /// The answer of each line, those of the streams first.
     pub replies: Vec<LineReply>,
     /// The answers of the lazy writer, with the number of the phase, from 1, as line. There is none yet.
     pub ticks: Vec<LineReply>,
@@ -154,20 +157,22 @@ fn print<K: Sink, D>(alloc: Global, out: &mut K, script: &Script, ran: &RunResul
 }
 
 /// Reads the script and runs it.
-fn conduct<S: Source, K: Sink, D: PageDisk>(
+fn conduct<R: Threads + Wait + Sync, S: Source, K: Sink, D: PageDisk, P: Gate>(
+    rt: &R,
     alloc: Global,
     words: &[String],
     source: &mut S,
     out: &mut K,
     disks: Vec<D>,
+    gate: &P,
 ) -> Report<D>
     ensures good { (u : Setup) → IsSetupOf D.told D.faults result.script disks.items u → IsGood u (reverse result.journal.items) }
     ensures ended { IsEnded
         (input S.told S.faults S.taken (map string_bytes words.now) source.old source.new (length disks.items))
         (output K.told K.faults K.stalls out.old out.new)
         result.script result.replies.items result.journal.items result.status }
-    ensures explained { IfSome result.script (λ made. ExplainsRun (setup_of D.told D.faults made disks.items)
-        result.status (given_of made) (lines_answered result.replies.items) (reverse result.journal.items)) }
+    ensures explained { IfSome result.script (λ made. IsExplained (setup_of D.told D.faults made disks.items)
+        (given_of made) (lines_answered result.replies.items) (reverse result.journal.items)) }
     ensures untouched { is_run (map string_bytes words.now) ≡ false → source.new ≡ source.old }
     ensures given { WasTaken (S.told source.old) (S.told source.new) (S.taken source.old) (S.taken source.new) }
     ensures bounded { S.taken source.new ≤ S.taken source.old + 16777217 }
@@ -179,8 +184,8 @@ fn conduct<S: Source, K: Sink, D: PageDisk>(
         Ok(prepared) => prepared,
         Err(why) => return refused(alloc, out, why, disks),
     };
-    let ran = match run_script::<D, Box<dyn LogFile + Send>, Box<dyn PostRoutine + Send>>(
-        alloc, &script, disks,
+    let ran = match run_script::<R, D, Box<dyn LogFile + Send>, Box<dyn PostRoutine + Send>, P>(
+        rt, alloc, &script, gate, disks,
     ) {
         Ok(ran) => ran,
         Err(disks) => return refused(alloc, out, NoRun::NoMemory, disks),
@@ -202,10 +207,11 @@ fn conduct<S: Source, K: Sink, D: PageDisk>(
 }
 
 /// The run of the program: the words of the command line without its name, the script's bytes from a
-/// source, the text to a sink, a disk for each stream, and the logs and post routines, which come back
-/// as they were. Whatever is handed in, the journal that is given back is good over the pages that the
+/// source, the text to a sink, a disk for each stream, the logs and post routines, which come back as they were, and
+/// the gate that callers pass. The callers of a phase run on threads, phase after phase. Whatever is handed in, the journal that is given back is good over the pages that the
 /// disks tell, and it is what happened, also where memory was wanting after the run began.
-pub fn cache_main<S: Source, K: Sink, D: PageDisk, P: Gate>(
+pub fn cache_main<R: Threads + Wait + Sync, S: Source, K: Sink, D: PageDisk, P: Gate>(
+    rt: &R,
     alloc: Global,
     words: &[String],
     script: &mut S,
@@ -213,7 +219,7 @@ pub fn cache_main<S: Source, K: Sink, D: PageDisk, P: Gate>(
     disks: Vec<D>,
     logs: Vec<Box<dyn LogFile + Send>>,
     posts: Vec<Box<dyn PostRoutine + Send>>,
-    _gate: &P,
+    gate: &P,
 ) -> Ended<D>
     ensures good { (u : Setup) → IsSetupOf D.told D.faults result.script disks.items u → IsGood u (reverse result.journal.items) }
     ensures ended { IsEnded
@@ -250,8 +256,8 @@ pub fn cache_main<S: Source, K: Sink, D: PageDisk, P: Gate>(
     ensures bounded { S.taken script.new ≤ S.taken script.old + 16777217 }
     ensures made { (result.status ≡ 0) ⊎ (result.status ≡ 4) → is_some result.script ≡ true }
     ensures spelled { IfSome result.script (Spells (S.told script.old)) }
-    ensures explained { IfSome result.script (λ made. ExplainsRun (setup_of D.told D.faults made disks.items)
-        result.status (given_of made)
+    ensures explained { IfSome result.script (λ made. IsExplained (setup_of D.told D.faults made disks.items)
+        (given_of made)
         (record { replies = result.replies.items; ticked = result.ticks.items; stepped = result.aheads.items })
         (reverse result.journal.items)) }
     ensures empty { result.script ≡ None → result.journal.items ≡ [] }
@@ -271,7 +277,7 @@ pub fn cache_main<S: Source, K: Sink, D: PageDisk, P: Gate>(
         replies,
         journal,
         disks,
-    } = conduct(alloc, words, script, out, disks);
+    } = conduct(rt, alloc, words, script, out, disks, gate);
     Ended {
         status,
         script,

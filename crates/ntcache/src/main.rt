@@ -19,6 +19,8 @@ use std::alloc::{AllocError, Global};
 use std::env;
 use std::io::ErrorKind;
 use std::process::ExitCode;
+use std::sync::Wait;
+use std::thread::Threads;
 
 fn main(rt: HostRuntime) -> ExitCode {
     exit_code(start(rt))
@@ -44,7 +46,7 @@ fn start(rt: HostRuntime) -> Result<u8, AllocError> {
     };
     let mut script = ScriptFile::new(PlaceOf { files: &rt, path });
     let mut out = Output::new(&rt);
-    run(rt.alloc(), &words, &mut script, &mut out)
+    run(&rt, rt.alloc(), &words, &mut script, &mut out)
 }
 
 /// The words of the command line without the program's name; none where one is not text.
@@ -65,7 +67,8 @@ fn words_of(rt: HostRuntime) -> Result<Vec<String>, AllocError> {
 }
 
 /// Runs the words over sixteen disks, and answers the status of the run.
-fn run<S: Source, K: Sink>(
+fn run<R: Threads + Wait + Sync, S: Source, K: Sink>(
+    rt: &R,
     alloc: Global,
     words: &[String],
     script: &mut S,
@@ -97,6 +100,6 @@ fn run<S: Source, K: Sink>(
         disks: _disks,
         logs: _logs,
         posts: _posts,
-    } = cache_main(alloc, words, script, out, disks, logs, posts, &Free);
+    } = cache_main(rt, alloc, words, script, out, disks, logs, posts, &Free);
     Ok(status)
 }

@@ -1,0 +1,124 @@
+//! The callers of a phase, each on a thread of its own, over one board.
+
+ghost use Rattle.std.specs.Prelude.{◌≡◌, ℕ, ◌+◌, ◌<◌, ◌≤◌, length, vec_len, vec_capacity};
+ghost use Rattle.std.specs.List.{AllByRecursion};
+ghost use Rattle.std.specs.Thread.{IsSync};
+ghost use Rattle.cc_turns.specs.Places.{IsRoomFor};
+ghost use Rattle.cc_turns.specs.Desk.{tells_of};
+ghost use Rattle.cc_run.specs.Callers.{MayRun, CallerRan, MayAllRun, AllRan};
+
+use crate::line::serve_at;
+use cc_board::{Board, Pass, Seated};
+use cc_entry::Answer;
+use cc_script::ActionLine;
+use cc_traits::{Gate, LogFile, PageDisk, PostRoutine, Told};
+use cc_turns::Turns;
+use std::alloc::Global;
+use std::sync::Wait;
+use std::thread::{Threads, join};
+
+/// A caller of a phase.
+#[derive(Drop)]
+pub(crate) struct Caller<D: Told, L: LogFile, Q: PostRoutine> {
+    pub(crate) pass: Pass<D, L, Q>,
+    /// Room for the answer of each of its lines.
+    pub(crate) room: Vec<Answer>,
+    /// How many calls it made in the phases before.
+    pub(crate) calls: u32,
+}
+
+/// What a caller leaves: its pass, and the answers of its lines in their order.
+#[derive(Drop)]
+pub(crate) struct Finished<D: Told, L: LogFile, Q: PostRoutine> {
+    pub(crate) pass: Pass<D, L, Q>,
+    pub(crate) answers: Vec<Answer>,
+}
+
+/// Runs the lines of each caller, on a thread of its own where it has any. A thread that can't be started is run by the
+/// one that starts it.
+pub(crate) fn run_callers<
+    R: Threads + Wait + Sync,
+    D: PageDisk,
+    L: LogFile,
+    Q: PostRoutine,
+    P: Gate,
+>(
+    rt: &R,
+    alloc: Global,
+    board: &Board<D, L, Q>,
+    lines: &[ActionLine],
+    gate: &P,
+    callers: Vec<Caller<D, L, Q>>,
+    room: Vec<Finished<D, L, Q>>,
+) -> Vec<Finished<D, L, Q>>
+    requires may { MayAllRun board.now lines.now callers.items }
+    requires room { IsRoomFor (length callers.items) room.items (vec_capacity room) }
+    ensures ran { AllRan (tells_of D.told D.faults L.told L.faults Q.posted) board.now lines.now
+        callers.items result.items }
+    ensures capacity { vec_capacity result ≡ vec_capacity room }
+{
+    let mut callers = callers;
+    let Some(caller) = callers.pop() else {
+        return room;
+    };
+    if caller.room.capacity() == 0 {
+        let Caller {
+            pass,
+            room: answers,
+            calls: _,
+        } = caller;
+        let mut ended = run_callers(rt, alloc, board, lines, gate, callers, room);
+        ended.push_reserved(Finished { pass, answers });
+        return ended;
+    }
+    let (mut ended, last) = join(
+        rt,
+        move || -> Vec<Finished<D, L, Q>>
+            requires { IsSync R.row
+                × MayAllRun board.now lines.now callers.items
+                × IsRoomFor (length callers.items) room.items (vec_capacity room) }
+            ensures { AllRan (tells_of D.told D.faults L.told L.faults Q.posted) board.entry.now lines.entry.now
+                callers.entry.items result.items × (vec_capacity result ≡ vec_capacity room.entry) }
+        { run_callers(rt, alloc, board, lines, gate, callers, room) },
+        move || -> Finished<D, L, Q>
+            requires { IsSync R.row × MayRun board.now lines.now caller }
+            ensures { CallerRan (tells_of D.told D.faults L.told L.faults Q.posted) board.entry.now lines.entry.now
+                caller.entry result }
+        { run_caller(rt, alloc, board, lines, gate, caller) },
+    );
+    ended.push_reserved(last);
+    ended
+}
+
+// Runs the lines of a caller.
+fn run_caller<R: Wait, D: PageDisk, L: LogFile, Q: PostRoutine, P: Gate>(
+    rt: &R,
+    alloc: Global,
+    board: &Board<D, L, Q>,
+    lines: &[ActionLine],
+    gate: &P,
+    caller: Caller<D, L, Q>,
+) -> Finished<D, L, Q>
+    requires may { MayRun board.now lines.now caller }
+    ensures ran { CallerRan (tells_of D.told D.faults L.told L.faults Q.posted) board.now lines.now caller result }
+{
+    let Caller {
+        pass,
+        room: mut answers,
+        mut calls,
+    } = caller;
+    let mut seated = Seated::new(rt, board, pass);
+    let me = seated.me();
+    for line in lines {
+        if line.caller == me {
+            calls = calls.saturating_add(1);
+            let answer = serve_at(alloc, &mut seated, &line.action, gate, calls);
+            seated.note_others();
+            answers.push_reserved(answer);
+        }
+    }
+    Finished {
+        pass: seated.into_pass(),
+        answers,
+    }
+}

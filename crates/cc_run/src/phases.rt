@@ -1,0 +1,129 @@
+//! The phases of a script, one after the other: in each the callers run on threads, over one board.
+
+ghost use Rattle.std.specs.Prelude.{◌≡◌, ℕ, ◌+◌, ◌<◌, ◌≤◌, ◌++◌, ◌==◌, suc, take, drop, length, vec_len, vec_capacity};
+ghost use Rattle.std.specs.List.{AllByRecursion};
+ghost use Rattle.cc_pieces.specs.Rooms.{is_alone};
+ghost use Rattle.cc_script.specs.Within.{PhasesAscend};
+ghost use Rattle.cc_turns.specs.Desk.{standing_of};
+ghost use Rattle.cc_run.specs.Desks.{IsReady, IsSameRun};
+ghost use Rattle.cc_run.specs.Lines.{IsServable, IsCaller};
+ghost use Rattle.cc_run.specs.Phases.{PhaseServed, PhasesServed};
+
+use crate::calls::Calls;
+use crate::lines::serve_lines;
+use crate::threads::serve_on_threads;
+use cc_entry::LineReply;
+use cc_script::ActionLine;
+use cc_traits::{Gate, LogFile, PageDisk, PostRoutine};
+use cc_turns::Desk;
+use std::alloc::Global;
+use std::sync::Wait;
+use std::thread::Threads;
+
+/// Serves the lines phase by phase, and puts the answer of each behind the replies, in the order of the lines.
+pub(crate) fn serve_phases<
+    R: Threads + Wait + Sync,
+    D: PageDisk,
+    L: LogFile,
+    Q: PostRoutine,
+    P: Gate,
+>(
+    rt: &R,
+    alloc: Global,
+    desk: Desk<D, L, Q>,
+    phases: u32,
+    lines: &[ActionLine],
+    gate: &P,
+    replies: &mut Vec<LineReply>,
+) -> Desk<D, L, Q>
+    requires ready { IsReady (standing_of D.told D.faults L.told L.faults desk) }
+    requires servable { AllByRecursion (λ line.
+        IsServable (standing_of D.told D.faults L.told L.faults desk).streams line.action) lines.now }
+    requires callers { AllByRecursion (λ line. IsCaller line.caller) lines.now }
+    requires few { phases < 2048 }
+    requires ascend { PhasesAscend 1 lines.now }
+    requires within { AllByRecursion (λ line. line.phase ≤ phases) lines.now }
+    requires room { vec_len replies.old + length lines.now ≤ vec_capacity replies.old }
+    ensures served { PhasesServed (standing_of D.told D.faults L.told L.faults desk).setup phases lines.now
+        replies.old.items replies.new.items desk.last.entries result.last.entries }
+    ensures run { IsSameRun (standing_of D.told D.faults L.told L.faults desk)
+        (standing_of D.told D.faults L.told L.faults result) }
+    ensures ready { IsReady (standing_of D.told D.faults L.told L.faults result) }
+{
+    let mut desk = desk;
+    let mut calls = Calls::new();
+    let mut rest = lines;
+    for phase in 1..phases + 1 {
+        let (now, later) = rest.split_at(count_of_phase(rest, phase));
+        desk = serve_phase(rt, alloc, desk, phase, now, gate, &mut calls, replies);
+        rest = later;
+    }
+    desk
+}
+
+// How many lines are of a phase, which no line is before.
+fn count_of_phase(lines: &[ActionLine], phase: u32) -> usize
+    requires { PhasesAscend phase lines.now }
+    ensures within { result ≤ length lines.now }
+    ensures those { AllByRecursion (λ line. line.phase ≡ phase) (take result lines.now) }
+    ensures later { PhasesAscend (suc phase) (drop result lines.now) }
+{
+    let mut count = 0;
+    while count < lines.len() && lines[count].phase == phase {
+        count += 1;
+    }
+    count
+}
+
+// Serves the lines of a phase: on threads, but those of one caller alone. Where memory is wanting for threads, the lines
+// are served in their order.
+fn serve_phase<
+    R: Threads + Wait + Sync,
+    D: PageDisk,
+    L: LogFile,
+    Q: PostRoutine,
+    P: Gate,
+>(
+    rt: &R,
+    alloc: Global,
+    desk: Desk<D, L, Q>,
+    phase: u32,
+    lines: &[ActionLine],
+    gate: &P,
+    calls: &mut Calls,
+    replies: &mut Vec<LineReply>,
+) -> Desk<D, L, Q>
+    requires ready { IsReady (standing_of D.told D.faults L.told L.faults desk) }
+    requires servable { AllByRecursion (λ line.
+        IsServable (standing_of D.told D.faults L.told L.faults desk).streams line.action) lines.now }
+    requires callers { AllByRecursion (λ line. IsCaller line.caller) lines.now }
+    requires those { AllByRecursion (λ line. line.phase ≡ phase) lines.now }
+    requires room { vec_len replies.old + length lines.now ≤ vec_capacity replies.old }
+    ensures served { PhaseServed (standing_of D.told D.faults L.told L.faults desk).setup phase lines.now
+        replies.old.items replies.new.items desk.last.entries result.last.entries }
+    ensures run { IsSameRun (standing_of D.told D.faults L.told L.faults desk)
+        (standing_of D.told D.faults L.told L.faults result) }
+    ensures ready { IsReady (standing_of D.told D.faults L.told L.faults result) }
+    ensures capacity { vec_capacity replies.new ≡ vec_capacity replies.old }
+{
+    let mut desk = desk;
+    if !is_alone(lines) {
+        match serve_on_threads(rt, alloc, desk, lines, gate, calls, replies) {
+            Ok(desk) => return desk,
+            Err(back) => desk = back,
+        }
+    }
+    serve_lines(alloc, &mut desk, lines, gate, calls, replies);
+    desk
+}
+
+// Whether lines are all of one caller.
+fn is_alone(lines: &[ActionLine]) -> bool
+    ensures { (phase : ℕ) → AllByRecursion (λ line. line.phase ≡ phase) lines.now →
+        result ≡ is_alone phase lines.now }
+{
+    match lines.first() {
+        Some(first) => lines.iter().all(|line| line.caller == first.caller),
+        None => true,
+    }
+}

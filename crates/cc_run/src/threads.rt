@@ -1,0 +1,221 @@
+//! A phase on threads: a board is made of the desk, each caller runs its lines with a pass of it, and it is closed into
+//! the desk again.
+
+ghost use Rattle.std.specs.Prelude.{◌≡◌, ◌≢◌, ℕ, ◌+◌, ◌<◌, ◌≤◌, ◌++◌, false, length, map, vec_len, vec_capacity, IfOk, IfErr, OnOk, OnErr};
+ghost use Rattle.std.specs.List.{AllByRecursion};
+ghost use Rattle.cc_pieces.specs.Explained.{answered_lines};
+ghost use Rattle.cc_pieces.specs.Phases.{is_of_phase};
+ghost use Rattle.cc_pieces.specs.Rooms.{is_alone};
+ghost use Rattle.cc_pieces.specs.Runs.{asked_of};
+ghost use Rattle.cc_board.specs.Board.{IsFirstOf, IsOf};
+ghost use Rattle.cc_turns.specs.Desk.{standing_of, tells_of};
+ghost use Rattle.cc_turns.specs.Places.{IsRoomFor};
+ghost use Rattle.cc_run.specs.Callers.{AllRan, AreRows, MayAllRun, asked_own, count_of, row_at};
+ghost use Rattle.cc_run.specs.Desks.{IsReady, IsSameRun};
+ghost use Rattle.cc_run.specs.Lines.{IsServable, IsCaller};
+ghost use Rattle.cc_run.specs.Phases.{PhaseServed};
+ghost use Rattle.cc_run.specs.Threads.{AreRooms, AreSplit, AreJoined, Merged, MaySplit, MayJoin};
+
+use crate::callers::{Caller, Finished, run_callers};
+use crate::calls::Calls;
+use cc_board::{Board, FirstPass};
+use cc_entry::{Answer, LineReply, NoMemory};
+use cc_script::ActionLine;
+use cc_traits::{Gate, LogFile, PageDisk, PostRoutine, Told};
+use cc_turns::Desk;
+use std::alloc::Global;
+use std::sync::Wait;
+use std::thread::Threads;
+
+/// The most callers of a script.
+const CALLERS: u16 = 16;
+
+/// Serves the lines of a phase, each caller's on a thread of its own, and puts the answer of each behind the replies, in
+/// the order of the lines. Where memory is wanting for the threads, nothing was done and the desk comes back.
+pub(crate) fn serve_on_threads<
+    R: Threads + Wait + Sync,
+    D: PageDisk,
+    L: LogFile,
+    Q: PostRoutine,
+    P: Gate,
+>(
+    rt: &R,
+    alloc: Global,
+    desk: Desk<D, L, Q>,
+    lines: &[ActionLine],
+    gate: &P,
+    calls: &mut Calls,
+    replies: &mut Vec<LineReply>,
+) -> Result<Desk<D, L, Q>, Desk<D, L, Q>>
+    requires ready { IsReady (standing_of D.told D.faults L.told L.faults desk) }
+    requires servable { AllByRecursion (λ line.
+        IsServable (standing_of D.told D.faults L.told L.faults desk).streams line.action) lines.now }
+    requires callers { AllByRecursion (λ line. IsCaller line.caller) lines.now }
+    requires room { vec_len replies.old + length lines.now ≤ vec_capacity replies.old }
+    ensures served { IfOk result (λ now. (phase : ℕ) → AllByRecursion (λ line. line.phase ≡ phase) lines.now →
+        is_alone phase lines.now ≡ false →
+        PhaseServed (standing_of D.told D.faults L.told L.faults desk).setup phase lines.now
+        replies.old.items replies.new.items desk.last.entries now.last.entries) }
+    ensures run { IfOk result (λ now. IsSameRun (standing_of D.told D.faults L.told L.faults desk)
+        (standing_of D.told D.faults L.told L.faults now)) }
+    ensures ready { IfOk result (λ now. IsReady (standing_of D.told D.faults L.told L.faults now)) }
+    ensures kept { OnErr result (replies.new.items ≡ replies.old.items) }
+    ensures same { IfErr result (λ back. back.last.entries ≡ desk.last.entries) }
+    ensures run_kept { IfErr result (λ back. IsSameRun (standing_of D.told D.faults L.told L.faults desk)
+        (standing_of D.told D.faults L.told L.faults back)) }
+    ensures ready_still { IfErr result (λ back. IsReady (standing_of D.told D.faults L.told L.faults back)) }
+    ensures capacity { vec_capacity replies.new ≡ vec_capacity replies.old }
+{
+    let Rooms {
+        rooms,
+        callers,
+        ended,
+        rows,
+    } = match rooms_for(alloc, lines) {
+        Ok(rooms) => rooms,
+        Err(NoMemory) => return Err(desk),
+    };
+    let (board, mut first) = match Board::new(alloc, desk, CALLERS) {
+        Ok(made) => made,
+        Err((desk, _)) => return Err(desk),
+    };
+    let callers = split_all(&board, &mut first, calls, rooms, callers);
+    let ended = run_callers(rt, alloc, &board, lines, gate, callers, ended);
+    let rows = join_all(&board, &mut first, calls, ended, rows);
+    match board.close(first) {
+        Ok(desk) => {
+            merge(lines, rows, replies);
+            Ok(desk)
+        }
+        Err(_) => unreachable!(),
+    }
+}
+
+/// The memory that a phase takes before any of its calls.
+struct Rooms<D: Told, L: LogFile, Q: PostRoutine> {
+    /// Of each caller, from the last one on, room for the answers of its lines.
+    rooms: Vec<Vec<Answer>>,
+    callers: Vec<Caller<D, L, Q>>,
+    ended: Vec<Finished<D, L, Q>>,
+    rows: Vec<Vec<Answer>>,
+}
+
+// Takes the memory of a phase.
+fn rooms_for<D: Told, L: LogFile, Q: PostRoutine>(
+    alloc: Global,
+    lines: &[ActionLine],
+) -> Result<Rooms<D, L, Q>, NoMemory>
+    ensures rooms { IfOk result (λ rooms. AreRooms lines.now rooms.rooms.items) }
+    ensures callers { IfOk result (λ rooms. IsRoomFor 16 rooms.callers.items (vec_capacity rooms.callers)) }
+    ensures ended { IfOk result (λ rooms. IsRoomFor 16 rooms.ended.items (vec_capacity rooms.ended)) }
+    ensures rows { IfOk result (λ rooms. IsRoomFor 16 rooms.rows.items (vec_capacity rooms.rows)) }
+{
+    let count = usize::from(CALLERS);
+    let callers = Vec::with_capacity(alloc, count)?;
+    let ended = Vec::with_capacity(alloc, count)?;
+    let rows = Vec::with_capacity(alloc, count)?;
+    Ok(Rooms {
+        rooms: answer_rooms(alloc, lines)?,
+        callers,
+        ended,
+        rows,
+    })
+}
+
+// Room for the answers of each caller, from the last one on.
+fn answer_rooms(alloc: Global, lines: &[ActionLine]) -> Result<Vec<Vec<Answer>>, NoMemory>
+    ensures { IfOk result (λ rooms. AreRooms lines.now rooms.items) }
+{
+    let mut rooms = Vec::with_capacity(alloc, usize::from(CALLERS))?;
+    let mut caller = u32::from(CALLERS);
+    while caller > 0 {
+        rooms.push_reserved(Vec::with_capacity(alloc, count_of(lines, caller))?);
+        caller -= 1;
+    }
+    Ok(rooms)
+}
+
+// How many lines are a caller's.
+fn count_of(lines: &[ActionLine], caller: u32) -> usize
+    ensures count { result ≡ count_of caller lines.now }
+    ensures within { result ≤ length lines.now }
+{
+    lines.iter().filter(|line| line.caller == caller).count()
+}
+
+// Splits a pass for each caller, in the order of their numbers.
+fn split_all<D: PageDisk, L: LogFile, Q: PostRoutine>(
+    board: &Board<D, L, Q>,
+    first: &mut FirstPass<D, L, Q>,
+    calls: &Calls,
+    rooms: Vec<Vec<Answer>>,
+    callers: Vec<Caller<D, L, Q>>,
+) -> Vec<Caller<D, L, Q>>
+    requires may { MaySplit board.now first.old }
+    requires rooms { length rooms.items ≡ 16 }
+    requires room { IsRoomFor 16 callers.items (vec_capacity callers) }
+    ensures split { AreSplit board.now rooms.items first.old first.new result.items }
+{
+    let mut rooms = rooms;
+    let mut callers = callers;
+    let mut number = 0;
+    while let Some(room) = rooms.pop() {
+        number += 1;
+        let Some(pass) = board.split(first) else {
+            unreachable!()
+        };
+        callers.push_reserved(Caller {
+            pass,
+            room,
+            calls: calls.of(number),
+        });
+    }
+    callers
+}
+
+// Joins the pass of each caller. Of each the row of its answers is left, from the last caller on, and from the last
+// answer on.
+fn join_all<D: PageDisk, L: LogFile, Q: PostRoutine>(
+    board: &Board<D, L, Q>,
+    first: &mut FirstPass<D, L, Q>,
+    calls: &mut Calls,
+    ended: Vec<Finished<D, L, Q>>,
+    rows: Vec<Vec<Answer>>,
+) -> Vec<Vec<Answer>>
+    requires may { MayJoin board.now first.old ended.items }
+    requires room { IsRoomFor 16 rows.items (vec_capacity rows) }
+    ensures joined { AreJoined first.old first.new ended.items result.items }
+{
+    let mut ended = ended;
+    let mut rows = rows;
+    let mut number = u32::from(CALLERS);
+    while let Some(Finished { pass, answers }) = ended.pop() {
+        board.join(first, pass);
+        calls.add(number, answers.len() as u32);
+        number -= 1;
+        let mut row = answers;
+        row.reverse();
+        rows.push_reserved(row);
+    }
+    rows
+}
+
+// Puts the answer of each line behind the replies, from the rows of its caller.
+fn merge(lines: &[ActionLine], rows: Vec<Vec<Answer>>, replies: &mut Vec<LineReply>)
+    requires callers { AllByRecursion (λ line. IsCaller line.caller) lines.now }
+    requires rows { AreRows lines.now (map (λ row. row.items) rows.items) }
+    requires room { vec_len replies.old + length lines.now ≤ vec_capacity replies.old }
+    ensures merged { Merged lines.now (map (λ row. row.items) rows.items) replies.old.items replies.new.items }
+    ensures capacity { vec_capacity replies.new ≡ vec_capacity replies.old }
+{
+    let mut rows = rows;
+    for line in lines {
+        let Some(answer) = rows[usize::from(CALLERS) - line.caller as usize].pop() else {
+            unreachable!()
+        };
+        replies.push_reserved(LineReply {
+            line: line.line,
+            answer,
+        });
+    }
+}
