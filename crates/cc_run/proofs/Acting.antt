@@ -70,9 +70,6 @@ pass-then old between new first second = record {
   since = second.since ∙ first.since;
 }
 
-pub pass-same : (w : Standing) → IsSamePass w w
-pass-same w = record { run = run-same w; number = refl; since = refl }
-
 module _ (w0 w1 w2 : Standing) (caller : ℕ) (acts : w1 ≡ record w0 { number = caller; since = w0.seen }) (went : WentOn w1 w2) (settled : IsSettled w2) (own : HasActed w2.number w2.since w2.seen) (ready : IsReady w0) where
   number-is : w2.number ≡ caller
   number-is = ap (λ w. w.number) went.same ∙ ap (λ w. w.number) acts

@@ -5,6 +5,8 @@ mod LinesRan
 mod Lists
 mod Opening
 mod Others
+mod PhaseSteps
+mod PhasesRan
 mod RowSteps
 mod RunSteps
 mod Statuses

@@ -1,30 +1,15 @@
 -- Facts of lists and answers.
-use Rattle.std.specs.Prelude.{◌≡◌, ℕ, zero, suc, ◌<◌, List, [], ◌∷◌, ◌++◌, length, take, drop, refl, Result, Ok, Err, IfOk, IfSome, OnErr, Option}
+use Rattle.std.specs.Prelude.{◌≡◌, ℕ, zero, suc, ◌<◌, List, [], ◌∷◌, ◌++◌, length, take, drop, Result, Ok, Err, IfOk, IfSome, Option}
 use Rattle.std.specs.Result.{result_ok}
 use Rattle.std.specs.List.{AllByRecursion}
-use Rattle.std.proofs.Common.{ap, arith, get_or}
-
--- two facts of an answer give a third
-pub if_ok-both : {T E : Type 0} {P Q R : T → Type 0} (r : Result T E) → ((t : T) → P t → Q t → R t) → IfOk r P → IfOk r Q → IfOk r R
-if_ok-both (Ok t) join p q = join t p q
-if_ok-both (Err e) join p q = tt
-
--- a fact that holds, where an answer is a refusal
-pub on_err : {T E : Type 0} {P : Type 0} (r : Result T E) → P → OnErr r P
-on_err (Ok value) fact = tt
-on_err (Err e) fact = fact
+use Rattle.std.proofs.Common.{sym, subst, arith, get_or}
+use Rattle.std.proofs.lemmas.List.{take-append-drop}
 
 -- a fact of each element, of one
 pub all-at : {X : Type 0} (P : X → Type 0) (xs : List X) (i : ℕ) (d : X) → i < length xs → AllByRecursion P xs → P (get_or xs i d)
 all-at P [] i d low all = absurd (omega (arith, low))
 all-at P (x ∷ xs) zero d low all = all.0
 all-at P (x ∷ xs) (suc i) d low all = all-at P xs i d (omega (arith, low)) all.1
-
--- a list is what stands before an element, it, and what stands behind
-pub parted : {X : Type 0} (xs : List X) (i : ℕ) (d : X) → i < length xs → xs ≡ take i xs ++ get_or xs i d ∷ drop (suc i) xs
-parted [] i d low = absurd (omega (arith, low))
-parted (x ∷ xs) zero d low = refl
-parted (x ∷ xs) (suc i) d low = ap (λ l. x ∷ l) (parted xs i d (omega (arith, low)))
 
 -- facts of each element, of others, and of the parts of a list
 pub all-map : {X : Type 0} (P Q : X → Type 0) (xs : List X) → ((x : X) → P x → Q x) → AllByRecursion P xs → AllByRecursion Q xs
@@ -42,6 +27,13 @@ all-front P (x ∷ xs) ys all = (all.0, all-front P xs ys all.1)
 pub all-back : {X : Type 0} (P : X → Type 0) (xs ys : List X) → AllByRecursion P (xs ++ ys) → AllByRecursion P ys
 all-back P [] ys all = all
 all-back P (x ∷ xs) ys all = all-back P xs ys all.1
+
+pub all-join : {X : Type 0} (P : X → Type 0) (xs ys : List X) → AllByRecursion P xs → AllByRecursion P ys → AllByRecursion P (xs ++ ys)
+all-join P [] ys first more = more
+all-join P (x ∷ xs) ys first more = (first.0, all-join P xs ys first.1 more)
+
+pub all-take : {X : Type 0} (P : X → Type 0) (n : ℕ) (xs : List X) → AllByRecursion P xs → AllByRecursion P (take n xs)
+all-take P n xs all = all-front P (take n xs) (drop n xs) (subst (AllByRecursion P) (sym (take-append-drop n xs)) all)
 
 -- a fact of an answer is one of what it gives, if anything
 pub if_some-ok : {T E : Type 0} {P Q : T → Type 0} (r : Result T E) (o : Option T) → o ≡ result_ok r → ((t : T) → P t → Q t) → IfOk r P → IfSome o Q

@@ -1,7 +1,7 @@
 -- The streams that were opened so far.
 use Rattle.std.specs.Prelude.{◌≡◌, ℕ, suc, ◌+◌, List, [], ◌∷◌, ◌++◌, length, refl}
 use Rattle.std.specs.declared.option.Option.TheVariants.{None}
-use Rattle.std.proofs.Common.{subst, ap, sym, ◌∙◌, arith, append_assoc, append-nil}
+use Rattle.std.proofs.Common.{subst, ap, sym, ◌∙◌, arith, append_assoc}
 use Rattle.std.proofs.lemmas.List.{map-append}
 use Rattle.cc_entry.specs.declared.answer.Answer.{Answer}
 use Rattle.cc_entry.specs.declared.answer.LineReply.{LineReply}
@@ -34,9 +34,6 @@ opened-left u s [] [] old new left = let same : new ≡ old = left in rw same (i
 opened-left u s [] (r ∷ replies) old new left = absurd left
 opened-left u s (l ∷ streams) [] old new left = absurd left
 opened-left u s (l ∷ streams) (r ∷ replies) old new left = (left.0, left.1, opened-left u (suc s) streams replies left.0 new left.2)
-
-pub opened-none : (u : Setup) (s : ℕ) (replies : List LineReply) (past : List Entry) → StreamsOpened u s [] replies replies past past
-opened-none u s replies past = record { answers = []; grew = sym (append-nil replies); lines_are = refl; left = refl }
 
 pub stream-more : (u : Setup) (s n : ℕ) (streams : List StreamLine) (stream : StreamLine) (told : Answer) (before after : List LineReply) (old between new : List Entry) → n ≡ s + length streams → StreamsOpened u s streams before after old between → Opens u n stream told between new → StreamsOpened u s (streams ++ stream ∷ []) before (after ++ record { line = stream.line; answer = told } ∷ []) old new
 stream-more u s n streams stream told before after old between new is opened one = record {

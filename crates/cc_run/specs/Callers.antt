@@ -1,5 +1,5 @@
 -- The callers of a phase on threads, over one board.
-use Rattle.std.specs.Prelude.{◌≡◌, ◌≢◌, ℕ, suc, ◌+◌, ◌≤◌, ◌==◌, false, List, [], ◌∷◌, length, reverse, get_or, vec_capacity, if◌then◌else◌}
+use Rattle.std.specs.Prelude.{◌≡◌, ◌≢◌, ℕ, suc, ◌+◌, ◌-◌, ◌≤◌, ◌==◌, false, List, [], ◌∷◌, length, reverse, get_or, vec_capacity, if◌then◌else◌}
 use Rattle.std.specs.List.{AllByRecursion}
 use Rattle.cc_entry.specs.declared.answer.Answer.{Answer}
 use Rattle.cc_entry.specs.declared.entry.Entry.{Entry}

@@ -39,8 +39,8 @@ pub(crate) struct Finished<D: Told, L: LogFile, Q: PostRoutine> {
 pub(crate) fn run_callers<
     R: Threads + Wait + Sync,
     D: PageDisk,
-    L: LogFile,
-    Q: PostRoutine,
+    L: LogFile + Send,
+    Q: PostRoutine + Send,
     P: Gate,
 >(
     rt: &R,
@@ -78,12 +78,12 @@ pub(crate) fn run_callers<
                 × MayAllRun board.now lines.now callers.items
                 × IsRoomFor (length callers.items) room.items (vec_capacity room) }
             ensures { AllRan (tells_of D.told D.faults L.told L.faults Q.posted) board.entry.now lines.entry.now
-                callers.entry.items result.items × (vec_capacity result ≡ vec_capacity room.entry) }
+                callers.items result.items × (vec_capacity result ≡ vec_capacity room) }
         { run_callers(rt, alloc, board, lines, gate, callers, room) },
         move || -> Finished<D, L, Q>
             requires { IsSync R.row × MayRun board.now lines.now caller }
             ensures { CallerRan (tells_of D.told D.faults L.told L.faults Q.posted) board.entry.now lines.entry.now
-                caller.entry result }
+                caller result }
         { run_caller(rt, alloc, board, lines, gate, caller) },
     );
     ended.push_reserved(last);

@@ -1,17 +1,21 @@
 //! The run of a script: the top call `cache_main`.
 //!
 //! One direction: the words of the command line, the script's bytes from a source, the script, the run,
-//! the text, the exit status. A run is made on the desk of one thread: the streams are opened, and the lines
-//! of every caller are served, each by one call. Whatever is handed in, the journal that comes back is good, it
-//! explains the answer of every line, each disk holds what it says, and the text is that of both; each exit
-//! status has its cause. Want of memory after a run began loses nothing of what happened.
+//! the text, the exit status. On the desk of a run its streams are opened; then, phase after phase, the callers make
+//! the calls of their lines, on threads over a board that is made of the desk and closed into it. Whatever is handed
+//! in and in whatever order the turns are taken, the journal that comes back is good, it explains the answer of every
+//! line, each disk holds what it says, and the text is that of both; each exit status has its cause. Want of memory
+//! after a run began loses nothing of what happened.
 //!
-//! It stands on the script, on the text, on the calls and the turns of one thread, on the traits of the outside,
-//! on what a journal means and on how it explains answers. The program stands on it.
+//! `top` has the call, `run` the run, `openings` and `phases` its two parts, `lines` a phase on the desk, `threads` one
+//! on a board, `callers` what each thread does, `line` the call of one line, `call_numbers` what the gate is told.
+//!
+//! It stands on the script, on the text, on the calls, on the turns of one thread and on those that threads share, on
+//! the traits of the outside, on what a journal means and on how it explains answers. The program stands on it.
 #![tactic(auto)]
 
+mod call_numbers;
 mod callers;
-mod calls;
 mod intake;
 mod line;
 mod lines;

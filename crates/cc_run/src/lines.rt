@@ -7,7 +7,7 @@ ghost use Rattle.cc_turns.specs.Desk.{standing_of};
 ghost use Rattle.cc_run.specs.Desks.{IsReady, IsSameRun};
 ghost use Rattle.cc_run.specs.Lines.{IsServable, IsCaller, LineLeft, LinesServed};
 
-use crate::calls::Calls;
+use crate::call_numbers::Calls;
 use crate::line::serve_at;
 use cc_entry::{Answer, LineReply};
 use cc_script::ActionLine;

@@ -9,7 +9,7 @@ ghost use Rattle.cc_run.specs.Desks.{IsReady, IsSameRun};
 ghost use Rattle.cc_run.specs.Lines.{IsServable, IsCaller};
 ghost use Rattle.cc_run.specs.Phases.{PhaseServed, PhasesServed};
 
-use crate::calls::Calls;
+use crate::call_numbers::Calls;
 use crate::lines::serve_lines;
 use crate::threads::serve_on_threads;
 use cc_entry::LineReply;
@@ -24,8 +24,8 @@ use std::thread::Threads;
 pub(crate) fn serve_phases<
     R: Threads + Wait + Sync,
     D: PageDisk,
-    L: LogFile,
-    Q: PostRoutine,
+    L: LogFile + Send,
+    Q: PostRoutine + Send,
     P: Gate,
 >(
     rt: &R,
@@ -80,8 +80,8 @@ fn count_of_phase(lines: &[ActionLine], phase: u32) -> usize
 fn serve_phase<
     R: Threads + Wait + Sync,
     D: PageDisk,
-    L: LogFile,
-    Q: PostRoutine,
+    L: LogFile + Send,
+    Q: PostRoutine + Send,
     P: Gate,
 >(
     rt: &R,

@@ -13,8 +13,8 @@ ghost use Rattle.cc_run.specs.Lines.{given_of, lines_answered};
 ghost use Rattle.cc_pieces.specs.Explained.{IsExplained};
 ghost use Rattle.cc_run.specs.Setups.{run_disks, setup_of};
 
-use crate::phases::serve_phases;
 use crate::openings::open_streams;
+use crate::phases::serve_phases;
 use crate::row::{first_of, put_back};
 use crate::table::printed_rows;
 use cc_entry::{Entry, LineReply};
@@ -43,16 +43,10 @@ pub(crate) struct RunResult<D> {
 pub(crate) fn run_script<
     R: Threads + Wait + Sync,
     D: PageDisk,
-    L: LogFile,
-    Q: PostRoutine,
+    L: LogFile + Send,
+    Q: PostRoutine + Send,
     P: Gate,
->(
-    rt: &R,
-    alloc: Global,
-    script: &Script,
-    gate: &P,
-    disks: Vec<D>,
-) -> Result<RunResult<D>, Vec<D>>
+>(rt: &R, alloc: Global, script: &Script, gate: &P, disks: Vec<D>) -> Result<RunResult<D>, Vec<D>>
     requires within { IsWithin offered script.now }
     requires enough { length script.now.streams ≤ length disks.items }
     ensures good { IfOk result (λ ran. IsGood (setup_of D.told D.faults script.now disks.items) (reverse ran.journal.items)) }
@@ -98,7 +92,7 @@ pub(crate) fn run_script<
 }
 
 // Runs a script on a desk of which nothing happened yet, with room for the replies.
-fn run_on<R: Threads + Wait + Sync, D: PageDisk, L: LogFile, Q: PostRoutine, P: Gate>(
+fn run_on<R: Threads + Wait + Sync, D: PageDisk, L: LogFile + Send, Q: PostRoutine + Send, P: Gate>(
     rt: &R,
     alloc: Global,
     script: &Script,

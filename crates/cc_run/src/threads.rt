@@ -17,7 +17,7 @@ ghost use Rattle.cc_run.specs.Phases.{PhaseServed};
 ghost use Rattle.cc_run.specs.Threads.{AreRooms, AreSplit, AreJoined, Merged, MaySplit, MayJoin};
 
 use crate::callers::{Caller, Finished, run_callers};
-use crate::calls::Calls;
+use crate::call_numbers::Calls;
 use cc_board::{Board, FirstPass};
 use cc_entry::{Answer, LineReply, NoMemory};
 use cc_script::ActionLine;
@@ -35,8 +35,8 @@ const CALLERS: u16 = 16;
 pub(crate) fn serve_on_threads<
     R: Threads + Wait + Sync,
     D: PageDisk,
-    L: LogFile,
-    Q: PostRoutine,
+    L: LogFile + Send,
+    Q: PostRoutine + Send,
     P: Gate,
 >(
     rt: &R,

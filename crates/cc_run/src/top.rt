@@ -207,9 +207,10 @@ fn conduct<R: Threads + Wait + Sync, S: Source, K: Sink, D: PageDisk, P: Gate>(
 }
 
 /// The run of the program: the words of the command line without its name, the script's bytes from a
-/// source, the text to a sink, a disk for each stream, the logs and post routines, which come back as they were, and
-/// the gate that callers pass. The callers of a phase run on threads, phase after phase. Whatever is handed in, the journal that is given back is good over the pages that the
-/// disks tell, and it is what happened, also where memory was wanting after the run began.
+/// source, the text to a sink, a disk for each stream, the logs and post routines, which come back as they
+/// were, and the gate that callers pass. The callers of a phase run on threads, phase after phase. Whatever is
+/// handed in, the journal that is given back is good over the pages that the disks tell, and it is what
+/// happened, also where memory was wanting after the run began.
 pub fn cache_main<R: Threads + Wait + Sync, S: Source, K: Sink, D: PageDisk, P: Gate>(
     rt: &R,
     alloc: Global,

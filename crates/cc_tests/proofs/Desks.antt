@@ -15,5 +15,6 @@ unfolding up_to_call
 can_at_first told faults log_told log_faults d e pass s fresh is at = rw is (rw at (record {
   known = omega (arith, fresh.1);
   free = fresh.0.held_is;
+  none = omega (arith, fresh.0.journal_is.empty.1);
   settled = subst (λ (past : List Entry). owes_store past pass ≡ false) (sym fresh.0.journal_is.empty.0) refl;
 }))

@@ -1,7 +1,14 @@
-use Rattle.std.proofs.Common.{◌∙◌, length, sym, ap, subst, arith}
+use Rattle.std.proofs.Common.{◌≡◌, ◌≤◌, ◌∙◌, length, map, sym, ap, subst, arith}
 use Rattle.std.specs.List.{AllByRecursion}
-use Rattle.cc_run.specs.Lines.{IsServable}
-use Rattle.cc_run.proofs.LinesRan.{run-explained}
+use Rattle.cc_script.specs.Verbs.{offered}
+use Rattle.cc_script.specs.Within.{IsLineWithin}
+use Rattle.cc_journal.specs.Rows.{Follows}
+use Rattle.cc_pieces.specs.Table.{table_of}
+use Rattle.cc_run.specs.Lines.{IsServable, IsCaller}
+use Rattle.cc_run.specs.Rows.{printed_row}
+use Rattle.cc_run.proofs.DirtyRows.{rows-table}
+use Rattle.cc_run.proofs.Lists.{all-map, if_some-ok}
+use Rattle.cc_run.proofs.PhasesRan.{run-explained}
 use Rattle.cc_run.proofs.RunSteps.{owes-none, servable-all, opened-long, disks-stand}
 use Rattle.cc_run.proofs.run.run_on.Goals as goal
 
@@ -12,24 +19,40 @@ open_streams-requires-clause-ready g c κs within = record {
   settled = λ me. rw c.requires.fresh.journal_is.empty.0 (owes-none me);
 }
 
-pub serve_lines-served-requires-clause-servable : goal.serve_lines-served-requires-clause-servable
-serve_lines-served-requires-clause-servable g c κs within =
+pub serve_phases-desk-requires-clause-servable : goal.serve_phases-desk-requires-clause-servable
+serve_phases-desk-requires-clause-servable g c κs within =
     let streams = c.open_streams.ensures.run.streams in
     subst (λ n. AllByRecursion (λ line. IsServable n line.action) c.as_slice-2.result.now) (sym streams)
     (rw c.as_slice-2.ensures (servable-all c.args.script.now.streams c.args.script.now.phases (length c.args.desk.begun.disks) c.args.script.now.lines c.requires.enough c.requires.within.lines))
 
-pub serve_lines-served-requires-clause-room : goal.serve_lines-served-requires-clause-room
-serve_lines-served-requires-clause-room g c κs within =
+pub serve_phases-desk-requires-clause-callers : goal.serve_phases-desk-requires-clause-callers
+serve_phases-desk-requires-clause-callers g c κs within =
+    rw c.as_slice-2.ensures (all-map (IsLineWithin offered c.args.script.now.streams c.args.script.now.phases) (λ line. IsCaller line.caller) c.args.script.now.lines
+    (λ line is. record { first = is.first_caller; last = is.last_caller }) c.requires.within.lines)
+
+pub serve_phases-desk-requires-clause-within : goal.serve_phases-desk-requires-clause-within
+serve_phases-desk-requires-clause-within g c κs within =
+    rw c.as_slice-2.ensures (all-map (IsLineWithin offered c.args.script.now.streams c.args.script.now.phases) (λ line. line.phase ≤ c.args.script.now.phases) c.args.script.now.lines
+    (λ line is. is.last_phase) c.requires.within.lines)
+
+pub serve_phases-desk-requires-clause-room : goal.serve_phases-desk-requires-clause-room
+serve_phases-desk-requires-clause-room g c κs within =
     omega (arith, opened-long _ _ _ _ _ _ _ c.open_streams.ensures.opened, c.open_streams.ensures.capacity, ap length c.requires.none, c.requires.room, ap length c.as_slice-2.ensures, ap length c.as_slice.ensures.same, c.open_streams.new.replies.ok.0)
 
 pub returns-clause-disks : goal.returns-clause-disks
 returns-clause-disks g c =
-    disks-stand g.D.Told.told g.D.Told.faults _ _ _ c.serve_lines-served.new.desk c.end-disks.result.disks.items c.end-disks.ensures.disks
-    (c.serve_lines-served.ensures.run.streams ∙ c.open_streams.ensures.run.streams)
-    (c.serve_lines-served.ensures.run.disks ∙ c.open_streams.ensures.run.disks) c.end-disks.ensures.journal
+    disks-stand g.D.Told.told g.D.Told.faults _ _ _ c.serve_phases-desk.result c.end-disks.result.disks.items c.end-disks.ensures.disks
+    (c.serve_phases-desk.ensures.run.streams ∙ c.open_streams.ensures.run.streams)
+    (c.serve_phases-desk.ensures.run.disks ∙ c.open_streams.ensures.run.disks) c.end-disks.ensures.journal
+
+pub returns-clause-table : goal.returns-clause-table
+returns-clause-table g c =
+    let follows : Follows c.serve_phases-desk.result.last.entries c.rows.result.now = rw (ap (λ j. j.entries) c.journal.ensures) at (rw (← c.rows.ensures.rows) at c.dirty.ensures.follows) in
+    let table : map printed_row c.rows.result.now ≡ table_of c.serve_phases-desk.result.last.entries = rows-table _ _ follows c.rows.ensures.sound in
+    rw c.end-disks.ensures.journal (if_some-ok c.printed_rows.result c.ok-table.result c.ok-table.ensures.value (λ printed is. is ∙ table) c.printed_rows.ensures)
 
 pub returns-clause-explained : goal.returns-clause-explained
 returns-clause-explained g c =
-    rw c.end-disks.ensures.journal (run-explained _ _ c.args.script.now c.args.replies.items c.open_streams.new.replies.items c.serve_lines-served.new.replies.items c.args.desk.last.entries c.open_streams.new.desk.last.entries c.serve_lines-served.new.desk.last.entries
+    rw c.end-disks.ensures.journal (run-explained _ _ c.args.script.now c.args.replies.items c.open_streams.new.replies.items c.serve_phases-desk.new.replies.items c.args.desk.last.entries c.open_streams.new.desk.last.entries c.serve_phases-desk.result.last.entries
     c.requires.within c.requires.none c.requires.fresh.journal_is.empty.0 c.open_streams.ensures.run.setup (rw c.as_slice.ensures.same at c.open_streams.ensures.opened) c.open_streams.ensures.alone
-    c.serve_lines-served.result _ c.table_after-table.ensures.served (rw c.as_slice-2.ensures at c.serve_lines-served.ensures.served) (rw c.as_slice-2.ensures at c.serve_lines-served.ensures.cut))
+    (rw c.as_slice-2.ensures at c.serve_phases-desk.ensures.served))

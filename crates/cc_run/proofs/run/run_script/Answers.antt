@@ -1,9 +1,10 @@
 use Rattle.std.proofs.Common.{◌++◌, ◌∙◌, length, take, drop, reverse, refl, ap, subst, arith}
 use Rattle.std.proofs.lemmas.List.{length-take, length-append, length-reverse, take-append-drop}
-use Rattle.std.specs.Prelude.{is_some, slice_get}
+use Rattle.std.specs.Prelude.{slice_get}
+use Rattle.cc_pieces.specs.Explained.{IsExplained}
 use Rattle.cc_turns.specs.Desk.{disk_at_first}
 use Rattle.cc_run.specs.Disks.{DisksStand}
-use Rattle.cc_run.specs.Lines.{IsRunExplained, given_of}
+use Rattle.cc_run.specs.Lines.{given_of, lines_answered}
 use Rattle.cc_run.proofs.RowSteps.{reverse_twice}
 use Rattle.cc_run.proofs.RunSteps.{setup-is}
 use Rattle.cc_run.proofs.DiskSteps.{disks-are, are-counted, have-risen}
@@ -32,7 +33,7 @@ put_back-requires g c =
 
 pub returns-in-Ok-new-clause-explained : goal.returns-in-Ok-new-clause-explained
 returns-in-Ok-new-clause-explained g c =
-    subst (λ u. IsRunExplained u (given_of c.args.script.now) c.run_on-replies.result.replies.items (is_some c.run_on-replies.result.table) (reverse c.run_on-replies.result.journal.items))
+    subst (λ u. IsExplained u (given_of c.args.script.now) (lines_answered c.run_on-replies.result.replies.items) (reverse c.run_on-replies.result.journal.items))
     (setup-is g.D.Told.told g.D.Told.faults g.L.LogFile.told g.L.LogFile.faults c.in-Ok-new.desk _ c.args.script.now c.args.disks.items c.in-Ok-new.ensures.fresh.begun_is c.in-Ok-first_of.ensures.first c.new.ensures.items refl refl)
     c.run_on-replies.ensures.explained
 

@@ -3,6 +3,7 @@
 ghost use Rattle.cc_run.specs.Lines.{IsCaller};
 
 /// How many calls each of the 16 callers has made.
+#[derive(Drop)]
 pub(crate) struct Calls {
     made: [u32; 16],
 }

@@ -1,0 +1,207 @@
+-- The run of the phases, one after the other, explains all answers.
+use Rattle.std.specs.Prelude.{◌≡◌, ◌≢◌, ℕ, zero, suc, ◌+◌, ◌<◌, ◌≤◌, ◌==◌, ◌&&◌, Bool, true, false, List, [], ◌∷◌, ◌++◌, length, map, refl, if◌then◌else◌}
+use Rattle.std.specs.List.{AllByRecursion, flat_map, list_all, IsDistinct}
+use Rattle.std.proofs.Common.{sym, ap, subst, ◌∙◌, arith, inl, append-nil, append_assoc}
+use Rattle.std.proofs.lemmas.Bool.{ne_eqb}
+use Rattle.std.proofs.lemmas.List.{map-append}
+use Rattle.std.proofs.lemmas.List.Folds.{list_all-append}
+use Rattle.cc_entry.specs.declared.answer.Answer.{Answer}
+use Rattle.cc_entry.specs.declared.answer.LineReply.{LineReply}
+use Rattle.cc_entry.specs.declared.entry.Entry.{Entry}
+use Rattle.cc_script.specs.declared.script.Action.{Action}
+use Rattle.cc_script.specs.declared.script.Action.TheVariants as action
+use Rattle.cc_script.specs.declared.script.ActionLine.{ActionLine}
+use Rattle.cc_script.specs.declared.script.Script.{Script}
+use Rattle.cc_script.specs.Verbs.{offered}
+use Rattle.cc_script.specs.Within.{IsLineWithin, IsWithin}
+use Rattle.cc_model.specs.Setup.{Setup}
+use Rattle.cc_effects.specs.Moments.{IsIdle}
+use Rattle.cc_pieces.specs.Served.{posted_by}
+use Rattle.cc_pieces.specs.Rooms.{is_alone, room_limit}
+use Rattle.cc_pieces.specs.Runs.{Ran, bindings_of, asked_of}
+use Rattle.cc_pieces.specs.Phases.{Plan, PhaseRan, PhasesRan, is_of_phase, lines_before}
+use Rattle.cc_pieces.specs.Explained.{answered_lines, IsExplained}
+use Rattle.cc_run.specs.Lines.{StreamsOpened, given_of, lines_answered}
+use Rattle.cc_run.specs.Phases.{PhaseLeft, PhasesLeft, PhasesServed}
+use Rattle.cc_run.proofs.Lists.{all-map, all-front, all-back, all-join}
+use Rattle.cc_run.proofs.Opening.{opened-left}
+use Rattle.cc_run.proofs.PhaseSteps.{same-long}
+
+-- which lines pass a test, of a list in two parts
+asked-append : (test : ActionLine → Bool) (lines more : List ActionLine) (replies others : List LineReply) → length lines ≡ length replies → asked_of test (lines ++ more) (replies ++ others) ≡ asked_of test lines replies ++ asked_of test more others
+asked-append test [] more [] others same = refl
+asked-append test [] more (r ∷ replies) others same = absurd (cc)
+asked-append test (l ∷ lines) more [] others same = absurd (cc)
+asked-append test (l ∷ lines) more (r ∷ replies) others same = by (test l) (asked-append test lines more replies others (omega (arith, same)))
+  where
+    by : (b : Bool) → asked_of test (lines ++ more) (replies ++ others) ≡ asked_of test lines replies ++ asked_of test more others → (if b then (l.action, r.answer) ∷ asked_of test (lines ++ more) (replies ++ others) else asked_of test (lines ++ more) (replies ++ others)) ≡ (if b then (l.action, r.answer) ∷ asked_of test lines replies else asked_of test lines replies) ++ asked_of test more others
+    by true rest = ap (λ all. (l.action, r.answer) ∷ all) rest
+    by false rest = rest
+
+asked-none : (test : ActionLine → Bool) (lines : List ActionLine) (replies : List LineReply) → AllByRecursion (λ line. test line ≡ false) lines → asked_of test lines replies ≡ []
+asked-none test [] replies none = refl
+asked-none test (line ∷ lines) [] none = refl
+asked-none test (line ∷ lines) (reply ∷ replies) none = rw none.0 (asked-none test lines replies none.1)
+
+-- a line of another phase, and one of another caller
+of_other : (q me : ℕ) (line : ActionLine) → line.phase ≢ q → is_of_phase q me line ≡ false
+of_other q me line apart = rw (ne_eqb line.phase q apart) (by (line.caller == me))
+  where
+    by : (b : Bool) → (b && false) ≡ false
+    by true = refl
+    by false = refl
+
+no_caller : (q me : ℕ) (line : ActionLine) → 16 < me → line.caller ≤ 16 → is_of_phase q me line ≡ false
+no_caller q me line above few = rw (ne_eqb line.caller me (λ e. omega (arith, e, above, few))) refl
+
+-- whether a phase is of one caller is said by its own lines
+alone-behind : (phase : ℕ) (front lines : List ActionLine) → AllByRecursion (λ line. line.phase ≢ phase) front → is_alone phase (front ++ lines) ≡ is_alone phase lines
+alone-behind phase [] lines apart = refl
+alone-behind phase (line ∷ front) lines apart = rw (ne_eqb line.phase phase apart.0) (alone-behind phase front lines apart.1)
+
+others-pass : (phase caller : ℕ) (lines : List ActionLine) → AllByRecursion (λ line. line.phase ≢ phase) lines → list_all (λ other. if other.phase == phase then other.caller == caller else true) lines ≡ true
+others-pass phase caller [] apart = refl
+others-pass phase caller (line ∷ lines) apart = rw (ne_eqb line.phase phase apart.0) (others-pass phase caller lines apart.1)
+
+alone-before : (phase : ℕ) (lines more : List ActionLine) → AllByRecursion (λ line. line.phase ≢ phase) more → is_alone phase (lines ++ more) ≡ is_alone phase lines
+alone-before phase [] more apart = ap (is_alone phase) (sym (append-nil more)) ∙ alone-behind phase more [] apart
+alone-before phase (line ∷ lines) more apart = by (line.phase == phase) (alone-before phase lines more apart)
+  where
+    own : ActionLine → Bool
+    own other = if other.phase == phase then other.caller == line.caller else true
+
+    and-true : (b : Bool) → (b && true) ≡ b
+    and-true true = refl
+    and-true false = refl
+
+    by : (b : Bool) → is_alone phase (lines ++ more) ≡ is_alone phase lines → (if b then list_all own (lines ++ more) else is_alone phase (lines ++ more)) ≡ (if b then list_all own lines else is_alone phase lines)
+    by true rest =
+        list_all-append own lines more ∙ (ap (λ b. list_all own lines && b) (others-pass phase line.caller more apart) ∙ and-true (list_all own lines))
+    by false rest = rest
+
+-- each line of several phases has a reply, and is of one of them
+phases-lines : (u : Setup) (n : ℕ) (lines : List ActionLine) (replies : List LineReply) (old new : List Entry) → PhasesLeft u n lines replies old new → answered_lines replies ≡ map (λ line. line.line) lines
+phases-lines u zero lines replies old new left = rw (left.0, left.1) refl
+phases-lines u (suc n) lines replies old new left =
+    rw (left.5, left.6) (map-append (λ reply. reply.line) left.2 left.3
+    ∙ (ap (λ l. l ++ answered_lines left.3) (phases-lines u n left.0 left.2 old left.4 left.7)
+    ∙ (ap (λ l. map (λ line. line.line) left.0 ++ l) left.9.lines_are ∙ sym (map-append (λ line. line.line) left.0 left.1))))
+
+phases-within : (u : Setup) (n : ℕ) (lines : List ActionLine) (replies : List LineReply) (old new : List Entry) → PhasesLeft u n lines replies old new → AllByRecursion (λ line. line.phase ≤ n) lines
+phases-within u zero lines replies old new left = rw left.0 tt
+phases-within u (suc n) lines replies old new left =
+    rw left.5 (all-join (λ line. line.phase ≤ suc n) left.0 left.1
+    (all-map (λ line. line.phase ≤ n) (λ line. line.phase ≤ suc n) left.0 (λ line less. omega (arith, less)) (phases-within u n left.0 left.2 old left.4 left.7))
+    (all-map (λ line. line.phase ≡ suc n) (λ line. line.phase ≤ suc n) left.1 (λ line is. omega (arith, is)) left.8))
+
+-- What a phase of a run left: of the lines of all phases, its own are the last of those up to it.
+module _ (u : Setup) (all : List ActionLine) (answers : List LineReply) (few : AllByRecursion (λ line. line.caller ≤ 16) all) where
+  abbrev plan : Plan
+  plan = record { lines = all; answers = answers; ticks = 0; aheads = 0 }
+
+  phase-ran : (phase : ℕ) (earlier last later : List ActionLine) (told own others : List LineReply) (old new : List Entry) → all ≡ earlier ++ (last ++ later) → answers ≡ told ++ (own ++ others) → length earlier ≡ length told → AllByRecursion (λ line. line.phase ≢ phase) earlier → AllByRecursion (λ line. line.phase ≢ phase) later → PhaseLeft u phase last own old new → PhaseRan u plan phase [] [] old new
+  phase-ran phase earlier last later told own others old new lines_are replies_are long before behind left = record {
+    callers = λ me lazy ahead.
+        rw (asked me, alone) (left.ran me (bindings_of [] (lines_before plan phase me)));
+    all_ticks = refl;
+    ticks = idle 17 (omega arith);
+    all_steps = inl refl;
+    steps = idle 18 (omega arith);
+  }
+    where
+      other : (me : ℕ) (lines : List ActionLine) → AllByRecursion (λ line. line.phase ≢ phase) lines → AllByRecursion (λ line. is_of_phase phase me line ≡ false) lines
+      other me lines apart = all-map (λ line. line.phase ≢ phase) (λ line. is_of_phase phase me line ≡ false) lines (of_other phase me) apart
+
+      asked : (me : ℕ) → asked_of (is_of_phase phase me) all answers ≡ asked_of (is_of_phase phase me) last own
+      asked me =
+          let test = is_of_phase phase me in
+          ap (λ l. asked_of test l answers) lines_are
+          ∙ (ap (λ r. asked_of test (earlier ++ (last ++ later)) r) replies_are
+          ∙ (asked-append test earlier (last ++ later) told (own ++ others) long
+          ∙ (ap (λ l. l ++ asked_of test (last ++ later) (own ++ others)) (asked-none test earlier told (other me earlier before))
+          ∙ (asked-append test last later own others (same-long last own left.lines_are)
+          ∙ (ap (λ l. asked_of test last own ++ l) (asked-none test later others (other me later behind))
+          ∙ append-nil (asked_of test last own))))))
+
+      alone : is_alone phase all ≡ is_alone phase last
+      alone = ap (is_alone phase) lines_are ∙ (alone-behind phase earlier (last ++ later) before ∙ alone-before phase last later behind)
+
+      few_last : AllByRecursion (λ line. line.caller ≤ 16) last
+      few_last =
+          all-front (λ line. line.caller ≤ 16) last later (all-back (λ line. line.caller ≤ 16) earlier (last ++ later) (rw lines_are at few))
+
+      idle : (me : ℕ) → 16 < me → IsIdle me old new
+      idle me above =
+          let none : asked_of (is_of_phase phase me) last own ≡ [] =
+          asked-none (is_of_phase phase me) last own (all-map (λ line. line.caller ≤ 16) (λ line. is_of_phase phase me line ≡ false) last (λ line least. no_caller phase me line above least) few_last) in
+          subst (λ l. Ran u (room_limit 0 0 (is_alone phase last)) me [] l old new) none (left.ran me [])
+
+  -- the phases up to one, where the later ones ran behind them
+  phases-ran : (n left_over : ℕ) (lines more : List ActionLine) (replies others : List LineReply) (old between new : List Entry) → all ≡ lines ++ more → answers ≡ replies ++ others → AllByRecursion (λ line. n < line.phase) more → PhasesLeft u n lines replies old between → PhasesRan u plan (suc n) left_over [] [] between new → PhasesRan u plan 1 (n + left_over) [] [] old new
+  phases-ran zero left_over lines more replies others old between new lines_are replies_are later left ran =
+      let counted : left_over ≡ 0 + left_over = omega arith in
+      subst (λ past. PhasesRan u plan 1 (0 + left_over) [] [] past new) left.2 (subst (λ count. PhasesRan u plan 1 count [] [] between new) counted ran)
+  phases-ran (suc n) left_over lines more replies others old between new lines_are replies_are later left ran =
+      let counted : n + suc left_over ≡ suc n + left_over = omega arith in
+      subst (λ count. PhasesRan u plan 1 count [] [] old new) counted
+      (phases-ran n (suc left_over) left.0 (left.1 ++ more) left.2 (left.3 ++ others) old left.4 new lines_parts replies_parts
+      (all-join (λ line. n < line.phase) left.1 more
+      (all-map (λ line. line.phase ≡ suc n) (λ line. n < line.phase) left.1 (λ line is. omega (arith, is)) left.8)
+      (all-map (λ line. suc n < line.phase) (λ line. n < line.phase) more (λ line less. omega (arith, less)) later))
+      left.7 (between, 0, one, ran))
+    where
+      lines_parts : all ≡ left.0 ++ (left.1 ++ more)
+      lines_parts = lines_are ∙ (ap (λ l. l ++ more) left.5 ∙ append_assoc left.0 left.1 more)
+
+      replies_parts : answers ≡ left.2 ++ (left.3 ++ others)
+      replies_parts = replies_are ∙ (ap (λ l. l ++ others) left.6 ∙ append_assoc left.2 left.3 others)
+
+      one : PhaseRan u plan (suc n) [] [] left.4 between
+      one =
+          phase-ran (suc n) left.0 left.1 more left.2 left.3 others left.4 between lines_parts replies_parts
+          (same-long left.0 left.2 (phases-lines u n left.0 left.2 old left.4 left.7))
+          (all-map (λ line. line.phase ≤ n) (λ line. line.phase ≢ suc n) left.0 (λ line less e. omega (arith, less, e)) (phases-within u n left.0 left.2 old left.4 left.7))
+          (all-map (λ line. suc n < line.phase) (λ line. line.phase ≢ suc n) more (λ line less e. omega (arith, less, e)) later) left.9
+
+  pub all-ran : (n : ℕ) (old new : List Entry) → PhasesLeft u n all answers old new → PhasesRan u (record { lines = all; answers = answers; ticks = 0; aheads = 0 }) 1 n [] [] old new
+  all-ran n old new left =
+      let counted : n + 0 ≡ n = omega arith in
+      subst (λ count. PhasesRan u plan 1 count [] [] old new) counted
+      (phases-ran n 0 all [] answers [] old new new (sym (append-nil all)) (sym (append-nil answers)) tt left (refl, refl, refl))
+
+-- no line posts
+posts-none : (asked : Action) (told : Answer) → posted_by asked told ≡ []
+posts-none (action.CopyRead file at len wait) told = refl
+posts-none (action.CopyWrite file at bytes) told = refl
+posts-none (action.Zero file span) told = refl
+posts-none (action.SetSizes file allocation size) told = refl
+posts-none (action.State file) told = refl
+posts-none (action.Flush file span) told = refl
+posts-none action.IsDirtyData told = refl
+
+posted-none : (lines : List (Action × Answer)) → flat_map (λ line. posted_by line.0 line.1) lines ≡ []
+posted-none [] = refl
+posted-none (line ∷ lines) = rw (posts-none line.0 line.1) (posted-none lines)
+
+-- What the streams and the phases of a script left, one after the other, explains all answers.
+explained : (u : Setup) (script : Script) (between replies : List LineReply) (begun past : List Entry) → IsWithin offered script → StreamsOpened u 0 script.streams [] between [] begun → ((me : ℕ) → me ≢ 0 → IsIdle me [] begun) → PhasesServed u script.phases script.lines between replies begun past → IsExplained u (given_of script) (lines_answered replies) past
+unfolding IsDistinct
+explained u script between replies begun past within opened alone served = record {
+  setup = opened.answers;
+  answers = served.answers;
+  begun = begun;
+  replies_are = served.grew ∙ ap (λ l. l ++ served.answers) opened.grew;
+  setup_lines = opened.lines_are;
+  answer_lines = phases-lines u script.phases script.lines served.answers begun past served.left;
+  opened = opened-left u 0 script.streams opened.answers [] begun opened.left;
+  alone = alone;
+  ran =
+      rw (within.header.no_ticks, within.header.no_aheads) (all-ran u script.lines served.answers
+      (all-map (IsLineWithin offered script.streams script.phases) (λ line. line.caller ≤ 16) script.lines (λ line is. is.last_caller) within.lines)
+      script.phases begun past served.left);
+  posted_once = rw (posted-none (asked_of (λ line. true) script.lines served.answers)) tt;
+}
+
+pub run-explained : (u v : Setup) (script : Script) (first between replies : List LineReply) (start begun past : List Entry) → IsWithin offered script → first ≡ [] → start ≡ [] → v ≡ u → StreamsOpened u 0 script.streams first between start begun → ((me : ℕ) → me ≢ 0 → IsIdle me start begun) → PhasesServed v script.phases script.lines between replies begun past → IsExplained u (given_of script) (lines_answered replies) past
+run-explained u v script first between replies start begun past within none empty same opened alone served =
+    explained u script between replies begun past within (rw (none, empty) at opened) (rw empty at alone) (rw same at served)

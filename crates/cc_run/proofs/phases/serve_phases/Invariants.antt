@@ -1,0 +1,20 @@
+use Rattle.std.proofs.Common.{◌≡◌, ◌+◌, ◌≤◌, length}
+use Rattle.std.specs.Prelude.{vec_capacity}
+use Rattle.cc_script.specs.Within.{PhasesAscend}
+use Rattle.cc_turns.specs.Desk.{standing_of}
+use Rattle.cc_run.specs.Desks.{IsReady, IsSameRun}
+use Rattle.cc_run.proofs.PhaseSteps.{SoFar}
+use Rattle.cc_run.proofs.phases.serve_phases.Given as goal
+
+abbrev pub invariant-loop-phase : goal.invariant-loop-phase
+invariant-loop-phase g l =
+    let at = standing_of g.D.Told.told g.D.Told.faults g.L.LogFile.told g.L.LogFile.faults in
+    record {
+      run : IsSameRun (at l.fn.desk) (at l.desk);
+      ready : IsReady (at l.desk);
+      capacity : vec_capacity l.replies ≡ vec_capacity l.fn.replies;
+      room : length l.replies.items + length l.rest ≤ vec_capacity l.fn.replies;
+      within : l.phase ≤ l.fn.phases + 1;
+      ascend : PhasesAscend l.phase l.rest;
+      so_far : SoFar (at l.fn.desk).setup l.phase l.fn.lines l.rest l.fn.replies.items l.replies.items l.fn.desk.last.entries l.desk.last.entries;
+    }
