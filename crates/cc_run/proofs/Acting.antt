@@ -1,5 +1,5 @@
 -- What a line of a caller leaves on a desk.
-use Rattle.std.specs.Prelude.{◌≡◌, ◌≢◌, ℕ, ◌<◌, false, Err, List, ◌++◌, length, refl}
+use Rattle.std.specs.Prelude.{◌≡◌, ◌≢◌, ℕ, ◌+◌, ◌<◌, ◌≤◌, false, Err, List, ◌++◌, length, refl}
 use Rattle.std.proofs.Common.{sym, subst, ap, ◌∙◌, arith}
 use Rattle.cc_entry.specs.declared.answer.Answer.{Answer}
 use Rattle.cc_entry.specs.declared.answer.Answer.TheVariants as answer
@@ -24,22 +24,26 @@ use Rattle.cc_run.specs.Desks.{IsReady, IsSameRun, IsSamePass}
 use Rattle.cc_run.specs.Lines.{IsFullTold, LineLeft}
 use Rattle.cc_run.proofs.Others.{idle-acted, settled-all}
 
--- a journal that is full, with nothing under way, was so at the end of the line
-full-at : (w : Standing) (entries : ℕ) (during old : List Entry) → w.seen ≡ during ++ old → w.in_flight ≡ 0 → w.others ≡ 0 → IsFullOf {A = Unit {0}} w (Err (error.JournalFull entries)) → WasFull w.setup 4 entries old w.seen
+-- a journal that is full, with nothing of the pass under way and not much of others, was so at the end of the line
+full-at : (w : Standing) (limit entries : ℕ) (during old : List Entry) → w.seen ≡ during ++ old → w.in_flight ≡ 0 → w.others + 2 ≤ limit → IsFullOf {A = Unit {0}} w (Err (error.JournalFull entries)) → WasFull w.setup limit entries old w.seen
 unfolding room_in
-full-at w entries during old grew rest alone full =
-    rw grew (some-end (λ moment. (entries ≡ length moment) × (room_in w.setup moment 0 < 4)) during old
-    (rw (← grew) (full.0, omega (arith, full.1, rest, alone))))
+full-at w limit entries during old grew rest few full =
+    rw grew (some-end (λ moment. (entries ≡ length moment) × (room_in w.setup moment 0 < limit)) during old
+    (rw (← grew) (full.0, omega (arith, full.1, rest, few))))
 
-room-at : (w : Standing) (told : Answer) (during old : List Entry) → w.seen ≡ during ++ old → w.in_flight ≡ 0 → w.others ≡ 0 → IsFullTold w told → HadNoRoom w.setup 4 told old w.seen
-room-at w (answer.Refused (error.JournalFull entries)) during old grew rest alone full = full-at w entries during old grew rest alone full
-room-at w (answer.NcRefused done cause) during old grew rest alone full = absurd full
-room-at w other during old grew rest alone full = tt
+room-at : (w : Standing) (limit : ℕ) (told : Answer) (during old : List Entry) → w.seen ≡ during ++ old → w.in_flight ≡ 0 → w.others + 2 ≤ limit → IsFullTold w told → HadNoRoom w.setup limit told old w.seen
+room-at w limit (answer.Refused (error.JournalFull entries)) during old grew rest few full = full-at w limit entries during old grew rest few full
+room-at w limit (answer.NcRefused done cause) during old grew rest few full = absurd full
+room-at w limit other during old grew rest few full = tt
 
+pub room-within : (w : Standing) (limit : ℕ) (u : Setup) (me : ℕ) (it : Call) (told : Answer) (old : List Entry) → CallAnswered u me it told old w.seen → w.in_flight ≡ 0 → w.others + 2 ≤ limit → IsFullTold w told → HadNoRoom w.setup limit told old w.seen
+room-within w limit u me it (answer.Refused (error.JournalFull entries)) old left rest few full = full-at w limit entries left.during old left.grew rest few full
+room-within w limit u me it (answer.NcRefused done cause) old left rest few full = absurd full
+room-within w limit u me it other old left rest few full = tt
+
+-- on a desk others have nothing under way
 pub room-left : (w : Standing) (u : Setup) (me : ℕ) (it : Call) (told : Answer) (old : List Entry) → CallAnswered u me it told old w.seen → w.in_flight ≡ 0 → w.others ≡ 0 → IsFullTold w told → HadNoRoom w.setup 4 told old w.seen
-room-left w u me it (answer.Refused (error.JournalFull entries)) old left rest alone full = full-at w entries left.during old left.grew rest alone full
-room-left w u me it (answer.NcRefused done cause) old left rest alone full = absurd full
-room-left w u me it other old left rest alone full = tt
+room-left w u me it told old left rest alone full = room-within w 4 u me it told old left rest (omega (arith, alone)) full
 
 -- the same pass in the same run, where a call went on
 pub goes-pass : (old new : Standing) → Went old new → IsSamePass old new
@@ -107,7 +111,7 @@ module _ (w0 w1 w2 : Standing) (caller : ℕ) (acts : w1 ≡ record w0 { number 
           let number : w1.number ≡ line.caller = ap (λ w. w.number) acts ∙ sym is in
           let seen : w1.seen ≡ w0.seen = ap (λ w. w.seen) acts in
           rw (setup, number, seen) at (served bindings);
-      room = subst (λ u. HadNoRoom u 4 told w0.seen w2.seen) run-after.setup (room-at w2 told acted.added w0.seen acted.grew at_rest alone full);
+      room = subst (λ u. HadNoRoom u 4 told w0.seen w2.seen) run-after.setup (room-at w2 4 told acted.added w0.seen acted.grew at_rest (omega (arith, alone)) full);
     };
     alone = λ me other. alone-after me (λ e. other (e ∙ sym is));
   }

@@ -13,3 +13,7 @@ mod Statuses
 mod DirtyRows
 mod DiskSteps
 mod Told
+pub mod Merging
+pub mod CallersRan
+pub mod Rooms
+pub mod Passes

@@ -140,7 +140,13 @@ fn count_of(lines: &[ActionLine], caller: u32) -> usize
     ensures count { result ≡ count_of caller lines.now }
     ensures within { result ≤ length lines.now }
 {
-    lines.iter().filter(|line| line.caller == caller).count()
+    let mut count = 0;
+    for line in lines {
+        if line.caller == caller {
+            count += 1;
+        }
+    }
+    count
 }
 
 // Splits a pass for each caller, in the order of their numbers.
