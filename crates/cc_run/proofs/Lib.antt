@@ -16,4 +16,4 @@ mod Told
 pub mod Merging
 pub mod CallersRan
 pub mod Rooms
-pub mod Passes
+pub mod OnBoard

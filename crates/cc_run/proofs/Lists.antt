@@ -1,8 +1,8 @@
 -- Facts of lists and answers.
-use Rattle.std.specs.Prelude.{◌≡◌, ℕ, zero, suc, ◌<◌, List, [], ◌∷◌, ◌++◌, length, take, drop, Result, Ok, Err, IfOk, IfSome, Option}
+use Rattle.std.specs.Prelude.{◌≡◌, ℕ, zero, suc, ◌<◌, List, [], ◌∷◌, ◌++◌, length, take, drop, Result, Ok, Err, IfOk, IfSome, Option, refl}
 use Rattle.std.specs.Result.{result_ok}
 use Rattle.std.specs.List.{AllByRecursion}
-use Rattle.std.proofs.Common.{sym, subst, arith, get_or}
+use Rattle.std.proofs.Common.{sym, subst, arith, ap, get_or}
 use Rattle.std.proofs.lemmas.List.{take-append-drop}
 
 -- a fact of each element, of one
@@ -10,6 +10,12 @@ pub all-at : {X : Type 0} (P : X → Type 0) (xs : List X) (i : ℕ) (d : X) →
 all-at P [] i d low all = absurd (omega (arith, low))
 all-at P (x ∷ xs) zero d low all = all.0
 all-at P (x ∷ xs) (suc i) d low all = all-at P xs i d (omega (arith, low)) all.1
+
+-- a list is what stands before an element, it, and what stands behind
+pub parted : {X : Type 0} (xs : List X) (i : ℕ) (d : X) → i < length xs → xs ≡ take i xs ++ get_or xs i d ∷ drop (suc i) xs
+parted [] i d low = absurd (omega (arith, low))
+parted (x ∷ xs) zero d low = refl
+parted (x ∷ xs) (suc i) d low = ap (λ l. x ∷ l) (parted xs i d (omega (arith, low)))
 
 -- facts of each element, of others, and of the parts of a list
 pub all-map : {X : Type 0} (P Q : X → Type 0) (xs : List X) → ((x : X) → P x → Q x) → AllByRecursion P xs → AllByRecursion Q xs

@@ -37,12 +37,15 @@ up_to-others : (me : ℕ) (later past : List Entry) → Others me later → up_t
 up_to-others me [] past others = refl
 up_to-others me (e ∷ later) past others = up_to_call-not_mine e (later ++ past) me others.0 ∙ up_to-others me later past others.1
 
+-- a pass that was idle owes no more than before
+pub settled-idle : (me : ℕ) (old new : List Entry) → IsIdle me old new → owes_store old me ≡ false → owes_store new me ≡ false
+settled-idle me old new idle before =
+    ap (λ past. owes_store past me) idle.grew ∙ (ap ends_in_store (up_to-others me idle.during old idle.others) ∙ before)
+
 -- no pass owes the end of a noncached write, where none did and the one that acted does not
 pub settled-all : (pass : ℕ) (old new : List Entry) → HasActed pass old new → owes_store new pass ≡ false → ((me : ℕ) → owes_store old me ≡ false) → (me : ℕ) → owes_store new me ≡ false
 settled-all pass old new acted own before me = by (me == pass) refl
   where
     by : (b : Bool) → (me == pass) ≡ b → owes_store new me ≡ false
     by true is = rw (eqb-true me pass is) own
-    by false is =
-        let idle = idle-acted me pass old new (eqb-false me pass is) acted in
-        ap (λ past. owes_store past me) idle.grew ∙ (ap ends_in_store (up_to-others me idle.during old idle.others) ∙ before me)
+    by false is = settled-idle me old new (idle-acted me pass old new (eqb-false me pass is) acted) (before me)

@@ -38,7 +38,7 @@ asked-append test (l ∷ lines) more (r ∷ replies) others same = by (test l) (
     by true rest = ap (λ all. (l.action, r.answer) ∷ all) rest
     by false rest = rest
 
-asked-none : (test : ActionLine → Bool) (lines : List ActionLine) (replies : List LineReply) → AllByRecursion (λ line. test line ≡ false) lines → asked_of test lines replies ≡ []
+pub asked-none : (test : ActionLine → Bool) (lines : List ActionLine) (replies : List LineReply) → AllByRecursion (λ line. test line ≡ false) lines → asked_of test lines replies ≡ []
 asked-none test [] replies none = refl
 asked-none test (line ∷ lines) [] none = refl
 asked-none test (line ∷ lines) (reply ∷ replies) none = rw none.0 (asked-none test lines replies none.1)

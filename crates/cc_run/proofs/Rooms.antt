@@ -1,7 +1,9 @@
 -- Rows that grow and shrink at their end, and how many lines are a caller's.
-use Rattle.std.specs.Prelude.{◌≡◌, ◌⊎◌, ℕ, zero, suc, ◌+◌, ◌==◌, Bool, true, false, List, [], ◌∷◌, ◌++◌, length, take, slice_get, refl, if◌then◌else◌}
-use Rattle.std.specs.declared.option.Option.TheVariants.{Some, None}
-use Rattle.std.proofs.Common.{sym, ap, ◌∙◌, arith, inl, inr, ⊎_elim}
+use Rattle.std.specs.Prelude.{◌≡◌, ◌⊎◌, ℕ, zero, suc, ◌+◌, ◌<◌, ◌≤◌, ◌==◌, Bool, true, false, List, [], ◌∷◌, ◌++◌, length, slice_get, vec_len, vec_capacity, refl, if◌then◌else◌}
+use Rattle.std.specs.Global.{Global}
+use Rattle.std.specs.declared.vec.Vec.{Vec}
+use Rattle.std.specs.declared.option.Option.TheVariants.{Some}
+use Rattle.std.proofs.Common.{append_assoc, sym, ap, ◌∙◌, arith, inl, inr, ⊎_elim}
 use Rattle.cc_script.specs.declared.script.ActionLine.{ActionLine}
 use Rattle.cc_run.specs.Callers.{count_of}
 
@@ -21,6 +23,14 @@ before (first ∷ row) rest item (suc n) at = before row rest item n at
 pub next : {A : Type 0} (row rest : List A) (item : A) → slice_get (row ++ item ∷ rest) (length row) ≡ Some item
 next [] rest item = refl
 next (first ∷ row) rest item = next row rest item
+
+-- what was taken from the end of a row stands before what was taken sooner
+pub taken-next : {A : Type 0} (row fewer gone whole : List A) (item : A) → row ≡ fewer ++ item ∷ [] → row ++ gone ≡ whole → fewer ++ item ∷ gone ≡ whole
+taken-next row fewer gone whole item is left = sym (append_assoc fewer (item ∷ []) gone) ∙ (ap (λ r. r ++ gone) (sym is) ∙ left)
+
+-- a row of fewer than 16 has room for one more
+pub has-room : {A : Type 0} (row : Vec A Global) (number : ℕ) → 1 ≤ number → length row.items + number ≡ 16 → 16 ≤ vec_capacity row → vec_len row < vec_capacity row
+has-room row number some counted room = omega (arith, row.ok.0, some, counted, room)
 
 -- one line more
 pub counted-more : (me : ℕ) (lines : List ActionLine) (line : ActionLine) → count_of me (lines ++ line ∷ []) ≡ count_of me lines + (if line.caller == me then 1 else 0)

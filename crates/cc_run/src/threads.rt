@@ -197,7 +197,8 @@ fn join_all<D: PageDisk, L: LogFile, Q: PostRoutine>(
     let mut number = u32::from(CALLERS);
     while let Some(Finished { pass, answers }) = ended.pop() {
         board.join(first, pass);
-        calls.add(number, answers.len() as u32);
+        let made = u32::try_from(answers.len()).unwrap_or(u32::MAX);
+        calls.add(number, made);
         number -= 1;
         let mut row = answers;
         row.reverse();

@@ -1,24 +1,23 @@
--- The passes behind those that are left are joined.
-use Rattle.std.proofs.Common.{◌≡◌, ℕ, ◌+◌, ◌++◌, List, length}
-use Rattle.std.specs.Prelude.{vec_capacity}
-use Rattle.std.specs.List.{AllByRecursion}
-use Rattle.cc_board.specs.Board.{IsFirstOf, IsOf}
-use Rattle.cc_run.specs.Threads.{AreJoined}
+use Rattle.std.proofs.Common.{◌≡◌, ◌≤◌, ◌+◌, ◌++◌, List, length, map, reverse, vec_capacity}
+use Rattle.cc_run.specs.Threads.{under_way_of}
 use Rattle.cc_run.specs.declared.callers.Finished.{Finished}
 use Rattle.cc_run.proofs.threads.join_all.Given as goal
 
 abbrev pub invariant-loop-pass : goal.invariant-loop-pass
-invariant-loop-pass g l =
-    (gone : List (Finished g.row.D.Denot g.row.L.Denot g.row.Q.Denot))
-    × record {
-        ended_are : l.fn.ended.items ≡ l.ended.items ++ gone;
-        joined : AreJoined l.fn.first l.first gone l.rows.items;
-        counted : length l.ended.items ≡ l.number;
-        rows_counted : length l.rows.items + l.number ≡ 16;
-        room : vec_capacity l.rows ≡ vec_capacity l.fn.rows;
-        here : IsFirstOf l.board l.first;
-        each : AllByRecursion (λ one. IsOf l.board one.pass) l.ended.items;
-      }
+invariant-loop-pass g l = record {
+  gone : List (Finished g.row.D.Denot g.row.L.Denot g.row.Q.Denot);
+  left : l.ended.items ++ gone ≡ l.initial.ended.items;
+  counted : length l.ended.items ≡ l.number;
+  as_many : length l.rows.items + l.number ≡ 16;
+  room : 16 ≤ vec_capacity l.rows;
+  first : l.first ≡ record l.initial.first {
+    knows = record l.initial.first.knows {
+      in_flight = l.initial.first.knows.in_flight + under_way_of gone;
+      ended = map (λ one. (one.pass.knows.number, one.pass.knows.seen)) gone ++ l.initial.first.knows.ended;
+    };
+  };
+  rows_are : map (λ row. row.items) l.rows.items ≡ map (λ one. reverse one.answers.items) (reverse gone);
+}
 
 abbrev pub decreases-loop-pass : goal.decreases-loop-pass
 decreases-loop-pass g l = length l.ended.items

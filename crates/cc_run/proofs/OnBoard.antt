@@ -1,0 +1,323 @@
+-- A phase that ran on a board: what is known of its callers, and of the desk that the board closed into.
+use Rattle.std.specs.Prelude.{◌≡◌, ◌≢◌, ◌⊎◌, ℕ, zero, suc, ◌+◌, ◌-◌, ◌<◌, ◌≤◌, ◌==◌, ◌&&◌, Bool, true, false, List, [], ◌∷◌, ◌++◌, length, map, reverse, get_or, slice_get, Contains, vec_capacity, refl}
+use Rattle.std.specs.declared.option.Option.{Option}
+use Rattle.std.specs.declared.option.Option.TheVariants.{Some}
+use Rattle.std.specs.declared.vec.Vec.{Vec}
+use Rattle.std.specs.Global.{Global}
+use Rattle.std.specs.List.{AllByRecursion}
+use Rattle.std.proofs.Common.{sym, ap, subst, ◌∙◌, arith, inl, inr}
+use Rattle.std.proofs.lemmas.Bool.{ne_eqb}
+use Rattle.std.proofs.lemmas.List.{get_or-reverse, length-reverse, length-append, reverse-append, map-append}
+use Rattle.std.proofs.lemmas.Option.{slice_get_within}
+use Rattle.cc_entry.specs.declared.answer.Answer.{Answer}
+use Rattle.cc_entry.specs.declared.answer.LineReply.{LineReply}
+use Rattle.cc_entry.specs.declared.entry.Entry.{Entry}
+use Rattle.cc_traits.specs.Disk.{Disk}
+use Rattle.cc_traits.specs.Log.{Log}
+use Rattle.cc_script.specs.declared.script.ActionLine.{ActionLine}
+use Rattle.cc_model.specs.Setup.{Setup}
+use Rattle.cc_effects.specs.Moments.{IsIdle}
+use Rattle.cc_pieces.specs.Bindings.{Binding}
+use Rattle.cc_pieces.specs.Phases.{is_of_phase}
+use Rattle.cc_pieces.specs.Rooms.{is_alone, room_limit}
+use Rattle.cc_pieces.specs.Runs.{Ran, asked_of}
+use Rattle.cc_pieces.proofs.LineSteps.{ran-idle}
+use Rattle.cc_step.specs.Step.{owes_store}
+use Rattle.cc_turns.specs.Desk.{DeskState, Tells, tells_of, standing_of}
+use Rattle.cc_turns.specs.Places.{IsRoomFor}
+use Rattle.cc_turns.specs.Slots.{setup_in, under_way_in}
+use Rattle.cc_turns.specs.Standing.{nothing}
+use Rattle.cc_board.specs.Board.{BoardState, FirstState, IsFirstOf, IsOf, IsOpened, IsHandedBack, IsClosed}
+use Rattle.cc_run.specs.Callers.{AllRan, AreRows, CallerRan, MayRun, MayAllRun, asked_own, count_of, row_at}
+use Rattle.cc_run.specs.Desks.{IsReady, IsSameRun}
+use Rattle.cc_run.specs.Lines.{IsCaller, IsServable}
+use Rattle.cc_run.specs.Phases.{PhaseLeft, PhaseServed}
+use Rattle.cc_run.specs.Threads.{AreJoined, AreRooms, AreSplit, MayJoin, MaySplit, Merged, under_way_of}
+use Rattle.cc_run.specs.declared.callers.Caller.{Caller}
+use Rattle.cc_run.specs.declared.callers.Finished.{Finished}
+use Rattle.cc_run.proofs.CallersRan.{all-ran-long}
+use Rattle.cc_run.proofs.Others.{settled-idle}
+use Rattle.cc_run.proofs.PhasesRan.{asked-none}
+use Rattle.cc_run.proofs.RowSteps.{reverse_twice}
+
+-- ---- rows
+
+-- what is said of each item of a row is said of all
+all-from : {A : Type 0} (P : A → Type 0) (xs : List A) → ((n : ℕ) (x : A) → slice_get xs n ≡ Some x → P x) → AllByRecursion P xs
+all-from P [] each = tt
+all-from P (x ∷ xs) each = (each 0 x refl, all-from P xs (λ n y at. each (suc n) y at))
+
+-- an item is there below the length
+there : {A : Type 0} (xs : List A) (n : ℕ) → n < length xs → (x : A) × (slice_get xs n ≡ Some x)
+there [] n within = absurd (omega (arith, within))
+there (x ∷ xs) zero within = (x, refl)
+there (x ∷ xs) (suc n) within = there xs n (omega (arith, within))
+
+-- an item of a row that is mapped, and that it is contained
+mapped-at : {A B : Type 0} (f : A → B) (xs : List A) (n : ℕ) (x : A) (d : B) → slice_get xs n ≡ Some x → get_or (map f xs) n d ≡ f x
+mapped-at f [] n x d at = absurd (cc (at))
+mapped-at f (y ∷ xs) zero x d at = let is : y ≡ x = cc (at) in ap f is
+mapped-at f (y ∷ xs) (suc n) x d at = mapped-at f xs n x d at
+
+long : {A B : Type 0} (f : A → B) (xs : List A) → length (map f xs) ≡ length xs
+long f [] = refl
+long f (x ∷ xs) = ap suc (long f xs)
+
+contained : {A B : Type 0} (f : A → B) (xs : List A) (ys : List B) (n : ℕ) (x : A) → slice_get xs n ≡ Some x → Contains (map f xs ++ ys) (f x)
+contained f [] ys n x at = absurd (cc (at))
+contained f (y ∷ xs) ys zero x at = let is : y ≡ x = cc (at) in (0, omega arith, ap f is)
+contained f (y ∷ xs) ys (suc n) x at = let more = contained f xs ys n x at in (suc more.0, omega (arith, more.1), more.2)
+
+turned : {A B : Type 0} (f : A → B) (xs : List A) → map f (reverse xs) ≡ reverse (map f xs)
+turned f [] = refl
+turned f (x ∷ xs) =
+    ap (map f) (reverse-append (x ∷ []) xs) ∙ (map-append f (reverse xs) (x ∷ []) ∙ (ap (λ l. l ++ f x ∷ []) (turned f xs) ∙ sym (reverse-append (f x ∷ []) (map f xs))))
+
+below-or : (n k : ℕ) → (n < k) ⊎ (k ≤ n)
+below-or n zero = inr (omega arith)
+below-or zero (suc k) = inl (omega arith)
+below-or (suc n) (suc k) = elim (below-or n k) [ inl below ↦ inl (omega (arith, below)) | inr above ↦ inr (omega (arith, above)) ]
+
+-- no line of a phase is of a number that no caller has
+of_none : (phase me : ℕ) (lines : List ActionLine) → ((line : ActionLine) → IsCaller line.caller → line.caller ≢ me) → AllByRecursion (λ line. IsCaller line.caller) lines → AllByRecursion (λ line. is_of_phase phase me line ≡ false) lines
+of_none phase me [] apart callers = tt
+of_none phase me (line ∷ lines) apart callers = (rw (ne_eqb line.caller me (apart line callers.0)) refl, of_none phase me lines apart callers.1)
+
+-- ---- callers
+
+module _ {D L Q : Type 0} (tells : Tells D L Q) (board : BoardState D L) (lines : List ActionLine) where
+  -- each caller ended so
+  ran-at : (callers : List (Caller D L Q)) (ended : List (Finished D L Q)) (n : ℕ) (caller : Caller D L Q) → AllRan tells board lines callers ended → slice_get callers n ≡ Some caller → (one : Finished D L Q) × (slice_get ended n ≡ Some one) × CallerRan tells board lines caller one
+  ran-at [] ended n caller ran at = absurd (cc (at))
+  ran-at (c ∷ callers) [] n caller ran at = absurd ran
+  ran-at (c ∷ callers) (one ∷ ended) zero caller ran at =
+      let is : c ≡ caller = cc (at) in
+      (one, refl, subst (λ (x : Caller D L Q). CallerRan tells board lines x one) is ran.0)
+  ran-at (c ∷ callers) (one ∷ ended) (suc n) caller ran at = ran-at callers ended n caller ran.1 at
+
+  -- each pass is of the board, and has nothing under way
+  all-here : (callers : List (Caller D L Q)) (ended : List (Finished D L Q)) → AllRan tells board lines callers ended → AllByRecursion (λ one. IsOf board one.pass) ended
+  all-here [] [] ran = tt
+  all-here [] (one ∷ ended) ran = absurd ran
+  all-here (c ∷ callers) [] ran = absurd ran
+  all-here (c ∷ callers) (one ∷ ended) ran = (ran.0.here, all-here callers ended ran.1)
+
+  none-left : (callers : List (Caller D L Q)) (ended : List (Finished D L Q)) → AllRan tells board lines callers ended → under_way_of ended ≡ 0
+  none-left [] [] ran = refl
+  none-left [] (one ∷ ended) ran = absurd ran
+  none-left (c ∷ callers) [] ran = absurd ran
+  none-left (c ∷ callers) (one ∷ ended) ran =
+      let rest = none-left callers ended ran.1 in let none = ran.0.none in omega (arith, rest, none)
+
+-- ---- the phase
+
+module _ {D L Q : Type 0} (told : D → Option Disk) (faults : D → ℕ) (log_told : L → Option Log) (log_faults : L → ℕ) (posted : Q → Bool) (desk : DeskState D L Q) (board : BoardState D L) (first : FirstState D L) (ready : IsReady (standing_of told faults log_told log_faults desk)) (opened : IsOpened desk 16 board first) where
+  pub may-split : MaySplit board first
+  may-split = record {
+    here = opened.is_of;
+    run = opened.first_run;
+    none = opened.under_way_is ∙ ready.at_rest;
+    one_made = opened.one_made;
+    none_ended = opened.none_ended;
+    passes = opened.passes_are;
+  }
+
+  module _ (lines : List ActionLine) (rooms : List (Vec Answer Global)) (split_first : FirstState D L) (callers : List (Caller D L Q)) (split : AreSplit board rooms first split_first callers) where
+    pub may-all-run : AreRooms lines rooms → AllByRecursion (λ line. IsServable (length desk.begun.disks) line.action) lines → MayAllRun board lines callers
+    may-all-run are servable = all-from (MayRun board lines) callers each
+      where
+        each : (n : ℕ) (caller : Caller D L Q) → slice_get callers n ≡ Some caller → MayRun board lines caller
+        each n caller at =
+            let made = split.each n caller at in
+            let is = made.2 in
+            let within : n < 16 = omega (arith, slice_get_within callers n caller at, split.counted) in
+            let number : 16 - (15 - n) ≡ caller.pass.knows.number = omega (arith, within, is.number_is) in
+            record {
+              here = is.here;
+              run = is.run ∙ opened.first_run;
+              none = is.none;
+              settled = ap (λ past. owes_store past caller.pass.knows.number) (is.seen_is ∙ opened.seen_is) ∙ ready.settled caller.pass.knows.number;
+              few = omega (arith, is.before_is, is.passes_are, opened.before_is, opened.passes_are, ready.at_rest);
+              servable = subst (λ k. AllByRecursion (λ line. IsServable k line.action) lines) (sym (ap (λ b. length b.disks) opened.run_is)) servable;
+              room = subst (λ k. IsRoomFor (count_of k lines) caller.room.items (vec_capacity caller.room)) number
+                  (subst (λ (room : Vec Answer Global). IsRoomFor (count_of (16 - (15 - n)) lines) room.items (vec_capacity room)) (sym is.room_is) (are.each (15 - n) made.0 made.1));
+            }
+
+    module _ (ended : List (Finished D L Q)) (ran : AllRan (tells_of told faults log_told log_faults posted) board lines callers ended) where
+      as-many : length ended ≡ 16
+      as-many = all-ran-long (tells_of told faults log_told log_faults posted) board lines callers ended ran ∙ split.counted
+
+      pub may-join : MayJoin board split_first ended
+      may-join = record {
+        counted = as-many;
+        here = split.board_is ∙ opened.is_of;
+        each = all-here (tells_of told faults log_told log_faults posted) board lines callers ended ran;
+      }
+
+      module _ (joined_first : FirstState D L) (rows : List (Vec Answer Global)) (joined : AreJoined split_first joined_first ended rows) where
+        pub first-here : IsFirstOf board joined_first
+        first-here = joined.board_is ∙ (split.board_is ∙ opened.is_of)
+
+        abbrev end_of : Finished D L Q → ℕ × List Entry
+        end_of one = (one.pass.knows.number, one.pass.knows.seen)
+
+        all-ended : joined_first.knows.ended ≡ map end_of ended ++ []
+        all-ended = joined.ended_is ∙ ap (λ l. map end_of ended ++ l) (split.ended_is ∙ opened.none_ended)
+
+        made-is : joined_first.knows.made ≡ 17
+        made-is = joined.made_is ∙ split.made_is
+
+        seen-is : joined_first.knows.seen ≡ desk.last.entries
+        seen-is = joined.seen_is ∙ (split.seen_is ∙ opened.seen_is)
+
+        -- no pass is out
+        pub none-out : suc (length joined_first.knows.ended) < joined_first.knows.made → ⊥
+        none-out out =
+            omega (arith, out, made-is, ap length all-ended, length-append (map end_of ended) [], long end_of ended, as-many)
+
+        -- the rows of the answers, as they are merged
+        abbrev answers : List (List Answer)
+        answers = map (λ (row : Vec Answer Global). row.items) rows
+
+        abbrev turn : Finished D L Q → List Answer
+        turn one = reverse one.answers.items
+
+        rows-turned : answers ≡ reverse (map turn ended)
+        rows-turned = joined.rows_are ∙ turned turn ended
+
+        row-is : (n : ℕ) (one : Finished D L Q) → n < 16 → slice_get ended n ≡ Some one → row_at answers (suc n) ≡ one.answers.items
+        row-is n one within at =
+            let count : length (map turn ended) ≡ 16 = long turn ended ∙ as-many in
+            let place : length (map turn ended) - 1 - (16 - suc n) ≡ n = omega (arith, count, within) in
+            let found : get_or answers (16 - suc n) [] ≡ turn one =
+            ap (λ l. get_or l (16 - suc n) []) rows-turned
+            ∙ (get_or-reverse (map turn ended) (16 - suc n) [] (omega (arith, count, within))
+            ∙ (ap (λ k. get_or (map turn ended) k []) place ∙ mapped-at turn ended n one [] at)) in
+            ap reverse found ∙ reverse_twice one.answers.items
+
+        -- the caller of a number, and how it ended
+        record Ended (n : ℕ) : Type 0 where
+          caller : Caller D L Q
+          one : Finished D L Q
+          at : slice_get ended n ≡ Some one
+          ran_so : CallerRan (tells_of told faults log_told log_faults posted) board lines caller one
+          number_is : caller.pass.knows.number ≡ suc n
+          seen_is : caller.pass.knows.seen ≡ desk.last.entries
+
+        ended-at : (n : ℕ) → n < 16 → Ended n
+        ended-at n within =
+            let caller = there callers n (omega (arith, within, split.counted)) in
+            let made = (split.each n caller.0 caller.1).2 in
+            let one = ran-at (tells_of told faults log_told log_faults posted) board lines callers ended n caller.0 ran caller.1 in
+            record {
+              caller = caller.0;
+              one = one.0;
+              at = one.1;
+              ran_so = one.2;
+              number_is = made.number_is;
+              seen_is = made.seen_is ∙ opened.seen_is;
+            }
+
+        pub are-rows : AreRows lines answers
+        are-rows = (ap length rows-turned ∙ (length-reverse (map turn ended) ∙ (long turn ended ∙ as-many)), each)
+          where
+            each : (me : ℕ) → 1 ≤ me → me ≤ 16 → length (row_at answers me) ≡ count_of me lines
+            each zero least most = absurd (omega (arith, least))
+            each (suc n) least most =
+                let e = ended-at n (omega (arith, most)) in
+                ap length (row-is n e.one (omega (arith, most)) e.at) ∙ (e.ran_so.whole ∙ ap (λ k. count_of k lines) e.number_is)
+
+        module _ (now : DeskState D L Q) (closed : IsClosed board joined_first now) where
+          -- after what a caller had seen it placed nothing
+          idle-caller : (n : ℕ) (e : Ended n) → IsIdle (suc n) e.one.pass.knows.seen now.last.entries
+          idle-caller n e =
+              let number : e.one.pass.knows.number ≡ suc n = e.ran_so.number ∙ e.number_is in
+              subst (λ k. IsIdle k e.one.pass.knows.seen now.last.entries) number
+              (closed.others e.one.pass.knows.number e.one.pass.knows.seen
+              (subst (λ l. Contains l (e.one.pass.knows.number, e.one.pass.knows.seen)) (sym all-ended) (contained end_of ended [] n e.one e.at)))
+
+          -- nor did pass 0, nor a number that was not given to a pass
+          idle-first : IsIdle 0 desk.last.entries now.last.entries
+          idle-first = subst (λ past. IsIdle 0 past now.last.entries) seen-is closed.first
+
+          idle-unmade : (me : ℕ) → 17 ≤ me → IsIdle me desk.last.entries now.last.entries
+          idle-unmade me least = subst (λ past. IsIdle me past now.last.entries) seen-is (closed.unmade me (omega (arith, least, made-is)))
+
+          pub same-run : IsSameRun (standing_of told faults log_told log_faults desk) (standing_of told faults log_told log_faults now)
+          same-run =
+              let begun : now.begun ≡ desk.begun = closed.run_is ∙ opened.run_is in
+              record {
+                setup = ap (λ b. (standing_of told faults log_told log_faults (record now { begun = b })).setup) begun;
+                streams = ap (λ b. length b.disks) begun;
+                disks = ap (λ b. (standing_of told faults log_told log_faults (record now { begun = b })).disks) begun;
+              }
+
+          settled-now : (me : ℕ) → owes_store now.last.entries me ≡ false
+          settled-now zero = settled-idle 0 desk.last.entries now.last.entries idle-first (ready.settled 0)
+          settled-now (suc n) = by (below-or n 16)
+            where
+              by : (n < 16) ⊎ (16 ≤ n) → owes_store now.last.entries (suc n) ≡ false
+              by (inl within) =
+                  let e = ended-at n within in
+                  settled-idle (suc n) e.one.pass.knows.seen now.last.entries (idle-caller n e)
+                  (ap (λ k. owes_store e.one.pass.knows.seen k) (sym (e.ran_so.number ∙ e.number_is)) ∙ e.ran_so.settled)
+              by (inr above) = settled-idle (suc n) desk.last.entries now.last.entries (idle-unmade (suc n) (omega (arith, above))) (ready.settled (suc n))
+
+          pub ready-now : IsReady (standing_of told faults log_told log_faults now)
+          ready-now = record {
+            free = closed.held_is;
+            at_rest =
+                let none = none-left (tells_of told faults log_told log_faults posted) board lines callers ended ran in
+                omega (arith, closed.under_way_is, joined.under_way_is, split.none, opened.under_way_is, ready.at_rest, none);
+            settled = settled-now;
+          }
+
+          abbrev setup : Setup
+          setup = (standing_of told faults log_told log_faults desk).setup
+
+          pub phase-on-board : (before after : List LineReply) (phase : ℕ) → AllByRecursion (λ line. IsCaller line.caller) lines → AllByRecursion (λ line. line.phase ≡ phase) lines → is_alone phase lines ≡ false → Merged lines answers before after → PhaseServed setup phase lines before after desk.last.entries now.last.entries
+          phase-on-board before after phase are those apart merged = record {
+            answers = merged.answers;
+            grew = merged.grew;
+            left = record { lines_are = merged.lines_are; ran = λ me bindings. rw apart (ran-of me bindings); };
+          }
+            where
+              no-lines : (me : ℕ) → ((line : ActionLine) → IsCaller line.caller → line.caller ≢ me) → (bindings : List Binding) → IsIdle me desk.last.entries now.last.entries → Ran setup 32 me bindings (asked_of (is_of_phase phase me) lines merged.answers) desk.last.entries now.last.entries
+              no-lines me other bindings idle =
+                  subst (λ l. Ran setup 32 me bindings l desk.last.entries now.last.entries) (sym (asked-none (is_of_phase phase me) lines merged.answers (of_none phase me lines other are))) idle
+
+              own-lines : (n : ℕ) → n < 16 → (bindings : List Binding) → Ran setup 32 (suc n) bindings (asked_of (is_of_phase phase (suc n)) lines merged.answers) desk.last.entries now.last.entries
+              own-lines n within bindings =
+                  let e = ended-at n within in
+                  let asked : asked_of (is_of_phase phase (suc n)) lines merged.answers ≡ asked_own (suc n) lines e.one.answers.items =
+                  merged.asked phase (suc n) those (omega arith) (omega (arith, within)) ∙ ap (asked_own (suc n) lines) (row-is n e.one within e.at) in
+                  let run : setup_in (tells_of told faults log_told log_faults posted) board.begun ≡ setup =
+                  ap (setup_in (tells_of told faults log_told log_faults posted)) opened.run_is in
+                  let own : Ran setup 32 (suc n) bindings (asked_own (suc n) lines e.one.answers.items) desk.last.entries e.one.pass.knows.seen =
+                  rw (run, e.number_is, e.seen_is) at (e.ran_so.ran bindings) in
+                  subst (λ l. Ran setup 32 (suc n) bindings l desk.last.entries now.last.entries) (sym asked)
+                  (ran-idle setup 32 (suc n) bindings (asked_own (suc n) lines e.one.answers.items) desk.last.entries e.one.pass.knows.seen now.last.entries own (idle-caller n e))
+
+              ran-of : (me : ℕ) (bindings : List Binding) → Ran setup 32 me bindings (asked_of (is_of_phase phase me) lines merged.answers) desk.last.entries now.last.entries
+              ran-of zero bindings = no-lines 0 (λ line caller same. omega (arith, caller.first, same)) bindings idle-first
+              ran-of (suc n) bindings = by (below-or n 16)
+                where
+                  by : (n < 16) ⊎ (16 ≤ n) → Ran setup 32 (suc n) bindings (asked_of (is_of_phase phase (suc n)) lines merged.answers) desk.last.entries now.last.entries
+                  by (inl within) = own-lines n within bindings
+                  by (inr above) = no-lines (suc n) (λ line caller same. omega (arith, caller.last, same, above)) bindings (idle-unmade (suc n) (omega (arith, above)))
+
+-- a desk that came back is ready as before, in the same run
+module _ {D L Q : Type 0} (told : D → Option Disk) (faults : D → ℕ) (log_told : L → Option Log) (log_faults : L → ℕ) (desk back : DeskState D L Q) (handed : IsHandedBack desk back) where
+  pub back-ready : IsReady (standing_of told faults log_told log_faults desk) → IsReady (standing_of told faults log_told log_faults back)
+  back-ready ready = record {
+    free = handed.held_is;
+    at_rest = handed.under_way_is ∙ ready.at_rest;
+    settled = λ me. ap (λ past. owes_store past me) handed.entries_are ∙ ready.settled me;
+  }
+
+  pub back-run : IsSameRun (standing_of told faults log_told log_faults desk) (standing_of told faults log_told log_faults back)
+  back-run = record {
+    setup = ap (λ b. (standing_of told faults log_told log_faults (record back { begun = b })).setup) handed.run_is;
+    streams = ap (λ b. length b.disks) handed.run_is;
+    disks = ap (λ b. (standing_of told faults log_told log_faults (record back { begun = b })).disks) handed.run_is;
+  }
