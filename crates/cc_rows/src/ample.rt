@@ -37,7 +37,14 @@ fn many_lines_and_single_bytes(rt: HostRuntime) -> Result<(), Fail> {
         let mut source = MemSource::new(bytes, chunk, Vec::new(alloc));
         let mut sink = sink(alloc);
         let disk = disk(alloc, &[])?;
-        let status = status_of(rt, &["run", "s"], &mut source, &mut sink, Some(disk))?;
+        let status = status_of(
+            &rt,
+            rt.alloc(),
+            &["run", "s"],
+            &mut source,
+            &mut sink,
+            Some(disk),
+        )?;
         let text = text_of(alloc, &sink)?;
         assert_eq!(rt; (status, lines_of(text.as_str())), (0, lines));
         assert!(rt; text.starts_with("setup\n1 ok\ncaller t1\n2 ok -\n"));
@@ -50,7 +57,7 @@ fn many_lines_and_single_bytes(rt: HostRuntime) -> Result<(), Fail> {
 fn a_write_of_a_mebibyte(rt: HostRuntime) -> Result<(), Fail> {
     let script = "stream a 1048576 0\ncwrite a 0 ABx1048576\ncread a 0 1048576\n";
     let answers = "setup\n1 ok\ncaller t1\n2 ok\n3 ok ABx1048576\njournal\n";
-    let seen = run(rt, script)?;
+    let seen = run(&rt, rt.alloc(), script)?;
     assert_eq!(rt; seen.status, 0);
     assert!(rt; seen.text.starts_with(answers));
     Ok(())
@@ -67,7 +74,7 @@ fn a_journal_that_fills_up(rt: HostRuntime) -> Result<(), Fail> {
         "cread a 0 1\n",
         63,
     )?;
-    let seen = run(rt, script.as_str())?;
+    let seen = run(&rt, rt.alloc(), script.as_str())?;
     let text = seen.text;
     assert_eq!(rt; (seen.status, lines_of(text.as_str())), (0, 133));
     assert!(rt; text.starts_with("setup\n2 ok\ncaller t1\n3 ok 5A\n4 ok 5A\n"));

@@ -85,7 +85,7 @@ fn reads_and_a_write(rt: HostRuntime) -> Result<(), Fail> {
         READ_PAST_VALID,
         WRITE_AT_VALID,
     ] {
-        let seen = run(rt, row.script)?;
+        let seen = run(&rt, rt.alloc(), row.script)?;
         assert_eq!(rt;
             (seen.status, seen.text.as_str()),
             (0, row.text),
@@ -150,7 +150,7 @@ journal
 #[test]
 fn refusals(rt: HostRuntime) -> Result<(), Fail> {
     for row in [WRITE_BEYOND_SIZE, WRITE_BEYOND_VALID, TOO_LONG] {
-        let seen = run(rt, row.script)?;
+        let seen = run(&rt, rt.alloc(), row.script)?;
         assert_eq!(rt;
             (seen.status, seen.text.as_str()),
             (0, row.text),
@@ -180,9 +180,9 @@ read a 0
 #[test]
 fn a_last_line_without_line_feed(rt: HostRuntime) -> Result<(), Fail> {
     let row = LAST_LINE_WITHOUT_FEED;
-    let seen = run(rt, row.script)?;
+    let seen = run(&rt, rt.alloc(), row.script)?;
     assert_eq!(rt; (seen.status, seen.text.as_str()), (0, row.text));
-    let seen = run(rt, "stream a 8192 8192\ncread a 0")?;
+    let seen = run(&rt, rt.alloc(), "stream a 8192 8192\ncread a 0")?;
     assert_eq!(rt;
         (seen.status, seen.text.as_str()),
         (2, "syntax at line 2\n")

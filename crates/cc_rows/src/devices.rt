@@ -126,6 +126,7 @@ impl PageDisk for UntoldDisk {
 }
 
 /// A moment that threads wait for.
+#[derive(Drop)]
 pub struct Moment {
     came: AtomicBool,
     missed: AtomicBool,
@@ -162,6 +163,7 @@ impl Moment {
 }
 
 /// A disk of one byte that waits inside one of its reads. It tells nothing, and its writes fail.
+#[derive(Drop)]
 pub struct WaitingDisk<'a> {
     fill: u8,
     reads: u32,

@@ -84,7 +84,7 @@ fn pages(rt: HostRuntime) -> Result<(), Fail> {
         VALID_AT_A_PAGE_BOUNDARY,
         VALID_IN_THE_SECOND_PAGE,
     ] {
-        let seen = run(rt, row.script)?;
+        let seen = run(&rt, rt.alloc(), row.script)?;
         assert_eq!(rt;
             (seen.status, seen.text.as_str()),
             (0, row.text),
@@ -169,7 +169,7 @@ journal
 #[test]
 fn no_bytes_and_the_size(rt: HostRuntime) -> Result<(), Fail> {
     for row in [NO_BYTES, AT_THE_SIZE, EMPTY_FILE] {
-        let seen = run(rt, row.script)?;
+        let seen = run(&rt, rt.alloc(), row.script)?;
         assert_eq!(rt;
             (seen.status, seen.text.as_str()),
             (0, row.text),
@@ -203,9 +203,9 @@ read a 2251799813685247
 #[test]
 fn the_largest_file(rt: HostRuntime) -> Result<(), Fail> {
     let row = LARGEST_FILE;
-    let seen = run(rt, row.script)?;
+    let seen = run(&rt, rt.alloc(), row.script)?;
     assert_eq!(rt; (seen.status, seen.text.as_str()), (0, row.text));
-    let seen = run(rt, "stream a 18446744073709551616 0\n")?;
+    let seen = run(&rt, rt.alloc(), "stream a 18446744073709551616 0\n")?;
     assert_eq!(rt;
         (seen.status, seen.text.as_str()),
         (2, "syntax at line 1\n")

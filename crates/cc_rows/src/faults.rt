@@ -53,7 +53,7 @@ read a 0
 #[test]
 fn the_first_read_fails(rt: HostRuntime) -> Result<(), Fail> {
     for row in [READ_AFTER_A_FAULT, WRITE_AFTER_A_FAULT] {
-        let seen = run_over(rt, row.script, disk(rt.alloc(), &[1])?)?;
+        let seen = run_over(&rt, rt.alloc(), row.script, disk(rt.alloc(), &[1])?)?;
         assert_eq!(rt;
             (seen.status, seen.text.as_str()),
             (0, row.text),
@@ -91,7 +91,7 @@ read a 1
 #[test]
 fn the_second_read_fails(rt: HostRuntime) -> Result<(), Fail> {
     let row = SECOND_PAGE_FAILS;
-    let seen = run_over(rt, row.script, disk(rt.alloc(), &[2])?)?;
+    let seen = run_over(&rt, rt.alloc(), row.script, disk(rt.alloc(), &[2])?)?;
     assert_eq!(rt; (seen.status, seen.text.as_str()), (0, row.text));
     Ok(())
 }
@@ -129,7 +129,7 @@ fn a_disk_that_tells_nothing(rt: HostRuntime) -> Result<(), Fail> {
             fails,
             faults: Faults::new(),
         };
-        let seen = run_over(rt, row.script, disk)?;
+        let seen = run_over(&rt, rt.alloc(), row.script, disk)?;
         assert_eq!(rt;
             (seen.status, seen.text.as_str()),
             (0, row.text),

@@ -75,7 +75,7 @@ fn files(rt: HostRuntime) -> Result<(), Fail> {
         });
         let mut sink = sink(alloc);
         let disk = disk(alloc, &[])?;
-        let ended = status_of(rt, &RUN, &mut source, &mut sink, Some(disk))?;
+        let ended = status_of(&rt, rt.alloc(), &RUN, &mut source, &mut sink, Some(disk))?;
         let printed = text_of(alloc, &sink)?;
         assert_eq!(rt;
             (ended, printed.as_str()),
@@ -152,7 +152,7 @@ fn printers(rt: HostRuntime) -> Result<(), Fail> {
         let mut out = Output::new(&printer);
         let disk = disk(alloc, &[])?;
         let mut source = source(alloc, row.script)?;
-        let ended = status_of(rt, &RUN, &mut source, &mut out, Some(disk))?;
+        let ended = status_of(&rt, rt.alloc(), &RUN, &mut source, &mut out, Some(disk))?;
         assert_eq!(rt;
             (ended, printer.printed.get()),
             (status, printed),

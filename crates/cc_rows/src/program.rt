@@ -4,6 +4,8 @@ use cc_memdev::{DiskFails, MemDisk, MemSink, MemSource};
 use cc_run::{Ended, cache_main};
 use cc_traits::{Gate, PageDisk, Sink, Source};
 use std::alloc::{AllocError, Global};
+use std::sync::Wait;
+use std::thread::Threads;
 
 /// A gate that holds nobody back.
 pub(crate) struct Free;
@@ -78,15 +80,15 @@ pub(crate) fn text_of(alloc: Global, sink: &MemSink) -> Result<String, AllocErro
 }
 
 /// Runs the program over these disks, with a gate.
-pub(crate) fn left_with<S: Source, K: Sink, D: PageDisk + Drop, P: Gate>(
-    rt: HostRuntime,
+pub(crate) fn left_with<R: Threads + Wait + Sync, S: Source, K: Sink, D: PageDisk + Drop, P: Gate>(
+    rt: &R,
+    alloc: Global,
     words: &[&str],
     source: &mut S,
     sink: &mut K,
     disks: Vec<D>,
     gate: &P,
 ) -> Result<Left<D>, AllocError> {
-    let alloc = rt.alloc();
     let mut own = Vec::new(alloc);
     for word in words {
         own.push(String::from_str(alloc, word)?)?;
@@ -102,7 +104,7 @@ pub(crate) fn left_with<S: Source, K: Sink, D: PageDisk + Drop, P: Gate>(
         logs: _logs,
         posts: _posts,
     } = cache_main(
-        &rt,
+        rt,
         alloc,
         &own,
         source,
@@ -121,57 +123,59 @@ pub(crate) fn left_with<S: Source, K: Sink, D: PageDisk + Drop, P: Gate>(
 }
 
 /// Runs the program over these disks.
-pub(crate) fn left_by<S: Source, K: Sink, D: PageDisk + Drop>(
-    rt: HostRuntime,
+pub(crate) fn left_by<R: Threads + Wait + Sync, S: Source, K: Sink, D: PageDisk + Drop>(
+    rt: &R,
+    alloc: Global,
     words: &[&str],
     source: &mut S,
     sink: &mut K,
     disks: Vec<D>,
 ) -> Result<Left<D>, AllocError> {
-    left_with(rt, words, source, sink, disks, &Free)
+    left_with(rt, alloc, words, source, sink, disks, &Free)
 }
 
 /// Runs the program over a disk or none, and answers its status.
-pub(crate) fn status_of<S: Source, K: Sink, D: PageDisk + Drop>(
-    rt: HostRuntime,
+pub(crate) fn status_of<R: Threads + Wait + Sync, S: Source, K: Sink, D: PageDisk + Drop>(
+    rt: &R,
+    alloc: Global,
     words: &[&str],
     source: &mut S,
     sink: &mut K,
     disk: Option<D>,
 ) -> Result<u8, AllocError> {
-    let mut disks = Vec::new(rt.alloc());
+    let mut disks = Vec::new(alloc);
     if let Some(disk) = disk {
         disks.push(disk).map_err(|_| AllocError)?;
     }
-    Ok(left_by(rt, words, source, sink, disks)?.status)
+    Ok(left_by(rt, alloc, words, source, sink, disks)?.status)
 }
 
 /// Runs a script over a disk.
-pub(crate) fn run_over<D: PageDisk + Drop>(
-    rt: HostRuntime,
+pub(crate) fn run_over<R: Threads + Wait + Sync, D: PageDisk + Drop>(
+    rt: &R,
+    alloc: Global,
     script: &str,
     disk: D,
 ) -> Result<Seen, AllocError> {
-    let alloc = rt.alloc();
     let mut source = source(alloc, script)?;
     let mut sink = sink(alloc);
-    let status = status_of(rt, &["run", "s"], &mut source, &mut sink, Some(disk))?;
+    let status = status_of(rt, alloc, &["run", "s"], &mut source, &mut sink, Some(disk))?;
     let text = text_of(alloc, &sink)?;
     Ok(Seen { status, text })
 }
 
 /// Runs a script over a disk that it gives back.
-pub(crate) fn run_on(
-    rt: HostRuntime,
+pub(crate) fn run_on<R: Threads + Wait + Sync>(
+    rt: &R,
+    alloc: Global,
     script: &str,
     disk: MemDisk,
 ) -> Result<(Seen, MemDisk), AllocError> {
-    let alloc = rt.alloc();
     let mut source = source(alloc, script)?;
     let mut sink = sink(alloc);
     let mut disks = Vec::new(alloc);
     disks.push(disk).map_err(|_| AllocError)?;
-    let mut left = left_by(rt, &["run", "s"], &mut source, &mut sink, disks)?;
+    let mut left = left_by(rt, alloc, &["run", "s"], &mut source, &mut sink, disks)?;
     let text = text_of(alloc, &sink)?;
     let seen = Seen {
         status: left.status,
@@ -181,15 +185,18 @@ pub(crate) fn run_on(
 }
 
 /// Runs a script over five disks that never fail.
-pub(crate) fn run_over_five(rt: HostRuntime, script: &str) -> Result<Seen, AllocError> {
-    let alloc = rt.alloc();
+pub(crate) fn run_over_five<R: Threads + Wait + Sync>(
+    rt: &R,
+    alloc: Global,
+    script: &str,
+) -> Result<Seen, AllocError> {
     let mut source = source(alloc, script)?;
     let mut sink = sink(alloc);
     let mut disks = Vec::new(alloc);
     for _ in 0..5 {
         disks.push(disk(alloc, &[])?).map_err(|_| AllocError)?;
     }
-    let left = left_by(rt, &["run", "s"], &mut source, &mut sink, disks)?;
+    let left = left_by(rt, alloc, &["run", "s"], &mut source, &mut sink, disks)?;
     let text = text_of(alloc, &sink)?;
     Ok(Seen {
         status: left.status,
@@ -198,23 +205,35 @@ pub(crate) fn run_over_five(rt: HostRuntime, script: &str) -> Result<Seen, Alloc
 }
 
 /// Runs a script over a disk that never fails.
-pub(crate) fn run(rt: HostRuntime, script: &str) -> Result<Seen, AllocError> {
-    run_over(rt, script, disk(rt.alloc(), &[])?)
+pub(crate) fn run<R: Threads + Wait + Sync>(
+    rt: &R,
+    alloc: Global,
+    script: &str,
+) -> Result<Seen, AllocError> {
+    run_over(rt, alloc, script, disk(alloc, &[])?)
 }
 
 /// Runs a script over a disk, with a gate.
-pub(crate) fn run_with<D: PageDisk + Drop, P: Gate>(
-    rt: HostRuntime,
+pub(crate) fn run_with<R: Threads + Wait + Sync, D: PageDisk + Drop, P: Gate>(
+    rt: &R,
+    alloc: Global,
     script: &str,
     disk: D,
     gate: &P,
 ) -> Result<Seen, AllocError> {
-    let alloc = rt.alloc();
     let mut source = source(alloc, script)?;
     let mut sink = sink(alloc);
     let mut disks = Vec::new(alloc);
     disks.push(disk).map_err(|_| AllocError)?;
-    let left = left_with(rt, &["run", "s"], &mut source, &mut sink, disks, gate)?;
+    let left = left_with(
+        rt,
+        alloc,
+        &["run", "s"],
+        &mut source,
+        &mut sink,
+        disks,
+        gate,
+    )?;
     let text = text_of(alloc, &sink)?;
     Ok(Seen {
         status: left.status,

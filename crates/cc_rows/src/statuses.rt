@@ -5,7 +5,9 @@ use crate::{LineFeeds, NarrowSink};
 use cc_memdev::{MemSink, MemSource};
 use cc_traits::Source;
 use std::alloc::{AllocError, Global};
+use std::sync::Wait;
 use std::test::Fail;
+use std::thread::Threads;
 
 const USAGE: &str = "usage: ntcache run FILE [DIR] | steps FILE | gen N\n";
 
@@ -50,7 +52,7 @@ fn wrong_words(rt: HostRuntime) -> Result<(), Fail> {
     for words in lists {
         let mut source = failing_source(alloc)?;
         let mut sink = sink(alloc);
-        let status = status_of(rt, words, &mut source, &mut sink, no_disk())?;
+        let status = status_of(&rt, rt.alloc(), words, &mut source, &mut sink, no_disk())?;
         let text = text_of(alloc, &sink)?;
         assert_eq!(rt; (status, text.as_str()), (1, USAGE), "{words:?}");
         assert_eq!(rt; source.faults(), 0);
@@ -68,7 +70,8 @@ fn too_few_disks(rt: HostRuntime) -> Result<(), Fail> {
     ] {
         let mut sink = sink(alloc);
         let ended = status_of(
-            rt,
+            &rt,
+            rt.alloc(),
             &RUN,
             &mut source(alloc, script)?,
             &mut sink,
@@ -87,7 +90,7 @@ fn a_source_that_fails(rt: HostRuntime) -> Result<(), Fail> {
         let bytes = SCRIPT.as_bytes().to_vec(alloc)?;
         let mut source = MemSource::new(bytes, 7, vec![in alloc; take]?);
         let mut sink = sink(alloc);
-        let status = status_of(rt, &RUN, &mut source, &mut sink, no_disk())?;
+        let status = status_of(&rt, rt.alloc(), &RUN, &mut source, &mut sink, no_disk())?;
         let text = text_of(alloc, &sink)?;
         assert_eq!(rt; (status, text.as_str()), (3, "script read fault\n"));
         assert_eq!(rt; source.faults(), 1);
@@ -103,7 +106,7 @@ fn a_source_in_chunks(rt: HostRuntime) -> Result<(), Fail> {
         let mut source = MemSource::new(bytes, chunk, Vec::new(alloc));
         let mut sink = sink(alloc);
         let disk = disk(alloc, &[])?;
-        let status = status_of(rt, &RUN, &mut source, &mut sink, Some(disk))?;
+        let status = status_of(&rt, rt.alloc(), &RUN, &mut source, &mut sink, Some(disk))?;
         let text = text_of(alloc, &sink)?;
         assert_eq!(rt; (status, text.as_str()), (0, TEXT), "{chunk}");
     }
@@ -122,7 +125,7 @@ fn line_feeds(rt: HostRuntime) -> Result<(), Fail> {
     ] {
         let mut source = LineFeeds::new(many);
         let mut sink = sink(alloc);
-        let ended = status_of(rt, &RUN, &mut source, &mut sink, no_disk())?;
+        let ended = status_of(&rt, rt.alloc(), &RUN, &mut source, &mut sink, no_disk())?;
         let printed = text_of(alloc, &sink)?;
         assert_eq!(rt; (ended, printed.as_str()), (status, text), "{many}");
     }
@@ -154,7 +157,8 @@ fn sinks_that_stop(rt: HostRuntime) -> Result<(), Fail> {
         let mut sink = narrow_sink(alloc, most, call)?;
         let disk = disk(alloc, &[])?;
         let ended = status_of(
-            rt,
+            &rt,
+            rt.alloc(),
             &RUN,
             &mut source(alloc, SCRIPT)?,
             &mut sink,
@@ -174,7 +178,14 @@ fn a_sink_that_finds_no_memory(rt: HostRuntime) -> Result<(), Fail> {
     let mut sink = narrow_sink(alloc, 0, 9)?;
     sink.stalls = u64::MAX;
     let disks = vec![in alloc; disk(alloc, &[])?]?;
-    let left = left_by(rt, &RUN, &mut source(alloc, SCRIPT)?, &mut sink, disks)?;
+    let left = left_by(
+        &rt,
+        rt.alloc(),
+        &RUN,
+        &mut source(alloc, SCRIPT)?,
+        &mut sink,
+        disks,
+    )?;
     assert_eq!(rt;
         (left.status, left.replies, left.entries, left.disks.len()),
         (6, 2, 2, 1)
@@ -183,13 +194,14 @@ fn a_sink_that_finds_no_memory(rt: HostRuntime) -> Result<(), Fail> {
 }
 
 /// Runs with a sink that fails, and answers the status.
-fn status_at_failing_sink<S: Source>(
-    rt: HostRuntime,
+fn status_at_failing_sink<R: Threads + Wait + Sync, S: Source>(
+    rt: &R,
+    alloc: Global,
     words: &[&str],
     source: &mut S,
 ) -> Result<u8, AllocError> {
-    let mut sink = narrow_sink(rt.alloc(), 4096, 1)?;
-    status_of(rt, words, source, &mut sink, no_disk())
+    let mut sink = narrow_sink(alloc, 4096, 1)?;
+    status_of(rt, alloc, words, source, &mut sink, no_disk())
 }
 
 // Where the text of a fault cannot be written, the status stays.
@@ -197,13 +209,13 @@ fn status_at_failing_sink<S: Source>(
 fn a_fault_whose_text_is_not_written(rt: HostRuntime) -> Result<(), Fail> {
     let alloc = rt.alloc();
     let mut failing = failing_source(alloc)?;
-    assert_eq!(rt; status_at_failing_sink(rt, &[], &mut failing)?, 1);
+    assert_eq!(rt; status_at_failing_sink(&rt, alloc, &[], &mut failing)?, 1);
     let mut wrong = source(alloc, "cread a 0 1\n")?;
-    assert_eq!(rt; status_at_failing_sink(rt, &RUN, &mut wrong)?, 2);
-    assert_eq!(rt; status_at_failing_sink(rt, &RUN, &mut failing)?, 3);
+    assert_eq!(rt; status_at_failing_sink(&rt, alloc, &RUN, &mut wrong)?, 2);
+    assert_eq!(rt; status_at_failing_sink(&rt, alloc, &RUN, &mut failing)?, 3);
     let mut long = LineFeeds::new(16777217);
-    assert_eq!(rt; status_at_failing_sink(rt, &RUN, &mut long)?, 5);
+    assert_eq!(rt; status_at_failing_sink(&rt, alloc, &RUN, &mut long)?, 5);
     let mut whole = source(alloc, SCRIPT)?;
-    assert_eq!(rt; status_at_failing_sink(rt, &RUN, &mut whole)?, 7);
+    assert_eq!(rt; status_at_failing_sink(&rt, alloc, &RUN, &mut whole)?, 7);
     Ok(())
 }

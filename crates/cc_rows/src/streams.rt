@@ -180,7 +180,7 @@ fn streams(rt: HostRuntime) -> Result<(), Fail> {
         SMALLER_AND_LARGER,
         CALLERS_AND_PHASES,
     ] {
-        let seen = run_over_five(rt, row.script)?;
+        let seen = run_over_five(&rt, rt.alloc(), row.script)?;
         assert_eq!(rt;
             (seen.status, seen.text.as_str()),
             (0, row.text),

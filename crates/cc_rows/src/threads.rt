@@ -38,13 +38,14 @@ fn hundred_answers(alloc: Global) -> Result<String, AllocError> {
 #[test]
 fn a_hundred_writes_each(rt: HostRuntime) -> Result<(), Fail> {
     let script = hundred_each(rt.alloc())?;
-    let seen = run(rt, &script)?;
+    let seen = run(&rt, rt.alloc(), &script)?;
     assert_eq!(rt; seen.status, 0);
     assert!(rt; seen.text.starts_with(hundred_answers(rt.alloc())?.as_str()));
     Ok(())
 }
 
 /// Holds the first call of one caller back until the first call of another was answered.
+#[derive(Drop)]
 struct OneAfter {
     held: u32,
     other: u32,
@@ -79,7 +80,7 @@ fn one_goes_on_while_another_is_held(rt: HostRuntime) -> Result<(), Fail> {
             other,
             answered: Moment::new(),
         };
-        let seen = run_with(rt, TWO_READS, disk(rt.alloc(), &[])?, &gate)?;
+        let seen = run_with(&rt, rt.alloc(), TWO_READS, disk(rt.alloc(), &[])?, &gate)?;
         assert!(rt; !gate.answered.was_missed());
         assert_eq!(rt; seen.status, 0);
     }
@@ -87,6 +88,7 @@ fn one_goes_on_while_another_is_held(rt: HostRuntime) -> Result<(), Fail> {
 }
 
 /// Holds the second caller back until the disk is inside a read, and says when its call was answered.
+#[derive(Drop)]
 struct DuringRead<'a> {
     inside: &'a Moment,
     answered: &'a Moment,
@@ -123,7 +125,7 @@ fn a_read_is_answered_during_a_fill(rt: HostRuntime) -> Result<(), Fail> {
         inside: &inside,
         answered: &answered,
     };
-    let seen = run_with(rt, READ_DURING_A_FILL, disk, &gate)?;
+    let seen = run_with(&rt, rt.alloc(), READ_DURING_A_FILL, disk, &gate)?;
     assert!(rt; !inside.was_missed() && !answered.was_missed());
     assert_eq!(rt; seen.status, 0);
     let answers = "setup\n1 ok\ncaller t1\n2 ok 5A\n4 ok 5A\ncaller t2\n5 ok 5A\n";

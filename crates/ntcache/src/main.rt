@@ -23,7 +23,7 @@ use std::sync::Wait;
 use std::thread::Threads;
 
 fn main(rt: HostRuntime) -> ExitCode {
-    exit_code(start(rt))
+    exit_code(start(rt, &rt))
 }
 
 /// The program's end with its status, or with the status of want of memory.
@@ -37,8 +37,8 @@ fn exit_code(status: Result<u8, AllocError>) -> ExitCode
     }
 }
 
-/// Runs the words of the command line over the file that they name and standard output.
-fn start(rt: HostRuntime) -> Result<u8, AllocError> {
+/// Runs the words of the command line over the file that they name and standard output, with threads.
+fn start<R: Threads + Wait + Sync>(rt: HostRuntime, threads: &R) -> Result<u8, AllocError> {
     let words = words_of(rt)?;
     let path = match words.get(1) {
         Some(path) => path.as_str(),
@@ -46,7 +46,7 @@ fn start(rt: HostRuntime) -> Result<u8, AllocError> {
     };
     let mut script = ScriptFile::new(PlaceOf { files: &rt, path });
     let mut out = Output::new(&rt);
-    run(&rt, rt.alloc(), &words, &mut script, &mut out)
+    run(threads, rt.alloc(), &words, &mut script, &mut out)
 }
 
 /// The words of the command line without the program's name; none where one is not text.
