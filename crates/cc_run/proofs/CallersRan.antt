@@ -156,20 +156,20 @@ module _ {D L Q : Type 0} (tells : Tells D L Q) (board : BoardState D L) (all : 
         let number_after : after.knows.number ≡ me = ap (λ w. w.number) went.same ∙ number-is in
         let rest : after.knows.in_flight ≡ 0 = ap (λ w. w.in_flight) went.same ∙ (ap (λ w. w.in_flight) ran.went.same ∙ may.none) in
         let most : after.knows.before + after.knows.passes ≡ caller.pass.knows.before + caller.pass.knows.passes =
-            ap (λ w. w.most_others) went.same ∙ ap (λ w. w.most_others) ran.went.same in
+        ap (λ w. w.most_others) went.same ∙ ap (λ w. w.most_others) ran.went.same in
         record {
           went = went-then (seat_at tells (seat_of board caller)) (seat_at tells seated) (seat_at tells after) ran.went went;
           free = ap (λ w. w.held) went.same ∙ ran.free;
           settled = subst (λ n. owes_store after.knows.seen n ≡ false) number_after settled;
           whole = omega (arith, length-append answers (told ∷ []), ran.whole, count-append me lines (line ∷ []), count-more me line [] own);
           ran = λ bindings. rw (own-last me lines line answers told own ran.whole)
-          (ran-more (setup_in tells board.begun) 32 me bindings (asked_own me lines answers) line.action told caller.pass.knows.seen seated.knows.seen after.knows.seen (ran.ran bindings)
-          (record {
-            served = rw (setup, number-is) at (served (bindings_of bindings (asked_own me lines answers)));
-            room = subst (λ u. HadNoRoom u 32 told seated.knows.seen after.knows.seen) setup_after
-            (room-served (seat_at tells after) 32 (seat_at tells seated).setup seated.knows.number (bindings_of bindings (asked_own me lines answers)) line.action told seated.knows.seen
-            (served (bindings_of bindings (asked_own me lines answers))) rest (omega (arith, few, most, may.few)) full);
-          }));
+              (ran-more (setup_in tells board.begun) 32 me bindings (asked_own me lines answers) line.action told caller.pass.knows.seen seated.knows.seen after.knows.seen (ran.ran bindings)
+              (record {
+                served = rw (setup, number-is) at (served (bindings_of bindings (asked_own me lines answers)));
+                room = subst (λ u. HadNoRoom u 32 told seated.knows.seen after.knows.seen) setup_after
+                    (room-served (seat_at tells after) 32 (seat_at tells seated).setup seated.knows.number (bindings_of bindings (asked_own me lines answers)) line.action told seated.knows.seen
+                    (served (bindings_of bindings (asked_own me lines answers))) rest (omega (arith, few, most, may.few)) full);
+              }));
         }
 
     -- a line of another

@@ -79,4 +79,4 @@ module _ (line : ActionLine) (lines : List ActionLine) (rows : List (List Answer
 
 -- no line is left
 pub merged-none : (rows : List (List Answer)) (replies : List LineReply) → Merged [] rows replies replies
-merged-none rows replies = record { answers = []; grew = sym (append-nil replies); lines_are = refl; asked = λ phase me those first last. refl; }
+merged-none rows replies = record { answers = []; grew = sym (append-nil replies); lines_are = refl; asked = λ phase me those first last. refl }

@@ -279,7 +279,7 @@ module _ {D L Q : Type 0} (told : D → Option Disk) (faults : D → ℕ) (log_t
           phase-on-board before after phase are those apart merged = record {
             answers = merged.answers;
             grew = merged.grew;
-            left = record { lines_are = merged.lines_are; ran = λ me bindings. rw apart (ran-of me bindings); };
+            left = record { lines_are = merged.lines_are; ran = λ me bindings. rw apart (ran-of me bindings) };
           }
             where
               no-lines : (me : ℕ) → ((line : ActionLine) → IsCaller line.caller → line.caller ≢ me) → (bindings : List Binding) → IsIdle me desk.last.entries now.last.entries → Ran setup 32 me bindings (asked_of (is_of_phase phase me) lines merged.answers) desk.last.entries now.last.entries

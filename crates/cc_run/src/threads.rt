@@ -16,8 +16,8 @@ ghost use Rattle.cc_run.specs.Lines.{IsServable, IsCaller};
 ghost use Rattle.cc_run.specs.Phases.{PhaseServed};
 ghost use Rattle.cc_run.specs.Threads.{AreRooms, AreSplit, AreJoined, Merged, MaySplit, MayJoin};
 
-use crate::callers::{Caller, Finished, run_callers};
 use crate::call_numbers::Calls;
+use crate::callers::{Caller, Finished, run_callers};
 use cc_board::{Board, FirstPass};
 use cc_entry::{Answer, LineReply, NoMemory};
 use cc_script::ActionLine;

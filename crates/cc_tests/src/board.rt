@@ -17,7 +17,13 @@ use std::test::Fail;
 fn board(
     alloc: Global,
     passes: u16,
-) -> Result<(Board<MemDisk, MemLog, Routine>, FirstPass<MemDisk, MemLog, Routine>), Fail>
+) -> Result<
+    (
+        Board<MemDisk, MemLog, Routine>,
+        FirstPass<MemDisk, MemLog, Routine>,
+    ),
+    Fail,
+>
     ensures { IfOk result (λ made. IsNewBoard passes made.0 made.1) }
 {
     match Board::new(alloc, desk(alloc)?, passes) {
@@ -42,11 +48,13 @@ fn closed_in_the_end(
         unreachable!()
     };
     match board.close(first) {
-        Err(StillOut {
-            board,
-            mut first,
-            passes,
-        }) => {
+        Err(
+            StillOut {
+                board,
+                mut first,
+                passes,
+            },
+        ) => {
             board.join(&mut first, pass);
             match board.close(first) {
                 Ok(desk) => (passes, desk),

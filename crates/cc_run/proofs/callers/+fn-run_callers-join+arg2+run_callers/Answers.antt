@@ -28,7 +28,7 @@ join-ended-requires-after_bounds g t c κs within =
     let last : May c.in-Some.caller = (all-back May c.pop.new.self.items (c.in-Some.caller ∷ []) all).0 in
     let fewer : length c.pop.new.self.items < length c.args.callers.items = omega (arith, c.in-Some.ensures.len) in
     let room : IsRoomFor (length c.pop.new.self.items) c.args.room.items (vec_capacity c.args.room) =
-        record { empty = c.requires.room.empty; room = omega (arith, fewer, c.requires.room.room) } in
+    record { empty = c.requires.room.empty; room = omega (arith, fewer, c.requires.room.room) } in
     search (rules, others, last, room, fewer)
 
 pub push_reserved-requires-2 : goal.push_reserved-requires-2

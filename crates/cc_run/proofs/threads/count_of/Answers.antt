@@ -16,8 +16,8 @@ loop-line-preserved c =
     elim c.if-line-caller.branch [
       | then-line-caller w ↦
           let is : (c.line-item.result.caller == c.args.caller) ≡ true = eq-eqb c.line-item.result.caller c.args.caller w.if-line-caller.true in
-          record { counted = w.count-is ∙ sym (rw is at sum); within = omega (arith, w.count-is, c.loop-line.invariant.within); }
+          record { counted = w.count-is ∙ sym (rw is at sum); within = omega (arith, w.count-is, c.loop-line.invariant.within) }
       | else-line-caller w ↦
           let is : (c.line-item.result.caller == c.args.caller) ≡ false = ne_eqb c.line-item.result.caller c.args.caller w.if-line-caller.false in
-          record { counted = w.count-is ∙ sym (rw is at sum ∙ omega arith); within = omega (arith, w.count-is, c.loop-line.invariant.within); }
+          record { counted = w.count-is ∙ sym (rw is at sum ∙ omega arith); within = omega (arith, w.count-is, c.loop-line.invariant.within) }
     ]

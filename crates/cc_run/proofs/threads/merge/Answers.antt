@@ -25,21 +25,21 @@ loop-line-preserved c =
     let sixteen : c.from.result ≡ 16 = omega arith in
     let within : 16 - line.caller < length was = omega (arith, c.loop-line.invariant.rows.0, length-map was items, caller.first) in
     let there : get_or (map items was) (16 - line.caller) [] ≡ c.pop.new.self.items ++ c.in-Some.answer ∷ [] =
-        get_or-map items was (16 - line.caller) c.index_mut.result.now [] within
-        ∙ (ap (λ n. (get_or was (n - line.caller) c.index_mut.result.now).items) (sym sixteen)
-        ∙ (ap items (sym c.index_mut.ensures.value) ∙ c.in-Some.ensures.items)) in
+    get_or-map items was (16 - line.caller) c.index_mut.result.now [] within
+    ∙ (ap (λ n. (get_or was (n - line.caller) c.index_mut.result.now).items) (sym sixteen)
+    ∙ (ap items (sym c.index_mut.ensures.value) ∙ c.in-Some.ensures.items)) in
     let same : map items (slice_set was (c.from.result - line.caller) c.pop.new.self) ≡ set (map items was) (16 - line.caller) c.pop.new.self.items =
-        map-set items was (c.from.result - line.caller) c.pop.new.self ∙ ap (λ n. set (map items was) (n - line.caller) c.pop.new.self.items) sixteen in
+    map-set items was (c.from.result - line.caller) c.pop.new.self ∙ ap (λ n. set (map items was) (n - line.caller) c.pop.new.self.items) sixteen in
     let parted : drop i lines ≡ line ∷ drop (i + 1) lines =
-        drop-cons lines i line c.loop-line-test.true
-        ∙ (ap (λ l. l ∷ drop (suc i) lines) (sym c.line-item.is) ∙ ap (λ n. line ∷ drop n lines) (sym (add-one i))) in
+    drop-cons lines i line c.loop-line-test.true
+    ∙ (ap (λ l. l ∷ drop (suc i) lines) (sym c.line-item.is) ∙ ap (λ n. line ∷ drop n lines) (sym (add-one i))) in
     record {
       rows = rw same (rows-left line (drop (i + 1) lines) (map items was) c.pop.new.self.items c.in-Some.answer caller there (subst (λ l. AreRows l (map items was)) parted c.loop-line.invariant.rows));
       long = omega (arith, longer _ _ _ c.push_reserved.ensures.items, c.loop-line.invariant.long);
       room = c.push_reserved.ensures.capacity ∙ c.loop-line.invariant.room;
       rest = λ after merged. c.loop-line.invariant.rest after (subst (λ l. Merged l (map items was) c.loop-line.replies.items after) (sym parted)
-      (merged-more line (drop (i + 1) lines) (map items was) c.pop.new.self.items c.in-Some.answer caller there c.loop-line.replies.items after _ refl c.loop-line.invariant.rows.0
-      (rw (← same, ← c.push_reserved.ensures.items) merged)));
+          (merged-more line (drop (i + 1) lines) (map items was) c.pop.new.self.items c.in-Some.answer caller there c.loop-line.replies.items after _ refl c.loop-line.invariant.rows.0
+          (rw (← same, ← c.push_reserved.ensures.items) merged)));
     }
 
 pub returns-clause-merged : goal.returns-clause-merged
