@@ -53,7 +53,7 @@ not-true false e = refl
 not-true true e = sym e
 
 -- an effect that an entry has on its own stream passes a test, if the effect does
-of_own : (test : Effect → Bool) (b : Bool) (effect : Effect) → test effect ≡ true → none_or test (if b then Some effect else None) ≡ true
+pub of_own : (test : Effect → Bool) (b : Bool) (effect : Effect) → test effect ≡ true → none_or test (if b then Some effect else None) ≡ true
 of_own test true effect passes = passes
 of_own test false effect passes = refl
 
@@ -180,6 +180,7 @@ gone_on e past s opening now left gone =
     record {
       images = λ p bytes is.
           gone.images p bytes (sym (kept_by_entry leaves_images (λ h. image (page_of opening) h p) (image-left (page_of opening) p) e past s passes) ∙ is);
+      among = gone.among;
       crash = λ p content alone among.
           rw (kept_by_entry leaves_images (λ h. crash_pages (page_of opening) h p) (crash_pages-left (page_of opening) p) e past s passes)
           (gone.crash p content alone among);

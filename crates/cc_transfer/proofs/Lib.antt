@@ -1,4 +1,5 @@
--- Lemmas of reads and transfers, each before those that cite it.
+-- Lemmas of reads, transfers and syncs, each before those that cite it.
 pub mod Keeping
 pub mod PageRead
 pub mod PageWritten
+pub mod DiskSynced

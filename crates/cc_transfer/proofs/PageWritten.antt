@@ -7,7 +7,7 @@ use Rattle.std.proofs.lemmas.Bool.{eq-eqb, eqb-true, and_parts}
 use Rattle.std.proofs.lemmas.List.FromFn.{length-map-range_with_len, get_or-map-range_with_len}
 use Rattle.std.specs.List.{range_with_len}
 use Rattle.std.proofs.lemmas.List.{ext_get_or}
-use Rattle.std.proofs.lemmas.List.Elements.{Contains-append_left, Contains-append_right, Contains-append_cases}
+use Rattle.std.proofs.lemmas.List.Elements.{Contains-append_left, Contains-append_right, Contains-append_cases, Contains-push}
 use Rattle.cc_entry.specs.Place.{Page}
 use Rattle.cc_entry.specs.declared.entry.Entry.{Entry}
 use Rattle.cc_entry.specs.declared.entry.Entry.TheVariants as entry
@@ -126,6 +126,7 @@ same_some xs ys e = cc
 gone_wrote : {h g : List Effect} {page : ℕ} {bytes : List ℕ} {opening old new : Disk} → UnderWay h g page bytes opening old → Wrote page bytes old new → (pass : ℕ) → HasGone (Ended pass page end.Good ∷ g) opening new
 gone_wrote {h = h} {g = g} {page = page} {bytes = bytes} {opening = opening} {old = old} {new = new} way wrote pass = record {
   images = λ p content is. images p content is (page == p) refl;
+  among = λ p alone. among p alone (page == p) refl;
   crash = crash-added new way wrote.may pass end.Good;
   exact = λ p alone free well. exact-added new way wrote.may pass end.Good p alone well;
 }
@@ -138,6 +139,14 @@ gone_wrote {h = h} {g = g} {page = page} {bytes = bytes} {opening = opening} {ol
     images p content is false other =
         wrote.holds p ∙ (ap (λ b. if b then bytes else page_of old p) other ∙ image-other way pass end.Good p content other is)
 
+    among : (p : ℕ) → may_of opening p ≡ page_of opening p ∷ [] → (b : Bool) → (page == p) ≡ b → Contains (may_of new p) (page_of new p)
+    among p alone true same =
+        let holds : page_of new p ≡ bytes = wrote.holds p ∙ ap (λ b. if b then bytes else page_of old p) same in
+        rw (may-page page p bytes old new wrote.may same, holds) (Contains-push (may_of old p) bytes)
+    among p alone false other =
+        let holds : page_of new p ≡ page_of old p = wrote.holds p ∙ ap (λ b. if b then bytes else page_of old p) other in
+        rw (may-other page p bytes old new wrote.may other, holds) (way.gone.among p alone)
+
 -- the image of a page whose transfer did not end well is not known
 image-bad : {h g : List Effect} {page : ℕ} {bytes : List ℕ} {opening old : Disk} → UnderWay h g page bytes opening old → (pass : ℕ) (how : End) (p : ℕ) (content : List ℕ) → ended_ok how ≡ false → (page == p) ≡ true → image (page_of opening) (Ended pass page how ∷ g) p ≡ Some content → ⊥
 image-bad {h = h} {g = g} {page = page} {opening = opening} way pass how p content bad same is =
@@ -147,6 +156,7 @@ image-bad {h = h} {g = g} {page = page} {opening = opening} way pass how p conte
 gone_failed : {h g : List Effect} {page : ℕ} {bytes : List ℕ} {opening old new : Disk} → UnderWay h g page bytes opening old → WriteFailed page bytes old new → (pass : ℕ) → HasGone (Ended pass page end.Failed ∷ g) opening new
 gone_failed {h = h} {g = g} {page = page} {bytes = bytes} {opening = opening} {old = old} {new = new} way failed pass = record {
   images = λ p content is. images p content is (page == p) refl;
+  among = λ p alone. among p alone (page == p) refl;
   crash = crash-added new way failed.may pass end.Failed;
   exact = λ p alone free well. exact-added new way failed.may pass end.Failed p alone well;
 }
@@ -155,10 +165,19 @@ gone_failed {h = h} {g = g} {page = page} {bytes = bytes} {opening = opening} {o
     images p content is true same = absurd (image-bad way pass end.Failed p content refl same is)
     images p content is false other = failed.others p other ∙ image-other way pass end.Failed p content other is
 
+    among : (p : ℕ) → may_of opening p ≡ page_of opening p ∷ [] → (b : Bool) → (page == p) ≡ b → Contains (may_of new p) (page_of new p)
+    among p alone true same =
+        let is : page ≡ p = eqb-true page p same in
+        subst (λ q. Contains (may_of new q) (page_of new q)) is
+        (failed.among (subst (λ q. Contains (may_of old q) (page_of old q)) (sym is) (way.gone.among p alone)))
+    among p alone false other =
+        rw (may-other page p bytes old new failed.may other, failed.others p other) (way.gone.among p alone)
+
 -- and one that found no memory, which left the disk as it was.
 gone_nowhere : {h g : List Effect} {page : ℕ} {bytes : List ℕ} {opening old : Disk} → UnderWay h g page bytes opening old → (pass : ℕ) → HasGone (Ended pass page end.NoMemory ∷ g) opening old
 gone_nowhere {h = h} {g = g} {page = page} {bytes = bytes} {opening = opening} {old = old} way pass = record {
   images = λ p content is. images p content is (page == p) refl;
+  among = way.gone.among;
   crash = λ p content alone among. crash p content (way.gone.crash p content alone among) (page == p) refl;
   exact = λ p alone free well.
       exact p well (way.gone.exact p alone (is_transferred-none (open_of h) p way.at_rest) (sym (way.well p) ∙ ended_before pass page end.NoMemory g p well))
@@ -218,7 +237,7 @@ under_way before later s pass page bytes opening old quiet gone at_rest bytes_ar
     }
 
 -- what holds from first to old and from old to new, holds from first to new, as far as something is told
-both_through : {A : Type 0} (P Q R : A → A → Type 0) (first old new : Option A) → ((x y z : A) → first ≡ Some x → P x y → Q y z → R x z) → Both first old P → Both old new Q → Both first new R
+pub both_through : {A : Type 0} (P Q R : A → A → Type 0) (first old new : Option A) → ((x y z : A) → first ≡ Some x → P x y → Q y z → R x z) → Both first old P → Both old new Q → Both first new R
 both_through P Q R None None None so gone wrote = tt
 both_through P Q R None None (Some new) so gone wrote = absurd wrote
 both_through P Q R None (Some old) new so gone wrote = absurd gone

@@ -1,4 +1,4 @@
--- What a read of a page and a transfer of one may rest on, and what they leave in the journal.
+-- What a read of a page, a transfer of one and a sync may rest on, and what they leave in the journal.
 use Rattle.std.specs.Prelude.{◌≡◌, ℕ, ◌+◌, ◌*◌, ◌<◌, false, List, ◌∷◌, ◌++◌, length, slice_index, Result, Ok, Err}
 use Rattle.std.specs.declared.option.Option.{Option}
 use Rattle.std.specs.declared.option.Option.TheVariants.{None}
@@ -47,13 +47,17 @@ transferred pass s page how later before =
     entry.WriteEnd pass (record { stream = s; page = page }) how
     ∷ (later ++ entry.WriteBegin pass (record { stream = s; page = page }) ∷ before)
 
--- how a transfer ended whose write was answered so
+-- The past after a sync by a pass that ended so: what others placed meanwhile, then its entry.
+abbrev pub synced : ℕ → ℕ → End → List Entry → List Entry → List Entry
+synced pass s how later before = entry.Sync pass s how ∷ (later ++ before)
+
+-- how a transfer or a sync ended that the disk answered so
 abbrev pub end_of : Result (Unit {0}) Stop → End
-end_of (Ok written) = how.Good
+end_of (Ok done) = how.Good
 end_of (Err stop.Failed) = how.Failed
 end_of (Err stop.NoMemory) = how.NoMemory
 
--- by how much a transfer that ended so raises its disk's count of faults: by one exactly where it failed
+-- by how much a transfer or a sync that ended so raises its disk's count of faults: by one exactly where it failed
 abbrev pub faults_by : End → ℕ
 faults_by how.Good = 0
 faults_by how.Failed = 1

@@ -1,8 +1,10 @@
-//! The two functions of a disk that carry data: a page is read, and a page is transferred.
+//! The three functions of a disk: a page is read, a page is transferred, and the disk is synced.
 //!
 //! What the layer keeps true: a disk that tells what it holds goes on standing for what the journal says of its
 //! stream (`DiskStands` of `cc_turns`). What is read of a page that is not resident is the plain file, below the
-//! valid data length; and after a transfer the disk stands for the journal with the transfer's begin and its end.
+//! valid data length; after a transfer the disk stands for the journal with the transfer's begin and its end; and
+//! after a sync for the journal with the sync, so that a crash can then leave of a page nothing but its image, where
+//! that is known.
 //!
 //! It stands on the disks of `cc_traits` and the definitions. It knows no turn and no book: it says of any past what
 //! the disk then stands for. Whoever has the turns of the disk, the book and the journal chooses the page and places
@@ -11,4 +13,4 @@
 
 mod transfers;
 
-pub use transfers::{read, transfer};
+pub use transfers::{read, sync, transfer};

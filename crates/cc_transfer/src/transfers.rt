@@ -1,15 +1,17 @@
-//! A page is read from a disk, and transferred to one.
+//! A page is read from a disk, and transferred to one; and the disk is synced.
 
 ghost use Rattle.std.specs.Prelude.{◌≡◌, ℕ, ◌+◌, true, List, ◌∷◌, OnOk};
+ghost use Rattle.std.specs.declared.option.Option.TheVariants.{None};
 ghost use Rattle.cc_entry.specs.declared.entry.Entry.{Entry};
 ghost use Rattle.cc_traits.specs.Stop.{faults_in, OnFailed};
 ghost use Rattle.cc_content.specs.Filling.{IsReadFrom};
 ghost use Rattle.cc_model.specs.History.{history};
+ghost use Rattle.cc_model.specs.Images.{open_of};
 ghost use Rattle.cc_model.specs.Setup.{Setup};
 ghost use Rattle.cc_model.specs.Turns.{Device, is_quiet};
 ghost use Rattle.cc_turns.specs.Standing.{DiskAtFirst};
 ghost use Rattle.cc_turns.specs.Disk.{DiskStands, opening_of};
-ghost use Rattle.cc_transfer.specs.Transfers.{CanRead, CanTransfer, end_of, faults_by, fill_failed, transferred};
+ghost use Rattle.cc_transfer.specs.Transfers.{CanRead, CanTransfer, end_of, faults_by, fill_failed, synced, transferred};
 
 use cc_entry::End;
 use cc_traits::{PageDisk, Stop};
@@ -39,11 +41,22 @@ pub fn transfer<D: PageDisk>(disk: &mut D, page: u64, bytes: &[u8; 4096]) -> End
     end_of(disk.write_page(page, bytes))
 }
 
-// how a transfer ended whose write was answered so
-fn end_of(written: Result<(), Stop>) -> End
-    ensures { result ≡ end_of written }
+/// Syncs the disk, and says how that ended.
+pub fn sync<D: PageDisk>(disk: &mut D) -> End
+    ensures ended { (first : DiskAtFirst) (past later : List Entry) (s pass : ℕ) →
+        DiskStands D.told D.faults first past s disk.old → open_of (history past s) ≡ None →
+        is_quiet (Device s) later ≡ true →
+        DiskStands D.told D.faults first (synced pass s result later past) s disk.new }
+    ensures counted { D.faults disk.new ≡ D.faults disk.old + faults_by result }
 {
-    match written {
+    end_of(disk.sync())
+}
+
+// how a transfer or a sync ended that the disk answered so
+fn end_of(answered: Result<(), Stop>) -> End
+    ensures { result ≡ end_of answered }
+{
+    match answered {
         Ok(()) => End::Good,
         Err(Stop::Failed) => End::Failed,
         Err(Stop::NoMemory) => End::NoMemory,

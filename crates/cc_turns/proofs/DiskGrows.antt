@@ -46,6 +46,7 @@ open_of-quiet later past s quiet = (SameImages-deviceless later past s quiet).sa
 pub has_gone_same : (h g : List Effect) (opening now : Disk) → SameImages g h → SameCrash g h → ((p : ℕ) → all_ended_well g p ≡ all_ended_well h p) → HasGone h opening now → HasGone g opening now
 has_gone_same h g opening now images crash ended gone = record {
   images = λ p bytes is. gone.images p bytes (sym (images.same_image (page_of opening) p) ∙ is);
+  among = gone.among;
   crash = λ p content alone among. rw (crash.same_crash (page_of opening) p) (gone.crash p content alone among);
   exact = λ p alone free well.
       gone.exact p alone (ap (λ t. is_transferred t p) (sym images.same_transfer) ∙ free) (sym (ended p) ∙ well)

@@ -28,10 +28,11 @@ is_transferred None p = Bool.false
 is_transferred (Some transfer) p = transfer.page == p
 
 -- A disk that tells its pages, and told others at first, has gone with its stream. What it is known to hold it
--- holds; and of a page that a crash could leave in one way alone at first, it can leave now only what the stream
--- allows, and just that where every transfer of the page ended well.
+-- holds; and of a page that a crash could leave in one way alone at first, it can leave now what the disk holds of it,
+-- only what the stream allows, and just that where every transfer of the page ended well.
 pub record HasGone (h : List Effect) (opening now : Disk) : Type 0 where
   pub images : (p : ℕ) (bytes : List ℕ) → image (page_of opening) h p ≡ Some bytes → page_of now p ≡ bytes
+  pub among : (p : ℕ) → may_of opening p ≡ page_of opening p ∷ [] → Contains (may_of now p) (page_of now p)
   pub crash : (p : ℕ) (content : List ℕ) → may_of opening p ≡ page_of opening p ∷ [] →
       Contains (may_of now p) content → Contains (crash_pages (page_of opening) h p) content
   pub exact : (p : ℕ) → may_of opening p ≡ page_of opening p ∷ [] → is_transferred (open_of h) p ≡ Bool.false →
