@@ -20,6 +20,7 @@ use Rattle.cc_turns.specs.Standing.{Standing, Held, nothing}
 use Rattle.cc_turns.specs.Takes.{Takes, with_device, with_book, without_device, without_book}
 use Rattle.cc_turns.proofs.Taking.{disk_kept, transfer_kept}
 use Rattle.cc_visits.specs.Ways.{EndedSo}
+use Rattle.cc_visits.specs.declared.tell.Returned.{Returned}
 use Rattle.cc_visits.proofs.Others.{under_way-on}
 use Rattle.cc_visits.proofs.Visiting.{settled-others}
 use Rattle.cc_writes.specs.Writes.{HasBoth}
@@ -75,11 +76,15 @@ module _ (w v x : Standing) (s : ℕ) (can : CanCall w s) (first : Takes (with_d
     pub both_begun : HasBoth told faults x b.stream b disk
     both_begun = subst (λ (n : ℕ). HasBoth told faults x n b disk) (sym b_is) in_hand
 
-  -- how the call ended from then on, it ended from before the takes, with both given back
-  pub ended_since : (y z : Standing) (it : Call) (r : Result ℕ CcError) (was now : List ℕ) → z ≡ without_device (without_book y) → ((begun : List Entry) → IsUnderWay x.number it begun x.seen → EndedSo x.setup x.number it r begun y.seen was now) → (begun : List Entry) → IsUnderWay w.number it begun w.seen → EndedSo w.setup w.number it r begun z.seen was now
-  ended_since y z it r was now given left begun way =
+  -- what a call leaves from then on, it leaves from before the takes, with both given back
+  pub left_since : (Left : Setup → ℕ → List Entry → List Entry → Type 0) (y z : Standing) (it : Call) → z ≡ without_device (without_book y) → ((begun : List Entry) → IsUnderWay x.number it begun x.seen → Left x.setup x.number begun y.seen) → (begun : List Entry) → IsUnderWay w.number it begun w.seen → Left w.setup w.number begun z.seen
+  left_since Left y z it given left begun way =
       let here : IsUnderWay x.number it begun x.seen =
       subst (λ (n : ℕ). IsUnderWay n it begun x.seen) (sym number_both) (under_way-on w.number it begun w.seen x.seen way idle) in
-      subst (λ (past : List Entry). EndedSo w.setup w.number it r begun past was now) (sym (ap (λ (a : Standing). a.seen) given))
-      (subst (λ (n : ℕ). EndedSo w.setup n it r begun y.seen was now) number_both
-      (subst (λ (u : Setup). EndedSo u x.number it r begun y.seen was now) setup_both (left begun here)))
+      subst (λ (past : List Entry). Left w.setup w.number begun past) (sym (ap (λ (a : Standing). a.seen) given))
+      (subst (λ (n : ℕ). Left w.setup n begun y.seen) number_both
+      (subst (λ (u : Setup). Left u x.number begun y.seen) setup_both (left begun here)))
+
+  -- so of how a call ended
+  pub ended_since : (y z : Standing) (it : Call) (r : Result Returned CcError) (was now : List ℕ) → z ≡ without_device (without_book y) → ((begun : List Entry) → IsUnderWay x.number it begun x.seen → EndedSo x.setup x.number it r begun y.seen was now) → (begun : List Entry) → IsUnderWay w.number it begun w.seen → EndedSo w.setup w.number it r begun z.seen was now
+  ended_since y z it r was now = left_since (λ u me begun past. EndedSo u me it r begun past was now) y z it

@@ -15,7 +15,8 @@ use Rattle.cc_visits.specs.Hands.{WentWith}
 use Rattle.cc_visits.specs.Ways.{WasWanted}
 use Rattle.cc_visits.specs.Visits.{IsOf, IsWaitedFor}
 use Rattle.cc_visits.proofs.Others.{under_way-on}
-use Rattle.cc_fetch.specs.Rounds.{PageLeft, IsWanted}
+use Rattle.cc_writes.specs.Calls.{PageLeft}
+use Rattle.cc_fetch.specs.Rounds.{IsWanted}
 use Rattle.cc_fetch.proofs.Going.{wanted}
 
 module _ (flight : ℕ) (w v : Standing) (s page : ℕ) (it : Call) (went : WentWith flight w v) (idle : IsIdle w.number w.seen v.seen) where

@@ -4,7 +4,6 @@ mod Reading
 mod Reached
 mod Going
 mod Bringing
-mod Writing
 mod Stepping
 mod Repeated
-mod Beginning
+pub mod Beginning

@@ -12,7 +12,8 @@ use Rattle.cc_visits.specs.Hands.{WentWith}
 use Rattle.cc_visits.specs.Visits.{StepLeft, IsToBeWritten, IsWaitedFor}
 use Rattle.cc_visits.specs.declared.visits.Step.{Step}
 use Rattle.cc_visits.specs.declared.visits.Step.TheVariants as step
-use Rattle.cc_fetch.specs.Rounds.{PageLeft, RoundLeft, course_of}
+use Rattle.cc_writes.specs.Calls.{PageLeft}
+use Rattle.cc_fetch.specs.Rounds.{RoundLeft, course_of}
 
 -- what the step left of the call, wherever it began
 abbrev pub HasStepped : Standing → Standing → ℕ → Call → Step → List ℕ → List ℕ → Type 0

@@ -6,9 +6,8 @@ use Rattle.cc_entry.specs.Pages.{block_of}
 use Rattle.cc_entry.specs.declared.call.Call.{Call}
 use Rattle.cc_entry.specs.declared.error.CcError.{CcError}
 use Rattle.cc_entry.specs.declared.entry.Entry.{Entry}
-use Rattle.cc_entry.specs.declared.reply.Outcome.TheVariants as outcome
 use Rattle.cc_traits.specs.Disk.{Disk}
-use Rattle.cc_effects.specs.Calls.{CallLeft, IsUnderWay}
+use Rattle.cc_effects.specs.Calls.{IsUnderWay}
 use Rattle.cc_model.specs.Setup.{Setup}
 use Rattle.cc_model.specs.Turns.{Device, is_quiet}
 use Rattle.cc_transfer.specs.Transfers.{fill_failed}
@@ -19,11 +18,6 @@ use Rattle.cc_visits.specs.Ways.{EndedSo, IsFull, WasWanted}
 use Rattle.cc_visits.specs.Visits.{HasPlaced}
 use Rattle.cc_fetch.specs.declared.course.Course.{Course}
 use Rattle.cc_fetch.specs.declared.course.Course.TheVariants as course
-
--- What a page step left of a call that was under way: the call goes on, or failed.
-abbrev pub PageLeft : Setup → ℕ → Call → Result Call CcError → List Entry → List Entry → Type 0
-PageLeft u me it (Ok again) old new = (again ≡ it) × IsUnderWay me it old new
-PageLeft u me it (Err e) old new = CallLeft u me it (outcome.Failed e) old new
 
 -- What a round left of a call that was under way: it goes on, and its caller was told nothing, or it ended.
 abbrev pub RoundLeft : Setup → ℕ → Call → Course → List Entry → List Entry → List ℕ → List ℕ → Type 0

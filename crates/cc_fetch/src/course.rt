@@ -1,12 +1,13 @@
 //! The course of a call: it goes on, or it has ended.
 
 use cc_entry::{Call, CcError};
+use cc_visits::Returned;
 
 /// How a call stands after a round.
 #[derive(Drop)]
 pub(crate) enum Course {
     /// It goes on.
     Goes(Call),
-    /// It was done, with so many bytes told to its caller, or it failed.
-    Ended(Result<usize, CcError>),
+    /// It was done, and returns this to its caller, or it failed.
+    Ended(Result<Returned, CcError>),
 }

@@ -5,7 +5,7 @@
 //! the block to give up is chosen anew before each step, its dirty pages are written and then go out. A call that is
 //! done here was done with all its pages resident, and one that fails tells its own refusal or its own fault.
 //!
-//! `rounds` has the rounds of a call, `pages` what one of them does to a page, `keeping` when the book is kept. The
+//! `rounds` has the rounds of a call, `pages` how one of them brings a page in, `keeping` when the book is kept. The
 //! calls stand above. Below are the visits of a pass to the journal (`cc_visits`), the writing of a page (`cc_writes`)
 //! and the reading of one (`cc_transfer`).
 #![tactic(auto)]

@@ -1,6 +1,6 @@
-//! The page steps of a round: a page is brought in, or one is written that is in the way.
+//! A page is brought in for a call.
 
-ghost use Rattle.std.specs.Prelude.{◌≡◌, ◌<◌, true, List, OnOk, Some, Err};
+ghost use Rattle.std.specs.Prelude.{◌≡◌, ◌<◌, true, List, OnOk, Some};
 ghost use Rattle.std.specs.Option.{option_map};
 ghost use Rattle.cc_entry.specs.declared.entry.Entry.{Entry};
 ghost use Rattle.cc_traits.specs.Stop.{OnFailed};
@@ -9,56 +9,20 @@ ghost use Rattle.cc_effects.specs.Calls.{IsUnderWay};
 ghost use Rattle.cc_effects.specs.Moments.{IsIdle};
 ghost use Rattle.cc_step.specs.Step.{asks_one};
 ghost use Rattle.cc_visits.specs.Hands.{HasBook, IsAtRest, SameDisk, Went, WentWith};
-ghost use Rattle.cc_visits.specs.Ways.{IsFull, IsHalted, WasWanted};
-ghost use Rattle.cc_visits.specs.Visits.{IsOf, IsToBeWritten, IsWaitedFor, WasReadFor};
+ghost use Rattle.cc_visits.specs.Ways.{IsFull, WasWanted};
+ghost use Rattle.cc_visits.specs.Visits.{IsOf, IsWaitedFor, WasReadFor};
+ghost use Rattle.cc_writes.specs.Calls.{PageLeft};
 ghost use Rattle.cc_writes.specs.Writes.{HasBoth};
-ghost use Rattle.cc_fetch.specs.Rounds.{PageLeft, MayTellFailure, WasTold, IsWanted};
+ghost use Rattle.cc_fetch.specs.Rounds.{MayTellFailure, WasTold, IsWanted};
 
 use cc_book::Book;
 use cc_entry::{Call, CcError, NoMemory};
 use cc_traits::Stop;
 use cc_transfer::read;
 use cc_turns::Turns;
-use cc_visits::{fail_at, land_at, release_at, unread_at};
-use cc_writes::{PageWrite, write_page};
+use cc_visits::{land_at, release_at, unread_at};
+use cc_writes::{fail, given_up};
 use std::alloc::Global;
-
-/// Writes a page of the block to give up for a call. The call goes on, or fails.
-pub(crate) fn make_way<T: Turns>(
-    alloc: Global,
-    turns: &mut T,
-    disk: &mut T::Disk,
-    book: Book,
-    call: Call,
-    page: u64,
-    keeps: bool,
-) -> (Book, Result<Call, CcError>)
-    requires known { book.stream < (T.standing turns.old).streams }
-    requires both { HasBoth T.Disk.told T.Disk.faults (T.standing turns.old) book.stream book disk.old }
-    requires none { (T.standing turns.old).in_flight ≡ 0 }
-    requires one { asks_one call ≡ true }
-    requires brings { brings_in call ≡ true }
-    requires filed { IsOf call book.stream }
-    requires to_write { IsToBeWritten (T.standing turns.old).setup book.stream call page (T.standing turns.old).seen }
-    ensures both { HasBoth T.Disk.told T.Disk.faults (T.standing turns.new) book.stream result.0 disk.new }
-    ensures went { Went (T.standing turns.old) (T.standing turns.new) }
-    ensures left { (begun : List Entry) →
-        IsUnderWay (T.standing turns.old).number call begun (T.standing turns.old).seen →
-        PageLeft (T.standing turns.old).setup (T.standing turns.old).number call result.1
-        begun (T.standing turns.new).seen }
-    ensures full { IsFull 2 (T.standing turns.new) result.1 }
-{
-    let (book, written) = write_page(turns, disk, book, page, keeps);
-    match written {
-        Ok(PageWrite::Written) => (book, Ok(call)),
-        Ok(PageWrite::NotWritten) => fail(alloc, turns, book, call, CcError::WriteFault { page }),
-        Ok(PageWrite::NotLogged(handle)) => {
-            let handle = u64::from(handle);
-            fail(alloc, turns, book, call, CcError::LogFault { handle })
-        }
-        Err(error) => (book, given_up(call, error)),
-    }
-}
 
 /// Brings a page in that a call waits for, and for whose entry a place is reserved: read from the disk, where it has a
 /// byte below the valid data length, or as zeros. The call goes on, or fails.
@@ -242,36 +206,6 @@ fn unread<T: Turns>(
     }
 }
 
-// Ends a call that met a fault: with the fault, or with a refusal that others brought about meanwhile.
-fn fail<T: Turns>(
-    alloc: Global,
-    turns: &mut T,
-    mut book: Book,
-    call: Call,
-    fault: CcError,
-) -> (Book, Result<Call, CcError>)
-    requires book { HasBook (T.standing turns.old) book.stream book }
-    requires rest { IsAtRest (T.standing turns.old) book.stream }
-    requires none { (T.standing turns.old).in_flight ≡ 0 }
-    requires one { asks_one call ≡ true }
-    requires brings { brings_in call ≡ true }
-    requires filed { IsOf call book.stream }
-    requires halted { (begun : List Entry) × IsHalted (T.standing turns.old).setup (T.standing turns.old).number
-        book.stream call fault begun (T.standing turns.old).seen }
-    ensures book { HasBook (T.standing turns.new) book.stream result.0 }
-    ensures rest { IsAtRest (T.standing turns.new) book.stream }
-    ensures went { Went (T.standing turns.old) (T.standing turns.new) }
-    ensures disk { SameDisk (T.standing turns.old).seen (T.standing turns.new).seen book.stream }
-    ensures left { (begun : List Entry) → IsHalted (T.standing turns.old).setup (T.standing turns.old).number
-        book.stream call fault begun (T.standing turns.old).seen →
-        PageLeft (T.standing turns.old).setup (T.standing turns.old).number call result.1
-        begun (T.standing turns.new).seen }
-    ensures full { IsFull 2 (T.standing turns.new) result.1 }
-{
-    let error = fail_at(alloc, turns, &mut book, call, fault);
-    (book, Err(error))
-}
-
 // The disk found no memory for the read of a page: the call fails, and the place that is reserved is given back.
 fn release<T: Turns>(turns: &mut T, book: Book, call: Call) -> (Book, Result<Call, CcError>)
     requires book { HasBook (T.standing turns.old) book.stream book }
@@ -291,11 +225,4 @@ fn release<T: Turns>(turns: &mut T, book: Book, call: Call) -> (Book, Result<Cal
 {
     release_at(turns);
     (book, given_up(call, CcError::NoMemory))
-}
-
-// A call that is given up.
-fn given_up(_call: Call, error: CcError) -> Result<Call, CcError>
-    ensures { result ≡ Err error }
-{
-    Err(error)
 }

@@ -15,26 +15,27 @@ ghost use Rattle.cc_fetch.specs.Rounds.{RoundLeft, IsFullCourse, course_of};
 
 use crate::course::Course;
 use crate::keeping::Rounds;
-use crate::pages::{bring, make_way};
+use crate::pages::bring;
 use cc_book::Book;
 use cc_entry::{Call, CcError, StreamId};
 use cc_turns::Turns;
-use cc_visits::{Step, next_at};
+use cc_visits::{Returned, Step, next_at};
+use cc_writes::write_for;
 use std::alloc::Global;
 
 // More rounds than a call takes. It has at most 257 pages, each of which is read at most twice, and before each read a
 // block is given up at most once: its 64 pages are written with the book free, and with the book kept, and go out.
 const ROUNDS: u32 = 131_072;
 
-/// Brings the pages of a call in, with the turn of its stream's disk, until the call ends. Answers how many bytes its
-/// caller was told.
+/// Brings the pages of a call in, with the turn of its stream's disk, until the call ends. Answers what the call
+/// returns to its caller.
 pub fn fetch<T: Turns>(
     alloc: Global,
     turns: &mut T,
     stream: StreamId,
     call: Call,
     out: &mut [u8],
-) -> Result<usize, CcError>
+) -> Result<Returned, CcError>
     requires can { CanCall (T.standing turns.old) stream }
     requires one { asks_one call ≡ true }
     requires brings { brings_in call ≡ true }
@@ -65,7 +66,7 @@ fn until_ended<T: Turns>(
     mut book: Book,
     mut call: Call,
     out: &mut [u8],
-) -> (Book, Result<usize, CcError>)
+) -> (Book, Result<Returned, CcError>)
     requires known { book.stream < (T.standing turns.old).streams }
     requires both { HasBoth T.Disk.told T.Disk.faults (T.standing turns.old) book.stream book disk.old }
     requires none { (T.standing turns.old).in_flight ≡ 0 }
@@ -123,7 +124,7 @@ fn round<T: Turns>(
         Step::WentOut(call) => (book, Course::Goes(call)),
         Step::Writes(page, call) => {
             let keeps = rounds.keeps_for_write(page);
-            let (book, left) = make_way(alloc, turns, disk, book, call, page, keeps);
+            let (book, left) = write_for(alloc, turns, disk, book, call, page, keeps);
             (book, course_of(left))
         }
         Step::Reads(page, call) => {

@@ -1,7 +1,6 @@
 -- What goes on with the block to give up: a dirty page is to be written, or the least page goes out.
 use Rattle.std.specs.Prelude.{◌≡◌, ℕ, ◌<◌, ◌^◌, true, ◌∷◌, None, Some, refl}
 use Rattle.std.proofs.Common.{ap}
-use Rattle.std.proofs.lemmas.Bool.{and_parts}
 use Rattle.cc_entry.specs.Pages.{block_of}
 use Rattle.cc_entry.specs.declared.call.Call.{Call}
 use Rattle.cc_entry.specs.declared.entry.Entry.TheVariants as entry
@@ -14,6 +13,7 @@ use Rattle.cc_model.specs.Ranges.{range_of}
 use Rattle.cc_model.specs.Setup.{Setup}
 use Rattle.cc_model.specs.Touches.{size_of}
 use Rattle.cc_step.proofs.Attempts.{reserving, adds-reserving}
+use Rattle.cc_step.proofs.Failing.{brings-stepped}
 use Rattle.cc_step.proofs.Placed.{so-far}
 use Rattle.cc_step.specs.Step.{is_stepped, asks_one}
 use Rattle.cc_fill.specs.Fill.{MayFill, page_of, MadeWay, HasToWrite}
@@ -29,7 +29,7 @@ module _ {Q : Type 0} (u : Setup) (pass : ℕ) (it : Call) (waited block : ℕ) 
   going = goes (history j.entries b.stream) it waited block (needs u j.entries b.stream it waited crowded.waits) to_go
 
   stepped : is_stepped it ≡ true
-  stepped = (and_parts (is_stepped it) _ one).0
+  stepped = brings-stepped it one brings
 
   way : (p : ℕ) → block_of p ≡ block → is_in_the_way it (page_of b p) j.entries ≡ true
   way p here =

@@ -2,6 +2,7 @@
 pub mod Reasons
 pub mod Within
 pub mod Filled
+pub mod Failing
 pub mod Placed
 pub mod Reserved
 pub mod Attempts

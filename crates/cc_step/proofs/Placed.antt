@@ -27,6 +27,7 @@ use Rattle.cc_model.specs.Replies.{IsReply}
 use Rattle.cc_model.specs.Setup.{Setup}
 use Rattle.cc_step.specs.Faults.{IsMet}
 use Rattle.cc_step.specs.Step.{is_stepped, IsReadyFor}
+use Rattle.cc_step.proofs.Failing.{fails_here, stepped-fails}
 use Rattle.cc_step.proofs.Reasons.{is_listed, refusal-listed}
 
 -- where nothing is owed, any entry may follow
@@ -34,15 +35,15 @@ nothing_owed : (e : Entry) (past : List Entry) → owed_begin past ≡ None → 
 nothing_owed e past none = rw none tt
 
 -- a call that is no store leaves no begin owed
-no_store : (pass s : ℕ) (it : Call) (ended : Outcome) → is_stepped it ≡ true → begin_after pass (Some s) it ended ≡ None
-no_store pass s (call.NcStore file page bytes) ended stepped = absurd (cc)
-no_store pass s other ended stepped = refl
+no_store : (pass s : ℕ) (it : Call) (ended : Outcome) → fails_here it ≡ true → begin_after pass (Some s) it ended ≡ None
+no_store pass s (call.NcStore file page bytes) ended here = absurd (cc)
+no_store pass s other ended here = refl
 
-good-call : (u : Setup) (pass nth s : ℕ) (it : Call) (ended : Outcome) (past : List Entry) → is_stepped it ≡ true → IsOutcome u past pass (Some s) it ended → MayCall u past pass nth (Some s) it ended → IsGood u past → IsGood u (entry.Call pass nth (Some s) it ended ∷ past)
+good-call : (u : Setup) (pass nth s : ℕ) (it : Call) (ended : Outcome) (past : List Entry) → fails_here it ≡ true → IsOutcome u past pass (Some s) it ended → MayCall u past pass nth (Some s) it ended → IsGood u past → IsGood u (entry.Call pass nth (Some s) it ended ∷ past)
 unfolding IsLegal IsLegalEntry IsAllowed IsAllowedSoFar IsCovered IsCoveredEntry
-good-call u pass nth s it ended past stepped legal may good = record {
+good-call u pass nth s it ended past here legal may good = record {
   legal = (legal, good.legal);
-  allowed = ((nothing_owed _ past good.allowed.1, may, good.allowed.0), no_store pass s it ended stepped);
+  allowed = ((nothing_owed _ past good.allowed.1, may, good.allowed.0), no_store pass s it ended here);
   covered = (tt, good.covered);
 }
 
@@ -66,27 +67,27 @@ on_needed false P p = tt
 
 pub good-done : (u : Setup) (past : List Entry) (pass s : ℕ) (it : Call) (r : Reply) → is_stepped it ≡ true → IsGood u past → IsFiled (holds_of (history past s)) pass (Some s) it (file_of it) → IsReadyFor u past s it → IsReply u past (u.opening s) (history past s) pass it r → IsGood u (done pass past s it r ∷ past)
 good-done u past pass s it r stepped good filed may reply =
-    good-call u pass (suc (calls_of past pass)) s it (outcome.Done r) past stepped
+    good-call u pass (suc (calls_of past pass)) s it (outcome.Done r) past (stepped-fails it stepped)
     (admitted u past s it stepped may.admitted, reply)
     (record { number = refl; filed = filed; may_end = (on_needed (needs_pages it r) _ may.filled, ready past pass s it stepped) })
     good
 
 -- a refusal of the list is the call's failure, and no fault
-failure : (u : Setup) (past : List Entry) (pass s : ℕ) (it : Call) (e : CcError) → is_stepped it ≡ true → is_listed e ≡ true → refusal u past (history past s) it ≡ Some e → IsFailure u past pass (Some s) it e
-failure u past pass s it (error.ReadFault page) stepped listed is = absurd (cc)
-failure u past pass s it (error.WriteFault page) stepped listed is = absurd (cc)
-failure u past pass s it (error.LogFault handle) stepped listed is = absurd (cc)
-failure u past pass s it error.QueueFull stepped listed is = absurd (cc)
-failure u past pass s it error.Unaligned stepped listed is = absurd (cc)
-failure u past pass s it (error.JournalFull entries) stepped listed is = absurd (cc)
-failure u past pass s it error.NoMemory stepped listed is = absurd (cc)
-failure u past pass s it (error.TooLong limit) stepped listed is = long it stepped is
+failure : (u : Setup) (past : List Entry) (pass s : ℕ) (it : Call) (e : CcError) → fails_here it ≡ true → is_listed e ≡ true → refusal u past (history past s) it ≡ Some e → IsFailure u past pass (Some s) it e
+failure u past pass s it (error.ReadFault page) here listed is = absurd (cc)
+failure u past pass s it (error.WriteFault page) here listed is = absurd (cc)
+failure u past pass s it (error.LogFault handle) here listed is = absurd (cc)
+failure u past pass s it error.QueueFull here listed is = absurd (cc)
+failure u past pass s it error.Unaligned here listed is = absurd (cc)
+failure u past pass s it (error.JournalFull entries) here listed is = absurd (cc)
+failure u past pass s it error.NoMemory here listed is = absurd (cc)
+failure u past pass s it (error.TooLong limit) here listed is = long it here is
   where
-    long : (c : Call) → is_stepped c ≡ true → refusal u past (history past s) c ≡ Some (error.TooLong limit) → IsTooLong u past (history past s) limit c
+    long : (c : Call) → fails_here c ≡ true → refusal u past (history past s) c ≡ Some (error.TooLong limit) → IsTooLong u past (history past s) limit c
     long (call.NcRead file page) its known = absurd (cc)
     long (call.NcWrite file page) its known = absurd (cc)
     long other its known = known
-failure u past pass s it other stepped listed is = is
+failure u past pass s it other here listed is = is
 
 no_fault : (e : CcError) (P : Type 0) → is_listed e ≡ true → OnTrue (is_fault e) P
 no_fault (error.ReadFault page) P listed = absurd (cc)
@@ -94,18 +95,18 @@ no_fault (error.WriteFault page) P listed = absurd (cc)
 no_fault (error.LogFault handle) P listed = absurd (cc)
 no_fault other P listed = tt
 
-pub good-failed : (u : Setup) (past : List Entry) (pass s : ℕ) (it : Call) (e : CcError) → is_stepped it ≡ true → IsGood u past → IsFiled (holds_of (history past s)) pass (Some s) it (file_of it) → refusal u past (history past s) it ≡ Some e → IsGood u (failed pass past s it e ∷ past)
-good-failed u past pass s it e stepped good filed is =
+pub good-failed : (u : Setup) (past : List Entry) (pass s : ℕ) (it : Call) (e : CcError) → fails_here it ≡ true → IsGood u past → IsFiled (holds_of (history past s)) pass (Some s) it (file_of it) → refusal u past (history past s) it ≡ Some e → IsGood u (failed pass past s it e ∷ past)
+good-failed u past pass s it e here good filed is =
     let listed = refusal-listed u past (history past s) it e is in
-    good-call u pass (suc (calls_of past pass)) s it (outcome.Failed e) past stepped
-    (failure u past pass s it e stepped listed is)
+    good-call u pass (suc (calls_of past pass)) s it (outcome.Failed e) past here
+    (failure u past pass s it e here listed is)
     (record { number = refl; filed = filed; may_end = no_fault e _ listed })
     good
 
 -- beside a fault nothing refuses such a call
-alone : (u : Setup) (past : List Entry) (pass s : ℕ) (it : Call) → is_stepped it ≡ true → refusal u past (history past s) it ≡ None → NothingElse u past pass (Some s) it
-alone u past pass s (call.NcWrite file page) stepped none = absurd (cc)
-alone u past pass s other stepped none = none
+alone : (u : Setup) (past : List Entry) (pass s : ℕ) (it : Call) → fails_here it ≡ true → refusal u past (history past s) it ≡ None → NothingElse u past pass (Some s) it
+alone u past pass s (call.NcWrite file page) here none = absurd (cc)
+alone u past pass s other here none = none
 
 -- a fault that the call met is its failure, and a fault alone
 met-failure : (u : Setup) (past : List Entry) (pass s : ℕ) (it : Call) (fault : CcError) → IsMet past pass it fault → NothingElse u past pass (Some s) it → IsFailure u past pass (Some s) it fault
@@ -114,10 +115,10 @@ met-failure u past pass s it (error.WriteFault page) met else = (met, else)
 met-failure u past pass s it (error.LogFault handle) met else = (met, else)
 met-failure u past pass s it other met else = absurd met
 
-pub good-met : (u : Setup) (past : List Entry) (pass s : ℕ) (it : Call) (fault : CcError) → is_stepped it ≡ true → IsGood u past → IsFiled (holds_of (history past s)) pass (Some s) it (file_of it) → IsMet past pass it fault → refusal u past (history past s) it ≡ None → IsGood u (failed pass past s it fault ∷ past)
-good-met u past pass s it fault stepped good filed met none =
-    let failed_so = met-failure u past pass s it fault met (alone u past pass s it stepped none) in
-    good-call u pass (suc (calls_of past pass)) s it (outcome.Failed fault) past stepped failed_so
+pub good-met : (u : Setup) (past : List Entry) (pass s : ℕ) (it : Call) (fault : CcError) → fails_here it ≡ true → IsGood u past → IsFiled (holds_of (history past s)) pass (Some s) it (file_of it) → IsMet past pass it fault → refusal u past (history past s) it ≡ None → IsGood u (failed pass past s it fault ∷ past)
+good-met u past pass s it fault here good filed met none =
+    let failed_so = met-failure u past pass s it fault met (alone u past pass s it here none) in
+    good-call u pass (suc (calls_of past pass)) s it (outcome.Failed fault) past here failed_so
     (record { number = refl; filed = filed; may_end = on_needed (is_fault fault) _ failed_so })
     good
 

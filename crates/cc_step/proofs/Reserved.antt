@@ -20,7 +20,8 @@ use Rattle.cc_model.specs.History.{history}
 use Rattle.cc_model.specs.Numbers.{is_among}
 use Rattle.cc_model.specs.Passes.{is_store, up_to_call}
 use Rattle.cc_model.specs.Room.{owed_by_stream, stores_unfinished, reserved_in}
-use Rattle.cc_step.specs.Step.{is_stepped, owes_store}
+use Rattle.cc_step.specs.Step.{owes_store}
+use Rattle.cc_step.proofs.Failing.{fails_here}
 
 none-more : (n : ℕ) → 0 + n ≡ n
 none-more n = omega arith
@@ -127,7 +128,7 @@ skip (entry.Posted id ∷ past) me seen other same none = skip past me seen othe
 skip (entry.Scan pass picked ∷ past) me seen other same none = skip past me seen other same none
 
 -- sums over the same terms are the same
-sum-same : (f g : ℕ → ℕ) (ns : List ℕ) → ((n : ℕ) → f n ≡ g n) → sum_by f ns ≡ sum_by g ns
+pub sum-same : (f g : ℕ → ℕ) (ns : List ℕ) → ((n : ℕ) → f n ≡ g n) → sum_by f ns ≡ sum_by g ns
 sum-same f g [] same = refl
 sum-same f g (n ∷ ns) same = sum_by-cons f n ns ∙ rw (same n, sum-same f g ns same) (sym (sum_by-cons g n ns))
 
@@ -142,26 +143,26 @@ owed-done past pass nth stream s it r kept = go (stream == s) refl
 owed-failed : (past : List Entry) (pass nth stream s : ℕ) (it : Call) (e : CcError) → owed_by_stream (history (entry.Call pass nth (Some stream) it (outcome.Failed e) ∷ past) s) ≡ owed_by_stream (history past s)
 owed-failed past pass nth stream s it e = rw (history-no_effect (entry.Call pass nth (Some stream) it (outcome.Failed e)) past s refl) refl
 
-stores-call : (past : List Entry) (pass nth : ℕ) (stream : Option ℕ) (it : Call) (ended : Outcome) → is_store it ended ≡ false → owes_store past pass ≡ false → stores_unfinished [] (entry.Call pass nth stream it ended ∷ past) ≡ stores_unfinished [] past
+pub stores-call : (past : List Entry) (pass nth : ℕ) (stream : Option ℕ) (it : Call) (ended : Outcome) → is_store it ended ≡ false → owes_store past pass ≡ false → stores_unfinished [] (entry.Call pass nth stream it ended ∷ past) ≡ stores_unfinished [] past
 unfolding stores_unfinished
 stores-call past pass nth stream it ended store none = stores-new pass nth stream it ended past [] refl ∙ (rw store (none-more (stores_unfinished (pass ∷ []) past)) ∙ sym (skip past pass [] (pass ∷ []) (λ n. refl) none))
 
-pub no-store : (it : Call) (ended : Outcome) → is_stepped it ≡ true → is_store it ended ≡ false
-no-store (call.NcStore file page bytes) ended stepped = absurd (cc)
-no-store other ended stepped = refl
+pub no-store : (it : Call) (ended : Outcome) → fails_here it ≡ true → is_store it ended ≡ false
+no-store (call.NcStore file page bytes) ended here = absurd (cc)
+no-store other ended here = refl
 
-pub reserved-done : (past : List Entry) (pass nth stream : ℕ) (it : Call) (r : Reply) → is_stepped it ≡ true → changes_holds it ≡ false → owes_store past pass ≡ false → reserved_in (entry.Call pass nth (Some stream) it (outcome.Done r) ∷ past) ≡ reserved_in past
+pub reserved-done : (past : List Entry) (pass nth stream : ℕ) (it : Call) (r : Reply) → fails_here it ≡ true → changes_holds it ≡ false → owes_store past pass ≡ false → reserved_in (entry.Call pass nth (Some stream) it (outcome.Done r) ∷ past) ≡ reserved_in past
 unfolding reserved_in
-reserved-done past pass nth stream it r stepped kept none =
+reserved-done past pass nth stream it r here kept none =
     rw (
       sum-same (λ s. owed_by_stream (history (entry.Call pass nth (Some stream) it (outcome.Done r) ∷ past) s)) (λ s. owed_by_stream (history past s)) all_streams (λ s. owed-done past pass nth stream s it r kept),
-      stores-call past pass nth (Some stream) it (outcome.Done r) (no-store it (outcome.Done r) stepped) none,
+      stores-call past pass nth (Some stream) it (outcome.Done r) (no-store it (outcome.Done r) here) none,
     ) refl
 
-pub reserved-failed : (past : List Entry) (pass nth stream : ℕ) (it : Call) (e : CcError) → is_stepped it ≡ true → owes_store past pass ≡ false → reserved_in (entry.Call pass nth (Some stream) it (outcome.Failed e) ∷ past) ≡ reserved_in past
+pub reserved-failed : (past : List Entry) (pass nth stream : ℕ) (it : Call) (e : CcError) → fails_here it ≡ true → owes_store past pass ≡ false → reserved_in (entry.Call pass nth (Some stream) it (outcome.Failed e) ∷ past) ≡ reserved_in past
 unfolding reserved_in
-reserved-failed past pass nth stream it e stepped none =
+reserved-failed past pass nth stream it e here none =
     rw (
       sum-same (λ s. owed_by_stream (history (entry.Call pass nth (Some stream) it (outcome.Failed e) ∷ past) s)) (λ s. owed_by_stream (history past s)) all_streams (λ s. owed-failed past pass nth stream s it e),
-      stores-call past pass nth (Some stream) it (outcome.Failed e) (no-store it (outcome.Failed e) stepped) none,
+      stores-call past pass nth (Some stream) it (outcome.Failed e) (no-store it (outcome.Failed e) here) none,
     ) refl

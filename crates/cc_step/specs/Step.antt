@@ -114,9 +114,11 @@ ends_in_store (other ∷ past) = false
 abbrev pub owes_store : List Entry → ℕ → Bool
 owes_store past me = ends_in_store (up_to_call past me)
 
--- whether a call, done or refused, reserves nothing and gives no reserved place back
+-- Whether the entry of a call, done or refused, asks one place alone: it reserves nothing and gives no reserved place
+-- back. A flush is done elsewhere, once it has synced; it is refused and fails like the others.
 abbrev pub asks_one : Call → Bool
-asks_one it = is_stepped it && not (changes_holds it)
+asks_one (call.Flush file span) = true
+asks_one other = is_stepped other && not (changes_holds other)
 
 -- The journal gained one entry, and has as many places reserved as before.
 abbrev pub Adds : {Q : Type 0} → Entry → JournalState Q → JournalState Q → Type 0

@@ -41,6 +41,7 @@ pub fn attempt<Q>(
     call: Call,
 ) -> Stepped
     requires one { asks_one call ≡ true }
+    requires stepped { is_stepped call ≡ true }
     requires may { (u : Setup) × MayStep u pass call book.old journal.old }
     ensures { (u : Setup) → MayStep u pass call book.old journal.old →
         AttemptLeft u pass call result book.old book.new journal.old journal.new }

@@ -14,7 +14,7 @@ use Rattle.cc_model.specs.History.{history}
 use Rattle.cc_model.specs.Holds.{holds_of}
 use Rattle.cc_model.specs.Passes.{calls_of}
 use Rattle.cc_model.specs.Setup.{Setup}
-use Rattle.cc_step.specs.Step.{StandUnder, MayStep, AttemptLeft, AttemptDone, AttemptRefused, IsStop, asks_one}
+use Rattle.cc_step.specs.Step.{StandUnder, MayStep, AttemptLeft, AttemptDone, AttemptRefused, IsStop, asks_one, is_stepped}
 use Rattle.cc_step.specs.declared.steps.Stepped.{Stepped}
 use Rattle.cc_step.specs.declared.steps.Stepped.TheVariants as stepped
 use Rattle.cc_step.proofs.Reasons.{refusal-listed}
@@ -24,6 +24,7 @@ use Rattle.cc_visits.specs.Hands.{HasBook}
 use Rattle.cc_visits.specs.Told.{HasAnswered, FitsReply, FitsLast, FitsStepped, TriedAs}
 use Rattle.cc_visits.specs.Visits.{IsOf, IsWaitedFor, TriedLeft, IsFullTried}
 use Rattle.cc_visits.specs.Ways.{FitsIn, IsFull}
+use Rattle.cc_visits.specs.declared.tell.Returned.{Returned}
 use Rattle.cc_visits.specs.declared.visits.Tried.{Tried}
 use Rattle.cc_visits.proofs.Ending.{done-left, refused-left, full-left, memoryless-left}
 use Rattle.cc_visits.proofs.Others.{under_way-on}
@@ -88,10 +89,10 @@ module _ {Q : Type 0} (posted : Q → Bool) (w v : Standing) (it : Call) (b c : 
 
   -- and what it leaves of the call that was under way
   module _ (begun : List Entry) (way : IsUnderWay w.number it begun w.seen) where
-    pub left-done : (r : Reply) → AttemptDone w.setup w.number it r b c j k → CallLeft w.setup w.number it (outcome.Done r) begun k.entries
-    left-done r left =
+    pub left-done : is_stepped it ≡ true → (r : Reply) → AttemptDone w.setup w.number it r b c j k → CallLeft w.setup w.number it (outcome.Done r) begun k.entries
+    left-done stepped r left =
         subst (λ (past : List Entry). CallLeft w.setup w.number it (outcome.Done r) begun past) (sym (ap (λ (x : JournalState Q). x.entries) left.placed))
-        (done-left w.setup w.number b.stream it one filed (suc (calls_of j.entries w.number)) begun j.entries r (way-on begun way))
+        (done-left w.setup w.number b.stream it one filed (suc (calls_of j.entries w.number)) begun j.entries stepped r (way-on begun way))
 
     pub left-refused : (e : CcError) → AttemptRefused w.setup w.number it e b c j k → CallLeft w.setup w.number it (outcome.Failed e) begun k.entries
     left-refused e left =
@@ -126,25 +127,25 @@ module _ {Q : Type 0} (posted : Q → Bool) (w v : Standing) (it : Call) (b c : 
       (ap (λ (x : BookState). x.stream) left.same_book)
   visited-attempt (stepped.Stopped e) left = visited-same left.1.same_journal left.1.stand left.1.stream
 
-  pub left-attempt : (ended : Stepped) (answer : Tried) (was now : List ℕ) → AttemptLeft w.setup w.number it ended b c j k → TriedAs ended answer k.entries was now → (begun : List Entry) → IsUnderWay w.number it begun w.seen → TriedLeft w.setup w.number b.stream it answer begun k.entries was now
-  left-attempt stepped.Done answer was now left told begun way =
+  pub left-attempt : is_stepped it ≡ true → (ended : Stepped) (answer : Tried) (was now : List ℕ) → AttemptLeft w.setup w.number it ended b c j k → TriedAs ended answer k.entries was now → (begun : List Entry) → IsUnderWay w.number it begun w.seen → TriedLeft w.setup w.number b.stream it answer begun k.entries was now
+  left-attempt is stepped.Done answer was now left told begun way =
       subst (λ (x : Tried). TriedLeft w.setup w.number b.stream it x begun k.entries was now) (sym told.1)
-      (left.0, left-done begun way left.0 left.1, told.2 left.0 (last-done left.0 left.1))
-  left-attempt (stepped.Refused e) answer was now left told begun way =
+      (left.0, left-done begun way is left.0 left.1, told.2 left.0 (last-done left.0 left.1))
+  left-attempt is (stepped.Refused e) answer was now left told begun way =
       subst (λ (x : Tried). TriedLeft w.setup w.number b.stream it x begun k.entries was now) (sym told.0)
       (left-refused begun way e left, told.1)
-  left-attempt (stepped.Waits page again) answer was now left told begun way =
+  left-attempt is (stepped.Waits page again) answer was now left told begun way =
       subst (λ (x : Tried). TriedLeft w.setup w.number b.stream it x begun k.entries was now) (sym told.0)
       (subst (λ (x : JournalState Q). (again ≡ it) × IsUnderWay w.number it begun x.entries × IsWaitedFor w.setup b.stream it page x.entries × (now ≡ was)) (sym left.same_journal)
       (left.call_is, way-on begun way, record { admitted = left.admitted; least = left.least }, told.1))
-  left-attempt (stepped.Stopped e) answer was now left told begun way =
+  left-attempt is (stepped.Stopped e) answer was now left told begun way =
       subst (λ (x : Tried). TriedLeft w.setup w.number b.stream it x begun k.entries was now) (sym told.0)
       (left-stopped begun way e left.0 left.1.same_journal, told.1)
 
   pub full-attempt : (ended : Stepped) (answer : Tried) (was now : List ℕ) → AttemptLeft w.setup w.number it ended b c j k → TriedAs ended answer k.entries was now → IsFullTried (without_journal k v) answer
   full-attempt stepped.Done answer was now left told = subst (λ (x : Tried). IsFullTried (without_journal k v) x) (sym told.1) tt
-  full-attempt (stepped.Refused e) answer was now left told = subst (λ (x : Tried). IsFullTried (without_journal k v) x) (sym told.0) (full-refused ℕ e left)
+  full-attempt (stepped.Refused e) answer was now left told = subst (λ (x : Tried). IsFullTried (without_journal k v) x) (sym told.0) (full-refused Returned e left)
   full-attempt (stepped.Waits page again) answer was now left told = subst (λ (x : Tried). IsFullTried (without_journal k v) x) (sym told.0) tt
   full-attempt (stepped.Stopped e) answer was now left told =
       subst (λ (x : Tried). IsFullTried (without_journal k v) x) (sym told.0)
-      (full-stop ℕ e left.0 left.1.same_journal (visited-attempt (stepped.Stopped e) left))
+      (full-stop Returned e left.0 left.1.same_journal (visited-attempt (stepped.Stopped e) left))

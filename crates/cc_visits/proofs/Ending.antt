@@ -1,7 +1,6 @@
 -- How a call ends that was under way, or was stopped: done, refused, told a fault, or without an entry of its own.
 use Rattle.std.specs.Prelude.{◌≡◌, ℕ, Bool, true, false, not, ◌&&◌, ◌==◌, List, [], ◌∷◌, ◌++◌, None, Some, refl, if◌then◌else◌}
 use Rattle.std.proofs.Common.{ap, sym, subst, inl, inr}
-use Rattle.std.proofs.lemmas.Bool.{eq-eqb}
 use Rattle.cc_entry.specs.declared.call.Call.{Call}
 use Rattle.cc_entry.specs.declared.call.Call.TheVariants as call
 use Rattle.cc_entry.specs.declared.entry.End.{End}
@@ -13,7 +12,6 @@ use Rattle.cc_entry.specs.declared.error.CcError.TheVariants as error
 use Rattle.cc_entry.specs.declared.reply.Outcome.{Outcome}
 use Rattle.cc_entry.specs.declared.reply.Outcome.TheVariants as outcome
 use Rattle.cc_entry.specs.declared.reply.Reply.{Reply}
-use Rattle.cc_effects.specs.Asked.{brings_in}
 use Rattle.cc_effects.specs.Calls.{IsUnderWay, IsPlaced, IsRefused, IsFaulted, IsOvertaken, IsUnplaced, HasDone, CallLeft}
 use Rattle.cc_effects.specs.Moments.{AtSome}
 use Rattle.cc_effects.specs.Refusals.{may_refuse, may_want}
@@ -26,19 +24,19 @@ use Rattle.cc_model.specs.History.{history}
 use Rattle.cc_model.specs.Holds.{holds_of}
 use Rattle.cc_model.specs.Refusals.{refusal}
 use Rattle.cc_model.specs.Setup.{Setup}
-use Rattle.cc_step.specs.Step.{asks_one}
+use Rattle.cc_step.specs.Step.{asks_one, is_stepped}
 use Rattle.cc_step.proofs.Reasons.{is_listed, refusal-listed}
 use Rattle.cc_visits.specs.Visits.{IsOf}
-use Rattle.cc_visits.specs.Ways.{IsFaultOf, IsHalted}
-use Rattle.cc_visits.proofs.Refusals.{may-refuse, may-stop, may-want, may-tell}
+use Rattle.cc_visits.specs.Ways.{IsHalted}
+use Rattle.cc_visits.proofs.Refusals.{may-refuse, may-stop, may-want}
 
 -- nothing more is to do before such a call is done
-has-done : (me : ℕ) (it : Call) (during old : List Entry) → asks_one it ≡ true → HasDone me it during old
-has-done me (call.Flush file span) during old one = absurd (cc)
-has-done me (call.NcRead file page) during old one = absurd (cc)
-has-done me (call.NcStore file page bytes) during old one = absurd (cc)
-has-done me (call.NcWrite file page) during old one = absurd (cc)
-has-done me other during old one = tt
+has-done : (me : ℕ) (it : Call) (during old : List Entry) → is_stepped it ≡ true → HasDone me it during old
+has-done me (call.Flush file span) during old stepped = absurd (cc)
+has-done me (call.NcRead file page) during old stepped = absurd (cc)
+has-done me (call.NcStore file page bytes) during old stepped = absurd (cc)
+has-done me (call.NcWrite file page) during old stepped = absurd (cc)
+has-done me other during old stepped = tt
 
 -- a refusal of the list, whether nothing had stopped the call or others brought it about
 left-refused : (u : Setup) (me : ℕ) (it : Call) (e : CcError) (old new : List Entry) → is_listed e ≡ true → IsRefused me it e old new → CallLeft u me it (outcome.Failed e) old new
@@ -63,18 +61,12 @@ left-faulted u me it (error.WriteFault page) old new fault faulted = faulted
 left-faulted u me it (error.LogFault handle) old new fault faulted = faulted
 left-faulted u me it other old new fault faulted = absurd (cc)
 
--- what a refusal tells of a fault is a fault, the one that the entry of the call tells
-pub fault-is : (e : CcError) (fault : Fault) → IsFaultOf e fault → is_fault e ≡ true
-fault-is (error.ReadFault page) fault is = refl
-fault-is (error.WriteFault page) fault is = refl
-fault-is (error.LogFault handle) fault is = refl
-fault-is other fault is = absurd is
-
-tells-fault : (it : Call) (e : CcError) (fault : Fault) → IsFaultOf e fault → tells it e fault ≡ true
-tells-fault it (error.ReadFault page) fault is = rw is (eq-eqb page page refl)
-tells-fault it (error.WriteFault page) fault is = rw (is, eq-eqb page page refl) refl
-tells-fault it (error.LogFault handle) fault is = rw is (eq-eqb handle handle refl)
-tells-fault it other fault is = absurd is
+-- a refusal that tells a fault is one of a fault
+pub fault-is : (it : Call) (e : CcError) (fault : Fault) → tells it e fault ≡ true → is_fault e ≡ true
+fault-is it (error.ReadFault page) fault is = refl
+fault-is it (error.WriteFault page) fault is = refl
+fault-is it (error.LogFault handle) fault is = refl
+fault-is it other fault is = absurd (cc)
 
 -- an entry that shows a fault is for no want of memory
 wants-none : (b : Bool) (end : End) (shown fault : Fault) → (if b && is_failed end then Some shown else None) ≡ Some fault → is_want end ≡ false
@@ -90,9 +82,9 @@ no-want me other fault is = refl
 
 module _ (u : Setup) (me s : ℕ) (it : Call) (one : asks_one it ≡ true) (filed : IsOf it s) (nth : ℕ) (begun front : List Entry) where
   -- it was under way
-  pub done-left : (r : Reply) → IsUnderWay me it begun front → CallLeft u me it (outcome.Done r) begun (entry.Call me nth (Some s) it (outcome.Done r) ∷ front)
-  done-left r way =
-      ends_done me nth (Some s) it r begun front way (filed (holds_of (history front s)) me) (λ during. has-done me it during begun one)
+  pub done-left : is_stepped it ≡ true → (r : Reply) → IsUnderWay me it begun front → CallLeft u me it (outcome.Done r) begun (entry.Call me nth (Some s) it (outcome.Done r) ∷ front)
+  done-left stepped r way =
+      ends_done me nth (Some s) it r begun front way (filed (holds_of (history front s)) me) (λ during. has-done me it during begun stepped)
 
   pub refused-left : (e : CcError) → IsUnderWay me it begun front → refusal u front (history front s) it ≡ Some e → CallLeft u me it (outcome.Failed e) begun (entry.Call me nth (Some s) it (outcome.Failed e) ∷ front)
   refused-left e way reason =
@@ -106,7 +98,7 @@ module _ (u : Setup) (me s : ℕ) (it : Call) (one : asks_one it ≡ true) (file
   memoryless-left way = gives_up me it error.NoMemory begun front way (may-stop it 0 one).1 (may-want it front one)
 
   -- it was halted by a fault
-  module _ (fault : CcError) (halted : IsHalted u me s it fault begun front) (brings : brings_in it ≡ true) where
+  module _ (fault : CcError) (halted : IsHalted u me s it fault begun front) where
     -- the entry of the call behind its work
     placed : (ended : Outcome) → IsPlaced me it ended halted.failed.stopped.during begun (entry.Call me nth (Some s) it ended ∷ front)
     placed ended = record {
@@ -119,17 +111,17 @@ module _ (u : Setup) (me s : ℕ) (it : Call) (one : asks_one it ≡ true) (file
       works = halted.failed.stopped.works;
     }
 
-    pub told-left : CallLeft u me it (outcome.Failed fault) begun (entry.Call me nth (Some s) it (outcome.Failed fault) ∷ front)
-    told-left =
-        let is = fault-is fault halted.fault halted.is in
+    pub told-left : may_refuse it fault ≡ true → CallLeft u me it (outcome.Failed fault) begun (entry.Call me nth (Some s) it (outcome.Failed fault) ∷ front)
+    told-left listed =
+        let is = fault-is it fault halted.fault halted.is in
         left-faulted u me it fault begun (entry.Call me nth (Some s) it (outcome.Failed fault) ∷ front) is
         (record {
           earlier = halted.failed.stopped.during;
           placed = placed (outcome.Failed fault);
-          listed = may-tell it fault one brings is;
+          listed = listed;
           stop = halted.failed.stop;
           stopped = halted.failed.stopped.stopped;
-          told = record { fault = halted.fault; shown = halted.failed.shown; told = tells-fault it fault halted.fault halted.is };
+          told = record { fault = halted.fault; shown = halted.failed.shown; told = halted.is };
         })
 
     pub overtaken-left : (e : CcError) → refusal u front (history front s) it ≡ Some e → CallLeft u me it (outcome.Failed e) begun (entry.Call me nth (Some s) it (outcome.Failed e) ∷ front)

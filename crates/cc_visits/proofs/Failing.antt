@@ -7,8 +7,8 @@ use Rattle.cc_entry.specs.declared.error.CcError.{CcError}
 use Rattle.cc_entry.specs.declared.error.CcError.TheVariants as error
 use Rattle.cc_entry.specs.declared.reply.Outcome.TheVariants as outcome
 use Rattle.cc_book.specs.Book.{BookState, failed}
-use Rattle.cc_effects.specs.Asked.{brings_in}
 use Rattle.cc_effects.specs.Calls.{CallLeft}
+use Rattle.cc_effects.specs.Refusals.{may_refuse}
 use Rattle.cc_journal.specs.Journal.{JournalState}
 use Rattle.cc_model.specs.Allowed.{is_fault}
 use Rattle.cc_model.specs.Passes.{calls_of}
@@ -39,9 +39,9 @@ full-fault A w other fault = tt
 
 module _ {Q : Type 0} (posted : Q → Bool) (w v : Standing) (it : Call) (b c : BookState) (j k : JournalState Q)
     (has : HasBook w b.stream b) (vis : Visiting posted w v b.stream b j) (one : asks_one it ≡ true) (filed : IsOf it b.stream)
-    (brings : brings_in it ≡ true) (fault : CcError) (first : List Entry) (was : IsHalted w.setup w.number b.stream it fault first w.seen) where
+    (fault : CcError) (listed : may_refuse it fault ≡ true) (first : List Entry) (was : IsHalted w.setup w.number b.stream it fault first w.seen) where
   pub is-fault : is_fault fault ≡ true
-  is-fault = fault-is fault was.fault was.is
+  is-fault = fault-is it fault was.fault was.is
 
   may-fail : MayFail w.setup w.number it fault b j
   may-fail = record {
@@ -82,18 +82,18 @@ module _ {Q : Type 0} (posted : Q → Bool) (w v : Standing) (it : Call) (b c : 
     stopped-halted : (e : CcError) → IsStop e j → CallLeft w.setup w.number it (outcome.Failed e) begun j.entries
     stopped-halted e (inl full) =
         subst (λ (x : CcError). CallLeft w.setup w.number it (outcome.Failed x) begun j.entries) (sym full.0)
-        (full-halted w.setup w.number b.stream it one filed 0 begun j.entries fault front-halted brings _)
+        (full-halted w.setup w.number b.stream it one filed 0 begun j.entries fault front-halted _)
     stopped-halted e (inr none) =
         subst (λ (x : CcError). CallLeft w.setup w.number it (outcome.Failed x) begun j.entries) (sym none)
-        (memoryless-halted w.setup w.number b.stream it one filed 0 begun j.entries fault front-halted brings)
+        (memoryless-halted w.setup w.number b.stream it one filed 0 begun j.entries fault front-halted)
 
     pub left-fail : (end : Failed) → FailLeft w.setup w.number it fault end b c j k → CallLeft w.setup w.number it (outcome.Failed (answer_of end fault)) begun k.entries
     left-fail (ended.Refused e) left =
         subst (λ (past : List Entry). CallLeft w.setup w.number it (outcome.Failed e) begun past) (sym (ap (λ (x : JournalState Q). x.entries) left.placed))
-        (overtaken-left w.setup w.number b.stream it one filed (suc (calls_of j.entries w.number)) begun j.entries fault front-halted brings e left.reason)
+        (overtaken-left w.setup w.number b.stream it one filed (suc (calls_of j.entries w.number)) begun j.entries fault front-halted e left.reason)
     left-fail ended.Told left =
         subst (λ (past : List Entry). CallLeft w.setup w.number it (outcome.Failed fault) begun past) (sym (ap (λ (x : JournalState Q). x.entries) left.placed))
-        (told-left w.setup w.number b.stream it one filed (suc (calls_of j.entries w.number)) begun j.entries fault front-halted brings)
+        (told-left w.setup w.number b.stream it one filed (suc (calls_of j.entries w.number)) begun j.entries fault front-halted listed)
     left-fail (ended.Stopped e) left =
         subst (λ (x : JournalState Q). CallLeft w.setup w.number it (outcome.Failed e) begun x.entries) (sym left.1.same_journal) (stopped-halted e left.0)
 

@@ -40,7 +40,6 @@ stopped_by-on me work stop begun old new by idle = record {
   during = idle.during ++ by.during;
   grew = grew-after idle.during by.during begun old new idle.grew by.grew;
   works = works-after me work idle.during by.during begun idle.others by.works;
-  unsynced = unsynced-append me idle.during by.during (unsynced-others me idle.during idle.others) by.unsynced;
   stopped = record {
     since = idle.during ++ by.stopped.since;
     before = by.stopped.before;

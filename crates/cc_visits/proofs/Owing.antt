@@ -18,7 +18,8 @@ use Rattle.cc_model.specs.Cache.{all_streams}
 use Rattle.cc_model.specs.History.{Effect, CameIn, WentOut, effect_of, history}
 use Rattle.cc_model.specs.Passes.{is_call_of}
 use Rattle.cc_model.specs.Room.{owed_by_stream, stores_unfinished, reserved_in}
-use Rattle.cc_step.specs.Step.{is_stepped, ends_in_store, owes_store}
+use Rattle.cc_step.specs.Step.{ends_in_store, owes_store}
+use Rattle.cc_step.proofs.Failing.{fails_here}
 use Rattle.cc_step.proofs.Reserved.{no-store}
 
 -- sums of the same terms are the same
@@ -68,6 +69,6 @@ reserved-fill_failed me page past = reserved-moved (entry.FillFailed me page) pa
 pub settled-other : (me : ℕ) (e : Entry) (past : List Entry) → is_call_of me e ≡ false → owes_store past me ≡ false → owes_store (e ∷ past) me ≡ false
 settled-other me e past other none = ap ends_in_store (up_to_call-other e past me other) ∙ none
 
--- and a call that is answered from its book owes nothing
-pub settled-call : (me nth : ℕ) (stream : Option ℕ) (it : Call) (ended : Outcome) (past : List Entry) → is_stepped it ≡ true → owes_store (entry.Call me nth stream it ended ∷ past) me ≡ false
-settled-call me nth stream it ended past is = ap ends_in_store (up_to_call-call me nth stream it ended past me (eq-eqb me me refl)) ∙ no-store it ended is
+-- and a call whose entry is placed with its book owes nothing
+pub settled-call : (me nth : ℕ) (stream : Option ℕ) (it : Call) (ended : Outcome) (past : List Entry) → fails_here it ≡ true → owes_store (entry.Call me nth stream it ended ∷ past) me ≡ false
+settled-call me nth stream it ended past here = ap ends_in_store (up_to_call-call me nth stream it ended past me (eq-eqb me me refl)) ∙ no-store it ended here

@@ -1,5 +1,5 @@
 -- What a visit may place: nothing, or one entry that needs no turn but the book's, or the disk's where it is held.
-use Rattle.std.specs.Prelude.{◌≡◌, ℕ, suc, ◌+◌, Bool, true, false, not, ◌&&◌, ◌||◌, [], ◌∷◌, Some, refl}
+use Rattle.std.specs.Prelude.{◌≡◌, ℕ, suc, ◌+◌, Bool, true, false, ◌||◌, [], ◌∷◌, Some, refl}
 use Rattle.std.proofs.Common.{ap, sym, ◌∙◌, arith}
 use Rattle.std.proofs.lemmas.Bool.{eq-eqb}
 use Rattle.cc_entry.specs.declared.call.Call.{Call}
@@ -12,13 +12,13 @@ use Rattle.cc_entry.specs.declared.reply.Outcome.TheVariants as outcome
 use Rattle.cc_entry.specs.declared.reply.Reply.{Reply}
 use Rattle.cc_book.specs.Book.{BookState, done, failed}
 use Rattle.cc_journal.specs.Journal.{JournalState}
-use Rattle.cc_laws.proofs.HoldSteps.{changes_holds}
 use Rattle.cc_laws.proofs.QuietSteps.{eqb-swapped}
 use Rattle.cc_laws.proofs.TurnSteps.{is_quiet-none, is_quiet-unneeded}
 use Rattle.cc_model.specs.Passes.{calls_of}
 use Rattle.cc_model.specs.Room.{reserved_in}
 use Rattle.cc_model.specs.Turns.{Turn, Device, Book, Log as log_turn, Journal, is_book, is_device, is_journal, call_needs, needs}
-use Rattle.cc_step.specs.Step.{StandUnder, Adds, AttemptDone, is_stepped, asks_one, owes_store}
+use Rattle.cc_step.specs.Step.{StandUnder, Adds, AttemptDone, asks_one, owes_store}
+use Rattle.cc_step.proofs.Failing.{fails_here, one-fails, one-kept}
 use Rattle.cc_step.proofs.Reserved.{reserved-done, reserved-failed}
 use Rattle.cc_turns.specs.Standing.{Standing, Held, holds}
 use Rattle.cc_turns.specs.Takes.{may_be_of}
@@ -26,23 +26,8 @@ use Rattle.cc_visits.specs.Hands.{HasBook}
 use Rattle.cc_visits.proofs.Owing.{settled-call}
 use Rattle.cc_visits.proofs.Visiting.{Visiting, Stepping}
 
-pub both-stepped : (it : Call) → asks_one it ≡ true → is_stepped it ≡ true
-both-stepped it both = go (is_stepped it) (changes_holds it) both
-  where
-    go : (a b : Bool) → (a && not b) ≡ true → a ≡ true
-    go true b e = refl
-    go false b e = absurd (cc)
-
-pub both-kept : (it : Call) → asks_one it ≡ true → changes_holds it ≡ false
-both-kept it both = go (is_stepped it) (changes_holds it) both
-  where
-    go : (a b : Bool) → (a && not b) ≡ true → b ≡ false
-    go true true e = absurd (cc)
-    go true false e = refl
-    go false b e = absurd (cc)
-
--- a call that is answered from its book needs the book's turn alone, beside the journal's
-needs-book : (s : ℕ) (it : Call) (ended : Outcome) (t : Turn) → is_stepped it ≡ true → call_needs (Some s) it ended t ≡ is_book s t
+-- a call whose entry is placed with its book needs the book's turn alone, beside the journal's
+needs-book : (s : ℕ) (it : Call) (ended : Outcome) (t : Turn) → fails_here it ≡ true → call_needs (Some s) it ended t ≡ is_book s t
 needs-book s (call.NcStore file page bytes) ended t is = absurd (cc)
 needs-book s (call.NcRead file page) ended t is = absurd (cc)
 needs-book s (call.Discard file span) ended t is = absurd (cc)
@@ -71,7 +56,7 @@ last-two false b c none other = other
 last-two true b c none other = absurd (cc)
 
 -- what is not held is needed by no call on the stream, and by no page that comes in or goes out
-pub unneeded-call : (held : Held) (me nth s : ℕ) (it : Call) (ended : Outcome) → is_stepped it ≡ true → held.book ≡ Some s → (t : Turn) → holds (record held { journal = true }) t ≡ false → needs (entry.Call me nth (Some s) it ended) t ≡ false
+pub unneeded-call : (held : Held) (me nth s : ℕ) (it : Call) (ended : Outcome) → fails_here it ≡ true → held.book ≡ Some s → (t : Turn) → holds (record held { journal = true }) t ≡ false → needs (entry.Call me nth (Some s) it ended) t ≡ false
 unneeded-call held me nth s it ended is book t away = ap (λ b. is_journal t || b) (needs-book s it ended t is) ∙ away-book held s t book away
 
 pub unneeded-page : (held : Held) (s : ℕ) → held.book ≡ Some s → held.device ≡ Some s → (t : Turn) → holds (record held { journal = true }) t ≡ false → (is_journal t || (is_book s t || is_device s t)) ≡ false
@@ -136,16 +121,16 @@ module _ {Q : Type 0} (posted : Q → Bool) (w v : Standing) (b c : BookState) (
   pub stepping-done : (it : Call) (r : Reply) → asks_one it ≡ true → AttemptDone w.setup w.number it r b c j k → Stepping w v b.stream w.in_flight (done w.number j.entries b.stream it r ∷ []) c j k
   stepping-done it r one left =
       stepping-adds (done w.number j.entries b.stream it r) left.placed left.stand left.stream (eq-eqb w.number w.number refl)
-      (unneeded-call w.held w.number (suc (calls_of j.entries w.number)) b.stream it (outcome.Done r) (both-stepped it one) has-book)
-      (reserved-done j.entries w.number (suc (calls_of j.entries w.number)) b.stream it r (both-stepped it one) (both-kept it one) vis.settled)
-      (settled-call w.number (suc (calls_of j.entries w.number)) (Some b.stream) it (outcome.Done r) j.entries (both-stepped it one))
+      (unneeded-call w.held w.number (suc (calls_of j.entries w.number)) b.stream it (outcome.Done r) (one-fails it one) has-book)
+      (reserved-done j.entries w.number (suc (calls_of j.entries w.number)) b.stream it r (one-fails it one) (one-kept it one) vis.settled)
+      (settled-call w.number (suc (calls_of j.entries w.number)) (Some b.stream) it (outcome.Done r) j.entries (one-fails it one))
 
   pub stepping-failed : (it : Call) (e : CcError) → asks_one it ≡ true → Adds (failed w.number j.entries b.stream it e) j k → StandUnder w.setup c k → c.stream ≡ b.stream → Stepping w v b.stream w.in_flight (failed w.number j.entries b.stream it e ∷ []) c j k
   stepping-failed it e one placed stand stream =
       stepping-adds (failed w.number j.entries b.stream it e) placed stand stream (eq-eqb w.number w.number refl)
-      (unneeded-call w.held w.number (suc (calls_of j.entries w.number)) b.stream it (outcome.Failed e) (both-stepped it one) has-book)
-      (reserved-failed j.entries w.number (suc (calls_of j.entries w.number)) b.stream it e (both-stepped it one) vis.settled)
-      (settled-call w.number (suc (calls_of j.entries w.number)) (Some b.stream) it (outcome.Failed e) j.entries (both-stepped it one))
+      (unneeded-call w.held w.number (suc (calls_of j.entries w.number)) b.stream it (outcome.Failed e) (one-fails it one) has-book)
+      (reserved-failed j.entries w.number (suc (calls_of j.entries w.number)) b.stream it e (one-fails it one) vis.settled)
+      (settled-call w.number (suc (calls_of j.entries w.number)) (Some b.stream) it (outcome.Failed e) j.entries (one-fails it one))
 
   -- nothing changed but the book's own pages
   pub stepping-same : k ≡ j → StandUnder w.setup c k → c.stream ≡ b.stream → Stepping w v b.stream w.in_flight [] c j k

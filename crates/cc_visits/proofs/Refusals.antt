@@ -11,7 +11,7 @@ use Rattle.cc_entry.specs.declared.error.CcError.TheVariants as error
 use Rattle.cc_effects.specs.Asked.{brings_in}
 use Rattle.cc_effects.specs.Refusals.{may_refuse, may_want}
 use Rattle.cc_model.specs.Allowed.{is_fault}
-use Rattle.cc_model.specs.Conflicts.{held, held_by}
+use Rattle.cc_model.specs.Conflicts.{held, held_by, busy, busy_by}
 use Rattle.cc_model.specs.History.{Effect}
 use Rattle.cc_model.specs.Holds.{holds_of}
 use Rattle.cc_model.specs.Ranges.{range_of, cut_range}
@@ -35,6 +35,10 @@ among-if it false e among = tt
 among-held : (it : Call) (id : Option ℕ) → ((n : ℕ) → may_refuse it (error.Held n) ≡ true) → IsAmong it (held_by id)
 among-held it None among = tt
 among-held it (Some id) among = among id
+
+among-busy : (it : Call) (id : Option ℕ) → ((n : ℕ) → may_refuse it (error.Busy n) ≡ true) → IsAmong it (busy_by id)
+among-busy it None among = tt
+among-busy it (Some id) among = among id
 
 among-page : (it : Call) (page : Option ℕ) → ((n : ℕ) → may_refuse it (error.NotResident n) ≡ true) → IsAmong it (option_map (λ p. error.NotResident p) page)
 among-page it None among = tt
@@ -99,6 +103,9 @@ among u past h (call.AskAhead file at len) one =
     among-first (call.AskAhead file at len) (not_cached h (Some file)) _ (among-if (call.AskAhead file at len) _ _ refl) tt
 among u past h (call.CanWrite file bytes) one =
     among-first (call.CanWrite file bytes) (not_cached h (Some file)) _ (among-if (call.CanWrite file bytes) _ _ refl) tt
+among u past h (call.Flush file span) one =
+    among-first (call.Flush file span) (not_cached h (Some file)) _ (among-if (call.Flush file span) _ _ refl)
+    (among-first (call.Flush file span) (busy (holds_of h) (call.Flush file span)) _ (among-busy (call.Flush file span) _ (λ n. refl)) tt)
 among u past h other one = absurd (cc)
 
 -- a refusal that the definition gives is among the call's
@@ -122,6 +129,7 @@ may-stop (call.SetAttributes file no_read_ahead no_write_behind) entries one = (
 may-stop (call.SetThreshold file pages) entries one = (refl, refl)
 may-stop (call.AskAhead file at len) entries one = (refl, refl)
 may-stop (call.CanWrite file bytes) entries one = (refl, refl)
+may-stop (call.Flush file span) entries one = (refl, refl)
 may-stop other entries one = absurd (cc)
 
 -- a set-dirty changes holds, so it is none of these

@@ -59,6 +59,7 @@ fits-reply u past told h pass (call.SetAttributes file no_read_ahead no_write_be
 fits-reply u past told h pass (call.SetThreshold file pages) r out one is fits = rw is tt
 fits-reply u past told h pass (call.AskAhead file at len) r out one is fits = rw is tt
 fits-reply u past told h pass (call.CanWrite file bytes) r out one is fits = rw is tt
+fits-reply u past told h pass (call.Flush file span) r out one is fits = rw is tt
 fits-reply u past told h pass other r out one is fits = absurd (cc)
 
 -- a listed refusal says nothing of a full journal, nor does a fault

@@ -14,13 +14,14 @@ use Rattle.cc_fill.specs.declared.ways.Next.TheVariants as next
 use Rattle.cc_journal.specs.Journal.{JournalState}
 use Rattle.cc_model.specs.Passes.{calls_of}
 use Rattle.cc_model.specs.Setup.{Setup}
-use Rattle.cc_step.specs.Step.{StandUnder, asks_one}
+use Rattle.cc_step.specs.Step.{StandUnder, asks_one, is_stepped}
 use Rattle.cc_turns.specs.Standing.{Standing}
 use Rattle.cc_turns.specs.Takes.{without_journal}
 use Rattle.cc_visits.specs.Hands.{HasBook, IsAtRest, SameDisk}
 use Rattle.cc_visits.specs.Told.{FitsNext, StepAs}
 use Rattle.cc_visits.specs.Visits.{IsOf, IsToBeWritten, IsWaitedFor, StepLeft, StepWent, IsFullStep}
 use Rattle.cc_visits.specs.Ways.{FitsIn}
+use Rattle.cc_visits.specs.declared.tell.Returned.{Returned}
 use Rattle.cc_visits.specs.declared.visits.Step.{Step}
 use Rattle.cc_visits.proofs.Attempting.{may-step, number-is, way-on, last-done, fits-done, visited-done, visited-refused, visited-same, left-done, left-refused, left-stopped, full-refused, full-stop}
 use Rattle.cc_visits.proofs.Disks.{disk-same, disk-then, disk-call, disk-page_out}
@@ -129,21 +130,21 @@ module _ {Q : Type 0} (posted : Q → Bool) (w v : Standing) (it : Call) (b c : 
       subst (λ (x : Step). StepWent x w (without_journal k v)) (sym told.0) (visited-next (next.Stopped e) left).went
 
   -- and what is left of the call
-  pub left-next : (ended : Next) (answer : Step) (was now : List ℕ) → NextLeft w.setup w.number it ended b c j k → StepAs ended answer k.entries was now → (begun : List Entry) → IsUnderWay w.number it begun w.seen → StepLeft w.setup w.number b.stream it answer begun k.entries was now
-  left-next next.Done answer was now left told begun way =
+  pub left-next : is_stepped it ≡ true → (ended : Next) (answer : Step) (was now : List ℕ) → NextLeft w.setup w.number it ended b c j k → StepAs ended answer k.entries was now → (begun : List Entry) → IsUnderWay w.number it begun w.seen → StepLeft w.setup w.number b.stream it answer begun k.entries was now
+  left-next is next.Done answer was now left told begun way =
       subst (λ (x : Step). StepLeft w.setup w.number b.stream it x begun k.entries was now) (sym told.1)
-      (left.0, left-done posted w v it b c j k has vis one filed begun way left.0 left.1, told.2 left.0 (last-done posted w v it b c j k has vis one filed left.0 left.1))
-  left-next (next.Refused e) answer was now left told begun way =
+      (left.0, left-done posted w v it b c j k has vis one filed begun way is left.0 left.1, told.2 left.0 (last-done posted w v it b c j k has vis one filed left.0 left.1))
+  left-next is (next.Refused e) answer was now left told begun way =
       subst (λ (x : Step). StepLeft w.setup w.number b.stream it x begun k.entries was now) (sym told.0)
       (left-refused posted w v it b c j k has vis one filed begun way e left, told.1)
-  left-next (next.WentOut again) answer was now left told begun way =
+  left-next is (next.WentOut again) answer was now left told begun way =
       subst (λ (x : Step). StepLeft w.setup w.number b.stream it x begun k.entries was now) (sym told.0) (
         left.call_is,
         subst (λ (past : List Entry). IsUnderWay w.number it begun past) (sym (ap (λ (x : JournalState Q). x.entries) left.placed))
             (takes_out w.number it begun j.entries (page_of b left.page) (way-on posted w v it b c j k has vis one filed begun way) left.next),
         told.1,
       )
-  left-next (next.Writes page again) answer was now left told begun way =
+  left-next is (next.Writes page again) answer was now left told begun way =
       subst (λ (x : Step). StepLeft w.setup w.number b.stream it x begun k.entries was now) (sym told.0)
       (subst (λ (x : JournalState Q). (again ≡ it) × IsUnderWay w.number it begun x.entries × IsToBeWritten w.setup b.stream it page x.entries × (now ≡ was)) (sym left.same_journal) (
         left.call_is,
@@ -151,21 +152,21 @@ module _ {Q : Type 0} (posted : Q → Bool) (w v : Standing) (it : Call) (b c : 
         record { admitted = left.admitted; in_the_way = left.in_the_way; dirty = left.dirty; stamped = left.stamped },
         told.1,
       ))
-  left-next (next.Reads page again) answer was now left told begun way =
+  left-next is (next.Reads page again) answer was now left told begun way =
       subst (λ (x : Step). StepLeft w.setup w.number b.stream it x begun k.entries was now) (sym told.0)
       (subst (λ (x : JournalState Q). (again ≡ it) × IsUnderWay w.number it begun x.entries × IsWaitedFor w.setup b.stream it page x.entries × (now ≡ was)) (sym left.reserved)
       (left.call_is, way-on posted w v it b c j k has vis one filed begun way, record { admitted = left.admitted; least = left.least }, told.1))
-  left-next (next.Stopped e) answer was now left told begun way =
+  left-next is (next.Stopped e) answer was now left told begun way =
       subst (λ (x : Step). StepLeft w.setup w.number b.stream it x begun k.entries was now) (sym told.0)
       (left-stopped posted w v it b c j k has vis one filed begun way e left.0 left.1.same_journal, told.1)
 
   pub full-next : (ended : Next) (answer : Step) (was now : List ℕ) → NextLeft w.setup w.number it ended b c j k → StepAs ended answer k.entries was now → IsFullStep (without_journal k v) answer
   full-next next.Done answer was now left told = subst (λ (x : Step). IsFullStep (without_journal k v) x) (sym told.1) tt
   full-next (next.Refused e) answer was now left told =
-      subst (λ (x : Step). IsFullStep (without_journal k v) x) (sym told.0) (full-refused posted w v it b c j k has vis one filed ℕ e left)
+      subst (λ (x : Step). IsFullStep (without_journal k v) x) (sym told.0) (full-refused posted w v it b c j k has vis one filed Returned e left)
   full-next (next.WentOut again) answer was now left told = subst (λ (x : Step). IsFullStep (without_journal k v) x) (sym told.0) tt
   full-next (next.Writes page again) answer was now left told = subst (λ (x : Step). IsFullStep (without_journal k v) x) (sym told.0) tt
   full-next (next.Reads page again) answer was now left told = subst (λ (x : Step). IsFullStep (without_journal k v) x) (sym told.0) tt
   full-next (next.Stopped e) answer was now left told =
       subst (λ (x : Step). IsFullStep (without_journal k v) x) (sym told.0)
-      (full-stop posted w v it b c j k has vis one filed ℕ e left.0 left.1.same_journal (visited-next (next.Stopped e) left))
+      (full-stop posted w v it b c j k has vis one filed Returned e left.0 left.1.same_journal (visited-next (next.Stopped e) left))

@@ -1,5 +1,5 @@
 -- The last entry of a journal, as a caller is told of it.
-use Rattle.std.specs.Prelude.{◌≡◌, ℕ, ◌-◌, ◌<◌, List, [], ◌∷◌, length, reverse, take, drop, slice_get, Option, None, Some, get_or, refl}
+use Rattle.std.specs.Prelude.{◌≡◌, ℕ, ◌-◌, ◌<◌, List, [], ◌∷◌, length, reverse, slice_get, Option, None, Some, get_or, refl}
 use Rattle.std.proofs.Common.{ap, sym, ◌∙◌, subst, arith}
 use Rattle.std.proofs.lemmas.List.{get_or-reverse, length-reverse}
 use Rattle.std.proofs.lemmas.Option.{slice_get-get_or}
@@ -8,9 +8,9 @@ use Rattle.cc_entry.specs.declared.entry.Entry.{Entry}
 use Rattle.cc_entry.specs.declared.entry.Entry.TheVariants as entry
 use Rattle.cc_entry.specs.declared.reply.Outcome.TheVariants as outcome
 use Rattle.cc_entry.specs.declared.reply.Reply.{Reply}
-use Rattle.cc_entry.specs.declared.reply.Reply.TheVariants as reply
-use Rattle.cc_visits.specs.Told.{HasAnswered, ToldLast, bytes_in, bytes_of}
+use Rattle.cc_visits.specs.Told.{HasAnswered, ToldLast, reply_of}
 use Rattle.cc_visits.specs.Ways.{IsTold}
+use Rattle.cc_visits.specs.declared.tell.Returned.{Returned}
 
 -- the last of a list is the first of it reversed
 pub last-first : {A : Type 0} (xs : List A) → slice_get xs (length xs - 1) ≡ slice_get (reverse xs) 0
@@ -38,13 +38,13 @@ first-is (x ∷ front) e is = (front, ap (λ l. l ∷ front) (inner is))
 first-of : (oldest entries : List Entry) (o : Option Entry) → reverse oldest ≡ entries → slice_get oldest (length oldest - 1) ≡ o → slice_get entries 0 ≡ o
 first-of oldest entries o is last = ap (λ l. slice_get l 0) (sym is) ∙ (sym (last-first oldest) ∙ last)
 
--- the bytes that an entry answers are those of its reply
-read-in : (e : Entry) (bytes : List ℕ) (entries front : List Entry) → entries ≡ e ∷ front → bytes_of e ≡ Some bytes → HasAnswered (reply.Read bytes) entries
-read-in (entry.Call pass nth stream it (outcome.Done (reply.Read read))) bytes entries front is answers = record { pass = pass; nth = nth; stream = stream; it = it; front = front; last = is ∙ ap (λ b. entry.Call pass nth stream it (outcome.Done (reply.Read b)) ∷ front) (inner answers) }
+-- an entry that has a reply is that of a call which was done with it
+done-with : (e : Entry) (r : Reply) (entries front : List Entry) → entries ≡ e ∷ front → reply_of e ≡ Some r → HasAnswered r entries
+done-with (entry.Call pass nth stream it (outcome.Done given)) r entries front is has = record { pass = pass; nth = nth; stream = stream; it = it; front = front; last = is ∙ ap (λ x. entry.Call pass nth stream it (outcome.Done x) ∷ front) (inner has) }
   where
-    inner : Some read ≡ Some bytes → read ≡ bytes
+    inner : Some given ≡ Some r → given ≡ r
     inner same = cc
-read-in other bytes entries front is answers = absurd (cc)
+done-with other r entries front is has = absurd (cc)
 
 -- there is one last reply
 pub same-reply : (entries : List Entry) (r x : Reply) → HasAnswered r entries → HasAnswered x entries → r ≡ x
@@ -53,43 +53,47 @@ same-reply entries r x a b = inner a.pass b.pass a.nth b.nth a.stream b.stream a
     inner : (p q m n : ℕ) (s t : Option ℕ) (i k : Call) (f g : List Entry) → entry.Call p m s i (outcome.Done r) ∷ f ≡ entry.Call q n t k (outcome.Done x) ∷ g → r ≡ x
     inner p q m n s t i k f g same = cc
 
--- The last entry of a journal, by its place among the oldest first, answers bytes.
-pub read-last : (oldest entries : List Entry) (e : Entry) (bytes : List ℕ) → reverse oldest ≡ entries → slice_get oldest (length oldest - 1) ≡ Some e → bytes_of e ≡ Some bytes → HasAnswered (reply.Read bytes) entries
-read-last oldest entries e bytes is last answers =
+-- The last entry of a journal, by its place among the oldest first, has a reply.
+pub replied-last : (oldest entries : List Entry) (e : Entry) (r : Reply) → reverse oldest ≡ entries → slice_get oldest (length oldest - 1) ≡ Some e → reply_of e ≡ Some r → HasAnswered r entries
+replied-last oldest entries e r is last has =
     let first = first-is entries e (first-of oldest entries (Some e) is last) in
-    read-in e bytes entries first.0 first.1 answers
+    done-with e r entries first.0 first.1 has
 
--- what an entry answers that is the last, where a call was done with a reply
-answers : (entries : List Entry) (o : Option Entry) (r : Reply) → slice_get entries 0 ≡ o → HasAnswered r entries → (e : Entry) × (o ≡ Some e) × (bytes_of e ≡ bytes_in r)
+-- an entry that is the last, where a call was done with a reply, has it
+answers : (entries : List Entry) (o : Option Entry) (r : Reply) → slice_get entries 0 ≡ o → HasAnswered r entries → (e : Entry) × (o ≡ Some e) × (reply_of e ≡ Some r)
 answers entries o r first has = (
   entry.Call has.pass has.nth has.stream has.it (outcome.Done r),
   sym first ∙ ap (λ l. slice_get l 0) has.last,
   refl,
 )
 
-pub told-bytes : (oldest entries : List Entry) (e : Entry) (bytes : List ℕ) (n : ℕ) (was now : List ℕ) → reverse oldest ≡ entries → slice_get oldest (length oldest - 1) ≡ Some e → bytes_of e ≡ Some bytes → n ≡ length bytes → take n now ≡ bytes → drop n now ≡ drop n was → ToldLast entries n was now
-told-bytes oldest entries e bytes n was now is last answers count front rest r has =
-    subst (λ (x : Reply). IsTold x n was now) (same-reply entries (reply.Read bytes) r (read-last oldest entries e bytes is last answers) has) (count, front, rest)
+-- the reply that was told is the last one
+pub told-last : (oldest entries : List Entry) (e : Entry) (r : Reply) (told : Returned) (was now : List ℕ) → reverse oldest ≡ entries → slice_get oldest (length oldest - 1) ≡ Some e → reply_of e ≡ Some r → IsTold r told was now → ToldLast entries told was now
+told-last oldest entries e r told was now is last has so x answered =
+    subst (λ (y : Reply). IsTold y told was now) (same-reply entries r x (replied-last oldest entries e r is last has) answered) so
 
--- it answers none
-told-none : (r : Reply) (out : List ℕ) → bytes_in r ≡ None → IsTold r 0 out out
-told-none (reply.Read bytes) out none = absurd (cc)
-told-none other out none = (refl, refl)
-
-pub told-nothing : (oldest entries : List Entry) (e : Entry) (out : List ℕ) → reverse oldest ≡ entries → slice_get oldest (length oldest - 1) ≡ Some e → bytes_of e ≡ None → ToldLast entries 0 out out
-told-nothing oldest entries e out is last none r has =
-    let found = answers entries (Some e) r (first-of oldest entries (Some e) is last) has in
-    told-none r out (sym found.2 ∙ (ap bytes_of (sym (inner found.0 found.1)) ∙ none))
+-- there is none, where the last entry has none
+pub told-nothing : (oldest entries : List Entry) (e : Entry) (told : Returned) (was now : List ℕ) → reverse oldest ≡ entries → slice_get oldest (length oldest - 1) ≡ Some e → reply_of e ≡ None → ToldLast entries told was now
+told-nothing oldest entries e told was now is last none r has = absurd (clash found.0 (inner found.0 found.1) found.2)
   where
+    found : (x : Entry) × (Some e ≡ Some x) × (reply_of x ≡ Some r)
+    found = answers entries (Some e) r (first-of oldest entries (Some e) is last) has
+
     inner : (x : Entry) → Some e ≡ Some x → e ≡ x
     inner x same = cc
 
--- there is none
-pub told-empty : (oldest entries : List Entry) (out : List ℕ) → reverse oldest ≡ entries → slice_get oldest (length oldest - 1) ≡ None → ToldLast entries 0 out out
-told-empty oldest entries out is none r has = absurd (inner (answers entries None r (first-of oldest entries None is none) has))
-  where
-    inner : ((e : Entry) × (None ≡ Some e) × (bytes_of e ≡ bytes_in r)) → ⊥
-    inner found = clash found.0 found.1
+    clash : (x : Entry) → e ≡ x → reply_of x ≡ Some r → ⊥
+    clash x same some = absurd (apart (sym none ∙ (ap reply_of same ∙ some)))
       where
-        clash : (e : Entry) → None ≡ Some e → ⊥
-        clash e same = absurd (cc)
+        apart : None ≡ Some r → ⊥
+        apart same = absurd (cc)
+
+-- or there is no entry
+pub told-empty : (oldest entries : List Entry) (told : Returned) (was now : List ℕ) → reverse oldest ≡ entries → slice_get oldest (length oldest - 1) ≡ None → ToldLast entries told was now
+told-empty oldest entries told was now is none r has = absurd (clash found.0 found.1)
+  where
+    found : (e : Entry) × (None ≡ Some e) × (reply_of e ≡ Some r)
+    found = answers entries None r (first-of oldest entries None is none) has
+
+    clash : (e : Entry) → None ≡ Some e → ⊥
+    clash e same = absurd (cc)

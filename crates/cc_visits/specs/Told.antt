@@ -20,6 +20,7 @@ use Rattle.cc_step.specs.declared.faults.Failed.TheVariants as ended
 use Rattle.cc_step.specs.declared.steps.Stepped.{Stepped}
 use Rattle.cc_step.specs.declared.steps.Stepped.TheVariants as stepped
 use Rattle.cc_visits.specs.Ways.{IsTold}
+use Rattle.cc_visits.specs.declared.tell.Returned.{Returned}
 use Rattle.cc_visits.specs.declared.visits.Step.{Step}
 use Rattle.cc_visits.specs.declared.visits.Step.TheVariants as step
 use Rattle.cc_visits.specs.declared.visits.Tried.{Tried}
@@ -34,14 +35,10 @@ pub record HasAnswered (r : Reply) (entries : List Entry) : Type 0 where
   pub front : List Entry
   pub last : entries ≡ entry.Call pass nth stream it (outcome.Done r) ∷ front
 
--- the bytes of a reply, and those that an entry answers
-abbrev pub bytes_in : Reply → Option (List ℕ)
-bytes_in (reply.Read bytes) = Some bytes
-bytes_in other = None
-
-abbrev pub bytes_of : Entry → Option (List ℕ)
-bytes_of (entry.Call pass nth stream it (outcome.Done r)) = bytes_in r
-bytes_of other = None
+-- the reply of an entry whose call was done
+abbrev pub reply_of : Entry → Option Reply
+reply_of (entry.Call pass nth stream it (outcome.Done r)) = Some r
+reply_of other = None
 
 -- What the caller handed in has room for a reply.
 abbrev pub FitsReply : Reply → List ℕ → Type 0
@@ -53,8 +50,8 @@ abbrev pub FitsLast : List Entry → List ℕ → Type 0
 FitsLast entries out = (r : Reply) → HasAnswered r entries → FitsReply r out
 
 -- The caller is told the last reply.
-abbrev pub ToldLast : List Entry → ℕ → List ℕ → List ℕ → Type 0
-ToldLast entries n was now = (r : Reply) → HasAnswered r entries → IsTold r n was now
+abbrev pub ToldLast : List Entry → Returned → List ℕ → List ℕ → Type 0
+ToldLast entries told was now = (r : Reply) → HasAnswered r entries → IsTold r told was now
 
 -- Where the step of a call was done, what was handed in has room for its reply.
 abbrev pub FitsStepped : Stepped → List Entry → List ℕ → Type 0
@@ -63,7 +60,8 @@ FitsStepped other entries out = Unit {0}
 
 -- An attempt ended as the step of its call did, and its caller was told the reply, if there is one.
 abbrev pub TriedAs : Stepped → Tried → List Entry → List ℕ → List ℕ → Type 0
-TriedAs stepped.Done answer entries was now = (n : ℕ) × (answer ≡ tried.Ended (Ok n)) × ToldLast entries n was now
+TriedAs stepped.Done answer entries was now =
+    (told : Returned) × (answer ≡ tried.Ended (Ok told)) × ToldLast entries told was now
 TriedAs (stepped.Refused e) answer entries was now = (answer ≡ tried.Ended (Err e)) × (now ≡ was)
 TriedAs (stepped.Waits page again) answer entries was now = (answer ≡ tried.Waits page again) × (now ≡ was)
 TriedAs (stepped.Stopped e) answer entries was now = (answer ≡ tried.Ended (Err e)) × (now ≡ was)
@@ -75,7 +73,8 @@ FitsNext other entries out = Unit {0}
 
 -- The step that is answered is the one that was taken, and the caller was told the reply, if there is one.
 abbrev pub StepAs : Next → Step → List Entry → List ℕ → List ℕ → Type 0
-StepAs next.Done answer entries was now = (n : ℕ) × (answer ≡ step.Ended (Ok n)) × ToldLast entries n was now
+StepAs next.Done answer entries was now =
+    (told : Returned) × (answer ≡ step.Ended (Ok told)) × ToldLast entries told was now
 StepAs (next.Refused e) answer entries was now = (answer ≡ step.Ended (Err e)) × (now ≡ was)
 StepAs (next.WentOut again) answer entries was now = (answer ≡ step.WentOut again) × (now ≡ was)
 StepAs (next.Writes page again) answer entries was now = (answer ≡ step.Writes page again) × (now ≡ was)

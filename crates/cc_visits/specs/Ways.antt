@@ -14,13 +14,15 @@ use Rattle.cc_effects.specs.Asked.{Work, Calls, reaches}
 use Rattle.cc_effects.specs.Calls.{CallLeft}
 use Rattle.cc_effects.specs.Moments.{AtSome}
 use Rattle.cc_effects.specs.Places.{Works, syncs_of}
-use Rattle.cc_effects.specs.Stops.{IsUnstopped, IsStopped}
-use Rattle.cc_model.specs.Faults.{Fault, fault_of, faults_since, ReadFailed, WriteFailed, LogFailed}
+use Rattle.cc_effects.specs.Stops.{IsUnstopped, IsStopped, tells}
+use Rattle.cc_model.specs.Faults.{Fault, fault_of, faults_since}
 use Rattle.cc_model.specs.History.{history}
 use Rattle.cc_model.specs.Refusals.{refusal}
 use Rattle.cc_model.specs.Room.{reserved_in}
 use Rattle.cc_model.specs.Setup.{Setup}
 use Rattle.cc_turns.specs.Standing.{Standing}
+use Rattle.cc_visits.specs.declared.tell.Returned.{Returned}
+use Rattle.cc_visits.specs.declared.tell.Returned.TheVariants as returned
 
 -- Work of a pass is under way from one moment to another: the pass placed what it may place for it, has not synced, and
 -- nothing stopped it.
@@ -36,7 +38,6 @@ pub record IsStoppedBy (me : ℕ) (work : Work) (stop : Entry) (old new : List E
   pub during : List Entry
   pub grew : new ≡ during ++ old
   pub works : Works me work during old
-  pub unsynced : syncs_of me during ≡ []
   pub stopped : IsStopped me stop during
 
 -- A fault stopped it, which is among those since the pass's last call.
@@ -47,13 +48,6 @@ pub record HasFailed (me : ℕ) (work : Work) (fault : Fault) (old new : List En
   pub since : List Fault
   pub earlier : List Fault
   pub told : faults_since new me ≡ since ++ fault ∷ earlier
-
--- the fault that a refusal tells
-abbrev pub IsFaultOf : CcError → Fault → Type 0
-IsFaultOf (error.ReadFault page) fault = fault ≡ ReadFailed page
-IsFaultOf (error.WriteFault page) fault = fault ≡ WriteFailed page
-IsFaultOf (error.LogFault handle) fault = fault ≡ LogFailed handle
-IsFaultOf other fault = ⊥
 
 -- at a moment nothing refused the call, and the page was of its range
 abbrev pub WasWanted : Setup → Call → Page → List Entry → List Entry → Type 0
@@ -67,18 +61,22 @@ WasAdmitted u it s old new = AtSome (λ moment. refusal u moment (history moment
 -- A call was stopped by the fault that this refusal tells; nothing refused it before.
 pub record IsHalted (u : Setup) (me s : ℕ) (it : Call) (e : CcError) (old new : List Entry) : Type 0 where
   pub fault : Fault
-  pub is : IsFaultOf e fault
+  pub is : tells it e fault ≡ true
   pub failed : HasFailed me (Calls it) fault old new
   pub admitted : WasAdmitted u it s old (failed.stopped.stopped.before ++ old)
 
--- what a caller is told of a reply: the bytes of a read, in the front of what it handed in
-abbrev pub IsTold : Reply → ℕ → List ℕ → List ℕ → Type 0
-IsTold (reply.Read bytes) n was now = (n ≡ length bytes) × (take n now ≡ bytes) × (drop n now ≡ drop n was)
-IsTold other n was now = (n ≡ 0) × (now ≡ was)
+-- what a caller is told of a reply: the bytes of a read, in the front of what it handed in, or the state of a stream
+abbrev pub IsTold : Reply → Returned → List ℕ → List ℕ → Type 0
+IsTold (reply.Read bytes) told was now =
+    (told ≡ returned.Bytes (length bytes)) × (take (length bytes) now ≡ bytes)
+    × (drop (length bytes) now ≡ drop (length bytes) was)
+IsTold (reply.State state) told was now = (told ≡ returned.State state) × (now ≡ was)
+IsTold other told was now = (told ≡ returned.Nothing) × (now ≡ was)
 
 -- A call ended so: done, and its caller told the reply, or failed, and what the caller handed in is as it was.
-abbrev pub EndedSo : Setup → ℕ → Call → Result ℕ CcError → List Entry → List Entry → List ℕ → List ℕ → Type 0
-EndedSo u me it (Ok n) old new was now = (r : Reply) × CallLeft u me it (outcome.Done r) old new × IsTold r n was now
+abbrev pub EndedSo : Setup → ℕ → Call → Result Returned CcError → List Entry → List Entry → List ℕ → List ℕ → Type 0
+EndedSo u me it (Ok told) old new was now =
+    (r : Reply) × CallLeft u me it (outcome.Done r) old new × IsTold r told was now
 EndedSo u me it (Err e) old new was now = CallLeft u me it (outcome.Failed e) old new × (now ≡ was)
 
 -- What was handed in has room for what the call reads.

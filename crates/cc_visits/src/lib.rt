@@ -5,7 +5,7 @@
 //! is still under way, was stopped by a fault, or ended as its answer says. Others may go on between two visits, but
 //! nowhere that the pass holds a turn.
 //!
-//! `visits` has the visits, `tell` what a caller is told of a reply. The functions that read and write pages stand
+//! `visits` has the visits, `tell` what a call returns to its caller. The functions that read and write pages stand
 //! above, and the calls. Below are the turns (`cc_turns`), and the steps of a call on a book (`cc_step`, `cc_fill`).
 #![tactic(auto)]
 
@@ -14,4 +14,5 @@ mod tell;
 mod visits;
 
 pub use release::release_at;
+pub use tell::Returned;
 pub use visits::{Step, Tried, attempt_at, fail_at, land_at, next_at, unread_at};

@@ -2,36 +2,59 @@
 
 ghost use Rattle.std.specs.Prelude.{◌≡◌, ◌≤◌, take, drop, length};
 ghost use Rattle.std.specs.Option.{option_copied};
-ghost use Rattle.cc_visits.specs.Told.{FitsLast, ToldLast, bytes_of};
+ghost use Rattle.cc_visits.specs.Told.{FitsLast, FitsReply, ToldLast, reply_of};
+ghost use Rattle.cc_visits.specs.Ways.{IsTold};
 
-use cc_entry::{Bytes, Entry, Outcome, Reply};
+use cc_entry::{Bytes, Entry, FileState, Outcome, Reply};
 use cc_journal::Journal;
 
-/// Copies the bytes of the journal's last reply into the front of `out`, and says how many they are; 0 where the reply
-/// is no bytes.
-pub(crate) fn tell<Q>(journal: &Journal<Q>, out: &mut [u8]) -> usize
+/// What a call that was done returns to its caller.
+#[derive(Clone, Copy, Debug)]
+pub enum Returned {
+    /// So many bytes, which stand in the front of what the caller handed in.
+    Bytes(usize),
+    /// The sizes and the log of a stream.
+    State(FileState),
+    /// Nothing more.
+    Nothing,
+}
+
+/// Tells the journal's last reply: its bytes are copied into the front of `out`.
+pub(crate) fn tell<Q>(journal: &Journal<Q>, out: &mut [u8]) -> Returned
     requires fits { FitsLast journal.now.entries out.old }
     ensures { ToldLast journal.now.entries result out.old out.new }
 {
     match journal.entries().last() {
-        Some(entry) => match bytes_of(entry) {
-            Some(bytes) => copy(bytes, out),
-            None => 0,
+        Some(entry) => match reply_of(entry) {
+            Some(reply) => told(reply, out),
+            None => Returned::Nothing,
         },
-        None => 0,
+        None => Returned::Nothing,
     }
 }
 
-// The bytes that an entry answers.
-fn bytes_of(entry: &Entry) -> Option<&Bytes>
-    ensures { option_copied result ≡ bytes_of entry.now }
+// The reply of an entry whose call was done.
+fn reply_of(entry: &Entry) -> Option<&Reply>
+    ensures { option_copied result ≡ reply_of entry.now }
 {
     match entry {
         Entry::Call {
-            outcome: Outcome::Done(Reply::Read(bytes)),
+            outcome: Outcome::Done(reply),
             ..
-        } => Some(bytes),
+        } => Some(reply),
         _ => None,
+    }
+}
+
+// Tells a reply.
+fn told(reply: &Reply, out: &mut [u8]) -> Returned
+    requires fits { FitsReply reply.now out.old }
+    ensures { IsTold reply.now result out.old out.new }
+{
+    match reply {
+        Reply::Read(bytes) => Returned::Bytes(copy(bytes, out)),
+        Reply::State(state) => Returned::State(*state),
+        _ => Returned::Nothing,
     }
 }
 

@@ -6,6 +6,7 @@ ghost use Rattle.cc_entry.specs.declared.entry.Entry.{Entry};
 ghost use Rattle.cc_entry.specs.declared.reply.Outcome.TheVariants as outcome;
 ghost use Rattle.cc_effects.specs.Asked.{brings_in};
 ghost use Rattle.cc_effects.specs.Calls.{CallLeft, IsUnderWay};
+ghost use Rattle.cc_effects.specs.Refusals.{may_refuse};
 ghost use Rattle.cc_fill.specs.Fill.{MayLand, LandLeft};
 ghost use Rattle.cc_model.specs.Setup.{Setup};
 ghost use Rattle.cc_step.specs.Step.{StandUnder, asks_one, is_stepped};
@@ -14,7 +15,7 @@ ghost use Rattle.cc_visits.specs.Told.{FitsNext, FitsStepped, StepAs, TriedAs, U
 ghost use Rattle.cc_visits.specs.Ways.{FitsIn, IsFull, IsHalted, WasWanted};
 ghost use Rattle.cc_visits.specs.Visits.{IsOf, TriedLeft, StepLeft, StepWent, IsFullTried, IsFullStep, WasReadFor, UnreadPlaced, UnreadLeft};
 
-use crate::tell::tell;
+use crate::tell::{Returned, tell};
 use cc_book::Book;
 use cc_entry::{Call, CcError, NoMemory};
 use cc_fill::{Next, land, next, unread};
@@ -26,8 +27,8 @@ use std::alloc::Global;
 /// How an attempt at a call ended.
 #[derive(Drop)]
 pub enum Tried {
-    /// The call was done, with so many bytes told to its caller, or it failed.
-    Ended(Result<usize, CcError>),
+    /// The call was done, and returns this to its caller, or it failed.
+    Ended(Result<Returned, CcError>),
     /// It waits for this page, and is handed back.
     Waits(u64, Call),
 }
@@ -35,8 +36,8 @@ pub enum Tried {
 /// What a call does next that may bring pages in.
 #[derive(Drop)]
 pub enum Step {
-    /// It was done, with so many bytes told to its caller, or it failed.
-    Ended(Result<usize, CcError>),
+    /// It was done, and returns this to its caller, or it failed.
+    Ended(Result<Returned, CcError>),
     /// A page of the block to give up went out.
     WentOut(Call),
     /// This page of the block to give up is to be written before.
@@ -55,6 +56,7 @@ pub fn attempt_at<T: Turns>(
 ) -> Tried
     requires book { HasBook (T.standing turns.old) book.old.stream book.old }
     requires none { (T.standing turns.old).in_flight ≡ 0 }
+    requires stepped { is_stepped call ≡ true }
     requires one { asks_one call ≡ true }
     requires filed { IsOf call book.old.stream }
     requires fits { FitsIn call out.old }
@@ -175,7 +177,7 @@ pub fn fail_at<T: Turns>(
     requires book { HasBook (T.standing turns.old) book.old.stream book.old }
     requires none { (T.standing turns.old).in_flight ≡ 0 }
     requires one { asks_one call ≡ true }
-    requires brings { brings_in call ≡ true }
+    requires listed { may_refuse call fault ≡ true }
     requires filed { IsOf call book.old.stream }
     requires halted { (begun : List Entry) × IsHalted (T.standing turns.old).setup (T.standing turns.old).number
         book.old.stream call fault begun (T.standing turns.old).seen }

@@ -14,3 +14,6 @@ pub mod Writing
 pub mod Numbered
 pub mod Explained
 pub mod Shown
+pub mod Disks
+pub mod Halting
+pub mod Calling

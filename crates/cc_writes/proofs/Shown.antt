@@ -54,6 +54,7 @@ transferred-then w x page how keeps seen same is ended = record {
   before = ended.before;
   is_before = before-then w x ended.before same is ended.grows;
   later = ended.later;
+  quiet = ended.quiet;
   others = subst (λ (m : ℕ). Others m ended.later) same ended.others;
   kept = ended.kept;
   placed = ended.placed ∙ ap (λ (m : ℕ). transferred m page.stream page.page how ended.later ended.before) same;

@@ -95,7 +95,6 @@ work-log_failed me work handle old past may is = record {
       one_sync = rw (eq-eqb me me refl) is.works.one_sync;
       whole = rw (eq-eqb me me refl) is.works.whole;
     };
-    unsynced = rw (eq-eqb me me refl) is.unsynced;
     stopped = record { since = []; before = is.during; split = refl; is_own = eq-eqb me me refl; quiet = tt; unstopped = is.unstopped };
   };
   shown = rw (eq-eqb me me refl) refl;
@@ -161,7 +160,6 @@ module _ (me : ℕ) (work : Work) (page : Page) (how : End) (old before later : 
     during = all;
     grew = grew;
     works = works;
-    unsynced = unsynced;
     stopped = record { since = []; before = between; split = refl; is_own = eq-eqb me me refl; quiet = tt; unstopped = unstopped-between };
   }
 

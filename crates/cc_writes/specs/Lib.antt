@@ -2,3 +2,4 @@
 pub mod Writes
 pub mod Logs
 pub mod Transfers
+pub mod Calls

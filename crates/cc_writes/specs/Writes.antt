@@ -19,7 +19,7 @@ use Rattle.cc_model.specs.History.{history}
 use Rattle.cc_model.specs.Settings.{log_of}
 use Rattle.cc_model.specs.Stamps.{is_unstamped}
 use Rattle.cc_model.specs.Touches.{is_dirty}
-use Rattle.cc_model.specs.Turns.{Book, is_quiet}
+use Rattle.cc_model.specs.Turns.{Device, Book, is_quiet}
 use Rattle.cc_transfer.specs.Transfers.{transferred}
 use Rattle.cc_turns.specs.Disk.{DiskStands, opening_of}
 use Rattle.cc_turns.specs.Standing.{Standing}
@@ -66,12 +66,13 @@ pub record IsBefore (w : Standing) (past : List Entry) : Type 0 where
   pub only : (own w.number since ≡ [])
       ⊎ ((handle : ℕ) × (to : ℕ) × (own w.number since ≡ entry.Flushed w.number handle to ∷ []))
 
--- The pass transferred a page: its begin, then what others placed meanwhile, then its end, which says how. Where the
--- book was kept, nobody else changed the stream meanwhile.
+-- The pass transferred a page: its begin, then what others placed meanwhile, then its end, which says how. Nobody else
+-- used the stream's disk meanwhile. Where the book was kept, nobody else changed the stream either.
 pub record HasTransferred (w : Standing) (page : Page) (how : End) (keeps : Bool) (seen : List Entry) : Type 0 where
   pub before : List Entry
   pub is_before : IsBefore w before
   pub later : List Entry
+  pub quiet : is_quiet (Device page.stream) later ≡ true
   pub others : Others w.number later
   pub kept : keeps ≡ true → is_quiet (Book page.stream) later ≡ true
   pub placed : seen ≡ transferred w.number page.stream page.page how later before

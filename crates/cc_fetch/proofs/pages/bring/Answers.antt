@@ -1,4 +1,4 @@
-use Rattle.cc_fetch.proofs.Disks.{both_still}
+use Rattle.cc_writes.proofs.Disks.{both_still}
 use Rattle.cc_fetch.proofs.pages.bring.Goals as goal
 
 pub returns-else-page-div_ceil-clause-both : goal.returns-else-page-div_ceil-clause-both

@@ -3,8 +3,10 @@ use Rattle.std.proofs.Common.{subst, sym}
 use Rattle.cc_entry.specs.declared.entry.Entry.{Entry}
 use Rattle.cc_effects.specs.Calls.{IsUnderWay}
 use Rattle.cc_visits.specs.Ways.{WasWanted}
-use Rattle.cc_fetch.specs.Rounds.{IsWanted, PageLeft}
-use Rattle.cc_fetch.proofs.Disks.{still_of, told_of}
+use Rattle.cc_writes.specs.Calls.{PageLeft}
+use Rattle.cc_writes.proofs.Disks.{still_of}
+use Rattle.cc_fetch.specs.Rounds.{IsWanted}
+use Rattle.cc_fetch.proofs.Disks.{told_of}
 use Rattle.cc_fetch.proofs.Reading.{where_failed}
 use Rattle.cc_fetch.proofs.Bringing.{is_wanted, left_since, left_wanted}
 use Rattle.cc_fetch.proofs.pages.bring_read.Goals as goal

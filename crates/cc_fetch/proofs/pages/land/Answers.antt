@@ -2,8 +2,8 @@ use Rattle.std.proofs.Common.{subst, sym}
 use Rattle.std.specs.Prelude.{Result}
 use Rattle.cc_entry.specs.declared.call.Call.{Call}
 use Rattle.cc_entry.specs.declared.error.CcError.{CcError}
-use Rattle.cc_fetch.specs.Rounds.{PageLeft}
-use Rattle.cc_fetch.proofs.Going.{no-memory}
+use Rattle.cc_writes.specs.Calls.{PageLeft}
+use Rattle.cc_writes.proofs.Halting.{no-memory}
 use Rattle.cc_fetch.proofs.pages.land.Goals as goal
 
 pub returns-in-Err-clause-left : goal.returns-in-Err-clause-left

@@ -4,10 +4,12 @@ use Rattle.cc_entry.specs.declared.call.Call.{Call}
 use Rattle.cc_effects.specs.Asked.{brings_in}
 use Rattle.cc_step.specs.Step.{asks_one}
 use Rattle.cc_visits.specs.Visits.{IsOf}
+use Rattle.cc_writes.specs.Calls.{MayFaultInWriting}
 use Rattle.cc_writes.specs.Writes.{HasBoth}
+use Rattle.cc_writes.proofs.Disks.{still_of}
 use Rattle.cc_fetch.specs.Rounds.{RoundLeft}
 use Rattle.cc_fetch.specs.declared.course.Course.{Course}
-use Rattle.cc_fetch.proofs.Disks.{still_of}
+use Rattle.cc_fetch.proofs.Going.{may-fault, may-write}
 use Rattle.cc_fetch.proofs.Stepping.{to_write_call, to_read_call, to_write, to_read, round_wrote, round_read}
 use Rattle.cc_fetch.proofs.rounds.round.Goals as goal
 
@@ -27,8 +29,8 @@ returns-in-WentOut-clause-both g c =
     still_of g.T.Disk.Told.told g.T.Disk.Told.faults w.in_flight w v s s c.args.book c.next_at.new.book c.args.disk.now refl c.requires.both
     c.next_at.ensures.book c.next_at.ensures.rest c.in-WentOut.ensures.went c.next_at.ensures.disk
 
-pub make_way-book-requires-clause-both : goal.make_way-book-requires-clause-both
-make_way-book-requires-clause-both g c κs within =
+pub write_for-book-requires-clause-both : goal.write_for-book-requires-clause-both
+write_for-book-requires-clause-both g c κs within =
     let w = g.T.Turns.standing c.args.turns.now in
     let v = g.T.Turns.standing c.next_at.new.turns in
     let s = c.args.book.stream in
@@ -38,8 +40,8 @@ make_way-book-requires-clause-both g c κs within =
     (still_of told faults w.in_flight w v s s c.args.book c.next_at.new.book c.args.disk.now refl c.requires.both
     c.next_at.ensures.book c.next_at.ensures.rest c.in-Writes.ensures.went c.next_at.ensures.disk)
 
-pub make_way-book-requires-clause-one : goal.make_way-book-requires-clause-one
-make_way-book-requires-clause-one g c κs within =
+pub write_for-book-requires-clause-one : goal.write_for-book-requires-clause-one
+write_for-book-requires-clause-one g c κs within =
     let w = g.T.Turns.standing c.args.turns.now in
     let v = g.T.Turns.standing c.next_at.new.turns in
     let s = c.args.book.stream in
@@ -47,17 +49,17 @@ make_way-book-requires-clause-one g c κs within =
     (sym (to_write_call w v s w.in_flight c.args.call c.in-Writes.call c.in-Writes.page c.args.out.now c.next_at.new.out c.in-Writes.ensures.went c.in-Writes.ensures.left))
     c.requires.one
 
-pub make_way-book-requires-clause-brings : goal.make_way-book-requires-clause-brings
-make_way-book-requires-clause-brings g c κs within =
+pub write_for-book-requires-clause-faults : goal.write_for-book-requires-clause-faults
+write_for-book-requires-clause-faults g c κs within =
     let w = g.T.Turns.standing c.args.turns.now in
     let v = g.T.Turns.standing c.next_at.new.turns in
     let s = c.args.book.stream in
-    subst (λ (it : Call). brings_in it ≡ true)
+    subst (λ (it : Call). MayFaultInWriting it)
     (sym (to_write_call w v s w.in_flight c.args.call c.in-Writes.call c.in-Writes.page c.args.out.now c.next_at.new.out c.in-Writes.ensures.went c.in-Writes.ensures.left))
-    c.requires.brings
+    (may-fault c.args.call c.requires.one c.requires.brings)
 
-pub make_way-book-requires-clause-filed : goal.make_way-book-requires-clause-filed
-make_way-book-requires-clause-filed g c κs within =
+pub write_for-book-requires-clause-filed : goal.write_for-book-requires-clause-filed
+write_for-book-requires-clause-filed g c κs within =
     let w = g.T.Turns.standing c.args.turns.now in
     let v = g.T.Turns.standing c.next_at.new.turns in
     let s = c.args.book.stream in
@@ -65,23 +67,42 @@ make_way-book-requires-clause-filed g c κs within =
     (sym (to_write_call w v s w.in_flight c.args.call c.in-Writes.call c.in-Writes.page c.args.out.now c.next_at.new.out c.in-Writes.ensures.went c.in-Writes.ensures.left))
     (subst (λ (n : ℕ). IsOf c.args.call n) (sym c.next_at.ensures.book.stream) c.requires.filed)
 
-pub make_way-book-requires-clause-to_write : goal.make_way-book-requires-clause-to_write
-make_way-book-requires-clause-to_write g c κs within =
+pub write_for-book-requires-clause-admitted : goal.write_for-book-requires-clause-admitted
+write_for-book-requires-clause-admitted g c κs within =
     let w = g.T.Turns.standing c.args.turns.now in
     let v = g.T.Turns.standing c.next_at.new.turns in
     let s = c.args.book.stream in
-    to_write w v s w.in_flight c.args.call c.in-Writes.call c.in-Writes.page c.args.out.now c.next_at.new.out c.in-Writes.ensures.went
-    c.next_at.new.book.stream c.next_at.ensures.book.stream c.in-Writes.ensures.left
+    let to = to_write w v s w.in_flight c.args.call c.in-Writes.call c.in-Writes.page c.args.out.now c.next_at.new.out c.in-Writes.ensures.went
+    c.next_at.new.book.stream c.next_at.ensures.book.stream c.in-Writes.ensures.left in
+    to.admitted
+
+pub write_for-book-requires-clause-asked : goal.write_for-book-requires-clause-asked
+write_for-book-requires-clause-asked g c κs within =
+    let w = g.T.Turns.standing c.args.turns.now in
+    let v = g.T.Turns.standing c.next_at.new.turns in
+    let s = c.args.book.stream in
+    let to = to_write w v s w.in_flight c.args.call c.in-Writes.call c.in-Writes.page c.args.out.now c.next_at.new.out c.in-Writes.ensures.went
+    c.next_at.new.book.stream c.next_at.ensures.book.stream c.in-Writes.ensures.left in
+    may-write c.in-Writes.call (record { stream = c.next_at.new.book.stream; page = c.in-Writes.page }) v.seen to.in_the_way
+
+pub write_for-book-requires-clause-to_write : goal.write_for-book-requires-clause-to_write
+write_for-book-requires-clause-to_write g c κs within =
+    let w = g.T.Turns.standing c.args.turns.now in
+    let v = g.T.Turns.standing c.next_at.new.turns in
+    let s = c.args.book.stream in
+    let to = to_write w v s w.in_flight c.args.call c.in-Writes.call c.in-Writes.page c.args.out.now c.next_at.new.out c.in-Writes.ensures.went
+    c.next_at.new.book.stream c.next_at.ensures.book.stream c.in-Writes.ensures.left in
+    record { dirty = to.dirty; stamped = to.stamped }
 
 pub returns-in-Writes-clause-left : goal.returns-in-Writes-clause-left
 returns-in-Writes-clause-left g c begun way =
     let w = g.T.Turns.standing c.args.turns.now in
     let v = g.T.Turns.standing c.next_at.new.turns in
     let s = c.args.book.stream in
-    let new = (g.T.Turns.standing c.make_way-book.new.turns).seen in
+    let new = (g.T.Turns.standing c.write_for-book.new.turns).seen in
     subst (λ (o : Course). RoundLeft w.setup w.number c.args.call o begun new c.args.out.now c.next_at.new.out) (sym c.course_of.ensures)
     (round_wrote w v s w.in_flight c.args.call c.in-Writes.call c.in-Writes.page c.args.out.now c.next_at.new.out c.in-Writes.ensures.went
-    c.make_way-book.result.1 new c.in-Writes.ensures.left c.make_way-book.ensures.left begun way)
+    c.write_for-book.result.1 new c.in-Writes.ensures.left c.write_for-book.ensures.left begun way)
 
 pub bring-book-requires-clause-both : goal.bring-book-requires-clause-both
 bring-book-requires-clause-both g c κs within =

@@ -3,7 +3,7 @@ use Rattle.std.proofs.Common.{subst}
 use Rattle.cc_writes.specs.Writes.{HasBoth}
 use Rattle.cc_fetch.specs.declared.course.Course.{Course}
 use Rattle.cc_fetch.specs.declared.course.Course.TheVariants as course
-use Rattle.cc_fetch.proofs.Going.{no-memory}
+use Rattle.cc_writes.proofs.Halting.{no-memory}
 use Rattle.cc_fetch.proofs.Repeated.{HasGoneRound, left_so_far, goes_on}
 use Rattle.cc_fetch.proofs.rounds.until_ended.Goals as goal
 

@@ -9,9 +9,9 @@ use Rattle.cc_model.specs.History.{history}
 use Rattle.cc_model.specs.Ranges.{range_of}
 use Rattle.cc_model.specs.Setup.{Setup}
 use Rattle.cc_model.specs.Touches.{size_of}
+use Rattle.cc_step.proofs.Failing.{brings-stepped}
 use Rattle.cc_step.proofs.Placed.{so-far}
-use Rattle.cc_step.specs.Step.{is_stepped, asks_one}
-use Rattle.std.proofs.lemmas.Bool.{and_parts}
+use Rattle.cc_step.specs.Step.{asks_one}
 use Rattle.cc_fill.specs.Room.{IsCrowded}
 use Rattle.cc_fill.proofs.Rooms.{some-to-go}
 use Rattle.cc_fill.proofs.Waiting.{Needs, needs}
@@ -25,7 +25,7 @@ found-block : (u : Setup) (past : List Entry) (it : Call) (page : ℕ) (b : Book
 found-block u past it page b span None one brings crowded is found =
     let n = needs u past b.stream it page crowded.waits in
     let same = same-range u past it page b span n is in
-    absurd (some-to-go u past b.stream it page (and_parts (is_stepped it) _ one).0 brings crowded.good (so-far u past crowded.good) crowded.waits crowded.full n
+    absurd (some-to-go u past b.stream it page (brings-stepped it one brings) brings crowded.good (so-far u past crowded.good) crowded.waits crowded.full n
     (subst (λ (r : Range). block_to_go (history past b.stream) r ≡ None) same (sym found)))
 found-block u past it page b span (Some block) one brings crowded is found = refl
 

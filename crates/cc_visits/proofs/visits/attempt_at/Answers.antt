@@ -110,7 +110,7 @@ returns-clause-left g c begun way =
     let n = c.attempt-ended.new.book in
     let k = c.attempt-ended.new.journal in
     let left = attempted posted w v c.args.call b n j k c.requires.book vis c.requires.one c.requires.filed c.me-pass.result c.attempt-ended.result c.me-pass.ensures c.attempt-ended.ensures in
-    let ended = left-attempt posted w v c.args.call b n j k c.requires.book vis c.requires.one c.requires.filed c.attempt-ended.result c.tried_of-tried.result c.args.out.now c.tried_of-tried.new.out left c.tried_of-tried.ensures begun way in
+    let ended = left-attempt posted w v c.args.call b n j k c.requires.book vis c.requires.one c.requires.filed c.requires.stepped c.attempt-ended.result c.tried_of-tried.result c.args.out.now c.tried_of-tried.new.out left c.tried_of-tried.ensures begun way in
     subst (λ (x : Standing). TriedLeft w.setup w.number b.stream c.args.call c.tried_of-tried.result begun x.seen c.args.out.now c.tried_of-tried.new.out) (sym c.give_journal.ensures) ended
 
 pub returns-clause-full : goal.returns-clause-full

@@ -1,17 +1,17 @@
 use Rattle.std.specs.Option.{option_copied}
 use Rattle.std.proofs.Common.{sym, subst, arith}
 use Rattle.cc_effects.specs.Calls.{IsUnderWay}
+use Rattle.cc_step.proofs.Failing.{brings-stepped}
 use Rattle.cc_turns.specs.Standing.{Standing}
 use Rattle.cc_turns.specs.Takes.{without_journal}
 use Rattle.cc_visits.specs.Hands.{HasBook, IsAtRest, SameDisk, WentWith}
 use Rattle.cc_visits.proofs.Landing.{has-place, land-as, landed, visited-land, disk-land, left-land}
-use Rattle.cc_visits.proofs.Placing.{both-stepped}
 use Rattle.cc_visits.proofs.Resting.{rest-went}
 use Rattle.cc_visits.proofs.Visiting.{few-left, visiting}
 use Rattle.cc_visits.proofs.visits.land_at.Goals as goal
 
 pub land_page-landed-requires-clause-stepped : goal.land_page-landed-requires-clause-stepped
-land_page-landed-requires-clause-stepped g c = both-stepped c.args.call.now c.requires.one
+land_page-landed-requires-clause-stepped g c = brings-stepped c.args.call.now c.requires.one c.requires.brings
 
 pub land_page-landed-requires-clause-reserved : goal.land_page-landed-requires-clause-reserved
 land_page-landed-requires-clause-reserved g c =

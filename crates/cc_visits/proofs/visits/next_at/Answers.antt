@@ -1,4 +1,5 @@
 use Rattle.std.proofs.Common.{sym, subst}
+use Rattle.cc_step.proofs.Failing.{brings-stepped}
 use Rattle.cc_turns.specs.Standing.{Standing}
 use Rattle.cc_turns.specs.Takes.{without_journal}
 use Rattle.cc_visits.specs.Hands.{HasBook, IsAtRest, SameDisk}
@@ -142,7 +143,8 @@ returns-clause-left g c begun way =
     let n = c.next-ended.new.book in
     let k = c.next-ended.new.journal in
     let left = stepped posted w v c.args.call b n j k c.requires.book vis c.requires.one c.requires.filed c.requires.rest c.me-pass.result c.next-ended.result c.me-pass.ensures c.next-ended.ensures in
-    let ended = left-next posted w v c.args.call b n j k c.requires.book vis c.requires.one c.requires.filed c.requires.rest c.next-ended.result c.step_of-step.result c.args.out.now c.step_of-step.new.out left c.step_of-step.ensures begun way in
+    let ended = left-next posted w v c.args.call b n j k c.requires.book vis c.requires.one c.requires.filed c.requires.rest
+    (brings-stepped c.args.call c.requires.one c.requires.brings) c.next-ended.result c.step_of-step.result c.args.out.now c.step_of-step.new.out left c.step_of-step.ensures begun way in
     subst (λ (x : Standing). StepLeft w.setup w.number b.stream c.args.call c.step_of-step.result begun x.seen c.args.out.now c.step_of-step.new.out) (sym c.give_journal.ensures) ended
 
 pub returns-clause-full : goal.returns-clause-full

@@ -1,24 +1,29 @@
--- A page in the way of a call was written, or was not: what the call is then, and what it leaves.
-use Rattle.std.specs.Prelude.{◌≡◌, ℕ, true, Result, Ok, Err, List}
+-- A page was written for a call, or was not: what the call is then, and what it leaves.
+use Rattle.std.specs.Prelude.{◌≡◌, ℕ, Bool, true, Result, Ok, Err, List, refl}
+use Rattle.std.specs.declared.option.Option.TheVariants.{None}
 use Rattle.std.proofs.Common.{sym, ap, subst}
+use Rattle.std.proofs.lemmas.Bool.{eq-eqb}
 use Rattle.cc_entry.specs.declared.call.Call.{Call}
 use Rattle.cc_entry.specs.declared.error.CcError.{CcError}
+use Rattle.cc_entry.specs.declared.error.CcError.TheVariants as error
 use Rattle.cc_entry.specs.declared.entry.Entry.{Entry}
 use Rattle.cc_effects.specs.Asked.{Work, Calls, may_write}
 use Rattle.cc_effects.specs.Calls.{IsUnderWay}
+use Rattle.cc_effects.specs.Stops.{tells}
 use Rattle.cc_effects.proofs.Starts.{begins}
 use Rattle.cc_model.specs.Faults.{Fault, WriteFailed, LogFailed}
+use Rattle.cc_model.specs.History.{history}
+use Rattle.cc_model.specs.Refusals.{refusal}
 use Rattle.cc_model.specs.Setup.{Setup}
 use Rattle.cc_step.specs.Step.{asks_one}
 use Rattle.cc_turns.specs.Standing.{Standing}
 use Rattle.cc_visits.specs.Hands.{WentWith}
-use Rattle.cc_visits.specs.Ways.{IsAtWork, HasFailed, IsFaultOf, IsHalted}
-use Rattle.cc_visits.specs.Visits.{IsToBeWritten}
-use Rattle.cc_writes.specs.Writes.{WriteLeft}
+use Rattle.cc_visits.specs.Ways.{IsAtWork, HasFailed, IsHalted}
+use Rattle.cc_writes.specs.Calls.{PageLeft}
+use Rattle.cc_writes.specs.Writes.{WriteLeft, WriteShown}
 use Rattle.cc_writes.specs.declared.writes.PageWrite.{PageWrite}
 use Rattle.cc_writes.specs.declared.writes.PageWrite.TheVariants as write
-use Rattle.cc_fetch.specs.Rounds.{PageLeft}
-use Rattle.cc_fetch.proofs.Going.{at-work, under-way, may-write, halted-since, given-up}
+use Rattle.cc_writes.proofs.Halting.{at-work, under-way, halted-since, given-up}
 
 -- what the writing of a page of a stream left, of any work that may write it
 abbrev pub HasWritten : Standing → Standing → ℕ → ℕ → Result PageWrite CcError → Type 0
@@ -26,15 +31,29 @@ HasWritten w v s page r =
     (work : Work) (begun : List Entry) → may_write work (record { stream = s; page = page }) w.seen ≡ true →
     IsAtWork w.number work begun w.seen → WriteLeft w.number work (record { stream = s; page = page }) r begun v.seen
 
-pub where_ok : (w v : Standing) (s page : ℕ) (r : Result PageWrite CcError) (x y : PageWrite) → r ≡ Ok x → x ≡ y → HasWritten w v s page r → HasWritten w v s page (Ok y)
-where_ok w v s page r x y is same left =
-    subst (λ (z : PageWrite). HasWritten w v s page (Ok z)) same (subst (λ (o : Result PageWrite CcError). HasWritten w v s page o) is left)
+-- what is said of the answer is said of what was answered
+where_answered : (Says : Result PageWrite CcError → Type 0) (r : Result PageWrite CcError) (x y : PageWrite) → r ≡ Ok x → x ≡ y → Says r → Says (Ok y)
+where_answered Says r x y is same said = subst (λ (z : PageWrite). Says (Ok z)) same (subst Says is said)
 
-module _ (w v : Standing) (s page : ℕ) (it : Call) (way : IsToBeWritten w.setup s it page w.seen) where
+pub where_ok : (w v : Standing) (s page : ℕ) (r : Result PageWrite CcError) (x y : PageWrite) → r ≡ Ok x → x ≡ y → HasWritten w v s page r → HasWritten w v s page (Ok y)
+where_ok w v s page = where_answered (λ (o : Result PageWrite CcError). HasWritten w v s page o)
+
+pub shown_ok : (w v : Standing) (s page : ℕ) (keeps : Bool) (r : Result PageWrite CcError) (x y : PageWrite) → r ≡ Ok x → x ≡ y → WriteShown w (record { stream = s; page = page }) keeps r v.seen → WriteShown w (record { stream = s; page = page }) keeps (Ok y) v.seen
+shown_ok w v s page keeps = where_answered (λ (o : Result PageWrite CcError). WriteShown w (record { stream = s; page = page }) keeps o v.seen)
+
+-- a refusal tells the fault of the disk, or of the log, that the writing met
+pub tells-disk : (it : Call) (page : ℕ) → tells it (error.WriteFault page) (WriteFailed page) ≡ true
+tells-disk it page = rw (eq-eqb page page refl) refl
+
+pub tells-log : (it : Call) (told handle : ℕ) → told ≡ handle → tells it (error.LogFault told) (LogFailed handle) ≡ true
+tells-log it told handle same = rw same (eq-eqb handle handle refl)
+
+module _ (w v : Standing) (s page : ℕ) (it : Call)
+    (admitted : refusal w.setup w.seen (history w.seen s) it ≡ None) (asked : may_write (Calls it) (record { stream = s; page = page }) w.seen ≡ true) where
   -- what it left of the call
   of_call : (r : Result PageWrite CcError) → HasWritten w v s page r → (begun : List Entry) → IsUnderWay w.number it begun w.seen → WriteLeft w.number (Calls it) (record { stream = s; page = page }) r begun v.seen
   of_call r left begun is =
-      left (Calls it) begun (may-write it (record { stream = s; page = page }) w.seen way.in_the_way) (at-work w.number it begun w.seen is)
+      left (Calls it) begun asked (at-work w.number it begun w.seen is)
 
   pub written : HasWritten w v s page (Ok write.Written) → (begun : List Entry) → IsUnderWay w.number it begun w.seen → IsUnderWay w.number it begun v.seen
   written left begun is = under-way w.number it begun v.seen (of_call (Ok write.Written) left begun is)
@@ -49,7 +68,7 @@ module _ (w v : Standing) (s page : ℕ) (it : Call) (way : IsToBeWritten w.setu
   gave_up e one left begun is = given-up w.setup w.number it (record { stream = s; page = page }) e begun v.seen one (of_call (Err e) left begun is)
 
   -- a fault of the writing halted it
-  module _ (flight n : ℕ) (went : WentWith flight w v) (same : n ≡ s) (e : CcError) (fault : Fault) (is : IsFaultOf e fault)
+  module _ (flight n : ℕ) (went : WentWith flight w v) (same : n ≡ s) (e : CcError) (fault : Fault) (is : tells it e fault ≡ true)
       (failed : HasFailed w.number (Calls it) fault w.seen v.seen) where
     setup_same : v.setup ≡ w.setup
     setup_same = ap (λ x. x.setup) went.same
@@ -62,7 +81,7 @@ module _ (w v : Standing) (s page : ℕ) (it : Call) (way : IsToBeWritten w.setu
         subst (λ (t : ℕ). IsHalted v.setup v.number t it e begun v.seen) (sym same)
         (subst (λ (m : ℕ). IsHalted v.setup m s it e begun v.seen) (sym number_same)
         (subst (λ (u : Setup). IsHalted u w.number s it e begun v.seen) (sym setup_same)
-        (halted-since w.setup w.number s it e fault begun w.seen v.seen is_way way.admitted is failed)))
+        (halted-since w.setup w.number s it e fault begun w.seen v.seen is_way admitted is failed)))
 
     pub is_halted : (begun : List Entry) × IsHalted v.setup v.number n it e begun v.seen
     is_halted = (w.seen, halted w.seen (begins w.number it w.seen))

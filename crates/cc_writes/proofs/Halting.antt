@@ -1,0 +1,91 @@
+-- A call that is under way is halted by a fault, or given up.
+use Rattle.std.specs.Prelude.{◌≡◌, ℕ, true, Err, List, ◌++◌, refl}
+use Rattle.std.specs.declared.option.Option.TheVariants.{None}
+use Rattle.std.proofs.Common.{sym, ap, ◌∙◌, subst, inl, inr, append_assoc}
+use Rattle.cc_entry.specs.Place.{Page}
+use Rattle.cc_entry.specs.declared.call.Call.{Call}
+use Rattle.cc_entry.specs.declared.error.CcError.{CcError}
+use Rattle.cc_entry.specs.declared.error.CcError.TheVariants as error
+use Rattle.cc_entry.specs.declared.entry.Entry.{Entry}
+use Rattle.cc_entry.specs.declared.reply.Outcome.TheVariants as outcome
+use Rattle.cc_effects.specs.Asked.{Calls}
+use Rattle.cc_effects.specs.Calls.{IsUnderWay, IsUnplaced, CallLeft}
+use Rattle.cc_effects.specs.Places.{Works}
+use Rattle.cc_effects.specs.Refusals.{may_want}
+use Rattle.cc_effects.specs.Stops.{tells}
+use Rattle.cc_effects.proofs.Starts.{gives_up}
+use Rattle.cc_effects.proofs.Stretches.{grew-after, some-end}
+use Rattle.cc_effects.proofs.WorkSteps.{works-append, stopped-before}
+use Rattle.cc_model.specs.Faults.{Fault}
+use Rattle.cc_model.specs.History.{history}
+use Rattle.cc_model.specs.Refusals.{refusal}
+use Rattle.cc_model.specs.Setup.{Setup}
+use Rattle.cc_step.specs.Step.{asks_one}
+use Rattle.cc_visits.specs.Ways.{IsAtWork, HasFailed, IsHalted}
+use Rattle.cc_visits.proofs.Refusals.{may-stop, may-want}
+use Rattle.cc_writes.specs.Writes.{WantedMemory, WriteLeft}
+
+-- a call is work, and this work a call
+pub at-work : (me : ℕ) (it : Call) (old new : List Entry) → IsUnderWay me it old new → IsAtWork me (Calls it) old new
+at-work me it old new way = record { during = way.during; grew = way.grew; works = way.works; unsynced = way.unsynced; unstopped = way.unstopped }
+
+pub under-way : (me : ℕ) (it : Call) (old new : List Entry) → IsAtWork me (Calls it) old new → IsUnderWay me it old new
+under-way me it old new work = record { during = work.during; grew = work.grew; works = work.works; unsynced = work.unsynced; unstopped = work.unstopped }
+
+-- a fault that came in a later stretch stopped the call
+abbrev failed-since : (me : ℕ) (it : Call) (fault : Fault) (old mid new : List Entry) → IsUnderWay me it old mid → HasFailed me (Calls it) fault mid new → HasFailed me (Calls it) fault old new
+failed-since me it fault old mid new way failed = record {
+  stop = failed.stop;
+  stopped = record {
+    during = failed.stopped.during ++ way.during;
+    grew = grew-after failed.stopped.during way.during old mid new failed.stopped.grew way.grew;
+    works = works-append me (Calls it) failed.stopped.during way.during old
+        (subst (λ (past : List Entry). Works me (Calls it) failed.stopped.during past) way.grew failed.stopped.works) way.works way.unsynced;
+    stopped = stopped-before me failed.stop failed.stopped.during way.during way.unstopped failed.stopped.stopped;
+  };
+  shown = failed.shown;
+  since = failed.since;
+  earlier = failed.earlier;
+  told = failed.told;
+}
+
+-- it was halted, where nothing refused it as that stretch began
+pub halted-since : (u : Setup) (me s : ℕ) (it : Call) (e : CcError) (fault : Fault) (old mid new : List Entry) → IsUnderWay me it old mid → refusal u mid (history mid s) it ≡ None → tells it e fault ≡ true → HasFailed me (Calls it) fault mid new → IsHalted u me s it e old new
+halted-since u me s it e fault old mid new way admitted is failed = record {
+  fault = fault;
+  is = is;
+  failed = failed-since me it fault old mid new way failed;
+  admitted = record {
+    moment = mid;
+    later = failed.stopped.stopped.before;
+    since = way.during;
+    ends = append_assoc failed.stopped.stopped.before way.during old ∙ ap (λ (past : List Entry). failed.stopped.stopped.before ++ past) (sym way.grew);
+    begins = way.grew;
+    holds = admitted;
+  };
+}
+
+-- a call is given up for want of memory, or of room
+pub no-memory : (me : ℕ) (it : Call) (old new : List Entry) → asks_one it ≡ true → IsUnderWay me it old new → IsUnplaced me it error.NoMemory old new
+no-memory me it old new one way = gives_up me it error.NoMemory old new way (may-stop it 0 one).1 (may-want it new one)
+
+no-room : (me : ℕ) (it : Call) (entries : ℕ) (old new : List Entry) → asks_one it ≡ true → IsUnderWay me it old new → IsUnplaced me it (error.JournalFull entries) old new
+no-room me it entries old new one way = gives_up me it (error.JournalFull entries) old new way (may-stop it entries one).0 (may-want it new one)
+
+-- a transfer found no memory
+wanted-memory : (me : ℕ) (it : Call) (old new : List Entry) → asks_one it ≡ true → WantedMemory me (Calls it) old new → IsUnplaced me it error.NoMemory old new
+wanted-memory me it old new one left = record {
+  during = left.stopped.during;
+  grew = left.stopped.grew;
+  works = left.stopped.works;
+  came = inr (left.stop, left.stopped.stopped, refl);
+  listed = (may-stop it 0 one).1;
+  wants = rw left.stopped.grew (some-end (λ moment. may_want it moment ≡ true) left.stopped.during old (may-want it (left.stopped.during ++ old) one));
+}
+
+-- the page was not written, for want of room or of memory: the call is given up
+pub given-up : (u : Setup) (me : ℕ) (it : Call) (page : Page) (e : CcError) (old new : List Entry) → asks_one it ≡ true → WriteLeft me (Calls it) page (Err e) old new → CallLeft u me it (outcome.Failed e) old new
+given-up u me it page (error.JournalFull entries) old new one left = no-room me it entries old new one (under-way me it old new left)
+given-up u me it page error.NoMemory old new one (inl left) = no-memory me it old new one (under-way me it old new left)
+given-up u me it page error.NoMemory old new one (inr left) = wanted-memory me it old new one left
+given-up u me it page other old new one left = absurd left

@@ -1,0 +1,85 @@
+use Rattle.std.specs.Prelude.{Result, refl}
+use Rattle.std.proofs.Common.{subst, sym}
+use Rattle.cc_entry.specs.declared.call.Call.{Call}
+use Rattle.cc_entry.specs.declared.error.CcError.{CcError}
+use Rattle.cc_entry.specs.declared.error.CcError.TheVariants as error
+use Rattle.cc_model.specs.Faults.{WriteFailed, LogFailed}
+use Rattle.cc_writes.specs.declared.writes.PageWrite.TheVariants as write
+use Rattle.cc_writes.specs.Calls.{PageLeft}
+use Rattle.cc_writes.proofs.Disks.{still_of}
+use Rattle.cc_writes.proofs.Calling.{tells-disk, tells-log, where_ok, shown_ok, written, not_written, not_logged, gave_up, is_halted, fault_left}
+use Rattle.cc_writes.proofs.calls.write_for.Goals as goal
+
+pub returns-in-Ok-Written-clause-left : goal.returns-in-Ok-Written-clause-left
+returns-in-Ok-Written-clause-left g c begun way =
+    let w = g.T.Turns.standing c.args.turns.now in
+    let v = g.T.Turns.standing c.write_page-book.new.turns in
+    (refl, written w v c.args.book.stream c.args.page c.args.call c.requires.admitted c.requires.asked (where_ok w v c.args.book.stream c.args.page c.write_page-book.result.1 c.in-Ok-Written.field-0 write.Written c.in-Ok-Written.is (rw c.in-Ok-Written.is at c.in-Ok-Written.field-0-is) c.write_page-book.ensures.left) begun way)
+
+pub returns-in-Ok-Written-clause-written : goal.returns-in-Ok-Written-clause-written
+returns-in-Ok-Written-clause-written g c =
+    let w = g.T.Turns.standing c.args.turns.now in
+    let v = g.T.Turns.standing c.write_page-book.new.turns in
+    shown_ok w v c.args.book.stream c.args.page c.args.keeps c.write_page-book.result.1 c.in-Ok-Written.field-0 write.Written c.in-Ok-Written.is (rw c.in-Ok-Written.is at c.in-Ok-Written.field-0-is) c.write_page-book.ensures.shown
+
+pub fail-requires-clause-listed : goal.fail-requires-clause-listed
+fail-requires-clause-listed g c κs within = c.requires.faults.disk c.args.page
+
+pub fail-requires-in-Ok-NotLogged-clause-listed : goal.fail-requires-in-Ok-NotLogged-clause-listed
+fail-requires-in-Ok-NotLogged-clause-listed g c κs within = c.requires.faults.log c.from-handle.result
+
+pub fail-requires-clause-halted : goal.fail-requires-clause-halted
+fail-requires-clause-halted g c κs within =
+    let w = g.T.Turns.standing c.args.turns.now in
+    let v = g.T.Turns.standing c.write_page-book.new.turns in
+    is_halted w v c.args.book.stream c.args.page c.args.call c.requires.admitted c.requires.asked w.in_flight c.write_page-book.result.0.stream c.write_page-book.ensures.went
+    c.write_page-book.ensures.both.book.stream (error.WriteFault c.args.page) (WriteFailed c.args.page) (tells-disk c.args.call c.args.page)
+    (not_written w v c.args.book.stream c.args.page c.args.call c.requires.admitted c.requires.asked (where_ok w v c.args.book.stream c.args.page c.write_page-book.result.1 c.in-Ok-NotWritten.field-0 write.NotWritten c.in-Ok-NotWritten.is (rw c.in-Ok-NotWritten.is at c.in-Ok-NotWritten.field-0-is) c.write_page-book.ensures.left))
+
+pub returns-in-Ok-NotWritten-clause-both : goal.returns-in-Ok-NotWritten-clause-both
+returns-in-Ok-NotWritten-clause-both g c =
+    let v = g.T.Turns.standing c.write_page-book.new.turns in
+    let both = c.write_page-book.ensures.both in
+    still_of g.T.Disk.Told.told g.T.Disk.Told.faults v.in_flight v (g.T.Turns.standing c.fail.new.turns) c.args.book.stream c.write_page-book.result.0.stream
+    c.write_page-book.result.0 c.fail.result.0 c.write_page-book.new.disk both.book.stream both c.fail.ensures.book c.fail.ensures.rest c.fail.ensures.went c.fail.ensures.disk
+
+pub returns-in-Ok-NotWritten-clause-left : goal.returns-in-Ok-NotWritten-clause-left
+returns-in-Ok-NotWritten-clause-left g c =
+    let w = g.T.Turns.standing c.args.turns.now in
+    let v = g.T.Turns.standing c.write_page-book.new.turns in
+    fault_left w v c.args.book.stream c.args.page c.args.call c.requires.admitted c.requires.asked w.in_flight c.write_page-book.result.0.stream c.write_page-book.ensures.went
+    c.write_page-book.ensures.both.book.stream (error.WriteFault c.args.page) (WriteFailed c.args.page) (tells-disk c.args.call c.args.page)
+    (not_written w v c.args.book.stream c.args.page c.args.call c.requires.admitted c.requires.asked (where_ok w v c.args.book.stream c.args.page c.write_page-book.result.1 c.in-Ok-NotWritten.field-0 write.NotWritten c.in-Ok-NotWritten.is (rw c.in-Ok-NotWritten.is at c.in-Ok-NotWritten.field-0-is) c.write_page-book.ensures.left))
+    c.fail.result.1 (g.T.Turns.standing c.fail.new.turns).seen c.fail.ensures.left
+
+pub fail-requires-in-Ok-NotLogged-clause-halted : goal.fail-requires-in-Ok-NotLogged-clause-halted
+fail-requires-in-Ok-NotLogged-clause-halted g c κs within =
+    let w = g.T.Turns.standing c.args.turns.now in
+    let v = g.T.Turns.standing c.write_page-book.new.turns in
+    is_halted w v c.args.book.stream c.args.page c.args.call c.requires.admitted c.requires.asked w.in_flight c.write_page-book.result.0.stream c.write_page-book.ensures.went
+    c.write_page-book.ensures.both.book.stream (error.LogFault c.from-handle.result) (LogFailed c.in-Ok-NotLogged.handle) (tells-log c.args.call c.from-handle.result c.in-Ok-NotLogged.handle c.from-handle.ensures)
+    (not_logged w v c.args.book.stream c.args.page c.args.call c.requires.admitted c.requires.asked c.in-Ok-NotLogged.handle (where_ok w v c.args.book.stream c.args.page c.write_page-book.result.1 c.in-Ok-NotLogged.field-0 (write.NotLogged c.in-Ok-NotLogged.handle) c.in-Ok-NotLogged.is (rw c.in-Ok-NotLogged.is at c.in-Ok-NotLogged.field-0-is) c.write_page-book.ensures.left))
+
+pub returns-in-Ok-NotLogged-clause-both : goal.returns-in-Ok-NotLogged-clause-both
+returns-in-Ok-NotLogged-clause-both g c =
+    let v = g.T.Turns.standing c.write_page-book.new.turns in
+    let both = c.write_page-book.ensures.both in
+    still_of g.T.Disk.Told.told g.T.Disk.Told.faults v.in_flight v (g.T.Turns.standing c.fail-in-Ok-NotLogged.new.turns) c.args.book.stream c.write_page-book.result.0.stream
+    c.write_page-book.result.0 c.fail-in-Ok-NotLogged.result.0 c.write_page-book.new.disk both.book.stream both
+    c.fail-in-Ok-NotLogged.ensures.book c.fail-in-Ok-NotLogged.ensures.rest c.fail-in-Ok-NotLogged.ensures.went c.fail-in-Ok-NotLogged.ensures.disk
+
+pub returns-in-Ok-NotLogged-clause-left : goal.returns-in-Ok-NotLogged-clause-left
+returns-in-Ok-NotLogged-clause-left g c =
+    let w = g.T.Turns.standing c.args.turns.now in
+    let v = g.T.Turns.standing c.write_page-book.new.turns in
+    fault_left w v c.args.book.stream c.args.page c.args.call c.requires.admitted c.requires.asked w.in_flight c.write_page-book.result.0.stream c.write_page-book.ensures.went
+    c.write_page-book.ensures.both.book.stream (error.LogFault c.from-handle.result) (LogFailed c.in-Ok-NotLogged.handle) (tells-log c.args.call c.from-handle.result c.in-Ok-NotLogged.handle c.from-handle.ensures)
+    (not_logged w v c.args.book.stream c.args.page c.args.call c.requires.admitted c.requires.asked c.in-Ok-NotLogged.handle (where_ok w v c.args.book.stream c.args.page c.write_page-book.result.1 c.in-Ok-NotLogged.field-0 (write.NotLogged c.in-Ok-NotLogged.handle) c.in-Ok-NotLogged.is (rw c.in-Ok-NotLogged.is at c.in-Ok-NotLogged.field-0-is) c.write_page-book.ensures.left))
+    c.fail-in-Ok-NotLogged.result.1 (g.T.Turns.standing c.fail-in-Ok-NotLogged.new.turns).seen c.fail-in-Ok-NotLogged.ensures.left
+
+pub returns-in-Err-clause-left : goal.returns-in-Err-clause-left
+returns-in-Err-clause-left g c begun way =
+    let w = g.T.Turns.standing c.args.turns.now in
+    let v = g.T.Turns.standing c.write_page-book.new.turns in
+    subst (λ (r : Result Call CcError). PageLeft w.setup w.number c.args.call r begun v.seen) (sym c.given_up.ensures)
+    (gave_up w v c.args.book.stream c.args.page c.args.call c.requires.admitted c.requires.asked c.in-Err.error c.requires.one (rw c.in-Err.is at c.write_page-book.ensures.left) begun way)
