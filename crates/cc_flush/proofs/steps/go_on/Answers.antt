@@ -1,0 +1,34 @@
+use Rattle.std.specs.Prelude.{ℕ}
+use Rattle.std.proofs.Common.{sym, ◌∙◌, subst}
+use Rattle.cc_model.specs.History.{history}
+use Rattle.cc_flush.specs.Dirty.{IsNext, IsCleanFrom}
+use Rattle.cc_flush.proofs.Stepping.{may-fail, refused-here, to-write, to-sync}
+use Rattle.cc_flush.proofs.steps.go_on.Goals as goal
+
+pub fail-requires-clause-may : goal.fail-requires-clause-may
+fail-requires-clause-may g c =
+    let u = c.requires.may.0 in
+    let may = c.requires.may.1 in
+    may-fail u c.args.pass c.args.file c.args.span.now c.args.book.now c.args.journal.now may c.requires.reserved c.in-Ok-Some.error
+    (sym (c.in-Ok-Some.ensures u (u.opening c.args.book.now.stream) may.stand.logs_are may.stand.stands) ∙ c.in-Ok-Some.field-0-is)
+
+pub returns-in-Ok-Some-clause-left : goal.returns-in-Ok-Some-clause-left
+returns-in-Ok-Some-clause-left g c u may =
+    refused-here u c.args.pass c.args.file c.args.span.now c.args.book.now c.args.journal.now may c.requires.reserved c.in-Ok-Some.error c.fail.new.self c.fail.new.journal
+    (sym (c.in-Ok-Some.ensures u (u.opening c.args.book.now.stream) may.stand.logs_are may.stand.stands) ∙ c.in-Ok-Some.field-0-is)
+    c.fail.ensures.placed c.fail.ensures.stands c.fail.ensures.same
+
+pub returns-in-Some-clause-left : goal.returns-in-Some-clause-left
+returns-in-Some-clause-left g c u may =
+    to-write u c.args.pass c.args.file c.args.span.now c.args.book.now c.args.journal.now may c.requires.reserved
+    (sym (c.in-Ok-None.ensures u (u.opening c.args.book.now.stream) may.stand.logs_are may.stand.stands) ∙ c.in-Ok-None.field-0-is)
+    c.args.from c.in-Some.page c.release.new.self
+    (subst (λ (s : ℕ). IsNext (history c.args.journal.now.entries s) c.args.span.now c.args.from c.in-Some.page) c.stream.ensures c.in-Some.ensures.next)
+    c.release.ensures
+
+pub returns-in-Ok-None-clause-left : goal.returns-in-Ok-None-clause-left
+returns-in-Ok-None-clause-left g c u may =
+    to-sync u c.args.pass c.args.file c.args.span.now c.args.book.now c.args.journal.now may c.requires.reserved
+    (sym (c.in-Ok-None.ensures u (u.opening c.args.book.now.stream) may.stand.logs_are may.stand.stands) ∙ c.in-Ok-None.field-0-is)
+    c.args.from
+    (subst (λ (s : ℕ). IsCleanFrom (history c.args.journal.now.entries s) c.args.span.now c.args.from) c.stream.ensures c.in-None.ensures.next)

@@ -1,0 +1,6 @@
+-- What the contracts cite.
+pub mod Settled
+pub mod Crash
+pub mod Dirty
+pub mod Steps
+pub mod Flush

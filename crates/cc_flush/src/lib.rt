@@ -1,0 +1,23 @@
+//! Flushing a span of a stream: its dirty pages are written, ascending, and then its disk is synced.
+//!
+//! What the layer keeps true: a flush writes each page of its span that is dirty as it comes to it, with the book free
+//! for as long as the disk takes, and goes on with the next page up. So at its sync each change of the span that was
+//! there as it began is written or cut, whatever others change meanwhile. It is refused as its entry's front says, also
+//! at its end, and tells its own fault alone.
+//!
+//! `dirty` has the next dirty page of a span, `steps` what a flush does on a book and a journal, `visits` the same with
+//! the journal's turn taken, `flush` the whole of it, with the disk and the book in hand. The calls stand above. Below
+//! are the visits of a pass to the journal (`cc_visits`), the writing of a page (`cc_writes`) and the sync of a disk
+//! (`cc_transfer`).
+//!
+//! `Settled` of `specs/` says which touches of the pages of a span a flush has settled: a page is settled once each of
+//! its touches that is neither written nor cut came after the flush began. `Crash` says what a crash may leave of a
+//! page after a good sync: its image at the sync, or the page as it was when a later transfer of it began.
+#![tactic(auto)]
+
+mod dirty;
+mod flush;
+mod steps;
+mod visits;
+
+pub use flush::flush_held;
