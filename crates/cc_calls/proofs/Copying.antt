@@ -11,6 +11,7 @@ use Rattle.cc_entry.specs.declared.error.CcError.{CcError}
 use Rattle.cc_entry.specs.declared.error.CcError.TheVariants as error
 use Rattle.cc_entry.specs.declared.reply.Outcome.{Outcome}
 use Rattle.cc_entry.specs.declared.reply.Outcome.TheVariants as outcome
+use Rattle.cc_entry.specs.declared.reply.Reply.TheVariants as reply
 use Rattle.cc_effects.specs.Calls.{CallLeft, IsUnderWay}
 use Rattle.cc_effects.specs.Refusals.{may_refuse, may_want}
 use Rattle.cc_effects.proofs.FrontLaws.{placed-of}
@@ -22,16 +23,18 @@ use Rattle.cc_visits.specs.Hands.{IsSettled, Went}
 use Rattle.cc_visits.specs.Visits.{IsOf, IsWaitedFor, TriedLeft}
 use Rattle.cc_visits.specs.declared.visits.Tried.{Tried}
 use Rattle.cc_visits.specs.declared.visits.Tried.TheVariants as tried
-use Rattle.cc_visits.specs.Ways.{EndedSo, IsFull}
+use Rattle.cc_visits.specs.declared.tell.Returned.{Returned}
+use Rattle.cc_visits.specs.declared.tell.Returned.TheVariants as returned
+use Rattle.cc_visits.specs.Ways.{EndedSo, IsFull, IsTold}
 use Rattle.cc_fetch.specs.Fetch.{CanCall, WentOn}
 use Rattle.cc_calls.specs.Copied.{Copied, is_copying}
 use Rattle.cc_calls.specs.Pages.{ChangeEnds, IsFullOf, ReadEnds}
-use Rattle.cc_calls.proofs.Replies.{answers_nothing, read-reply, told-nothing}
+use Rattle.cc_calls.proofs.Replies.{IsRead, answers_nothing, read-reply, told-nothing}
 use Rattle.cc_calls.proofs.Waiting.{IsMissed, brings, missed-page}
 
 -- where there is no room for one entry more, there is none for two
-fuller : (w : Standing) (answer : Result ℕ CcError) → IsFull 1 w answer → IsFullOf w answer
-fuller w (Ok n) full = tt
+fuller : (w : Standing) (answer : Result Returned CcError) → IsFull 1 w answer → IsFullOf w answer
+fuller w (Ok told) full = tt
 fuller w (Err (error.JournalFull entries)) full = (full.0, omega (arith, full.1))
 fuller w (Err other) full = tt
 
@@ -42,7 +45,7 @@ went-on : (w v : Standing) → Went w v → WentOn w v
 went-on w v went = record { same = went.same ∙ ap (λ (n : ℕ). record w { seen = v.seen; others = v.others; device_turns = n }) (sym (same-turns w v went)) }
 
 -- it ended in that one turn
-pub in-turn : (w v : Standing) (it : Call) (answer : Result ℕ CcError) (was now : List ℕ) → Went w v → IsSettled v → IsGood w.setup v.seen → IsFull 1 v answer → EndedSo w.setup w.number it answer w.seen v.seen was now → Copied w v it answer was now
+pub in-turn : (w v : Standing) (it : Call) (answer : Result Returned CcError) (was now : List ℕ) → Went w v → IsSettled v → IsGood w.setup v.seen → IsFull 1 v answer → EndedSo w.setup w.number it answer w.seen v.seen was now → Copied w v it answer was now
 in-turn w v it answer was now went settled good full left = record {
   left = left;
   full = fuller v answer full;
@@ -62,8 +65,8 @@ call-grew u me it answered old new left =
     let own : List Entry = entry.Call me p.1.nth p.1.stream it answered ∷ p.0 in
     (p.1.later ++ own, p.1.grew ∙ sym (append_assoc p.1.later own old))
 
-ended-grew : (u : Setup) (me : ℕ) (it : Call) (answer : Result ℕ CcError) (old new : List Entry) (was now : List ℕ) → EndedSo u me it answer old new was now → (later : List Entry) × (new ≡ later ++ old)
-ended-grew u me it (Ok n) old new was now ended = call-grew u me it (outcome.Done ended.0) old new ended.1
+ended-grew : (u : Setup) (me : ℕ) (it : Call) (answer : Result Returned CcError) (old new : List Entry) (was now : List ℕ) → EndedSo u me it answer old new was now → (later : List Entry) × (new ≡ later ++ old)
+ended-grew u me it (Ok told) old new was now ended = call-grew u me it (outcome.Done ended.0) old new ended.1
 ended-grew u me it (Err e) old new was now ended = call-grew u me it (outcome.Failed e) old new ended.0
 
 -- It waited after that turn, and ended with the turn of the disk.
@@ -78,7 +81,7 @@ has-waited w v s page it again was now ended is left =
     let k = rw is at (left w.seen (begins w.number it w.seen)) in
     record { call_is = k.0; way = k.1; waits = k.2; same = k.3 }
 
-pub with-disk : (w v x : Standing) (s page : ℕ) (it again : Call) (answer : Result ℕ CcError) (was between now : List ℕ) → is_copying it ≡ true → IsOf it s → Went w v → HasWaited w v s page it again was between → WentOn v x → IsSettled x → IsGood x.setup x.seen → IsFull 2 x answer → ((begun : List Entry) → IsUnderWay v.number again begun v.seen → EndedSo v.setup v.number again answer begun x.seen between now) → Copied w x it answer was now
+pub with-disk : (w v x : Standing) (s page : ℕ) (it again : Call) (answer : Result Returned CcError) (was between now : List ℕ) → is_copying it ≡ true → IsOf it s → Went w v → HasWaited w v s page it again was between → WentOn v x → IsSettled x → IsGood x.setup x.seen → IsFull 2 x answer → ((begun : List Entry) → IsUnderWay v.number again begun v.seen → EndedSo v.setup v.number again answer begun x.seen between now) → Copied w x it answer was now
 with-disk w v x s page it again answer was between now copies filed went has on settled good full left = record {
   left = rw (setup, number, has.call_is, has.same) at (left w.seen way);
   full = full;
@@ -112,32 +115,50 @@ with-disk w v x s page it again answer was between now copies filed went has on 
     missed : IsMissed it s page v.seen
     missed = missed-page w.setup it s page v.seen copies filed has.waits
 
--- a read is told its bytes in the front of what its caller handed in
-pub read-ends : (w v : Standing) (file : File) (at : ℕ) (wait : Bool) (answer : Result ℕ CcError) (was now : List ℕ) → Copied w v (call.CopyRead file at (length was) wait) answer was now → ReadEnds w v file at wait answer was now
-read-ends w v file at wait (Ok n) was now c =
-    let read = read-reply w.setup w.number file at (length was) wait c.left.0 w.seen v.seen c.good c.left.1 in
-    let told = rw read.is at c.left.2 in
-    record {
-      pages = record {
-        left = rw told.1 (rw read.is at c.left.1);
-        goes_on = c.goes_on;
-        settled = c.settled;
-        missed = c.missed;
-      };
-      full = tt;
-      rest = (omega (arith, told.0, read.within), told.2);
-      no_wait = c.no_wait;
-    }
-read-ends w v file at wait (Err e) was now c = record {
-  pages = record { left = c.left.0; goes_on = c.goes_on; settled = c.settled; missed = c.missed };
-  full = c.full;
-  rest = c.left.1;
-  no_wait = c.no_wait;
-}
+module _ (w v : Standing) (file : File) (at : ℕ) (wait : Bool) (was now : List ℕ) where
+  -- a read is told its bytes
+  told-bytes : (told : Returned) (c : Copied w v (call.CopyRead file at (length was) wait) (Ok told) was now) → (read : IsRead c.left.0 (length was)) × IsTold (reply.Read read.bytes) told was now
+  told-bytes told c =
+      let read = read-reply w.setup w.number file at (length was) wait c.left.0 w.seen v.seen c.good c.left.1 in
+      (read, rw read.is at c.left.2)
+
+  -- in the front of what its caller handed in
+  pub read-done : (n : ℕ) → Copied w v (call.CopyRead file at (length was) wait) (Ok (returned.Bytes n)) was now → ReadEnds w v file at wait (Ok n) was now
+  read-done n c =
+      let read = told-bytes (returned.Bytes n) c in
+      let is : n ≡ length read.0.bytes = inner (length read.0.bytes) read.1.0 in
+      record {
+        pages = record {
+          left = rw (is, read.1.1) (rw read.0.is at c.left.1);
+          goes_on = c.goes_on;
+          settled = c.settled;
+          missed = c.missed;
+        };
+        full = tt;
+        rest = (omega (arith, is, read.0.within), rw is read.1.2);
+        no_wait = c.no_wait;
+      }
+    where
+      inner : (m : ℕ) → returned.Bytes n ≡ returned.Bytes m → n ≡ m
+      inner m same = cc
+
+  -- and nothing else
+  pub read-told : (told : Returned) → ((n : ℕ) → told ≡ returned.Bytes n → ⊥) → Copied w v (call.CopyRead file at (length was) wait) (Ok told) was now → ⊥
+  read-told told other c =
+      let read = told-bytes told c in
+      other (length read.0.bytes) read.1.0
+
+  pub read-failed : (e : CcError) → Copied w v (call.CopyRead file at (length was) wait) (Err e) was now → ReadEnds w v file at wait (Err e) was now
+  read-failed e c = record {
+    pages = record { left = c.left.0; goes_on = c.goes_on; settled = c.settled; missed = c.missed };
+    full = c.full;
+    rest = c.left.1;
+    no_wait = c.no_wait;
+  }
 
 -- a change that is done answers no value
-pub change-done : (w v : Standing) (it : Call) (n : ℕ) (was now : List ℕ) → answers_nothing it ≡ true → Copied w v it (Ok n) was now → ChangeEnds w v it (Ok tt)
-change-done w v it n was now none c = record {
+pub change-done : (w v : Standing) (it : Call) (told : Returned) (was now : List ℕ) → answers_nothing it ≡ true → Copied w v it (Ok told) was now → ChangeEnds w v it (Ok tt)
+change-done w v it told was now none c = record {
   pages = record {
     left = told-nothing w.setup w.number it c.left.0 w.seen v.seen none c.good c.left.1;
     goes_on = c.goes_on;

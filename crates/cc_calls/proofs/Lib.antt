@@ -4,4 +4,8 @@ pub mod Replies
 pub mod Waiting
 pub mod Copying
 pub mod SettingCalls
+pub mod States
 pub mod LogCalls
+pub mod Streamless
+pub mod Dirty
+pub mod FlushCalls

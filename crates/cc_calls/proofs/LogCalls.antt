@@ -28,7 +28,8 @@ use Rattle.cc_writes.specs.Logs.{LogLeft}
 use Rattle.cc_writes.specs.declared.log.LogFlush.{LogFlush}
 use Rattle.cc_writes.specs.declared.log.LogFlush.TheVariants as flush
 use Rattle.cc_writes.proofs.Visits.{went-then}
-use Rattle.cc_calls.specs.Logs.{CanLog, IsNotFull, LogEnds, NoPlace, PlaceLeft}
+use Rattle.cc_calls.specs.Answers.{IsFree}
+use Rattle.cc_calls.specs.Logs.{IsNotFull, LogEnds, NoPlace, PlaceLeft}
 
 -- a journal in which a place was asked for has the entries that it had
 pub reserved-entries : {Q : Type 0} (result : Result (Unit {0}) CcError) (j k : JournalState Q) → OnOk result (k ≡ record j { reserved = j.reserved + 1 }) → OnErr result (k ≡ j) → k.entries ≡ j.entries
@@ -188,7 +189,7 @@ flush-not-full w handle lsn (Ok (flush.Failed failed)) seen left = tt
 flush-not-full w handle lsn (Err e) seen left = rw left.1 tt
 
 -- A call that got no place ends with its refusal.
-module _ (w v : Standing) (handle : ℕ) (e : CcError) (can : CanLog w) (grows : Grows w v.seen) (left : PlaceLeft handle (Err e) w v)
+module _ (w v : Standing) (handle : ℕ) (e : CcError) (can : IsFree w) (grows : Grows w v.seen) (left : PlaceLeft handle (Err e) w v)
     (full : IsFull {A = Unit {0}} 1 v (Err e)) where
   settled-still : IsSettled v
   settled-still = rw (ap (λ x. x.number) left.1.same) (settled-idle w.number w.seen v.seen (idle-grows w v.seen grows) can.settled)
@@ -212,7 +213,7 @@ module _ (w v : Standing) (handle : ℕ) (e : CcError) (can : CanLog w) (grows :
   })
 
 -- One that got its place ends as it went on from there.
-module _ (w v x : Standing) (handle : ℕ) (can : CanLog w) (grows : Grows w v.seen) (place : PlaceLeft handle (Ok tt) w v)
+module _ (w v x : Standing) (handle : ℕ) (can : IsFree w) (grows : Grows w v.seen) (place : PlaceLeft handle (Ok tt) w v)
     (went : WentWith 0 v x) where
   number : v.number ≡ w.number
   number = ap (λ y. y.number) place.1.same

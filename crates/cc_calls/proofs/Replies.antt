@@ -1,4 +1,4 @@
--- What a call was told that is done, in a good journal: nothing, or the bytes of its read.
+-- What a call was told that is done, in a good journal: nothing, the state of its stream, or the bytes of its read.
 use Rattle.std.specs.Prelude.{◌≡◌, ℕ, ◌≤◌, Bool, true, List, [], length, Option, None, Some, refl}
 use Rattle.std.proofs.Common.{subst, arith}
 use Rattle.std.proofs.lemmas.List.FromFn.{length-map-range_with_len}
@@ -6,6 +6,7 @@ use Rattle.cc_entry.specs.Place.{File}
 use Rattle.cc_entry.specs.declared.call.Call.{Call}
 use Rattle.cc_entry.specs.declared.call.Call.TheVariants as call
 use Rattle.cc_entry.specs.declared.entry.Entry.{Entry}
+use Rattle.cc_entry.specs.declared.place.FileState.{FileState}
 use Rattle.cc_entry.specs.declared.reply.Outcome.TheVariants as outcome
 use Rattle.cc_entry.specs.declared.reply.Reply.{Reply}
 use Rattle.cc_entry.specs.declared.reply.Reply.TheVariants as reply
@@ -15,7 +16,7 @@ use Rattle.cc_model.specs.Bytes.{answer, answer_length, byte_of}
 use Rattle.cc_model.specs.Good.{IsGood}
 use Rattle.cc_model.specs.History.{Effect}
 use Rattle.cc_model.specs.Legal.{stream_history, stream_opening}
-use Rattle.cc_model.specs.Replies.{IsReply, Reads}
+use Rattle.cc_model.specs.Replies.{IsReply, Reads, state_of}
 use Rattle.cc_model.specs.Setup.{Setup}
 use Rattle.cc_calls.specs.Answers.{is_setting}
 
@@ -41,6 +42,12 @@ pub told-nothing : (u : Setup) (me : ℕ) (it : Call) (r : Reply) (old new : Lis
 told-nothing u me it r old new none good left =
     let d = outcome-defined u me it (outcome.Done r) old new [] good left refl in
     subst (λ (x : Reply). CallLeft u me it (outcome.Done x) old new) (unit u _ (stream_opening u d.1) (stream_history _ d.1) me it r none d.5.1) left
+
+-- the state of a stream, where that was asked
+pub state-reply : (u : Setup) (me : ℕ) (file : File) (r : Reply) (old new : List Entry) → IsGood u new → CallLeft u me (call.State file) (outcome.Done r) old new → (state : FileState) × (r ≡ reply.State state)
+state-reply u me file r old new good left =
+    let d = outcome-defined u me (call.State file) (outcome.Done r) old new [] good left refl in
+    (state_of (stream_history _ d.1), d.5.1)
 
 -- The bytes of a read, no more than it asks.
 pub record IsRead (r : Reply) (len : ℕ) : Type 0 where

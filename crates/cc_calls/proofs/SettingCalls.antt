@@ -1,15 +1,15 @@
 -- What a call leaves that sets something of its stream, by how its turn ended.
-use Rattle.std.specs.Prelude.{◌≡◌, ℕ, true, List, Ok, Err}
+use Rattle.std.specs.Prelude.{◌≡◌, ℕ, true, List, Ok}
 use Rattle.cc_entry.specs.declared.call.Call.{Call}
 use Rattle.cc_entry.specs.declared.call.Call.TheVariants as call
 use Rattle.cc_entry.specs.declared.entry.Entry.{Entry}
-use Rattle.cc_entry.specs.declared.error.CcError.{CcError}
 use Rattle.cc_model.specs.Good.{IsGood}
 use Rattle.cc_model.specs.Setup.{Setup}
 use Rattle.cc_turns.specs.Standing.{Standing}
 use Rattle.cc_visits.specs.Hands.{IsSettled, Went}
 use Rattle.cc_visits.specs.Visits.{IsWaitedFor}
-use Rattle.cc_visits.specs.Ways.{EndedSo, IsFull}
+use Rattle.cc_visits.specs.Ways.{EndedSo}
+use Rattle.cc_visits.specs.declared.tell.Returned.{Returned}
 use Rattle.cc_calls.specs.Answers.{CallSets, is_setting}
 use Rattle.cc_calls.proofs.Replies.{answers_nothing, told-nothing}
 
@@ -28,14 +28,10 @@ never-waits u s page (call.SetAttributes file no_read_ahead no_write_behind) pas
 never-waits u s page (call.SetThreshold file pages) past sets waits = absurd (cc waits.least)
 never-waits u s page other past sets waits = absurd (cc)
 
-module _ (w v : Standing) (it : Call) (sets : is_setting it ≡ true) (went : Went w v) (settled : IsSettled v) where
-  pub set-done : (n : ℕ) (was now : List ℕ) → IsGood w.setup v.seen → EndedSo w.setup w.number it (Ok n) w.seen v.seen was now → CallSets w v it (Ok tt)
-  set-done n was now good ended = record {
-    left = told-nothing w.setup w.number it ended.0 w.seen v.seen (nothing-answered it sets) good ended.1;
-    full = tt;
-    goes_on = went;
-    settled = settled;
-  }
-
-  pub set-failed : (e : CcError) (was now : List ℕ) → IsFull {A = ℕ} 1 v (Err e) → EndedSo w.setup w.number it (Err e) w.seen v.seen was now → CallSets w v it (Err e)
-  set-failed e was now full ended = record { left = ended.0; full = full; goes_on = went; settled = settled }
+pub set-done : (w v : Standing) (it : Call) (told : Returned) (was now : List ℕ) → is_setting it ≡ true → Went w v → IsSettled v → IsGood w.setup v.seen → EndedSo w.setup w.number it (Ok told) w.seen v.seen was now → CallSets w v it (Ok tt)
+set-done w v it told was now sets went settled good ended = record {
+  left = told-nothing w.setup w.number it ended.0 w.seen v.seen (nothing-answered it sets) good ended.1;
+  full = tt;
+  goes_on = went;
+  settled = settled;
+}

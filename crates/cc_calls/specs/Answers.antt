@@ -1,27 +1,36 @@
--- What a call that is answered without a value leaves.
-use Rattle.std.specs.Prelude.{Bool, true, false, Result, Ok, Err}
+-- What a call leaves that has its answer in its entry, and takes no turn of a disk.
+use Rattle.std.specs.Prelude.{◌≡◌, Bool, true, false, Result, Ok, Err}
 use Rattle.cc_entry.specs.declared.call.Call.{Call}
 use Rattle.cc_entry.specs.declared.call.Call.TheVariants as call
 use Rattle.cc_entry.specs.declared.error.CcError.{CcError}
+use Rattle.cc_entry.specs.declared.place.FileState.{FileState}
 use Rattle.cc_entry.specs.declared.reply.Outcome.{Outcome}
 use Rattle.cc_entry.specs.declared.reply.Outcome.TheVariants as outcome
 use Rattle.cc_entry.specs.declared.reply.Reply.TheVariants as reply
 use Rattle.cc_effects.specs.Calls.{CallLeft}
-use Rattle.cc_turns.specs.Standing.{Standing}
+use Rattle.cc_turns.specs.Standing.{Standing, nothing}
 use Rattle.cc_visits.specs.Hands.{IsSettled, Went}
-use Rattle.cc_visits.specs.Ways as ways
+use Rattle.cc_visits.specs.Ways.{IsFull}
 -- A pass may call on a stream.
 pub use Rattle.cc_fetch.specs.Fetch.{CanCall}
+-- how the entry of a call says that it ended, whose caller was answered no value, or failed
+pub use Rattle.cc_flush.specs.Flush.{outcome_of}
 
--- how the entry of a call says that it ended, whose caller was answered so
-abbrev pub outcome_of : Result (Unit {0}) CcError → Outcome
-outcome_of (Ok done) = outcome.Done reply.Unit
-outcome_of (Err e) = outcome.Failed e
+-- A pass may make a call that is on no stream: it holds no turn, has nothing under way, and owes no end of a noncached
+-- write.
+pub record IsFree (w : Standing) : Type 0 where
+  pub free : w.held ≡ nothing
+  pub none : w.in_flight ≡ 0
+  pub settled : IsSettled w
 
--- Where a call finds the journal full, it has so many entries, and no room for one more beside what is owed and
--- under way.
-abbrev pub IsFull : Standing → Result (Unit {0}) CcError → Type 0
-IsFull w answer = ways.IsFull 1 w answer
+-- the same where the caller was answered the sizes and the log of a stream, or a flag
+abbrev pub state_outcome : Result FileState CcError → Outcome
+state_outcome (Ok state) = outcome.Done (reply.State state)
+state_outcome (Err e) = outcome.Failed e
+
+abbrev pub flag_outcome : Result Bool CcError → Outcome
+flag_outcome (Ok flag) = outcome.Done (reply.Flag flag)
+flag_outcome (Err e) = outcome.Failed e
 
 -- Whether a call needs no page, and is answered without a value: it sets something of its stream.
 abbrev pub is_setting : Call → Bool
@@ -33,10 +42,15 @@ is_setting (call.SetAttributes file no_read_ahead no_write_behind) = true
 is_setting (call.SetThreshold file pages) = true
 is_setting other = false
 
--- A call that sets something was answered so: it left what explains the answer, a journal that is full is full, and the
--- pass goes on as it stood, and may call again.
-pub record CallSets (old new : Standing) (it : Call) (answer : Result (Unit {0}) CcError) : Type 0 where
-  pub left : CallLeft old.setup old.number it (outcome_of answer) old.seen new.seen
-  pub full : IsFull new answer
+-- A call ended so: it left what explains its outcome, a journal that is full is full, and the pass goes on as it stood,
+-- and may call again.
+pub record CallEnds {A : Type 0} (ended : Result A CcError → Outcome) (old new : Standing) (it : Call)
+    (answer : Result A CcError) : Type 0 where
+  pub left : CallLeft old.setup old.number it (ended answer) old.seen new.seen
+  pub full : IsFull 1 new answer
   pub goes_on : Went old new
   pub settled : IsSettled new
+
+-- A call that sets something was answered so.
+abbrev pub CallSets : Standing → Standing → Call → Result (Unit {0}) CcError → Type 0
+CallSets old new it answer = CallEnds outcome_of old new it answer

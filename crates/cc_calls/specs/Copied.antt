@@ -9,6 +9,7 @@ use Rattle.cc_model.specs.Good.{IsGood}
 use Rattle.cc_turns.specs.Standing.{Standing}
 use Rattle.cc_visits.specs.Hands.{IsSettled}
 use Rattle.cc_visits.specs.Ways.{EndedSo}
+use Rattle.cc_visits.specs.declared.tell.Returned.{Returned}
 use Rattle.cc_calls.specs.Pages.{IsFullOf, TookDeviceFor}
 
 -- whether a call is one of these
@@ -20,7 +21,7 @@ is_copying other = false
 
 -- Such a call ended so, and its caller was told the bytes of its reply. What the pass has seen is good. The turn of a
 -- disk was taken only for a page that was not resident, and for none where the call brings no page in.
-pub record Copied (old new : Standing) (it : Call) (answer : Result ℕ CcError) (was now : List ℕ) : Type 0 where
+pub record Copied (old new : Standing) (it : Call) (answer : Result Returned CcError) (was now : List ℕ) : Type 0 where
   pub left : EndedSo old.setup old.number it answer old.seen new.seen was now
   pub full : IsFullOf new answer
   pub goes_on : WentOn old new

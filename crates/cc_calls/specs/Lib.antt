@@ -3,3 +3,5 @@ pub mod Answers
 pub mod Pages
 pub mod Copied
 pub mod Logs
+pub mod Streamless
+pub mod Flushes

@@ -3,16 +3,10 @@ use Rattle.std.specs.Prelude.{◌≡◌, ℕ, suc, ◌<◌, ◌≤◌, Result, O
 use Rattle.cc_entry.specs.declared.error.CcError.{CcError}
 use Rattle.cc_entry.specs.declared.error.CcError.TheVariants as error
 use Rattle.cc_effects.specs.Moments.{Between}
-use Rattle.cc_turns.specs.Standing.{Standing, nothing}
+use Rattle.cc_turns.specs.Standing.{Standing}
 use Rattle.cc_visits.specs.Hands.{IsSettled, Went, WentWith}
 use Rattle.cc_visits.specs.Ways.{IsFull}
 use Rattle.cc_writes.specs.Logs.{IsWant}
-
--- A pass may call on a log: it holds no turn, has nothing under way, and owes no end of a noncached write.
-pub record CanLog (w : Standing) : Type 0 where
-  pub free : w.held ≡ nothing
-  pub none : w.in_flight ≡ 0
-  pub settled : IsSettled w
 
 -- A call on a log was answered so: it left what explains the answer, a journal that is full is full, and the pass goes
 -- on as it stood, and may call again.

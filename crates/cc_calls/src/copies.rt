@@ -12,7 +12,7 @@ use crate::turned::turned;
 use cc_entry::{Bytes, Call, CcError, FileId, Span, StreamId};
 use cc_fetch::fetch;
 use cc_turns::Turns;
-use cc_visits::Tried;
+use cc_visits::{Returned, Tried};
 use std::alloc::Global;
 
 /// Copies the bytes of a stream from a place on into the front of `out`, as far as they go below the size, and answers
@@ -38,7 +38,13 @@ pub fn copy_read<T: Turns>(
         len,
         wait,
     };
-    copied(alloc, turns, file.stream(), call, out)
+    match copied(alloc, turns, file.stream(), call, out) {
+        Ok(told) => match told {
+            Returned::Bytes(read) => Ok(read),
+            _ => unreachable!(),
+        },
+        Err(error) => Err(error),
+    }
 }
 
 /// Copies bytes into a stream from a place on (`CcCopyWrite`). At most 1 MiB.
@@ -86,7 +92,7 @@ fn copied<T: Turns>(
     stream: StreamId,
     call: Call,
     out: &mut [u8],
-) -> Result<usize, CcError>
+) -> Result<Returned, CcError>
     requires can { CanCall (T.standing turns.old) stream }
     requires copies { is_copying call ≡ true }
     requires filed { IsOf call stream }

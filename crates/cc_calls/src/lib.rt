@@ -5,18 +5,24 @@
 //! the turns that it held, and has no more entries reserved.
 //!
 //! `turned` takes the turn of a stream's book for a call. `settings` has the calls that need no page and set something
-//! of their stream, `copies` those that copy bytes out of a stream's pages and into them, `logs` the two calls on a log,
-//! an append and a flush. Below are the turns (`cc_turns`), the visits of a pass to the journal (`cc_visits`), the
-//! writing of a page with the flush of its log (`cc_writes`) and the fetch of pages (`cc_fetch`).
+//! of their stream, `queries` those that tell something and change nothing, `copies` those that copy bytes out of a
+//! stream's pages and into them, `flushes` the one that writes the dirty pages of a stream and syncs its disk, `logs`
+//! the two calls on a log, an append and a flush. Below are the turns (`cc_turns`), the visits of a pass to the journal
+//! (`cc_visits`), the writing of a page with the flush of its log (`cc_writes`), the fetch of pages (`cc_fetch`) and
+//! the flush of a span (`cc_flush`).
 #![tactic(auto)]
 
 mod copies;
+mod flushes;
 mod logs;
+mod queries;
 mod settings;
 mod turned;
 
 pub use copies::{copy_read, copy_write, zero_data};
+pub use flushes::flush;
 pub use logs::{log_append, log_flush};
+pub use queries::{file_state, is_dirty_data};
 pub use settings::{
     initialize, set_attributes, set_file_sizes, set_granularity, set_log_handle, set_threshold,
 };

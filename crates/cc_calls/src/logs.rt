@@ -6,7 +6,8 @@ ghost use Rattle.cc_turns.specs.Log.{LogStands};
 ghost use Rattle.cc_turns.specs.Takes.{Grows};
 ghost use Rattle.cc_visits.specs.Hands.{WentWith};
 ghost use Rattle.cc_visits.specs.Ways.{IsFull};
-ghost use Rattle.cc_calls.specs.Logs.{CanLog, IsNotFull, LogEnds, PlaceLeft, RoomLeft};
+ghost use Rattle.cc_calls.specs.Answers.{IsFree};
+ghost use Rattle.cc_calls.specs.Logs.{IsNotFull, LogEnds, PlaceLeft, RoomLeft};
 
 use cc_entry::{Bytes, CcError, Entry, Lsn};
 use cc_log::LogTurn;
@@ -23,7 +24,7 @@ pub fn log_append<T: Turns>(
     handle: u8,
     piece: &[u8],
 ) -> Result<Lsn, CcError>
-    requires can { CanLog (T.standing turns.old) }
+    requires can { IsFree (T.standing turns.old) }
     ensures ends { LogEnds (T.standing turns.old) (T.standing turns.new)
         (AppendLeft (T.standing turns.old).setup (T.standing turns.old).number handle piece.now) result }
 {
@@ -36,7 +37,7 @@ pub fn log_append<T: Turns>(
 ///
 /// `JournalFull`, `NoLog`, `LogFault`, `NoMemory`.
 pub fn log_flush<T: Turns>(turns: &mut T, handle: u8, lsn: Lsn) -> Result<(), CcError>
-    requires can { CanLog (T.standing turns.old) }
+    requires can { IsFree (T.standing turns.old) }
     ensures ends { LogEnds (T.standing turns.old) (T.standing turns.new)
         (LogFlushLeft (T.standing turns.old).setup (T.standing turns.old).number handle lsn) result }
 {

@@ -5,7 +5,7 @@ ghost use Rattle.cc_entry.specs.declared.entry.Entry.{Entry};
 ghost use Rattle.cc_effects.specs.Calls.{IsUnderWay};
 ghost use Rattle.cc_fetch.specs.Fetch.{CanCall};
 ghost use Rattle.cc_model.specs.Good.{IsGood};
-ghost use Rattle.cc_step.specs.Step.{asks_one};
+ghost use Rattle.cc_step.specs.Step.{asks_one, is_stepped};
 ghost use Rattle.cc_visits.specs.Hands.{IsSettled, Went};
 ghost use Rattle.cc_visits.specs.Ways.{FitsIn};
 ghost use Rattle.cc_visits.specs.Visits.{IsOf, IsFullTried, TriedLeft};
@@ -24,6 +24,7 @@ pub(crate) fn turned<T: Turns>(
     out: &mut [u8],
 ) -> Tried
     requires can { CanCall (T.standing turns.old) stream }
+    requires stepped { is_stepped call ≡ true }
     requires one { asks_one call ≡ true }
     requires filed { IsOf call stream }
     requires fits { FitsIn call out.old }

@@ -1,0 +1,234 @@
+-- A call on no stream: its entry may stand, needs no turn but the journal's, changes no history and reserves nothing; and
+-- what a visit to the journal that placed it leaves.
+use Rattle.std.specs.Prelude.{◌≡◌, ℕ, suc, ◌+◌, ◌-◌, Bool, true, false, List, [], ◌∷◌, length, Result, Ok, Err, None, refl}
+use Rattle.std.specs.Bool.{OnTrue}
+use Rattle.std.proofs.Common.{ap, sym, ◌∙◌, subst, inl, inr}
+use Rattle.std.proofs.lemmas.Bool.{eq-eqb}
+use Rattle.cc_entry.specs.declared.call.Call.{Call}
+use Rattle.cc_entry.specs.declared.call.Call.TheVariants as call
+use Rattle.cc_entry.specs.declared.entry.Entry.{Entry}
+use Rattle.cc_entry.specs.declared.entry.Entry.TheVariants as entry
+use Rattle.cc_entry.specs.declared.error.CcError.{CcError}
+use Rattle.cc_entry.specs.declared.error.CcError.TheVariants as error
+use Rattle.cc_entry.specs.declared.reply.Outcome.{Outcome}
+use Rattle.cc_entry.specs.declared.reply.Outcome.TheVariants as outcome
+use Rattle.cc_entry.specs.declared.reply.Reply.{Reply}
+use Rattle.cc_effects.specs.Calls.{CallLeft, HasDone, IsUnderWay}
+use Rattle.cc_effects.specs.Refusals.{may_refuse, may_want}
+use Rattle.cc_effects.proofs.Starts.{begins, ends_done, gives_up}
+use Rattle.cc_journal.specs.Journal.{JournalState, MayBePushed}
+use Rattle.cc_journal.proofs.GoodEntries.{MayBePushed-good}
+use Rattle.cc_laws.proofs.HistorySteps.{history-no_effect}
+use Rattle.cc_laws.proofs.PassSteps.{up_to_call-call}
+use Rattle.cc_laws.proofs.TurnSteps.{is_quiet-none, is_quiet-unneeded}
+use Rattle.cc_model.specs.Acts.{file_of}
+use Rattle.cc_model.specs.Allowed.{IsAllowed, IsAllowedSoFar, IsOwed, MayEnd, is_fault, owed_begin}
+use Rattle.cc_model.specs.Cache.{all_streams}
+use Rattle.cc_model.specs.Conditions.{IsFilled}
+use Rattle.cc_model.specs.Covered.{IsCovered, IsCoveredEntry}
+use Rattle.cc_model.specs.Filing.{IsFiled}
+use Rattle.cc_model.specs.Good.{IsGood}
+use Rattle.cc_model.specs.History.{history}
+use Rattle.cc_model.specs.Holds.{Hold, holds_of}
+use Rattle.cc_model.specs.Legal.{IsLegal, IsLegalEntry, IsOutcome}
+use Rattle.cc_model.specs.Passes.{calls_of, is_store}
+use Rattle.cc_model.specs.Ranges.{needs_pages, range_of}
+use Rattle.cc_model.specs.Room.{owed_by_stream, reserved_in}
+use Rattle.cc_model.specs.Setup.{Setup}
+use Rattle.cc_model.specs.Touches.{size_of}
+use Rattle.cc_model.specs.Turns.{Turn, Device, Book, Log, Journal, needs, is_quiet}
+use Rattle.cc_step.specs.Step.{IsStop, ends_in_store, owes_store}
+use Rattle.cc_step.proofs.Attempts.{adds-reserving, reserving}
+use Rattle.cc_step.proofs.Placed.{so-far}
+use Rattle.cc_step.proofs.Reserved.{stores-call, sum-same}
+use Rattle.cc_turns.specs.Standing.{Standing, Held, holds}
+use Rattle.cc_turns.specs.Takes.{without_journal}
+use Rattle.cc_visits.specs.Hands.{IsSettled}
+use Rattle.cc_visits.proofs.Others.{under_way-on}
+use Rattle.cc_visits.proofs.Replies.{full-stopped}
+use Rattle.cc_writes.proofs.Quiet.{settled-grown}
+use Rattle.cc_writes.proofs.Visits.{Visiting, Visited, visited, stepping-none}
+use Rattle.cc_calls.specs.Answers.{CallEnds, IsFree}
+use Rattle.cc_calls.specs.Streamless.{HasEnded, StreamlessLeft, is_streamless, streamless}
+use Rattle.cc_calls.proofs.LogCalls.{idle-grows}
+
+-- such a call is filed under no stream, has no range, and is no store
+filed : (holds : List Hold) (pass : ℕ) (it : Call) → is_streamless it ≡ true → IsFiled holds pass None it (file_of it)
+filed holds pass (call.DirtyPages handle) alone = refl
+filed holds pass call.IsDirtyData alone = refl
+filed holds pass other alone = absurd (cc)
+
+no-range : (size : ℕ) (it : Call) → is_streamless it ≡ true → range_of size it ≡ None
+no-range size (call.DirtyPages handle) alone = refl
+no-range size call.IsDirtyData alone = refl
+no-range size other alone = absurd (cc)
+
+no-store : (it : Call) (ended : Outcome) → is_streamless it ≡ true → is_store it ended ≡ false
+no-store (call.NcStore file page bytes) ended alone = absurd (cc)
+no-store other ended alone = refl
+
+-- it may find no room and no memory, and nothing is to do before it is done
+may-stop : (it : Call) (entries : ℕ) → is_streamless it ≡ true → (may_refuse it (error.JournalFull entries) ≡ true) × (may_refuse it error.NoMemory ≡ true)
+may-stop (call.DirtyPages handle) entries alone = (refl, refl)
+may-stop call.IsDirtyData entries alone = (refl, refl)
+may-stop other entries alone = absurd (cc)
+
+may-want : (it : Call) (past : List Entry) → is_streamless it ≡ true → may_want it past ≡ true
+may-want (call.SetDirty hold lsn) past alone = absurd (cc)
+may-want other past alone = refl
+
+has-done : (me : ℕ) (it : Call) (during old : List Entry) → is_streamless it ≡ true → HasDone me it during old
+has-done me (call.DirtyPages handle) during old alone = tt
+has-done me call.IsDirtyData during old alone = tt
+has-done me other during old alone = absurd (cc)
+
+on_needed : (b : Bool) (P : Type 0) → P → OnTrue b P
+on_needed true P p = p
+on_needed false P p = tt
+
+nothing_owed : (e : Entry) (past : List Entry) → owed_begin past ≡ None → IsOwed (owed_begin past) e
+nothing_owed e past none = rw none tt
+
+may-end : (u : Setup) (past : List Entry) (pass : ℕ) (it : Call) (ended : Outcome) → is_streamless it ≡ true → IsOutcome u past pass None it ended → MayEnd u past pass None it ended
+may-end u past pass it (outcome.Done r) alone is = (on_needed (needs_pages it r) (IsFilled [] (range_of (size_of []) it)) (rw (no-range (size_of []) it alone) tt), tt)
+may-end u past pass it (outcome.Failed e) alone is = on_needed (is_fault e) _ is
+
+-- a good journal stays good with its entry
+pub good-streamless : (u : Setup) (past : List Entry) (pass : ℕ) (it : Call) (ended : Outcome) → is_streamless it ≡ true → IsOutcome u past pass None it ended → IsGood u past → IsGood u (streamless pass past it ended ∷ past)
+unfolding IsLegal IsLegalEntry IsAllowed IsAllowedSoFar IsCovered IsCoveredEntry
+good-streamless u past pass it ended alone is good = record {
+  legal = (is, good.legal);
+  allowed = (
+    (
+      nothing_owed _ past good.allowed.1,
+      record { number = refl; filed = filed (holds_of []) pass it alone; may_end = may-end u past pass it ended alone is },
+      good.allowed.0,
+    ),
+    refl,
+  );
+  covered = (tt, good.covered);
+}
+
+pub pushed-streamless : (u : Setup) (past : List Entry) (pass : ℕ) (it : Call) (ended : Outcome) → is_streamless it ≡ true → IsOutcome u past pass None it ended → IsGood u past → MayBePushed past (streamless pass past it ended)
+pushed-streamless u past pass it ended alone is good =
+    MayBePushed-good u past (streamless pass past it ended) (so-far u (streamless pass past it ended ∷ past) (good-streamless u past pass it ended alone is good))
+
+-- the entry needs the turn of the journal alone
+quiet-streamless : (h : Held) (pass : ℕ) (past : List Entry) (it : Call) (ended : Outcome) → h.journal ≡ true → (t : Turn) → holds h t ≡ false → is_quiet t (streamless pass past it ended ∷ []) ≡ true
+quiet-streamless h pass past it ended journal t free = is_quiet-unneeded t (streamless pass past it ended) [] (unneeded t free) ∙ is_quiet-none t
+  where
+    unneeded : (x : Turn) → holds h x ≡ false → needs (streamless pass past it ended) x ≡ false
+    unneeded (Device n) apart = refl
+    unneeded (Book n) apart = refl
+    unneeded (Log n) apart = refl
+    unneeded Journal apart = absurd (clash (sym journal ∙ apart))
+      where
+        clash : true ≡ false → ⊥
+        clash e = absurd (cc)
+
+-- it leaves what is reserved, and the pass owes nothing after it
+reserved-streamless : (past : List Entry) (pass : ℕ) (it : Call) (ended : Outcome) → is_streamless it ≡ true → owes_store past pass ≡ false → reserved_in (streamless pass past it ended ∷ past) ≡ reserved_in past
+unfolding reserved_in
+reserved-streamless past pass it ended alone none =
+    rw (
+      sum-same (λ s. owed_by_stream (history (streamless pass past it ended ∷ past) s)) (λ s. owed_by_stream (history past s)) all_streams (λ s. ap owed_by_stream (history-no_effect (streamless pass past it ended) past s refl)),
+      stores-call past pass (suc (calls_of past pass)) None it ended (no-store it ended alone) none,
+    ) refl
+
+settled-streamless : (past : List Entry) (pass : ℕ) (it : Call) (ended : Outcome) → is_streamless it ≡ true → owes_store (streamless pass past it ended ∷ past) pass ≡ false
+settled-streamless past pass it ended alone =
+    ap ends_in_store (up_to_call-call pass (suc (calls_of past pass)) None it ended past pass (eq-eqb pass pass refl)) ∙ no-store it ended alone
+
+-- the call ended, whose entry was placed where one place was reserved for it
+pub ended-streamless : {Q : Type 0} (pass nth : ℕ) (it : Call) (ended : Outcome) (j between k : JournalState Q) → between ≡ reserving j → nth ≡ suc (calls_of between.entries pass) → k ≡ record between { entries = entry.Call pass nth None it ended ∷ between.entries; reserved = between.reserved - 1; rows = k.rows } → ((u : Setup) → u.logs ≡ j.logs → IsOutcome u between.entries pass None it ended) → HasEnded pass it ended j k
+ended-streamless {Q = Q} pass nth it ended j between k same next placed is = record {
+  is = λ u logs. subst (λ (past : List Entry). IsOutcome u past pass None it ended) (ap (λ (x : JournalState Q). x.entries) same) (is u logs);
+  placed = adds-reserving (streamless pass j.entries it ended) j k
+      (subst (λ (n : ℕ). k ≡ record (reserving j) { entries = entry.Call pass n None it ended ∷ j.entries; reserved = (reserving j).reserved - 1; rows = k.rows })
+      (next ∙ ap (λ (x : JournalState Q). suc (calls_of x.entries pass)) same)
+      (subst (λ (x : JournalState Q). k ≡ record x { entries = entry.Call pass nth None it ended ∷ x.entries; reserved = x.reserved - 1; rows = k.rows }) same placed));
+}
+
+-- A visit to the journal in which such a call was made.
+module _ {Q : Type 0} (posted : Q → Bool) (w v : Standing) (it : Call) (j k : JournalState Q) (can : IsFree w)
+    (vis : Visiting posted w v j) (alone : is_streamless it ≡ true) where
+  settled-front : owes_store j.entries w.number ≡ false
+  settled-front = ap (λ past. owes_store past w.number) vis.grows.grew ∙ settled-grown w.number vis.grows.later w.seen vis.grows.others can.settled
+
+  way : IsUnderWay w.number it w.seen j.entries
+  way = under_way-on w.number it w.seen w.seen j.entries (begins w.number it w.seen) (idle-grows w j.entries vis.grows)
+
+  number : v.number ≡ w.number
+  number = ap (λ x. x.number) vis.taken.same
+
+  away : w.held.journal ≡ false
+  away = ap (λ h. h.journal) can.free
+
+  -- it ended with its entry
+  module _ (ended : Outcome) (has : HasEnded w.number it ended j k) where
+    entries-are : k.entries ≡ streamless w.number j.entries it ended ∷ j.entries
+    entries-are = ap (λ x. x.entries) has.placed
+
+    visited-ended : Visited posted w v w.in_flight k
+    visited-ended = visited posted w v w.in_flight (streamless w.number j.entries it ended ∷ []) j k away vis (record {
+      kept = has.placed ∙ ap (λ (x : JournalState Q). record j { entries = streamless w.number j.entries it ended ∷ j.entries; reserved = x.reserved; rows = k.rows }) (sym has.placed);
+      good = subst (λ (past : List Entry). IsGood w.setup past) (sym entries-are)
+          (good-streamless w.setup j.entries w.number it ended alone (has.is w.setup (sym (vis.journal.logs_are ∙ ap (λ x. x.setup.logs) vis.taken.same))) vis.good);
+      own = (eq-eqb w.number w.number refl, tt);
+      held = quiet-streamless (record w.held { journal = true }) w.number j.entries it ended refl;
+      reserved = ap (λ x. x.reserved) has.placed
+          ∙ (vis.reserved_is
+          ∙ ap (λ (n : ℕ). n + w.in_flight + v.others) (sym (ap reserved_in entries-are ∙ reserved-streamless j.entries w.number it ended alone settled-front)));
+    })
+
+    settled-ended : IsSettled (without_journal k v)
+    settled-ended =
+        ap (λ n. owes_store k.entries n) number
+        ∙ (ap (λ past. owes_store past w.number) entries-are ∙ settled-streamless j.entries w.number it ended alone)
+
+  -- it stopped, and changed nothing
+  visited-stopped : k ≡ j → Visited posted w v w.in_flight k
+  visited-stopped same = visited posted w v w.in_flight [] j k away vis (stepping-none posted w v w.in_flight j.reserved j k vis same vis.reserved_is)
+
+  settled-stopped : k ≡ j → IsSettled (without_journal k v)
+  settled-stopped same =
+      ap (λ n. owes_store k.entries n) number ∙ (ap (λ (x : JournalState Q). owes_store x.entries w.number) same ∙ settled-front)
+
+  stopped-left : (e : CcError) → IsStop e j → k ≡ j → CallLeft w.setup w.number it (outcome.Failed e) w.seen k.entries
+  stopped-left e stop same = subst (λ (x : JournalState Q). CallLeft w.setup w.number it (outcome.Failed e) w.seen x.entries) (sym same) (by stop)
+    where
+      by : IsStop e j → CallLeft w.setup w.number it (outcome.Failed e) w.seen j.entries
+      by (inl full) =
+          subst (λ (x : CcError). CallLeft w.setup w.number it (outcome.Failed x) w.seen j.entries) (sym full.0)
+          (gives_up w.number it (error.JournalFull (length j.entries)) w.seen j.entries way (may-stop it (length j.entries) alone).0 (may-want it j.entries alone))
+      by (inr none) =
+          subst (λ (x : CcError). CallLeft w.setup w.number it (outcome.Failed x) w.seen j.entries) (sym none)
+          (gives_up w.number it error.NoMemory w.seen j.entries way (may-stop it 0 alone).1 (may-want it j.entries alone))
+
+  -- by its answer
+  module _ {A : Type 0} (told : Result A CcError → Outcome) where
+    pub visited-streamless : (answer : Result A CcError) → StreamlessLeft told w.number it answer j k → Visited posted w v w.in_flight k
+    visited-streamless (Ok a) left = visited-ended (told (Ok a)) left
+    visited-streamless (Err e) left = visited-stopped left.1
+
+    done-streamless : (a : A) (r : Reply) → told (Ok a) ≡ outcome.Done r → StreamlessLeft told w.number it (Ok a) j k → CallEnds told w (without_journal k v) it (Ok a)
+    done-streamless a r is left = record {
+      left = subst (λ (past : List Entry). CallLeft w.setup w.number it (told (Ok a)) w.seen past) (sym (entries-are (told (Ok a)) left))
+          (subst (λ (o : Outcome). CallLeft w.setup w.number it o w.seen (streamless w.number j.entries it o ∷ j.entries)) (sym is)
+          (ends_done w.number (suc (calls_of j.entries w.number)) None it r w.seen j.entries way (filed (holds_of []) w.number it alone) (λ during. has-done w.number it during w.seen alone)));
+      full = tt;
+      goes_on = (visited-ended (told (Ok a)) left).went;
+      settled = settled-ended (told (Ok a)) left;
+    }
+
+    stopped-streamless : (e : CcError) → told (Err e) ≡ outcome.Failed e → StreamlessLeft told w.number it (Err e) j k → CallEnds told w (without_journal k v) it (Err e)
+    stopped-streamless e is left = record {
+      left = subst (λ (o : Outcome). CallLeft w.setup w.number it o w.seen k.entries) (sym is) (stopped-left e left.0 left.1);
+      full = full-stopped A posted (without_journal k v) k e (visited-stopped left.1).journal (subst (λ (x : JournalState Q). IsStop e x) (sym left.1) left.0);
+      goes_on = (visited-stopped left.1).went;
+      settled = settled-stopped left.1;
+    }
+
+    pub ends-streamless : (reply : A → Reply) → ((a : A) → told (Ok a) ≡ outcome.Done (reply a)) → ((e : CcError) → told (Err e) ≡ outcome.Failed e) → (answer : Result A CcError) → StreamlessLeft told w.number it answer j k → CallEnds told w (without_journal k v) it answer
+    ends-streamless reply done failed (Ok a) left = done-streamless a (reply a) (done a) left
+    ends-streamless reply done failed (Err e) left = stopped-streamless e (failed e) left

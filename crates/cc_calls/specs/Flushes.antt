@@ -1,0 +1,62 @@
+-- What a flush leaves, and what holds of its span where it was done.
+use Rattle.std.specs.Prelude.{◌≡◌, ℕ, true, false, Result, OnOk, List, ◌∷◌, ◌++◌, length, Contains}
+use Rattle.std.specs.declared.option.Option.{Option}
+use Rattle.std.specs.declared.option.Option.TheVariants.{Some}
+use Rattle.cc_entry.specs.Place.{File, Range}
+use Rattle.cc_entry.specs.declared.call.Call.TheVariants as call
+use Rattle.cc_entry.specs.declared.entry.Entry.{Entry}
+use Rattle.cc_entry.specs.declared.entry.Entry.TheVariants as entry
+use Rattle.cc_entry.specs.declared.entry.End.TheVariants as how
+use Rattle.cc_entry.specs.declared.error.CcError.{CcError}
+use Rattle.cc_effects.specs.Calls.{CallLeft}
+use Rattle.cc_effects.specs.Moments.{own}
+use Rattle.cc_flush.specs.Crash.{IsKeptSince}
+use Rattle.cc_model.specs.Flushed.{settled_since}
+use Rattle.cc_model.specs.Good.{IsGood, IsGoodSoFar}
+use Rattle.cc_model.specs.History.{history}
+use Rattle.cc_model.specs.Images.{image, crash_pages}
+use Rattle.cc_model.specs.Ranges.{span_has}
+use Rattle.cc_model.specs.Setup.{Setup}
+use Rattle.cc_model.specs.Touches.{is_dirty}
+use Rattle.cc_turns.specs.Standing.{Standing}
+use Rattle.cc_visits.specs.Hands.{IsSettled}
+use Rattle.cc_calls.specs.Answers.{outcome_of}
+use Rattle.cc_calls.specs.Pages.{IsFullOf, WentOn}
+
+-- Whatever was placed from one moment to another is the pass's own, as on a desk.
+pub record WasAlone (me : ℕ) (old new : List Entry) : Type 0 where
+  pub during : List Entry
+  pub grew : new ≡ during ++ old
+  pub all_own : own me during ≡ during
+
+-- Where the pass was alone, no page of the span is dirty at the end.
+abbrev pub LeavesClean : ℕ → ℕ → Option Range → List Entry → List Entry → Type 0
+LeavesClean me s span old new =
+    WasAlone me old new → (p : ℕ) → span_has span p ≡ true → is_dirty (history new s) p ≡ false
+
+-- There is a good sync of the pass. At it each touch of a page of the span that was there at the moment `old` is
+-- written or cut. From it on, however far the journal goes on from `new`, what a crash may leave of a page of the span
+-- whose image was known at the sync is that image, or the page as it was when one of its transfers began since.
+pub record IsDurable (u : Setup) (me s : ℕ) (span : Option Range) (old new : List Entry) : Type 0 where
+  pub before : List Entry
+  pub after : List Entry
+  pub synced : new ≡ after ++ (entry.Sync me s how.Good ∷ (before ++ old))
+  pub settled : settled_since (length (history old s)) (history (before ++ old) s) span ≡ true
+  pub kept : (pages : ℕ → List ℕ) (later : List Entry) (p : ℕ) (bytes content : List ℕ) →
+      IsGoodSoFar u (later ++ new) → span_has span p ≡ true →
+      image pages (history (before ++ old) s) p ≡ Some bytes →
+      Contains (crash_pages pages (history (later ++ new) s) p) content →
+      IsKeptSince pages s p bytes (later ++ after) (entry.Sync me s how.Good ∷ (before ++ old)) content
+
+-- A flush of a span was answered so: it left what explains its answer, a journal that is full is full, the pass goes
+-- on as it stood and may call again, and what it has seen is good. Where the flush was done, the span is clean if the
+-- pass was alone, and durable whoever else was there.
+pub record FlushEnds (old new : Standing) (file : File) (span : Option Range)
+    (answer : Result (Unit {0}) CcError) : Type 0 where
+  pub left : CallLeft old.setup old.number (call.Flush file span) (outcome_of answer) old.seen new.seen
+  pub full : IsFullOf new answer
+  pub goes_on : WentOn old new
+  pub settled : IsSettled new
+  pub good : IsGood old.setup new.seen
+  pub clean : OnOk answer (LeavesClean old.number file.stream span old.seen new.seen)
+  pub durable : OnOk answer (IsDurable old.setup old.number file.stream span old.seen new.seen)
