@@ -1,9 +1,10 @@
 -- Lines in longer stretches, one more line of a caller, and the lines that a caller has.
-use Rattle.std.specs.Prelude.{◌≡◌, ℕ, ◌<◌, Bool, true, false, List, [], ◌∷◌, ◌++◌, length, refl, if◌then◌else◌}
+use Rattle.std.specs.Prelude.{◌≡◌, ℕ, ◌<◌, Bool, true, false, List, [], ◌∷◌, ◌++◌, length, refl, if◌then◌else◌, Ok, Err}
 use Rattle.std.proofs.Common.{ap, arith}
 use Rattle.cc_entry.specs.declared.call.Call.{Call}
 use Rattle.cc_entry.specs.declared.call.Call.TheVariants as call
 use Rattle.cc_entry.specs.declared.error.CcError.TheVariants as error
+use Rattle.cc_entry.specs.declared.reply.Reply.TheVariants as reply
 use Rattle.cc_entry.specs.declared.reply.Outcome.TheVariants as outcome
 use Rattle.cc_entry.specs.declared.answer.Answer.{Answer}
 use Rattle.cc_entry.specs.declared.answer.Answer.TheVariants as answer
@@ -17,8 +18,9 @@ use Rattle.cc_model.specs.Room.{room_in}
 use Rattle.cc_effects.specs.Moments.{IsIdle}
 use Rattle.cc_effects.proofs.Stretches.{idle-then, idle-none, some-after, some-before}
 use Rattle.cc_effects.proofs.CallSteps.{left-after, left-before}
+use Rattle.cc_effects.proofs.OtherSteps.{append-after, append-before, log-flush-after, log-flush-before}
 use Rattle.cc_pieces.specs.Bindings.{Binding}
-use Rattle.cc_pieces.specs.Answered.{CallAnswered}
+use Rattle.cc_pieces.specs.Answered.{CallAnswered, AppendAnswered, LogFlushAnswered}
 use Rattle.cc_pieces.specs.Served.{Served, bindings_after}
 use Rattle.cc_pieces.specs.Rooms.{WasFull, HadNoRoom}
 use Rattle.cc_pieces.specs.Runs.{Explains, Ran, bindings_of, asked_of}
@@ -33,6 +35,26 @@ answered-after u me it (answer.Given r) old new newer left idle = left-after u m
 answered-after u me it (answer.Refused e) old new newer left idle = left-after u me it (outcome.Failed e) old new newer left idle
 answered-after u me it other old new newer left idle = absurd left
 
+appended-before : (u : Setup) (me handle : ℕ) (bytes : List ℕ) (told : Answer) (older old new : List Entry) → IsIdle me older old → AppendAnswered u me handle bytes told old new → AppendAnswered u me handle bytes told older new
+appended-before u me handle bytes (answer.NewLsn lsn) older old new idle left = append-before u me handle bytes (Ok lsn) older old new idle left
+appended-before u me handle bytes (answer.Refused e) older old new idle left = append-before u me handle bytes (Err e) older old new idle left
+appended-before u me handle bytes other older old new idle left = absurd left
+
+appended-after : (u : Setup) (me handle : ℕ) (bytes : List ℕ) (told : Answer) (old new newer : List Entry) → AppendAnswered u me handle bytes told old new → IsIdle me new newer → AppendAnswered u me handle bytes told old newer
+appended-after u me handle bytes (answer.NewLsn lsn) old new newer left idle = append-after u me handle bytes (Ok lsn) old new newer left idle
+appended-after u me handle bytes (answer.Refused e) old new newer left idle = append-after u me handle bytes (Err e) old new newer left idle
+appended-after u me handle bytes other old new newer left idle = absurd left
+
+log_flushed-before : (u : Setup) (me handle lsn : ℕ) (told : Answer) (older old new : List Entry) → IsIdle me older old → LogFlushAnswered u me handle lsn told old new → LogFlushAnswered u me handle lsn told older new
+log_flushed-before u me handle lsn (answer.Given reply.Unit) older old new idle left = log-flush-before {T = Unit {0}} u me handle lsn (Ok tt) older old new idle left
+log_flushed-before u me handle lsn (answer.Refused e) older old new idle left = log-flush-before {T = Unit {0}} u me handle lsn (Err e) older old new idle left
+log_flushed-before u me handle lsn other older old new idle left = absurd left
+
+log_flushed-after : (u : Setup) (me handle lsn : ℕ) (told : Answer) (old new newer : List Entry) → LogFlushAnswered u me handle lsn told old new → IsIdle me new newer → LogFlushAnswered u me handle lsn told old newer
+log_flushed-after u me handle lsn (answer.Given reply.Unit) old new newer left idle = log-flush-after {T = Unit {0}} u me handle lsn (Ok tt) old new newer left idle
+log_flushed-after u me handle lsn (answer.Refused e) old new newer left idle = log-flush-after {T = Unit {0}} u me handle lsn (Err e) old new newer left idle
+log_flushed-after u me handle lsn other old new newer left idle = absurd left
+
 served-before : (u : Setup) (me : ℕ) (bindings : List Binding) (asked : Action) (told : Answer) (older old new : List Entry) → IsIdle me older old → Served u me bindings asked told old new → Served u me bindings asked told older new
 served-before u me bindings (action.CopyRead file at len wait) told older old new idle left = answered-before u me (call.CopyRead file at len wait) told older old new idle left
 served-before u me bindings (action.CopyWrite file at bytes) told older old new idle left = answered-before u me (call.CopyWrite file at bytes) told older old new idle left
@@ -42,6 +64,9 @@ served-before u me bindings (action.SetSizes file allocation size) told older ol
 served-before u me bindings (action.State file) told older old new idle left = answered-before u me (call.State file) told older old new idle left
 served-before u me bindings (action.Flush file span) told older old new idle left = answered-before u me (call.Flush file span) told older old new idle left
 served-before u me bindings action.IsDirtyData told older old new idle left = answered-before u me call.IsDirtyData told older old new idle left
+served-before u me bindings (action.SetLog file handle) told older old new idle left = answered-before u me (call.SetLog file handle) told older old new idle left
+served-before u me bindings (action.Append handle bytes) told older old new idle left = appended-before u me handle bytes told older old new idle left
+served-before u me bindings (action.LogFlush handle lsn) told older old new idle left = log_flushed-before u me handle lsn told older old new idle left
 
 served-after : (u : Setup) (me : ℕ) (bindings : List Binding) (asked : Action) (told : Answer) (old new newer : List Entry) → Served u me bindings asked told old new → IsIdle me new newer → Served u me bindings asked told old newer
 served-after u me bindings (action.CopyRead file at len wait) told old new newer left idle = answered-after u me (call.CopyRead file at len wait) told old new newer left idle
@@ -52,6 +77,9 @@ served-after u me bindings (action.SetSizes file allocation size) told old new n
 served-after u me bindings (action.State file) told old new newer left idle = answered-after u me (call.State file) told old new newer left idle
 served-after u me bindings (action.Flush file span) told old new newer left idle = answered-after u me (call.Flush file span) told old new newer left idle
 served-after u me bindings action.IsDirtyData told old new newer left idle = answered-after u me call.IsDirtyData told old new newer left idle
+served-after u me bindings (action.SetLog file handle) told old new newer left idle = answered-after u me (call.SetLog file handle) told old new newer left idle
+served-after u me bindings (action.Append handle bytes) told old new newer left idle = appended-after u me handle bytes told old new newer left idle
+served-after u me bindings (action.LogFlush handle lsn) told old new newer left idle = log_flushed-after u me handle lsn told old new newer left idle
 
 full-before : (u : Setup) (limit entries me : ℕ) (older old new : List Entry) → IsIdle me older old → WasFull u limit entries old new → WasFull u limit entries older new
 full-before u limit entries me older old new idle was =

@@ -24,7 +24,7 @@ abbrev pub IsFirst : ActionLine → Type 0
 IsFirst line = (line.caller ≡ 1) × (line.phase ≡ 1)
 
 -- no line passes a test
-asked-none : (test : ActionLine → Bool) (lines : List ActionLine) (replies : List LineReply) → AllByRecursion (λ line. test line ≡ false) lines → asked_of test lines replies ≡ []
+pub asked-none : (test : ActionLine → Bool) (lines : List ActionLine) (replies : List LineReply) → AllByRecursion (λ line. test line ≡ false) lines → asked_of test lines replies ≡ []
 asked-none test [] replies none = refl
 asked-none test (line ∷ lines) [] none = refl
 asked-none test (line ∷ lines) (reply ∷ replies) none = rw none.0 (asked-none test lines replies none.1)
@@ -49,6 +49,7 @@ alone-first : (lines : List ActionLine) → AllByRecursion IsFirst lines → is_
 alone-first [] all = refl
 alone-first (line ∷ lines) all = rw (all.0.1, all.0.0) (same-caller lines all.1)
 
+-- no line posts
 posts-none : (asked : Action) (told : Answer) → posted_by asked told ≡ []
 posts-none (action.CopyRead file at len wait) told = refl
 posts-none (action.CopyWrite file at bytes) told = refl
@@ -57,8 +58,11 @@ posts-none (action.SetSizes file allocation size) told = refl
 posts-none (action.State file) told = refl
 posts-none (action.Flush file span) told = refl
 posts-none action.IsDirtyData told = refl
+posts-none (action.SetLog file handle) told = refl
+posts-none (action.Append handle bytes) told = refl
+posts-none (action.LogFlush handle lsn) told = refl
 
-posted-none : (lines : List (Action × Answer)) → flat_map (λ line. posted_by line.0 line.1) lines ≡ []
+pub posted-none : (lines : List (Action × Answer)) → flat_map (λ line. posted_by line.0 line.1) lines ≡ []
 posted-none [] = refl
 posted-none (line ∷ lines) = rw (posts-none line.0 line.1) (posted-none lines)
 

@@ -1,5 +1,5 @@
 -- The words of a line, and what they are read as, one from the other.
-use Rattle.std.proofs.Common.{◌≡◌, ℕ, ◌^◌, ◌<◌, ◌≤◌, Bool, true, false, not, Some, None, List, [], ◌∷◌, ◌++◌, ◌↔◌, inl, inr, nat_le, codes, if◌then◌else◌, refl, ap, sym, ◌∙◌, subst, arith}
+use Rattle.std.proofs.Common.{◌≡◌, ℕ, ◌^◌, ◌<◌, ◌≤◌, Bool, true, false, not, Option, Some, None, option_map, List, [], ◌∷◌, ◌++◌, ◌↔◌, inl, inr, nat_le, codes, if◌then◌else◌, refl, ap, sym, ◌∙◌, subst, append-nil, arith}
 use Rattle.std.specs.Str.{bytes_eq}
 use Rattle.std.specs.Fmt.{decimal}
 use Rattle.std.proofs.lemmas.Option.{same_Some}
@@ -10,8 +10,8 @@ use Rattle.cc_script.specs.declared.script.Action.{Action}
 use Rattle.cc_script.specs.declared.script.Action.TheVariants as action
 use Rattle.cc_script.specs.Words.{number_of, number_between, is_name, name_of}
 use Rattle.cc_script.specs.Actions.{next, flag, ended, file_of, copy_read_of}
-use Rattle.cc_script.specs.Grammar.{quota_of, stream_of, setting_of}
-use Rattle.cc_script.specs.Laws.{SpellsQuota, flag_words, IsStreamSpelling, IsReadSpelling, SpellsSetting}
+use Rattle.cc_script.specs.Grammar.{quota_of, log_of, stream_of, setting_of}
+use Rattle.cc_script.specs.Laws.{SpellsQuota, SpellsLog, flag_words, IsStreamSpelling, IsReadSpelling, SpellsSetting}
 use Rattle.cc_script.proofs.Numbers.{decimal-number_of, number_of-decimal}
 use Rattle.cc_script.proofs.Steps.{then-gives, if-gives, next-gives, ended-gives, between-gives}
 
@@ -132,14 +132,69 @@ quota_spelled ws quota more e = either (flag (codes "quota") ws).0 (flag_spelled
           spells = inl (sym (ap (λ (it : ℕ × List (List ℕ)). it.0) pair), refl);
         }
 
--- and they are read so before the flag at the end of the line
-quota_read : (quota : ℕ) (own : List (List ℕ)) (temporary : Bool) → SpellsQuota quota own → quota_of (own ++ flag_words (codes "temporary") temporary) ≡ Some (quota, flag_words (codes "temporary") temporary)
+-- and they are read so before other words
+quota_read : (quota : ℕ) (own more : List (List ℕ)) → (flag (codes "quota") more) ≡ (false, more) → SpellsQuota quota own → quota_of (own ++ more) ≡ Some (quota, more)
 unfolding quota_of
-quota_read quota own true (inl none) = rw (none.0, none.1) refl
-quota_read quota own false (inl none) = rw (none.0, none.1) refl
-quota_read quota own temporary (inr said) =
+quota_read quota own more other (inl unsaid) = rw (unsaid.0, unsaid.1) (rw other refl)
+quota_read quota own more other (inr said) =
     let read : number_between 8 64 (decimal quota) ≡ Some quota = between-decimal 8 64 quota said.0 said.1 (omega arith) in
     rw (said.2, read) refl
+
+-- the words of a log
+record LogWords (ws : List (List ℕ)) (log : Option ℕ) (more : List (List ℕ)) : Type 0 where
+  own : List (List ℕ)
+  words : ws ≡ own ++ more
+  spells : SpellsLog log own
+
+log_spelled : (ws : List (List ℕ)) (log : Option ℕ) (more : List (List ℕ)) → log_of ws ≡ Some (log, more) → LogWords ws log more
+unfolding log_of
+log_spelled ws log more e = either (flag (codes "log") ws).0 (flag_spelled (codes "log") ws) e
+  where
+    found : (o : Option (ℕ × List (List ℕ))) → next (number_between 0 3) (flag (codes "log") ws).1 ≡ o → ws ≡ codes "log" ∷ (flag (codes "log") ws).1 → option_map (λ (it : ℕ × List (List ℕ)). (let pair : Option ℕ × List (List ℕ) = (Some it.0, it.1) in pair)) o ≡ Some (log, more) → LogWords ws log more
+    found (Some it) f words g =
+        let pair : (let both : Option ℕ × List (List ℕ) = (Some it.0, it.1) in both) ≡ (log, more) = cc in
+        let same : Some it.0 ≡ log = ap (λ (both : Option ℕ × List (List ℕ)). both.0) pair in
+        let left : it.1 ≡ more = ap (λ (both : Option ℕ × List (List ℕ)). both.1) pair in
+        let w = next-gives (number_between 0 3) (flag (codes "log") ws).1 it.0 it.1 f in
+        let b = between-gives 0 3 w.word it.0 w.reads in
+        let text : w.word ≡ decimal it.0 = (decimal-number_of w.word it.0 b.number).1 in
+        record {
+          own = codes "log" ∷ decimal it.0 ∷ [];
+          words = words ∙ ap (codes "log" ∷◌) (w.words ∙ (ap (λ (word : List ℕ). word ∷ it.1) text ∙ ap (decimal it.0 ∷◌) left));
+          spells = subst (λ (log : Option ℕ). SpellsLog log (codes "log" ∷ decimal it.0 ∷ [])) same (b.most, refl);
+        }
+    found None f words g = absurd (cc)
+
+    either : (t : Bool) → ws ≡ flag_words (codes "log") t ++ (flag (codes "log") ws).1 → (if t then option_map (λ (it : ℕ × List (List ℕ)). (let pair : Option ℕ × List (List ℕ) = (Some it.0, it.1) in pair)) (next (number_between 0 3) (flag (codes "log") ws).1) else Some (None, ws)) ≡ Some (log, more) → LogWords ws log more
+    either true words g = found (next (number_between 0 3) (flag (codes "log") ws).1) refl words g
+    either false words g =
+        let pair : (let it : Option ℕ × List (List ℕ) = (None, ws) in it) ≡ (log, more) = cc in
+        let same : None ≡ log = ap (λ (it : Option ℕ × List (List ℕ)). it.0) pair in
+        record {
+          own = [];
+          words = ap (λ (it : Option ℕ × List (List ℕ)). it.1) pair;
+          spells = subst (λ (log : Option ℕ). SpellsLog log []) same refl;
+        }
+
+-- and they are read so at the end of the line
+log_read : (log : Option ℕ) (own : List (List ℕ)) → SpellsLog log own → log_of own ≡ Some (log, [])
+unfolding log_of
+log_read None own unsaid = rw unsaid refl
+log_read (Some handle) own said =
+    let read : number_between 0 3 (decimal handle) ≡ Some handle = between-decimal 0 3 handle (omega arith) said.0 (omega arith) in
+    rw (said.1, read) refl
+
+-- what stands behind a quota is no quota
+no_quota : (temporary : Bool) (log : Option ℕ) (own : List (List ℕ)) → SpellsLog log own → flag (codes "quota") (flag_words (codes "temporary") temporary ++ own) ≡ (false, flag_words (codes "temporary") temporary ++ own)
+no_quota true log own said = refl
+no_quota false None own said = rw said refl
+no_quota false (Some handle) own said = rw said.1 refl
+
+-- and what stands in the place of `temporary` is that or the log
+temporary_read : (temporary : Bool) (log : Option ℕ) (own : List (List ℕ)) → SpellsLog log own → flag (codes "temporary") (flag_words (codes "temporary") temporary ++ own) ≡ (temporary, own)
+temporary_read true log own said = refl
+temporary_read false None own said = rw said refl
+temporary_read false (Some handle) own said = rw said.1 refl
 
 stream_spelled : (n : ℕ) (ws : List (List ℕ)) (stream : StreamLine) → stream_of n ws ≡ Some stream → IsStreamSpelling n ws stream
 unfolding stream_of name_of
@@ -149,7 +204,8 @@ stream_spelled n ws stream e =
     let valid = then-gives (next number_of size.0.1) _ stream size.2 in
     let quota = then-gives (quota_of valid.0.1) _ stream valid.2 in
     let is_set = (flag (codes "temporary") quota.0.1).0 in
-    let end = ended-gives _ _ stream quota.2 in
+    let log = then-gives (log_of (flag (codes "temporary") quota.0.1).1) _ stream quota.2 in
+    let end = ended-gives _ _ stream log.2 in
     let m = next-gives name_of ws name.0.0 name.0.1 name.1 in
     let s = next-gives number_of name.0.1 size.0.0 size.0.1 size.1 in
     let v = next-gives number_of size.0.1 valid.0.0 valid.0.1 valid.1 in
@@ -158,22 +214,21 @@ stream_spelled n ws stream e =
     let same_name : m.word ≡ name.0.0 = same_Some m.word name.0.0 named.1 in
     let size_is = decimal-number_of s.word size.0.0 s.reads in
     let valid_is = decimal-number_of v.word valid.0.0 v.reads in
-    let last : quota.0.1 ≡ flag_words (codes "temporary") is_set ++ [] = flag_spelled (codes "temporary") quota.0.1 ∙ ap (flag_words (codes "temporary") is_set ++◌) end.0 in
+    let l = log_spelled (flag (codes "temporary") quota.0.1).1 log.0.0 log.0.1 log.1 in
+    let all : (flag (codes "temporary") quota.0.1).1 ≡ l.own = l.words ∙ (ap (l.own ++◌) end.0 ∙ append-nil l.own) in
+    let last : quota.0.1 ≡ flag_words (codes "temporary") is_set ++ l.own = flag_spelled (codes "temporary") quota.0.1 ∙ ap (flag_words (codes "temporary") is_set ++◌) all in
     subst (IsStreamSpelling n ws) end.1
     (record {
       quota_words = q.own;
-      words = m.words ∙ rw same_name (ap (name.0.0 ∷◌) (s.words ∙ rw size_is.1 (ap (decimal size.0.0 ∷◌) (v.words ∙ rw valid_is.1 (ap (decimal valid.0.0 ∷◌) (q.words ∙ ap (q.own ++◌) (last ∙ flag_end is_set)))))));
+      log_words = l.own;
+      words = m.words ∙ rw same_name (ap (name.0.0 ∷◌) (s.words ∙ rw size_is.1 (ap (decimal size.0.0 ∷◌) (v.words ∙ rw valid_is.1 (ap (decimal valid.0.0 ∷◌) (q.words ∙ ap (q.own ++◌) last))))));
       quota = q.spells;
       name = ap is_name (sym same_name) ∙ named.0;
       size = size_is.0;
       valid = valid_is.0;
       line = refl;
-      log = refl;
+      log = l.spells;
     })
-  where
-    flag_end : (t : Bool) → flag_words (codes "temporary") t ++ [] ≡ flag_words (codes "temporary") t
-    flag_end true = refl
-    flag_end false = refl
 
 stream_read : (n : ℕ) (ws : List (List ℕ)) (stream : StreamLine) → IsStreamSpelling n ws stream → stream_of n ws ≡ Some stream
 unfolding stream_of name_of
@@ -181,15 +236,14 @@ stream_read n ws stream s =
     let named : is_name stream.name ≡ true = s.name in
     let size : number_of (decimal stream.size) ≡ Some stream.size = number_of-decimal stream.size s.size in
     let valid : number_of (decimal stream.valid) ≡ Some stream.valid = number_of-decimal stream.valid s.valid in
-    let quota = quota_read stream.quota s.quota_words stream.temporary s.quota in
-    rw (s.words, named, size, valid, quota) (last stream.temporary ∙ ap Some same)
+    let behind = flag_words (codes "temporary") stream.temporary ++ s.log_words in
+    let quota = quota_read stream.quota s.quota_words behind (no_quota stream.temporary stream.log s.log_words s.log) s.quota in
+    let temporary = temporary_read stream.temporary stream.log s.log_words s.log in
+    let log = log_read stream.log s.log_words s.log in
+    rw (s.words, named, size, valid, quota, temporary, log) (ap Some same)
   where
-    last : (t : Bool) → ended (flag (codes "temporary") (flag_words (codes "temporary") t)).1 (let made : StreamLine = record { line = n; name = stream.name; size = stream.size; valid = stream.valid; quota = stream.quota; temporary = (flag (codes "temporary") (flag_words (codes "temporary") t)).0; log = None } in made) ≡ Some (let made : StreamLine = record { line = n; name = stream.name; size = stream.size; valid = stream.valid; quota = stream.quota; temporary = t; log = None } in made)
-    last true = refl
-    last false = refl
-
-    same : (let made : StreamLine = record { line = n; name = stream.name; size = stream.size; valid = stream.valid; quota = stream.quota; temporary = stream.temporary; log = None } in made) ≡ stream
-    same = rw (← s.line, ← s.log) refl
+    same : (let made : StreamLine = record { line = n; name = stream.name; size = stream.size; valid = stream.valid; quota = stream.quota; temporary = stream.temporary; log = stream.log } in made) ≡ stream
+    same = rw (← s.line) refl
 
 pub streams_spell : (n : ℕ) (ws : List (List ℕ)) (stream : StreamLine) → (stream_of n ws ≡ Some stream) ↔ IsStreamSpelling n ws stream
 streams_spell n ws stream = (stream_spelled n ws stream, stream_read n ws stream)

@@ -5,13 +5,9 @@ use Rattle.std.specs.Str.{bytes_eq}
 use Rattle.std.proofs.lemmas.Bool.Decides.{nat_tests}
 use Rattle.cc_entry.specs.Place.{File}
 use Rattle.cc_script.specs.declared.script.StreamLine.{StreamLine}
-use Rattle.cc_script.specs.declared.script.Mode.{Mode}
-use Rattle.cc_script.specs.declared.script.Offer.{Offer}
-use Rattle.cc_script.specs.declared.verb.Verb.{Verb}
 use Rattle.cc_script.specs.Outcome.{◌>>=◌}
 use Rattle.cc_script.specs.Words.{number_of, number_between, bytes_of, caller_of}
 use Rattle.cc_script.specs.Laws.{Spells}
-use Rattle.cc_script.specs.Verbs.{is_offered, is_in_mode, verb_of, verb_in}
 use Rattle.cc_script.specs.Actions.{next, ended, stream_named, file_of}
 use Rattle.cc_script.specs.Within.{IsFileWithin}
 use Rattle.cc_script.proofs.Spelled.{words_spell}
@@ -82,15 +78,6 @@ unfolding caller_of
 caller-gives [] n e = absurd (cc)
 caller-gives (c ∷ number) n e =
     let b = between-gives 1 16 number n (if-gives (c == 116) (number_between 1 16 number) n e).1 in (b.least, b.most)
-
--- a verb that is found is offered
-pub verb-gives : (o : Offer) (m : Mode) (word : List ℕ) (v : Verb) → verb_in o m word ≡ Some v → is_offered o v ≡ true
-unfolding verb_in
-verb-gives o m word v e =
-    let found = then-gives (verb_of word) (λ w. if is_offered o w && is_in_mode m w then Some w else None) v e in
-    let t = if-gives (is_offered o found.0 && is_in_mode m found.0) (Some found.0) v found.2 in
-    let same : found.0 ≡ v = cc in
-    ap (is_offered o) (sym same) ∙ (both (is_offered o found.0) (is_in_mode m found.0) t.0).0
 
 -- a place that is found is one of the list
 position-below : {X : Type 0} (p : X → Bool) (xs : List X) (i : ℕ) → position p xs ≡ Some i → i < length xs

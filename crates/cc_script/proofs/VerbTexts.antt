@@ -18,6 +18,9 @@ verbs_found verb.SetSizes = refl
 verbs_found verb.State = refl
 verbs_found verb.Flush = refl
 verbs_found verb.IsDirtyData = refl
+verbs_found verb.SetLog = refl
+verbs_found verb.Append = refl
+verbs_found verb.LogFlush = refl
 
 pub verbs_differ : (v w : Verb) → verb_text v ≡ verb_text w → v ≡ w
 verbs_differ v w e =
@@ -36,3 +39,6 @@ verbs_no_callers verb.SetSizes = refl
 verbs_no_callers verb.State = refl
 verbs_no_callers verb.Flush = refl
 verbs_no_callers verb.IsDirtyData = refl
+verbs_no_callers verb.SetLog = refl
+verbs_no_callers verb.Append = refl
+verbs_no_callers verb.LogFlush = refl

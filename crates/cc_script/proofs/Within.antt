@@ -1,11 +1,10 @@
--- Every script of the grammar keeps within its offer.
-use Rattle.std.proofs.Common.{◌≡◌, ℕ, zero, suc, ◌+◌, ◌<◌, ◌≤◌, ◌==◌, Bool, true, false, ◌&&◌, not, Some, None, Option, Result, Ok, Err, IfOk, List, [], ◌∷◌, ◌++◌, length, nat_lt, nat_le, if◌then◌else◌, slice_index, codes, refl, ap, sym, ◌∙◌, subst, length-append, lit≤, arith}
+-- Every script of the grammar keeps within what its run may rely on.
+use Rattle.std.proofs.Common.{◌≡◌, ℕ, zero, suc, ◌+◌, ◌<◌, ◌≤◌, ◌==◌, Bool, true, false, ◌&&◌, not, Some, None, Option, Result, Ok, Err, IfOk, IfSome, option_map, List, [], ◌∷◌, ◌++◌, length, nat_lt, nat_le, if◌then◌else◌, slice_index, codes, refl, ap, sym, ◌∙◌, subst, length-append, lit≤, arith}
 use Rattle.std.specs.List.{AllByRecursion, list_all, AllPairs, slice_index_or}
 use Rattle.std.specs.Str.Lines.{strip_carriage_return}
 use Rattle.std.proofs.lemmas.List.{nil_from_length}
 use Rattle.std.proofs.lemmas.Bool.Decides.{nat_tests}
 use Rattle.cc_script.specs.declared.script.Mode.{Mode}
-use Rattle.cc_script.specs.declared.script.Offer.{Offer}
 use Rattle.cc_script.specs.declared.script.Script.{Script}
 use Rattle.cc_script.specs.declared.script.StreamLine.{StreamLine}
 use Rattle.cc_script.specs.declared.script.Action.{Action}
@@ -16,21 +15,20 @@ use Rattle.cc_script.specs.declared.verb.Verb.TheVariants as verb
 use Rattle.cc_script.specs.declared.reading.Reading.{Reading}
 use Rattle.cc_script.specs.Text.{lines, words}
 use Rattle.cc_script.specs.Words.{number_of, number_between, name_of, bytes_of, caller_of}
-use Rattle.cc_script.specs.Verbs.{is_offered, verb_in}
-use Rattle.cc_script.specs.Actions.{next, flag, ended, file_of, span_of, copy_read_of, copy_write_of, zero_of, set_sizes_of, state_of, flush_span_of, flush_of, action_of, bytes_moved}
-use Rattle.cc_script.specs.Grammar.{nothing_read, may_add, with_stream, quota_of, stream_of, setting_of, with_journal, with_threshold, with_phase, placed, with_action, action_line, verb_line, called_line, uncalled_line, line_by, words_line, is_printable, text_line, line_of, or_wrong, lines_of, script_of}
+use Rattle.cc_script.specs.Verbs.{verb_in}
+use Rattle.cc_script.specs.Actions.{next, flag, ended, file_of, span_of, copy_read_of, copy_write_of, zero_of, set_sizes_of, state_of, flush_span_of, flush_of, set_log_of, append_of, log_flush_of, action_of, bytes_moved}
+use Rattle.cc_script.specs.Grammar.{nothing_read, may_add, with_stream, quota_of, log_of, stream_of, setting_of, with_journal, with_threshold, with_phase, placed, with_action, action_line, verb_line, called_line, uncalled_line, line_by, words_line, is_printable, text_line, line_of, or_wrong, lines_of, script_of}
 use Rattle.cc_script.specs.declared.script.ScriptFault.{ScriptFault}
 use Rattle.cc_script.specs.Answers.{Reads}
-use Rattle.cc_script.specs.Within.{IsActionWithin, verb_of_action, IsStreamWithin, IsLineWithin, PhasesAscend, IsWithin}
-use Rattle.cc_script.proofs.Steps.{then-gives, if-gives, both, next-gives, ended-gives, between-gives, caller-gives, verb-gives, file-gives, bytes-give}
+use Rattle.cc_script.specs.Within.{IsActionWithin, IsStreamWithin, IsLineWithin, PhasesAscend, IsWithin}
+use Rattle.cc_script.proofs.Steps.{then-gives, if-gives, both, next-gives, ended-gives, between-gives, caller-gives, file-gives, bytes-give}
 
--- an action that is read by a verb
-record IsRead (streams : List StreamLine) (v : Verb) (a : Action) : Type 0 where
+-- an action that is read
+record IsRead (streams : List StreamLine) (a : Action) : Type 0 where
   file : IsActionWithin streams a
   moved : bytes_moved a ≤ 2097152
-  verb_is : verb_of_action a ≡ v
 
-copy_read-gives : (streams : List StreamLine) (ws : List (List ℕ)) (a : Action) → copy_read_of streams ws ≡ Some a → IsRead streams verb.CopyRead a
+copy_read-gives : (streams : List StreamLine) (ws : List (List ℕ)) (a : Action) → copy_read_of streams ws ≡ Some a → IsRead streams a
 unfolding copy_read_of
 copy_read-gives streams ws a e =
     let file = then-gives (next (file_of streams) ws) _ a e in
@@ -40,10 +38,10 @@ copy_read-gives streams ws a e =
     let f = next-gives (file_of streams) ws file.0.0 file.0.1 file.1 in
     let l = next-gives (number_between 0 2097152) at.0.1 len.0.0 len.0.1 len.1 in
     let b = between-gives 0 2097152 l.word len.0.0 l.reads in
-    subst (IsRead streams verb.CopyRead) end.1
-    (record { file = file-gives streams f.word file.0.0 f.reads; moved = b.most; verb_is = refl })
+    subst (IsRead streams) end.1
+    (record { file = file-gives streams f.word file.0.0 f.reads; moved = b.most })
 
-copy_write-gives : (streams : List StreamLine) (ws : List (List ℕ)) (a : Action) → copy_write_of streams ws ≡ Some a → IsRead streams verb.CopyWrite a
+copy_write-gives : (streams : List StreamLine) (ws : List (List ℕ)) (a : Action) → copy_write_of streams ws ≡ Some a → IsRead streams a
 unfolding copy_write_of
 copy_write-gives streams ws a e =
     let file = then-gives (next (file_of streams) ws) _ a e in
@@ -52,20 +50,20 @@ copy_write-gives streams ws a e =
     let end = ended-gives _ _ a bytes.2 in
     let f = next-gives (file_of streams) ws file.0.0 file.0.1 file.1 in
     let b = next-gives bytes_of at.0.1 bytes.0.0 bytes.0.1 bytes.1 in
-    subst (IsRead streams verb.CopyWrite) end.1
-    (record { file = file-gives streams f.word file.0.0 f.reads; moved = bytes-give b.word bytes.0.0 b.reads; verb_is = refl })
+    subst (IsRead streams) end.1
+    (record { file = file-gives streams f.word file.0.0 f.reads; moved = bytes-give b.word bytes.0.0 b.reads })
 
-zero-gives : (streams : List StreamLine) (ws : List (List ℕ)) (a : Action) → zero_of streams ws ≡ Some a → IsRead streams verb.Zero a
+zero-gives : (streams : List StreamLine) (ws : List (List ℕ)) (a : Action) → zero_of streams ws ≡ Some a → IsRead streams a
 unfolding zero_of
 zero-gives streams ws a e =
     let file = then-gives (next (file_of streams) ws) _ a e in
     let span = then-gives (span_of file.0.1) _ a file.2 in
     let end = ended-gives _ _ a span.2 in
     let f = next-gives (file_of streams) ws file.0.0 file.0.1 file.1 in
-    subst (IsRead streams verb.Zero) end.1
-    (record { file = file-gives streams f.word file.0.0 f.reads; moved = omega arith; verb_is = refl })
+    subst (IsRead streams) end.1
+    (record { file = file-gives streams f.word file.0.0 f.reads; moved = omega arith })
 
-set_sizes-gives : (streams : List StreamLine) (ws : List (List ℕ)) (a : Action) → set_sizes_of streams ws ≡ Some a → IsRead streams verb.SetSizes a
+set_sizes-gives : (streams : List StreamLine) (ws : List (List ℕ)) (a : Action) → set_sizes_of streams ws ≡ Some a → IsRead streams a
 unfolding set_sizes_of
 set_sizes-gives streams ws a e =
     let file = then-gives (next (file_of streams) ws) _ a e in
@@ -73,35 +71,63 @@ set_sizes-gives streams ws a e =
     let size = then-gives (next number_of allocation.0.1) _ a allocation.2 in
     let end = ended-gives _ _ a size.2 in
     let f = next-gives (file_of streams) ws file.0.0 file.0.1 file.1 in
-    subst (IsRead streams verb.SetSizes) end.1
-    (record { file = file-gives streams f.word file.0.0 f.reads; moved = omega arith; verb_is = refl })
+    subst (IsRead streams) end.1
+    (record { file = file-gives streams f.word file.0.0 f.reads; moved = omega arith })
 
-state-gives : (streams : List StreamLine) (ws : List (List ℕ)) (a : Action) → state_of streams ws ≡ Some a → IsRead streams verb.State a
+state-gives : (streams : List StreamLine) (ws : List (List ℕ)) (a : Action) → state_of streams ws ≡ Some a → IsRead streams a
 unfolding state_of
 state-gives streams ws a e =
     let file = then-gives (next (file_of streams) ws) _ a e in
     let end = ended-gives _ _ a file.2 in
     let f = next-gives (file_of streams) ws file.0.0 file.0.1 file.1 in
-    subst (IsRead streams verb.State) end.1
-    (record { file = file-gives streams f.word file.0.0 f.reads; moved = omega arith; verb_is = refl })
+    subst (IsRead streams) end.1
+    (record { file = file-gives streams f.word file.0.0 f.reads; moved = omega arith })
 
-flush-gives : (streams : List StreamLine) (ws : List (List ℕ)) (a : Action) → flush_of streams ws ≡ Some a → IsRead streams verb.Flush a
+flush-gives : (streams : List StreamLine) (ws : List (List ℕ)) (a : Action) → flush_of streams ws ≡ Some a → IsRead streams a
 unfolding flush_of
 flush-gives streams ws a e =
     let file = then-gives (next (file_of streams) ws) _ a e in
     let span = then-gives (flush_span_of file.0.1) _ a file.2 in
     let f = next-gives (file_of streams) ws file.0.0 file.0.1 file.1 in
     let same : action.Flush file.0.0 span.0 ≡ a = cc in
-    subst (IsRead streams verb.Flush) same
-    (record { file = file-gives streams f.word file.0.0 f.reads; moved = omega arith; verb_is = refl })
+    subst (IsRead streams) same
+    (record { file = file-gives streams f.word file.0.0 f.reads; moved = omega arith })
 
-is_dirty-gives : (streams : List StreamLine) (ws : List (List ℕ)) (a : Action) → ended ws action.IsDirtyData ≡ Some a → IsRead streams verb.IsDirtyData a
+is_dirty-gives : (streams : List StreamLine) (ws : List (List ℕ)) (a : Action) → ended ws action.IsDirtyData ≡ Some a → IsRead streams a
 is_dirty-gives streams ws a e =
-    subst (IsRead streams verb.IsDirtyData) (ended-gives ws action.IsDirtyData a e).1
-    (record { file = tt; moved = omega arith; verb_is = refl })
+    subst (IsRead streams) (ended-gives ws action.IsDirtyData a e).1
+    (record { file = tt; moved = omega arith })
 
--- an action keeps within what a line may name and move, and is of the verb that it is read by
-action-gives : (streams : List StreamLine) (v : Verb) (ws : List (List ℕ)) (a : Action) → action_of streams v ws ≡ Some a → IsRead streams v a
+set_log-gives : (streams : List StreamLine) (ws : List (List ℕ)) (a : Action) → set_log_of streams ws ≡ Some a → IsRead streams a
+unfolding set_log_of
+set_log-gives streams ws a e =
+    let file = then-gives (next (file_of streams) ws) _ a e in
+    let log = then-gives (next (number_between 0 3) file.0.1) _ a file.2 in
+    let end = ended-gives _ _ a log.2 in
+    let f = next-gives (file_of streams) ws file.0.0 file.0.1 file.1 in
+    subst (IsRead streams) end.1
+    (record { file = file-gives streams f.word file.0.0 f.reads; moved = omega arith })
+
+append-gives : (streams : List StreamLine) (ws : List (List ℕ)) (a : Action) → append_of ws ≡ Some a → IsRead streams a
+unfolding append_of
+append-gives streams ws a e =
+    let log = then-gives (next (number_between 0 3) ws) _ a e in
+    let bytes = then-gives (next bytes_of log.0.1) _ a log.2 in
+    let end = ended-gives _ _ a bytes.2 in
+    let b = next-gives bytes_of log.0.1 bytes.0.0 bytes.0.1 bytes.1 in
+    subst (IsRead streams) end.1
+    (record { file = tt; moved = bytes-give b.word bytes.0.0 b.reads })
+
+log_flush-gives : (streams : List StreamLine) (ws : List (List ℕ)) (a : Action) → log_flush_of ws ≡ Some a → IsRead streams a
+unfolding log_flush_of
+log_flush-gives streams ws a e =
+    let log = then-gives (next (number_between 0 3) ws) _ a e in
+    let lsn = then-gives (next (number_between 1 4611686018427387904) log.0.1) _ a log.2 in
+    let end = ended-gives _ _ a lsn.2 in
+    subst (IsRead streams) end.1 (record { file = tt; moved = omega arith })
+
+-- an action keeps within what a line may name and move
+action-gives : (streams : List StreamLine) (v : Verb) (ws : List (List ℕ)) (a : Action) → action_of streams v ws ≡ Some a → IsRead streams a
 unfolding action_of
 action-gives streams verb.CopyRead ws a e = copy_read-gives streams ws a e
 action-gives streams verb.CopyWrite ws a e = copy_write-gives streams ws a e
@@ -110,6 +136,9 @@ action-gives streams verb.SetSizes ws a e = set_sizes-gives streams ws a e
 action-gives streams verb.State ws a e = state-gives streams ws a e
 action-gives streams verb.Flush ws a e = flush-gives streams ws a e
 action-gives streams verb.IsDirtyData ws a e = is_dirty-gives streams ws a e
+action-gives streams verb.SetLog ws a e = set_log-gives streams ws a e
+action-gives streams verb.Append ws a e = append-gives streams ws a e
+action-gives streams verb.LogFlush ws a e = log_flush-gives streams ws a e
 action-gives streams verb.Stream ws a e = absurd (cc)
 action-gives streams verb.Journal ws a e = absurd (cc)
 action-gives streams verb.Threshold ws a e = absurd (cc)
@@ -128,21 +157,40 @@ quota-gives ws q more e = either (flag (codes "quota") ws).0 e
         let pair : (let it : ℕ × List (List ℕ) = (16, ws) in it) ≡ (q, more) = cc in
         let same : 16 ≡ q = ap (λ (it : ℕ × List (List ℕ)). it.0) pair in (omega (arith, same), omega (arith, same))
 
-record IsStreamRead (stream : StreamLine) : Type 0 where
-  least_quota : 8 ≤ stream.quota
-  most_quota : stream.quota ≤ 64
-  unlogged : stream.log ≡ None
+-- and a log one of four
+log-gives : (ws : List (List ℕ)) (log : Option ℕ) (more : List (List ℕ)) → log_of ws ≡ Some (log, more) → IfSome log (λ handle. handle < 4)
+unfolding log_of
+log-gives ws log more e = either (flag (codes "log") ws).0 e
+  where
+    found : (o : Option (ℕ × List (List ℕ))) → next (number_between 0 3) (flag (codes "log") ws).1 ≡ o → option_map (λ (it : ℕ × List (List ℕ)). (let pair : Option ℕ × List (List ℕ) = (Some it.0, it.1) in pair)) o ≡ Some (log, more) → IfSome log (λ handle. handle < 4)
+    found (Some it) f g =
+        let pair : (let both : Option ℕ × List (List ℕ) = (Some it.0, it.1) in both) ≡ (log, more) = cc in
+        let same : Some it.0 ≡ log = ap (λ (both : Option ℕ × List (List ℕ)). both.0) pair in
+        let w = next-gives (number_between 0 3) (flag (codes "log") ws).1 it.0 it.1 f in
+        let b = between-gives 0 3 w.word it.0 w.reads in
+        let most = b.most in
+        subst (λ (log : Option ℕ). IfSome log (λ handle. handle < 4)) same (omega (arith, most))
+    found None f g = absurd (cc)
 
-stream-gives : (n : ℕ) (ws : List (List ℕ)) (stream : StreamLine) → stream_of n ws ≡ Some stream → IsStreamRead stream
+    either : (t : Bool) → (if t then option_map (λ (it : ℕ × List (List ℕ)). (let pair : Option ℕ × List (List ℕ) = (Some it.0, it.1) in pair)) (next (number_between 0 3) (flag (codes "log") ws).1) else Some (None, ws)) ≡ Some (log, more) → IfSome log (λ handle. handle < 4)
+    either true g = found (next (number_between 0 3) (flag (codes "log") ws).1) refl g
+    either false g =
+        let pair : (let it : Option ℕ × List (List ℕ) = (None, ws) in it) ≡ (log, more) = cc in
+        let same : None ≡ log = ap (λ (it : Option ℕ × List (List ℕ)). it.0) pair in
+        subst (λ (log : Option ℕ). IfSome log (λ handle. handle < 4)) same tt
+
+stream-gives : (n : ℕ) (ws : List (List ℕ)) (stream : StreamLine) → stream_of n ws ≡ Some stream → IsStreamWithin stream
 unfolding stream_of
 stream-gives n ws stream e =
     let name = then-gives (next name_of ws) _ stream e in
     let size = then-gives (next number_of name.0.1) _ stream name.2 in
     let valid = then-gives (next number_of size.0.1) _ stream size.2 in
     let quota = then-gives (quota_of valid.0.1) _ stream valid.2 in
-    let end = ended-gives _ _ stream quota.2 in
+    let log = then-gives (log_of (flag (codes "temporary") quota.0.1).1) _ stream quota.2 in
+    let end = ended-gives _ _ stream log.2 in
     let q = quota-gives valid.0.1 quota.0.0 quota.0.1 quota.1 in
-    subst IsStreamRead end.1 (record { least_quota = q.0; most_quota = q.1; unlogged = refl })
+    let l = log-gives (flag (codes "temporary") quota.0.1).1 log.0.0 log.0.1 log.1 in
+    subst IsStreamWithin end.1 (record { least_quota = q.0; most_quota = q.1; log = l })
 
 -- a number that is set is in its range
 setting-gives : (low high : ℕ) (ws : List (List ℕ)) (n : ℕ) → setting_of low high ws ≡ Some n → (low ≤ n) × (n ≤ high)
@@ -164,18 +212,18 @@ all-weaker P Q more [] all = tt
 all-weaker P Q more (x ∷ xs) all = (more x all.0, all-weaker P Q more xs all.1)
 
 -- a line of the last phase may follow
-ascend-onto : (offer : Offer) (streams : List StreamLine) (from : ℕ) (lines : List ActionLine) (line : ActionLine) → from ≤ line.phase → AllByRecursion (IsLineWithin offer streams line.phase) lines → PhasesAscend from lines → PhasesAscend from (lines ++ line ∷ [])
-ascend-onto offer streams from [] line low all order = (low, tt)
-ascend-onto offer streams from (first ∷ lines) line low all order =
-    (order.0, ascend-onto offer streams first.phase lines line all.0.last_phase all.1 order.1)
+ascend-onto : (streams : List StreamLine) (from : ℕ) (lines : List ActionLine) (line : ActionLine) → from ≤ line.phase → AllByRecursion (IsLineWithin streams line.phase) lines → PhasesAscend from lines → PhasesAscend from (lines ++ line ∷ [])
+ascend-onto streams from [] line low all order = (low, tt)
+ascend-onto streams from (first ∷ lines) line low all order =
+    (order.0, ascend-onto streams first.phase lines line all.0.last_phase all.1 order.1)
 
--- The script so far keeps within the offer, and has no more lines than were read.
-record IsSoFar (offer : Offer) (n : ℕ) (r : Reading) : Type 0 where
-  within : IsWithin offer r.script
+-- The script so far keeps within that, and has no more lines than were read.
+record IsSoFar (n : ℕ) (r : Reading) : Type 0 where
+  within : IsWithin r.script
   few : length r.script.lines ≤ n
 
-nothing-so_far : (offer : Offer) → IsSoFar offer 0 nothing_read
-nothing-so_far offer =
+nothing-so_far : IsSoFar 0 nothing_read
+nothing-so_far =
     record {
       within = record {
         header = record {
@@ -198,15 +246,15 @@ nothing-so_far offer =
     }
 
 -- a line that adds no action leaves room for it
-later : (offer : Offer) (n : ℕ) (r : Reading) → IsSoFar offer n r → IsSoFar offer (n + 1) r
-later offer n r is = record { within = is.within; few = let few = is.few in omega (arith, few) }
+later : (n : ℕ) (r : Reading) → IsSoFar n r → IsSoFar (n + 1) r
+later n r is = record { within = is.within; few = let few = is.few in omega (arith, few) }
 
 no_lines : (xs : List ActionLine) → (length xs == 0) ≡ true → xs ≡ []
 no_lines xs e = let z : length xs ≡ 0 = grind (arith, nat_tests, e) in nil_from_length xs z
 
-stream-so_far : (offer : Offer) (n : ℕ) (stream : StreamLine) (r new : Reading) → IsStreamRead stream → IsSoFar offer n r → with_stream stream r ≡ Some new → IsSoFar offer n new
+stream-so_far : (n : ℕ) (stream : StreamLine) (r new : Reading) → IsStreamWithin stream → IsSoFar n r → with_stream stream r ≡ Some new → IsSoFar n new
 unfolding with_stream may_add
-stream-so_far offer n stream r new read is e =
+stream-so_far n stream r new one is e =
     let t = if-gives (may_add stream r) _ new e in
     let none = both (length r.script.lines == 0) _ t.0 in
     let room = both (nat_lt (length r.script.streams) 16) _ none.1 in
@@ -215,8 +263,7 @@ stream-so_far offer n stream r new read is e =
     let len : length (r.script.streams ++ stream ∷ []) ≡ length r.script.streams + 1 = length-append r.script.streams (stream ∷ []) in
     let empty : r.script.lines ≡ [] = no_lines r.script.lines none.0 in
     let same : (let made : Reading = record r { script = record r.script { streams = r.script.streams ++ stream ∷ [] } } in made) ≡ new = cc in
-    let one : IsStreamWithin stream = record { least_quota = read.least_quota; most_quota = read.most_quota; unlogged = read.unlogged } in
-    subst (IsSoFar offer n) same
+    subst (IsSoFar n) same
     (record {
       within = record {
         header = record {
@@ -232,20 +279,20 @@ stream-so_far offer n stream r new read is e =
         few_streams = omega (arith, len, below);
         streams = all-onto IsStreamWithin r.script.streams stream w.streams one;
         few_lines = w.few_lines;
-        lines = subst (AllByRecursion (IsLineWithin offer (r.script.streams ++ stream ∷ []) r.script.phases)) (sym empty) tt;
+        lines = subst (AllByRecursion (IsLineWithin (r.script.streams ++ stream ∷ []) r.script.phases)) (sym empty) tt;
         in_order = w.in_order;
       };
       few = is.few;
     })
 
-journal-so_far : (offer : Offer) (n capacity : ℕ) (r new : Reading) → (64 ≤ capacity) × (capacity ≤ 1048576) → IsSoFar offer n r → with_journal capacity r ≡ Some new → IsSoFar offer n new
+journal-so_far : (n capacity : ℕ) (r new : Reading) → (64 ≤ capacity) × (capacity ≤ 1048576) → IsSoFar n r → with_journal capacity r ≡ Some new → IsSoFar n new
 unfolding with_journal
-journal-so_far offer n capacity r new range is e =
+journal-so_far n capacity r new range is e =
     let w = is.within in
     let made : Reading = record r { script = record r.script { journal = capacity }; has_journal = true } in
     let t = if-gives ((length r.script.lines == 0) && not r.has_journal) (Some made) new e in
     let same : made ≡ new = cc in
-    subst (IsSoFar offer n) same
+    subst (IsSoFar n) same
     (record {
       within = record {
         header = record {
@@ -267,14 +314,14 @@ journal-so_far offer n capacity r new range is e =
       few = is.few;
     })
 
-threshold-so_far : (offer : Offer) (n pages : ℕ) (r new : Reading) → (1 ≤ pages) × (pages ≤ 16384) → IsSoFar offer n r → with_threshold pages r ≡ Some new → IsSoFar offer n new
+threshold-so_far : (n pages : ℕ) (r new : Reading) → (1 ≤ pages) × (pages ≤ 16384) → IsSoFar n r → with_threshold pages r ≡ Some new → IsSoFar n new
 unfolding with_threshold
-threshold-so_far offer n pages r new range is e =
+threshold-so_far n pages r new range is e =
     let w = is.within in
     let made : Reading = record r { script = record r.script { threshold = pages }; has_threshold = true } in
     let t = if-gives ((length r.script.lines == 0) && not r.has_threshold) (Some made) new e in
     let same : made ≡ new = cc in
-    subst (IsSoFar offer n) same
+    subst (IsSoFar n) same
     (record {
       within = record {
         header = record {
@@ -297,8 +344,8 @@ threshold-so_far offer n pages r new range is e =
     })
 
 -- a line keeps within one phase more
-one_phase-more : (offer : Offer) (streams : List StreamLine) (phases : ℕ) (line : ActionLine) → IsLineWithin offer streams phases line → IsLineWithin offer streams (phases + 1) line
-one_phase-more offer streams phases line is =
+one_phase-more : (streams : List StreamLine) (phases : ℕ) (line : ActionLine) → IsLineWithin streams phases line → IsLineWithin streams (phases + 1) line
+one_phase-more streams phases line is =
     let last = is.last_phase in
     record {
       first_caller = is.first_caller;
@@ -307,18 +354,17 @@ one_phase-more offer streams phases line is =
       last_phase = omega (arith, last);
       file = is.file;
       moved = is.moved;
-      verb_offered = is.verb_offered;
     }
 
-phase-so_far : (offer : Offer) (n : ℕ) (ws : List (List ℕ)) (r new : Reading) → IsSoFar offer n r → with_phase ws r ≡ Some new → IsSoFar offer n new
+phase-so_far : (n : ℕ) (ws : List (List ℕ)) (r new : Reading) → IsSoFar n r → with_phase ws r ≡ Some new → IsSoFar n new
 unfolding with_phase
-phase-so_far offer n ws r new is e =
+phase-so_far n ws r new is e =
     let t = if-gives ((length ws == 0) && nat_le r.script.phases 1000) _ new e in
     let w = is.within in
     let first = w.first_phase in
     let below : r.script.phases ≤ 1000 = grind (arith, nat_tests, (both (length ws == 0) (nat_le r.script.phases 1000) t.0).1) in
     let same : (let made : Reading = record r { script = record r.script { phases = r.script.phases + 1 } } in made) ≡ new = cc in
-    subst (IsSoFar offer n) same
+    subst (IsSoFar n) same
     (record {
       within = record {
         header = record {
@@ -334,16 +380,16 @@ phase-so_far offer n ws r new is e =
         few_streams = w.few_streams;
         streams = w.streams;
         few_lines = w.few_lines;
-        lines = all-weaker (IsLineWithin offer r.script.streams r.script.phases) (IsLineWithin offer r.script.streams (r.script.phases + 1)) (one_phase-more offer r.script.streams r.script.phases) r.script.lines w.lines;
+        lines = all-weaker (IsLineWithin r.script.streams r.script.phases) (IsLineWithin r.script.streams (r.script.phases + 1)) (one_phase-more r.script.streams r.script.phases) r.script.lines w.lines;
         in_order = w.in_order;
       };
       few = is.few;
     })
 
--- a line of a caller's action, by a verb that is offered
-action-so_far : (offer : Offer) (n line caller : ℕ) (v : Verb) (ws : List (List ℕ)) (r new : Reading) → n < 65536 → (1 ≤ caller) × (caller ≤ 16) → is_offered offer v ≡ true → IsSoFar offer n r → action_line line caller v ws r ≡ Some new → IsSoFar offer (n + 1) new
+-- a line of a caller's action
+action-so_far : (n line caller : ℕ) (v : Verb) (ws : List (List ℕ)) (r new : Reading) → n < 65536 → (1 ≤ caller) × (caller ≤ 16) → IsSoFar n r → action_line line caller v ws r ≡ Some new → IsSoFar (n + 1) new
 unfolding action_line with_action
-action-so_far offer n line caller v ws r new room range offered is e =
+action-so_far n line caller v ws r new room range is e =
     let found = then-gives (action_of r.script.streams v ws) _ new e in
     let a = found.0 in
     let read = action-gives r.script.streams v ws a found.1 in
@@ -353,16 +399,15 @@ action-so_far offer n line caller v ws r new room range offered is e =
     let last : ActionLine = placed line caller a r in
     let len : length (r.script.lines ++ last ∷ []) ≡ length r.script.lines + 1 = length-append r.script.lines (last ∷ []) in
     let same : (let made : Reading = record r { script = record r.script { lines = r.script.lines ++ last ∷ [] }; total = r.total + bytes_moved a } in made) ≡ new = cc in
-    let one : IsLineWithin offer r.script.streams r.script.phases last = record {
+    let one : IsLineWithin r.script.streams r.script.phases last = record {
       first_caller = range.0;
       last_caller = range.1;
       first_phase = w.first_phase;
       last_phase = omega arith;
       file = read.file;
       moved = read.moved;
-      verb_offered = ap (is_offered offer) read.verb_is ∙ offered;
     } in
-    subst (IsSoFar offer (n + 1)) same
+    subst (IsSoFar (n + 1)) same
     (record {
       within = record {
         header = record {
@@ -378,83 +423,86 @@ action-so_far offer n line caller v ws r new room range offered is e =
         few_streams = w.few_streams;
         streams = w.streams;
         few_lines = omega (arith, len, few, room);
-        lines = all-onto (IsLineWithin offer r.script.streams r.script.phases) r.script.lines last w.lines one;
-        in_order = ascend-onto offer r.script.streams 1 r.script.lines last w.first_phase w.lines w.in_order;
+        lines = all-onto (IsLineWithin r.script.streams r.script.phases) r.script.lines last w.lines one;
+        in_order = ascend-onto r.script.streams 1 r.script.lines last w.first_phase w.lines w.in_order;
       };
       few = omega (arith, len, few);
     })
 
-verb-so_far : (offer : Offer) (n line : ℕ) (v : Verb) (ws : List (List ℕ)) (r new : Reading) → n < 65536 → is_offered offer v ≡ true → IsSoFar offer n r → verb_line line v ws r ≡ Some new → IsSoFar offer (n + 1) new
+verb-so_far : (n line : ℕ) (v : Verb) (ws : List (List ℕ)) (r new : Reading) → n < 65536 → IsSoFar n r → verb_line line v ws r ≡ Some new → IsSoFar (n + 1) new
 unfolding verb_line
-verb-so_far offer n line verb.Stream ws r new room offered is e =
+verb-so_far n line verb.Stream ws r new room is e =
     let found = then-gives (stream_of line ws) _ new e in
-    later offer n new (stream-so_far offer n found.0 r new (stream-gives line ws found.0 found.1) is found.2)
-verb-so_far offer n line verb.Journal ws r new room offered is e =
+    later n new (stream-so_far n found.0 r new (stream-gives line ws found.0 found.1) is found.2)
+verb-so_far n line verb.Journal ws r new room is e =
     let found = then-gives (setting_of 64 1048576 ws) _ new e in
-    later offer n new (journal-so_far offer n found.0 r new (setting-gives 64 1048576 ws found.0 found.1) is found.2)
-verb-so_far offer n line verb.Threshold ws r new room offered is e =
+    later n new (journal-so_far n found.0 r new (setting-gives 64 1048576 ws found.0 found.1) is found.2)
+verb-so_far n line verb.Threshold ws r new room is e =
     let found = then-gives (setting_of 1 16384 ws) _ new e in
-    later offer n new (threshold-so_far offer n found.0 r new (setting-gives 1 16384 ws found.0 found.1) is found.2)
-verb-so_far offer n line verb.Phase ws r new room offered is e = later offer n new (phase-so_far offer n ws r new is e)
-verb-so_far offer n line verb.CopyRead ws r new room offered is e = action-so_far offer n line 1 verb.CopyRead ws r new room (lit≤ tt, lit≤ tt) offered is e
-verb-so_far offer n line verb.CopyWrite ws r new room offered is e = action-so_far offer n line 1 verb.CopyWrite ws r new room (lit≤ tt, lit≤ tt) offered is e
-verb-so_far offer n line verb.Zero ws r new room offered is e = action-so_far offer n line 1 verb.Zero ws r new room (lit≤ tt, lit≤ tt) offered is e
-verb-so_far offer n line verb.SetSizes ws r new room offered is e = action-so_far offer n line 1 verb.SetSizes ws r new room (lit≤ tt, lit≤ tt) offered is e
-verb-so_far offer n line verb.State ws r new room offered is e = action-so_far offer n line 1 verb.State ws r new room (lit≤ tt, lit≤ tt) offered is e
-verb-so_far offer n line verb.Flush ws r new room offered is e = action-so_far offer n line 1 verb.Flush ws r new room (lit≤ tt, lit≤ tt) offered is e
-verb-so_far offer n line verb.IsDirtyData ws r new room offered is e = action-so_far offer n line 1 verb.IsDirtyData ws r new room (lit≤ tt, lit≤ tt) offered is e
+    later n new (threshold-so_far n found.0 r new (setting-gives 1 16384 ws found.0 found.1) is found.2)
+verb-so_far n line verb.Phase ws r new room is e = later n new (phase-so_far n ws r new is e)
+verb-so_far n line verb.CopyRead ws r new room is e = action-so_far n line 1 verb.CopyRead ws r new room (lit≤ tt, lit≤ tt) is e
+verb-so_far n line verb.CopyWrite ws r new room is e = action-so_far n line 1 verb.CopyWrite ws r new room (lit≤ tt, lit≤ tt) is e
+verb-so_far n line verb.Zero ws r new room is e = action-so_far n line 1 verb.Zero ws r new room (lit≤ tt, lit≤ tt) is e
+verb-so_far n line verb.SetSizes ws r new room is e = action-so_far n line 1 verb.SetSizes ws r new room (lit≤ tt, lit≤ tt) is e
+verb-so_far n line verb.State ws r new room is e = action-so_far n line 1 verb.State ws r new room (lit≤ tt, lit≤ tt) is e
+verb-so_far n line verb.Flush ws r new room is e = action-so_far n line 1 verb.Flush ws r new room (lit≤ tt, lit≤ tt) is e
+verb-so_far n line verb.IsDirtyData ws r new room is e = action-so_far n line 1 verb.IsDirtyData ws r new room (lit≤ tt, lit≤ tt) is e
+verb-so_far n line verb.SetLog ws r new room is e = action-so_far n line 1 verb.SetLog ws r new room (lit≤ tt, lit≤ tt) is e
+verb-so_far n line verb.Append ws r new room is e = action-so_far n line 1 verb.Append ws r new room (lit≤ tt, lit≤ tt) is e
+verb-so_far n line verb.LogFlush ws r new room is e = action-so_far n line 1 verb.LogFlush ws r new room (lit≤ tt, lit≤ tt) is e
 
 -- a line by a caller, or without a caller word
-by-so_far : (offer : Offer) (mode : Mode) (n line : ℕ) (caller : Option ℕ) (word : List ℕ) (more : List (List ℕ)) (r new : Reading) → n < 65536 → caller_of word ≡ caller → IsSoFar offer n r → line_by offer mode line caller word more r ≡ Some new → IsSoFar offer (n + 1) new
+by-so_far : (mode : Mode) (n line : ℕ) (caller : Option ℕ) (word : List ℕ) (more : List (List ℕ)) (r new : Reading) → n < 65536 → caller_of word ≡ caller → IsSoFar n r → line_by mode line caller word more r ≡ Some new → IsSoFar (n + 1) new
 unfolding called_line uncalled_line
-by-so_far offer mode n line (Some caller) word more r new room by is e =
+by-so_far mode n line (Some caller) word more r new room by is e =
     let c = caller-gives word caller by in
-    let found = then-gives (next (verb_in offer mode) more) _ new e in
-    let w = next-gives (verb_in offer mode) more found.0.0 found.0.1 found.1 in
-    action-so_far offer n line caller found.0.0 found.0.1 r new room c (verb-gives offer mode w.word found.0.0 w.reads) is found.2
-by-so_far offer mode n line None word more r new room by is e =
-    let found = then-gives (next (verb_in offer mode) (word ∷ more)) _ new e in
-    let w = next-gives (verb_in offer mode) (word ∷ more) found.0.0 found.0.1 found.1 in
-    verb-so_far offer n line found.0.0 found.0.1 r new room (verb-gives offer mode w.word found.0.0 w.reads) is found.2
+    let found = then-gives (next (verb_in mode) more) _ new e in
+    let w = next-gives (verb_in mode) more found.0.0 found.0.1 found.1 in
+    action-so_far n line caller found.0.0 found.0.1 r new room c is found.2
+by-so_far mode n line None word more r new room by is e =
+    let found = then-gives (next (verb_in mode) (word ∷ more)) _ new e in
+    let w = next-gives (verb_in mode) (word ∷ more) found.0.0 found.0.1 found.1 in
+    verb-so_far n line found.0.0 found.0.1 r new room is found.2
 
-words-so_far : (offer : Offer) (mode : Mode) (n line : ℕ) (ws : List (List ℕ)) (r new : Reading) → n < 65536 → IsSoFar offer n r → words_line offer mode line ws r ≡ Some new → IsSoFar offer (n + 1) new
+words-so_far : (mode : Mode) (n line : ℕ) (ws : List (List ℕ)) (r new : Reading) → n < 65536 → IsSoFar n r → words_line mode line ws r ≡ Some new → IsSoFar (n + 1) new
 unfolding words_line
-words-so_far offer mode n line [] r new room is e = let same : r ≡ new = cc in subst (IsSoFar offer (n + 1)) same (later offer n r is)
-words-so_far offer mode n line (word ∷ more) r new room is e = by-so_far offer mode n line (caller_of word) word more r new room refl is e
+words-so_far mode n line [] r new room is e = let same : r ≡ new = cc in subst (IsSoFar (n + 1)) same (later n r is)
+words-so_far mode n line (word ∷ more) r new room is e = by-so_far mode n line (caller_of word) word more r new room refl is e
 
-text-so_far : (offer : Offer) (mode : Mode) (n line : ℕ) (text : List ℕ) (r new : Reading) → n < 65536 → IsSoFar offer n r → text_line offer mode line text r ≡ Some new → IsSoFar offer (n + 1) new
+text-so_far : (mode : Mode) (n line : ℕ) (text : List ℕ) (r new : Reading) → n < 65536 → IsSoFar n r → text_line mode line text r ≡ Some new → IsSoFar (n + 1) new
 unfolding text_line
-text-so_far offer mode n line text r new room is e = either (slice_index text 0 == 35) (if-gives (list_all is_printable text) _ new e).1
+text-so_far mode n line text r new room is e = either (slice_index text 0 == 35) (if-gives (list_all is_printable text) _ new e).1
   where
-    either : (t : Bool) → (if t then Some r else words_line offer mode line (words text) r) ≡ Some new → IsSoFar offer (n + 1) new
-    either true g = let same : r ≡ new = cc in subst (IsSoFar offer (n + 1)) same (later offer n r is)
-    either false g = words-so_far offer mode n line (words text) r new room is g
+    either : (t : Bool) → (if t then Some r else words_line mode line (words text) r) ≡ Some new → IsSoFar (n + 1) new
+    either true g = let same : r ≡ new = cc in subst (IsSoFar (n + 1)) same (later n r is)
+    either false g = words-so_far mode n line (words text) r new room is g
 
-line-so_far : (offer : Offer) (mode : Mode) (n line : ℕ) (bytes : List ℕ) (r new : Reading) → n < 65536 → IsSoFar offer n r → line_of offer mode line bytes r ≡ Some new → IsSoFar offer (n + 1) new
+line-so_far : (mode : Mode) (n line : ℕ) (bytes : List ℕ) (r new : Reading) → n < 65536 → IsSoFar n r → line_of mode line bytes r ≡ Some new → IsSoFar (n + 1) new
 unfolding line_of
-line-so_far offer mode n line bytes r new room is e = text-so_far offer mode n line (strip_carriage_return bytes) r new room is e
+line-so_far mode n line bytes r new room is e = text-so_far mode n line (strip_carriage_return bytes) r new room is e
 
-lines-within : (offer : Offer) (mode : Mode) (n : ℕ) (ls : List (List ℕ)) (r : Reading) (script : Script) → IsSoFar offer n r → lines_of offer mode n ls r ≡ Ok script → IsWithin offer script
+lines-within : (mode : Mode) (n : ℕ) (ls : List (List ℕ)) (r : Reading) (script : Script) → IsSoFar n r → lines_of mode n ls r ≡ Ok script → IsWithin script
 unfolding lines_of
-lines-within offer mode n [] r script is e = let same : r.script ≡ script = cc in subst (IsWithin offer) same is.within
-lines-within offer mode n (line ∷ more) r script is e = either (nat_lt n 65536) refl e (λ new. lines-within offer mode (n + 1) more new script)
+lines-within mode n [] r script is e = let same : r.script ≡ script = cc in subst (IsWithin) same is.within
+lines-within mode n (line ∷ more) r script is e = either (nat_lt n 65536) refl e (λ new. lines-within mode (n + 1) more new script)
   where
-    on : (o : Option Reading) → line_of offer mode (n + 1) line r ≡ o → n < 65536 → or_wrong (n + 1) o (λ next. lines_of offer mode (n + 1) more next) ≡ Ok script → ((new : Reading) → IsSoFar offer (n + 1) new → lines_of offer mode (n + 1) more new ≡ Ok script → IsWithin offer script) → IsWithin offer script
+    on : (o : Option Reading) → line_of mode (n + 1) line r ≡ o → n < 65536 → or_wrong (n + 1) o (λ next. lines_of mode (n + 1) more next) ≡ Ok script → ((new : Reading) → IsSoFar (n + 1) new → lines_of mode (n + 1) more new ≡ Ok script → IsWithin script) → IsWithin script
     on None f room g go = absurd (cc)
-    on (Some new) f room g go = go new (line-so_far offer mode n (n + 1) line r new room is f) g
+    on (Some new) f room g go = go new (line-so_far mode n (n + 1) line r new room is f) g
 
-    either : (t : Bool) → nat_lt n 65536 ≡ t → (if t then or_wrong (n + 1) (line_of offer mode (n + 1) line r) (λ next. lines_of offer mode (n + 1) more next) else Err (n + 1)) ≡ Ok script → ((new : Reading) → IsSoFar offer (n + 1) new → lines_of offer mode (n + 1) more new ≡ Ok script → IsWithin offer script) → IsWithin offer script
-    either true f g go = on (line_of offer mode (n + 1) line r) refl (grind (arith, nat_tests, f)) g go
+    either : (t : Bool) → nat_lt n 65536 ≡ t → (if t then or_wrong (n + 1) (line_of mode (n + 1) line r) (λ next. lines_of mode (n + 1) more next) else Err (n + 1)) ≡ Ok script → ((new : Reading) → IsSoFar (n + 1) new → lines_of mode (n + 1) more new ≡ Ok script → IsWithin script) → IsWithin script
+    either true f g go = on (line_of mode (n + 1) line r) refl (grind (arith, nat_tests, f)) g go
     either false f g go = absurd (cc)
 
-pub script-within : (offer : Offer) (mode : Mode) (bytes : List ℕ) (script : Script) → script_of offer mode bytes ≡ Ok script → IsWithin offer script
+pub script-within : (mode : Mode) (bytes : List ℕ) (script : Script) → script_of mode bytes ≡ Ok script → IsWithin script
 unfolding script_of
-script-within offer mode bytes script e = lines-within offer mode 0 (lines bytes) nothing_read script (nothing-so_far offer) e
+script-within mode bytes script e = lines-within mode 0 (lines bytes) nothing_read script nothing-so_far e
 
 -- so what is read does
-pub reads-within : (offer : Offer) (mode : Mode) (bytes : List ℕ) (answer : Result Script ScriptFault) → Reads (script_of offer mode bytes) answer → IfOk answer (IsWithin offer)
-reads-within offer mode bytes (Ok script) reads = script-within offer mode bytes script reads
-reads-within offer mode bytes (Err why) reads = tt
+pub reads-within : (mode : Mode) (bytes : List ℕ) (answer : Result Script ScriptFault) → Reads (script_of mode bytes) answer → IfOk answer (IsWithin)
+reads-within mode bytes (Ok script) reads = script-within mode bytes script reads
+reads-within mode bytes (Err why) reads = tt
 
 -- a line is of no earlier phase than the one from which they ascend
 phase-from : (from : ℕ) (lines : List ActionLine) (i : ℕ) (d : ActionLine) → i < length lines → PhasesAscend from lines → from ≤ (slice_index_or lines i d).phase

@@ -89,6 +89,27 @@ flush_of streams ws = do
   span ← flush_span_of file.1
   Some (action.Flush file.0 span)
 
+-- setlog FILE LOG
+unfoldable pub set_log_of : List StreamLine → List (List ℕ) → Option Action
+set_log_of streams ws = do
+  file ← next (file_of streams) ws
+  log ← next (number_between 0 3) file.1
+  ended log.1 (action.SetLog file.0 log.0)
+
+-- append LOG BYTES
+unfoldable pub append_of : List (List ℕ) → Option Action
+append_of ws = do
+  log ← next (number_between 0 3) ws
+  bytes ← next bytes_of log.1
+  ended bytes.1 (action.Append log.0 bytes.0)
+
+-- logflush LOG LSN
+unfoldable pub log_flush_of : List (List ℕ) → Option Action
+log_flush_of ws = do
+  log ← next (number_between 0 3) ws
+  lsn ← next (number_between 1 4611686018427387904) log.1
+  ended lsn.1 (action.LogFlush log.0 lsn.0)
+
 -- the action of a verb
 unfoldable pub action_of : List StreamLine → Verb → List (List ℕ) → Option Action
 action_of streams verb.CopyRead ws = copy_read_of streams ws
@@ -98,12 +119,15 @@ action_of streams verb.SetSizes ws = set_sizes_of streams ws
 action_of streams verb.State ws = state_of streams ws
 action_of streams verb.Flush ws = flush_of streams ws
 action_of streams verb.IsDirtyData ws = ended ws action.IsDirtyData
+action_of streams verb.SetLog ws = set_log_of streams ws
+action_of streams verb.Append ws = append_of ws
+action_of streams verb.LogFlush ws = log_flush_of ws
 action_of streams verb.Stream ws = None
 action_of streams verb.Journal ws = None
 action_of streams verb.Threshold ws = None
 action_of streams verb.Phase ws = None
 
--- how many bytes an action reads or writes
+-- how many bytes an action reads, writes or appends
 abbrev pub bytes_moved : Action → ℕ
 bytes_moved (action.CopyRead _ _ len _) = len
 bytes_moved (action.CopyWrite _ _ bytes) = length bytes
@@ -112,3 +136,6 @@ bytes_moved (action.SetSizes _ _ _) = 0
 bytes_moved (action.State _) = 0
 bytes_moved (action.Flush _ _) = 0
 bytes_moved action.IsDirtyData = 0
+bytes_moved (action.SetLog _ _) = 0
+bytes_moved (action.Append _ bytes) = length bytes
+bytes_moved (action.LogFlush _ _) = 0

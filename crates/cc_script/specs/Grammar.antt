@@ -1,9 +1,8 @@
 -- The script that bytes spell: line after line, or the first line that is not in the grammar.
-use Rattle.std.specs.Prelude.{ℕ, ◌+◌, ◌==◌, Bool, true, false, ◌&&◌, not, Option, Some, None, Result, Ok, Err, is_some, List, [], ◌∷◌, ◌++◌, length, nat_lt, nat_le, slice_index, if◌then◌else◌, codes}
+use Rattle.std.specs.Prelude.{ℕ, ◌+◌, ◌==◌, Bool, true, false, ◌&&◌, not, Option, Some, None, Result, Ok, Err, is_some, option_map, List, [], ◌∷◌, ◌++◌, length, nat_lt, nat_le, slice_index, if◌then◌else◌, codes}
 use Rattle.std.specs.List.{list_all}
 use Rattle.std.specs.Str.Lines.{strip_carriage_return}
 use Rattle.cc_script.specs.declared.script.Mode.{Mode}
-use Rattle.cc_script.specs.declared.script.Offer.{Offer}
 use Rattle.cc_script.specs.declared.script.Script.{Script}
 use Rattle.cc_script.specs.declared.script.StreamLine.{StreamLine}
 use Rattle.cc_script.specs.declared.script.Action.{Action}
@@ -42,21 +41,29 @@ with_stream stream r =
 unfoldable pub quota_of : List (List ℕ) → Option (ℕ × List (List ℕ))
 quota_of ws = if (flag (codes "quota") ws).0 then next (number_between 8 64) (flag (codes "quota") ws).1 else Some (16, ws)
 
--- stream NAME SIZE VALID [quota Q] [temporary]
+-- [log LOG]: the log of a stream, none where it is not said
+unfoldable pub log_of : List (List ℕ) → Option (Option ℕ × List (List ℕ))
+log_of ws =
+    if (flag (codes "log") ws).0
+    then option_map (λ log. (Some log.0, log.1)) (next (number_between 0 3) (flag (codes "log") ws).1)
+    else Some (None, ws)
+
+-- stream NAME SIZE VALID [quota Q] [temporary] [log LOG]
 unfoldable pub stream_of : ℕ → List (List ℕ) → Option StreamLine
 stream_of n ws = do
   name ← next name_of ws
   size ← next number_of name.1
   valid ← next number_of size.1
   quota ← quota_of valid.1
-  ended (flag (codes "temporary") quota.1).1 (record {
+  log ← log_of (flag (codes "temporary") quota.1).1
+  ended log.1 (record {
     line = n;
     name = name.0;
     size = size.0;
     valid = valid.0;
     quota = quota.0;
     temporary = (flag (codes "temporary") quota.1).0;
-    log = None;
+    log = log.0;
   })
 
 -- the number of a line that sets one
@@ -90,7 +97,7 @@ with_phase ws r =
 abbrev pub placed : ℕ → ℕ → Action → Reading → ActionLine
 placed n caller action r = record { line = n; phase = r.script.phases; caller = caller; action = action }
 
--- an action: all together read and write at most 33554432 bytes
+-- an action: all together read, write and append at most 33554432 bytes
 unfoldable pub with_action : ℕ → ℕ → Action → Reading → Option Reading
 with_action n caller action r =
     if nat_le (r.total + bytes_moved action) 33554432
@@ -124,42 +131,45 @@ verb_line n verb.SetSizes ws r = action_line n 1 verb.SetSizes ws r
 verb_line n verb.State ws r = action_line n 1 verb.State ws r
 verb_line n verb.Flush ws r = action_line n 1 verb.Flush ws r
 verb_line n verb.IsDirtyData ws r = action_line n 1 verb.IsDirtyData ws r
+verb_line n verb.SetLog ws r = action_line n 1 verb.SetLog ws r
+verb_line n verb.Append ws r = action_line n 1 verb.Append ws r
+verb_line n verb.LogFlush ws r = action_line n 1 verb.LogFlush ws r
 
 -- an action behind a caller word
-unfoldable pub called_line : Offer → Mode → ℕ → ℕ → List (List ℕ) → Reading → Option Reading
-called_line offer mode n caller ws r = do
-  v ← next (verb_in offer mode) ws
+unfoldable pub called_line : Mode → ℕ → ℕ → List (List ℕ) → Reading → Option Reading
+called_line mode n caller ws r = do
+  v ← next (verb_in mode) ws
   action_line n caller v.0 v.1 r
 
 -- a line that doesn't begin with a caller word
-unfoldable pub uncalled_line : Offer → Mode → ℕ → List (List ℕ) → Reading → Option Reading
-uncalled_line offer mode n ws r = do
-  v ← next (verb_in offer mode) ws
+unfoldable pub uncalled_line : Mode → ℕ → List (List ℕ) → Reading → Option Reading
+uncalled_line mode n ws r = do
+  v ← next (verb_in mode) ws
   verb_line n v.0 v.1 r
 
 -- a line, by the caller that its first word names, if any
-abbrev pub line_by : Offer → Mode → ℕ → Option ℕ → List ℕ → List (List ℕ) → Reading → Option Reading
-line_by offer mode n (Some caller) word more r = called_line offer mode n caller more r
-line_by offer mode n None word more r = uncalled_line offer mode n (word ∷ more) r
+abbrev pub line_by : Mode → ℕ → Option ℕ → List ℕ → List (List ℕ) → Reading → Option Reading
+line_by mode n (Some caller) word more r = called_line mode n caller more r
+line_by mode n None word more r = uncalled_line mode n (word ∷ more) r
 
 -- a line of these words; one of no words says nothing
-unfoldable pub words_line : Offer → Mode → ℕ → List (List ℕ) → Reading → Option Reading
-words_line offer mode n [] r = Some r
-words_line offer mode n (word ∷ more) r = line_by offer mode n (caller_of word) word more r
+unfoldable pub words_line : Mode → ℕ → List (List ℕ) → Reading → Option Reading
+words_line mode n [] r = Some r
+words_line mode n (word ∷ more) r = line_by mode n (caller_of word) word more r
 
 -- printable ASCII, or a space
 abbrev pub is_printable : ℕ → Bool
 is_printable b = nat_le 32 b && nat_le b 126
 
 -- a line without the carriage return at its end: one that begins with `#` says nothing
-unfoldable pub text_line : Offer → Mode → ℕ → List ℕ → Reading → Option Reading
-text_line offer mode n text r =
+unfoldable pub text_line : Mode → ℕ → List ℕ → Reading → Option Reading
+text_line mode n text r =
     if list_all is_printable text
-    then (if slice_index text 0 == 35 then Some r else words_line offer mode n (words text) r)
+    then (if slice_index text 0 == 35 then Some r else words_line mode n (words text) r)
     else None
 
-unfoldable pub line_of : Offer → Mode → ℕ → List ℕ → Reading → Option Reading
-line_of offer mode n line r = text_line offer mode n (strip_carriage_return line) r
+unfoldable pub line_of : Mode → ℕ → List ℕ → Reading → Option Reading
+line_of mode n line r = text_line mode n (strip_carriage_return line) r
 
 -- line n is wrong where it gives nothing
 abbrev pub or_wrong : ℕ → Option Reading → (Reading → Result Script ℕ) → Result Script ℕ
@@ -167,13 +177,13 @@ or_wrong n None go = Err n
 or_wrong n (Some next) go = go next
 
 -- the lines after the first n; there are at most 65536
-unfoldable pub lines_of : Offer → Mode → ℕ → List (List ℕ) → Reading → Result Script ℕ
-lines_of offer mode n [] r = Ok r.script
-lines_of offer mode n (line ∷ more) r =
+unfoldable pub lines_of : Mode → ℕ → List (List ℕ) → Reading → Result Script ℕ
+lines_of mode n [] r = Ok r.script
+lines_of mode n (line ∷ more) r =
     if nat_lt n 65536
-    then or_wrong (n + 1) (line_of offer mode (n + 1) line r) (λ next. lines_of offer mode (n + 1) more next)
+    then or_wrong (n + 1) (line_of mode (n + 1) line r) (λ next. lines_of mode (n + 1) more next)
     else Err (n + 1)
 
 -- the script of the bytes, or the first line that is not in the grammar
-unfoldable pub script_of : Offer → Mode → List ℕ → Result Script ℕ
-script_of offer mode bytes = lines_of offer mode 0 (lines bytes) nothing_read
+unfoldable pub script_of : Mode → List ℕ → Result Script ℕ
+script_of mode bytes = lines_of mode 0 (lines bytes) nothing_read

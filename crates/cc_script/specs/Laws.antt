@@ -1,5 +1,5 @@
 -- What the definitions of the grammar come to, in words of their own.
-use Rattle.std.specs.Prelude.{ℕ, ◌≡◌, ◌==◌, ◌<◌, ◌^◌, ◌↔◌, Bool, not, IsTrue, Some, None, Ok, List, [], ◌∷◌, ◌++◌, ◌⊎◌, true, ◌≤◌, ◌/◌, ◌%◌, length, map, replicate, nat_lt, codes, if◌then◌else◌}
+use Rattle.std.specs.Prelude.{ℕ, ◌≡◌, ◌==◌, ◌<◌, ◌^◌, ◌↔◌, Bool, not, IsTrue, Option, Some, None, Ok, List, [], ◌∷◌, ◌++◌, ◌⊎◌, true, ◌≤◌, ◌/◌, ◌%◌, length, map, replicate, nat_lt, codes, if◌then◌else◌}
 use Rattle.std.specs.List.{join_with_byte, list_all, flat_map, AllPairs}
 use Rattle.std.specs.Fmt.{decimal, digit_glyph}
 use Rattle.cc_entry.specs.Place.{File}
@@ -13,7 +13,6 @@ use Rattle.cc_script.specs.Words.{number_of, is_name, caller_of, bytes_of}
 use Rattle.cc_script.specs.Actions.{file_of, copy_read_of}
 use Rattle.cc_script.specs.Verbs.{verb_text, verb_of}
 use Rattle.cc_script.specs.declared.script.Mode.{Mode}
-use Rattle.cc_script.specs.declared.script.Offer.{Offer}
 use Rattle.cc_script.specs.declared.script.Script.{Script}
 use Rattle.cc_script.specs.Grammar.{stream_of, setting_of, script_of}
 use Rattle.cc_script.specs.Within.{PhasesAscend, IsWithin}
@@ -95,18 +94,24 @@ abbrev pub SpellsQuota : ℕ → List (List ℕ) → Type 0
 SpellsQuota quota ws =
     ((quota ≡ 16) × (ws ≡ [])) ⊎ ((8 ≤ quota) × (quota ≤ 64) × (ws ≡ codes "quota" ∷ decimal quota ∷ []))
 
+-- the words of a stream's log: none, or its number behind `log`
+abbrev pub SpellsLog : Option ℕ → List (List ℕ) → Type 0
+SpellsLog None ws = ws ≡ []
+SpellsLog (Some handle) ws = (handle ≤ 3) × (ws ≡ codes "log" ∷ decimal handle ∷ [])
+
 -- the words behind `stream` for this stream, on line n
 pub record IsStreamSpelling (n : ℕ) (ws : List (List ℕ)) (stream : StreamLine) : Type 0 where
   pub quota_words : List (List ℕ)
+  pub log_words : List (List ℕ)
   pub words :
       ws ≡ stream.name ∷ decimal stream.size ∷ decimal stream.valid
-      ∷ (quota_words ++ flag_words (codes "temporary") stream.temporary)
+      ∷ (quota_words ++ (flag_words (codes "temporary") stream.temporary ++ log_words))
   pub quota : SpellsQuota stream.quota quota_words
   pub name : is_name stream.name ≡ true
   pub size : stream.size < 2 ^ 64
   pub valid : stream.valid < 2 ^ 64
   pub line : stream.line ≡ n
-  pub log : stream.log ≡ None
+  pub log : SpellsLog stream.log log_words
 
 -- the words that are read as a stream are those that spell it
 abbrev pub StreamsSpell : Type 0
@@ -138,10 +143,9 @@ abbrev pub SettingsSpell : Type 0
 SettingsSpell =
     (low high : ℕ) (ws : List (List ℕ)) (n : ℕ) → high < 2 ^ 64 → (setting_of low high ws ≡ Some n) ↔ SpellsSetting low high ws n
 
--- every script of the grammar keeps within its offer
+-- every script of the grammar keeps within what its run may rely on
 abbrev pub ScriptsAreWithin : Type 0
-ScriptsAreWithin =
-    (offer : Offer) (mode : Mode) (bytes : List ℕ) (script : Script) → script_of offer mode bytes ≡ Ok script → IsWithin offer script
+ScriptsAreWithin = (mode : Mode) (bytes : List ℕ) (script : Script) → script_of mode bytes ≡ Ok script → IsWithin script
 
 -- lines whose phases ascend: none is of an earlier phase than one before it
 abbrev pub PhasesRise : Type 0

@@ -1,16 +1,12 @@
 -- What every script that is read keeps within: what its run may rely on without a test of its own.
-use Rattle.std.specs.Prelude.{ℕ, ◌≡◌, ◌≤◌, ◌<◌, true, None, List, [], ◌∷◌, length}
+use Rattle.std.specs.Prelude.{ℕ, ◌≡◌, ◌≤◌, ◌<◌, IfSome, List, [], ◌∷◌, length}
 use Rattle.std.specs.List.{AllByRecursion}
 use Rattle.cc_entry.specs.Place.{File}
-use Rattle.cc_script.specs.declared.script.Offer.{Offer}
 use Rattle.cc_script.specs.declared.script.Script.{Script}
 use Rattle.cc_script.specs.declared.script.StreamLine.{StreamLine}
 use Rattle.cc_script.specs.declared.script.Action.{Action}
 use Rattle.cc_script.specs.declared.script.Action.TheVariants as action
 use Rattle.cc_script.specs.declared.script.ActionLine.{ActionLine}
-use Rattle.cc_script.specs.declared.verb.Verb.{Verb}
-use Rattle.cc_script.specs.declared.verb.Verb.TheVariants as verb
-use Rattle.cc_script.specs.Verbs.{is_offered}
 use Rattle.cc_script.specs.Actions.{bytes_moved}
 
 -- a file that a line may name: the first object of a stream of the script
@@ -27,32 +23,24 @@ IsActionWithin streams (action.SetSizes file _ _) = IsFileWithin streams file
 IsActionWithin streams (action.State file) = IsFileWithin streams file
 IsActionWithin streams (action.Flush file _) = IsFileWithin streams file
 IsActionWithin streams action.IsDirtyData = Unit {0}
+IsActionWithin streams (action.SetLog file _) = IsFileWithin streams file
+IsActionWithin streams (action.Append _ _) = Unit {0}
+IsActionWithin streams (action.LogFlush _ _) = Unit {0}
 
--- the verb that an action is written by
-abbrev pub verb_of_action : Action → Verb
-verb_of_action (action.CopyRead _ _ _ _) = verb.CopyRead
-verb_of_action (action.CopyWrite _ _ _) = verb.CopyWrite
-verb_of_action (action.Zero _ _) = verb.Zero
-verb_of_action (action.SetSizes _ _ _) = verb.SetSizes
-verb_of_action (action.State _) = verb.State
-verb_of_action (action.Flush _ _) = verb.Flush
-verb_of_action action.IsDirtyData = verb.IsDirtyData
-
--- a stream with a quota in view blocks, and without a log
+-- a stream with a quota in view blocks, and one of four logs or none
 pub record IsStreamWithin (stream : StreamLine) : Type 0 where
   pub least_quota : 8 ≤ stream.quota
   pub most_quota : stream.quota ≤ 64
-  pub unlogged : stream.log ≡ None
+  pub log : IfSome stream.log (λ handle. handle < 4)
 
--- an action that an offer has, by one of 16 callers, in one of so many phases
-pub record IsLineWithin (offer : Offer) (streams : List StreamLine) (phases : ℕ) (line : ActionLine) : Type 0 where
+-- an action by one of 16 callers, in one of so many phases
+pub record IsLineWithin (streams : List StreamLine) (phases : ℕ) (line : ActionLine) : Type 0 where
   pub first_caller : 1 ≤ line.caller
   pub last_caller : line.caller ≤ 16
   pub first_phase : 1 ≤ line.phase
   pub last_phase : line.phase ≤ phases
   pub file : IsActionWithin streams line.action
   pub moved : bytes_moved line.action ≤ 2097152
-  pub verb_offered : is_offered offer (verb_of_action line.action) ≡ true
 
 -- no line is of an earlier phase than the line before it, the first of none before this one
 abbrev pub PhasesAscend : ℕ → List ActionLine → Type 0
@@ -68,13 +56,13 @@ pub record IsHeaderWithin (script : Script) : Type 0 where
   pub no_ticks : script.ticks ≡ 0
   pub no_aheads : script.aheads ≡ 0
 
--- a script keeps within an offer
-pub record IsWithin (offer : Offer) (script : Script) : Type 0 where
+-- a script keeps within what its run may rely on
+pub record IsWithin (script : Script) : Type 0 where
   pub header : IsHeaderWithin script
   pub first_phase : 1 ≤ script.phases
   pub last_phase : script.phases ≤ 1001
   pub few_streams : length script.streams ≤ 16
   pub streams : AllByRecursion IsStreamWithin script.streams
   pub few_lines : length script.lines ≤ 65536
-  pub lines : AllByRecursion (IsLineWithin offer script.streams script.phases) script.lines
+  pub lines : AllByRecursion (IsLineWithin script.streams script.phases) script.lines
   pub in_order : PhasesAscend 1 script.lines

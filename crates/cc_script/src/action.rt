@@ -2,7 +2,7 @@
 
 ghost use Rattle.std.specs.Prelude.{◌≡◌};
 ghost use Rattle.cc_script.specs.Outcome.{Gives};
-ghost use Rattle.cc_script.specs.Actions.{copy_read_of, copy_write_of, zero_of, set_sizes_of, state_of, flush_span_of, flush_of, ended, action_of, bytes_moved};
+ghost use Rattle.cc_script.specs.Actions.{copy_read_of, copy_write_of, zero_of, set_sizes_of, state_of, flush_span_of, flush_of, set_log_of, append_of, log_flush_of, ended, action_of, bytes_moved};
 ghost use Rattle.cc_script.specs.declared.script.Action.TheVariants as action;
 
 use crate::byte_word::LONGEST;
@@ -124,6 +124,45 @@ fn is_dirty_data(words: &mut Words) -> Option<Action>
     }
 }
 
+#[tactic(auto, unfolding(crate::specs::Actions::set_log_of))]
+fn set_log(streams: &StreamLines, words: &mut Words) -> Option<Action>
+    ensures { result ≡ set_log_of streams.now words.old }
+{
+    let file = words.file(streams)?;
+    let handle = words.handle()?;
+    if words.is_empty() {
+        Some(Action::SetLog { file, handle })
+    } else {
+        None
+    }
+}
+
+#[tactic(auto, unfolding(crate::specs::Actions::append_of))]
+fn append(alloc: Global, words: &mut Words) -> Result<Action, LineFault>
+    ensures { Gives (append_of words.old) result }
+{
+    let handle = words.handle().ok_or(LineFault::Syntax)?;
+    let bytes = words.bytes(alloc)?;
+    if words.is_empty() {
+        Ok(Action::Append { handle, bytes })
+    } else {
+        Err(LineFault::Syntax)
+    }
+}
+
+#[tactic(auto, unfolding(crate::specs::Actions::log_flush_of))]
+fn log_flush(words: &mut Words) -> Option<Action>
+    ensures { result ≡ log_flush_of words.old }
+{
+    let handle = words.handle()?;
+    let lsn = words.lsn()?;
+    if words.is_empty() {
+        Some(Action::LogFlush { handle, lsn })
+    } else {
+        None
+    }
+}
+
 /// The action of a verb, `Syntax` where it has none of these words.
 #[tactic(auto, unfolding(crate::specs::Actions::action_of))]
 pub(crate) fn action(
@@ -142,21 +181,26 @@ pub(crate) fn action(
         Verb::State => state(streams, words).ok_or(LineFault::Syntax),
         Verb::Flush => flush(streams, words).ok_or(LineFault::Syntax),
         Verb::IsDirtyData => is_dirty_data(words).ok_or(LineFault::Syntax),
+        Verb::SetLog => set_log(streams, words).ok_or(LineFault::Syntax),
+        Verb::Append => append(alloc, words),
+        Verb::LogFlush => log_flush(words).ok_or(LineFault::Syntax),
         Verb::Stream | Verb::Journal | Verb::Threshold | Verb::Phase => Err(LineFault::Syntax),
     }
 }
 
-/// How many bytes an action reads or writes.
+/// How many bytes an action reads, writes or appends.
 pub(crate) fn bytes_moved(action: &Action) -> u64
     ensures { result ≡ bytes_moved action.now }
 {
     match action {
         Action::CopyRead { len, .. } => *len,
-        Action::CopyWrite { bytes, .. } => bytes.len(),
+        Action::CopyWrite { bytes, .. } | Action::Append { bytes, .. } => bytes.len(),
         Action::Zero { .. }
         | Action::SetSizes { .. }
         | Action::State { .. }
         | Action::Flush { .. }
-        | Action::IsDirtyData => 0,
+        | Action::IsDirtyData
+        | Action::SetLog { .. }
+        | Action::LogFlush { .. } => 0,
     }
 }

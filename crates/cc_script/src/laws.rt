@@ -33,8 +33,8 @@ pub fn lines_spell()
     ensures settings { SettingsSpell }
 {}
 
-/// Every script of the grammar keeps within its offer, in which no line is of an earlier phase than one
-/// before it.
+/// Every script of the grammar keeps within what its run may rely on, in which no line is of an earlier phase
+/// than one before it.
 pub fn scripts_are_within()
     ensures within { ScriptsAreWithin }
     ensures phases { PhasesRise }

@@ -2,8 +2,8 @@
 //!
 //! The grammar is a definition in specs/: bytes as lines, a line as words, and a table by cases over the
 //! verbs. `read_script` answers exactly the script that the bytes spell, else the number of the first
-//! line that is not in the grammar, or want of memory. What it answers keeps within what is offered, so
-//! that a run needs no test of its script. Laws of the grammar in words of their own, as that a number's
+//! line that is not in the grammar, or want of memory. What it answers keeps within the ranges that
+//! a run relies on, so that the run needs no test of its script. Laws of the grammar in words of their own, as that a number's
 //! word is its decimal text, are clauses of functions without a body.
 //!
 //! It stands on cc_entry, for the values of the words; the program's runs stand on it.
@@ -26,7 +26,7 @@ pub use laws::{
     lines_join, lines_spell, numbers_are_decimal, scripts_are_within, verbs_differ, words_spell,
 };
 pub use name::Name;
-pub use read::{OFFERED, read_offered, read_script};
+pub use read::read_script;
 pub use script::{
-    Action, ActionLine, ActionLines, Mode, Offer, Script, ScriptFault, StreamLine, StreamLines,
+    Action, ActionLine, ActionLines, Mode, Script, ScriptFault, StreamLine, StreamLines,
 };

@@ -6,47 +6,30 @@ ghost use Rattle.std.specs.Str.Lines.{strip_carriage_return};
 ghost use Rattle.cc_script.specs.Outcome.{Becomes};
 ghost use Rattle.cc_script.specs.Answers.{Reads};
 ghost use Rattle.cc_script.specs.Within.{IsWithin};
-ghost use Rattle.cc_script.specs.Verbs.{offered};
 ghost use Rattle.cc_script.specs.Grammar.{is_printable, called_line, uncalled_line, words_line, text_line, line_of, script_of};
 
 use crate::fault::LineFault;
 use crate::part::{Words, first_line};
 use crate::reading::Reading;
-use crate::script::{Mode, Offer, Script, ScriptFault};
+use crate::script::{Mode, Script, ScriptFault};
 use crate::word;
 use std::alloc::Global;
-
-/// What the program offers.
-pub const OFFERED: Offer = Offer::Pages;
 
 /// The most lines of a script.
 const MOST_LINES: u32 = 65536;
 
-/// The script that bytes spell with the verbs that the program offers, or the first line that is not
-/// in the grammar. A run may rely on what a script that was read keeps within, and needs no test of it.
+/// The script that bytes spell, or the first line that is not in the grammar. A run may rely on what a script
+/// that was read keeps within, and needs no test of it.
 pub fn read_script(alloc: Global, bytes: &[u8], mode: Mode) -> Result<Script, ScriptFault>
-    ensures read { Reads (script_of offered mode bytes.now) result }
-    ensures within { IfOk result (IsWithin offered) }
+    ensures read { Reads (script_of mode bytes.now) result }
+    ensures within { IfOk result IsWithin }
 {
-    read_offered(alloc, bytes, mode, OFFERED)
-}
-
-/// The same with the verbs of an offer.
-pub fn read_offered(
-    alloc: Global,
-    bytes: &[u8],
-    mode: Mode,
-    offer: Offer,
-) -> Result<Script, ScriptFault>
-    ensures read { Reads (script_of offer mode bytes.now) result }
-    ensures within { IfOk result (IsWithin offer) }
-{
-    read_lines(alloc, bytes, mode, offer)
+    read_lines(alloc, bytes, mode)
 }
 
 #[tactic(auto, using(crate::proofs::Parts::lines_none), unfolding(crate::specs::Grammar::script_of, crate::specs::Grammar::lines_of))]
-fn read_lines(alloc: Global, bytes: &[u8], mode: Mode, offer: Offer) -> Result<Script, ScriptFault>
-    ensures { Reads (script_of offer mode bytes.now) result }
+fn read_lines(alloc: Global, bytes: &[u8], mode: Mode) -> Result<Script, ScriptFault>
+    ensures { Reads (script_of mode bytes.now) result }
 {
     let mut reading = Reading::new(alloc);
     let mut rest = bytes;
@@ -57,7 +40,7 @@ fn read_lines(alloc: Global, bytes: &[u8], mode: Mode, offer: Offer) -> Result<S
             return Err(ScriptFault::Syntax { line: line + 1 });
         }
         line += 1;
-        match reading.line(alloc, offer, mode, line, text) {
+        match reading.line(alloc, mode, line, text) {
             Ok(()) => {}
             Err(LineFault::Syntax) => return Err(ScriptFault::Syntax { line }),
             Err(LineFault::NoMemory) => return Err(ScriptFault::NoMemory),
@@ -70,29 +53,15 @@ fn read_lines(alloc: Global, bytes: &[u8], mode: Mode, offer: Offer) -> Result<S
 impl Reading {
     // One more line, which may end with a carriage return.
     #[tactic(auto, unfolding(crate::specs::Grammar::line_of))]
-    fn line(
-        &mut self,
-        alloc: Global,
-        offer: Offer,
-        mode: Mode,
-        number: u32,
-        line: &[u8],
-    ) -> Result<(), LineFault>
-        ensures { Becomes (line_of offer mode number line.now self.old) result self.new }
+    fn line(&mut self, alloc: Global, mode: Mode, number: u32, line: &[u8]) -> Result<(), LineFault>
+        ensures { Becomes (line_of mode number line.now self.old) result self.new }
     {
-        self.text(alloc, offer, mode, number, without_return(line))
+        self.text(alloc, mode, number, without_return(line))
     }
 
     #[tactic(auto, unfolding(crate::specs::Grammar::text_line))]
-    fn text(
-        &mut self,
-        alloc: Global,
-        offer: Offer,
-        mode: Mode,
-        number: u32,
-        text: &[u8],
-    ) -> Result<(), LineFault>
-        ensures { Becomes (text_line offer mode number text.now self.old) result self.new }
+    fn text(&mut self, alloc: Global, mode: Mode, number: u32, text: &[u8]) -> Result<(), LineFault>
+        ensures { Becomes (text_line mode number text.now self.old) result self.new }
     {
         if !is_printable(text) {
             return Err(LineFault::Syntax);
@@ -100,26 +69,25 @@ impl Reading {
         if !text.is_empty() && text[0] == b'#' {
             return Ok(());
         }
-        self.words(alloc, offer, mode, number, &mut Words::new(text))
+        self.words(alloc, mode, number, &mut Words::new(text))
     }
 
     #[tactic(auto, unfolding(crate::specs::Grammar::words_line))]
     fn words(
         &mut self,
         alloc: Global,
-        offer: Offer,
         mode: Mode,
         number: u32,
         words: &mut Words,
     ) -> Result<(), LineFault>
-        ensures { Becomes (words_line offer mode number words.old self.old) result self.new }
+        ensures { Becomes (words_line mode number words.old self.old) result self.new }
     {
         let Some((word, mut behind)) = words.split_first() else {
             return Ok(());
         };
         match word::caller(word) {
-            Some(caller) => self.called(alloc, offer, mode, number, caller, &mut behind),
-            None => self.uncalled(alloc, offer, mode, number, words),
+            Some(caller) => self.called(alloc, mode, number, caller, &mut behind),
+            None => self.uncalled(alloc, mode, number, words),
         }
     }
 
@@ -128,15 +96,14 @@ impl Reading {
     fn called(
         &mut self,
         alloc: Global,
-        offer: Offer,
         mode: Mode,
         number: u32,
         caller: u32,
         words: &mut Words,
     ) -> Result<(), LineFault>
-        ensures { Becomes (called_line offer mode number caller words.old self.old) result self.new }
+        ensures { Becomes (called_line mode number caller words.old self.old) result self.new }
     {
-        let verb = words.verb(offer, mode).ok_or(LineFault::Syntax)?;
+        let verb = words.verb(mode).ok_or(LineFault::Syntax)?;
         self.action(alloc, number, caller, verb, words)
     }
 
@@ -145,14 +112,13 @@ impl Reading {
     fn uncalled(
         &mut self,
         alloc: Global,
-        offer: Offer,
         mode: Mode,
         number: u32,
         words: &mut Words,
     ) -> Result<(), LineFault>
-        ensures { Becomes (uncalled_line offer mode number words.old self.old) result self.new }
+        ensures { Becomes (uncalled_line mode number words.old self.old) result self.new }
     {
-        let verb = words.verb(offer, mode).ok_or(LineFault::Syntax)?;
+        let verb = words.verb(mode).ok_or(LineFault::Syntax)?;
         self.verb(alloc, number, verb, words)
     }
 }

@@ -18,7 +18,7 @@ pub(crate) const MOST_ENTRIES: u64 = 1048576;
 /// The highest cache threshold, in pages.
 const MOST_PAGES: u64 = 16384;
 
-/// The most bytes that the lines of a script read and write.
+/// The most bytes that the lines of a script read, write and append.
 const MOST_BYTES: u64 = 33554432;
 
 /// What the lines so far say.
@@ -174,7 +174,10 @@ impl Reading {
             | Verb::SetSizes
             | Verb::State
             | Verb::Flush
-            | Verb::IsDirtyData => self.action(alloc, number, 1, verb, words),
+            | Verb::IsDirtyData
+            | Verb::SetLog
+            | Verb::Append
+            | Verb::LogFlush => self.action(alloc, number, 1, verb, words),
         }
     }
 }
@@ -188,6 +191,7 @@ fn stream(alloc: Global, number: u32, words: &mut Words) -> Result<StreamLine, L
     let valid = words.number().ok_or(LineFault::Syntax)?;
     let quota = words.quota().ok_or(LineFault::Syntax)?;
     let temporary = words.flag(b"temporary");
+    let log = words.log().ok_or(LineFault::Syntax)?;
     if !words.is_empty() {
         return Err(LineFault::Syntax);
     }
@@ -198,7 +202,7 @@ fn stream(alloc: Global, number: u32, words: &mut Words) -> Result<StreamLine, L
         valid,
         quota,
         temporary,
-        log: None,
+        log,
     })
 }
 

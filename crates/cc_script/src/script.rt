@@ -5,7 +5,7 @@ ghost use Rattle.std.specs.List.{position};
 ghost use Rattle.std.specs.Str.{bytes_eq};
 
 use crate::name::Name;
-use cc_entry::{Bytes, FileId, NoMemory, Quota, Span, StreamId};
+use cc_entry::{Bytes, FileId, Lsn, NoMemory, Quota, Span, StreamId};
 use std::alloc::Global;
 use std::marker::Model;
 
@@ -14,16 +14,6 @@ use std::marker::Model;
 pub enum Mode {
     Run,
     Steps,
-}
-
-/// The verbs and the header lines that are offered.
-#[derive(Clone, Copy, Debug, PartialEq, Eq)]
-pub enum Offer {
-    /// The header lines, callers and phases, and the actions that a run over the cache serves: copied reads and
-    /// writes, zeroing and sizes.
-    Pages,
-    /// Every line of the table.
-    Whole,
 }
 
 /// A stream of the script, numbered by its place in the list.
@@ -154,6 +144,18 @@ pub enum Action {
         span: Option<Span>,
     },
     IsDirtyData,
+    SetLog {
+        file: FileId,
+        handle: u8,
+    },
+    Append {
+        handle: u8,
+        bytes: Bytes,
+    },
+    LogFlush {
+        handle: u8,
+        lsn: Lsn,
+    },
 }
 
 /// An action with its line, its phase and its caller, all counted from 1.

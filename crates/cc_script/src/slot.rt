@@ -5,16 +5,22 @@ ghost use Rattle.cc_script.specs.Outcome.{Takes, TakesIf};
 ghost use Rattle.cc_script.specs.Words.{number_of, number_between, name_of, bytes_of};
 ghost use Rattle.cc_script.specs.Verbs.{verb_in};
 ghost use Rattle.cc_script.specs.Actions.{next, flag, file_of, span_of};
-ghost use Rattle.cc_script.specs.Grammar.{quota_of};
+ghost use Rattle.cc_script.specs.Grammar.{quota_of, log_of};
 
 use crate::fault::LineFault;
 use crate::name::Name;
 use crate::part::Words;
-use crate::script::{Mode, Offer, StreamLines};
+use crate::script::{Mode, StreamLines};
 use crate::verb::Verb;
 use crate::{byte_word, word};
-use cc_entry::{Bytes, FileId, Quota, Span};
+use cc_entry::{Bytes, FileId, Lsn, Quota, Span};
 use std::alloc::Global;
+
+/// The greatest number of a log.
+const MOST_HANDLE: u64 = 3;
+
+/// The greatest log sequence number.
+const MOST_LSN: u64 = 4611686018427387904;
 
 impl Words<'_> {
     pub(crate) fn number(&mut self) -> Option<u64>
@@ -30,10 +36,10 @@ impl Words<'_> {
         word::number_between(low, high, self.next()?)
     }
 
-    pub(crate) fn verb(&mut self, offer: Offer, mode: Mode) -> Option<Verb>
-        ensures { Takes (next (verb_in offer mode) self.old) result self.new }
+    pub(crate) fn verb(&mut self, mode: Mode) -> Option<Verb>
+        ensures { Takes (next (verb_in mode) self.old) result self.new }
     {
-        Verb::offered(offer, mode, self.next()?)
+        Verb::in_mode(mode, self.next()?)
     }
 
     /// Whether a given word stands next, which is taken then.
@@ -61,6 +67,34 @@ impl Words<'_> {
         } else {
             Quota::new(16)
         }
+    }
+
+    /// The number of a log.
+    pub(crate) fn handle(&mut self) -> Option<u8>
+        ensures { Takes (next (number_between 0 3) self.old) result self.new }
+    {
+        let handle = self.number_between(0, MOST_HANDLE)?;
+        Some(handle as u8)
+    }
+
+    /// The log of a stream, none where the words don't say it.
+    #[tactic(auto, unfolding(crate::specs::Grammar::log_of))]
+    pub(crate) fn log(&mut self) -> Option<Option<u8>>
+        ensures { Takes (log_of self.old) result self.new }
+    {
+        if self.flag(b"log") {
+            let handle = self.handle()?;
+            Some(Some(handle))
+        } else {
+            Some(None)
+        }
+    }
+
+    pub(crate) fn lsn(&mut self) -> Option<Lsn>
+        ensures { Takes (next (number_between 1 4611686018427387904) self.old) result self.new }
+    {
+        let lsn = self.number_between(1, MOST_LSN)?;
+        Lsn::new(lsn)
     }
 
     #[tactic(auto, unfolding(crate::specs::Actions::span_of))]

@@ -1,9 +1,9 @@
 //! The table of the verbs.
 
 ghost use Rattle.std.specs.Prelude.{◌≡◌};
-ghost use Rattle.cc_script.specs.Verbs.{verb_text, is_offered, is_in_mode, verb_of, verb_in};
+ghost use Rattle.cc_script.specs.Verbs.{verb_text, is_in_mode, verb_of, verb_in};
 
-use crate::script::{Mode, Offer};
+use crate::script::Mode;
 
 /// The first word of a line, after a caller word.
 #[derive(Clone, Copy, Debug, PartialEq, Eq)]
@@ -19,9 +19,12 @@ pub(crate) enum Verb {
     State,
     Flush,
     IsDirtyData,
+    SetLog,
+    Append,
+    LogFlush,
 }
 
-pub(crate) const VERBS: [Verb; 11] = [
+pub(crate) const VERBS: [Verb; 14] = [
     Verb::Stream,
     Verb::Journal,
     Verb::Threshold,
@@ -33,6 +36,9 @@ pub(crate) const VERBS: [Verb; 11] = [
     Verb::State,
     Verb::Flush,
     Verb::IsDirtyData,
+    Verb::SetLog,
+    Verb::Append,
+    Verb::LogFlush,
 ];
 
 impl Verb {
@@ -51,6 +57,9 @@ impl Verb {
             Verb::State => b"state",
             Verb::Flush => b"flush",
             Verb::IsDirtyData => b"isdirty",
+            Verb::SetLog => b"setlog",
+            Verb::Append => b"append",
+            Verb::LogFlush => b"logflush",
         }
     }
 
@@ -62,15 +71,6 @@ impl Verb {
         VERBS.iter().copied().find(|v| v.text() == word)
     }
 
-    fn is_offered(self, offer: Offer) -> bool
-        ensures { result ≡ is_offered offer self }
-    {
-        match offer {
-            Offer::Whole => true,
-            Offer::Pages => !matches!(self, Verb::State | Verb::Flush | Verb::IsDirtyData),
-        }
-    }
-
     fn is_in_mode(self, mode: Mode) -> bool
         ensures { result ≡ is_in_mode mode self }
     {
@@ -80,13 +80,13 @@ impl Verb {
         }
     }
 
-    /// The verb that a word is in a mode, of those that are offered.
+    /// The verb that a word is in a mode.
     #[tactic(auto, unfolding(crate::specs::Verbs::verb_in))]
-    pub(crate) fn offered(offer: Offer, mode: Mode, word: &[u8]) -> Option<Verb>
-        ensures { result ≡ verb_in offer mode word.now }
+    pub(crate) fn in_mode(mode: Mode, word: &[u8]) -> Option<Verb>
+        ensures { result ≡ verb_in mode word.now }
     {
         let verb = Verb::of(word)?;
-        if verb.is_offered(offer) && verb.is_in_mode(mode) {
+        if verb.is_in_mode(mode) {
             Some(verb)
         } else {
             None

@@ -22,6 +22,8 @@ ghost use Rattle.cc_worked.specs.PiecesRuns.{opens_both, opens_first_twice, unit
 ghost use Rattle.cc_worked.specs.PiecesRuns.{first_bytes, reads, asks, two_full, reads_and_asks, asks_and_reads, asks_twice, two_lines};
 ghost use Rattle.cc_worked.specs.PiecesRuns.{line_of, of_one, of_two, of_one_answered, plan_with, one_step, stranger_beside};
 ghost use Rattle.cc_worked.specs.PiecesLines.{no_request, one_map};
+ghost use Rattle.cc_worked.specs.PiecesWithoutEntry.{flushed_to_three, appended};
+ghost use Rattle.cc_worked.specs.PiecesAnswered.{flushed_to_four};
 ghost use Rattle.cc_worked.specs.PiecesRuns.{given, told_by, all_replies, stream_last, one_unanswered};
 ghost use Rattle.cc_worked.specs.PiecesRuns.{two_dirty, one_dirty, stamped_row, unstamped_row, three_fail};
 
@@ -59,7 +61,7 @@ pub fn full_journal_had_no_room()
     ensures beside_worker { room_limit 0 1 (is_alone 1 of_one) ≡ 32 }
 {}
 
-/// A line of each verb leaves its call, with its arguments.
+/// A line of each verb leaves its call, or its entry of a log, with its arguments.
 pub fn each_verb_is_served()
     ensures written { Served setup 1 [] (action.CopyWrite a 0 (171 ∷ [])) (answer.Given reply.Unit) first_resident (done 1 1 (call.CopyWrite a 0 (171 ∷ [])) ∷ first_resident) }
     ensures zeroed { Served setup 1 [] (action.Zero a first_bytes) (answer.Given reply.Unit) first_resident (done 1 1 (call.Zero a first_bytes) ∷ first_resident) }
@@ -67,8 +69,14 @@ pub fn each_verb_is_served()
     ensures asked { Served setup 1 [] asks (answer.Given (reply.State two_full)) first_resident (answers 1 1 (call.State a) (reply.State two_full) ∷ first_resident) }
     ensures flushed { Served setup 1 [] (action.Flush a None) (answer.Given reply.Unit) first_resident (done 1 1 (call.Flush a None) ∷ synced 1 ∷ first_resident) }
     ensures asked_dirty { Served setup 1 [] action.IsDirtyData (answer.Given (reply.Flag false)) first_resident (dirty_is 1 1 false ∷ first_resident) }
+    ensures log_set { Served setup 1 [] (action.SetLog a 3) (answer.Given reply.Unit) first_resident (done 1 1 (call.SetLog a 3) ∷ first_resident) }
+    ensures appended { Served setup 1 [] (action.Append 0 (1 ∷ [])) (answer.NewLsn 4) flushed_to_three (appended ++ flushed_to_three) }
+    ensures log_flushed { Served setup 1 [] (action.LogFlush 0 4) (answer.Given reply.Unit) flushed_to_three (flushed_to_four ++ flushed_to_three) }
     ensures not_zeroed { Served setup 1 [] (action.Zero a first_bytes) (answer.Given reply.Unit) first_resident (done 1 1 (call.CopyWrite a 0 (0 ∷ [])) ∷ first_resident) → ⊥ }
     ensures no_other_sizes { Served setup 1 [] (action.SetSizes a 8192 4096) (answer.Given reply.Unit) first_resident (done 1 1 (call.SetSizes a 4096 8192) ∷ first_resident) → ⊥ }
+    ensures no_other_log { Served setup 1 [] (action.SetLog a 3) (answer.Given reply.Unit) first_resident (done 1 1 (call.SetLog a 2) ∷ first_resident) → ⊥ }
+    ensures no_other_bytes { Served setup 1 [] (action.Append 0 (2 ∷ [])) (answer.NewLsn 4) flushed_to_three (appended ++ flushed_to_three) → ⊥ }
+    ensures flush_has_no_lsn { Served setup 1 [] (action.LogFlush 0 4) (answer.NewLsn 4) flushed_to_three (flushed_to_four ++ flushed_to_three) → ⊥ }
     ensures no_other_span { Served setup 1 [] (action.Flush a None) (answer.Given reply.Unit) first_resident (done 1 1 (call.Flush a (Some first_bytes)) ∷ synced 1 ∷ first_resident) → ⊥ }
     ensures no_other_file { Served setup 1 [] asks (answer.Given (reply.State two_full)) first_resident (answers 1 1 (call.State second) (reply.State two_full) ∷ first_resident) → ⊥ }
 {}

@@ -1,18 +1,21 @@
--- The one call of the line, by its end.
+-- The one call of the line, by its end, or the one entry of its log.
 use Rattle.std.specs.Prelude.{◌≡◌, ℕ, false, List, [], ◌∷◌, ◌++◌, refl}
 use Rattle.std.specs.declared.option.Option.TheVariants.{Some, None}
-use Rattle.std.proofs.Common.{arith, ap}
+use Rattle.std.proofs.Common.{arith, ap, inl}
 use Rattle.cc_entry.specs.declared.call.Call.{Call}
 use Rattle.cc_entry.specs.declared.call.Call.TheVariants as call
 use Rattle.cc_entry.specs.declared.reply.Reply.{Reply}
 use Rattle.cc_entry.specs.declared.reply.Reply.TheVariants as reply
 use Rattle.cc_entry.specs.declared.reply.Outcome.TheVariants as outcome
 use Rattle.cc_entry.specs.declared.entry.Entry.{Entry}
+use Rattle.cc_entry.specs.declared.entry.Entry.TheVariants as entry
 use Rattle.cc_effects.specs.Calls.{CallLeft}
 use Rattle.cc_effects.proofs.Starts.{begins, done_by, ends_done}
+use Rattle.cc_effects.proofs.Licences.{only-own}
 use Rattle.cc_worked.specs.Values.{setup, a, second, done, answers, synced}
 use Rattle.cc_worked.specs.PiecesReads.{first_resident}
 use Rattle.cc_worked.specs.PiecesRuns.{first_bytes, two_full}
+use Rattle.cc_worked.specs.PiecesWithoutEntry.{flushed_to_three, appended}
 use Rattle.cc_worked.proofs.PiecesOpened.{computed}
 use Rattle.cc_worked.proofs.Marks.{Ended, marks, marked-call, shows}
 use Rattle.cc_worked.proofs.StateAsked.{state-told}
@@ -42,6 +45,17 @@ pub returns-clause-asked_dirty : goal.returns-clause-asked_dirty
 returns-clause-asked_dirty c =
     ends_done 1 1 None call.IsDirtyData (reply.Flag false) first_resident first_resident (begins 1 call.IsDirtyData first_resident) refl (λ during. tt)
 
+pub returns-clause-log_set : goal.returns-clause-log_set
+returns-clause-log_set c =
+    ends_done 1 1 (Some 0) (call.SetLog a 3) reply.Unit first_resident first_resident (begins 1 (call.SetLog a 3) first_resident) refl (λ during. tt)
+
+pub returns-clause-appended : goal.returns-clause-appended
+returns-clause-appended c = (omega arith, record { later = []; earlier = []; grew = refl; is_own = refl; quiet_after = tt; quiet_before = tt })
+
+pub returns-clause-log_flushed : goal.returns-clause-log_flushed
+returns-clause-log_flushed c =
+    (omega arith, inl (record { later = []; earlier = []; grew = refl; is_own = refl; quiet_after = tt; quiet_before = tt }))
+
 -- a stretch that a done call left has its end alone
 one_call : (it : Call) (r : Reply) (piece : List Entry) → CallLeft setup 1 it (outcome.Done r) first_resident (piece ++ first_resident) → marks 1 piece ≡ Ended it (outcome.Done r) ∷ []
 one_call it r piece left =
@@ -58,6 +72,21 @@ returns-clause-no_other_sizes c left = other (one_call (call.SetSizes a 8192 409
   where
     other : Ended (call.SetSizes a 4096 8192) (outcome.Done reply.Unit) ∷ [] ≡ Ended (call.SetSizes a 8192 4096) (outcome.Done reply.Unit) ∷ [] → ⊥
     other same = let sizes : ◌≡◌ {A = ℕ} 4096 8192 = cc in omega (arith, sizes)
+
+pub returns-clause-no_other_log : goal.returns-clause-no_other_log
+returns-clause-no_other_log c left = other (one_call (call.SetLog a 3) reply.Unit (done 1 1 (call.SetLog a 2) ∷ []) left)
+  where
+    other : Ended (call.SetLog a 2) (outcome.Done reply.Unit) ∷ [] ≡ Ended (call.SetLog a 3) (outcome.Done reply.Unit) ∷ [] → ⊥
+    other same = let handles : ◌≡◌ {A = ℕ} 2 3 = cc in omega (arith, handles)
+
+pub returns-clause-no_other_bytes : goal.returns-clause-no_other_bytes
+returns-clause-no_other_bytes c left = other (only-own 1 (entry.Append 1 0 4 (2 ∷ [])) appended flushed_to_three left.1)
+  where
+    other : ◌≡◌ {A = List Entry} (entry.Append 1 0 4 (1 ∷ []) ∷ []) (entry.Append 1 0 4 (2 ∷ []) ∷ []) → ⊥
+    other same = let bytes : ◌≡◌ {A = ℕ} 1 2 = cc in omega (arith, bytes)
+
+pub returns-clause-flush_has_no_lsn : goal.returns-clause-flush_has_no_lsn
+returns-clause-flush_has_no_lsn c left = left
 
 pub returns-clause-no_other_span : goal.returns-clause-no_other_span
 returns-clause-no_other_span c left = other (one_call (call.Flush a None) reply.Unit (done 1 1 (call.Flush a (Some first_bytes)) ∷ synced 1 ∷ []) left)
