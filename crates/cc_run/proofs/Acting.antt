@@ -11,7 +11,7 @@ use Rattle.cc_model.specs.Room.{room_in}
 use Rattle.cc_model.specs.Setup.{Setup}
 use Rattle.cc_effects.specs.Moments.{IsIdle}
 use Rattle.cc_effects.proofs.Stretches.{some-end}
-use Rattle.cc_pieces.specs.Answered.{CallAnswered}
+use Rattle.cc_pieces.specs.Answered.{CallAnswered, AppendAnswered, LogFlushAnswered}
 use Rattle.cc_pieces.specs.Bindings.{Binding}
 use Rattle.cc_pieces.specs.Rooms.{HadNoRoom, WasFull}
 use Rattle.cc_pieces.specs.Served.{Served}
@@ -41,6 +41,17 @@ room-within w limit u me it (answer.Refused (error.JournalFull entries)) old lef
 room-within w limit u me it (answer.NcRefused done cause) old left rest few full = absurd full
 room-within w limit u me it other old left rest few full = tt
 
+-- an append to a log, and a flush of one, that found the journal full placed nothing
+pub room-append : (w : Standing) (limit : ℕ) (u : Setup) (me handle : ℕ) (bytes : List ℕ) (told : Answer) (old : List Entry) → AppendAnswered u me handle bytes told old w.seen → w.in_flight ≡ 0 → w.others + 2 ≤ limit → IsFullTold w told → HadNoRoom w.setup limit told old w.seen
+room-append w limit u me handle bytes (answer.Refused (error.JournalFull entries)) old left rest few full = full-at w limit entries left.during old left.grew rest few full
+room-append w limit u me handle bytes (answer.NcRefused done cause) old left rest few full = absurd full
+room-append w limit u me handle bytes other old left rest few full = tt
+
+pub room-log_flush : (w : Standing) (limit : ℕ) (u : Setup) (me handle lsn : ℕ) (told : Answer) (old : List Entry) → LogFlushAnswered u me handle lsn told old w.seen → w.in_flight ≡ 0 → w.others + 2 ≤ limit → IsFullTold w told → HadNoRoom w.setup limit told old w.seen
+room-log_flush w limit u me handle lsn (answer.Refused (error.JournalFull entries)) old left rest few full = full-at w limit entries left.during old left.grew rest few full
+room-log_flush w limit u me handle lsn (answer.NcRefused done cause) old left rest few full = absurd full
+room-log_flush w limit u me handle lsn other old left rest few full = tt
+
 -- on a desk others have nothing under way
 pub room-left : (w : Standing) (u : Setup) (me : ℕ) (it : Call) (told : Answer) (old : List Entry) → CallAnswered u me it told old w.seen → w.in_flight ≡ 0 → w.others ≡ 0 → IsFullTold w told → HadNoRoom w.setup 4 told old w.seen
 room-left w u me it told old left rest alone full = room-within w 4 u me it told old left rest (omega (arith, alone)) full
@@ -52,6 +63,7 @@ goes-pass old new went = record {
     setup = ap (λ w. w.setup) went.same;
     streams = ap (λ w. w.streams) went.same;
     disks = ap (λ w. w.disks) went.same;
+    logs = ap (λ w. w.logs) went.same;
   };
   number = ap (λ w. w.number) went.same;
   since = ap (λ w. w.since) went.same;
@@ -62,10 +74,11 @@ run-then old between new first second = record {
   setup = second.setup ∙ first.setup;
   streams = second.streams ∙ first.streams;
   disks = second.disks ∙ first.disks;
+  logs = second.logs ∙ first.logs;
 }
 
 pub run-same : (w : Standing) → IsSameRun w w
-run-same w = record { setup = refl; streams = refl; disks = refl }
+run-same w = record { setup = refl; streams = refl; disks = refl; logs = refl }
 
 pub pass-then : (old between new : Standing) → IsSamePass old between → IsSamePass between new → IsSamePass old new
 pass-then old between new first second = record {
@@ -91,6 +104,7 @@ module _ (w0 w1 w2 : Standing) (caller : ℕ) (acts : w1 ≡ record w0 { number 
     setup = ap (λ w. w.setup) went.same ∙ ap (λ w. w.setup) acts;
     streams = ap (λ w. w.streams) went.same ∙ ap (λ w. w.streams) acts;
     disks = ap (λ w. w.disks) went.same ∙ ap (λ w. w.disks) acts;
+    logs = ap (λ w. w.logs) went.same ∙ ap (λ w. w.logs) acts;
   }
 
   at_rest : w2.in_flight ≡ 0

@@ -30,7 +30,7 @@ use Rattle.cc_run.specs.Callers.{MayRun, CallerRan, AllRan, asked_own, count_of}
 use Rattle.cc_run.specs.Lines.{CanServe, IsFullTold, IsServable}
 use Rattle.cc_run.specs.declared.callers.Caller.{Caller}
 use Rattle.cc_run.specs.declared.callers.Finished.{Finished}
-use Rattle.cc_run.proofs.Acting.{room-within}
+use Rattle.cc_run.proofs.Acting.{room-append, room-log_flush, room-within}
 use Rattle.cc_run.proofs.Lists.{all-at, parted}
 use Rattle.cc_run.proofs.Merging.{own-more, own-none, own-other, count-more, count-other}
 
@@ -96,6 +96,9 @@ room-served w limit u me bindings (action.SetSizes file allocation size) told ol
 room-served w limit u me bindings (action.State file) told old left rest few full = room-within w limit u me (call.State file) told old left rest few full
 room-served w limit u me bindings (action.Flush file span) told old left rest few full = room-within w limit u me (call.Flush file span) told old left rest few full
 room-served w limit u me bindings action.IsDirtyData told old left rest few full = room-within w limit u me call.IsDirtyData told old left rest few full
+room-served w limit u me bindings (action.SetLog file handle) told old left rest few full = room-within w limit u me (call.SetLog file handle) told old left rest few full
+room-served w limit u me bindings (action.Append handle bytes) told old left rest few full = room-append w limit u me handle bytes told old left rest few full
+room-served w limit u me bindings (action.LogFlush handle lsn) told old left rest few full = room-log_flush w limit u me handle lsn told old left rest few full
 
 went-then : (old between new : Standing) → WentOn old between → WentOn between new → WentOn old new
 went-then old between new first second =

@@ -11,7 +11,9 @@ mod RowSteps
 mod RunSteps
 mod Statuses
 mod DirtyRows
+mod Returned
 mod DiskSteps
+mod LogSteps
 mod Told
 pub mod Merging
 pub mod CallersRan

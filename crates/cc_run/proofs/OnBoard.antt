@@ -22,6 +22,7 @@ use Rattle.cc_pieces.specs.Phases.{is_of_phase}
 use Rattle.cc_pieces.specs.Rooms.{is_alone, room_limit}
 use Rattle.cc_pieces.specs.Runs.{Ran, asked_of}
 use Rattle.cc_pieces.proofs.LineSteps.{ran-idle}
+use Rattle.cc_pieces.proofs.OneCaller.{asked-none}
 use Rattle.cc_step.specs.Step.{owes_store}
 use Rattle.cc_turns.specs.Desk.{DeskState, Tells, tells_of, standing_of}
 use Rattle.cc_turns.specs.Places.{IsRoomFor}
@@ -37,7 +38,6 @@ use Rattle.cc_run.specs.declared.callers.Caller.{Caller}
 use Rattle.cc_run.specs.declared.callers.Finished.{Finished}
 use Rattle.cc_run.proofs.CallersRan.{all-ran-long}
 use Rattle.cc_run.proofs.Others.{settled-idle}
-use Rattle.cc_run.proofs.PhasesRan.{asked-none}
 use Rattle.cc_run.proofs.RowSteps.{reverse_twice}
 
 -- ---- rows
@@ -250,6 +250,7 @@ module _ {D L Q : Type 0} (told : D → Option Disk) (faults : D → ℕ) (log_t
                 setup = ap (λ b. (standing_of told faults log_told log_faults (record now { begun = b })).setup) begun;
                 streams = ap (λ b. length b.disks) begun;
                 disks = ap (λ b. (standing_of told faults log_told log_faults (record now { begun = b })).disks) begun;
+                logs = ap (λ b. (standing_of told faults log_told log_faults (record now { begun = b })).logs) begun;
               }
 
           settled-now : (me : ℕ) → owes_store now.last.entries me ≡ false
@@ -320,4 +321,5 @@ module _ {D L Q : Type 0} (told : D → Option Disk) (faults : D → ℕ) (log_t
     setup = ap (λ b. (standing_of told faults log_told log_faults (record back { begun = b })).setup) handed.run_is;
     streams = ap (λ b. length b.disks) handed.run_is;
     disks = ap (λ b. (standing_of told faults log_told log_faults (record back { begun = b })).disks) handed.run_is;
+    logs = ap (λ b. (standing_of told faults log_told log_faults (record back { begun = b })).logs) handed.run_is;
   }

@@ -1,26 +1,22 @@
 -- The run of the phases, one after the other, explains all answers.
 use Rattle.std.specs.Prelude.{◌≡◌, ◌≢◌, ℕ, zero, suc, ◌+◌, ◌<◌, ◌≤◌, ◌==◌, ◌&&◌, Bool, true, false, List, [], ◌∷◌, ◌++◌, length, map, refl, if◌then◌else◌}
-use Rattle.std.specs.List.{AllByRecursion, flat_map, list_all, IsDistinct}
+use Rattle.std.specs.List.{AllByRecursion, list_all, IsDistinct}
 use Rattle.std.proofs.Common.{sym, ap, subst, ◌∙◌, arith, inl, append-nil, append_assoc}
 use Rattle.std.proofs.lemmas.Bool.{ne_eqb}
 use Rattle.std.proofs.lemmas.List.{map-append}
 use Rattle.std.proofs.lemmas.List.Folds.{list_all-append}
-use Rattle.cc_entry.specs.declared.answer.Answer.{Answer}
 use Rattle.cc_entry.specs.declared.answer.LineReply.{LineReply}
 use Rattle.cc_entry.specs.declared.entry.Entry.{Entry}
-use Rattle.cc_script.specs.declared.script.Action.{Action}
-use Rattle.cc_script.specs.declared.script.Action.TheVariants as action
 use Rattle.cc_script.specs.declared.script.ActionLine.{ActionLine}
 use Rattle.cc_script.specs.declared.script.Script.{Script}
-use Rattle.cc_script.specs.Verbs.{offered}
 use Rattle.cc_script.specs.Within.{IsLineWithin, IsWithin}
 use Rattle.cc_model.specs.Setup.{Setup}
 use Rattle.cc_effects.specs.Moments.{IsIdle}
-use Rattle.cc_pieces.specs.Served.{posted_by}
 use Rattle.cc_pieces.specs.Rooms.{is_alone, room_limit}
 use Rattle.cc_pieces.specs.Runs.{Ran, bindings_of, asked_of}
 use Rattle.cc_pieces.specs.Phases.{Plan, PhaseRan, PhasesRan, is_of_phase, lines_before}
 use Rattle.cc_pieces.specs.Explained.{answered_lines, IsExplained}
+use Rattle.cc_pieces.proofs.OneCaller.{asked-none, posted-none}
 use Rattle.cc_run.specs.Lines.{StreamsOpened, given_of, lines_answered}
 use Rattle.cc_run.specs.Phases.{PhaseLeft, PhasesLeft, PhasesServed}
 use Rattle.cc_run.proofs.Lists.{all-map, all-front, all-back, all-join}
@@ -37,11 +33,6 @@ asked-append test (l ∷ lines) more (r ∷ replies) others same = by (test l) (
     by : (b : Bool) → asked_of test (lines ++ more) (replies ++ others) ≡ asked_of test lines replies ++ asked_of test more others → (if b then (l.action, r.answer) ∷ asked_of test (lines ++ more) (replies ++ others) else asked_of test (lines ++ more) (replies ++ others)) ≡ (if b then (l.action, r.answer) ∷ asked_of test lines replies else asked_of test lines replies) ++ asked_of test more others
     by true rest = ap (λ all. (l.action, r.answer) ∷ all) rest
     by false rest = rest
-
-pub asked-none : (test : ActionLine → Bool) (lines : List ActionLine) (replies : List LineReply) → AllByRecursion (λ line. test line ≡ false) lines → asked_of test lines replies ≡ []
-asked-none test [] replies none = refl
-asked-none test (line ∷ lines) [] none = refl
-asked-none test (line ∷ lines) (reply ∷ replies) none = rw none.0 (asked-none test lines replies none.1)
 
 -- a line of another phase, and one of another caller
 of_other : (q me : ℕ) (line : ActionLine) → line.phase ≢ q → is_of_phase q me line ≡ false
@@ -169,22 +160,8 @@ module _ (u : Setup) (all : List ActionLine) (answers : List LineReply) (few : A
       subst (λ count. PhasesRan u plan 1 count [] [] old new) counted
       (phases-ran n 0 all [] answers [] old new new (sym (append-nil all)) (sym (append-nil answers)) tt left (refl, refl, refl))
 
--- no line posts
-posts-none : (asked : Action) (told : Answer) → posted_by asked told ≡ []
-posts-none (action.CopyRead file at len wait) told = refl
-posts-none (action.CopyWrite file at bytes) told = refl
-posts-none (action.Zero file span) told = refl
-posts-none (action.SetSizes file allocation size) told = refl
-posts-none (action.State file) told = refl
-posts-none (action.Flush file span) told = refl
-posts-none action.IsDirtyData told = refl
-
-posted-none : (lines : List (Action × Answer)) → flat_map (λ line. posted_by line.0 line.1) lines ≡ []
-posted-none [] = refl
-posted-none (line ∷ lines) = rw (posts-none line.0 line.1) (posted-none lines)
-
 -- What the streams and the phases of a script left, one after the other, explains all answers.
-explained : (u : Setup) (script : Script) (between replies : List LineReply) (begun past : List Entry) → IsWithin offered script → StreamsOpened u 0 script.streams [] between [] begun → ((me : ℕ) → me ≢ 0 → IsIdle me [] begun) → PhasesServed u script.phases script.lines between replies begun past → IsExplained u (given_of script) (lines_answered replies) past
+explained : (u : Setup) (script : Script) (between replies : List LineReply) (begun past : List Entry) → IsWithin script → StreamsOpened u 0 script.streams [] between [] begun → ((me : ℕ) → me ≢ 0 → IsIdle me [] begun) → PhasesServed u script.phases script.lines between replies begun past → IsExplained u (given_of script) (lines_answered replies) past
 unfolding IsDistinct
 explained u script between replies begun past within opened alone served = record {
   setup = opened.answers;
@@ -197,11 +174,11 @@ explained u script between replies begun past within opened alone served = recor
   alone = alone;
   ran =
       rw (within.header.no_ticks, within.header.no_aheads) (all-ran u script.lines served.answers
-      (all-map (IsLineWithin offered script.streams script.phases) (λ line. line.caller ≤ 16) script.lines (λ line is. is.last_caller) within.lines)
+      (all-map (IsLineWithin script.streams script.phases) (λ line. line.caller ≤ 16) script.lines (λ line is. is.last_caller) within.lines)
       script.phases begun past served.left);
   posted_once = rw (posted-none (asked_of (λ line. true) script.lines served.answers)) tt;
 }
 
-pub run-explained : (u v : Setup) (script : Script) (first between replies : List LineReply) (start begun past : List Entry) → IsWithin offered script → first ≡ [] → start ≡ [] → v ≡ u → StreamsOpened u 0 script.streams first between start begun → ((me : ℕ) → me ≢ 0 → IsIdle me start begun) → PhasesServed v script.phases script.lines between replies begun past → IsExplained u (given_of script) (lines_answered replies) past
+pub run-explained : (u v : Setup) (script : Script) (first between replies : List LineReply) (start begun past : List Entry) → IsWithin script → first ≡ [] → start ≡ [] → v ≡ u → StreamsOpened u 0 script.streams first between start begun → ((me : ℕ) → me ≢ 0 → IsIdle me start begun) → PhasesServed v script.phases script.lines between replies begun past → IsExplained u (given_of script) (lines_answered replies) past
 run-explained u v script first between replies start begun past within none empty same opened alone served =
     explained u script between replies begun past within (rw (none, empty) at opened) (rw empty at alone) (rw same at served)

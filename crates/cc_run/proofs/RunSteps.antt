@@ -1,7 +1,8 @@
 -- A run on a desk: where it begins, what it may serve, and the disks at its end.
-use Rattle.std.specs.Prelude.{◌≡◌, ℕ, ◌+◌, ◌≤◌, true, false, List, [], length, take, slice_get, refl}
-use Rattle.std.specs.List.{AllByRecursion}
+use Rattle.std.specs.Prelude.{◌≡◌, ℕ, ◌+◌, ◌≤◌, nat_le, Bool, true, false, ◌&&◌, List, [], length, take, slice_get, refl}
+use Rattle.std.specs.List.{AllByRecursion, list_all}
 use Rattle.std.proofs.Common.{sym, ap, subst, ◌∙◌, arith}
+use Rattle.std.proofs.lemmas.Bool.{leb-true}
 use Rattle.std.proofs.lemmas.List.{length-map, length-append}
 use Rattle.cc_entry.specs.declared.answer.LineReply.{LineReply}
 use Rattle.cc_entry.specs.declared.entry.Entry.{Entry}
@@ -13,15 +14,17 @@ use Rattle.cc_script.specs.declared.script.Action.{Action}
 use Rattle.cc_script.specs.declared.script.Action.TheVariants as action
 use Rattle.cc_script.specs.declared.script.ActionLine.{ActionLine}
 use Rattle.cc_script.specs.declared.script.StreamLine.{StreamLine}
-use Rattle.cc_script.specs.Verbs.{offered, is_offered}
-use Rattle.cc_script.specs.Within.{IsActionWithin, IsLineWithin, verb_of_action}
+use Rattle.cc_script.specs.Within.{IsActionWithin, IsLineWithin}
 use Rattle.cc_model.specs.Passes.{up_to_call}
 use Rattle.cc_model.specs.Setup.{Setup}
 use Rattle.cc_step.specs.Step.{owes_store}
 use Rattle.cc_turns.specs.Disk.{DiskStands}
-use Rattle.cc_turns.specs.Standing.{DiskAtFirst}
-use Rattle.cc_turns.specs.Desk.{Begun, DeskState, DisksEnded, disk_at_first, standing_of}
+use Rattle.cc_turns.specs.Log.{FileStands}
+use Rattle.cc_turns.specs.Standing.{DiskAtFirst, LogAtFirst}
+use Rattle.cc_turns.specs.Desk.{Begun, DeskState, DisksEnded, LogsEnded, disk_at_first, log_at_first, standing_of}
 use Rattle.cc_run.specs.Disks.{DisksStand}
+use Rattle.cc_run.specs.Ends.{has_devices, has_log}
+use Rattle.cc_run.specs.Logs.{LogsStand}
 use Rattle.cc_run.specs.Setups.{setup_of}
 use Rattle.cc_run.specs.Lines.{IsServable, StreamsOpened}
 use Rattle.cc_run.proofs.Lists.{all-map}
@@ -31,19 +34,30 @@ pub owes-none : (me : ℕ) → owes_store [] me ≡ false
 unfolding up_to_call
 owes-none me = refl
 
--- an action that is offered is served
-servable : (streams : List StreamLine) (n : ℕ) (asked : Action) → length streams ≤ n → is_offered offered (verb_of_action asked) ≡ true → IsActionWithin streams asked → IsServable n asked
-servable streams n (action.CopyRead file at len wait) few offer within = let there = within.stream in omega (arith, there, few)
-servable streams n (action.CopyWrite file at bytes) few offer within = let there = within.stream in omega (arith, there, few)
-servable streams n (action.Zero file span) few offer within = let there = within.stream in omega (arith, there, few)
-servable streams n (action.SetSizes file allocation size) few offer within = let there = within.stream in omega (arith, there, few)
-servable streams n (action.State file) few offer within = absurd (cc offer)
-servable streams n (action.Flush file span) few offer within = absurd (cc offer)
-servable streams n action.IsDirtyData few offer within = absurd (cc offer)
+-- an action on a stream of the script is served, and so is one on no stream
+servable : (streams : List StreamLine) (n : ℕ) (asked : Action) → length streams ≤ n → IsActionWithin streams asked → IsServable n asked
+servable streams n (action.CopyRead file at len wait) few within = let there = within.stream in omega (arith, there, few)
+servable streams n (action.CopyWrite file at bytes) few within = let there = within.stream in omega (arith, there, few)
+servable streams n (action.Zero file span) few within = let there = within.stream in omega (arith, there, few)
+servable streams n (action.SetSizes file allocation size) few within = let there = within.stream in omega (arith, there, few)
+servable streams n (action.State file) few within = let there = within.stream in omega (arith, there, few)
+servable streams n (action.Flush file span) few within = let there = within.stream in omega (arith, there, few)
+servable streams n action.IsDirtyData few within = tt
+servable streams n (action.SetLog file handle) few within = let there = within.stream in omega (arith, there, few)
+servable streams n (action.Append handle bytes) few within = tt
+servable streams n (action.LogFlush handle lsn) few within = tt
 
-pub servable-all : (streams : List StreamLine) (phases n : ℕ) (lines : List ActionLine) → length streams ≤ n → AllByRecursion (IsLineWithin offered streams phases) lines → AllByRecursion (λ line. IsServable n line.action) lines
+pub servable-all : (streams : List StreamLine) (phases n : ℕ) (lines : List ActionLine) → length streams ≤ n → AllByRecursion (IsLineWithin streams phases) lines → AllByRecursion (λ line. IsServable n line.action) lines
 servable-all streams phases n lines few within =
-    all-map (IsLineWithin offered streams phases) (λ line. IsServable n line.action) lines (λ line is. servable streams n line.action few is.verb_offered is.file) within
+    all-map (IsLineWithin streams phases) (λ line. IsServable n line.action) lines (λ line is. servable streams n line.action few is.file) within
+
+-- where there are devices for a script, there is a disk for each stream
+pub enough-disks : (disks logs : ℕ) (script : Script) → has_devices disks logs script ≡ true → length script.streams ≤ disks
+enough-disks disks logs script enough = by (nat_le (length script.streams) disks) refl enough
+  where
+    by : (b : Bool) → nat_le (length script.streams) disks ≡ b → (b && list_all (λ stream. has_log logs stream.log) script.streams) ≡ true → length script.streams ≤ disks
+    by true is all = leb-true (length script.streams) disks is
+    by false is all = absurd (cc all)
 
 -- each stream has a reply
 pub opened-long : (u : Setup) (s : ℕ) (streams : List StreamLine) (before after : List LineReply) (old new : List Entry) → StreamsOpened u s streams before after old new → length after ≡ length before + length streams
@@ -57,6 +71,13 @@ disks-stand told faults first count past d disks ended same at_first is = record
   each = λ s disk at. rw is (subst (λ (f : ℕ → DiskAtFirst). DiskStands told faults (f s) d.last.entries s disk) at_first (ended.each s disk at).stands);
 }
 
--- the setup that a run is made from is that of the script and of the disks
-pub setup-is : {D L Q : Type 0} (told : D → Option Disk) (faults : D → ℕ) (log_told : L → Option Log) (log_faults : L → ℕ) (d : DeskState D L Q) (begun : Begun D L) (script : Script) (disks : List D) → d.begun ≡ begun → begun.disks ≡ take 16 disks → begun.logs ≡ [] → begun.capacity ≡ script.journal → begun.threshold ≡ script.threshold → (standing_of told faults log_told log_faults d).setup ≡ setup_of told faults script disks
-setup-is told faults log_told log_faults d begun script disks is same none capacity threshold = rw (is, same, none, capacity, threshold) refl
+-- so do the logs
+pub logs-stand : {D L Q : Type 0} (told : L → Option Log) (faults : L → ℕ) (first : ℕ → LogAtFirst) (count : ℕ) (past : List Entry) (d : DeskState D L Q) (logs : List L) → LogsEnded told faults d logs → length d.begun.logs ≡ count → (λ handle. log_at_first told faults (slice_get d.begun.logs handle)) ≡ first → past ≡ d.last.entries → LogsStand told faults first count past logs
+logs-stand told faults first count past d logs ended same at_first is = record {
+  counted = ended.counted ∙ same;
+  each = λ handle log at. rw is (subst (λ (f : ℕ → LogAtFirst). FileStands told faults (f handle) d.last.entries handle log) at_first (ended.each handle log at));
+}
+
+-- the setup that a run is made from is that of the script, of the disks and of the logs
+pub setup-is : {D L Q : Type 0} (told : D → Option Disk) (faults : D → ℕ) (log_told : L → Option Log) (log_faults : L → ℕ) (d : DeskState D L Q) (begun : Begun D L) (script : Script) (disks : List D) (logs : List L) → d.begun ≡ begun → begun.disks ≡ take 16 disks → begun.logs ≡ take 4 logs → begun.capacity ≡ script.journal → begun.threshold ≡ script.threshold → (standing_of told faults log_told log_faults d).setup ≡ setup_of told faults script disks logs
+setup-is told faults log_told log_faults d begun script disks logs is same same_logs capacity threshold = rw (is, same, same_logs, capacity, threshold) refl

@@ -1,16 +1,15 @@
 -- What each exit status says, and when it comes.
-use Rattle.std.proofs.Common.{◌≡◌, ◌≢◌, ℕ, ◌<◌, ◌≤◌, true, false, List, [], ◌++◌, length, length-append, append-nil, reverse, is_some, IfSome, Option, Some, None, Result, Ok, Err, ◌⊎◌, inl, inr, refl, sym, ◌∙◌, ap, arith}
+use Rattle.std.proofs.Common.{◌≡◌, ◌≢◌, ℕ, ◌<◌, ◌≤◌, true, false, List, [], ◌++◌, length, length-append, append-nil, reverse, is_some, IfSome, Option, Some, None, Result, Ok, Err, ◌⊎◌, inl, inr, refl, sym, subst, ◌∙◌, ap, arith}
 use Rattle.cc_entry.specs.declared.answer.LineReply.{LineReply}
 use Rattle.cc_entry.specs.declared.entry.Entry.{Entry}
 use Rattle.cc_traits.specs.Told.{Both, IfTold, Gave}
 use Rattle.cc_script.specs.declared.script.Script.{Script}
 use Rattle.cc_script.specs.declared.script.Mode.TheVariants as mode
-use Rattle.cc_script.specs.declared.script.Offer.TheVariants as offer
 use Rattle.cc_script.specs.Grammar.{script_of}
 use Rattle.cc_print.specs.Text.{text_of}
 use Rattle.cc_pieces.specs.Table.{table_of}
 use Rattle.cc_run.specs.Words.{is_run}
-use Rattle.cc_run.specs.Ends.{Input, Output, status_of, IsCause, IsRead, IsWrong, WasTaken, TookMany, HasTooFewDisks, HasFailed, Spells, IsPut, IsRun, IsEnded}
+use Rattle.cc_run.specs.Ends.{Input, Output, status_of, IsCause, IsRead, IsWrong, WasTaken, TookMany, HasTooFewDevices, HasFailed, Spells, IsPut, IsRun, IsEnded, has_devices}
 use Rattle.cc_run.specs.Complete.{Comes}
 use Rattle.cc_run.specs.declared.no_run.NoRun.{NoRun}
 use Rattle.cc_run.specs.declared.no_run.NoRun.TheVariants as no_run
@@ -44,10 +43,10 @@ read-few i told w is read = omega (arith, read-count i.left i.left_after told w.
 many-told : (i : Input) (told : List ℕ) → WasTaken i.left i.left_after i.taken i.taken_after → i.left ≡ Some told → TookMany i → 16777216 < length told
 many-told i told w is many = omega (arith, taken-count i.left i.left_after told w.bytes is w.front, w.count, many)
 
-wrong-is : (left : Option (List ℕ)) (told : List ℕ) (line : ℕ) → left ≡ Some told → IsWrong left line → script_of offer.Pages mode.Run told ≡ Err line
+wrong-is : (left : Option (List ℕ)) (told : List ℕ) (line : ℕ) → left ≡ Some told → IsWrong left line → script_of mode.Run told ≡ Err line
 wrong-is left told line is w = rw (told-same left told w.bytes is w.all) at w.wrong
 
-spells-is : (left : Option (List ℕ)) (told : List ℕ) (script : Script) → left ≡ Some told → Spells left script → script_of offer.Pages mode.Run told ≡ Ok script
+spells-is : (left : Option (List ℕ)) (told : List ℕ) (script : Script) → left ≡ Some told → Spells left script → script_of mode.Run told ≡ Ok script
 spells-is left told script is w = rw (told-same left told w.bytes is w.all) at w.spelled
 
 not-both : (r : Result Script ℕ) (script : Script) (line : ℕ) → r ≡ Ok script → r ≡ Err line → ⊥
@@ -104,10 +103,10 @@ module _ (i : Input) (o : Output) (script : Option Script) (replies : List LineR
       by no_run.TooLong is cause = cause.1
       by other is cause = absurd (cc is)
 
-  pub too_few-at : status ≡ 7 → HasTooFewDisks i
-  too_few-at = cause-at 7 (HasTooFewDisks i) by (λ e. absurd (cc e)) (λ e. absurd (cc e)) (λ e. absurd (cc e))
+  pub too_few-at : status ≡ 7 → HasTooFewDevices i
+  too_few-at = cause-at 7 (HasTooFewDevices i) by (λ e. absurd (cc e)) (λ e. absurd (cc e)) (λ e. absurd (cc e))
     where
-      by : (why : NoRun) → 7 ≡ status_of why → IsCause i why → HasTooFewDisks i
+      by : (why : NoRun) → 7 ≡ status_of why → IsCause i why → HasTooFewDevices i
       by no_run.TooFewDevices is cause = cause.1
       by other is cause = absurd (cc is)
 
@@ -190,7 +189,7 @@ module _ (i : Input) (o : Output) (script : Option Script) (replies : List LineR
       go None e = at e.2.why e.2.status_is (by e.2.why e.2.cause)
       go (Some one) e = run one e
 
-  pub syntax-always : WasTaken i.left i.left_after i.taken i.taken_after → (bytes : List ℕ) (line : ℕ) → Comes i bytes → script_of offer.Pages mode.Run bytes ≡ Err line → (status ≡ 2) ⊎ (status ≡ 6)
+  pub syntax-always : WasTaken i.left i.left_after i.taken i.taken_after → (bytes : List ℕ) (line : ℕ) → Comes i bytes → script_of mode.Run bytes ≡ Err line → (status ≡ 2) ⊎ (status ≡ 6)
   syntax-always w bytes line comes wrong = refused-at 2 by run
     where
       by : (why : NoRun) → IsCause i why → (status_of why ≡ 2) ⊎ (status_of why ≡ 6)
@@ -232,7 +231,7 @@ module _ (i : Input) (o : Output) (script : Option Script) (replies : List LineR
       run : (made : Script) → IsRun i o made replies journal status → (status ≡ 5) ⊎ (status ≡ 6)
       run made e = absurd (omega (arith, read-few i bytes w told e.read, many))
 
-  pub too_few-always : WasTaken i.left i.left_after i.taken i.taken_after → (bytes : List ℕ) (made : Script) → Comes i bytes → script_of offer.Pages mode.Run bytes ≡ Ok made → i.disks < length made.streams → (status ≡ 7) ⊎ (status ≡ 6)
+  pub too_few-always : WasTaken i.left i.left_after i.taken i.taken_after → (bytes : List ℕ) (made : Script) → Comes i bytes → script_of mode.Run bytes ≡ Ok made → has_devices i.disks i.logs made ≡ false → (status ≡ 7) ⊎ (status ≡ 6)
   too_few-always w bytes made comes spelled few = refused-at 7 by run
     where
       by : (why : NoRun) → IsCause i why → (status_of why ≡ 7) ⊎ (status_of why ≡ 6)
@@ -246,9 +245,9 @@ module _ (i : Input) (o : Output) (script : Option Script) (replies : List LineR
       run : (one : Script) → IsRun i o one replies journal status → (status ≡ 7) ⊎ (status ≡ 6)
       run one e =
           let same : one ≡ made = one-script _ one made (spells-is i.left bytes one comes.told e.spelled) spelled in
-          absurd (omega (arith, few, e.enough, ap (λ s. length s.streams) same))
+          absurd (cc (few, subst (λ s. has_devices i.disks i.logs s ≡ true) same e.enough))
 
-  pub complete : WasTaken i.left i.left_after i.taken i.taken_after → (bytes : List ℕ) (made : Script) → Comes i bytes → script_of offer.Pages mode.Run bytes ≡ Ok made → length made.streams ≤ i.disks → o.faults_after ≡ o.faults → o.stalls_after ≡ o.stalls → (status ≡ 0) ⊎ (status ≡ 6)
+  pub complete : WasTaken i.left i.left_after i.taken i.taken_after → (bytes : List ℕ) (made : Script) → Comes i bytes → script_of mode.Run bytes ≡ Ok made → has_devices i.disks i.logs made ≡ true → o.faults_after ≡ o.faults → o.stalls_after ≡ o.stalls → (status ≡ 0) ⊎ (status ≡ 6)
   complete w bytes made comes spelled enough calm steady = refused-at 0 by run
     where
       by : (why : NoRun) → IsCause i why → (status_of why ≡ 0) ⊎ (status_of why ≡ 6)
@@ -259,7 +258,7 @@ module _ (i : Input) (o : Output) (script : Option Script) (replies : List LineR
       by no_run.NoMemory cause = inr refl
       by no_run.TooFewDevices cause =
           let same : cause.1.script ≡ made = one-script _ cause.1.script made (spells-is i.left bytes cause.1.script comes.told cause.1.spelled) spelled in
-          absurd (omega (arith, enough, cause.1.few, ap (λ s. length s.streams) same))
+          absurd (cc (enough, subst (λ s. has_devices i.disks i.logs s ≡ false) same cause.1.few))
 
       at : (status ≡ 0) ⊎ ((status ≡ 4) ⊎ (status ≡ 6)) → (status ≡ 4 → HasFailed o) → (status ≡ 0) ⊎ (status ≡ 6)
       at (inl zero) failed = inl zero

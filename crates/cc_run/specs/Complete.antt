@@ -1,12 +1,11 @@
 -- When each exit status is sure to come: that status, or 6 for want of memory. A source that tells nothing
 -- says so of the count of its bytes alone.
-use Rattle.std.specs.Prelude.{◌≡◌, ◌<◌, ◌≤◌, ◌⊎◌, true, List, ℕ, length, Some, Result, Ok, Err}
+use Rattle.std.specs.Prelude.{◌≡◌, ◌<◌, ◌≤◌, ◌⊎◌, true, false, List, ℕ, length, Some, Result, Ok, Err}
 use Rattle.cc_script.specs.declared.script.Script.{Script}
 use Rattle.cc_script.specs.declared.script.Mode.TheVariants as mode
-use Rattle.cc_script.specs.declared.script.Offer.TheVariants as offer
 use Rattle.cc_script.specs.Grammar.{script_of}
 use Rattle.cc_run.specs.Words.{is_run}
-use Rattle.cc_run.specs.Ends.{Input, Output, TookMany}
+use Rattle.cc_run.specs.Ends.{Input, Output, TookMany, has_devices}
 
 -- The words are right, and these bytes, no more than a script may have, come from a source without a fault.
 pub record Comes (i : Input) (bytes : List ℕ) : Type 0 where
@@ -17,7 +16,7 @@ pub record Comes (i : Input) (bytes : List ℕ) : Type 0 where
 
 -- the script that bytes spell, or their first wrong line
 abbrev pub spelled_by : List ℕ → Result Script ℕ
-spelled_by bytes = script_of offer.Pages mode.Run bytes
+spelled_by bytes = script_of mode.Run bytes
 
 -- this status, or want of memory
 abbrev pub EndsWith : ℕ → ℕ → Type 0
@@ -36,14 +35,16 @@ abbrev pub TooLongTold : Input → ℕ → Type 0
 TooLongTold i status =
     (bytes : List ℕ) → is_run i.words ≡ true → i.left ≡ Some bytes → i.faults_after ≡ i.faults → 16777216 < length bytes → EndsWith status 5
 
--- more streams than disks are 7
+-- more streams than disks, or a log that there is not, are 7
 abbrev pub TooFewAlways : Input → ℕ → Type 0
 TooFewAlways i status =
-    (bytes : List ℕ) (script : Script) → Comes i bytes → spelled_by bytes ≡ Ok script → i.disks < length script.streams → EndsWith status 7
+    (bytes : List ℕ) (script : Script) → Comes i bytes → spelled_by bytes ≡ Ok script →
+    has_devices i.disks i.logs script ≡ false → EndsWith status 7
 
--- A script of the grammar, with a disk for each stream, over a sink that does not fail and takes something
--- wherever there are bytes, is 0.
+-- A script of the grammar, with a disk for each stream and each log that a stream names, over a sink that does not fail
+-- and takes something wherever there are bytes, is 0.
 abbrev pub Completes : Input → Output → ℕ → Type 0
 Completes i o status =
-    (bytes : List ℕ) (script : Script) → Comes i bytes → spelled_by bytes ≡ Ok script → length script.streams ≤ i.disks →
+    (bytes : List ℕ) (script : Script) → Comes i bytes → spelled_by bytes ≡ Ok script →
+    has_devices i.disks i.logs script ≡ true →
     o.faults_after ≡ o.faults → o.stalls_after ≡ o.stalls → EndsWith status 0

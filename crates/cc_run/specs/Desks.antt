@@ -14,6 +14,7 @@ pub record IsSameRun (old new : Standing) : Type 0 where
   pub setup : new.setup ≡ old.setup
   pub streams : new.streams ≡ old.streams
   pub disks : new.disks ≡ old.disks
+  pub logs : new.logs ≡ old.logs
 
 -- The same pass acts in it.
 pub record IsSamePass (old new : Standing) : Type 0 where

@@ -11,7 +11,8 @@ use Rattle.cc_turns.specs.Standing.{DiskAtFirst}
 use Rattle.cc_turns.specs.Disk.{DiskStands, HasGone}
 use Rattle.cc_run.specs.Setups.{run_disks}
 
--- a relation of each disk as it was handed in and as it came back, with the number of its stream
+-- a relation of each item of a row as it was handed in and as it came back, with its number: of each disk with that of
+-- its stream, of each log with its handle
 abbrev pub Pairwise : {D : Type 0} → (ℕ → D → D → Type 0) → List D → List D → Type 0
 Pairwise {D} R old new = (s : ℕ) (before after : D) → slice_get old s ≡ Some before → slice_get new s ≡ Some after → R s before after
 
@@ -26,7 +27,7 @@ pub record DisksAre {D : Type 0} (told : D → Option Disk) (past : List Entry) 
   pub went : Pairwise (WentWith told past) (run_disks old) (run_disks new)
   pub rest : drop 16 new ≡ drop 16 old
 
--- no disk's count of faults fell
+-- no count of faults fell
 abbrev pub HaveRisen : {D : Type 0} → (D → ℕ) → List D → List D → Type 0
 HaveRisen faults old new = Pairwise (λ s before after. faults before ≤ faults after) old new
 

@@ -1,11 +1,11 @@
 -- How a run of the program ends: its status, the cause of it, and what is printed.
-use Rattle.std.specs.Prelude.{◌≡◌, ℕ, ◌+◌, ◌<◌, ◌≤◌, Bool, true, false, List, [], ◌∷◌, ◌++◌, length, reverse, codes, decimal, Ok, Err, Option, Some, None, ◌⊎◌}
+use Rattle.std.specs.Prelude.{◌≡◌, ℕ, ◌+◌, ◌<◌, ◌≤◌, nat_le, nat_lt, Bool, true, false, ◌&&◌, List, [], ◌∷◌, ◌++◌, length, reverse, codes, decimal, Ok, Err, Option, Some, None, ◌⊎◌}
+use Rattle.std.specs.List.{list_all}
 use Rattle.cc_entry.specs.declared.answer.LineReply.{LineReply}
 use Rattle.cc_entry.specs.declared.entry.Entry.{Entry}
 use Rattle.cc_traits.specs.Told.{Both, IfTold, Gave, Took}
 use Rattle.cc_script.specs.declared.script.Script.{Script}
 use Rattle.cc_script.specs.declared.script.Mode.TheVariants as mode
-use Rattle.cc_script.specs.declared.script.Offer.TheVariants as offer
 use Rattle.cc_script.specs.Grammar.{script_of}
 use Rattle.cc_print.specs.Text.{text_of}
 use Rattle.cc_pieces.specs.Table.{table_of}
@@ -43,7 +43,7 @@ fault_text no_run.NoMemory = []
 fault_text no_run.TooFewDevices = codes "too few devices" ++ line_feed
 
 -- What went into the program: its words; of the source, before and after, what it told of the bytes that
--- were left, its count of faults and how many bytes were taken from it; and the number of disks.
+-- were left, its count of faults and how many bytes were taken from it; and the numbers of disks and of logs.
 pub record Input : Type 0 where
   pub words : List (List ℕ)
   pub left : Option (List ℕ)
@@ -53,10 +53,11 @@ pub record Input : Type 0 where
   pub taken : ℕ
   pub taken_after : ℕ
   pub disks : ℕ
+  pub logs : ℕ
 
 -- the input of a source that tells so
-abbrev pub input : {S : Type 0} → (S → Option (List ℕ)) → (S → ℕ) → (S → ℕ) → List (List ℕ) → S → S → ℕ → Input
-input told faults taken words old new disks =
+abbrev pub input : {S : Type 0} → (S → Option (List ℕ)) → (S → ℕ) → (S → ℕ) → List (List ℕ) → S → S → ℕ → ℕ → Input
+input told faults taken words old new disks logs =
     record {
       words = words;
       left = told old;
@@ -66,6 +67,7 @@ input told faults taken words old new disks =
       taken = taken old;
       taken_after = taken new;
       disks = disks;
+      logs = logs;
     }
 
 -- What came out of it: what the sink told of the bytes that it took, before and after, and its counts of
@@ -100,13 +102,13 @@ pub record WasTaken (left left_after : Option (List ℕ)) (taken taken_after : �
 pub record Spells (left : Option (List ℕ)) (script : Script) : Type 0 where
   pub bytes : List ℕ
   pub all : IfTold left (λ told. bytes ≡ told)
-  pub spelled : script_of offer.Pages mode.Run bytes ≡ Ok script
+  pub spelled : script_of mode.Run bytes ≡ Ok script
 
 -- some bytes, all that were left where the source told them, have this line as their first wrong one
 pub record IsWrong (left : Option (List ℕ)) (line : ℕ) : Type 0 where
   pub bytes : List ℕ
   pub all : IfTold left (λ told. bytes ≡ told)
-  pub wrong : script_of offer.Pages mode.Run bytes ≡ Err line
+  pub wrong : script_of mode.Run bytes ≡ Err line
 
 -- no more bytes were taken than a script may have
 abbrev pub TookFew : Input → Type 0
@@ -120,11 +122,22 @@ TookMany i = i.taken + 16777216 < i.taken_after
 abbrev pub TookNoMore : Input → Type 0
 TookNoMore i = i.taken_after ≤ i.taken + 16777217
 
--- a script of the bytes has more streams than there are disks
-pub record HasTooFewDisks (i : Input) : Type 0 where
+-- whether a log is one of so many, where one is named
+abbrev pub has_log : ℕ → Option ℕ → Bool
+has_log logs None = true
+has_log logs (Some handle) = nat_lt handle logs
+
+-- whether so many disks and logs are enough for a script: there is a disk for each stream, and each log that a stream
+-- names
+abbrev pub has_devices : ℕ → ℕ → Script → Bool
+has_devices disks logs script =
+    nat_le (length script.streams) disks && list_all (λ stream. has_log logs stream.log) script.streams
+
+-- a script of the bytes has more streams than there are disks, or names a log that there is not
+pub record HasTooFewDevices (i : Input) : Type 0 where
   pub script : Script
   pub spelled : Spells i.left script
-  pub few : i.disks < length script.streams
+  pub few : has_devices i.disks i.logs script ≡ false
 
 -- the words were right, and the source was taken to its end without a fault
 pub record IsRead (i : Input) : Type 0 where
@@ -140,7 +153,7 @@ IsCause i (no_run.Syntax line) = IsRead i × IsWrong i.left line
 IsCause i no_run.ReadFault = (is_run i.words ≡ true) × (i.faults < i.faults_after) × TookFew i
 IsCause i no_run.TooLong = (is_run i.words ≡ true) × TookMany i
 IsCause i no_run.NoMemory = Unit {0}
-IsCause i no_run.TooFewDevices = IsRead i × HasTooFewDisks i
+IsCause i no_run.TooFewDevices = IsRead i × HasTooFewDevices i
 
 -- the front of a text was taken
 pub record TookPart (text old new : List ℕ) : Type 0 where
@@ -186,7 +199,7 @@ pub record IsPrinted (o : Output) (text : List ℕ) (status : ℕ) : Type 0 wher
 pub record IsRun (i : Input) (o : Output) (script : Script) (replies : List LineReply) (journal : List Entry) (status : ℕ) : Type 0 where
   pub read : IsRead i
   pub spelled : Spells i.left script
-  pub enough : length script.streams ≤ i.disks
+  pub enough : has_devices i.disks i.logs script ≡ true
   pub printed : IsPrinted o (text_of script replies journal (table_of (reverse journal))) status
 
 -- How the program ended: without a run it gives back no script, reply or entry; with one, the script.

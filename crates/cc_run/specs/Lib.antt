@@ -4,6 +4,7 @@ pub mod Lines
 pub mod Rows
 pub mod Words
 pub mod Disks
+pub mod Logs
 pub mod Ends
 pub mod Complete
 pub mod Phases

@@ -1,5 +1,6 @@
 -- What the lines of a script leave, one after the other.
-use Rattle.std.specs.Prelude.{◌≡◌, ◌≢◌, ℕ, suc, ◌<◌, ◌≤◌, List, [], ◌∷◌, ◌++◌, map, Result, Ok, Err}
+use Rattle.std.specs.Prelude.{◌≡◌, ◌≢◌, ℕ, Bool, suc, ◌<◌, ◌≤◌, List, [], ◌∷◌, ◌++◌, map, Result, Ok, Err}
+use Rattle.cc_entry.specs.declared.place.FileState.{FileState}
 use Rattle.cc_entry.specs.declared.answer.Answer.{Answer}
 use Rattle.cc_entry.specs.declared.answer.Answer.TheVariants as answer
 use Rattle.cc_entry.specs.declared.answer.LineReply.{LineReply}
@@ -21,13 +22,18 @@ use Rattle.cc_turns.specs.Standing.{Standing, nothing}
 use Rattle.cc_visits.specs.Hands.{IsSettled}
 use Rattle.cc_calls.specs.Pages.{IsFullOf}
 
--- an action that a run serves, on one of so many streams
+-- an action on one of so many streams, or on none
 abbrev pub IsServable : ℕ → Action → Type 0
 IsServable streams (action.CopyRead file at len wait) = file.stream < streams
 IsServable streams (action.CopyWrite file at bytes) = file.stream < streams
 IsServable streams (action.Zero file span) = file.stream < streams
 IsServable streams (action.SetSizes file allocation size) = file.stream < streams
-IsServable streams other = ⊥
+IsServable streams (action.State file) = file.stream < streams
+IsServable streams (action.Flush file span) = file.stream < streams
+IsServable streams action.IsDirtyData = Unit {0}
+IsServable streams (action.SetLog file handle) = file.stream < streams
+IsServable streams (action.Append handle bytes) = Unit {0}
+IsServable streams (action.LogFlush handle lsn) = Unit {0}
 
 -- a pass may make the call of an action
 pub record CanServe (w : Standing) (asked : Action) : Type 0 where
@@ -45,6 +51,15 @@ pub record IsCaller (number : ℕ) : Type 0 where
 abbrev pub told_of : Result (Unit {0}) CcError → Answer
 told_of (Ok done) = answer.Given reply.Unit
 told_of (Err e) = answer.Refused e
+
+-- the answer of a line that asks for the state of a stream, and for a flag
+abbrev pub state_told : Result FileState CcError → Answer
+state_told (Ok state) = answer.Given (reply.State state)
+state_told (Err e) = answer.Refused e
+
+abbrev pub flag_told : Result Bool CcError → Answer
+flag_told (Ok flag) = answer.Given (reply.Flag flag)
+flag_told (Err e) = answer.Refused e
 
 -- an answer, which is none of a noncached call, says that the journal is full only where it is
 abbrev pub IsFullTold : Standing → Answer → Type 0

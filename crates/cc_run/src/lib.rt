@@ -4,7 +4,7 @@
 //! the text, the exit status. On the desk of a run its streams are opened; then, phase after phase, the callers make
 //! the calls of their lines, on threads over a board that is made of the desk and closed into it. Whatever is handed
 //! in and in whatever order the turns are taken, the journal that comes back is good, it explains the answer of every
-//! line, each disk holds what it says, and the text is that of both; each exit status has its cause. Want of memory
+//! line, each disk and each log holds what it says, and the text is that of both; each exit status has its cause. Want of memory
 //! after a run began loses nothing of what happened.
 //!
 //! `top` has the call, `run` the run, `openings` and `phases` its two parts, `lines` a phase on the desk, `threads` one
@@ -16,6 +16,7 @@
 
 mod call_numbers;
 mod callers;
+mod devices;
 mod intake;
 mod line;
 mod lines;

@@ -2,18 +2,21 @@
 
 ghost use Rattle.std.specs.Prelude.{ℕ, List};
 ghost use Rattle.cc_entry.specs.declared.call.Call.TheVariants as call;
-ghost use Rattle.cc_pieces.specs.Answered.{CallAnswered};
+ghost use Rattle.cc_pieces.specs.Answered.{AppendAnswered, CallAnswered};
 ghost use Rattle.cc_pieces.specs.Bindings.{Binding};
 ghost use Rattle.cc_pieces.specs.Served.{Served};
 ghost use Rattle.cc_turns.specs.Standing.{Standing};
-ghost use Rattle.cc_calls.specs.Answers.{CanCall};
+ghost use Rattle.cc_calls.specs.Answers.{CanCall, IsFree};
 ghost use Rattle.cc_visits.specs.Hands.{IsSettled};
 ghost use Rattle.cc_calls.specs.Pages.{WentOn};
-ghost use Rattle.cc_run.specs.Lines.{CanServe, IsFullTold, told_of};
+ghost use Rattle.cc_run.specs.Lines.{CanServe, IsFullTold, flag_told, state_told, told_of};
 ghost use Rattle.std.specs.Prelude.{◌≡◌};
 
-use cc_calls::{copy_read, copy_write, set_file_sizes, zero_data};
-use cc_entry::{Answer, Bytes, BytesRoom, CcError, FileId, Reply, Span};
+use cc_calls::{
+    copy_read, copy_write, file_state, flush, is_dirty_data, log_append, log_flush, set_file_sizes,
+    set_log_handle, zero_data,
+};
+use cc_entry::{Answer, Bytes, BytesRoom, CcError, FileId, FileState, Reply, Span};
 use cc_script::Action;
 use cc_traits::Gate;
 use cc_turns::Turns;
@@ -65,7 +68,12 @@ fn serve<T: Turns>(alloc: Global, turns: &mut T, action: &Action) -> Answer
             allocation,
             size,
         } => answered(set_file_sizes(alloc, turns, *file, *allocation, *size)),
-        Action::State { .. } | Action::Flush { .. } | Action::IsDirtyData => unreachable!(),
+        Action::State { file } => state(file_state(alloc, turns, *file)),
+        Action::Flush { file, span } => answered(flush(alloc, turns, *file, *span)),
+        Action::IsDirtyData => flag(is_dirty_data(turns)),
+        Action::SetLog { file, handle } => answered(set_log_handle(alloc, turns, *file, *handle)),
+        Action::Append { handle, bytes } => append(alloc, turns, *handle, bytes),
+        Action::LogFlush { handle, lsn } => answered(log_flush(turns, *handle, *lsn)),
     }
 }
 
@@ -75,6 +83,26 @@ pub(crate) fn answered(ended: Result<(), CcError>) -> Answer
 {
     match ended {
         Ok(()) => Answer::Given(Reply::Unit),
+        Err(error) => Answer::Refused(error),
+    }
+}
+
+// The answer of a line that asks for the state of a stream.
+fn state(ended: Result<FileState, CcError>) -> Answer
+    ensures { result ≡ state_told ended }
+{
+    match ended {
+        Ok(state) => Answer::Given(Reply::State(state)),
+        Err(error) => Answer::Refused(error),
+    }
+}
+
+// The answer of a line that asks for a flag.
+fn flag(ended: Result<bool, CcError>) -> Answer
+    ensures { result ≡ flag_told ended }
+{
+    match ended {
+        Ok(flag) => Answer::Given(Reply::Flag(flag)),
         Err(error) => Answer::Refused(error),
     }
 }
@@ -132,4 +160,22 @@ fn zero<T: Turns>(alloc: Global, turns: &mut T, file: FileId, span: Span) -> Ans
     ensures settled { IsSettled (T.standing turns.new) }
 {
     answered(zero_data(alloc, turns, file, span))
+}
+
+// An append to a log.
+fn append<T: Turns>(alloc: Global, turns: &mut T, handle: u8, bytes: &Bytes) -> Answer
+    requires { IsFree (T.standing turns.old) }
+    ensures answered { AppendAnswered (T.standing turns.old).setup (T.standing turns.old).number handle bytes.now result
+        (T.standing turns.old).seen (T.standing turns.new).seen }
+    ensures full { IsFullTold (T.standing turns.new) result }
+    ensures goes_on { WentOn (T.standing turns.old) (T.standing turns.new) }
+    ensures settled { IsSettled (T.standing turns.new) }
+{
+    let Ok(piece) = bytes.to_vec(alloc) else {
+        return Answer::Refused(CcError::NoMemory);
+    };
+    match log_append(alloc, turns, handle, &piece) {
+        Ok(lsn) => Answer::NewLsn(lsn),
+        Err(error) => Answer::Refused(error),
+    }
 }

@@ -1,11 +1,8 @@
 //! The streams of a script on a desk, each of which is opened before the first line.
 
 ghost use Rattle.std.specs.Prelude.{◌≡◌, ◌≢◌, ℕ, ◌+◌, ◌<◌, ◌≤◌, length, vec_len, vec_capacity};
-ghost use Rattle.std.specs.List.{AllByRecursion};
 ghost use Rattle.cc_effects.specs.Moments.{IsIdle};
-ghost use Rattle.cc_pieces.specs.Answered.{CallAnswered};
-ghost use Rattle.cc_pieces.specs.Openings.{opening_call};
-ghost use Rattle.cc_script.specs.Within.{IsStreamWithin};
+ghost use Rattle.cc_pieces.specs.Openings.{LoggedOpening};
 ghost use Rattle.cc_calls.specs.Answers.{CanCall};
 ghost use Rattle.cc_visits.specs.Hands.{Went, IsSettled};
 ghost use Rattle.cc_turns.specs.Desk.{standing_of};
@@ -13,7 +10,7 @@ ghost use Rattle.cc_run.specs.Desks.{IsReady, IsSameRun};
 ghost use Rattle.cc_run.specs.Lines.{IsFullTold, StreamsOpened};
 
 use crate::line::answered;
-use cc_calls::initialize;
+use cc_calls::{initialize, set_log_handle};
 use cc_entry::{Answer, FileId, FileSizes, LineReply};
 use cc_script::StreamLine;
 use cc_traits::{LogFile, PageDisk, PostRoutine};
@@ -32,7 +29,6 @@ pub(crate) fn open_streams<D: PageDisk, L: LogFile, Q: PostRoutine>(
     requires ready { IsReady (standing_of D.told D.faults L.told L.faults desk.old) }
     requires known { length streams.now ≤ (standing_of D.told D.faults L.told L.faults desk.old).streams }
     requires few { length streams.now ≤ 16 }
-    requires within { AllByRecursion IsStreamWithin streams.now }
     requires room { vec_len replies.old + length streams.now ≤ vec_capacity replies.old }
     ensures opened { StreamsOpened (standing_of D.told D.faults L.told L.faults desk.old).setup 0 streams.now
         replies.old.items replies.new.items desk.old.last.entries desk.new.last.entries }
@@ -54,12 +50,14 @@ pub(crate) fn open_streams<D: PageDisk, L: LogFile, Q: PostRoutine>(
     desk.own();
 }
 
-// Initialises the first object of a stream, with what is allocated as large as the size.
+// Initialises the first object of a stream, with what is allocated as large as the size, and then gives the stream its
+// log, where the line names one. Where the first call is refused, the other is not made.
 fn open_stream<T: Turns>(alloc: Global, turns: &mut T, number: u8, stream: &StreamLine) -> Answer
     requires can { CanCall (T.standing turns.old) number }
+    requires first { (T.standing turns.old).number ≡ 0 }
     requires few { number < 16 }
-    ensures opened { CallAnswered (T.standing turns.old).setup (T.standing turns.old).number
-        (opening_call number stream.now) result (T.standing turns.old).seen (T.standing turns.new).seen }
+    ensures opened { LoggedOpening (T.standing turns.old).setup number stream.now stream.now.log result
+        (T.standing turns.old).seen (T.standing turns.new).seen }
     ensures full { IsFullTold (T.standing turns.new) result }
     ensures goes_on { Went (T.standing turns.old) (T.standing turns.new) }
     ensures settled { IsSettled (T.standing turns.new) }
@@ -70,6 +68,11 @@ fn open_stream<T: Turns>(alloc: Global, turns: &mut T, number: u8, stream: &Stre
         size: stream.size,
         valid: stream.valid,
     };
-    let ended = initialize(alloc, turns, file, sizes, stream.quota, stream.temporary);
-    answered(ended)
+    if let Err(error) = initialize(alloc, turns, file, sizes, stream.quota, stream.temporary) {
+        return Answer::Refused(error);
+    }
+    match stream.log {
+        Some(handle) => answered(set_log_handle(alloc, turns, file, handle)),
+        None => answered(Ok(())),
+    }
 }

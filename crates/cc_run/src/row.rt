@@ -1,21 +1,18 @@
-//! The row of the disks that are handed in: how those of a run move out of it, and back.
+//! A row of what is handed in, disks or logs: how those of a run move out of it, and back.
 
 ghost use Rattle.std.specs.Prelude.{◌≡◌, ◌+◌, ◌≤◌, ◌++◌, IfOk, OnOk, OnErr, take, drop, reverse, length, vec_len, vec_capacity};
 
 use cc_entry::NoMemory;
 use std::alloc::Global;
 
-/// The most disks of a run.
-const MOST: usize = 16;
-
-/// Takes the first items out of a row, 16 at most. What is left of the row is turned round, with room for all.
-pub(crate) fn first_of<A>(alloc: Global, row: &mut Vec<A>) -> Result<Vec<A>, NoMemory>
-    ensures first { IfOk result (λ first. first.items ≡ take 16 row.old.items) }
-    ensures left { OnOk result (row.new.items ≡ reverse (drop 16 row.old.items)) }
+/// Takes the first items out of a row, so many at most. What is left of the row is turned round, with room for all.
+pub(crate) fn first_of<A>(alloc: Global, row: &mut Vec<A>, most: usize) -> Result<Vec<A>, NoMemory>
+    ensures first { IfOk result (λ first. first.items ≡ take most row.old.items) }
+    ensures left { OnOk result (row.new.items ≡ reverse (drop most row.old.items)) }
     ensures room { OnOk result (length row.old.items ≤ vec_capacity row.new) }
     ensures err { OnErr result (row.new.items ≡ row.old.items) }
 {
-    let count = row.len().min(MOST);
+    let count = row.len().min(most);
     let mut first = Vec::with_capacity(alloc, count)?;
     row.reverse();
     for _ in 0..count {

@@ -4,14 +4,15 @@ ghost use Rattle.std.specs.Prelude.{◌≡◌, ℕ, ◌+◌, ◌≤◌, [], IfOk
 ghost use Rattle.std.specs.List.{AllByRecursion};
 ghost use Rattle.cc_model.specs.Good.{IsGood};
 ghost use Rattle.cc_pieces.specs.Table.{table_of};
-ghost use Rattle.cc_script.specs.Verbs.{offered};
 ghost use Rattle.cc_script.specs.Within.{IsWithin};
 ghost use Rattle.cc_turns.specs.Standing.{nothing};
 ghost use Rattle.cc_turns.specs.Desk.{IsFresh, standing_of};
+ghost use Rattle.cc_run.specs.Ends.{has_devices};
 ghost use Rattle.cc_run.specs.Disks.{DisksAre, DisksStand, AreCounted, HaveRisen};
 ghost use Rattle.cc_run.specs.Lines.{given_of, lines_answered};
+ghost use Rattle.cc_run.specs.Logs.{LogsAre, LogsStand, LogsCounted};
 ghost use Rattle.cc_pieces.specs.Explained.{IsExplained};
-ghost use Rattle.cc_run.specs.Setups.{run_disks, setup_of};
+ghost use Rattle.cc_run.specs.Setups.{setup_of};
 
 use crate::openings::open_streams;
 use crate::phases::serve_phases;
@@ -27,8 +28,14 @@ use std::alloc::Global;
 use std::sync::Wait;
 use std::thread::Threads;
 
+/// The most disks of a run.
+const MOST_DISKS: usize = 16;
+
+/// The most logs of a run.
+const MOST_LOGS: usize = 4;
+
 /// What a run left.
-pub(crate) struct RunResult<D> {
+pub(crate) struct RunResult<D, L> {
     /// The answer of each line, those of the streams first.
     pub(crate) replies: Vec<LineReply>,
     /// The oldest entry first.
@@ -36,39 +43,56 @@ pub(crate) struct RunResult<D> {
     /// The rows of the pages that are dirty at the end; None where memory was wanting after the run began.
     pub(crate) table: Option<Vec<TableRow>>,
     pub(crate) disks: Vec<D>,
+    pub(crate) logs: Vec<L>,
 }
 
-/// Runs a script over the first disks that are handed in, 16 at most, which come back with the others. Where memory is
-/// wanting before the run begins, they come back as they were.
+/// Runs a script over the first disks that are handed in, 16 at most, and the first logs, 4 at most, which come back
+/// with the others. Where memory is wanting before the run begins, they come back as they were.
 pub(crate) fn run_script<
     R: Threads + Wait + Sync,
     D: PageDisk,
     L: LogFile + Send,
     Q: PostRoutine + Send,
     P: Gate,
->(rt: &R, alloc: Global, script: &Script, gate: &P, disks: Vec<D>) -> Result<RunResult<D>, Vec<D>>
-    requires within { IsWithin offered script.now }
-    requires enough { length script.now.streams ≤ length disks.items }
-    ensures good { IfOk result (λ ran. IsGood (setup_of D.told D.faults script.now disks.items) (reverse ran.journal.items)) }
-    ensures explained { IfOk result (λ ran. IsExplained (setup_of D.told D.faults script.now disks.items)
+>(
+    rt: &R,
+    alloc: Global,
+    script: &Script,
+    gate: &P,
+    disks: Vec<D>,
+    logs: Vec<L>,
+) -> Result<RunResult<D, L>, (Vec<D>, Vec<L>)>
+    requires within { IsWithin script.now }
+    requires enough { has_devices (length disks.items) (length logs.items) script.now ≡ true }
+    ensures good { IfOk result (λ ran.
+        IsGood (setup_of D.told D.faults script.now disks.items logs.items) (reverse ran.journal.items)) }
+    ensures explained { IfOk result (λ ran. IsExplained (setup_of D.told D.faults script.now disks.items logs.items)
         (given_of script.now) (lines_answered ran.replies.items) (reverse ran.journal.items)) }
     ensures table { IfOk result (λ ran. IfSome ran.table (λ rows. rows.items ≡ table_of (reverse ran.journal.items))) }
     ensures disks { IfOk result (λ ran. DisksAre D.told (reverse ran.journal.items) disks.items ran.disks.items) }
     ensures counted { IfOk result (λ ran. AreCounted D.faults (reverse ran.journal.items) disks.items ran.disks.items) }
     ensures risen { IfOk result (λ ran. HaveRisen D.faults disks.items ran.disks.items) }
-    ensures kept { IfErr result (λ back. back.items ≡ disks.items) }
+    ensures logs { IfOk result (λ ran. LogsAre L.told (reverse ran.journal.items) logs.items ran.logs.items) }
+    ensures logs_counted { IfOk result (λ ran. LogsCounted L.faults (reverse ran.journal.items) logs.items ran.logs.items) }
+    ensures logs_risen { IfOk result (λ ran. HaveRisen L.faults logs.items ran.logs.items) }
+    ensures kept { IfErr result (λ back. back.0.items ≡ disks.items) }
+    ensures logs_kept { IfErr result (λ back. back.1.items ≡ logs.items) }
 {
     let mut rest = disks;
+    let mut further = logs;
     let count = script.streams.len() + script.lines.as_slice().len();
     let Ok(replies) = Vec::with_capacity(alloc, count) else {
-        return Err(rest);
+        return Err((rest, further));
     };
-    let Ok(first) = first_of(alloc, &mut rest) else {
-        return Err(rest);
+    let Ok(disks) = first_of(alloc, &mut rest, MOST_DISKS) else {
+        return Err((rest, further));
+    };
+    let Ok(logs) = first_of(alloc, &mut further, MOST_LOGS) else {
+        return Err((put_back(disks, rest), further));
     };
     let setup = Setup {
-        disks: first,
-        logs: Vec::new(alloc),
+        disks,
+        logs,
         journal: script.journal,
         threshold: script.threshold,
     };
@@ -79,15 +103,17 @@ pub(crate) fn run_script<
                 journal,
                 table,
                 disks,
+                logs,
             } = run_on(rt, alloc, script, gate, desk, replies);
             Ok(RunResult {
                 replies,
                 journal,
                 table,
                 disks: put_back(disks, rest),
+                logs: put_back(logs, further),
             })
         }
-        Err((setup, _)) => Err(put_back(setup.disks, rest)),
+        Err((setup, _)) => Err((put_back(setup.disks, rest), put_back(setup.logs, further))),
     }
 }
 
@@ -99,9 +125,9 @@ fn run_on<R: Threads + Wait + Sync, D: PageDisk, L: LogFile + Send, Q: PostRouti
     gate: &P,
     desk: Desk<D, L, Q>,
     replies: Vec<LineReply>,
-) -> RunResult<D>
+) -> RunResult<D, L>
     requires fresh { IsFresh desk.begun desk }
-    requires within { IsWithin offered script.now }
+    requires within { IsWithin script.now }
     requires enough { length script.now.streams ≤ length desk.begun.disks }
     requires none { replies.items ≡ [] }
     requires room { length script.now.streams + length script.now.lines ≤ vec_capacity replies }
@@ -111,6 +137,8 @@ fn run_on<R: Threads + Wait + Sync, D: PageDisk, L: LogFile + Send, Q: PostRouti
     ensures table { IfSome result.table (λ rows. rows.items ≡ table_of (reverse result.journal.items)) }
     ensures disks { DisksStand D.told D.faults (standing_of D.told D.faults L.told L.faults desk).disks
         (length desk.begun.disks) (reverse result.journal.items) result.disks.items }
+    ensures logs { LogsStand L.told L.faults (standing_of D.told D.faults L.told L.faults desk).logs
+        (length desk.begun.logs) (reverse result.journal.items) result.logs.items }
 {
     let mut desk = desk;
     let mut replies = replies;
@@ -125,11 +153,17 @@ fn run_on<R: Threads + Wait + Sync, D: PageDisk, L: LogFile + Send, Q: PostRouti
         &mut replies,
     );
     let table = printed_rows(alloc, desk.journal().dirty().rows()).ok();
-    let Parts { disks, journal, .. } = desk.end();
+    let Parts {
+        disks,
+        logs,
+        journal,
+        ..
+    } = desk.end();
     RunResult {
         replies,
         journal,
         table,
         disks,
+        logs,
     }
 }

@@ -3,20 +3,21 @@
 ghost use Rattle.std.specs.Prelude.{◌≡◌, ◌⊎◌, ◌<◌, List, ◌≤◌, ◌+◌, ℕ, [], Some, None, true, false, is_some, reverse, map, length, string_bytes, vec_len, IfSome, IfOk, IfErr, OnOk, OnErr};
 ghost use Rattle.cc_model.specs.Setup.{Setup};
 ghost use Rattle.cc_model.specs.Good.{IsGood};
-ghost use Rattle.cc_script.specs.Verbs.{offered};
 ghost use Rattle.cc_script.specs.Within.{IsWithin};
 ghost use Rattle.cc_pieces.specs.Table.{table_of};
 ghost use Rattle.cc_print.specs.Text.{text_of as the_text_of};
 ghost use Rattle.cc_traits.specs.Told.{Both, Took};
 ghost use Rattle.cc_run.specs.Setups.{IsSetupOf, setup_of};
-ghost use Rattle.cc_run.specs.Ends.{Input, input, output, IsCause, IsRefused, IsEnded, IsRead, Spells, IsWrong, WasTaken, HasTooFewDisks, IsFaultPut, IsPrinted};
+ghost use Rattle.cc_run.specs.Ends.{Input, input, output, IsCause, IsRefused, IsEnded, IsRead, Spells, IsWrong, WasTaken, HasTooFewDevices, IsFaultPut, IsPrinted, has_devices};
 ghost use Rattle.cc_run.specs.Complete.{EndsWith, SyntaxAlways, TooLongAlways, TooLongTold, TooFewAlways, Completes};
 ghost use Rattle.cc_run.specs.declared.no_run.NoRun.TheVariants as no_run;
 ghost use Rattle.cc_run.specs.Disks.{DisksAre, AreCounted, HaveRisen};
+ghost use Rattle.cc_run.specs.Logs.{LogsAre, LogsCounted};
 ghost use Rattle.cc_run.specs.Words.{is_run};
 ghost use Rattle.cc_run.specs.Lines.{given_of, lines_answered};
 ghost use Rattle.cc_pieces.specs.Explained.{IsExplained};
 
+use crate::devices::has_devices;
 use crate::intake::{IntakeError, take_all};
 use crate::no_run::{NoRun, syntax_text};
 use crate::output::{OutputError, put_all};
@@ -34,7 +35,7 @@ use std::thread::Threads;
 pub struct Ended<D, L = Box<dyn LogFile + Send>, Q = Box<dyn PostRoutine + Send>> {
     /// The exit status: 0 the text was written whole, 1 the words are no run, 2 a line is not in the
     /// grammar, 3 the source failed, 4 the sink failed, 5 the script is too long, 6 memory was wanting,
-    /// 7 there are too few disks.
+    /// 7 the script has more streams than there are disks, or names a log that there is not.
     pub status: u8,
     /// The script that was run, where one was: at the statuses 0 and 4, and at 6 where memory was wanting
     /// after the run began.
@@ -52,13 +53,14 @@ pub struct Ended<D, L = Box<dyn LogFile + Send>, Q = Box<dyn PostRoutine + Send>
     pub posts: Vec<Q>,
 }
 
-/// What was made of the words, the script and the disks.
-struct Report<D> {
+/// What was made of the words, the script, the disks and the logs.
+struct Report<D, L> {
     status: u8,
     script: Option<Script>,
     replies: Vec<LineReply>,
     journal: Vec<Entry>,
     disks: Vec<D>,
+    logs: Vec<L>,
 }
 
 /// Puts out why no run was made, as far as the sink takes it. What ends the program is answered: where
@@ -81,11 +83,18 @@ fn put_fault<K: Sink>(alloc: Global, out: &mut K, why: NoRun) -> NoRun
 }
 
 /// A report without a run.
-fn refused<K: Sink, D>(alloc: Global, out: &mut K, why: NoRun, disks: Vec<D>) -> Report<D>
+fn refused<K: Sink, D, L>(
+    alloc: Global,
+    out: &mut K,
+    why: NoRun,
+    disks: Vec<D>,
+    logs: Vec<L>,
+) -> Report<D, L>
     ensures script { result.script ≡ None }
     ensures replies { result.replies.items ≡ [] }
     ensures journal { result.journal.items ≡ [] }
     ensures disks { result.disks ≡ disks }
+    ensures logs { result.logs ≡ logs }
     ensures refused { (i : Input) → IsCause i why → IsRefused i (output K.told K.faults K.stalls out.old out.new) result.status }
 {
     let why = put_fault(alloc, out, why);
@@ -95,6 +104,7 @@ fn refused<K: Sink, D>(alloc: Global, out: &mut K, why: NoRun, disks: Vec<D>) ->
         replies: Vec::new(alloc),
         journal: Vec::new(alloc),
         disks,
+        logs,
     }
 }
 
@@ -104,15 +114,16 @@ fn prepare<S: Source>(
     words: &[String],
     source: &mut S,
     disks: usize,
+    logs: usize,
 ) -> Result<Script, NoRun>
-    ensures read { OnOk result (IsRead (input S.told S.faults S.taken (map string_bytes words.now) source.old source.new disks)) }
+    ensures read { OnOk result (IsRead (input S.told S.faults S.taken (map string_bytes words.now) source.old source.new disks logs)) }
     ensures spelled { IfOk result (Spells (S.told source.old)) }
     ensures untouched { is_run (map string_bytes words.now) ≡ false → source.new ≡ source.old }
     ensures given { WasTaken (S.told source.old) (S.told source.new) (S.taken source.old) (S.taken source.new) }
     ensures bounded { S.taken source.new ≤ S.taken source.old + 16777217 }
-    ensures within { IfOk result (IsWithin offered) }
-    ensures enough { IfOk result (λ script. length script.streams ≤ disks) }
-    ensures cause { IfErr result (IsCause (input S.told S.faults S.taken (map string_bytes words.now) source.old source.new disks)) }
+    ensures within { IfOk result IsWithin }
+    ensures enough { IfOk result (λ script. has_devices disks logs script ≡ true) }
+    ensures cause { IfErr result (IsCause (input S.told S.faults S.taken (map string_bytes words.now) source.old source.new disks logs)) }
 {
     if command_of(words).is_none() {
         return Err(NoRun::Usage);
@@ -128,7 +139,7 @@ fn prepare<S: Source>(
         Err(ScriptFault::Syntax { line }) => return Err(NoRun::Syntax { line }),
         Err(ScriptFault::NoMemory) => return Err(NoRun::NoMemory),
     };
-    if script.streams.len() > disks {
+    if !has_devices(&script, disks, logs) {
         return Err(NoRun::TooFewDevices);
     }
     Ok(script)
@@ -136,7 +147,7 @@ fn prepare<S: Source>(
 
 /// Prints a run, and answers the status: 0 where all of the text went out, 4 where the sink failed, 6
 /// where memory was wanting.
-fn print<K: Sink, D>(alloc: Global, out: &mut K, script: &Script, ran: &RunResult<D>) -> u8
+fn print<K: Sink, D, L>(alloc: Global, out: &mut K, script: &Script, ran: &RunResult<D, L>) -> u8
     requires { IfSome ran.now.table (λ rows. rows.items ≡ table_of (reverse ran.now.journal.items)) }
     ensures printed { IsPrinted (output K.told K.faults K.stalls out.old out.new)
         (the_text_of script.now ran.now.replies.items ran.now.journal.items (table_of (reverse ran.now.journal.items)))
@@ -157,21 +168,24 @@ fn print<K: Sink, D>(alloc: Global, out: &mut K, script: &Script, ran: &RunResul
 }
 
 /// Reads the script and runs it.
-fn conduct<R: Threads + Wait + Sync, S: Source, K: Sink, D: PageDisk, P: Gate>(
+fn conduct<R: Threads + Wait + Sync, S: Source, K: Sink, D: PageDisk, L: LogFile + Send, P: Gate>(
     rt: &R,
     alloc: Global,
     words: &[String],
     source: &mut S,
     out: &mut K,
     disks: Vec<D>,
+    logs: Vec<L>,
     gate: &P,
-) -> Report<D>
-    ensures good { (u : Setup) → IsSetupOf D.told D.faults result.script disks.items u → IsGood u (reverse result.journal.items) }
+) -> Report<D, L>
+    ensures good { (u : Setup) → IsSetupOf D.told D.faults result.script disks.items logs.items u →
+        IsGood u (reverse result.journal.items) }
     ensures ended { IsEnded
-        (input S.told S.faults S.taken (map string_bytes words.now) source.old source.new (length disks.items))
+        (input S.told S.faults S.taken (map string_bytes words.now) source.old source.new
+        (length disks.items) (length logs.items))
         (output K.told K.faults K.stalls out.old out.new)
         result.script result.replies.items result.journal.items result.status }
-    ensures explained { IfSome result.script (λ made. IsExplained (setup_of D.told D.faults made disks.items)
+    ensures explained { IfSome result.script (λ made. IsExplained (setup_of D.told D.faults made disks.items logs.items)
         (given_of made) (lines_answered result.replies.items) (reverse result.journal.items)) }
     ensures untouched { is_run (map string_bytes words.now) ≡ false → source.new ≡ source.old }
     ensures given { WasTaken (S.told source.old) (S.told source.new) (S.taken source.old) (S.taken source.new) }
@@ -179,16 +193,19 @@ fn conduct<R: Threads + Wait + Sync, S: Source, K: Sink, D: PageDisk, P: Gate>(
     ensures disks { DisksAre D.told (reverse result.journal.items) disks.items result.disks.items }
     ensures counted { AreCounted D.faults (reverse result.journal.items) disks.items result.disks.items }
     ensures risen { HaveRisen D.faults disks.items result.disks.items }
+    ensures logs { LogsAre L.told (reverse result.journal.items) logs.items result.logs.items }
+    ensures logs_counted { LogsCounted L.faults (reverse result.journal.items) logs.items result.logs.items }
+    ensures logs_risen { HaveRisen L.faults logs.items result.logs.items }
 {
-    let script = match prepare(alloc, words, source, disks.len()) {
+    let script = match prepare(alloc, words, source, disks.len(), logs.len()) {
         Ok(prepared) => prepared,
-        Err(why) => return refused(alloc, out, why, disks),
+        Err(why) => return refused(alloc, out, why, disks, logs),
     };
-    let ran = match run_script::<R, D, Box<dyn LogFile + Send>, Box<dyn PostRoutine + Send>, P>(
-        rt, alloc, &script, gate, disks,
+    let ran = match run_script::<R, D, L, Box<dyn PostRoutine + Send>, P>(
+        rt, alloc, &script, gate, disks, logs,
     ) {
         Ok(ran) => ran,
-        Err(disks) => return refused(alloc, out, NoRun::NoMemory, disks),
+        Err((disks, logs)) => return refused(alloc, out, NoRun::NoMemory, disks, logs),
     };
     let status = print(alloc, out, &script, &ran);
     let RunResult {
@@ -196,6 +213,7 @@ fn conduct<R: Threads + Wait + Sync, S: Source, K: Sink, D: PageDisk, P: Gate>(
         journal,
         table: _,
         disks,
+        logs,
     } = ran;
     Report {
         status,
@@ -203,28 +221,38 @@ fn conduct<R: Threads + Wait + Sync, S: Source, K: Sink, D: PageDisk, P: Gate>(
         replies,
         journal,
         disks,
+        logs,
     }
 }
 
 /// The run of the program: the words of the command line without its name, the script's bytes from a
-/// source, the text to a sink, a disk for each stream, the logs and post routines, which come back as they
-/// were, and the gate that callers pass. The callers of a phase run on threads, phase after phase. Whatever is
-/// handed in, the journal that is given back is good over the pages that the disks tell, and it is what
-/// happened, also where memory was wanting after the run began.
-pub fn cache_main<R: Threads + Wait + Sync, S: Source, K: Sink, D: PageDisk, P: Gate>(
+/// source, the text to a sink, a disk for each stream, the logs that streams may name, of which a run takes the first
+/// four, the post routines, which come back as they were, and the gate that callers pass. The callers of a phase run on
+/// threads, phase after phase. Whatever is handed in, the journal that is given back is good over the pages that the
+/// disks tell, and it is what happened, also where memory was wanting after the run began.
+pub fn cache_main<
+    R: Threads + Wait + Sync,
+    S: Source,
+    K: Sink,
+    D: PageDisk,
+    L: LogFile + Send,
+    P: Gate,
+>(
     rt: &R,
     alloc: Global,
     words: &[String],
     script: &mut S,
     out: &mut K,
     disks: Vec<D>,
-    logs: Vec<Box<dyn LogFile + Send>>,
+    logs: Vec<L>,
     posts: Vec<Box<dyn PostRoutine + Send>>,
     gate: &P,
-) -> Ended<D>
-    ensures good { (u : Setup) → IsSetupOf D.told D.faults result.script disks.items u → IsGood u (reverse result.journal.items) }
+) -> Ended<D, L>
+    ensures good { (u : Setup) → IsSetupOf D.told D.faults result.script disks.items logs.items u →
+        IsGood u (reverse result.journal.items) }
     ensures ended { IsEnded
-        (input S.told S.faults S.taken (map string_bytes words.now) script.old script.new (length disks.items))
+        (input S.told S.faults S.taken (map string_bytes words.now) script.old script.new
+        (length disks.items) (length logs.items))
         (output K.told K.faults K.stalls out.old out.new)
         result.script result.replies.items result.journal.items result.status }
     ensures usage { result.status ≡ 1 → is_run (map string_bytes words.now) ≡ false }
@@ -232,32 +260,38 @@ pub fn cache_main<R: Threads + Wait + Sync, S: Source, K: Sink, D: PageDisk, P: 
     ensures untouched { is_run (map string_bytes words.now) ≡ false → script.new ≡ script.old }
     ensures syntax { result.status ≡ 2 → (line : ℕ) × IsWrong (S.told script.old) line }
     ensures syntax_always { SyntaxAlways
-        (input S.told S.faults S.taken (map string_bytes words.now) script.old script.new (length disks.items))
+        (input S.told S.faults S.taken (map string_bytes words.now) script.old script.new
+        (length disks.items) (length logs.items))
         result.status }
     ensures read_fault { result.status ≡ 3 → S.faults script.old < S.faults script.new }
     ensures write_fault { result.status ≡ 4 →
         (K.faults out.old < K.faults out.new) ⊎ (K.stalls out.old < K.stalls out.new) }
     ensures too_long { result.status ≡ 5 → S.taken script.old + 16777216 < S.taken script.new }
     ensures too_long_always { TooLongAlways
-        (input S.told S.faults S.taken (map string_bytes words.now) script.old script.new (length disks.items))
+        (input S.told S.faults S.taken (map string_bytes words.now) script.old script.new
+        (length disks.items) (length logs.items))
         result.status }
     ensures too_long_told { TooLongTold
-        (input S.told S.faults S.taken (map string_bytes words.now) script.old script.new (length disks.items))
+        (input S.told S.faults S.taken (map string_bytes words.now) script.old script.new
+        (length disks.items) (length logs.items))
         result.status }
-    ensures too_few { result.status ≡ 7 → HasTooFewDisks
-        (input S.told S.faults S.taken (map string_bytes words.now) script.old script.new (length disks.items)) }
+    ensures too_few { result.status ≡ 7 → HasTooFewDevices
+        (input S.told S.faults S.taken (map string_bytes words.now) script.old script.new
+        (length disks.items) (length logs.items)) }
     ensures too_few_always { TooFewAlways
-        (input S.told S.faults S.taken (map string_bytes words.now) script.old script.new (length disks.items))
+        (input S.told S.faults S.taken (map string_bytes words.now) script.old script.new
+        (length disks.items) (length logs.items))
         result.status }
     ensures complete { Completes
-        (input S.told S.faults S.taken (map string_bytes words.now) script.old script.new (length disks.items))
+        (input S.told S.faults S.taken (map string_bytes words.now) script.old script.new
+        (length disks.items) (length logs.items))
         (output K.told K.faults K.stalls out.old out.new)
         result.status }
     ensures given { WasTaken (S.told script.old) (S.told script.new) (S.taken script.old) (S.taken script.new) }
     ensures bounded { S.taken script.new ≤ S.taken script.old + 16777217 }
     ensures made { (result.status ≡ 0) ⊎ (result.status ≡ 4) → is_some result.script ≡ true }
     ensures spelled { IfSome result.script (Spells (S.told script.old)) }
-    ensures explained { IfSome result.script (λ made. IsExplained (setup_of D.told D.faults made disks.items)
+    ensures explained { IfSome result.script (λ made. IsExplained (setup_of D.told D.faults made disks.items logs.items)
         (given_of made)
         (record { replies = result.replies.items; ticked = result.ticks.items; stepped = result.aheads.items })
         (reverse result.journal.items)) }
@@ -269,7 +303,9 @@ pub fn cache_main<R: Threads + Wait + Sync, S: Source, K: Sink, D: PageDisk, P: 
     ensures disks { DisksAre D.told (reverse result.journal.items) disks.items result.disks.items }
     ensures counted { AreCounted D.faults (reverse result.journal.items) disks.items result.disks.items }
     ensures risen { HaveRisen D.faults disks.items result.disks.items }
-    ensures logs { result.logs ≡ logs }
+    ensures logs { LogsAre L.told (reverse result.journal.items) logs.items result.logs.items }
+    ensures logs_counted { LogsCounted L.faults (reverse result.journal.items) logs.items result.logs.items }
+    ensures logs_risen { HaveRisen L.faults logs.items result.logs.items }
     ensures posts { result.posts ≡ posts }
 {
     let Report {
@@ -278,7 +314,8 @@ pub fn cache_main<R: Threads + Wait + Sync, S: Source, K: Sink, D: PageDisk, P: 
         replies,
         journal,
         disks,
-    } = conduct(rt, alloc, words, script, out, disks, gate);
+        logs,
+    } = conduct(rt, alloc, words, script, out, disks, logs, gate);
     Ended {
         status,
         script,

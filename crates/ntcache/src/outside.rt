@@ -1,4 +1,4 @@
-//! Disks as they are handed in, and routines, a log and a gate that do nothing of their own.
+//! Disks and logs as they are handed in, and routines and a gate that do nothing of their own.
 
 ghost use Rattle.std.specs.Prelude.{◌≡◌, false, replicate, IfOk};
 ghost use Rattle.ntcache.specs.Edge.{new_disk, new_log};
@@ -30,8 +30,19 @@ fn device(alloc: Global) -> MemDisk
     MemDisk::new(alloc, 0x5A, fails)
 }
 
-/// A log that a script can name, empty, none of whose calls is to fail.
-pub fn log(alloc: Global) -> MemLog
+/// Each log that a script can name.
+pub fn logs(alloc: Global) -> Result<Vec<MemLog>, AllocError>
+    ensures { IfOk result (λ logs. logs.items ≡ replicate 4 new_log) }
+{
+    let mut logs = Vec::with_capacity(alloc, 4)?;
+    for made in 0..4usize {
+        logs.push_reserved(log(alloc));
+    }
+    Ok(logs)
+}
+
+/// An empty log, none of whose calls is to fail.
+fn log(alloc: Global) -> MemLog
     ensures { result ≡ new_log }
 {
     let fails = LogFails {

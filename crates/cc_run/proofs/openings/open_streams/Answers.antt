@@ -1,6 +1,5 @@
 use Rattle.std.proofs.Common.{◌≡◌, ◌+◌, ◌++◌, ◌∷◌, [], take, false, refl, sym, subst, ◌∙◌, arith, ap}
 use Rattle.std.proofs.lemmas.List.{take_more, length-take}
-use Rattle.cc_script.specs.Within.{IsStreamWithin}
 use Rattle.cc_pieces.specs.Openings.{Opens}
 use Rattle.cc_turns.specs.Desk.{standing_of}
 use Rattle.cc_turns.specs.Takes.{HasActed}
@@ -8,7 +7,6 @@ use Rattle.cc_step.specs.Step.{owes_store}
 use Rattle.cc_run.proofs.Acting.{goes-pass, pass-then}
 use Rattle.cc_run.proofs.Opening.{opens-one, stream-more}
 use Rattle.cc_run.proofs.Others.{idle-acted, settled-all}
-use Rattle.cc_run.proofs.Lists.{all-at}
 use Rattle.cc_run.proofs.RowSteps.{longer}
 use Rattle.cc_run.proofs.openings.open_streams.Goals as goal
 
@@ -18,10 +16,9 @@ loop-stream-preserved g c =
     let went = c.open_stream-answer.ensures.goes_on in
     let more : take (c.loop-stream.stream-index + 1) c.args.streams.now ≡ take c.loop-stream.stream-index c.args.streams.now ++ c.stream-item.result ∷ [] =
     take_more c.args.streams.now c.loop-stream.stream-index c.stream-item.result c.loop-stream-test.true ∙ ap (λ x. take c.loop-stream.stream-index c.args.streams.now ++ x ∷ []) (sym c.stream-item.is) in
-    let within : IsStreamWithin c.stream-item.result = rw c.stream-item.is (all-at IsStreamWithin c.args.streams.now c.loop-stream.stream-index c.stream-item.result c.loop-stream-test.true c.requires.within) in
     let rest = ap (λ w. w.in_flight) went.same ∙ before.rest in
     let one = opens-one (standing_of g.D.Told.told g.D.Told.faults g.L.LogFile.told g.L.LogFile.faults c.loop-stream.desk) _ c.loop-stream.number c.stream-item.result c.open_stream-answer.result
-    within.unlogged went (before.pass.number ∙ c.requires.first) rest refl c.open_stream-answer.ensures.opened c.open_stream-answer.ensures.full in
+    went rest refl c.open_stream-answer.ensures.opened c.open_stream-answer.ensures.full in
     record {
       pass = pass-then _ _ _ before.pass (goes-pass _ _ went);
       free = ap (λ w. w.held) went.same ∙ before.free;

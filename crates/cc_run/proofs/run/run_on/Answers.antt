@@ -1,6 +1,5 @@
 use Rattle.std.proofs.Common.{◌≡◌, ◌≤◌, ◌∙◌, length, map, sym, ap, subst, arith}
 use Rattle.std.specs.List.{AllByRecursion}
-use Rattle.cc_script.specs.Verbs.{offered}
 use Rattle.cc_script.specs.Within.{IsLineWithin}
 use Rattle.cc_journal.specs.Rows.{Follows}
 use Rattle.cc_pieces.specs.Table.{table_of}
@@ -9,7 +8,7 @@ use Rattle.cc_run.specs.Rows.{printed_row}
 use Rattle.cc_run.proofs.DirtyRows.{rows-table}
 use Rattle.cc_run.proofs.Lists.{all-map, if_some-ok}
 use Rattle.cc_run.proofs.PhasesRan.{run-explained}
-use Rattle.cc_run.proofs.RunSteps.{owes-none, servable-all, opened-long, disks-stand}
+use Rattle.cc_run.proofs.RunSteps.{owes-none, servable-all, opened-long, disks-stand, logs-stand}
 use Rattle.cc_run.proofs.run.run_on.Goals as goal
 
 pub open_streams-requires-clause-ready : goal.open_streams-requires-clause-ready
@@ -27,12 +26,12 @@ serve_phases-desk-requires-clause-servable g c κs within =
 
 pub serve_phases-desk-requires-clause-callers : goal.serve_phases-desk-requires-clause-callers
 serve_phases-desk-requires-clause-callers g c κs within =
-    rw c.as_slice-2.ensures (all-map (IsLineWithin offered c.args.script.now.streams c.args.script.now.phases) (λ line. IsCaller line.caller) c.args.script.now.lines
+    rw c.as_slice-2.ensures (all-map (IsLineWithin c.args.script.now.streams c.args.script.now.phases) (λ line. IsCaller line.caller) c.args.script.now.lines
     (λ line is. record { first = is.first_caller; last = is.last_caller }) c.requires.within.lines)
 
 pub serve_phases-desk-requires-clause-within : goal.serve_phases-desk-requires-clause-within
 serve_phases-desk-requires-clause-within g c κs within =
-    rw c.as_slice-2.ensures (all-map (IsLineWithin offered c.args.script.now.streams c.args.script.now.phases) (λ line. line.phase ≤ c.args.script.now.phases) c.args.script.now.lines
+    rw c.as_slice-2.ensures (all-map (IsLineWithin c.args.script.now.streams c.args.script.now.phases) (λ line. line.phase ≤ c.args.script.now.phases) c.args.script.now.lines
     (λ line is. is.last_phase) c.requires.within.lines)
 
 pub serve_phases-desk-requires-clause-room : goal.serve_phases-desk-requires-clause-room
@@ -44,6 +43,12 @@ returns-clause-disks g c =
     disks-stand g.D.Told.told g.D.Told.faults _ _ _ c.serve_phases-desk.result c.end-disks.result.disks.items c.end-disks.ensures.disks
     (c.serve_phases-desk.ensures.run.streams ∙ c.open_streams.ensures.run.streams)
     (c.serve_phases-desk.ensures.run.disks ∙ c.open_streams.ensures.run.disks) c.end-disks.ensures.journal
+
+pub returns-clause-logs : goal.returns-clause-logs
+returns-clause-logs g c =
+    logs-stand g.L.LogFile.told g.L.LogFile.faults _ _ _ c.serve_phases-desk.result c.end-disks.result.logs.items c.end-disks.ensures.logs
+    (ap (λ u. u.logs) c.serve_phases-desk.ensures.run.setup ∙ ap (λ u. u.logs) c.open_streams.ensures.run.setup)
+    (c.serve_phases-desk.ensures.run.logs ∙ c.open_streams.ensures.run.logs) c.end-disks.ensures.journal
 
 pub returns-clause-table : goal.returns-clause-table
 returns-clause-table g c =

@@ -2,22 +2,33 @@ use Rattle.std.proofs.Common.{◌++◌, ◌∙◌, length, take, drop, reverse, 
 use Rattle.std.proofs.lemmas.List.{length-take, length-append, length-reverse, take-append-drop}
 use Rattle.std.specs.Prelude.{slice_get}
 use Rattle.cc_pieces.specs.Explained.{IsExplained}
-use Rattle.cc_turns.specs.Desk.{disk_at_first}
+use Rattle.cc_turns.specs.Desk.{disk_at_first, log_at_first}
 use Rattle.cc_run.specs.Disks.{DisksStand}
 use Rattle.cc_run.specs.Lines.{given_of, lines_answered}
+use Rattle.cc_run.specs.Logs.{LogsStand}
 use Rattle.cc_run.proofs.RowSteps.{reverse_twice}
-use Rattle.cc_run.proofs.RunSteps.{setup-is}
+use Rattle.cc_run.proofs.RunSteps.{setup-is, enough-disks}
 use Rattle.cc_run.proofs.DiskSteps.{disks-are, are-counted, have-risen}
+use Rattle.cc_run.proofs.LogSteps.{logs-are, logs-counted, logs-risen}
 use Rattle.cc_run.proofs.run.run_script.Goals as goal
+
+pub invariant_of-setup-clause-few_disks : goal.invariant_of-setup-clause-few_disks
+invariant_of-setup-clause-few_disks g c =
+    omega (arith, c.in-Ok-first_of.disks.ok.0, ap length c.in-Ok-first_of.ensures.first, length-take 16 c.args.disks.items)
+
+pub invariant_of-setup-clause-few_logs : goal.invariant_of-setup-clause-few_logs
+invariant_of-setup-clause-few_logs g c =
+    omega (arith, c.in-Ok-first_of-2.logs.ok.0, ap length c.in-Ok-first_of-2.ensures.first, length-take 4 c.args.logs.items)
 
 pub run_on-replies-requires-clause-enough : goal.run_on-replies-requires-clause-enough
 run_on-replies-requires-clause-enough g c κs within =
     let begun = ap (λ b. length b.disks) c.in-Ok-new.ensures.fresh.begun_is in
     let few = c.requires.within.few_streams in
-    omega (arith, begun, ap length c.in-Ok-first_of.ensures.first, length-take 16 c.args.disks.items, few, c.requires.enough)
+    let enough = enough-disks (length c.args.disks.items) (length c.args.logs.items) c.args.script.now c.requires.enough in
+    omega (arith, begun, ap length c.in-Ok-first_of.ensures.first, length-take 16 c.args.disks.items, few, enough)
 
-pub put_back-requires : goal.put_back-requires
-put_back-requires g c =
+pub put_back-requires-in-Ok-new : goal.put_back-requires-in-Ok-new
+put_back-requires-in-Ok-new g c =
     let begun = ap (λ b. length b.disks) c.in-Ok-new.ensures.fresh.begun_is in
     omega (
       arith,
@@ -31,10 +42,25 @@ put_back-requires g c =
       c.in-Ok-first_of.ensures.room,
     )
 
+pub put_back-requires-in-Ok-new-2 : goal.put_back-requires-in-Ok-new-2
+put_back-requires-in-Ok-new-2 g c =
+    let begun = ap (λ b. length b.logs) c.in-Ok-new.ensures.fresh.begun_is in
+    omega (
+      arith,
+      begun,
+      ap length c.in-Ok-first_of-2.ensures.first,
+      ap length c.in-Ok-first_of-2.ensures.left,
+      length-reverse (drop 4 c.args.logs.items),
+      length-append (take 4 c.args.logs.items) (drop 4 c.args.logs.items),
+      ap length (take-append-drop 4 c.args.logs.items),
+      c.run_on-replies.ensures.logs.counted,
+      c.in-Ok-first_of-2.ensures.room,
+    )
+
 pub returns-in-Ok-new-clause-explained : goal.returns-in-Ok-new-clause-explained
 returns-in-Ok-new-clause-explained g c =
     subst (λ u. IsExplained u (given_of c.args.script.now) (lines_answered c.run_on-replies.result.replies.items) (reverse c.run_on-replies.result.journal.items))
-    (setup-is g.D.Told.told g.D.Told.faults g.L.LogFile.told g.L.LogFile.faults c.in-Ok-new.desk _ c.args.script.now c.args.disks.items c.in-Ok-new.ensures.fresh.begun_is c.in-Ok-first_of.ensures.first c.new.ensures.items refl refl)
+    (setup-is g.D.Told.told g.D.Told.faults g.L.LogFile.told g.L.LogFile.faults c.in-Ok-new.desk _ c.args.script.now c.args.disks.items c.args.logs.items c.in-Ok-new.ensures.fresh.begun_is c.in-Ok-first_of.ensures.first c.in-Ok-first_of-2.ensures.first refl refl)
     c.run_on-replies.ensures.explained
 
 pub returns-in-Ok-new-clause-disks : goal.returns-in-Ok-new-clause-disks
@@ -42,18 +68,39 @@ returns-in-Ok-new-clause-disks g c =
     let begun = ap (λ b. b.disks) c.in-Ok-new.ensures.fresh.begun_is ∙ c.in-Ok-first_of.ensures.first in
     disks-are g.D.Told.told g.D.Told.faults (reverse c.run_on-replies.result.journal.items) c.args.disks.items c.run_on-replies.result.disks.items _
     (subst (λ ds. DisksStand g.D.Told.told g.D.Told.faults (λ s. disk_at_first g.D.Told.told g.D.Told.faults (slice_get ds s)) (length ds) (reverse c.run_on-replies.result.journal.items) c.run_on-replies.result.disks.items) begun c.run_on-replies.ensures.disks)
-    (c.put_back.ensures ∙ ap (λ l. c.run_on-replies.result.disks.items ++ l) (ap reverse c.in-Ok-first_of.ensures.left ∙ reverse_twice (drop 16 c.args.disks.items)))
+    (c.put_back-in-Ok-new.ensures ∙ ap (λ l. c.run_on-replies.result.disks.items ++ l) (ap reverse c.in-Ok-first_of.ensures.left ∙ reverse_twice (drop 16 c.args.disks.items)))
 
 pub returns-in-Ok-new-clause-counted : goal.returns-in-Ok-new-clause-counted
 returns-in-Ok-new-clause-counted g c =
     let begun = ap (λ b. b.disks) c.in-Ok-new.ensures.fresh.begun_is ∙ c.in-Ok-first_of.ensures.first in
     are-counted g.D.Told.told g.D.Told.faults (reverse c.run_on-replies.result.journal.items) c.args.disks.items c.run_on-replies.result.disks.items _
     (subst (λ ds. DisksStand g.D.Told.told g.D.Told.faults (λ s. disk_at_first g.D.Told.told g.D.Told.faults (slice_get ds s)) (length ds) (reverse c.run_on-replies.result.journal.items) c.run_on-replies.result.disks.items) begun c.run_on-replies.ensures.disks)
-    (c.put_back.ensures ∙ ap (λ l. c.run_on-replies.result.disks.items ++ l) (ap reverse c.in-Ok-first_of.ensures.left ∙ reverse_twice (drop 16 c.args.disks.items)))
+    (c.put_back-in-Ok-new.ensures ∙ ap (λ l. c.run_on-replies.result.disks.items ++ l) (ap reverse c.in-Ok-first_of.ensures.left ∙ reverse_twice (drop 16 c.args.disks.items)))
 
 pub returns-in-Ok-new-clause-risen : goal.returns-in-Ok-new-clause-risen
 returns-in-Ok-new-clause-risen g c =
     let begun = ap (λ b. b.disks) c.in-Ok-new.ensures.fresh.begun_is ∙ c.in-Ok-first_of.ensures.first in
     have-risen g.D.Told.told g.D.Told.faults (reverse c.run_on-replies.result.journal.items) c.args.disks.items c.run_on-replies.result.disks.items _
     (subst (λ ds. DisksStand g.D.Told.told g.D.Told.faults (λ s. disk_at_first g.D.Told.told g.D.Told.faults (slice_get ds s)) (length ds) (reverse c.run_on-replies.result.journal.items) c.run_on-replies.result.disks.items) begun c.run_on-replies.ensures.disks)
-    (c.put_back.ensures ∙ ap (λ l. c.run_on-replies.result.disks.items ++ l) (ap reverse c.in-Ok-first_of.ensures.left ∙ reverse_twice (drop 16 c.args.disks.items)))
+    (c.put_back-in-Ok-new.ensures ∙ ap (λ l. c.run_on-replies.result.disks.items ++ l) (ap reverse c.in-Ok-first_of.ensures.left ∙ reverse_twice (drop 16 c.args.disks.items)))
+
+pub returns-in-Ok-new-clause-logs : goal.returns-in-Ok-new-clause-logs
+returns-in-Ok-new-clause-logs g c =
+    let begun = ap (λ b. b.logs) c.in-Ok-new.ensures.fresh.begun_is ∙ c.in-Ok-first_of-2.ensures.first in
+    logs-are g.L.LogFile.told g.L.LogFile.faults (reverse c.run_on-replies.result.journal.items) c.args.logs.items c.run_on-replies.result.logs.items _
+    (subst (λ ls. LogsStand g.L.LogFile.told g.L.LogFile.faults (λ handle. log_at_first g.L.LogFile.told g.L.LogFile.faults (slice_get ls handle)) (length ls) (reverse c.run_on-replies.result.journal.items) c.run_on-replies.result.logs.items) begun c.run_on-replies.ensures.logs)
+    (c.put_back-in-Ok-new-2.ensures ∙ ap (λ l. c.run_on-replies.result.logs.items ++ l) (ap reverse c.in-Ok-first_of-2.ensures.left ∙ reverse_twice (drop 4 c.args.logs.items)))
+
+pub returns-in-Ok-new-clause-logs_counted : goal.returns-in-Ok-new-clause-logs_counted
+returns-in-Ok-new-clause-logs_counted g c =
+    let begun = ap (λ b. b.logs) c.in-Ok-new.ensures.fresh.begun_is ∙ c.in-Ok-first_of-2.ensures.first in
+    logs-counted g.L.LogFile.told g.L.LogFile.faults (reverse c.run_on-replies.result.journal.items) c.args.logs.items c.run_on-replies.result.logs.items _
+    (subst (λ ls. LogsStand g.L.LogFile.told g.L.LogFile.faults (λ handle. log_at_first g.L.LogFile.told g.L.LogFile.faults (slice_get ls handle)) (length ls) (reverse c.run_on-replies.result.journal.items) c.run_on-replies.result.logs.items) begun c.run_on-replies.ensures.logs)
+    (c.put_back-in-Ok-new-2.ensures ∙ ap (λ l. c.run_on-replies.result.logs.items ++ l) (ap reverse c.in-Ok-first_of-2.ensures.left ∙ reverse_twice (drop 4 c.args.logs.items)))
+
+pub returns-in-Ok-new-clause-logs_risen : goal.returns-in-Ok-new-clause-logs_risen
+returns-in-Ok-new-clause-logs_risen g c =
+    let begun = ap (λ b. b.logs) c.in-Ok-new.ensures.fresh.begun_is ∙ c.in-Ok-first_of-2.ensures.first in
+    logs-risen g.L.LogFile.told g.L.LogFile.faults (reverse c.run_on-replies.result.journal.items) c.args.logs.items c.run_on-replies.result.logs.items _
+    (subst (λ ls. LogsStand g.L.LogFile.told g.L.LogFile.faults (λ handle. log_at_first g.L.LogFile.told g.L.LogFile.faults (slice_get ls handle)) (length ls) (reverse c.run_on-replies.result.journal.items) c.run_on-replies.result.logs.items) begun c.run_on-replies.ensures.logs)
+    (c.put_back-in-Ok-new-2.ensures ∙ ap (λ l. c.run_on-replies.result.logs.items ++ l) (ap reverse c.in-Ok-first_of-2.ensures.left ∙ reverse_twice (drop 4 c.args.logs.items)))

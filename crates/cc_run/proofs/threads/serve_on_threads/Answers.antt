@@ -1,5 +1,5 @@
 use Rattle.std.proofs.Common.{refl}
-use Rattle.cc_run.proofs.OnBoard.{may-all-run, may-join, none-out, are-rows, same-run, ready-now, phase-on-board}
+use Rattle.cc_run.proofs.OnBoard.{may-all-run, may-join, none-out, are-rows, same-run, ready-now, phase-on-board, back-run, back-ready}
 use Rattle.cc_run.proofs.threads.serve_on_threads.Goals as goal
 
 pub run_callers-ended-requires-clause-may : goal.run_callers-ended-requires-clause-may
@@ -29,3 +29,11 @@ returns-clause-run g c =
 pub returns-clause-ready : goal.returns-clause-ready
 returns-clause-ready g c =
     ready-now g.D.Told.told g.D.Told.faults g.L.LogFile.told g.L.LogFile.faults g.Q.PostRoutine.posted c.args.desk _ _ c.requires.ready c.in-Ok-new.ensures.opened c.args.lines.now _ _ _ c.split_all-callers.ensures.split _ c.run_callers-ended.ensures.ran _ _ c.join_all-rows.ensures.joined _ c.in-Ok-close.ensures.closed
+
+pub returns-in-Err-new-clause-run_kept : goal.returns-in-Err-new-clause-run_kept
+returns-in-Err-new-clause-run_kept g c =
+    back-run g.D.Told.told g.D.Told.faults g.L.LogFile.told g.L.LogFile.faults c.args.desk c.in-Err-new.desk c.in-Err-new.ensures.err.0
+
+pub returns-in-Err-new-clause-ready_still : goal.returns-in-Err-new-clause-ready_still
+returns-in-Err-new-clause-ready_still g c =
+    back-ready g.D.Told.told g.D.Told.faults g.L.LogFile.told g.L.LogFile.faults c.args.desk c.in-Err-new.desk c.in-Err-new.ensures.err.0 c.requires.ready

@@ -1,0 +1,31 @@
+//! Whether what is handed in is enough for a script.
+
+ghost use Rattle.std.specs.Prelude.{◌≡◌};
+ghost use Rattle.std.specs.List.{list_all};
+ghost use Rattle.cc_run.specs.Ends.{has_devices, has_log};
+
+use cc_script::{Script, StreamLine};
+
+/// Whether there is a disk for each stream of a script, and each log that a stream names.
+pub(crate) fn has_devices(script: &Script, disks: usize, logs: usize) -> bool
+    ensures { result ≡ has_devices disks logs script.now }
+{
+    script.streams.len() <= disks && has_logs(script.streams.as_slice(), logs)
+}
+
+/// Whether each stream that names a log names one of so many.
+fn has_logs(streams: &[StreamLine], logs: usize) -> bool
+    ensures { result ≡ list_all (λ stream. has_log logs stream.log) streams.now }
+{
+    streams.iter().all(|stream| has_log(stream.log, logs))
+}
+
+/// Whether a log is one of so many, where one is named.
+fn has_log(log: Option<u8>, logs: usize) -> bool
+    ensures { result ≡ has_log logs log }
+{
+    match log {
+        Some(handle) => usize::from(handle) < logs,
+        None => true,
+    }
+}
