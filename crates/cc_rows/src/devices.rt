@@ -1,10 +1,10 @@
 //! Devices of the tests: a sink that takes a few bytes a call, a source of line feeds, a disk that tells nothing, and
-//! one that waits inside a read for a moment.
+//! one that waits inside a read or a write for a moment.
 
 ghost use Rattle.std.specs.Prelude.{◌≡◌, ◌+◌, ◌-◌, ◌≤◌, ◌++◌, min, length, take, All, None, Some, IsOk, IfOk, OnErr};
 ghost use Rattle.cc_traits.specs.Stop.{faults_in, stalls_in, taken_in};
 
-use cc_memdev::MemSink;
+use cc_memdev::{MemDisk, MemSink};
 use cc_traits::{Faults, PageDisk, Sink, Source, Stop, Told};
 use std::sync::atomic::{AtomicBool, Ordering};
 use std::thread;
@@ -162,53 +162,76 @@ impl Moment {
     }
 }
 
-/// A disk of one byte that waits inside one of its reads. It tells nothing, and its writes fail.
+/// Which of its calls a disk waits inside, each kind counted by itself from 1.
+#[derive(Clone, Copy, Debug)]
+pub enum WaitsIn {
+    Read(u32),
+    Write(u32),
+}
+
+/// A disk in memory that waits inside one of its reads or of its writes.
 #[derive(Drop)]
 pub struct WaitingDisk<'a> {
-    fill: u8,
+    inner: MemDisk,
     reads: u32,
-    waits_at: u32,
+    writes: u32,
+    waits: WaitsIn,
     inside: &'a Moment,
     until: &'a Moment,
-    faults: Faults,
 }
 
 impl<'a> WaitingDisk<'a> {
-    /// Inside the read of this number, from 1 on, the first moment comes, and the second is waited for.
-    pub fn new(fill: u8, waits_at: u32, inside: &'a Moment, until: &'a Moment) -> WaitingDisk<'a> {
+    /// Inside that call the first moment comes, and the second is waited for.
+    pub fn new(
+        inner: MemDisk,
+        waits: WaitsIn,
+        inside: &'a Moment,
+        until: &'a Moment,
+    ) -> WaitingDisk<'a> {
         WaitingDisk {
-            fill,
+            inner,
             reads: 0,
-            waits_at,
+            writes: 0,
+            waits,
             inside,
             until,
-            faults: Faults::new(),
         }
+    }
+
+    fn wait(&self) {
+        self.inside.come();
+        self.until.wait();
     }
 }
 
 impl<'a> Told for WaitingDisk<'a> {
-    ghost told = { λ _. None };
+    ghost told = { λ disk. Some disk.inner.disk };
 
-    ghost faults = { λ disk. disk.faults };
+    ghost faults = { λ disk. disk.inner.faults };
 }
 
 impl<'a> PageDisk for WaitingDisk<'a> {
-    fn read_page(&mut self, _page: u64, out: &mut [u8; 4096]) -> Result<(), Stop> {
+    fn read_page(&mut self, page: u64, out: &mut [u8; 4096]) -> Result<(), Stop> {
         self.reads = self.reads.saturating_add(1);
-        if self.reads == self.waits_at {
-            self.inside.come();
-            self.until.wait();
+        if let WaitsIn::Read(number) = self.waits {
+            if number == self.reads {
+                self.wait();
+            }
         }
-        *out = [self.fill; 4096];
-        Ok(())
+        self.inner.read_page(page, out)
     }
 
-    fn write_page(&mut self, _page: u64, _bytes: &[u8; 4096]) -> Result<(), Stop> {
-        Err(self.faults.raise())
+    fn write_page(&mut self, page: u64, bytes: &[u8; 4096]) -> Result<(), Stop> {
+        self.writes = self.writes.saturating_add(1);
+        if let WaitsIn::Write(number) = self.waits {
+            if number == self.writes {
+                self.wait();
+            }
+        }
+        self.inner.write_page(page, bytes)
     }
 
     fn sync(&mut self) -> Result<(), Stop> {
-        Ok(())
+        self.inner.sync()
     }
 }

@@ -9,7 +9,7 @@
 
 mod devices;
 
-pub use devices::{LineFeeds, Moment, NarrowSink, UntoldDisk, WaitingDisk};
+pub use devices::{LineFeeds, Moment, NarrowSink, UntoldDisk, WaitingDisk, WaitsIn};
 
 #[cfg(test)]
 mod ample;
@@ -21,6 +21,10 @@ mod edges;
 mod faults;
 #[cfg(test)]
 mod files;
+#[cfg(test)]
+mod flushes;
+#[cfg(test)]
+mod logs;
 #[cfg(test)]
 mod program;
 #[cfg(test)]

@@ -1,6 +1,6 @@
 //! The program over devices in memory: its status and its text.
 
-use cc_memdev::{DiskFails, MemDisk, MemSink, MemSource};
+use cc_memdev::{DiskFails, LogFails, MemDisk, MemLog, MemSink, MemSource};
 use cc_run::{Ended, cache_main};
 use cc_traits::{Gate, PageDisk, Sink, Source};
 use std::alloc::{AllocError, Global};
@@ -30,32 +30,47 @@ pub(crate) struct Seen {
     pub(crate) text: String,
 }
 
-/// What a run gave back: its status, how many replies and entries there are, and the disks.
+/// What a run gave back: its status, how many replies and entries there are, the disks and the logs.
 #[derive(Drop)]
 pub(crate) struct Left<D> {
     pub(crate) status: u8,
     pub(crate) replies: usize,
     pub(crate) entries: usize,
     pub(crate) disks: Vec<D>,
+    pub(crate) logs: Vec<MemLog>,
 }
 
-/// A disk of 5A whose reads and writes with these numbers fail.
+/// A disk of 5A whose reads, writes and syncs with these numbers fail.
 pub(crate) fn disk_failing(
     alloc: Global,
     reads: &[u64],
     writes: &[u64],
+    syncs: &[u64],
 ) -> Result<MemDisk, AllocError> {
     let fails = DiskFails {
         reads: reads.to_vec(alloc)?,
         writes: writes.to_vec(alloc)?,
-        syncs: Vec::new(alloc),
+        syncs: syncs.to_vec(alloc)?,
     };
     Ok(MemDisk::new(alloc, 0x5A, fails))
 }
 
+/// A log without entries whose appends and flushes with these numbers fail.
+pub(crate) fn log_failing(
+    alloc: Global,
+    appends: &[u64],
+    flushes: &[u64],
+) -> Result<MemLog, AllocError> {
+    let fails = LogFails {
+        appends: appends.to_vec(alloc)?,
+        flushes: flushes.to_vec(alloc)?,
+    };
+    Ok(MemLog::new(alloc, fails))
+}
+
 /// A disk of 5A whose reads with these numbers fail.
 pub(crate) fn disk(alloc: Global, reads: &[u64]) -> Result<MemDisk, AllocError> {
-    disk_failing(alloc, reads, &[])
+    disk_failing(alloc, reads, &[], &[])
 }
 
 /// No disk.
@@ -79,7 +94,7 @@ pub(crate) fn text_of(alloc: Global, sink: &MemSink) -> Result<String, AllocErro
     String::from_utf8_lossy(alloc, sink.taken())
 }
 
-/// Runs the program over these disks, with a gate.
+/// Runs the program over these disks and logs, with a gate.
 pub(crate) fn left_with<R: Threads + Wait + Sync, S: Source, K: Sink, D: PageDisk + Drop, P: Gate>(
     rt: &R,
     alloc: Global,
@@ -87,6 +102,7 @@ pub(crate) fn left_with<R: Threads + Wait + Sync, S: Source, K: Sink, D: PageDis
     source: &mut S,
     sink: &mut K,
     disks: Vec<D>,
+    logs: Vec<MemLog>,
     gate: &P,
 ) -> Result<Left<D>, AllocError> {
     let mut own = Vec::new(alloc);
@@ -101,7 +117,7 @@ pub(crate) fn left_with<R: Threads + Wait + Sync, S: Source, K: Sink, D: PageDis
         aheads: _aheads,
         journal,
         disks,
-        logs: _logs,
+        logs,
         posts: _posts,
     } = cache_main(
         rt,
@@ -110,7 +126,7 @@ pub(crate) fn left_with<R: Threads + Wait + Sync, S: Source, K: Sink, D: PageDis
         source,
         sink,
         disks,
-        Vec::new(alloc),
+        logs,
         Vec::new(alloc),
         gate,
     );
@@ -119,6 +135,7 @@ pub(crate) fn left_with<R: Threads + Wait + Sync, S: Source, K: Sink, D: PageDis
         replies: replies.len(),
         entries: journal.len(),
         disks,
+        logs,
     })
 }
 
@@ -131,7 +148,8 @@ pub(crate) fn left_by<R: Threads + Wait + Sync, S: Source, K: Sink, D: PageDisk 
     sink: &mut K,
     disks: Vec<D>,
 ) -> Result<Left<D>, AllocError> {
-    left_with(rt, alloc, words, source, sink, disks, &Free)
+    let logs = Vec::new(alloc);
+    left_with(rt, alloc, words, source, sink, disks, logs, &Free)
 }
 
 /// Runs the program over a disk or none, and answers its status.
@@ -232,6 +250,7 @@ pub(crate) fn run_with<R: Threads + Wait + Sync, D: PageDisk + Drop, P: Gate>(
         &mut source,
         &mut sink,
         disks,
+        Vec::new(alloc),
         gate,
     )?;
     let text = text_of(alloc, &sink)?;
@@ -239,4 +258,33 @@ pub(crate) fn run_with<R: Threads + Wait + Sync, D: PageDisk + Drop, P: Gate>(
         status: left.status,
         text,
     })
+}
+
+/// Runs a script over a disk and these logs, which it gives back.
+pub(crate) fn run_logged<R: Threads + Wait + Sync>(
+    rt: &R,
+    alloc: Global,
+    script: &str,
+    logs: Vec<MemLog>,
+) -> Result<(Seen, Vec<MemLog>), AllocError> {
+    let mut source = source(alloc, script)?;
+    let mut sink = sink(alloc);
+    let mut disks = Vec::new(alloc);
+    disks.push(disk(alloc, &[])?).map_err(|_| AllocError)?;
+    let left = left_with(
+        rt,
+        alloc,
+        &["run", "s"],
+        &mut source,
+        &mut sink,
+        disks,
+        logs,
+        &Free,
+    )?;
+    let text = text_of(alloc, &sink)?;
+    let seen = Seen {
+        status: left.status,
+        text,
+    };
+    Ok((seen, left.logs))
 }

@@ -178,14 +178,19 @@ write a 0 failed
 fn a_page_that_is_not_written_stays(rt: HostRuntime) -> Result<(), Fail> {
     let alloc = rt.alloc();
     let row = FIRST_WRITE_FAILS;
-    let (seen, disk) = run_on(&rt, rt.alloc(), row.script, disk_failing(alloc, &[], &[1])?)?;
+    let (seen, disk) = run_on(
+        &rt,
+        rt.alloc(),
+        row.script,
+        disk_failing(alloc, &[], &[1], &[])?,
+    )?;
     assert_eq!(rt; (seen.status, seen.text.as_str()), (0, row.text));
     assert_eq!(rt; (disk.faults(), disk.page(0)[0]), (1, 0xAB));
     let (seen, disk) = run_on(
         &rt,
         rt.alloc(),
         row.script,
-        disk_failing(alloc, &[], &[1, 2])?,
+        disk_failing(alloc, &[], &[1, 2], &[])?,
     )?;
     assert_eq!(rt; (seen.status, disk.faults(), disk.page(0)[0]), (0, 2, 0x5A));
     assert!(rt; seen.text.ends_with(PAGE_STAYS_DIRTY));
@@ -248,7 +253,7 @@ fn each_read_fails_once(rt: HostRuntime) -> Result<(), Fail> {
             " fillfailed 1 a 0\n",
         ),
     ] {
-        let disk = disk_failing(alloc, &[read], &[])?;
+        let disk = disk_failing(alloc, &[read], &[], &[])?;
         let (seen, disk) = run_on(&rt, rt.alloc(), FIRST_WRITE_FAILS.script, disk)?;
         assert_eq!(rt; (seen.status, disk.faults()), (0, 1), "{read}");
         assert!(rt; seen.text.contains(answers), "{read}");

@@ -2,7 +2,7 @@
 //!
 //! The rows follow the grammar as docs/SCRIPTS.md states it.
 
-use cc_script::{Action, Mode, Offer, Script, ScriptFault, read_offered, read_script};
+use cc_script::{Action, Mode, Script, ScriptFault, read_script};
 use std::alloc::Global;
 use std::test::Fail;
 
@@ -15,8 +15,8 @@ fn wrong_line(answer: Result<Script, ScriptFault>) -> Option<u32> {
     }
 }
 
-/// Scripts with every verb offered, each with its first wrong line.
-const WHOLE: [(&str, u32); 50] = [
+/// Scripts, each with its first wrong line.
+const SCRIPTS: [(&str, u32); 77] = [
     ("", 0),
     ("# a comment\n\n  \n\r\n  stream   a  8192 8192  \r", 0),
     (" # no comment", 1),
@@ -42,7 +42,17 @@ const WHOLE: [(&str, u32); 50] = [
     ("stream a 1 1 quota 8 quota 8", 1),
     ("stream a 1 1 temporary quota 8", 1),
     ("stream a 1 1 temporary temporary", 1),
-    ("stream a 1 1 log 0", 1),
+    (
+        "stream a 1 1 log 0\nstream b 1 1 quota 8 temporary log 3\nstream log 1 1 temporary log 1\nstream d 1 1 log 00",
+        4,
+    ),
+    ("stream a 1 1 log 4", 1),
+    ("stream a 1 1 log", 1),
+    ("stream a 1 1 log -", 1),
+    ("stream a 1 1 log 0 temporary", 1),
+    ("stream a 1 1 log 0 quota 8", 1),
+    ("stream a 1 1 temporary log 0 quota 8", 1),
+    ("stream a 1 1 log 0 log 1", 1),
     ("stream a 01 0", 1),
     ("stream a 1", 1),
     ("stream a 1 1 1", 1),
@@ -85,10 +95,6 @@ const WHOLE: [(&str, u32); 50] = [
     ("stream a 1 1\ncwrite a 0 ABCDx2", 2),
     ("stream a 1 1\nzero a 5 5\nzero a 6 5", 3),
     ("stream a 1 1\nflush a\nflush a 0 1\nisdirty\nflush a 1", 5),
-];
-
-/// Scripts with what a run over the cache serves: no question, and no flush.
-const PAGES: [(&str, u32); 5] = [
     (
         "journal 64\nthreshold 1\nstream a 8192 8193 quota 8 temporary\nstream b 4194305 0",
         0,
@@ -97,19 +103,41 @@ const PAGES: [(&str, u32); 5] = [
         "stream a 1 1\ncread a 0 1 nowait\nzero a 0 1\nphase\nt2 sizes a 1 1\nt2 cwrite a 0 AB",
         0,
     ),
-    ("stream a 1 1\nstate a", 2),
-    ("stream a 1 1\nflush a", 2),
-    ("stream a 1 1\nisdirty", 2),
+    ("isdirty 0", 1),
+    ("stream a 1 1\nsetlog a 0\nt2 setlog a 3\nsetlog a 4", 4),
+    ("stream a 1 1\nsetlog a", 2),
+    ("stream a 1 1\nsetlog b 0", 2),
+    ("stream a 1 1\nsetlog a 0 1", 2),
+    ("stream a 1 1 log 0\nsetlog a -", 2),
+    (
+        "append 0 AB\nt16 append 3 ABCD,00x2\nappend 1 -\nappend 4 AB",
+        4,
+    ),
+    ("append 0", 1),
+    ("append 0 ab", 1),
+    ("append 0 AB CD", 1),
+    ("append AB 0", 1),
+    ("append 0 ABx2097152\nappend 0 ABx2097153", 2),
+    (
+        "logflush 0 1\nt2 logflush 3 4611686018427387904\nlogflush 4 1",
+        3,
+    ),
+    ("logflush 0 0", 1),
+    ("logflush 0 4611686018427387905", 1),
+    ("logflush 0", 1),
+    ("logflush 0 1 1", 1),
+    ("logflush 01 1", 1),
 ];
 
-fn reads(alloc: Global, offer: Offer, mode: Mode, text: &str, line: u32) -> bool {
-    wrong_line(read_offered(alloc, text.as_bytes(), mode, offer)) == Some(line)
+/// Whether a script is read up to this line.
+fn reads(alloc: Global, mode: Mode, text: &str, line: u32) -> bool {
+    wrong_line(read_script(alloc, text.as_bytes(), mode)) == Some(line)
 }
 
 /// The first of these scripts that has another wrong line.
-fn mistaken<'a>(alloc: Global, offer: Offer, rows: &[(&'a str, u32)]) -> Option<&'a str> {
+fn mistaken<'a>(alloc: Global, rows: &[(&'a str, u32)]) -> Option<&'a str> {
     for &(text, line) in rows {
-        if !reads(alloc, offer, Mode::Run, text, line) {
+        if !reads(alloc, Mode::Run, text, line) {
             return Some(text);
         }
     }
@@ -118,11 +146,13 @@ fn mistaken<'a>(alloc: Global, offer: Offer, rows: &[(&'a str, u32)]) -> Option<
 
 #[test]
 fn takes_the_lines_of_the_grammar(rt: HostRuntime) {
-    assert_eq!(rt; mistaken(rt.alloc(), Offer::Whole, &WHOLE), None);
-    assert_eq!(rt; mistaken(rt.alloc(), Offer::Pages, &PAGES), None);
+    assert_eq!(rt; mistaken(rt.alloc(), &SCRIPTS), None);
     let phases = "stream a 1 1\nphase\nstate a";
-    assert!(rt; reads(rt.alloc(), Offer::Whole, Mode::Run, phases, 0));
-    assert!(rt; reads(rt.alloc(), Offer::Whole, Mode::Steps, phases, 2));
+    assert!(rt; reads(rt.alloc(), Mode::Run, phases, 0));
+    assert!(rt; reads(rt.alloc(), Mode::Steps, phases, 2));
+    let actions =
+        "stream a 1 1 log 0\nsetlog a 1\nappend 1 AB\nlogflush 1 1\nstate a\nflush a\nisdirty";
+    assert!(rt; reads(rt.alloc(), Mode::Steps, actions, 0));
 }
 
 /// Of a script whose first action is a write: its line, phase, caller, place and length.
@@ -146,6 +176,37 @@ fn keeps_values(rt: HostRuntime) -> Result<(), Fail> {
         (64, 1024, 2)
     );
     Ok(())
+}
+
+/// What a script says of logs: the log of its first stream, and of its first actions, an append and a flush of a
+/// log, the log, how many bytes, and to which LSN.
+fn logs_of(alloc: Global, text: &str) -> Option<(Option<u8>, u8, u64, u8, u64)> {
+    let script = read_script(alloc, text.as_bytes(), Mode::Run).ok()?;
+    let stream = script.streams.as_slice().first()?;
+    match script.lines.as_slice() {
+        [first, second, ..] => match (&first.action, &second.action) {
+            (
+                Action::Append { handle, bytes },
+                Action::LogFlush {
+                    handle: flushed,
+                    lsn,
+                },
+            ) => Some((stream.log, *handle, bytes.len(), *flushed, lsn.number())),
+            _ => None,
+        },
+        _ => None,
+    }
+}
+
+#[test]
+fn keeps_logs(rt: HostRuntime) {
+    let said = "stream a 9 7 temporary log 3\nappend 2 AB,00x2\nlogflush 1 4611686018427387904";
+    assert_eq!(rt;
+        logs_of(rt.alloc(), said),
+        Some((Some(3), 2, 3, 1, 4611686018427387904))
+    );
+    let unsaid = "stream a 9 7\nappend 0 -\nlogflush 3 1";
+    assert_eq!(rt; logs_of(rt.alloc(), unsaid), Some((None, 0, 0, 3, 1)));
 }
 
 /// What a script says of its first stream and its first read: the quota, whether it is temporary, whether
@@ -185,26 +246,21 @@ fn repeated(alloc: Global, first: &str, line: &str, count: u32) -> Result<String
     Ok(text)
 }
 
-/// Whether the program reads a script up to this line.
-fn is_read(alloc: Global, text: &str, line: u32) -> bool {
-    wrong_line(read_script(alloc, text.as_bytes(), Mode::Run)) == Some(line)
-}
-
 #[test]
 fn reads_65535_actions(rt: HostRuntime) -> Result<(), Fail> {
     let mut text = repeated(rt.alloc(), "stream a 1 1\n", "cread a 0 0\n", 65535)?;
-    assert!(rt; is_read(rt.alloc(), text.as_str(), 0));
+    assert!(rt; reads(rt.alloc(), Mode::Run, text.as_str(), 0));
     text.push_str("cread a 0 0\n")?;
-    assert!(rt; is_read(rt.alloc(), text.as_str(), 65537));
+    assert!(rt; reads(rt.alloc(), Mode::Run, text.as_str(), 65537));
     Ok(())
 }
 
 #[test]
 fn reads_all_bytes_of_writes(rt: HostRuntime) -> Result<(), Fail> {
     let mut text = repeated(rt.alloc(), "stream a 1 1\n", "cwrite a 0 00x2097152\n", 16)?;
-    assert!(rt; is_read(rt.alloc(), text.as_str(), 0));
+    assert!(rt; reads(rt.alloc(), Mode::Run, text.as_str(), 0));
     text.push_str("cread a 0 1\n")?;
-    assert!(rt; is_read(rt.alloc(), text.as_str(), 18));
+    assert!(rt; reads(rt.alloc(), Mode::Run, text.as_str(), 18));
     Ok(())
 }
 
@@ -215,9 +271,18 @@ stream m 1 1\nstream n 1 1\nstream o 1 1\nstream p 1 1
 ";
 
 #[test]
+fn reads_all_bytes_of_appends(rt: HostRuntime) -> Result<(), Fail> {
+    let mut text = repeated(rt.alloc(), "stream a 1 1\n", "append 0 00x2097152\n", 16)?;
+    assert!(rt; reads(rt.alloc(), Mode::Run, text.as_str(), 0));
+    text.push_str("setlog a 0\nlogflush 0 1\nappend 0 -\nappend 0 00\n")?;
+    assert!(rt; reads(rt.alloc(), Mode::Run, text.as_str(), 21));
+    Ok(())
+}
+
+#[test]
 fn reads_16_streams(rt: HostRuntime) -> Result<(), Fail> {
     let more = repeated(rt.alloc(), STREAMS, "stream q 1 1\n", 1)?;
-    assert!(rt; reads(rt.alloc(), Offer::Whole, Mode::Run, STREAMS, 0));
-    assert!(rt; reads(rt.alloc(), Offer::Whole, Mode::Run, more.as_str(), 17));
+    assert!(rt; reads(rt.alloc(), Mode::Run, STREAMS, 0));
+    assert!(rt; reads(rt.alloc(), Mode::Run, more.as_str(), 17));
     Ok(())
 }

@@ -7,7 +7,7 @@ use cc_entry::{
     Ids, LineReply, Lsn, Outcome, PageId, Pages, Quota, Reply, Request, Rows, Span, StreamId, Tick,
 };
 use cc_print::{TableRow, text_of};
-use cc_script::{Mode, Offer, read_offered};
+use cc_script::{Mode, read_script};
 use std::alloc::Global;
 use std::test::Fail;
 
@@ -30,9 +30,7 @@ fn is_text(
     table: &[TableRow],
     text: &str,
 ) -> Result<bool, Fail> {
-    let script = read_offered(alloc, SCRIPT, Mode::Run, Offer::Whole)
-        .ok()
-        .ok_or("script")?;
+    let script = read_script(alloc, SCRIPT, Mode::Run).ok().ok_or("script")?;
     let printed = text_of(alloc, &script, replies, journal, table)
         .ok()
         .ok_or("text")?;
