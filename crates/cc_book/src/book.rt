@@ -20,7 +20,7 @@ ghost use Rattle.cc_model.specs.Touches.{is_mapped, size_of, valid_of};
 ghost use Rattle.cc_model.specs.Refusals.{refusal};
 ghost use Rattle.cc_model.specs.Setup.{Setup};
 ghost use Rattle.cc_effects.specs.Asked.{block_to_go};
-ghost use Rattle.cc_holds.specs.Stands.{shown, shown_row};
+ghost use Rattle.cc_holds.specs.Stands.{owes_set_dirty, shown, shown_row};
 ghost use Rattle.cc_refusal.specs.Known.{IsLeastAbsent};
 ghost use Rattle.cc_book.specs.Book.{BookStands, MayPlace, Gains, GoesOn, Stays, IsSnapshot, page_in, failed};
 
@@ -158,6 +158,14 @@ impl Book {
             option_map shown_row result ≡ option_map shown (hold_at (holds_of (history past self.now.stream)) id) }
     {
         self.holds.get(id)
+    }
+
+    /// Whether the open hold of an id is a pin that changed bytes and was not set dirty since.
+    pub fn owes_set_dirty(&self, id: u64) -> bool
+        ensures { (opening : Option (ℕ → List ℕ)) (past : List Entry) → BookStands opening past self.now →
+            result ≡ owes_set_dirty (hold_at (holds_of (history past self.now.stream)) id) }
+    {
+        self.holds.owes_set_dirty(id)
     }
 
     /// Whether an open hold has the page.

@@ -1,5 +1,5 @@
 -- What the definitions say of the open holds, said of those that are kept.
-use Rattle.std.specs.Prelude.{◌≡◌, ℕ, suc, ◌+◌, ◌-◌, ◌/◌, ◌<◌, Bool, true, false, ◌&&◌, ◌||◌, ◌==◌, nat_lt, min, List, [], ◌∷◌, ◌++◌, length, reverse, cond, is_some, refl}
+use Rattle.std.specs.Prelude.{◌≡◌, ℕ, suc, ◌+◌, ◌-◌, ◌/◌, ◌<◌, Bool, true, false, ◌&&◌, ◌||◌, ◌==◌, nat_lt, min, not, List, [], ◌∷◌, ◌++◌, length, reverse, cond, is_none, is_some, refl}
 use Rattle.std.specs.declared.option.Option.{Option}
 use Rattle.std.specs.declared.option.Option.TheVariants.{Some, None}
 use Rattle.std.specs.List.{AllZip, AllByRecursion, find, list_any, range_with_len}
@@ -12,6 +12,8 @@ use Rattle.std.proofs.lemmas.List.Folds.{find-append}
 use Rattle.cc_entry.specs.Place.{Range}
 use Rattle.cc_entry.specs.Pages.{has_page, pages_of, share_page, whole_range}
 use Rattle.cc_entry.specs.Kinds.{is_pin}
+use Rattle.cc_entry.specs.declared.hold.HoldRow.{HoldRow}
+use Rattle.cc_model.specs.Numbers.{is_empty}
 use Rattle.cc_model.specs.History.{Effect}
 use Rattle.cc_model.specs.Holds.{holds_of, hold_at, is_held, least_id, lesser, range_held}
 use Rattle.cc_model.specs.Holds as held
@@ -20,7 +22,7 @@ use Rattle.cc_model.specs.Conflicts.{has_page_of, bars_pin}
 use Rattle.cc_bcb.specs.Holds.{hold_of, range_of, overlaps, conflicts, is_unstamped, ends_past, first_id}
 use Rattle.cc_bcb.specs.declared.holds.Hold.{Hold}
 use Rattle.cc_bcb.proofs.Overlap.{share_page-ends}
-use Rattle.cc_holds.specs.Stands.{Shown, shown, shown_row, IsHold, IdsAscend, HoldsStand}
+use Rattle.cc_holds.specs.Stands.{owes_set_dirty, Shown, shown, shown_row, IsHold, IdsAscend, HoldsStand}
 use Rattle.cc_holds.specs.Looks.{keeps_page, has_bytes}
 use Rattle.cc_holds.proofs.Zips.{reverse-onto, any-reversed, zip-any, zip-length}
 use Rattle.cc_holds.proofs.KeptLists.{IdsAbove}
@@ -92,33 +94,57 @@ none-above id n (hold ∷ holds) same above =
     apart : (m : ℕ) → n < m → m ≡ id → ⊥
     apart m less e = absurd (omega arith)
 
-shown-listed : (id : ℕ) (xs : List held.Hold) (holds : List Hold) → AllZip IsHold xs holds → IdsAscend holds → option_map (λ (k : Hold). shown_row k.row) (hold_of holds id) ≡ option_map shown (hold_at (reverse xs) id)
-shown-listed id [] [] each ascend = refl
-shown-listed id [] (kept ∷ holds) each ascend = absurd each
-shown-listed id (hold ∷ xs) [] each ascend = absurd each
-shown-listed id (hold ∷ xs) (kept ∷ holds) each ascend =
-    rw (ap (λ n. n == id) (same_id hold kept each.0)) (go (hold.id == id) refl (shown-listed id xs holds each.1 ascend.1))
-    ∙ sym (ap (λ (hs : List held.Hold). option_map shown (hold_at hs id)) (reverse-onto hold xs) ∙ ap (option_map shown) (find-append (λ (it : held.Hold). it.id == id) (reverse xs) (hold ∷ [])))
-  where
-    or_none : (o : Option held.Hold) → option_or o None ≡ o
-    or_none None = refl
-    or_none (Some it) = refl
+-- what is the same of a hold and of the one that is kept for it
+module _ {X : Type 0} (f : Hold → X) (g : held.Hold → X) (same : (hold : held.Hold) (kept : Hold) → IsHold hold kept → f kept ≡ g hold) (id : ℕ) where
+  found-listed : (xs : List held.Hold) (holds : List Hold) → AllZip IsHold xs holds → IdsAscend holds → option_map f (hold_of holds id) ≡ option_map g (hold_at (reverse xs) id)
+  found-listed [] [] each ascend = refl
+  found-listed [] (kept ∷ holds) each ascend = absurd each
+  found-listed (hold ∷ xs) [] each ascend = absurd each
+  found-listed (hold ∷ xs) (kept ∷ holds) each ascend =
+      rw (ap (λ n. n == id) (same_id hold kept each.0)) (go (hold.id == id) refl (found-listed xs holds each.1 ascend.1))
+      ∙ sym (ap (λ (hs : List held.Hold). option_map g (hold_at hs id)) (reverse-onto hold xs) ∙ ap (option_map g) (find-append (λ (it : held.Hold). it.id == id) (reverse xs) (hold ∷ [])))
+    where
+      or_none : (o : Option held.Hold) → option_or o None ≡ o
+      or_none None = refl
+      or_none (Some it) = refl
 
-    go : (b : Bool) → (hold.id == id) ≡ b → option_map (λ (k : Hold). shown_row k.row) (hold_of holds id) ≡ option_map shown (hold_at (reverse xs) id) → option_map (λ (k : Hold). shown_row k.row) (cond b (Some kept) (hold_of holds id)) ≡ option_map shown (option_or (hold_at (reverse xs) id) (cond b (Some hold) None))
-    go true same rest =
-        rw (none-above id hold.id (reverse xs) (eqb-true hold.id id same) (above-first hold kept xs holds each ascend))
-        (ap (λ s. Some s) each.0.shows)
-    go false other rest = rest ∙ ap (option_map shown) (sym (or_none (hold_at (reverse xs) id)))
+      go : (b : Bool) → (hold.id == id) ≡ b → option_map f (hold_of holds id) ≡ option_map g (hold_at (reverse xs) id) → option_map f (cond b (Some kept) (hold_of holds id)) ≡ option_map g (option_or (hold_at (reverse xs) id) (cond b (Some hold) None))
+      go true is rest =
+          rw (none-above id hold.id (reverse xs) (eqb-true hold.id id is) (above-first hold kept xs holds each ascend))
+          (ap (λ x. Some x) (same hold kept each.0))
+      go false other rest = rest ∙ ap (option_map g) (sym (or_none (hold_at (reverse xs) id)))
+
+  found-kept : (h : List Effect) (holds : List Hold) → HoldsStand h holds → option_map f (hold_of holds id) ≡ option_map g (hold_at (holds_of h) id)
+  found-kept h holds stands =
+      found-listed (reverse (holds_of h)) holds stands.each stands.in_order
+      ∙ ap (λ (hs : List held.Hold). option_map g (hold_at hs id)) (reverse-reverse (holds_of h))
 
 pub shown-kept : (id : ℕ) (h : List Effect) (holds : List Hold) → HoldsStand h holds → option_map shown_row (option_map (λ (k : Hold). k.row) (hold_of holds id)) ≡ option_map shown (hold_at (holds_of h) id)
 shown-kept id h holds stands =
-    twice (hold_of holds id)
-    ∙ (shown-listed id (reverse (holds_of h)) holds stands.each stands.in_order
-    ∙ ap (λ (hs : List held.Hold). option_map shown (hold_at hs id)) (reverse-reverse (holds_of h)))
+    twice (hold_of holds id) ∙ found-kept (λ (k : Hold). shown_row k.row) shown (λ hold kept is. is.shows) id h holds stands
   where
     twice : (o : Option Hold) → option_map shown_row (option_map (λ (k : Hold). k.row) o) ≡ option_map (λ (k : Hold). shown_row k.row) o
     twice None = refl
     twice (Some k) = refl
+
+-- whether the row of a hold that is kept says that it owes a set-dirty
+abbrev pub row_owes : Option HoldRow → Bool
+row_owes None = false
+row_owes (Some row) = is_pin row.kind && not (is_none row.written)
+
+pub set_dirty-kept : (id : ℕ) (h : List Effect) (holds : List Hold) → HoldsStand h holds → row_owes (option_map (λ (k : Hold). k.row) (hold_of holds id)) ≡ owes_set_dirty (hold_at (holds_of h) id)
+set_dirty-kept id h holds stands =
+    both (hold_of holds id) (hold_at (holds_of h) id)
+    (found-kept (λ (k : Hold). is_pin k.row.kind && not (is_none k.row.written)) (λ (hold : held.Hold). is_pin hold.kind && not (is_empty hold.owed)) (λ hold kept is. rw (ap (λ (s : Shown). is_pin s.kind) is.shows, is.changed) refl) id h holds stands)
+  where
+    both : (o : Option Hold) (p : Option held.Hold) → option_map (λ (k : Hold). is_pin k.row.kind && not (is_none k.row.written)) o ≡ option_map (λ (hold : held.Hold). is_pin hold.kind && not (is_empty hold.owed)) p → row_owes (option_map (λ (k : Hold). k.row) o) ≡ owes_set_dirty p
+    both None None is = refl
+    both None (Some hold) is = absurd (cc)
+    both (Some k) None is = absurd (cc)
+    both (Some k) (Some hold) is = some is
+      where
+        some : {a b : Bool} → Some a ≡ Some b → a ≡ b
+        some e = cc
 
 -- the range of a hold is that of the one that is kept for it
 pub range-kept : (hold : held.Hold) (kept : Hold) → IsHold hold kept → range_of kept.row ≡ range_held hold

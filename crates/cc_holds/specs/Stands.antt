@@ -1,11 +1,15 @@
 -- The open holds of a stream as they are kept, and when they stand for the stream's history.
-use Rattle.std.specs.Prelude.{◌≡◌, ℕ, ◌<◌, Bool, List, [], ◌∷◌, reverse, ⊤}
+use Rattle.std.specs.Prelude.{◌≡◌, ℕ, ◌<◌, Bool, false, not, ◌&&◌, is_none, List, [], ◌∷◌, reverse, ⊤}
+use Rattle.std.specs.declared.option.Option.{Option}
+use Rattle.std.specs.declared.option.Option.TheVariants.{Some, None}
 use Rattle.std.specs.List.{AllZip, AllByRecursion, list_any}
 use Rattle.cc_entry.specs.Place.{File}
 use Rattle.cc_entry.specs.Pages.{has_page}
 use Rattle.cc_entry.specs.declared.hold.HoldKind.{HoldKind}
 use Rattle.cc_entry.specs.declared.hold.HoldRow.{HoldRow}
+use Rattle.cc_entry.specs.Kinds.{is_pin}
 use Rattle.cc_model.specs.History.{Effect}
+use Rattle.cc_model.specs.Numbers.{is_empty}
 use Rattle.cc_model.specs.Holds.{holds_of}
 use Rattle.cc_model.specs.Holds as held
 use Rattle.cc_bcb.specs.Touched.{has_touched}
@@ -43,9 +47,10 @@ shown_row row = record {
 }
 
 -- A hold of the definition and the one that is kept for it: both show the same, and owe a stamp to the
--- same pages.
+-- same pages, and at all.
 pub record IsHold (hold : held.Hold) (kept : Hold) : Type 0 where
   pub shows : shown_row kept.row ≡ shown hold
+  pub changed : is_none kept.row.written ≡ is_empty hold.owed
   pub owes : (p : ℕ) → has_touched kept.touched p ≡ list_any (λ r. has_page r p) hold.owed
 
 -- each hold has a greater id than those before it
@@ -57,3 +62,8 @@ IdsAscend (kept ∷ holds) = AllByRecursion (λ later. kept.row.id < later.row.i
 pub record HoldsStand (h : List Effect) (holds : List Hold) : Type 0 where
   pub each : AllZip IsHold (reverse (holds_of h)) holds
   pub in_order : IdsAscend holds
+
+-- whether an open hold, where there is one, is a pin that changed bytes and was not set dirty since
+abbrev pub owes_set_dirty : Option held.Hold → Bool
+owes_set_dirty None = false
+owes_set_dirty (Some hold) = is_pin hold.kind && not (is_empty hold.owed)

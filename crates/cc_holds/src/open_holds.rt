@@ -12,13 +12,13 @@ ghost use Rattle.cc_model.specs.Stamps.{owes_stamp, is_unstamped};
 ghost use Rattle.cc_model.specs.Conflicts.{has_page_of, pin_in_the_way, pin_that_owes};
 ghost use Rattle.cc_model.specs.Views.{active_blocks, needed_blocks};
 ghost use Rattle.cc_model.specs.Numbers.{is_among};
-ghost use Rattle.cc_holds.specs.Stands.{HoldsStand, shown, shown_row};
+ghost use Rattle.cc_holds.specs.Stands.{HoldsStand, owes_set_dirty, shown, shown_row};
 ghost use Rattle.cc_holds.specs.Makes.{row_made, zeroed_end};
 
 use crate::blocks::{add_blocks, add_held};
 use crate::look::{any_keeps_page, first_in_the_way, first_with_bytes};
 use crate::owed::least_owed;
-use crate::rows::{new_row, row_named};
+use crate::rows::{new_row, owes_set_dirty, row_named};
 use cc_bcb::Holds;
 use cc_entry::{Call, HoldKind, HoldRow, NoMemory, Span};
 use std::alloc::Global;
@@ -138,6 +138,18 @@ impl OpenHolds {
             option_map shown_row result ≡ option_map shown (hold_at (holds_of h) id) }
     {
         self.holds.get(id).copied()
+    }
+
+    /// Whether the open hold of an id is a pin that changed bytes and was not set dirty since: a place is reserved
+    /// for its set-dirty.
+    pub fn owes_set_dirty(&self, id: u64) -> bool
+        ensures { (h : List Effect) → HoldsStand h self.now →
+            result ≡ owes_set_dirty (hold_at (holds_of h) id) }
+    {
+        match self.holds.get(id) {
+            Some(row) => owes_set_dirty(row),
+            None => false,
+        }
     }
 
     /// How many holds are open.

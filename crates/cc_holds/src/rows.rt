@@ -1,8 +1,10 @@
 //! The row of the hold that a call makes.
 
-ghost use Rattle.std.specs.Prelude.{◌≡◌, ◌<◌, ◌^◌, None};
+ghost use Rattle.std.specs.Prelude.{◌≡◌, ◌<◌, ◌^◌, ◌&&◌, None, is_none, not};
+ghost use Rattle.cc_entry.specs.Kinds.{is_pin};
 ghost use Rattle.cc_holds.specs.Makes.{new_row, row_named, zeroed, zeroed_end};
 
+use crate::owed::is_pin;
 use cc_entry::{Call, FileId, HoldKind, HoldRow, Span};
 
 /// The row of the hold that a done call makes of a range that it names, whose reply has this id.
@@ -63,4 +65,11 @@ pub(crate) fn new_row(
         exclusive,
         written: None,
     }
+}
+
+/// Whether a hold of this row is a pin through which something was written since its last set-dirty.
+pub(crate) fn owes_set_dirty(row: &HoldRow) -> bool
+    ensures { result ≡ (is_pin row.now.kind && not (is_none row.now.written)) }
+{
+    is_pin(row.kind) && row.written.is_some()
 }
