@@ -1,0 +1,9 @@
+pub mod FoundHolds
+pub mod OpenIds
+pub mod DistinctIds
+pub mod OwnHolds
+pub mod DoneHolds
+pub mod CallsKeep
+pub mod HeldPages
+pub mod Unchanged
+pub mod VerbsKeep
