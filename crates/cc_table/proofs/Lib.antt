@@ -1,0 +1,4 @@
+-- Lemmas, each before those that cite it.
+pub mod RowLsns
+pub mod StreamLsns
+pub mod LogRows

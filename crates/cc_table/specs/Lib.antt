@@ -1,0 +1,2 @@
+-- What the contracts cite beside the definitions.
+pub mod Stamped
