@@ -9,7 +9,7 @@ use Rattle.cc_effects.specs.Calls.{IsUnderWay}
 use Rattle.cc_effects.specs.Moments.{IsIdle}
 use Rattle.cc_effects.proofs.Starts.{begins}
 use Rattle.cc_model.specs.Setup.{Setup}
-use Rattle.cc_step.specs.Step.{asks_one}
+use Rattle.cc_step.specs.Step.{is_stepped}
 use Rattle.cc_turns.specs.Standing.{Standing}
 use Rattle.cc_visits.specs.Hands.{WentWith}
 use Rattle.cc_visits.specs.Ways.{WasWanted}
@@ -38,10 +38,10 @@ module _ (flight : ℕ) (w v : Standing) (s page : ℕ) (it : Call) (went : Went
   pub left_since : (r : Result Call CcError) (new : List Entry) → ((begun : List Entry) → IsUnderWay v.number it begun v.seen → PageLeft v.setup v.number it r begun new) → (begun : List Entry) → IsUnderWay w.number it begun w.seen → PageLeft w.setup w.number it r begun new
   left_since r new left begun way = page_left r begun new (left begun (way_since begun way))
 
-  module _ (one : asks_one it ≡ true) (brings : brings_in it ≡ true) (filed : IsOf it s) (waited : IsWaitedFor w.setup s it page w.seen) where
+  module _ (stepped : is_stepped it ≡ true) (brings : brings_in it ≡ true) (filed : IsOf it s) (waited : IsWaitedFor w.setup s it page w.seen) where
     wanted_since : (begun : List Entry) → IsUnderWay w.number it begun w.seen → WasWanted v.setup it (record { stream = s; page = page }) begun v.seen
     wanted_since begun way = subst (λ (u : Setup). WasWanted u it (record { stream = s; page = page }) begun v.seen) (sym setup_same)
-        (wanted w.setup w.number s page it begun w.seen v.seen one brings filed way idle waited)
+        (wanted w.setup w.number s page it begun w.seen v.seen stepped brings filed way idle waited)
 
     pub is_wanted : IsWanted v s it page
     is_wanted = (w.seen, way_since w.seen (begins w.number it w.seen), wanted_since w.seen (begins w.number it w.seen))

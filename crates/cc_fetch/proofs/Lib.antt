@@ -6,4 +6,5 @@ mod Going
 mod Bringing
 mod Stepping
 mod Repeated
+mod Fullness
 pub mod Beginning

@@ -16,7 +16,7 @@ use Rattle.cc_model.specs.History.{Effect, history}
 use Rattle.cc_model.specs.Ranges.{range_of}
 use Rattle.cc_model.specs.Residency.{is_resident}
 use Rattle.cc_model.specs.Touches.{size_of}
-use Rattle.cc_step.specs.Step.{asks_one, least_absent}
+use Rattle.cc_step.specs.Step.{is_stepped, least_absent}
 use Rattle.cc_visits.specs.Visits.{IsOf}
 
 -- what is found among numbers that follow one another lies between the ends
@@ -51,13 +51,18 @@ same-stream : (a b : ℕ) → Some a ≡ Some b → (b == a) ≡ true
 same-stream a b e = eq-eqb b a (cc)
 
 -- a call that fetches pages is of its file's stream
-of-stream : (it : Call) (s p : ℕ) → asks_one it ≡ true → brings_in it ≡ true → IsOf it s → is_of (file_of it) (record { stream = s; page = p }) ≡ true
-of-stream (call.CopyRead file at len true) s p one brings filed = same-stream s file.stream (filed [] 0)
-of-stream (call.CopyRead file at len false) s p one brings filed = absurd (cc)
-of-stream (call.CopyWrite file at bytes) s p one brings filed = same-stream s file.stream (filed [] 0)
-of-stream (call.Zero file span) s p one brings filed = same-stream s file.stream (filed [] 0)
-of-stream other s p one brings filed = absurd (cc)
+of-stream : (it : Call) (s p : ℕ) → is_stepped it ≡ true → brings_in it ≡ true → IsOf it s → is_of (file_of it) (record { stream = s; page = p }) ≡ true
+of-stream (call.CopyRead file at len true) s p stepped brings filed = same-stream s file.stream (filed [] 0)
+of-stream (call.CopyRead file at len false) s p stepped brings filed = absurd (cc)
+of-stream (call.CopyWrite file at bytes) s p stepped brings filed = same-stream s file.stream (filed [] 0)
+of-stream (call.Zero file span) s p stepped brings filed = same-stream s file.stream (filed [] 0)
+of-stream (call.Map file at len) s p stepped brings filed = same-stream s file.stream (filed [] 0)
+of-stream (call.PinRead file at len exclusive) s p stepped brings filed = same-stream s file.stream (filed [] 0)
+of-stream (call.PreparePin file at len clears exclusive) s p stepped brings filed = same-stream s file.stream (filed [] 0)
+of-stream (call.MdlRead file at len) s p stepped brings filed = same-stream s file.stream (filed [] 0)
+of-stream (call.MdlWrite file at len) s p stepped brings filed = same-stream s file.stream (filed [] 0)
+of-stream other s p stepped brings filed = absurd (cc)
 
-pub reached : (it : Call) (s p : ℕ) (past : List Entry) → asks_one it ≡ true → brings_in it ≡ true → IsOf it s → least_absent (history past s) (range_of (size_of (history past s)) it) ≡ Some p → reaches it (record { stream = s; page = p }) past ≡ true
-reached it s p past one brings filed least =
-    both-so _ _ (of-stream it s p one brings filed) (range-found (history past s) (range_of (size_of (history past s)) it) p least)
+pub reached : (it : Call) (s p : ℕ) (past : List Entry) → is_stepped it ≡ true → brings_in it ≡ true → IsOf it s → least_absent (history past s) (range_of (size_of (history past s)) it) ≡ Some p → reaches it (record { stream = s; page = p }) past ≡ true
+reached it s p past stepped brings filed least =
+    both-so _ _ (of-stream it s p stepped brings filed) (range-found (history past s) (range_of (size_of (history past s)) it) p least)

@@ -7,7 +7,7 @@ ghost use Rattle.cc_traits.specs.Stop.{OnFailed};
 ghost use Rattle.cc_effects.specs.Asked.{brings_in};
 ghost use Rattle.cc_effects.specs.Calls.{IsUnderWay};
 ghost use Rattle.cc_effects.specs.Moments.{IsIdle};
-ghost use Rattle.cc_step.specs.Step.{asks_one};
+ghost use Rattle.cc_step.specs.Step.{is_stepped};
 ghost use Rattle.cc_visits.specs.Hands.{HasBook, IsAtRest, SameDisk, Went, WentWith};
 ghost use Rattle.cc_visits.specs.Ways.{IsFull, WasWanted};
 ghost use Rattle.cc_visits.specs.Visits.{IsOf, IsWaitedFor, WasReadFor};
@@ -38,7 +38,7 @@ pub(crate) fn bring<T: Turns>(
     requires known { book.stream < (T.standing turns.old).streams }
     requires both { HasBoth T.Disk.told T.Disk.faults (T.standing turns.old) book.stream book disk.old }
     requires reserved { (T.standing turns.old).in_flight ≡ 1 }
-    requires one { asks_one call ≡ true }
+    requires stepped { is_stepped call ≡ true }
     requires brings { brings_in call ≡ true }
     requires filed { IsOf call book.stream }
     requires waited { IsWaitedFor (T.standing turns.old).setup book.stream call page (T.standing turns.old).seen }
@@ -70,7 +70,7 @@ fn bring_read<T: Turns>(
     requires known { book.stream < (T.standing turns.old).streams }
     requires both { HasBoth T.Disk.told T.Disk.faults (T.standing turns.old) book.stream book disk.old }
     requires reserved { (T.standing turns.old).in_flight ≡ 1 }
-    requires one { asks_one call ≡ true }
+    requires stepped { is_stepped call ≡ true }
     requires brings { brings_in call ≡ true }
     requires filed { IsOf call book.stream }
     requires waited { IsWaitedFor (T.standing turns.old).setup book.stream call page (T.standing turns.old).seen }
@@ -152,7 +152,7 @@ fn land<T: Turns>(
     requires book { HasBook (T.standing turns.old) book.stream book }
     requires rest { IsAtRest (T.standing turns.old) book.stream }
     requires reserved { (T.standing turns.old).in_flight ≡ 1 }
-    requires one { asks_one call ≡ true }
+    requires stepped { is_stepped call ≡ true }
     requires brings { brings_in call ≡ true }
     requires filed { IsOf call book.stream }
     requires read { WasReadFor (T.standing turns.old) book.stream page (option_map (λ bytes. bytes.now) raw) }
@@ -183,7 +183,7 @@ fn unread<T: Turns>(
     requires book { HasBook (T.standing turns.old) book.stream book }
     requires rest { IsAtRest (T.standing turns.old) book.stream }
     requires reserved { (T.standing turns.old).in_flight ≡ 1 }
-    requires one { asks_one call ≡ true }
+    requires stepped { is_stepped call ≡ true }
     requires brings { brings_in call ≡ true }
     requires filed { IsOf call book.stream }
     requires wanted { IsWanted (T.standing turns.old) book.stream call page }
@@ -211,7 +211,7 @@ fn release<T: Turns>(turns: &mut T, book: Book, call: Call) -> (Book, Result<Cal
     requires book { HasBook (T.standing turns.old) book.stream book }
     requires rest { IsAtRest (T.standing turns.old) book.stream }
     requires reserved { (T.standing turns.old).in_flight ≡ 1 }
-    requires one { asks_one call ≡ true }
+    requires stepped { is_stepped call ≡ true }
     requires brings { brings_in call ≡ true }
     ensures book { HasBook (T.standing turns.new) book.stream result.0 }
     ensures rest { IsAtRest (T.standing turns.new) book.stream }

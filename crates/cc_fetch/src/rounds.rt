@@ -5,12 +5,12 @@ ghost use Rattle.cc_entry.specs.declared.entry.Entry.{Entry};
 ghost use Rattle.cc_effects.specs.Asked.{brings_in};
 ghost use Rattle.cc_effects.specs.Calls.{IsUnderWay};
 ghost use Rattle.cc_model.specs.Good.{IsGood};
-ghost use Rattle.cc_step.specs.Step.{asks_one};
+ghost use Rattle.cc_step.specs.Step.{is_stepped};
 ghost use Rattle.cc_visits.specs.Hands.{IsSettled, Went};
 ghost use Rattle.cc_visits.specs.Ways.{EndedSo, FitsIn, IsFull};
 ghost use Rattle.cc_visits.specs.Visits.{IsOf};
 ghost use Rattle.cc_writes.specs.Writes.{HasBoth};
-ghost use Rattle.cc_fetch.specs.Fetch.{CanCall, WentOn};
+ghost use Rattle.cc_fetch.specs.Fetch.{CanCall, WentOn, most_room};
 ghost use Rattle.cc_fetch.specs.Rounds.{RoundLeft, IsFullCourse, course_of};
 
 use crate::course::Course;
@@ -37,7 +37,7 @@ pub fn fetch<T: Turns>(
     out: &mut [u8],
 ) -> Result<Returned, CcError>
     requires can { CanCall (T.standing turns.old) stream }
-    requires one { asks_one call ≡ true }
+    requires stepped { is_stepped call ≡ true }
     requires brings { brings_in call ≡ true }
     requires filed { IsOf call stream }
     requires fits { FitsIn call out.old }
@@ -48,7 +48,7 @@ pub fn fetch<T: Turns>(
         IsUnderWay (T.standing turns.old).number call begun (T.standing turns.old).seen →
         EndedSo (T.standing turns.old).setup (T.standing turns.old).number call result
         begun (T.standing turns.new).seen out.old out.new }
-    ensures full { IsFull 2 (T.standing turns.new) result }
+    ensures full { IsFull (most_room call) (T.standing turns.new) result }
 {
     let mut disk = turns.take_device(stream);
     let book = turns.take_book(stream);
@@ -70,7 +70,7 @@ fn until_ended<T: Turns>(
     requires known { book.stream < (T.standing turns.old).streams }
     requires both { HasBoth T.Disk.told T.Disk.faults (T.standing turns.old) book.stream book disk.old }
     requires none { (T.standing turns.old).in_flight ≡ 0 }
-    requires one { asks_one call ≡ true }
+    requires stepped { is_stepped call ≡ true }
     requires brings { brings_in call ≡ true }
     requires filed { IsOf call book.stream }
     requires fits { FitsIn call out.old }
@@ -80,7 +80,7 @@ fn until_ended<T: Turns>(
         IsUnderWay (T.standing turns.old).number call begun (T.standing turns.old).seen →
         EndedSo (T.standing turns.old).setup (T.standing turns.old).number call result.1
         begun (T.standing turns.new).seen out.old out.new }
-    ensures full { IsFull 2 (T.standing turns.new) result.1 }
+    ensures full { IsFull (most_room call) (T.standing turns.new) result.1 }
 {
     let mut rounds = Rounds::new();
     for _round in 0..ROUNDS {
@@ -107,7 +107,7 @@ fn round<T: Turns>(
     requires known { book.stream < (T.standing turns.old).streams }
     requires both { HasBoth T.Disk.told T.Disk.faults (T.standing turns.old) book.stream book disk.old }
     requires none { (T.standing turns.old).in_flight ≡ 0 }
-    requires one { asks_one call ≡ true }
+    requires stepped { is_stepped call ≡ true }
     requires brings { brings_in call ≡ true }
     requires filed { IsOf call book.stream }
     requires fits { FitsIn call out.old }
@@ -117,7 +117,7 @@ fn round<T: Turns>(
         IsUnderWay (T.standing turns.old).number call begun (T.standing turns.old).seen →
         RoundLeft (T.standing turns.old).setup (T.standing turns.old).number call result.1
         begun (T.standing turns.new).seen out.old out.new }
-    ensures full { IsFullCourse 2 (T.standing turns.new) result.1 }
+    ensures full { IsFullCourse (most_room call) (T.standing turns.new) result.1 }
 {
     match next_at(alloc, turns, &mut book, call, out) {
         Step::Ended(answer) => (book, Course::Ended(answer)),

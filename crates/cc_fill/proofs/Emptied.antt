@@ -13,9 +13,8 @@ use Rattle.cc_model.specs.Ranges.{range_of}
 use Rattle.cc_model.specs.Setup.{Setup}
 use Rattle.cc_model.specs.Touches.{size_of}
 use Rattle.cc_step.proofs.Attempts.{reserving, adds-reserving}
-use Rattle.cc_step.proofs.Failing.{brings-stepped}
 use Rattle.cc_step.proofs.Placed.{so-far}
-use Rattle.cc_step.specs.Step.{is_stepped, asks_one}
+use Rattle.cc_step.specs.Step.{is_stepped}
 use Rattle.cc_fill.specs.Fill.{MayFill, page_of, MadeWay, HasToWrite}
 use Rattle.cc_fill.specs.Room.{IsCrowded, IsToGo, IsDirtyIn, IsLeastIn}
 use Rattle.cc_fill.proofs.Below.{resident-numbered}
@@ -24,12 +23,9 @@ use Rattle.cc_fill.proofs.Placed.{good-out, stand-onto}
 use Rattle.cc_fill.proofs.Rooms.{full}
 use Rattle.cc_fill.proofs.Waiting.{needs, filed-of}
 
-module _ {Q : Type 0} (u : Setup) (pass : ℕ) (it : Call) (waited block : ℕ) (b : BookState) (j : JournalState Q) (one : asks_one it ≡ true) (brings : brings_in it ≡ true) (may : MayFill u pass it b j) (crowded : IsCrowded u j.entries it waited b) (to_go : IsToGo (history j.entries b.stream) (range_of (size_of (history j.entries b.stream)) it) block) where
+module _ {Q : Type 0} (u : Setup) (pass : ℕ) (it : Call) (waited block : ℕ) (b : BookState) (j : JournalState Q) (stepped : is_stepped it ≡ true) (brings : brings_in it ≡ true) (may : MayFill u pass it b j) (crowded : IsCrowded u j.entries it waited b) (to_go : IsToGo (history j.entries b.stream) (range_of (size_of (history j.entries b.stream)) it) block) where
   pub going : Goes (history j.entries b.stream) block
   going = goes (history j.entries b.stream) it waited block (needs u j.entries b.stream it waited crowded.waits) to_go
-
-  stepped : is_stepped it ≡ true
-  stepped = brings-stepped it one brings
 
   way : (p : ℕ) → block_of p ≡ block → is_in_the_way it (page_of b p) j.entries ≡ true
   way p here =

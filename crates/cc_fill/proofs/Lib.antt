@@ -1,4 +1,5 @@
 -- Lemmas, each before those that cite it.
+pub mod Stops
 pub mod Found
 pub mod Waiting
 pub mod Owed

@@ -22,7 +22,7 @@ use Rattle.cc_model.specs.Settings.{quota_of}
 use Rattle.cc_model.specs.Setup.{Setup}
 use Rattle.cc_model.specs.Stamps.{is_unstamped}
 use Rattle.cc_model.specs.Touches.{size_of, is_dirty}
-use Rattle.cc_step.specs.Step.{StandUnder, MayStep, least_absent, Adds, AttemptDone, AttemptRefused, IsStop, FoundNone}
+use Rattle.cc_step.specs.Step.{StandUnder, MayStep, least_absent, most_asked, Adds, AttemptDone, AttemptRefused, IsStop, FoundNone}
 use Rattle.cc_fill.specs.declared.ways.Next.{Next}
 use Rattle.cc_fill.specs.declared.ways.Next.TheVariants as next
 
@@ -74,7 +74,7 @@ NextLeft u pass it (next.Refused e) b c j k = AttemptRefused u pass it e b c j k
 NextLeft u pass it (next.WentOut again) b c j k = MadeWay u pass it again b c j k
 NextLeft u pass it (next.Writes page again) b c j k = HasToWrite u page it again b c j k
 NextLeft u pass it (next.Reads page again) b c j k = HasToRead u page it again b c j k
-NextLeft u pass it (next.Stopped e) b c j k = IsStop e j × FoundNone u b c j k
+NextLeft u pass it (next.Stopped e) b c j k = IsStop (most_asked it) e j × FoundNone u b c j k
 
 -- What was read of a page, where it was read, is what its stream's disk has of it, if the page is not resident.
 abbrev pub IsRead : Setup → List Entry → ℕ → ℕ → Option (List ℕ) → Type 0

@@ -7,7 +7,7 @@ ghost use Rattle.cc_model.specs.History.{history};
 ghost use Rattle.cc_model.specs.Ranges.{range_of};
 ghost use Rattle.cc_model.specs.Setup.{Setup};
 ghost use Rattle.cc_model.specs.Touches.{size_of};
-ghost use Rattle.cc_step.specs.Step.{asks_one};
+ghost use Rattle.cc_step.specs.Step.{is_stepped};
 ghost use Rattle.cc_fill.specs.Fill.{page_of, MayFill, NextLeft};
 ghost use Rattle.cc_fill.specs.Room.{IsWaiting, IsCrowded, IsToGo, IsDirtyIn};
 
@@ -27,7 +27,7 @@ pub fn next<Q>(
     pass: u32,
     call: Call,
 ) -> Next
-    requires one { asks_one call ≡ true }
+    requires stepped { is_stepped call ≡ true }
     requires brings { brings_in call ≡ true }
     requires may { (u : Setup) × MayFill u pass call book.old journal.old }
     ensures { (u : Setup) → MayFill u pass call book.old journal.old →
@@ -50,7 +50,7 @@ fn bring<Q>(
     page: u64,
     call: Call,
 ) -> Next
-    requires one { asks_one call ≡ true }
+    requires stepped { is_stepped call ≡ true }
     requires brings { brings_in call ≡ true }
     requires may { (u : Setup) × MayFill u pass call book.old journal.old
         × IsWaiting u journal.old.entries book.old.stream call page }
@@ -76,7 +76,7 @@ fn make_room<Q>(
     pass: u32,
     call: Call,
 ) -> Next
-    requires one { asks_one call ≡ true }
+    requires stepped { is_stepped call ≡ true }
     requires brings { brings_in call ≡ true }
     requires may { (u : Setup) × (page : ℕ) × MayFill u pass call book.old journal.old
         × IsCrowded u journal.old.entries call page book.old }
@@ -92,7 +92,7 @@ fn make_room<Q>(
 
 // Goes on with the block to give up: a dirty page of it is to be written, or its least page goes out.
 fn give_up<Q>(book: &mut Book, journal: &mut Journal<Q>, pass: u32, block: u64, call: Call) -> Next
-    requires one { asks_one call ≡ true }
+    requires stepped { is_stepped call ≡ true }
     requires brings { brings_in call ≡ true }
     requires may { (u : Setup) × (page : ℕ) × MayFill u pass call book.old journal.old
         × IsCrowded u journal.old.entries call page book.old
@@ -112,7 +112,7 @@ fn give_up<Q>(book: &mut Book, journal: &mut Journal<Q>, pass: u32, block: u64, 
 
 // Takes the least page out of the block to give up, of which no page is dirty.
 fn empty<Q>(book: &mut Book, journal: &mut Journal<Q>, pass: u32, block: u64, call: Call) -> Next
-    requires one { asks_one call ≡ true }
+    requires stepped { is_stepped call ≡ true }
     requires brings { brings_in call ≡ true }
     requires may { (u : Setup) × (page : ℕ) × MayFill u pass call book.old journal.old
         × IsCrowded u journal.old.entries call page book.old

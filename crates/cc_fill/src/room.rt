@@ -11,7 +11,7 @@ ghost use Rattle.cc_model.specs.History.{history};
 ghost use Rattle.cc_model.specs.Ranges.{range_of, cut_range};
 ghost use Rattle.cc_model.specs.Setup.{Setup};
 ghost use Rattle.cc_model.specs.Touches.{size_of, valid_of};
-ghost use Rattle.cc_step.specs.Step.{asks_one};
+ghost use Rattle.cc_step.specs.Step.{is_stepped};
 ghost use Rattle.cc_fill.specs.Fill.{page_of};
 ghost use Rattle.cc_fill.specs.Room.{has_room, IsWaiting, IsCrowded, IsToGo, is_in, IsDirtyIn, IsLeastIn};
 
@@ -47,7 +47,7 @@ pub(crate) fn has_room(book: &Book, page: u64) -> bool
 
 /// The block to give up for a call that waits for a page for whose block there is no room.
 pub(crate) fn block_to_go(alloc: Global, book: &Book, call: &Call) -> Result<u64, NoMemory>
-    requires one { asks_one call.now ≡ true }
+    requires stepped { is_stepped call.now ≡ true }
     requires brings { brings_in call.now ≡ true }
     requires crowded { (u : Setup) × (past : List Entry) × (page : ℕ) × IsCrowded u past call.now page book.now }
     ensures { IfOk result (λ block. (u : Setup) (past : List Entry) (page : ℕ) →
@@ -61,7 +61,7 @@ pub(crate) fn block_to_go(alloc: Global, book: &Book, call: &Call) -> Result<u64
 
 // The range of a call that waits for a page.
 fn span_of(book: &Book, call: &Call) -> Option<Span>
-    requires one { asks_one call.now ≡ true }
+    requires stepped { is_stepped call.now ≡ true }
     requires brings { brings_in call.now ≡ true }
     ensures { (u : Setup) (opening : Option (ℕ → List ℕ)) (past : List Entry) (page : ℕ) →
         BookStands opening past book.now → IsWaiting u past book.now.stream call.now page →
@@ -71,6 +71,11 @@ fn span_of(book: &Book, call: &Call) -> Option<Span>
         Call::CopyWrite { at, bytes, .. } => span_below(book, *at, bytes.len()),
         Call::Zero { span, .. } => Some(*span),
         Call::CopyRead { at, len, .. } => span_below(book, *at, *len),
+        Call::Map { at, len, .. } => span_below(book, *at, *len),
+        Call::PinRead { at, len, .. } => span_below(book, *at, *len),
+        Call::PreparePin { at, len, .. } => span_below(book, *at, *len),
+        Call::MdlRead { at, len, .. } => span_below(book, *at, *len),
+        Call::MdlWrite { at, len, .. } => span_below(book, *at, *len),
         _ => None,
     }
 }

@@ -13,13 +13,15 @@ use Rattle.cc_entry.specs.declared.reply.Reply.TheVariants as reply
 use Rattle.cc_book.specs.Book.{BookState}
 use Rattle.cc_effects.specs.Calls.{CallLeft}
 use Rattle.cc_journal.specs.Journal.{JournalState}
+use Rattle.cc_model.specs.History.{history}
+use Rattle.cc_model.specs.Holds.{holds_of}
 use Rattle.cc_model.specs.Passes.{calls_of}
 use Rattle.cc_model.specs.Setup.{Setup}
 use Rattle.cc_step.specs.Step.{IsStop}
 use Rattle.cc_turns.specs.Standing.{Standing}
 use Rattle.cc_turns.specs.Takes.{without_journal}
 use Rattle.cc_visits.specs.Hands.{HasBook, IsAtRest, SameDisk}
-use Rattle.cc_visits.specs.Visits.{IsOf}
+use Rattle.cc_visits.specs.Visits.{IsFiledNow}
 use Rattle.cc_visits.specs.Ways.{IsFull}
 use Rattle.cc_visits.proofs.Attempting.{number-is, may-as, visited-done, visited-refused, visited-same, full-refused, full-stop}
 use Rattle.cc_visits.proofs.Disks.{disk-same, disk-call}
@@ -37,8 +39,8 @@ module _ {Q : Type 0} (posted : Q → Bool) (w v : Standing) (file : File) (span
   abbrev it : Call
   it = call.Flush file span
 
-  filed : IsOf it b.stream
-  filed = flush-filed file span b.stream here
+  filed : IsFiledNow w b.stream it
+  filed = flush-filed file span b.stream here (holds_of (history w.seen b.stream)) w.number
 
   -- it has synced, since a moment
   module _ (begun : List Entry) (is : HasSynced w.number file span begun w.seen) where
@@ -55,12 +57,12 @@ module _ {Q : Type 0} (posted : Q → Bool) (w v : Standing) (file : File) (span
     finished-so pass ended me left =
         subst (λ (n : ℕ). FinishLeft w.setup n file span ended b c j k) (number-is posted w v it b c j k has vis refl filed pass me) (left w.setup (may-finish pass me))
 
-    left-stopped : (e : CcError) → IsStop e j → CallLeft w.setup w.number it (outcome.Failed e) begun j.entries
+    left-stopped : (e : CcError) → IsStop 1 e j → CallLeft w.setup w.number it (outcome.Failed e) begun j.entries
     left-stopped e (inl full) =
         subst (λ (x : CcError). CallLeft w.setup w.number it (outcome.Failed x) begun j.entries) (sym full.0)
         (left-full w.setup w.number file span begun 0 j.entries on _)
     left-stopped e (inr none) =
-        subst (λ (x : CcError). CallLeft w.setup w.number it (outcome.Failed x) begun j.entries) (sym none)
+        subst (λ (x : CcError). CallLeft w.setup w.number it (outcome.Failed x) begun j.entries) (sym none.0)
         (left-memoryless w.setup w.number file span begun 0 j.entries on)
 
     pub left-finish : (ended : Finished) → FinishLeft w.setup w.number file span ended b c j k → CallLeft w.setup w.number it (outcome_of (answer_of ended)) begun k.entries
@@ -90,5 +92,5 @@ module _ {Q : Type 0} (posted : Q → Bool) (w v : Standing) (file : File) (span
 
   pub full-finish : (ended : Finished) → FinishLeft w.setup w.number file span ended b c j k → IsFull 1 (without_journal k v) (answer_of ended)
   full-finish finished.Done left = tt
-  full-finish (finished.Refused e) left = full-refused posted w v it b c j k has vis refl filed (Unit {0}) e left
-  full-finish (finished.Stopped e) left = full-stop posted w v it b c j k has vis refl filed (Unit {0}) e left.0 left.1.same_journal (visited-finish (finished.Stopped e) left)
+  full-finish (finished.Refused e) left = full-refused posted w v it b c j k has vis refl filed (Unit {0}) 1 e left
+  full-finish (finished.Stopped e) left = full-stop posted w v it b c j k has vis refl filed (Unit {0}) 1 e left.0 left.1.same_journal (visited-finish (finished.Stopped e) left)

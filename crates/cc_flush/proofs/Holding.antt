@@ -194,7 +194,7 @@ ended-of w v file span ended begun new went left =
 
 -- its sync found no memory
 pub memoryless-left : (u : Setup) (me : ℕ) (file : File) (span : Option Range) (begun new : List Entry) → WantedMemory me (Calls (call.Flush file span)) begun new → CallLeft u me (call.Flush file span) (outcome.Failed error.NoMemory) begun new
-memoryless-left u me file span begun new wanted = given-up u me (call.Flush file span) (record { stream = 0; page = 0 }) error.NoMemory begun new refl (inr wanted)
+memoryless-left u me file span begun new wanted = given-up u me (call.Flush file span) (record { stream = 0; page = 0 }) error.NoMemory begun new refl refl (inr wanted)
 
 -- How the rounds go on: what is in hand stands, and a flush that was under way as they began has come to this page.
 pub record ComesOn {D : Type 0} (told : D → Option Disk) (faults : D → ℕ) (w v : Standing) (file : File) (span : Option Range)

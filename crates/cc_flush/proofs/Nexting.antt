@@ -10,16 +10,18 @@ use Rattle.cc_entry.specs.declared.reply.Outcome.TheVariants as outcome
 use Rattle.cc_book.specs.Book.{BookState}
 use Rattle.cc_journal.specs.Journal.{JournalState}
 use Rattle.cc_model.specs.History.{history}
+use Rattle.cc_model.specs.Holds.{holds_of}
 use Rattle.cc_model.specs.Passes.{calls_of}
 use Rattle.cc_model.specs.Setup.{Setup}
 use Rattle.cc_step.specs.Step.{StandUnder, MayStep}
 use Rattle.cc_turns.specs.Standing.{Standing}
 use Rattle.cc_turns.specs.Takes.{without_journal}
 use Rattle.cc_visits.specs.Hands.{HasBook, IsAtRest, SameDisk, WentWith}
-use Rattle.cc_visits.specs.Visits.{IsOf}
+use Rattle.cc_visits.specs.Visits.{IsFiledNow, IsOf}
 use Rattle.cc_visits.proofs.Attempting.{number-is, may-as, visited-refused, visited-same, left-refused, left-stopped, full-refused, full-stop}
 use Rattle.cc_visits.proofs.Disks.{disk-same, disk-call}
 use Rattle.cc_visits.proofs.Placing.{stepping-none}
+use Rattle.cc_visits.proofs.Refusals.{stops-free}
 use Rattle.cc_visits.proofs.Stepping.{disk-grew}
 use Rattle.cc_visits.proofs.Visiting.{Visiting, Visited, visited}
 use Rattle.cc_flush.specs.Dirty.{IsNext, IsCleanFrom}
@@ -38,8 +40,8 @@ module _ {Q : Type 0} (posted : Q → Bool) (w v : Standing) (file : File) (span
   abbrev it : Call
   it = call.Flush file span
 
-  filed : IsOf it b.stream
-  filed = flush-filed file span b.stream here
+  filed : IsFiledNow w b.stream it
+  filed = flush-filed file span b.stream here (holds_of (history w.seen b.stream)) w.number
 
   pub may-next : (pass : ℕ) → pass ≡ v.number → MayStep w.setup pass it b j
   may-next pass me = may-as posted w v it b c j k has vis refl filed pass me
@@ -123,7 +125,7 @@ module _ {Q : Type 0} (posted : Q → Bool) (w v : Standing) (file : File) (span
     left-next (next.Refused e) left = left-refused posted w v it b c j k has vis refl filed begun is.way e left
     left-next (next.Writes page) left = left-write page left
     left-next next.Syncs left = left-sync left
-    left-next (next.Stopped e) left = left-stopped posted w v it b c j k has vis refl filed begun is.way e left.0 left.1.same_journal
+    left-next (next.Stopped e) left = left-stopped posted w v it b c j k has vis refl filed begun is.way 1 e (stops-free it j.entries refl refl) left.0 left.1.same_journal
 
   pub ascending : (ended : Next) → IsNumbered ended → NextLeft w.setup w.number file span from ended b c j k → IsAscending (step_of ended) from
   ascending (next.Refused e) numbered left = tt
@@ -132,7 +134,7 @@ module _ {Q : Type 0} (posted : Q → Bool) (w v : Standing) (file : File) (span
   ascending (next.Stopped e) numbered left = tt
 
   pub full-next : (ended : Next) → NextLeft w.setup w.number file span from ended b c j k → IsFullStep (without_journal k v) (step_of ended)
-  full-next (next.Refused e) left = full-refused posted w v it b c j k has vis refl filed (Unit {0}) e left
+  full-next (next.Refused e) left = full-refused posted w v it b c j k has vis refl filed (Unit {0}) 1 e left
   full-next (next.Writes page) left = tt
   full-next next.Syncs left = tt
-  full-next (next.Stopped e) left = full-stop posted w v it b c j k has vis refl filed (Unit {0}) e left.0 left.1.same_journal (visited-next (next.Stopped e) left)
+  full-next (next.Stopped e) left = full-stop posted w v it b c j k has vis refl filed (Unit {0}) 1 e left.0 left.1.same_journal (visited-next (next.Stopped e) left)

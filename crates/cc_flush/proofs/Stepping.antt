@@ -1,5 +1,5 @@
 -- The next step of a flush on its book, and its end, for whose entry a place is reserved.
-use Rattle.std.specs.Prelude.{◌≡◌, ℕ, ◌+◌, ◌-◌, ◌<◌, true, List, ◌∷◌, None, Some, refl}
+use Rattle.std.specs.Prelude.{◌≡◌, ℕ, suc, ◌+◌, ◌-◌, ◌<◌, ◌≤◌, true, List, ◌∷◌, None, Some, refl}
 use Rattle.std.specs.declared.option.Option.{Option}
 use Rattle.std.proofs.Common.{ap, sym, ◌∙◌, subst, arith, inr}
 use Rattle.cc_entry.specs.Place.{File, Range}
@@ -19,12 +19,15 @@ use Rattle.cc_model.specs.Good.{IsGood}
 use Rattle.cc_model.specs.History.{history}
 use Rattle.cc_model.specs.Holds.{holds_of}
 use Rattle.cc_model.specs.Legal.{IsLegal, IsLegalEntry}
+use Rattle.cc_model.specs.Passes.{calls_of}
 use Rattle.cc_model.specs.Refusals.{refusal}
+use Rattle.cc_model.specs.Room.{reserved_in}
 use Rattle.cc_model.specs.Setup.{Setup}
 use Rattle.cc_step.specs.Step.{StandUnder, MayStep, AttemptDone, AttemptRefused, FoundNone}
-use Rattle.cc_step.proofs.Attempts.{reserving, may-reserving}
+use Rattle.cc_step.proofs.Attempts.{reserving}
 use Rattle.cc_step.proofs.Ended.{refused-placed}
 use Rattle.cc_step.proofs.Placed.{good-failed, so-far}
+use Rattle.cc_step.proofs.Reserved.{reserved-done}
 use Rattle.cc_flush.specs.Dirty.{IsNext, IsCleanFrom}
 use Rattle.cc_flush.specs.Steps.{HasToWrite, HasToSync, NextLeft, GoneOn, MayFinish, FinishLeft, HasEnded, without_one}
 use Rattle.cc_flush.specs.declared.steps.Finished.{Finished}
@@ -52,16 +55,13 @@ less-more n some = omega (arith, some)
 more-less : (n : ℕ) → (n + 1) - 1 ≡ n
 more-less n = omega arith
 
+one_asked : 0 < 1
+one_asked = omega arith
+
 module _ {Q : Type 0} (u : Setup) (pass : ℕ) (file : File) (span : Option Range) (b : BookState) (j : JournalState Q)
-    (may : MayStep u pass (call.Flush file span) b j) (some : 0 < j.reserved) where
+    (may : MayStep u pass (call.Flush file span) b (without_one j)) (some : 0 < j.reserved) where
   abbrev it : Call
   it = call.Flush file span
-
-  pub may-less : MayStep u pass it b (without_one j)
-  may-less = record {
-    stand = record { good = may.stand.good; stands = may.stand.stands; logs_are = may.stand.logs_are; threshold_is = may.stand.threshold_is };
-    filed = may.filed;
-  }
 
   back : record (without_one j) { reserved = (j.reserved - 1) + 1 } ≡ j
   back = ap (λ (n : ℕ). record j { reserved = n }) (less-more j.reserved some)
@@ -72,14 +72,14 @@ module _ {Q : Type 0} (u : Setup) (pass : ℕ) (file : File) (span : Option Rang
 
   pub refused-here : (e : CcError) (c : BookState) (k : JournalState Q) → refusal u j.entries (history j.entries b.stream) it ≡ Some e → Gains (failed pass j.entries b.stream it e) j k → GoesOn j.entries k.entries b c → c ≡ b → AttemptRefused u pass it e b c (without_one j) k
   refused-here e c k reason gains goes same =
-      refused-placed u pass it e b c (without_one j) k refl may-less reason
+      refused-placed u pass it e b c (without_one j) k refl may reason
       (subst (λ (x : JournalState Q). Gains (failed pass x.entries b.stream it e) x k) (sym back) gains) goes same
 
   -- it found no memory, and the place was given back
   pub found-none : (k : JournalState Q) → k ≡ record j { reserved = j.reserved - 1 } → FoundNone u b b (without_one j) k
   found-none k released = record {
     same_journal = released;
-    stand = subst (λ (x : JournalState Q). StandUnder u b x) (sym released) may-less.stand;
+    stand = subst (λ (x : JournalState Q). StandUnder u b x) (sym released) may.stand;
     stream = refl;
   }
 
@@ -106,7 +106,9 @@ module _ {Q : Type 0} (u : Setup) (pass : ℕ) (file : File) (span : Option Rang
 
       pub done-here : (c : BookState) (k : JournalState Q) → Gains (done pass j.entries b.stream it reply.Unit) j k → BookStands (u.opening b.stream) k.entries c → c.stream ≡ b.stream → AttemptDone u pass it reply.Unit b c (without_one j) k
       done-here c k gains stands stream = record {
-        placed = gains;
+        placed = gains ∙ ap (λ (n : ℕ). record j { entries = done pass j.entries b.stream it reply.Unit ∷ j.entries; reserved = n; rows = k.rows })
+            (owing (j.reserved - 1) (reserved_in j.entries) (reserved_in (done pass j.entries b.stream it reply.Unit ∷ j.entries)) may.owed
+            (reserved-done j.entries pass (suc (calls_of j.entries pass)) b.stream it reply.Unit refl refl may.settled));
         stand = record {
           good = rw (ap (λ (x : JournalState Q). x.entries) gains) good-here;
           stands = subst (λ (n : ℕ). BookStands (u.opening n) k.entries c) (sym stream) stands;
@@ -115,23 +117,28 @@ module _ {Q : Type 0} (u : Setup) (pass : ℕ) (file : File) (span : Option Rang
         };
         stream = stream;
       }
+        where
+          owing : (reserved before after : ℕ) → before ≤ reserved → after ≡ before → reserved ≡ after + (reserved - before)
+          owing reserved before after within same = omega (arith, within, same)
 
 -- the same where the place was asked for
 module _ {Q : Type 0} (u : Setup) (pass : ℕ) (file : File) (span : Option Range) (b c : BookState) (j k : JournalState Q) where
   again : without_one (reserving j) ≡ j
   again = ap (λ (n : ℕ). record j { reserved = n }) (more-less j.reserved)
 
+  pub may-again : MayStep u pass (call.Flush file span) b j → MayStep u pass (call.Flush file span) b (without_one (reserving j))
+  may-again may = subst (λ (x : JournalState Q). MayStep u pass (call.Flush file span) b x) (sym again) may
+
+  pub finish-again : MayFinish u pass file span b j → MayFinish u pass file span b (without_one (reserving j))
+  finish-again may = subst (λ (x : JournalState Q). MayFinish u pass file span b x) (sym again) may
+
   pub next-left : (from : ℕ) (ended : Next) → GoneOn u pass file span from ended b c (reserving j) k → NextLeft u pass file span from ended b c j k
   next-left from (next.Refused e) left = subst (λ (x : JournalState Q). NextLeft u pass file span from (next.Refused e) b c x k) again left
   next-left from (next.Writes page) left = subst (λ (x : JournalState Q). NextLeft u pass file span from (next.Writes page) b c x k) again left
   next-left from next.Syncs left = subst (λ (x : JournalState Q). NextLeft u pass file span from next.Syncs b c x k) again left
-  next-left from (next.Stopped e) left = (inr left.0, subst (λ (x : JournalState Q). FoundNone u b c x k) again left.1)
+  next-left from (next.Stopped e) left = (inr (left.0, one_asked), subst (λ (x : JournalState Q). FoundNone u b c x k) again left.1)
 
   pub finish-left : (ended : Finished) → HasEnded u pass file span ended b c (reserving j) k → FinishLeft u pass file span ended b c j k
   finish-left finished.Done left = subst (λ (x : JournalState Q). FinishLeft u pass file span finished.Done b c x k) again left
   finish-left (finished.Refused e) left = subst (λ (x : JournalState Q). FinishLeft u pass file span (finished.Refused e) b c x k) again left
-  finish-left (finished.Stopped e) left = (inr left.0, subst (λ (x : JournalState Q). FoundNone u b c x k) again left.1)
-
--- a flush may end on a journal with a place more reserved
-pub finish-reserving : {Q : Type 0} (u : Setup) (pass : ℕ) (file : File) (span : Option Range) (b : BookState) (j : JournalState Q) → MayFinish u pass file span b j → MayFinish u pass file span b (reserving j)
-finish-reserving u pass file span b j may = record { may = may-reserving u pass (call.Flush file span) b j may.may; flushed = may.flushed }
+  finish-left (finished.Stopped e) left = (inr (left.0, one_asked), subst (λ (x : JournalState Q). FoundNone u b c x k) again left.1)

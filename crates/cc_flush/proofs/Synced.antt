@@ -175,7 +175,7 @@ module _ (u : Setup) (me : ℕ) (file : File) (span : Option Range) (begun : Lis
     }
 
     pub left-full : (entries : ℕ) → CallLeft u me it (outcome.Failed (error.JournalFull entries)) begun new
-    left-full entries = unplaced (error.JournalFull entries) (may-stop it entries refl).0
+    left-full entries = unplaced (error.JournalFull entries) (may-stop it entries refl refl).0
 
     pub left-memoryless : CallLeft u me it (outcome.Failed error.NoMemory) begun new
-    left-memoryless = unplaced error.NoMemory (may-stop it 0 refl).1
+    left-memoryless = unplaced error.NoMemory (may-stop it 0 refl refl).1

@@ -44,7 +44,7 @@ abbrev pub NextLeft : {Q : Type 0} → Setup → ℕ → File → Option Range �
 NextLeft u pass file span from (next.Refused e) b c j k = AttemptRefused u pass (call.Flush file span) e b c j k
 NextLeft u pass file span from (next.Writes page) b c j k = HasToWrite u file span from page b c j k
 NextLeft u pass file span from next.Syncs b c j k = HasToSync u file span from b c j k
-NextLeft u pass file span from (next.Stopped e) b c j k = IsStop e j × FoundNone u b c j k
+NextLeft u pass file span from (next.Stopped e) b c j k = IsStop 1 e j × FoundNone u b c j k
 
 -- a page that is to be written has a number
 abbrev pub IsNumbered : Next → Type 0
@@ -62,7 +62,7 @@ abbrev pub FinishLeft : {Q : Type 0} → Setup → ℕ → File → Option Range
     → BookState → BookState → JournalState Q → JournalState Q → Type 0
 FinishLeft u pass file span finished.Done b c j k = AttemptDone u pass (call.Flush file span) reply.Unit b c j k
 FinishLeft u pass file span (finished.Refused e) b c j k = AttemptRefused u pass (call.Flush file span) e b c j k
-FinishLeft u pass file span (finished.Stopped e) b c j k = IsStop e j × FoundNone u b c j k
+FinishLeft u pass file span (finished.Stopped e) b c j k = IsStop 1 e j × FoundNone u b c j k
 
 -- a journal with one place less reserved
 abbrev pub without_one : {Q : Type 0} → JournalState Q → JournalState Q

@@ -4,7 +4,7 @@ ghost use Rattle.std.specs.Prelude.{◌≡◌, ◌≤◌, ◌<◌, ◌^◌, true
 ghost use Rattle.cc_entry.specs.declared.call.Call.TheVariants as call;
 ghost use Rattle.cc_model.specs.Setup.{Setup};
 ghost use Rattle.cc_step.specs.Step.{MayStep};
-ghost use Rattle.cc_flush.specs.Steps.{NextLeft, GoneOn, MayFinish, FinishLeft, HasEnded, IsNumbered};
+ghost use Rattle.cc_flush.specs.Steps.{NextLeft, GoneOn, MayFinish, FinishLeft, HasEnded, IsNumbered, without_one};
 
 use crate::dirty::next_dirty;
 use cc_book::Book;
@@ -68,8 +68,8 @@ fn go_on<Q>(
     from: u64,
 ) -> Next
     requires reserved { 0 < journal.old.reserved }
-    requires may { (u : Setup) × MayStep u pass (call.Flush file span.now) book.old journal.old }
-    ensures left { (u : Setup) → MayStep u pass (call.Flush file span.now) book.old journal.old →
+    requires may { (u : Setup) × MayStep u pass (call.Flush file span.now) book.old (without_one journal.old) }
+    ensures left { (u : Setup) → MayStep u pass (call.Flush file span.now) book.old (without_one journal.old) →
         GoneOn u pass file span.now from result book.old book.new journal.old journal.new }
     ensures numbered { IsNumbered result }
 {
@@ -122,8 +122,8 @@ fn end<Q>(
     span: &Option<Span>,
 ) -> Finished
     requires reserved { 0 < journal.old.reserved }
-    requires may { (u : Setup) × MayFinish u pass file span.now book.old journal.old }
-    ensures { (u : Setup) → MayFinish u pass file span.now book.old journal.old →
+    requires may { (u : Setup) × MayFinish u pass file span.now book.old (without_one journal.old) }
+    ensures { (u : Setup) → MayFinish u pass file span.now book.old (without_one journal.old) →
         HasEnded u pass file span.now result book.old book.new journal.old journal.new }
 {
     let call = Call::Flush { file, span: *span };

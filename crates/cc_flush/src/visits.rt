@@ -12,7 +12,6 @@ ghost use Rattle.std.specs.Prelude.{None, Some};
 ghost use Rattle.cc_turns.specs.Standing.{nothing};
 ghost use Rattle.cc_visits.specs.Hands.{HasBook, IsAtRest, SameDisk, Went, WentWith};
 ghost use Rattle.cc_visits.specs.Visits.{HasPlaced};
-ghost use Rattle.cc_visits.specs.Visits.{HasPlaced};
 ghost use Rattle.cc_visits.specs.Ways.{IsFull};
 ghost use Rattle.cc_flush.specs.Flush.{IsFlushing, StepLeft, StepWent, IsFullStep, IsAscending, HasSynced, answer_of, outcome_of, step_of};
 

@@ -1,12 +1,21 @@
 -- An attempt is a step with a place reserved for it, which is released where nothing was placed.
-use Rattle.std.specs.Prelude.{◌≡◌, ℕ, ◌+◌, ◌-◌, true, false, ◌∷◌}
-use Rattle.std.proofs.Common.{ap, ◌∙◌, arith, inr}
+use Rattle.std.specs.Prelude.{◌≡◌, ℕ, suc, ◌+◌, ◌-◌, ◌<◌, ◌≤◌, true, false, ◌∷◌, length}
+use Rattle.std.proofs.Common.{ap, ◌∙◌, arith, inl, inr}
 use Rattle.cc_entry.specs.declared.call.Call.{Call}
 use Rattle.cc_entry.specs.declared.entry.Entry.{Entry}
+use Rattle.cc_entry.specs.declared.error.CcError.{CcError}
+use Rattle.cc_entry.specs.declared.reply.Reply.{Reply}
 use Rattle.cc_book.specs.Book.{BookState, Gains, done, failed}
 use Rattle.cc_journal.specs.Journal.{JournalState}
+use Rattle.cc_model.specs.History.{history}
+use Rattle.cc_model.specs.Holds.{holds_of}
+use Rattle.cc_model.specs.Passes.{calls_of}
+use Rattle.cc_model.specs.Room.{reserved_in}
 use Rattle.cc_model.specs.Setup.{Setup}
-use Rattle.cc_step.specs.Step.{MayStep, StepLeft, AttemptLeft, Adds, has_placed}
+use Rattle.cc_step.proofs.Asking.{asked-reserved, none-spared}
+use Rattle.cc_step.proofs.Finishing.{may-more}
+use Rattle.cc_step.proofs.Placed.{so-far}
+use Rattle.cc_step.specs.Step.{is_stepped, asked_now, places_spared, MayStep, StepLeft, AttemptLeft, Adds, AddsOwing, GainsWith, IsStop, IsWantOf, has_placed}
 use Rattle.cc_step.specs.declared.steps.Stepped.{Stepped}
 use Rattle.cc_step.specs.declared.steps.Stepped.TheVariants as stepped
 
@@ -25,41 +34,63 @@ pub adds-reserving : {Q : Type 0} (e : Entry) (j k : JournalState Q) → Gains e
 adds-reserving e j k placed = placed ∙ ap (λ (n : ℕ). record j { entries = e ∷ j.entries; reserved = n; rows = k.rows }) (back j.reserved)
 
 pub may-reserving : {Q : Type 0} (u : Setup) (pass : ℕ) (it : Call) (b : BookState) (j : JournalState Q) → MayStep u pass it b j → MayStep u pass it b (reserving j)
-may-reserving u pass it b j may = record {
-  stand = record { good = may.stand.good; stands = may.stand.stands; logs_are = may.stand.logs_are; threshold_is = may.stand.threshold_is };
-  filed = may.filed;
-}
+may-reserving u pass it b j may = may-more u pass 1 it b j may
 
-pub placed-attempt : {Q : Type 0} (u : Setup) (pass : ℕ) (it : Call) (ended : Stepped) (b c : BookState) (j k : JournalState Q) → has_placed ended ≡ true → StepLeft u pass it ended b c (reserving j) k → AttemptLeft u pass it ended b c j k
-placed-attempt u pass it stepped.Done b c j k placed left = (
+-- what the past owes after a done call that may be stepped
+pub owed-after : {Q : Type 0} (u : Setup) (pass : ℕ) (it : Call) (r : Reply) (b : BookState) (j : JournalState Q) → b.stream < 16 → is_stepped it ≡ true → MayStep u pass it b j → reserved_in (done pass j.entries b.stream it r ∷ j.entries) + (1 + places_spared (holds_of (history j.entries b.stream)) it) ≡ reserved_in j.entries + asked_now j.entries b.stream it
+owed-after u pass it r b j below stepped may =
+    asked-reserved u j.entries pass (suc (calls_of j.entries pass)) b.stream it r below stepped (so-far u j.entries may.stand.good) may.filed may.settled
+
+-- the places reserved with the entry of a call that asks one are what the past owes after it
+pub adds-owing : {Q : Type 0} (u : Setup) (pass more : ℕ) (it : Call) (r : Reply) (b : BookState) (j k : JournalState Q) → b.stream < 16 → is_stepped it ≡ true → MayStep u pass it b j → asked_now j.entries b.stream it ≡ suc more → GainsWith more (done pass j.entries b.stream it r) (reserving j) k → AddsOwing (done pass j.entries b.stream it r) j k
+adds-owing u pass more it r b j k below stepped may asks placed =
+    placed ∙ ap (λ (n : ℕ). record j { entries = done pass j.entries b.stream it r ∷ j.entries; reserved = n; rows = k.rows })
+    (numbers _ _ _ _ _ (owed-after u pass it r b j below stepped may) (none-spared (holds_of (history j.entries b.stream)) it more asks) asks may.owed)
+  where
+    numbers : (after spared before asked reserved : ℕ) → after + (1 + spared) ≡ before + asked → spared ≡ 0 → asked ≡ suc more → before ≤ reserved → ((reserved + 1) - 1) + more ≡ after + (reserved - before)
+    numbers after spared before asked reserved is none so within = omega (arith, is, none, so, within)
+
+pub placed-attempt : {Q : Type 0} (u : Setup) (pass more : ℕ) (it : Call) (ended : Stepped) (b c : BookState) (j k : JournalState Q) → b.stream < 16 → is_stepped it ≡ true → MayStep u pass it b j → asked_now j.entries b.stream it ≡ suc more → has_placed ended ≡ true → StepLeft u pass more it ended b c (reserving j) k → AttemptLeft u pass it ended b c j k
+placed-attempt u pass more it stepped.Done b c j k below here may asks placed left = (
   left.0,
   record {
-    placed = left.1.placed ∙ ap (λ (n : ℕ). record j { entries = done pass j.entries b.stream it left.0 ∷ j.entries; reserved = n; rows = k.rows }) (back j.reserved);
+    placed = adds-owing u pass more it left.0 b j k below here may asks left.1.placed;
     stand = left.1.stand;
     stream = left.1.stream;
   },
 )
-placed-attempt u pass it (stepped.Refused e) b c j k placed left = record {
+placed-attempt u pass more it (stepped.Refused e) b c j k below here may asks placed left = record {
   reason = left.reason;
   placed = left.placed ∙ ap (λ (n : ℕ). record j { entries = failed pass j.entries b.stream it e ∷ j.entries; reserved = n; rows = k.rows }) (back j.reserved);
   stand = left.stand;
   same = left.same;
 }
-placed-attempt u pass it (stepped.Waits page again) b c j k placed left = absurd (cc)
-placed-attempt u pass it (stepped.Stopped e) b c j k placed left = absurd (cc)
+placed-attempt u pass more it (stepped.Waits page again) b c j k below here may asks placed left = absurd (cc)
+placed-attempt u pass more it (stepped.Stopped e) b c j k below here may asks placed left = absurd (cc)
 
-pub left-attempt : {Q : Type 0} (u : Setup) (pass : ℕ) (it : Call) (ended : Stepped) (b c : BookState) (j k : JournalState Q) → has_placed ended ≡ false → StepLeft u pass it ended b c (reserving j) k → AttemptLeft u pass it ended b c j (releasing k)
-left-attempt u pass it stepped.Done b c j k placed left = absurd (cc)
-left-attempt u pass it (stepped.Refused e) b c j k placed left = absurd (cc)
-left-attempt u pass it (stepped.Waits page again) b c j k placed left = record {
+-- a step that stopped for want of so many more places is an attempt that stopped for want of all that it asks
+stop : {Q : Type 0} (more asked : ℕ) (e : CcError) (j : JournalState Q) → asked ≡ suc more → IsWantOf more e (reserving j) → IsStop asked e j
+stop more asked e j asks (inl full) = inl (full.0, less j.capacity (length j.entries) j.reserved full.1)
+  where
+    less : (capacity long reserved : ℕ) → capacity - (long + (reserved + 1)) < more → capacity - (long + reserved) < asked
+    less capacity long reserved short = omega (arith, short, asks)
+stop more asked e j asks (inr none) = inr (none, some)
+  where
+    some : 0 < asked
+    some = omega (arith, asks)
+
+pub left-attempt : {Q : Type 0} (u : Setup) (pass more : ℕ) (it : Call) (ended : Stepped) (b c : BookState) (j k : JournalState Q) → asked_now j.entries b.stream it ≡ suc more → has_placed ended ≡ false → StepLeft u pass more it ended b c (reserving j) k → AttemptLeft u pass it ended b c j (releasing k)
+left-attempt u pass more it stepped.Done b c j k asks placed left = absurd (cc)
+left-attempt u pass more it (stepped.Refused e) b c j k asks placed left = absurd (cc)
+left-attempt u pass more it (stepped.Waits page again) b c j k asks placed left = record {
   admitted = left.admitted;
   least = left.least;
   call_is = left.call_is;
   same_book = left.same_book;
   same_journal = ap releasing left.same_journal ∙ ap (λ (n : ℕ). record j { reserved = n }) (back j.reserved);
 }
-left-attempt u pass it (stepped.Stopped e) b c j k placed left = (
-  inr left.0,
+left-attempt u pass more it (stepped.Stopped e) b c j k asks placed left = (
+  stop more (asked_now j.entries b.stream it) e j asks left.0,
   record {
     same_journal = ap releasing left.1.same_journal ∙ ap (λ (n : ℕ). record j { reserved = n }) (back j.reserved);
     stand = record { good = left.1.stand.good; stands = left.1.stand.stands; logs_are = left.1.stand.logs_are; threshold_is = left.1.stand.threshold_is };
@@ -67,8 +98,8 @@ left-attempt u pass it (stepped.Stopped e) b c j k placed left = (
   },
 )
 
-pub one-reserved : {Q : Type 0} (u : Setup) (pass : ℕ) (it : Call) (ended : Stepped) (b c : BookState) (j k : JournalState Q) → has_placed ended ≡ false → StepLeft u pass it ended b c (reserving j) k → k.reserved ≡ j.reserved + 1
-one-reserved u pass it stepped.Done b c j k placed left = absurd (cc)
-one-reserved u pass it (stepped.Refused e) b c j k placed left = absurd (cc)
-one-reserved u pass it (stepped.Waits page again) b c j k placed left = ap (λ x. x.reserved) left.same_journal
-one-reserved u pass it (stepped.Stopped e) b c j k placed left = ap (λ x. x.reserved) left.1.same_journal
+pub one-reserved : {Q : Type 0} (u : Setup) (pass more : ℕ) (it : Call) (ended : Stepped) (b c : BookState) (j k : JournalState Q) → has_placed ended ≡ false → StepLeft u pass more it ended b c (reserving j) k → k.reserved ≡ j.reserved + 1
+one-reserved u pass more it stepped.Done b c j k placed left = absurd (cc)
+one-reserved u pass more it (stepped.Refused e) b c j k placed left = absurd (cc)
+one-reserved u pass more it (stepped.Waits page again) b c j k placed left = ap (λ x. x.reserved) left.same_journal
+one-reserved u pass more it (stepped.Stopped e) b c j k placed left = ap (λ x. x.reserved) left.1.same_journal

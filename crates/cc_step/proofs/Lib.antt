@@ -5,5 +5,10 @@ pub mod Filled
 pub mod Failing
 pub mod Placed
 pub mod Reserved
+pub mod HoldSums
+pub mod Maps
+pub mod Asking
+pub mod Finishing
 pub mod Attempts
+pub mod KeptPlaces
 pub mod Ended

@@ -26,8 +26,8 @@ use Rattle.cc_model.specs.Refusals.{refusal}
 use Rattle.cc_model.specs.Replies.{IsReply}
 use Rattle.cc_model.specs.Setup.{Setup}
 use Rattle.cc_step.specs.Faults.{IsMet}
-use Rattle.cc_step.specs.Step.{is_stepped, IsReadyFor}
-use Rattle.cc_step.proofs.Failing.{fails_here, stepped-fails}
+use Rattle.cc_step.specs.Step.{is_answered, is_stepped, IsReadyFor}
+use Rattle.cc_step.proofs.Failing.{stepped-answered}
 use Rattle.cc_step.proofs.Reasons.{is_listed, refusal-listed}
 
 -- where nothing is owed, any entry may follow
@@ -35,11 +35,11 @@ nothing_owed : (e : Entry) (past : List Entry) → owed_begin past ≡ None → 
 nothing_owed e past none = rw none tt
 
 -- a call that is no store leaves no begin owed
-no_store : (pass s : ℕ) (it : Call) (ended : Outcome) → fails_here it ≡ true → begin_after pass (Some s) it ended ≡ None
+no_store : (pass s : ℕ) (it : Call) (ended : Outcome) → is_answered it ≡ true → begin_after pass (Some s) it ended ≡ None
 no_store pass s (call.NcStore file page bytes) ended here = absurd (cc)
 no_store pass s other ended here = refl
 
-good-call : (u : Setup) (pass nth s : ℕ) (it : Call) (ended : Outcome) (past : List Entry) → fails_here it ≡ true → IsOutcome u past pass (Some s) it ended → MayCall u past pass nth (Some s) it ended → IsGood u past → IsGood u (entry.Call pass nth (Some s) it ended ∷ past)
+good-call : (u : Setup) (pass nth s : ℕ) (it : Call) (ended : Outcome) (past : List Entry) → is_answered it ≡ true → IsOutcome u past pass (Some s) it ended → MayCall u past pass nth (Some s) it ended → IsGood u past → IsGood u (entry.Call pass nth (Some s) it ended ∷ past)
 unfolding IsLegal IsLegalEntry IsAllowed IsAllowedSoFar IsCovered IsCoveredEntry
 good-call u pass nth s it ended past here legal may good = record {
   legal = (legal, good.legal);
@@ -67,13 +67,13 @@ on_needed false P p = tt
 
 pub good-done : (u : Setup) (past : List Entry) (pass s : ℕ) (it : Call) (r : Reply) → is_stepped it ≡ true → IsGood u past → IsFiled (holds_of (history past s)) pass (Some s) it (file_of it) → IsReadyFor u past s it → IsReply u past (u.opening s) (history past s) pass it r → IsGood u (done pass past s it r ∷ past)
 good-done u past pass s it r stepped good filed may reply =
-    good-call u pass (suc (calls_of past pass)) s it (outcome.Done r) past (stepped-fails it stepped)
+    good-call u pass (suc (calls_of past pass)) s it (outcome.Done r) past (stepped-answered it stepped)
     (admitted u past s it stepped may.admitted, reply)
     (record { number = refl; filed = filed; may_end = (on_needed (needs_pages it r) _ may.filled, ready past pass s it stepped) })
     good
 
 -- a refusal of the list is the call's failure, and no fault
-failure : (u : Setup) (past : List Entry) (pass s : ℕ) (it : Call) (e : CcError) → fails_here it ≡ true → is_listed e ≡ true → refusal u past (history past s) it ≡ Some e → IsFailure u past pass (Some s) it e
+failure : (u : Setup) (past : List Entry) (pass s : ℕ) (it : Call) (e : CcError) → is_answered it ≡ true → is_listed e ≡ true → refusal u past (history past s) it ≡ Some e → IsFailure u past pass (Some s) it e
 failure u past pass s it (error.ReadFault page) here listed is = absurd (cc)
 failure u past pass s it (error.WriteFault page) here listed is = absurd (cc)
 failure u past pass s it (error.LogFault handle) here listed is = absurd (cc)
@@ -83,7 +83,7 @@ failure u past pass s it (error.JournalFull entries) here listed is = absurd (cc
 failure u past pass s it error.NoMemory here listed is = absurd (cc)
 failure u past pass s it (error.TooLong limit) here listed is = long it here is
   where
-    long : (c : Call) → fails_here c ≡ true → refusal u past (history past s) c ≡ Some (error.TooLong limit) → IsTooLong u past (history past s) limit c
+    long : (c : Call) → is_answered c ≡ true → refusal u past (history past s) c ≡ Some (error.TooLong limit) → IsTooLong u past (history past s) limit c
     long (call.NcRead file page) its known = absurd (cc)
     long (call.NcWrite file page) its known = absurd (cc)
     long other its known = known
@@ -95,7 +95,7 @@ no_fault (error.WriteFault page) P listed = absurd (cc)
 no_fault (error.LogFault handle) P listed = absurd (cc)
 no_fault other P listed = tt
 
-pub good-failed : (u : Setup) (past : List Entry) (pass s : ℕ) (it : Call) (e : CcError) → fails_here it ≡ true → IsGood u past → IsFiled (holds_of (history past s)) pass (Some s) it (file_of it) → refusal u past (history past s) it ≡ Some e → IsGood u (failed pass past s it e ∷ past)
+pub good-failed : (u : Setup) (past : List Entry) (pass s : ℕ) (it : Call) (e : CcError) → is_answered it ≡ true → IsGood u past → IsFiled (holds_of (history past s)) pass (Some s) it (file_of it) → refusal u past (history past s) it ≡ Some e → IsGood u (failed pass past s it e ∷ past)
 good-failed u past pass s it e here good filed is =
     let listed = refusal-listed u past (history past s) it e is in
     good-call u pass (suc (calls_of past pass)) s it (outcome.Failed e) past here
@@ -104,7 +104,7 @@ good-failed u past pass s it e here good filed is =
     good
 
 -- beside a fault nothing refuses such a call
-alone : (u : Setup) (past : List Entry) (pass s : ℕ) (it : Call) → fails_here it ≡ true → refusal u past (history past s) it ≡ None → NothingElse u past pass (Some s) it
+alone : (u : Setup) (past : List Entry) (pass s : ℕ) (it : Call) → is_answered it ≡ true → refusal u past (history past s) it ≡ None → NothingElse u past pass (Some s) it
 alone u past pass s (call.NcWrite file page) here none = absurd (cc)
 alone u past pass s other here none = none
 
@@ -115,7 +115,7 @@ met-failure u past pass s it (error.WriteFault page) met else = (met, else)
 met-failure u past pass s it (error.LogFault handle) met else = (met, else)
 met-failure u past pass s it other met else = absurd met
 
-pub good-met : (u : Setup) (past : List Entry) (pass s : ℕ) (it : Call) (fault : CcError) → fails_here it ≡ true → IsGood u past → IsFiled (holds_of (history past s)) pass (Some s) it (file_of it) → IsMet past pass it fault → refusal u past (history past s) it ≡ None → IsGood u (failed pass past s it fault ∷ past)
+pub good-met : (u : Setup) (past : List Entry) (pass s : ℕ) (it : Call) (fault : CcError) → is_answered it ≡ true → IsGood u past → IsFiled (holds_of (history past s)) pass (Some s) it (file_of it) → IsMet past pass it fault → refusal u past (history past s) it ≡ None → IsGood u (failed pass past s it fault ∷ past)
 good-met u past pass s it fault here good filed met none =
     let failed_so = met-failure u past pass s it fault met (alone u past pass s it here none) in
     good-call u pass (suc (calls_of past pass)) s it (outcome.Failed fault) past here failed_so

@@ -20,8 +20,7 @@ use Rattle.cc_model.specs.History.{history}
 use Rattle.cc_model.specs.Numbers.{is_among}
 use Rattle.cc_model.specs.Passes.{is_store, up_to_call}
 use Rattle.cc_model.specs.Room.{owed_by_stream, stores_unfinished, reserved_in}
-use Rattle.cc_step.specs.Step.{owes_store}
-use Rattle.cc_step.proofs.Failing.{fails_here}
+use Rattle.cc_step.specs.Step.{is_answered, owes_store}
 
 none-more : (n : ℕ) → 0 + n ≡ n
 none-more n = omega arith
@@ -147,11 +146,11 @@ pub stores-call : (past : List Entry) (pass nth : ℕ) (stream : Option ℕ) (it
 unfolding stores_unfinished
 stores-call past pass nth stream it ended store none = stores-new pass nth stream it ended past [] refl ∙ (rw store (none-more (stores_unfinished (pass ∷ []) past)) ∙ sym (skip past pass [] (pass ∷ []) (λ n. refl) none))
 
-pub no-store : (it : Call) (ended : Outcome) → fails_here it ≡ true → is_store it ended ≡ false
+pub no-store : (it : Call) (ended : Outcome) → is_answered it ≡ true → is_store it ended ≡ false
 no-store (call.NcStore file page bytes) ended here = absurd (cc)
 no-store other ended here = refl
 
-pub reserved-done : (past : List Entry) (pass nth stream : ℕ) (it : Call) (r : Reply) → fails_here it ≡ true → changes_holds it ≡ false → owes_store past pass ≡ false → reserved_in (entry.Call pass nth (Some stream) it (outcome.Done r) ∷ past) ≡ reserved_in past
+pub reserved-done : (past : List Entry) (pass nth stream : ℕ) (it : Call) (r : Reply) → is_answered it ≡ true → changes_holds it ≡ false → owes_store past pass ≡ false → reserved_in (entry.Call pass nth (Some stream) it (outcome.Done r) ∷ past) ≡ reserved_in past
 unfolding reserved_in
 reserved-done past pass nth stream it r here kept none =
     rw (
@@ -159,7 +158,7 @@ reserved-done past pass nth stream it r here kept none =
       stores-call past pass nth (Some stream) it (outcome.Done r) (no-store it (outcome.Done r) here) none,
     ) refl
 
-pub reserved-failed : (past : List Entry) (pass nth stream : ℕ) (it : Call) (e : CcError) → fails_here it ≡ true → owes_store past pass ≡ false → reserved_in (entry.Call pass nth (Some stream) it (outcome.Failed e) ∷ past) ≡ reserved_in past
+pub reserved-failed : (past : List Entry) (pass nth stream : ℕ) (it : Call) (e : CcError) → is_answered it ≡ true → owes_store past pass ≡ false → reserved_in (entry.Call pass nth (Some stream) it (outcome.Failed e) ∷ past) ≡ reserved_in past
 unfolding reserved_in
 reserved-failed past pass nth stream it e here none =
     rw (

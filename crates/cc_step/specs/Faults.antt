@@ -46,4 +46,4 @@ abbrev pub FailLeft : {Q : Type 0} → Setup → ℕ → Call → CcError → Fa
     → BookState → BookState → JournalState Q → JournalState Q → Type 0
 FailLeft u pass it fault (ended.Refused e) b c j k = AttemptRefused u pass it e b c j k
 FailLeft u pass it fault ended.Told b c j k = ToldFault u pass it fault b c j k
-FailLeft u pass it fault (ended.Stopped e) b c j k = IsStop e j × FoundNone u b c j k
+FailLeft u pass it fault (ended.Stopped e) b c j k = IsStop 1 e j × FoundNone u b c j k

@@ -1,5 +1,5 @@
 -- The step of a call on a book: what it asks, and what it leaves.
-use Rattle.std.specs.Prelude.{◌≡◌, ℕ, ◌<◌, ◌⊎◌, Bool, true, false, not, ◌&&◌, List, [], ◌∷◌, length}
+use Rattle.std.specs.Prelude.{◌≡◌, ℕ, ◌+◌, ◌-◌, ◌<◌, ◌≤◌, ◌⊎◌, Bool, true, false, not, List, [], ◌∷◌, length, if◌then◌else◌}
 use Rattle.std.specs.declared.option.Option.{Option}
 use Rattle.std.specs.declared.option.Option.TheVariants.{Some, None}
 use Rattle.std.specs.List.{find}
@@ -13,25 +13,27 @@ use Rattle.cc_entry.specs.declared.entry.Entry.{Entry}
 use Rattle.cc_entry.specs.declared.entry.Entry.TheVariants as entry
 use Rattle.cc_entry.specs.declared.reply.Reply.{Reply}
 use Rattle.cc_book.specs.Book.{BookState, BookStands, Gains, done, failed}
+use Rattle.cc_holds.specs.Stands.{owes_set_dirty}
 use Rattle.cc_journal.specs.Journal.{JournalState, room_of}
-use Rattle.cc_laws.proofs.HoldSteps.{changes_holds}
 use Rattle.cc_model.specs.Acts.{file_of}
 use Rattle.cc_model.specs.Conditions.{IsFilled}
 use Rattle.cc_model.specs.Filing.{IsFiled}
 use Rattle.cc_model.specs.Good.{IsGood}
 use Rattle.cc_model.specs.History.{Effect, history}
-use Rattle.cc_model.specs.Holds.{holds_of}
+use Rattle.cc_model.specs.Holds.{Hold, hold_at, holds_of}
 use Rattle.cc_model.specs.Passes.{is_store, up_to_call}
 use Rattle.cc_model.specs.Ranges.{range_of}
 use Rattle.cc_model.specs.Refusals.{refusal}
+use Rattle.cc_model.specs.Replies.{IsReply}
 use Rattle.cc_model.specs.Residency.{is_resident}
+use Rattle.cc_model.specs.Room.{reserved_in}
 use Rattle.cc_model.specs.Setup.{Setup}
 use Rattle.cc_model.specs.Touches.{size_of}
 use Rattle.cc_step.specs.declared.steps.Stepped.{Stepped}
 use Rattle.cc_step.specs.declared.steps.Stepped.TheVariants as stepped
 
--- Whether a call is answered here, from the book of its stream and the journal alone. The others need a device, a
--- sync or pages that go, belong to no stream, or read through a hold.
+-- Whether a call is done here, from the book of its stream and the journal alone. The others need a device, a sync or
+-- pages that go, or belong to no stream.
 abbrev pub is_stepped : Call → Bool
 is_stepped (call.NcRead file page) = false
 is_stepped (call.NcStore file page bytes) = false
@@ -41,12 +43,17 @@ is_stepped (call.Purge file span) = false
 is_stepped (call.Discard file span) = false
 is_stepped (call.AheadStep request) = false
 is_stepped (call.DirtyPages handle) = false
-is_stepped (call.LsnForFile file) = false
 is_stepped call.IsDirtyData = false
-is_stepped (call.MappedRead hold at len) = false
-is_stepped (call.PinnedRead hold at len) = false
-is_stepped (call.MdlBytes hold at len) = false
 is_stepped other = true
+
+-- whether the last call of a pass, given the past up to it, is a done noncached store: the end of that write is owed
+abbrev pub ends_in_store : List Entry → Bool
+ends_in_store [] = false
+ends_in_store (entry.Call pass nth stream it ended ∷ past) = is_store it ended
+ends_in_store (other ∷ past) = false
+
+abbrev pub owes_store : List Entry → ℕ → Bool
+owes_store past me = ends_in_store (up_to_call past me)
 
 -- A book and a journal stand under a setup: the journal is good, its limits are those of the setup, and the book
 -- stands for it.
@@ -56,24 +63,35 @@ pub record StandUnder {Q : Type 0} (u : Setup) (b : BookState) (j : JournalState
   pub logs_are : u.logs ≡ j.logs
   pub threshold_is : u.threshold ≡ j.threshold
 
--- What a pass asks of a book: under some setup the two stand, and the call may be filed under the stream.
+-- What a pass asks of a book: under some setup the two stand, the call may be filed under the stream, the journal has
+-- reserved what its past owes, and the pass owes no end of a noncached write.
 pub record MayStep {Q : Type 0} (u : Setup) (pass : ℕ) (it : Call) (b : BookState) (j : JournalState Q) : Type 0 where
   pub stand : StandUnder u b j
   pub filed : IsFiled (holds_of (history j.entries b.stream)) pass (Some b.stream) it (file_of it)
+  pub owed : reserved_in j.entries ≤ j.reserved
+  pub settled : owes_store j.entries pass ≡ false
 
 -- Nothing refuses a call on a stream, and each page of its range is resident.
 pub record IsReadyFor (u : Setup) (past : List Entry) (s : ℕ) (it : Call) : Type 0 where
   pub admitted : refusal u past (history past s) it ≡ None
   pub filled : IsFilled (history past s) (range_of (size_of (history past s)) it)
 
+-- A reply is the one that a call is answered with, which this pass does on the stream.
+abbrev pub IsReplyOf : Setup → List Entry → ℕ → ℕ → Call → Reply → Type 0
+IsReplyOf u past s pass it r = IsReply u past (u.opening s) (history past s) pass it r
+
 -- the least page of a range that is not resident
 abbrev pub least_absent : List Effect → Option Range → Option ℕ
 least_absent h None = None
 least_absent h (Some r) = find (λ p. not (is_resident h p)) (pages_of r)
 
+-- The journal gained an entry for which a place was reserved, and reserved so many more with it.
+abbrev pub GainsWith : {Q : Type 0} → ℕ → Entry → JournalState Q → JournalState Q → Type 0
+GainsWith more e j k = k ≡ record j { entries = e ∷ j.entries; reserved = (j.reserved - 1) + more; rows = k.rows }
+
 -- the call was done, and what it answered stands in its entry
-pub record IsDone {Q : Type 0} (u : Setup) (pass : ℕ) (it : Call) (r : Reply) (b c : BookState) (j k : JournalState Q) : Type 0 where
-  pub placed : Gains (done pass j.entries b.stream it r) j k
+pub record IsDone {Q : Type 0} (u : Setup) (pass more : ℕ) (it : Call) (r : Reply) (b c : BookState) (j k : JournalState Q) : Type 0 where
+  pub placed : GainsWith more (done pass j.entries b.stream it r) j k
   pub stand : StandUnder u c k
   pub stream : c.stream ≡ b.stream
 
@@ -98,55 +116,105 @@ pub record FoundNone {Q : Type 0} (u : Setup) (b c : BookState) (j k : JournalSt
   pub stand : StandUnder u c k
   pub stream : c.stream ≡ b.stream
 
--- What the step of a call leaves, by cases over how it ended.
-abbrev pub StepLeft : {Q : Type 0} → Setup → ℕ → Call → Stepped → BookState → BookState → JournalState Q → JournalState Q → Type 0
-StepLeft u pass it stepped.Done b c j k = (r : Reply) × IsDone u pass it r b c j k
-StepLeft u pass it (stepped.Refused e) b c j k = IsRefused u pass it e b c j k
-StepLeft u pass it (stepped.Waits page again) b c j k = Waits u page it again b c j k
-StepLeft u pass it (stepped.Stopped e) b c j k = (e ≡ error.NoMemory) × FoundNone u b c j k
+-- Why a step stopped: for want of the room for so many more places, or of memory.
+abbrev pub IsWantOf : {Q : Type 0} → ℕ → CcError → JournalState Q → Type 0
+IsWantOf more e j = ((e ≡ error.JournalFull (length j.entries)) × (room_of j < more)) ⊎ (e ≡ error.NoMemory)
 
--- whether the last call of a pass, given the past up to it, is a done noncached store: the end of that write is owed
-abbrev pub ends_in_store : List Entry → Bool
-ends_in_store [] = false
-ends_in_store (entry.Call pass nth stream it ended ∷ past) = is_store it ended
-ends_in_store (other ∷ past) = false
+-- What the placing of a done call's entry leaves, for which so many more places are reserved: they stay with it, or are
+-- given back where there is no memory.
+abbrev pub PlaceLeft : {Q : Type 0} → Setup → ℕ → ℕ → Call → Reply → Stepped
+    → BookState → BookState → JournalState Q → JournalState Q → Type 0
+PlaceLeft u pass more it r stepped.Done b c j k =
+    Gains (done pass j.entries b.stream it r) j k × StandUnder u c k × (c.stream ≡ b.stream)
+PlaceLeft u pass more it r (stepped.Stopped e) b c j k =
+    (e ≡ error.NoMemory) × (k ≡ record j { reserved = j.reserved - more }) × StandUnder u c k × (c.stream ≡ b.stream)
+PlaceLeft u pass more it r other b c j k = ⊥
 
-abbrev pub owes_store : List Entry → ℕ → Bool
-owes_store past me = ends_in_store (up_to_call past me)
+-- What the step of a call leaves, that reserves so many more places where it is done, by cases over how it ended.
+abbrev pub StepLeft : {Q : Type 0} → Setup → ℕ → ℕ → Call → Stepped → BookState → BookState → JournalState Q → JournalState Q → Type 0
+StepLeft u pass more it stepped.Done b c j k = (r : Reply) × IsDone u pass more it r b c j k
+StepLeft u pass more it (stepped.Refused e) b c j k = IsRefused u pass it e b c j k
+StepLeft u pass more it (stepped.Waits page again) b c j k = Waits u page it again b c j k
+StepLeft u pass more it (stepped.Stopped e) b c j k = IsWantOf more e j × FoundNone u b c j k
 
--- Whether the entry of a call, done or refused, asks one place alone: it reserves nothing and gives no reserved place
--- back. A flush is done elsewhere, once it has synced; it is refused and fails like the others.
-abbrev pub asks_one : Call → Bool
-asks_one (call.Flush file span) = true
-asks_one other = is_stepped other && not (changes_holds other)
+-- Whether the entry of a call that is refused or fails is placed here: that of each call that is stepped, and of a
+-- flush, which is done elsewhere, once it has synced.
+abbrev pub is_answered : Call → Bool
+is_answered (call.Flush file span) = true
+is_answered other = is_stepped other
+
+-- How many places a call asks that is done: that of its entry, and those that it reserves with it. A hold reserves its
+-- end; a zeroing prepare, and the first write through a pin since its last set-dirty, reserve the set-dirty. A
+-- set-dirty that was reserved, and an end, ask none.
+abbrev pub places_asked : List Hold → Call → ℕ
+places_asked holds (call.Map file at len) = 2
+places_asked holds (call.PinRead file at len exclusive) = 2
+places_asked holds (call.PreparePin file at len true exclusive) = 3
+places_asked holds (call.PreparePin file at len false exclusive) = 2
+places_asked holds (call.Repin hold) = 2
+places_asked holds (call.MdlRead file at len) = 2
+places_asked holds (call.MdlWrite file at len) = 2
+places_asked holds (call.PinnedWrite hold at bytes) = if owes_set_dirty (hold_at holds hold) then 1 else 2
+places_asked holds (call.SetDirty hold lsn) = if owes_set_dirty (hold_at holds hold) then 0 else 1
+places_asked holds (call.EndHold hold) = 0
+places_asked holds other = 1
+
+-- as many as it may ask, whatever holds are open
+abbrev pub most_asked : Call → ℕ
+most_asked (call.Map file at len) = 2
+most_asked (call.PinRead file at len exclusive) = 2
+most_asked (call.PreparePin file at len zero exclusive) = if zero then 3 else 2
+most_asked (call.Repin hold) = 2
+most_asked (call.MdlRead file at len) = 2
+most_asked (call.MdlWrite file at len) = 2
+most_asked (call.PinnedWrite hold at bytes) = 2
+most_asked (call.EndHold hold) = 0
+most_asked other = 1
+
+-- How many reserved places a call gives back beside that of its entry: an end of a pin gives back that of its set-dirty.
+abbrev pub places_spared : List Hold → Call → ℕ
+places_spared holds (call.EndHold hold) = if owes_set_dirty (hold_at holds hold) then 1 else 0
+places_spared holds other = 0
+
+-- the places that a call asks of a stream as it is
+abbrev pub asked_now : List Entry → ℕ → Call → ℕ
+asked_now past s it = places_asked (holds_of (history past s)) it
 
 -- The journal gained one entry, and has as many places reserved as before.
 abbrev pub Adds : {Q : Type 0} → Entry → JournalState Q → JournalState Q → Type 0
 Adds e j k = k ≡ record j { entries = e ∷ j.entries; rows = k.rows }
 
+-- The journal gained one entry. It has reserved what its past owes now, and beyond that as much as before.
+abbrev pub AddsOwing : {Q : Type 0} → Entry → JournalState Q → JournalState Q → Type 0
+AddsOwing e j k =
+    k ≡ record j { entries = e ∷ j.entries; reserved = reserved_in (e ∷ j.entries) + (j.reserved - reserved_in j.entries); rows = k.rows }
+
 -- an attempt at a call: it was done, and what it answered stands in its entry
 pub record AttemptDone {Q : Type 0} (u : Setup) (pass : ℕ) (it : Call) (r : Reply) (b c : BookState) (j k : JournalState Q) : Type 0 where
-  pub placed : Adds (done pass j.entries b.stream it r) j k
+  pub placed : AddsOwing (done pass j.entries b.stream it r) j k
   pub stand : StandUnder u c k
   pub stream : c.stream ≡ b.stream
 
 -- it was refused, by the first reason that holds, and its entry says so
-pub record AttemptRefused {Q : Type 0} (u : Setup) (pass : ℕ) (it : Call) (e : CcError) (b c : BookState) (j k : JournalState Q) : Type 0 where
+pub record AttemptRefused {Q : Type 0} (u : Setup) (pass : ℕ) (it : Call) (e : CcError)
+    (b c : BookState) (j k : JournalState Q) : Type 0 where
   pub reason : refusal u j.entries (history j.entries b.stream) it ≡ Some e
   pub placed : Adds (failed pass j.entries b.stream it e) j k
   pub stand : StandUnder u c k
   pub same : c ≡ b
 
--- Why an attempt stopped: for want of room, exactly where there is none, or of memory.
-abbrev pub IsStop : {Q : Type 0} → CcError → JournalState Q → Type 0
-IsStop e j = ((e ≡ error.JournalFull (length j.entries)) × (room_of j < 1)) ⊎ (e ≡ error.NoMemory)
+-- Why an attempt stopped that asks so many places: for want of room, exactly where there is none, or of memory. One that
+-- asks none does not stop.
+abbrev pub IsStop : {Q : Type 0} → ℕ → CcError → JournalState Q → Type 0
+IsStop asked e j =
+    ((e ≡ error.JournalFull (length j.entries)) × (room_of j < asked)) ⊎ ((e ≡ error.NoMemory) × (0 < asked))
 
 -- What an attempt at a call leaves, by cases over how it ended.
 abbrev pub AttemptLeft : {Q : Type 0} → Setup → ℕ → Call → Stepped → BookState → BookState → JournalState Q → JournalState Q → Type 0
 AttemptLeft u pass it stepped.Done b c j k = (r : Reply) × AttemptDone u pass it r b c j k
 AttemptLeft u pass it (stepped.Refused e) b c j k = AttemptRefused u pass it e b c j k
 AttemptLeft u pass it (stepped.Waits page again) b c j k = Waits u page it again b c j k
-AttemptLeft u pass it (stepped.Stopped e) b c j k = IsStop e j × FoundNone u b c j k
+AttemptLeft u pass it (stepped.Stopped e) b c j k = IsStop (asked_now j.entries b.stream it) e j × FoundNone u b c j k
 
 -- whether the step of a call that ended so placed an entry
 abbrev pub has_placed : Stepped → Bool

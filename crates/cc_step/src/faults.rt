@@ -5,7 +5,7 @@ ghost use Rattle.cc_model.specs.Allowed.{is_fault};
 ghost use Rattle.cc_model.specs.History.{history};
 ghost use Rattle.cc_model.specs.Refusals.{refusal};
 ghost use Rattle.cc_model.specs.Setup.{Setup};
-ghost use Rattle.cc_step.specs.Step.{asks_one};
+ghost use Rattle.cc_step.specs.Step.{is_answered};
 ghost use Rattle.cc_step.specs.Faults.{MayFail, FailLeft};
 
 use cc_book::Book;
@@ -36,7 +36,7 @@ pub fn fail<Q>(
     call: Call,
     fault: CcError,
 ) -> Failed
-    requires one { asks_one call ≡ true }
+    requires answered { is_answered call ≡ true }
     requires fault { is_fault fault ≡ true }
     requires may { (u : Setup) × MayFail u pass call fault book.old journal.old }
     ensures { (u : Setup) → MayFail u pass call fault book.old journal.old →
@@ -57,7 +57,7 @@ fn answer<Q>(
     refused: Option<CcError>,
     fault: CcError,
 ) -> Failed
-    requires one { asks_one call ≡ true }
+    requires answered { is_answered call ≡ true }
     requires may { (u : Setup) × MayFail u pass call fault book.old journal.old
         × (refusal u journal.old.entries (history journal.old.entries book.old.stream) call ≡ refused) }
     ensures { (u : Setup) → MayFail u pass call fault book.old journal.old →

@@ -14,6 +14,7 @@ ghost use Rattle.cc_step.specs.Step.{is_stepped, StandUnder, IsReadyFor};
 use cc_book::Book;
 use cc_entry::{Call, FileSizes, FileState, NoMemory, Reply};
 use cc_journal::Journal;
+use cc_table::lsns;
 use std::alloc::Global;
 
 /// What a call answers that nothing refuses and whose pages are resident.
@@ -23,7 +24,7 @@ pub(crate) fn reply<Q>(
     journal: &Journal<Q>,
     call: &Call,
 ) -> Result<Reply, NoMemory>
-    requires { is_stepped call.now ≡ true }
+    requires stepped { is_stepped call.now ≡ true }
     ensures { IfOk result (λ r. (u : Setup) (pass : ℕ) → StandUnder u book.now journal.now →
         IsFiled (holds_of (history journal.now.entries book.now.stream)) pass (Some book.now.stream) call.now
         (file_of call.now) →
@@ -32,7 +33,10 @@ pub(crate) fn reply<Q>(
         (history journal.now.entries book.now.stream) pass call.now r) }
 {
     match call {
-        Call::CopyRead { at, len, .. } => Ok(Reply::Read(book.read(alloc, *at, *len)?)),
+        Call::CopyRead { at, len, .. }
+        | Call::MappedRead { at, len, .. }
+        | Call::PinnedRead { at, len, .. }
+        | Call::MdlBytes { at, len, .. } => Ok(Reply::Read(book.read(alloc, *at, *len)?)),
         Call::Map { .. }
         | Call::PinRead { .. }
         | Call::PreparePin { .. }
@@ -43,6 +47,7 @@ pub(crate) fn reply<Q>(
         Call::Uninitialise { file, truncate } => {
             Ok(Reply::Flag(!journal.stays_mapped(*file, *truncate)))
         }
+        Call::LsnForFile { file } => Ok(Reply::Lsns(lsns(journal, file.stream()))),
         Call::State { .. } => Ok(Reply::State(state_of(book))),
         Call::AskAhead { file, at, len } => Ok(Reply::Ahead(book.ahead_of(*file, *at, *len))),
         Call::CanWrite { file, bytes } => {

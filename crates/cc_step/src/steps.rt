@@ -1,18 +1,19 @@
 //! The step of a call.
 
-ghost use Rattle.std.specs.Prelude.{◌≡◌, ℕ, ◌<◌, true, List, Option, None, Some, IfOk};
+ghost use Rattle.std.specs.Prelude.{◌≡◌, ℕ, suc, ◌<◌, true, List, Option, None, Some, IfOk};
 ghost use Rattle.cc_entry.specs.declared.entry.Entry.{Entry};
 ghost use Rattle.cc_model.specs.History.{history};
+ghost use Rattle.cc_model.specs.Holds.{holds_of};
 ghost use Rattle.cc_model.specs.Ranges.{range_of, cut_range};
 ghost use Rattle.cc_model.specs.Refusals.{refusal};
 ghost use Rattle.cc_model.specs.Setup.{Setup};
 ghost use Rattle.cc_model.specs.Touches.{size_of};
 ghost use Rattle.cc_book.specs.Book.{BookStands};
-ghost use Rattle.cc_step.specs.Step.{is_stepped, asks_one, StandUnder, MayStep, IsReadyFor, WaitsFor, StepLeft, AttemptLeft, has_placed, least_absent};
+ghost use Rattle.cc_step.specs.Step.{is_stepped, asked_now, places_spared, StandUnder, MayStep, IsReadyFor, IsReplyOf, WaitsFor, StepLeft, PlaceLeft, AttemptLeft, has_placed, least_absent};
 
 use crate::replies::reply;
 use cc_book::Book;
-use cc_entry::{Call, CcError, NoMemory};
+use cc_entry::{Call, CcError, NoMemory, Reply};
 use cc_journal::Journal;
 use std::alloc::Global;
 
@@ -29,8 +30,8 @@ pub enum Stepped {
     Stopped(CcError),
 }
 
-/// Takes the step of a call by this pass where the journal has room for its entry. The call, done or refused, asks one
-/// place alone.
+/// Takes the step of a call by this pass where the journal has room for its entry and for what it reserves with it. A
+/// set-dirty that was reserved, and the end of a hold, have their place and take no memory.
 ///
 /// `JournalFull` exactly where there is no room, with the number of entries; `NoMemory`.
 pub fn attempt<Q>(
@@ -40,21 +41,16 @@ pub fn attempt<Q>(
     pass: u32,
     call: Call,
 ) -> Stepped
-    requires one { asks_one call ≡ true }
     requires stepped { is_stepped call ≡ true }
     requires may { (u : Setup) × MayStep u pass call book.old journal.old }
     ensures { (u : Setup) → MayStep u pass call book.old journal.old →
         AttemptLeft u pass call result book.old book.new journal.old journal.new }
 {
-    match journal.reserve(1) {
-        Ok(()) => {
-            let ended = step(alloc, book, journal, pass, call);
-            if !has_placed(&ended) {
-                journal.release(1);
-            }
-            ended
-        }
-        Err(error) => Stepped::Stopped(error),
+    let asked = places_asked(book, &call);
+    if asked == 0 {
+        place_reserved(alloc, book, journal, pass, call)
+    } else {
+        place_new(alloc, book, journal, pass, call, asked - 1)
     }
 }
 
@@ -65,7 +61,7 @@ pub fn waits_for<Q>(
     journal: &Journal<Q>,
     call: &Call,
 ) -> Result<Option<u64>, NoMemory>
-    requires { is_stepped call.now ≡ true }
+    requires stepped { is_stepped call.now ≡ true }
     ensures { IfOk result (λ page. (u : Setup) → StandUnder u book.now journal.now →
         WaitsFor u journal.now.entries book.now.stream call.now page) }
 {
@@ -85,8 +81,39 @@ fn has_placed(ended: &Stepped) -> bool
     }
 }
 
-// Takes the step of a call by this pass, for whose entry a place is reserved.
-fn step<Q>(
+// Takes the step of a call that asks a place, and so many more where it is done.
+fn place_new<Q>(
+    alloc: Global,
+    book: &mut Book,
+    journal: &mut Journal<Q>,
+    pass: u32,
+    call: Call,
+    more: u32,
+) -> Stepped
+    requires stepped { is_stepped call ≡ true }
+    requires may { (u : Setup) × MayStep u pass call book.old journal.old
+        × (asked_now journal.old.entries book.old.stream call ≡ suc more) }
+    ensures { (u : Setup) → MayStep u pass call book.old journal.old →
+        asked_now journal.old.entries book.old.stream call ≡ suc more →
+        AttemptLeft u pass call result book.old book.new journal.old journal.new }
+{
+    // The stream's number is what says that it is below 16, so that what its holds owe is counted.
+    let _stream = book.stream().number();
+    match journal.reserve(1) {
+        Ok(()) => {
+            let ended = step(alloc, book, journal, pass, call, more);
+            if !has_placed(&ended) {
+                journal.release(1);
+            }
+            ended
+        }
+        Err(error) => Stepped::Stopped(error),
+    }
+}
+
+// Takes the step of a call for whose entry a place was reserved, and which nothing refuses: an owed set-dirty, or the
+// end of a hold.
+fn place_reserved<Q>(
     alloc: Global,
     book: &mut Book,
     journal: &mut Journal<Q>,
@@ -94,13 +121,41 @@ fn step<Q>(
     call: Call,
 ) -> Stepped
     requires stepped { is_stepped call ≡ true }
+    requires may { (u : Setup) × MayStep u pass call book.old journal.old
+        × (asked_now journal.old.entries book.old.stream call ≡ 0) }
+    ensures { (u : Setup) → MayStep u pass call book.old journal.old →
+        asked_now journal.old.entries book.old.stream call ≡ 0 →
+        AttemptLeft u pass call result book.old book.new journal.old journal.new }
+{
+    // The stream's number is what says that it is below 16, so that what its holds owe is counted.
+    let _stream = book.stream().number();
+    let spared = places_spared(book, &call);
+    match book.done(alloc, journal, pass, call, Reply::Unit) {
+        Ok(()) => {
+            journal.release(spared);
+            Stepped::Done
+        }
+        Err(_) => unreachable!(),
+    }
+}
+
+// Takes the step of a call by this pass, for whose entry a place is reserved; where it is done, it reserves so many more.
+fn step<Q>(
+    alloc: Global,
+    book: &mut Book,
+    journal: &mut Journal<Q>,
+    pass: u32,
+    call: Call,
+    more: u32,
+) -> Stepped
+    requires stepped { is_stepped call ≡ true }
     requires reserved { 0 < journal.old.reserved }
     requires may { (u : Setup) × MayStep u pass call book.old journal.old }
     ensures { (u : Setup) → MayStep u pass call book.old journal.old →
-        StepLeft u pass call result book.old book.new journal.old journal.new }
+        StepLeft u pass more call result book.old book.new journal.old journal.new }
 {
     match book.refusal(alloc, journal, &call) {
-        Ok(None) => admitted(alloc, book, journal, pass, call),
+        Ok(None) => admitted(alloc, book, journal, pass, call, more),
         Ok(Some(error)) => {
             book.fail(journal, pass, call, error);
             Stepped::Refused(error)
@@ -116,6 +171,7 @@ fn admitted<Q>(
     journal: &mut Journal<Q>,
     pass: u32,
     call: Call,
+    more: u32,
 ) -> Stepped
     requires stepped { is_stepped call ≡ true }
     requires reserved { 0 < journal.old.reserved }
@@ -123,21 +179,22 @@ fn admitted<Q>(
         × (refusal u journal.old.entries (history journal.old.entries book.old.stream) call ≡ None) }
     ensures { (u : Setup) → MayStep u pass call book.old journal.old →
         refusal u journal.old.entries (history journal.old.entries book.old.stream) call ≡ None →
-        StepLeft u pass call result book.old book.new journal.old journal.new }
+        StepLeft u pass more call result book.old book.new journal.old journal.new }
 {
     match absent(book, &call) {
         Some(page) => Stepped::Waits(page, call),
-        None => finish(alloc, book, journal, pass, call),
+        None => finish(alloc, book, journal, pass, call, more),
     }
 }
 
-// Takes the step of a call that may be done.
+// Takes the step of a call that may be done, where there is room for what it reserves.
 fn finish<Q>(
     alloc: Global,
     book: &mut Book,
     journal: &mut Journal<Q>,
     pass: u32,
     call: Call,
+    more: u32,
 ) -> Stepped
     requires stepped { is_stepped call ≡ true }
     requires reserved { 0 < journal.old.reserved }
@@ -145,20 +202,50 @@ fn finish<Q>(
         × IsReadyFor u journal.old.entries book.old.stream call }
     ensures { (u : Setup) → MayStep u pass call book.old journal.old →
         IsReadyFor u journal.old.entries book.old.stream call →
-        StepLeft u pass call result book.old book.new journal.old journal.new }
+        StepLeft u pass more call result book.old book.new journal.old journal.new }
 {
     match reply(alloc, book, journal, &call) {
-        Ok(answer) => match book.done(alloc, journal, pass, call, answer) {
-            Ok(()) => Stepped::Done,
-            Err(_) => Stepped::Stopped(CcError::NoMemory),
+        Ok(answer) => match journal.reserve(more) {
+            Ok(()) => place(alloc, book, journal, pass, call, answer, more),
+            Err(error) => Stepped::Stopped(error),
         },
         Err(_) => Stepped::Stopped(CcError::NoMemory),
     }
 }
 
+// Places the entry of a call that is done with this answer. The places more that are reserved for it are given back
+// where there is no memory.
+fn place<Q>(
+    alloc: Global,
+    book: &mut Book,
+    journal: &mut Journal<Q>,
+    pass: u32,
+    call: Call,
+    answer: Reply,
+    more: u32,
+) -> Stepped
+    requires stepped { is_stepped call ≡ true }
+    requires reserved { more < journal.old.reserved }
+    requires may { (u : Setup) × MayStep u pass call book.old journal.old
+        × IsReadyFor u journal.old.entries book.old.stream call
+        × IsReplyOf u journal.old.entries book.old.stream pass call answer }
+    ensures { (u : Setup) → MayStep u pass call book.old journal.old →
+        IsReadyFor u journal.old.entries book.old.stream call →
+        IsReplyOf u journal.old.entries book.old.stream pass call answer →
+        PlaceLeft u pass more call answer result book.old book.new journal.old journal.new }
+{
+    match book.done(alloc, journal, pass, call, answer) {
+        Ok(()) => Stepped::Done,
+        Err(_) => {
+            journal.release(more);
+            Stepped::Stopped(CcError::NoMemory)
+        }
+    }
+}
+
 // The least page that a call needs which nothing refuses, and that is not resident.
 fn absent(book: &Book, call: &Call) -> Option<u64>
-    requires { is_stepped call.now ≡ true }
+    requires stepped { is_stepped call.now ≡ true }
     ensures { (u : Setup) (opening : Option (ℕ → List ℕ)) (past : List Entry) → BookStands opening past book.now →
         refusal u past (history past book.now.stream) call.now ≡ None →
         result ≡ least_absent (history past book.now.stream)
@@ -186,4 +273,34 @@ fn absent_below(book: &Book, at: u64, len: u64) -> Option<u64>
     let end = u128::from(at) + u128::from(len);
     let to = end.min(u128::from(book.size())) as u64;
     book.first_absent(at, to)
+}
+
+// How many places a call asks that is done, with that of its entry.
+fn places_asked(book: &Book, call: &Call) -> u32
+    ensures { (opening : Option (ℕ → List ℕ)) (past : List Entry) → BookStands opening past book.now →
+        result ≡ asked_now past book.now.stream call.now }
+{
+    match call {
+        Call::Map { .. }
+        | Call::PinRead { .. }
+        | Call::Repin { .. }
+        | Call::MdlRead { .. }
+        | Call::MdlWrite { .. } => 2,
+        Call::PreparePin { zero, .. } => { if *zero { 3 } else { 2 } }
+        Call::PinnedWrite { hold, .. } => { if book.owes_set_dirty(*hold) { 1 } else { 2 } }
+        Call::SetDirty { hold, .. } => { if book.owes_set_dirty(*hold) { 0 } else { 1 } }
+        Call::EndHold { .. } => 0,
+        _ => 1,
+    }
+}
+
+// How many reserved places a call gives back beside that of its entry.
+fn places_spared(book: &Book, call: &Call) -> u32
+    ensures { (opening : Option (ℕ → List ℕ)) (past : List Entry) → BookStands opening past book.now →
+        result ≡ places_spared (holds_of (history past book.now.stream)) call.now }
+{
+    match call {
+        Call::EndHold { hold } => u32::from(book.owes_set_dirty(*hold)),
+        _ => 0,
+    }
 }

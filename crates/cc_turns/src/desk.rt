@@ -159,6 +159,13 @@ impl<D: PageDisk, L: LogFile, Q: PostRoutine> Desk<D, L, Q> {
         let _pass = self.pass;
     }
 
+    /// What the journal has is good.
+    pub fn good(&self)
+        ensures { IsGood (standing_of D.told D.faults L.told L.faults self.now).setup self.now.last.entries }
+    {
+        let _pass = self.pass;
+    }
+
     /// The journal, where its turn is not held.
     pub fn journal(&self) -> &Journal<Q>
         requires { self.now.held.journal ≡ false }

@@ -1,5 +1,5 @@
 -- How a call ends that was under way, or was stopped: done, refused, told a fault, or without an entry of its own.
-use Rattle.std.specs.Prelude.{◌≡◌, ℕ, Bool, true, false, not, ◌&&◌, ◌==◌, List, [], ◌∷◌, ◌++◌, None, Some, refl, if◌then◌else◌}
+use Rattle.std.specs.Prelude.{◌≡◌, ℕ, Bool, true, false, not, ◌&&◌, ◌==◌, List, [], ◌∷◌, None, Some, refl, if◌then◌else◌}
 use Rattle.std.proofs.Common.{ap, sym, subst, inl, inr}
 use Rattle.cc_entry.specs.declared.call.Call.{Call}
 use Rattle.cc_entry.specs.declared.call.Call.TheVariants as call
@@ -18,17 +18,18 @@ use Rattle.cc_effects.specs.Refusals.{may_refuse, may_want}
 use Rattle.cc_effects.specs.Stops.{found_no_memory, is_want, may_give_up, tells}
 use Rattle.cc_effects.proofs.Starts.{ends_done, ends_refused, gives_up}
 use Rattle.cc_effects.proofs.Stretches.{some-end}
+use Rattle.cc_model.specs.Acts.{file_of}
 use Rattle.cc_model.specs.Allowed.{is_fault}
 use Rattle.cc_model.specs.Faults.{Fault, WriteFailed, SyncFailed, fault_of, is_failed}
+use Rattle.cc_model.specs.Filing.{IsFiled}
 use Rattle.cc_model.specs.History.{history}
 use Rattle.cc_model.specs.Holds.{holds_of}
 use Rattle.cc_model.specs.Refusals.{refusal}
 use Rattle.cc_model.specs.Setup.{Setup}
-use Rattle.cc_step.specs.Step.{asks_one, is_stepped}
+use Rattle.cc_step.specs.Step.{is_answered, is_stepped}
 use Rattle.cc_step.proofs.Reasons.{is_listed, refusal-listed}
-use Rattle.cc_visits.specs.Visits.{IsOf}
 use Rattle.cc_visits.specs.Ways.{IsHalted}
-use Rattle.cc_visits.proofs.Refusals.{may-refuse, may-stop, may-want}
+use Rattle.cc_visits.proofs.Refusals.{MayStop, may-refuse}
 
 -- nothing more is to do before such a call is done
 has-done : (me : ℕ) (it : Call) (during old : List Entry) → is_stepped it ≡ true → HasDone me it during old
@@ -80,22 +81,22 @@ no-want me (entry.WriteEnd pass page end) fault is = wants-none (pass == me) end
 no-want me (entry.Sync pass stream end) fault is = wants-none (pass == me) end SyncFailed fault is
 no-want me other fault is = refl
 
-module _ (u : Setup) (me s : ℕ) (it : Call) (one : asks_one it ≡ true) (filed : IsOf it s) (nth : ℕ) (begun front : List Entry) where
+module _ (u : Setup) (me s : ℕ) (it : Call) (here : is_answered it ≡ true) (nth : ℕ) (begun front : List Entry) (filed : IsFiled (holds_of (history front s)) me (Some s) it (file_of it)) where
   -- it was under way
   pub done-left : is_stepped it ≡ true → (r : Reply) → IsUnderWay me it begun front → CallLeft u me it (outcome.Done r) begun (entry.Call me nth (Some s) it (outcome.Done r) ∷ front)
   done-left stepped r way =
-      ends_done me nth (Some s) it r begun front way (filed (holds_of (history front s)) me) (λ during. has-done me it during begun stepped)
+      ends_done me nth (Some s) it r begun front way filed (λ during. has-done me it during begun stepped)
 
   pub refused-left : (e : CcError) → IsUnderWay me it begun front → refusal u front (history front s) it ≡ Some e → CallLeft u me it (outcome.Failed e) begun (entry.Call me nth (Some s) it (outcome.Failed e) ∷ front)
   refused-left e way reason =
       left-refused u me it e begun (entry.Call me nth (Some s) it (outcome.Failed e) ∷ front) (refusal-listed u front (history front s) it e reason)
-      (ends_refused me nth (Some s) it e begun front way (filed (holds_of (history front s)) me) (may-refuse u front (history front s) it e one reason))
+      (ends_refused me nth (Some s) it e begun front way filed (may-refuse u front (history front s) it e here reason))
 
-  pub full-left : (entries : ℕ) → IsUnderWay me it begun front → CallLeft u me it (outcome.Failed (error.JournalFull entries)) begun front
-  full-left entries way = gives_up me it (error.JournalFull entries) begun front way (may-stop it entries one).0 (may-want it front one)
+  pub full-left : (entries : ℕ) → MayStop it front → IsUnderWay me it begun front → CallLeft u me it (outcome.Failed (error.JournalFull entries)) begun front
+  full-left entries stops way = gives_up me it (error.JournalFull entries) begun front way (stops.full entries) stops.wants
 
-  pub memoryless-left : IsUnderWay me it begun front → CallLeft u me it (outcome.Failed error.NoMemory) begun front
-  memoryless-left way = gives_up me it error.NoMemory begun front way (may-stop it 0 one).1 (may-want it front one)
+  pub memoryless-left : MayStop it front → IsUnderWay me it begun front → CallLeft u me it (outcome.Failed error.NoMemory) begun front
+  memoryless-left stops way = gives_up me it error.NoMemory begun front way stops.memoryless stops.wants
 
   -- it was halted by a fault
   module _ (fault : CcError) (halted : IsHalted u me s it fault begun front) where
@@ -107,7 +108,7 @@ module _ (u : Setup) (me s : ℕ) (it : Call) (one : asks_one it ≡ true) (file
       later = [];
       grew = ap (λ l. entry.Call me nth (Some s) it ended ∷ l) halted.failed.stopped.grew;
       quiet = tt;
-      filed = filed (holds_of (history (halted.failed.stopped.during ++ begun) s)) me;
+      filed = subst (λ (past : List Entry). IsFiled (holds_of (history past s)) me (Some s) it (file_of it)) halted.failed.stopped.grew filed;
       works = halted.failed.stopped.works;
     }
 
@@ -131,7 +132,7 @@ module _ (u : Setup) (me s : ℕ) (it : Call) (one : asks_one it ≡ true) (file
         (record {
           earlier = halted.failed.stopped.during;
           placed = placed (outcome.Failed e);
-          listed = may-refuse u front (history front s) it e one reason;
+          listed = may-refuse u front (history front s) it e here reason;
           stop = halted.failed.stop;
           stopped = halted.failed.stopped.stopped;
           fault = halted.fault;
@@ -139,20 +140,21 @@ module _ (u : Setup) (me s : ℕ) (it : Call) (one : asks_one it ≡ true) (file
           admitted = halted.admitted;
         })
 
-    unplaced : (e : CcError) → may_refuse it e ≡ true → may_give_up e halted.failed.stop ≡ true → IsUnplaced me it e begun front
-    unplaced e listed gives = record {
+    unplaced : (e : CcError) → MayStop it front → may_refuse it e ≡ true → may_give_up e halted.failed.stop ≡ true → IsUnplaced me it e begun front
+    unplaced e stops listed gives = record {
       during = halted.failed.stopped.during;
       grew = halted.failed.stopped.grew;
       works = halted.failed.stopped.works;
       came = inr (halted.failed.stop, halted.failed.stopped.stopped, gives);
       listed = listed;
       wants = subst (λ (past : List Entry). AtSome (λ moment. may_want it moment ≡ true) begun past) (sym halted.failed.stopped.grew)
-          (some-end (λ moment. may_want it moment ≡ true) halted.failed.stopped.during begun (may-want it (halted.failed.stopped.during ++ begun) one));
+          (some-end (λ moment. may_want it moment ≡ true) halted.failed.stopped.during begun
+          (subst (λ (past : List Entry). may_want it past ≡ true) halted.failed.stopped.grew stops.wants));
     }
 
-    pub full-halted : (entries : ℕ) → CallLeft u me it (outcome.Failed (error.JournalFull entries)) begun front
-    full-halted entries =
-        unplaced (error.JournalFull entries) (may-stop it entries one).0 (ap not (no-want me halted.failed.stop halted.fault halted.failed.shown))
+    pub full-halted : (entries : ℕ) → MayStop it front → CallLeft u me it (outcome.Failed (error.JournalFull entries)) begun front
+    full-halted entries stops =
+        unplaced (error.JournalFull entries) stops (stops.full entries) (ap not (no-want me halted.failed.stop halted.fault halted.failed.shown))
 
-    pub memoryless-halted : CallLeft u me it (outcome.Failed error.NoMemory) begun front
-    memoryless-halted = unplaced error.NoMemory (may-stop it 0 one).1 refl
+    pub memoryless-halted : MayStop it front → CallLeft u me it (outcome.Failed error.NoMemory) begun front
+    memoryless-halted stops = unplaced error.NoMemory stops stops.memoryless refl

@@ -23,12 +23,12 @@ use Rattle.cc_model.specs.Residency.{is_resident}
 use Rattle.cc_model.specs.Room.{reserved_in}
 use Rattle.cc_model.specs.Setup.{Setup}
 use Rattle.cc_model.specs.Turns.{Device, Book}
-use Rattle.cc_step.specs.Step.{StandUnder, asks_one}
+use Rattle.cc_step.specs.Step.{StandUnder, is_answered}
 use Rattle.cc_turns.specs.Standing.{Standing}
 use Rattle.cc_turns.specs.Takes.{Grows, without_journal}
 use Rattle.cc_visits.specs.Hands.{HasBook, IsAtRest, SameDisk}
 use Rattle.cc_visits.specs.Told.{UnreadTold}
-use Rattle.cc_visits.specs.Visits.{IsOf, UnreadLeft, UnreadPlaced, WasReadFor}
+use Rattle.cc_visits.specs.Visits.{IsFiledNow, UnreadLeft, UnreadPlaced, WasReadFor}
 use Rattle.cc_visits.specs.Ways.{IsHalted, WasWanted}
 use Rattle.cc_visits.proofs.Attempting.{number-is, way-on}
 use Rattle.cc_visits.proofs.Disks.{disk-same, disk-page_in}
@@ -96,7 +96,7 @@ module _ {Q : Type 0} (posted : Q → Bool) (w v : Standing) (b c : BookState) (
 
 -- A page for a call.
 module _ {Q : Type 0} (posted : Q → Bool) (w v : Standing) (it : Call) (b c : BookState) (j k : JournalState Q)
-    (has : HasBook w b.stream b) (vis : Visiting posted w v b.stream b j) (one : asks_one it ≡ true) (filed : IsOf it b.stream)
+    (has : HasBook w b.stream b) (vis : Visiting posted w v b.stream b j) (here : is_answered it ≡ true) (filed : IsFiledNow w b.stream it)
     (rest : IsAtRest w b.stream) (reserved : w.in_flight ≡ 1) (page : ℕ) where
   -- what was read of it is what its disk has of it, still
   pub still-read : (raw : Option (List ℕ)) → WasReadFor w b.stream page raw → IsRead w.setup j.entries b.stream page raw
@@ -106,13 +106,13 @@ module _ {Q : Type 0} (posted : Q → Bool) (w v : Standing) (it : Call) (b c : 
       (sym (history-held w b.stream j.entries (has-book posted w v b c j k has vis) rest.device vis.grows)) read
 
   may-land : (raw : Option (List ℕ)) → WasReadFor w b.stream page raw → MayLand w.setup w.number it page raw b j
-  may-land raw read = record { may = may-fill posted w v it b c j k has vis one filed rest; read = still-read raw read }
+  may-land raw read = record { may = may-fill posted w v it b c j k has vis here filed rest; read = still-read raw read }
 
   pub land-as : (pass : ℕ) (raw : Option (List ℕ)) → pass ≡ v.number → WasReadFor w b.stream page raw → MayLand w.setup pass it page raw b j
-  land-as pass raw me read = subst (λ (n : ℕ). MayLand w.setup n it page raw b j) (sym (number-is posted w v it b c j k has vis one filed pass me)) (may-land raw read)
+  land-as pass raw me read = subst (λ (n : ℕ). MayLand w.setup n it page raw b j) (sym (number-is posted w v it b c j k has vis here filed pass me)) (may-land raw read)
 
   pub landed : (pass : ℕ) (raw : Option (List ℕ)) (answer : Result (Unit {0}) NoMemory) → pass ≡ v.number → WasReadFor w b.stream page raw → ((u : Setup) → MayLand u pass it page raw b j → LandLeft u pass it page answer b c j k) → LandLeft w.setup w.number it page answer b c j k
-  landed pass raw answer me read left = subst (λ (n : ℕ). LandLeft w.setup n it page answer b c j k) (number-is posted w v it b c j k has vis one filed pass me) (left w.setup (land-as pass raw me read))
+  landed pass raw answer me read left = subst (λ (n : ℕ). LandLeft w.setup n it page answer b c j k) (number-is posted w v it b c j k has vis here filed pass me) (left w.setup (land-as pass raw me read))
 
   pub visited-land : (answer : Result (Unit {0}) NoMemory) → LandLeft w.setup w.number it page answer b c j k → Visited posted w v b.stream 0 c k
   visited-land (Ok done) (inl came) = visited-in posted w v b c j k has vis rest reserved page came.placed came.stand came.stream
@@ -122,19 +122,19 @@ module _ {Q : Type 0} (posted : Q → Bool) (w v : Standing) (it : Call) (b c : 
 
   pub disk-land : (answer : Result (Unit {0}) NoMemory) → LandLeft w.setup w.number it page answer b c j k → SameDisk w.seen k.entries b.stream
   disk-land (Ok done) (inl came) =
-      disk-grew posted w v it b c j k has vis one filed rest (page_in w.number (page_of b page) b ∷ j.entries) (disk-page_in w.number (page_of b page) _ j.entries b.stream) (ap (λ (x : JournalState Q). x.entries) came.placed)
-  disk-land (Ok done) (inr none) = disk-grew posted w v it b c j k has vis one filed rest j.entries (disk-same j.entries b.stream) (ap (λ (x : JournalState Q). x.entries) none.given_back)
-  disk-land (Err e) none = disk-grew posted w v it b c j k has vis one filed rest j.entries (disk-same j.entries b.stream) (ap (λ (x : JournalState Q). x.entries) none.given_back)
+      disk-grew posted w v it b c j k has vis here filed rest (page_in w.number (page_of b page) b ∷ j.entries) (disk-page_in w.number (page_of b page) _ j.entries b.stream) (ap (λ (x : JournalState Q). x.entries) came.placed)
+  disk-land (Ok done) (inr none) = disk-grew posted w v it b c j k has vis here filed rest j.entries (disk-same j.entries b.stream) (ap (λ (x : JournalState Q). x.entries) none.given_back)
+  disk-land (Err e) none = disk-grew posted w v it b c j k has vis here filed rest j.entries (disk-same j.entries b.stream) (ap (λ (x : JournalState Q). x.entries) none.given_back)
 
   -- the call is still under way
   pub left-land : brings_in it ≡ true → (answer : Result (Unit {0}) NoMemory) → LandLeft w.setup w.number it page answer b c j k → (begun : List Entry) → IsUnderWay w.number it begun w.seen → IsUnderWay w.number it begun k.entries
   left-land may (Ok done) (inl came) begun way =
       subst (λ (past : List Entry). IsUnderWay w.number it begun past) (sym (ap (λ (x : JournalState Q). x.entries) came.placed))
-      (brings w.number it begun j.entries (page_of b page) _ (way-on posted w v it b c j k has vis one filed begun way) may came.reached)
+      (brings w.number it begun j.entries (page_of b page) _ (way-on posted w v it b c j k has vis here filed begun way) may came.reached)
   left-land may (Ok done) (inr none) begun way =
-      subst (λ (past : List Entry). IsUnderWay w.number it begun past) (sym (ap (λ (x : JournalState Q). x.entries) none.given_back)) (way-on posted w v it b c j k has vis one filed begun way)
+      subst (λ (past : List Entry). IsUnderWay w.number it begun past) (sym (ap (λ (x : JournalState Q). x.entries) none.given_back)) (way-on posted w v it b c j k has vis here filed begun way)
   left-land may (Err e) none begun way =
-      subst (λ (past : List Entry). IsUnderWay w.number it begun past) (sym (ap (λ (x : JournalState Q). x.entries) none.given_back)) (way-on posted w v it b c j k has vis one filed begun way)
+      subst (λ (past : List Entry). IsUnderWay w.number it begun past) (sym (ap (λ (x : JournalState Q). x.entries) none.given_back)) (way-on posted w v it b c j k has vis here filed begun way)
 
 -- A page that the disk failed to read.
 module _ {Q : Type 0} (posted : Q → Bool) (w v : Standing) (b : BookState) (j k : JournalState Q)

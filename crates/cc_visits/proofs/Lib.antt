@@ -3,14 +3,15 @@ pub mod Copying
 pub mod Telling
 pub mod Others
 pub mod Refusals
+pub mod Wanting
 pub mod Disks
 pub mod Owing
 pub mod Visiting
+pub mod Resting
 pub mod Placing
 pub mod Ending
 pub mod Replies
 pub mod Attempting
-pub mod Resting
 pub mod Pages
 pub mod Stepping
 pub mod Halting

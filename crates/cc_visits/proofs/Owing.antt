@@ -19,7 +19,7 @@ use Rattle.cc_model.specs.History.{Effect, CameIn, WentOut, effect_of, history}
 use Rattle.cc_model.specs.Passes.{is_call_of}
 use Rattle.cc_model.specs.Room.{owed_by_stream, stores_unfinished, reserved_in}
 use Rattle.cc_step.specs.Step.{ends_in_store, owes_store}
-use Rattle.cc_step.proofs.Failing.{fails_here}
+use Rattle.cc_step.specs.Step.{is_answered}
 use Rattle.cc_step.proofs.Reserved.{no-store}
 
 -- sums of the same terms are the same
@@ -70,5 +70,5 @@ pub settled-other : (me : ℕ) (e : Entry) (past : List Entry) → is_call_of me
 settled-other me e past other none = ap ends_in_store (up_to_call-other e past me other) ∙ none
 
 -- and a call whose entry is placed with its book owes nothing
-pub settled-call : (me nth : ℕ) (stream : Option ℕ) (it : Call) (ended : Outcome) (past : List Entry) → fails_here it ≡ true → owes_store (entry.Call me nth stream it ended ∷ past) me ≡ false
+pub settled-call : (me nth : ℕ) (stream : Option ℕ) (it : Call) (ended : Outcome) (past : List Entry) → is_answered it ≡ true → owes_store (entry.Call me nth stream it ended ∷ past) me ≡ false
 settled-call me nth stream it ended past here = ap ends_in_store (up_to_call-call me nth stream it ended past me (eq-eqb me me refl)) ∙ no-store it ended here

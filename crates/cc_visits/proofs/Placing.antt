@@ -1,5 +1,5 @@
 -- What a visit may place: nothing, or one entry that needs no turn but the book's, or the disk's where it is held.
-use Rattle.std.specs.Prelude.{◌≡◌, ℕ, suc, ◌+◌, Bool, true, false, ◌||◌, [], ◌∷◌, Some, refl}
+use Rattle.std.specs.Prelude.{◌≡◌, ℕ, suc, ◌+◌, ◌-◌, Bool, true, false, ◌||◌, [], ◌∷◌, Some, refl}
 use Rattle.std.proofs.Common.{ap, sym, ◌∙◌, arith}
 use Rattle.std.proofs.lemmas.Bool.{eq-eqb}
 use Rattle.cc_entry.specs.declared.call.Call.{Call}
@@ -17,9 +17,8 @@ use Rattle.cc_laws.proofs.TurnSteps.{is_quiet-none, is_quiet-unneeded}
 use Rattle.cc_model.specs.Passes.{calls_of}
 use Rattle.cc_model.specs.Room.{reserved_in}
 use Rattle.cc_model.specs.Turns.{Turn, Device, Book, Log as log_turn, Journal, is_book, is_device, is_journal, call_needs, needs}
-use Rattle.cc_step.specs.Step.{StandUnder, Adds, AttemptDone, asks_one, owes_store}
-use Rattle.cc_step.proofs.Failing.{fails_here, one-fails, one-kept}
-use Rattle.cc_step.proofs.Reserved.{reserved-done, reserved-failed}
+use Rattle.cc_step.specs.Step.{StandUnder, Adds, AttemptDone, is_answered, owes_store}
+use Rattle.cc_step.proofs.Reserved.{reserved-failed}
 use Rattle.cc_turns.specs.Standing.{Standing, Held, holds}
 use Rattle.cc_turns.specs.Takes.{may_be_of}
 use Rattle.cc_visits.specs.Hands.{HasBook}
@@ -27,7 +26,7 @@ use Rattle.cc_visits.proofs.Owing.{settled-call}
 use Rattle.cc_visits.proofs.Visiting.{Visiting, Stepping}
 
 -- a call whose entry is placed with its book needs the book's turn alone, beside the journal's
-needs-book : (s : ℕ) (it : Call) (ended : Outcome) (t : Turn) → fails_here it ≡ true → call_needs (Some s) it ended t ≡ is_book s t
+needs-book : (s : ℕ) (it : Call) (ended : Outcome) (t : Turn) → is_answered it ≡ true → call_needs (Some s) it ended t ≡ is_book s t
 needs-book s (call.NcStore file page bytes) ended t is = absurd (cc)
 needs-book s (call.NcRead file page) ended t is = absurd (cc)
 needs-book s (call.Discard file span) ended t is = absurd (cc)
@@ -56,7 +55,7 @@ last-two false b c none other = other
 last-two true b c none other = absurd (cc)
 
 -- what is not held is needed by no call on the stream, and by no page that comes in or goes out
-pub unneeded-call : (held : Held) (me nth s : ℕ) (it : Call) (ended : Outcome) → fails_here it ≡ true → held.book ≡ Some s → (t : Turn) → holds (record held { journal = true }) t ≡ false → needs (entry.Call me nth (Some s) it ended) t ≡ false
+pub unneeded-call : (held : Held) (me nth s : ℕ) (it : Call) (ended : Outcome) → is_answered it ≡ true → held.book ≡ Some s → (t : Turn) → holds (record held { journal = true }) t ≡ false → needs (entry.Call me nth (Some s) it ended) t ≡ false
 unneeded-call held me nth s it ended is book t away = ap (λ b. is_journal t || b) (needs-book s it ended t is) ∙ away-book held s t book away
 
 pub unneeded-page : (held : Held) (s : ℕ) → held.book ≡ Some s → held.device ≡ Some s → (t : Turn) → holds (record held { journal = true }) t ≡ false → (is_journal t || (is_book s t || is_device s t)) ≡ false
@@ -117,20 +116,40 @@ module _ {Q : Type 0} (posted : Q → Bool) (w v : Standing) (b c : BookState) (
   stepping-adds e adds stand stream own unneeded owed settled =
       stepping-one w.in_flight e (adds-kept e adds) stand stream own unneeded owed settled (adds-reserved e adds)
 
-  -- the call of the pass was done, or failed
-  pub stepping-done : (it : Call) (r : Reply) → asks_one it ≡ true → AttemptDone w.setup w.number it r b c j k → Stepping w v b.stream w.in_flight (done w.number j.entries b.stream it r ∷ []) c j k
-  stepping-done it r one left =
-      stepping-adds (done w.number j.entries b.stream it r) left.placed left.stand left.stream (eq-eqb w.number w.number refl)
-      (unneeded-call w.held w.number (suc (calls_of j.entries w.number)) b.stream it (outcome.Done r) (one-fails it one) has-book)
-      (reserved-done j.entries w.number (suc (calls_of j.entries w.number)) b.stream it r (one-fails it one) (one-kept it one) vis.settled)
-      (settled-call w.number (suc (calls_of j.entries w.number)) (Some b.stream) it (outcome.Done r) j.entries (one-fails it one))
+  -- the call of the pass was done: what its entry owes is reserved, and beyond that as much as before
+  pub stepping-done : (it : Call) (r : Reply) → is_answered it ≡ true → AttemptDone w.setup w.number it r b c j k → Stepping w v b.stream w.in_flight (done w.number j.entries b.stream it r ∷ []) c j k
+  stepping-done it r here left = record {
+    kept = kept;
+    stand = left.stand;
+    stream = left.stream;
+    own = (eq-eqb w.number w.number refl, tt);
+    held = λ t away. is_quiet-unneeded t placed [] (unneeded t away) ∙ is_quiet-none t;
+    reserved =
+        let owed = ap (λ (x : JournalState Q). reserved_in x.entries) left.placed in
+        let is = ap (λ (x : JournalState Q). x.reserved) left.placed in
+        count k.reserved j.reserved (reserved_in k.entries) (reserved_in (placed ∷ j.entries)) (reserved_in j.entries) w.in_flight v.others owed is vis.reserved_is;
+    settled = ap (λ (x : JournalState Q). owes_store x.entries w.number) left.placed ∙ settled-call w.number (suc (calls_of j.entries w.number)) (Some b.stream) it (outcome.Done r) j.entries here;
+  }
+    where
+      placed : Entry
+      placed = done w.number j.entries b.stream it r
 
-  pub stepping-failed : (it : Call) (e : CcError) → asks_one it ≡ true → Adds (failed w.number j.entries b.stream it e) j k → StandUnder w.setup c k → c.stream ≡ b.stream → Stepping w v b.stream w.in_flight (failed w.number j.entries b.stream it e ∷ []) c j k
-  stepping-failed it e one placed stand stream =
+      kept : k ≡ record j { entries = placed ∷ j.entries; reserved = k.reserved; rows = k.rows }
+      kept = left.placed ∙ ap (λ (n : ℕ). record j { entries = placed ∷ j.entries; reserved = n; rows = k.rows }) (sym (ap (λ (x : JournalState Q). x.reserved) left.placed))
+
+      unneeded : (t : Turn) → holds (record w.held { journal = true }) t ≡ false → needs placed t ≡ false
+      unneeded = unneeded-call w.held w.number (suc (calls_of j.entries w.number)) b.stream it (outcome.Done r) here has-book
+
+      count : (now was owed after before flight others : ℕ) → owed ≡ after → now ≡ after + (was - before) → was ≡ before + flight + others → now ≡ owed + flight + others
+      count now was owed after before flight others a n w = omega (arith, a, n, w)
+
+  -- or failed
+  pub stepping-failed : (it : Call) (e : CcError) → is_answered it ≡ true → Adds (failed w.number j.entries b.stream it e) j k → StandUnder w.setup c k → c.stream ≡ b.stream → Stepping w v b.stream w.in_flight (failed w.number j.entries b.stream it e ∷ []) c j k
+  stepping-failed it e here placed stand stream =
       stepping-adds (failed w.number j.entries b.stream it e) placed stand stream (eq-eqb w.number w.number refl)
-      (unneeded-call w.held w.number (suc (calls_of j.entries w.number)) b.stream it (outcome.Failed e) (one-fails it one) has-book)
-      (reserved-failed j.entries w.number (suc (calls_of j.entries w.number)) b.stream it e (one-fails it one) vis.settled)
-      (settled-call w.number (suc (calls_of j.entries w.number)) (Some b.stream) it (outcome.Failed e) j.entries (one-fails it one))
+      (unneeded-call w.held w.number (suc (calls_of j.entries w.number)) b.stream it (outcome.Failed e) here has-book)
+      (reserved-failed j.entries w.number (suc (calls_of j.entries w.number)) b.stream it e here vis.settled)
+      (settled-call w.number (suc (calls_of j.entries w.number)) (Some b.stream) it (outcome.Failed e) j.entries here)
 
   -- nothing changed but the book's own pages
   pub stepping-same : k ≡ j → StandUnder w.setup c k → c.stream ≡ b.stream → Stepping w v b.stream w.in_flight [] c j k

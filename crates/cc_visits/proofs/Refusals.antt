@@ -1,4 +1,4 @@
--- Which refusals a call may answer that asks one place.
+-- Which refusals a call may answer whose entry is placed with its book.
 use Rattle.std.specs.Prelude.{◌≡◌, ℕ, Bool, true, false, List, ◌∷◌, Option, None, Some, refl}
 use Rattle.std.proofs.Common.{subst}
 use Rattle.std.specs.Option.{option_map}
@@ -15,13 +15,13 @@ use Rattle.cc_model.specs.Conflicts.{held, held_by, busy, busy_by}
 use Rattle.cc_model.specs.History.{Effect}
 use Rattle.cc_model.specs.Holds.{holds_of}
 use Rattle.cc_model.specs.Ranges.{range_of, cut_range}
-use Rattle.cc_model.specs.Reasons.{refuse_if, not_cached, too_long, bad_sizes, bad_granularity, no_log, beyond_size, beyond_valid}
+use Rattle.cc_model.specs.Reasons.{refuse_if, not_cached, too_long, bad_sizes, bad_granularity, no_log, beyond_size, beyond_valid, view_boundary}
 use Rattle.cc_model.specs.Refusals.{first_of, refusal}
 use Rattle.cc_model.specs.Settings.{quota_of}
 use Rattle.cc_model.specs.Setup.{Setup}
 use Rattle.cc_model.specs.Touches.{size_of, valid_of}
 use Rattle.cc_model.specs.Views.{active_blocks, viewed, no_views, no_vacbs, not_resident}
-use Rattle.cc_step.specs.Step.{asks_one}
+use Rattle.cc_step.specs.Step.{is_answered}
 
 -- a reason gives a refusal of the call, or none
 abbrev IsAmong : Call → Option CcError → Type 0
@@ -52,103 +52,200 @@ among-first : (it : Call) (o : Option CcError) (rest : List (Option CcError)) �
 among-first it None rest here later = later
 among-first it (Some e) rest here later = here
 
-among : (u : Setup) (past : List Entry) (h : List Effect) (it : Call) → asks_one it ≡ true → IsAmong it (refusal u past h it)
+among : (u : Setup) (past : List Entry) (h : List Effect) (it : Call) → is_answered it ≡ true → IsAmong it (refusal u past h it)
 unfolding refusal
-among u past h (call.Initialise file sizes quota temporary) one =
-    among-first (call.Initialise file sizes quota temporary) (bad_sizes h (call.Initialise file sizes quota temporary)) _ (among-if (call.Initialise file sizes quota temporary) _ _ refl)
-    (among-first (call.Initialise file sizes quota temporary) (no_vacbs past h (call.Initialise file sizes quota temporary)) _ (among-if (call.Initialise file sizes quota temporary) _ _ refl) tt)
-among u past h (call.Uninitialise file truncate) one =
-    among-first (call.Uninitialise file truncate) (not_cached h (Some file)) _ (among-if (call.Uninitialise file truncate) _ _ refl)
-    (among-first (call.Uninitialise file truncate) (held h (call.Uninitialise file truncate)) _ (among-held (call.Uninitialise file truncate) _ (λ n. refl)) tt)
-among u past h (call.CopyRead file at len true) one =
-    among-first (call.CopyRead file at len true) (not_cached h (Some file)) _ (among-if (call.CopyRead file at len true) _ _ refl)
-    (among-first (call.CopyRead file at len true) (too_long (call.CopyRead file at len true)) _ (among-if (call.CopyRead file at len true) _ _ refl)
-    (among-first (call.CopyRead file at len true) (no_views h (Some (cut_range (size_of h) at len))) _ (among-views (call.CopyRead file at len true) h (Some (cut_range (size_of h) at len)) (λ a q. refl)) tt))
-among u past h (call.CopyRead file at len false) one =
-    among-first (call.CopyRead file at len false) (not_cached h (Some file)) _ (among-if (call.CopyRead file at len false) _ _ refl)
-    (among-first (call.CopyRead file at len false) (too_long (call.CopyRead file at len false)) _ (among-if (call.CopyRead file at len false) _ _ refl)
-    (among-first (call.CopyRead file at len false) (no_views h (viewed h (call.CopyRead file at len false) (Some (cut_range (size_of h) at len)))) _ (among-views (call.CopyRead file at len false) h _ (λ a q. refl))
-    (among-first (call.CopyRead file at len false) (not_resident h (call.CopyRead file at len false)) _ (among-page (call.CopyRead file at len false) _ (λ n. refl)) tt)))
-among u past h (call.CopyWrite file at bytes) one =
-    among-first (call.CopyWrite file at bytes) (not_cached h (Some file)) _ (among-if (call.CopyWrite file at bytes) _ _ refl)
-    (among-first (call.CopyWrite file at bytes) (too_long (call.CopyWrite file at bytes)) _ (among-if (call.CopyWrite file at bytes) _ _ refl)
-    (among-first (call.CopyWrite file at bytes) (beyond_size (size_of h) (call.CopyWrite file at bytes)) _ (among-if (call.CopyWrite file at bytes) _ _ refl)
-    (among-first (call.CopyWrite file at bytes) (beyond_valid (valid_of h) (call.CopyWrite file at bytes)) _ (among-if (call.CopyWrite file at bytes) _ _ refl)
-    (among-first (call.CopyWrite file at bytes) (no_views h (range_of (size_of h) (call.CopyWrite file at bytes))) _ (among-views (call.CopyWrite file at bytes) h (range_of (size_of h) (call.CopyWrite file at bytes)) (λ a q. refl)) tt))))
-among u past h (call.Zero file span) one =
-    among-first (call.Zero file span) (not_cached h (Some file)) _ (among-if (call.Zero file span) _ _ refl)
-    (among-first (call.Zero file span) (too_long (call.Zero file span)) _ (among-if (call.Zero file span) _ _ refl)
-    (among-first (call.Zero file span) (beyond_size (size_of h) (call.Zero file span)) _ (among-if (call.Zero file span) _ _ refl)
-    (among-first (call.Zero file span) (beyond_valid (valid_of h) (call.Zero file span)) _ (among-if (call.Zero file span) _ _ refl)
-    (among-first (call.Zero file span) (no_views h (range_of (size_of h) (call.Zero file span))) _ (among-views (call.Zero file span) h (range_of (size_of h) (call.Zero file span)) (λ a q. refl)) tt))))
-among u past h (call.MdlStore hold at bytes) one =
-    among-first (call.MdlStore hold at bytes) (beyond_valid (valid_of h) (call.MdlStore hold at bytes)) _ (among-if (call.MdlStore hold at bytes) _ _ refl) tt
-among u past h (call.SetSizes file allocation size) one =
-    among-first (call.SetSizes file allocation size) (not_cached h (Some file)) _ (among-if (call.SetSizes file allocation size) _ _ refl)
-    (among-first (call.SetSizes file allocation size) (bad_sizes h (call.SetSizes file allocation size)) _ (among-if (call.SetSizes file allocation size) _ _ refl)
-    (among-first (call.SetSizes file allocation size) (held h (call.SetSizes file allocation size)) _ (among-held (call.SetSizes file allocation size) _ (λ n. refl)) tt))
-among u past h (call.State file) one =
-    among-first (call.State file) (not_cached h (Some file)) _ (among-if (call.State file) _ _ refl) tt
-among u past h (call.SetLog file handle) one =
-    among-first (call.SetLog file handle) (not_cached h (Some file)) _ (among-if (call.SetLog file handle) _ _ refl)
-    (among-first (call.SetLog file handle) (no_log u (call.SetLog file handle)) _ (among-if (call.SetLog file handle) _ _ refl) tt)
-among u past h (call.SetGranularity file bytes) one =
-    among-first (call.SetGranularity file bytes) (not_cached h (Some file)) _ (among-if (call.SetGranularity file bytes) _ _ refl)
-    (among-first (call.SetGranularity file bytes) (bad_granularity (call.SetGranularity file bytes)) _ (among-if (call.SetGranularity file bytes) _ _ refl) tt)
-among u past h (call.SetAttributes file no_read_ahead no_write_behind) one =
-    among-first (call.SetAttributes file no_read_ahead no_write_behind) (not_cached h (Some file)) _ (among-if (call.SetAttributes file no_read_ahead no_write_behind) _ _ refl) tt
-among u past h (call.SetThreshold file pages) one =
-    among-first (call.SetThreshold file pages) (not_cached h (Some file)) _ (among-if (call.SetThreshold file pages) _ _ refl) tt
-among u past h (call.AskAhead file at len) one =
-    among-first (call.AskAhead file at len) (not_cached h (Some file)) _ (among-if (call.AskAhead file at len) _ _ refl) tt
-among u past h (call.CanWrite file bytes) one =
-    among-first (call.CanWrite file bytes) (not_cached h (Some file)) _ (among-if (call.CanWrite file bytes) _ _ refl) tt
-among u past h (call.Flush file span) one =
-    among-first (call.Flush file span) (not_cached h (Some file)) _ (among-if (call.Flush file span) _ _ refl)
-    (among-first (call.Flush file span) (busy (holds_of h) (call.Flush file span)) _ (among-busy (call.Flush file span) _ (λ n. refl)) tt)
-among u past h other one = absurd (cc)
+among u past h (call.Initialise file sizes quota temporary) here =
+    let it : Call = call.Initialise file sizes quota temporary in
+    among-first it (bad_sizes h it) _ (among-if it _ _ refl)
+    (among-first it (no_vacbs past h it) _ (among-if it _ _ refl) tt)
+among u past h (call.Uninitialise file truncate) here =
+    let it : Call = call.Uninitialise file truncate in
+    among-first it (not_cached h (Some file)) _ (among-if it _ _ refl)
+    (among-first it (held h it) _ (among-held it _ (λ n. refl)) tt)
+among u past h (call.CopyRead file at len true) here =
+    let it : Call = call.CopyRead file at len true in
+    among-first it (not_cached h (Some file)) _ (among-if it _ _ refl)
+    (among-first it (too_long it) _ (among-if it _ _ refl)
+    (among-first it (no_views h (Some (cut_range (size_of h) at len))) _ (among-views it h (Some (cut_range (size_of h) at len)) (λ a q. refl)) tt))
+among u past h (call.CopyRead file at len false) here =
+    let it : Call = call.CopyRead file at len false in
+    among-first it (not_cached h (Some file)) _ (among-if it _ _ refl)
+    (among-first it (too_long it) _ (among-if it _ _ refl)
+    (among-first it (no_views h (viewed h it (Some (cut_range (size_of h) at len)))) _ (among-views it h _ (λ a q. refl))
+    (among-first it (not_resident h it) _ (among-page it _ (λ n. refl)) tt)))
+among u past h (call.CopyWrite file at bytes) here =
+    let it : Call = call.CopyWrite file at bytes in
+    among-first it (not_cached h (Some file)) _ (among-if it _ _ refl)
+    (among-first it (too_long it) _ (among-if it _ _ refl)
+    (among-first it (beyond_size (size_of h) it) _ (among-if it _ _ refl)
+    (among-first it (beyond_valid (valid_of h) it) _ (among-if it _ _ refl)
+    (among-first it (no_views h (range_of (size_of h) it)) _ (among-views it h (range_of (size_of h) it) (λ a q. refl)) tt))))
+among u past h (call.Zero file span) here =
+    let it : Call = call.Zero file span in
+    among-first it (not_cached h (Some file)) _ (among-if it _ _ refl)
+    (among-first it (too_long it) _ (among-if it _ _ refl)
+    (among-first it (beyond_size (size_of h) it) _ (among-if it _ _ refl)
+    (among-first it (beyond_valid (valid_of h) it) _ (among-if it _ _ refl)
+    (among-first it (no_views h (range_of (size_of h) it)) _ (among-views it h (range_of (size_of h) it) (λ a q. refl)) tt))))
+among u past h (call.Map file at len) here =
+    let it : Call = call.Map file at len in
+    among-first it (not_cached h (Some file)) _ (among-if it _ _ refl)
+    (among-first it (view_boundary it) _ (among-if it _ _ refl)
+    (among-first it (beyond_size (size_of h) it) _ (among-if it _ _ refl)
+    (among-first it (no_views h (range_of (size_of h) it)) _ (among-views it h (range_of (size_of h) it) (λ a q. refl)) tt)))
+among u past h (call.PinRead file at len exclusive) here =
+    let it : Call = call.PinRead file at len exclusive in
+    among-first it (not_cached h (Some file)) _ (among-if it _ _ refl)
+    (among-first it (view_boundary it) _ (among-if it _ _ refl)
+    (among-first it (beyond_size (size_of h) it) _ (among-if it _ _ refl)
+    (among-first it (busy (holds_of h) it) _ (among-busy it _ (λ n. refl))
+    (among-first it (no_views h (range_of (size_of h) it)) _ (among-views it h (range_of (size_of h) it) (λ a q. refl)) tt))))
+among u past h (call.PinMapped hold exclusive) here =
+    let it : Call = call.PinMapped hold exclusive in
+    among-first it (busy (holds_of h) it) _ (among-busy it _ (λ n. refl)) tt
+among u past h (call.PreparePin file at len true exclusive) here =
+    let it : Call = call.PreparePin file at len true exclusive in
+    among-first it (not_cached h (Some file)) _ (among-if it _ _ refl)
+    (among-first it (view_boundary it) _ (among-if it _ _ refl)
+    (among-first it (beyond_size (size_of h) it) _ (among-if it _ _ refl)
+    (among-first it (beyond_valid (valid_of h) it) _ (among-if it _ _ refl)
+    (among-first it (busy (holds_of h) it) _ (among-busy it _ (λ n. refl))
+    (among-first it (no_views h (range_of (size_of h) it)) _ (among-views it h (range_of (size_of h) it) (λ a q. refl)) tt)))))
+among u past h (call.PreparePin file at len false exclusive) here =
+    let it : Call = call.PreparePin file at len false exclusive in
+    among-first it (not_cached h (Some file)) _ (among-if it _ _ refl)
+    (among-first it (view_boundary it) _ (among-if it _ _ refl)
+    (among-first it (beyond_size (size_of h) it) _ (among-if it _ _ refl)
+    (among-first it (busy (holds_of h) it) _ (among-busy it _ (λ n. refl))
+    (among-first it (no_views h (range_of (size_of h) it)) _ (among-views it h (range_of (size_of h) it) (λ a q. refl)) tt))))
+among u past h (call.MappedRead hold at len) here = tt
+among u past h (call.PinnedRead hold at len) here = tt
+among u past h (call.PinnedWrite hold at bytes) here =
+    let it : Call = call.PinnedWrite hold at bytes in
+    among-first it (beyond_valid (valid_of h) it) _ (among-if it _ _ refl) tt
+among u past h (call.SetDirty hold lsn) here = tt
+among u past h (call.EndHold hold) here = tt
+among u past h (call.Repin hold) here = tt
+among u past h (call.MdlRead file at len) here =
+    let it : Call = call.MdlRead file at len in
+    among-first it (not_cached h (Some file)) _ (among-if it _ _ refl)
+    (among-first it (too_long it) _ (among-if it _ _ refl)
+    (among-first it (beyond_size (size_of h) it) _ (among-if it _ _ refl)
+    (among-first it (no_views h (range_of (size_of h) it)) _ (among-views it h (range_of (size_of h) it) (λ a q. refl)) tt)))
+among u past h (call.MdlWrite file at len) here =
+    let it : Call = call.MdlWrite file at len in
+    among-first it (not_cached h (Some file)) _ (among-if it _ _ refl)
+    (among-first it (too_long it) _ (among-if it _ _ refl)
+    (among-first it (beyond_size (size_of h) it) _ (among-if it _ _ refl)
+    (among-first it (no_views h (range_of (size_of h) it)) _ (among-views it h (range_of (size_of h) it) (λ a q. refl)) tt)))
+among u past h (call.MdlBytes hold at len) here = tt
+among u past h (call.MdlStore hold at bytes) here =
+    let it : Call = call.MdlStore hold at bytes in
+    among-first it (beyond_valid (valid_of h) it) _ (among-if it _ _ refl) tt
+among u past h (call.SetSizes file allocation size) here =
+    let it : Call = call.SetSizes file allocation size in
+    among-first it (not_cached h (Some file)) _ (among-if it _ _ refl)
+    (among-first it (bad_sizes h it) _ (among-if it _ _ refl)
+    (among-first it (held h it) _ (among-held it _ (λ n. refl)) tt))
+among u past h (call.State file) here =
+    let it : Call = call.State file in
+    among-first it (not_cached h (Some file)) _ (among-if it _ _ refl) tt
+among u past h (call.LsnForFile file) here =
+    let it : Call = call.LsnForFile file in
+    among-first it (not_cached h (Some file)) _ (among-if it _ _ refl) tt
+among u past h (call.SetLog file handle) here =
+    let it : Call = call.SetLog file handle in
+    among-first it (not_cached h (Some file)) _ (among-if it _ _ refl)
+    (among-first it (no_log u it) _ (among-if it _ _ refl) tt)
+among u past h (call.SetGranularity file bytes) here =
+    let it : Call = call.SetGranularity file bytes in
+    among-first it (not_cached h (Some file)) _ (among-if it _ _ refl)
+    (among-first it (bad_granularity it) _ (among-if it _ _ refl) tt)
+among u past h (call.SetAttributes file no_read_ahead no_write_behind) here =
+    let it : Call = call.SetAttributes file no_read_ahead no_write_behind in
+    among-first it (not_cached h (Some file)) _ (among-if it _ _ refl) tt
+among u past h (call.SetThreshold file pages) here =
+    let it : Call = call.SetThreshold file pages in
+    among-first it (not_cached h (Some file)) _ (among-if it _ _ refl) tt
+among u past h (call.AskAhead file at len) here =
+    let it : Call = call.AskAhead file at len in
+    among-first it (not_cached h (Some file)) _ (among-if it _ _ refl) tt
+among u past h (call.CanWrite file bytes) here =
+    let it : Call = call.CanWrite file bytes in
+    among-first it (not_cached h (Some file)) _ (among-if it _ _ refl) tt
+among u past h (call.Flush file span) here =
+    let it : Call = call.Flush file span in
+    among-first it (not_cached h (Some file)) _ (among-if it _ _ refl)
+    (among-first it (busy (holds_of h) it) _ (among-busy it _ (λ n. refl)) tt)
+among u past h other here = absurd (cc)
 
 -- a refusal that the definition gives is among the call's
-pub may-refuse : (u : Setup) (past : List Entry) (h : List Effect) (it : Call) (e : CcError) → asks_one it ≡ true → refusal u past h it ≡ Some e → may_refuse it e ≡ true
-may-refuse u past h it e one is = subst (IsAmong it) is (among u past h it one)
+pub may-refuse : (u : Setup) (past : List Entry) (h : List Effect) (it : Call) (e : CcError) → is_answered it ≡ true → refusal u past h it ≡ Some e → may_refuse it e ≡ true
+may-refuse u past h it e here is = subst (IsAmong it) is (among u past h it here)
 
--- so are want of room and of memory
-pub may-stop : (it : Call) (entries : ℕ) → asks_one it ≡ true → (may_refuse it (error.JournalFull entries) ≡ true) × (may_refuse it error.NoMemory ≡ true)
-may-stop (call.Initialise file sizes quota temporary) entries one = (refl, refl)
-may-stop (call.Uninitialise file truncate) entries one = (refl, refl)
-may-stop (call.CopyRead file at len true) entries one = (refl, refl)
-may-stop (call.CopyRead file at len false) entries one = (refl, refl)
-may-stop (call.CopyWrite file at bytes) entries one = (refl, refl)
-may-stop (call.Zero file span) entries one = (refl, refl)
-may-stop (call.MdlStore hold at bytes) entries one = (refl, refl)
-may-stop (call.SetSizes file allocation size) entries one = (refl, refl)
-may-stop (call.State file) entries one = (refl, refl)
-may-stop (call.SetLog file handle) entries one = (refl, refl)
-may-stop (call.SetGranularity file bytes) entries one = (refl, refl)
-may-stop (call.SetAttributes file no_read_ahead no_write_behind) entries one = (refl, refl)
-may-stop (call.SetThreshold file pages) entries one = (refl, refl)
-may-stop (call.AskAhead file at len) entries one = (refl, refl)
-may-stop (call.CanWrite file bytes) entries one = (refl, refl)
-may-stop (call.Flush file span) entries one = (refl, refl)
-may-stop other entries one = absurd (cc)
+-- whether the entry of a call may have been reserved: that of a set-dirty, and of the end of a hold
+abbrev pub may_be_reserved : Call → Bool
+may_be_reserved (call.SetDirty hold lsn) = true
+may_be_reserved (call.EndHold hold) = true
+may_be_reserved other = false
 
--- a set-dirty changes holds, so it is none of these
-pub may-want : (it : Call) (past : List Entry) → asks_one it ≡ true → may_want it past ≡ true
-may-want (call.SetDirty hold lsn) past one = absurd (cc)
-may-want other past one = refl
+-- want of room and of memory are among the refusals of the others
+pub may-stop : (it : Call) (entries : ℕ) → is_answered it ≡ true → may_be_reserved it ≡ false → (may_refuse it (error.JournalFull entries) ≡ true) × (may_refuse it error.NoMemory ≡ true)
+may-stop (call.CopyRead file at len true) entries here free = (refl, refl)
+may-stop (call.CopyRead file at len false) entries here free = (refl, refl)
+may-stop (call.PreparePin file at len true exclusive) entries here free = (refl, refl)
+may-stop (call.PreparePin file at len false exclusive) entries here free = (refl, refl)
+may-stop (call.EndHold hold) entries here free = absurd (cc)
+may-stop (call.NcStore file page bytes) entries here free = absurd (cc)
+may-stop other entries here free = (refl, refl)
+
+pub may-want : (it : Call) (past : List Entry) → may_be_reserved it ≡ false → may_want it past ≡ true
+may-want (call.SetDirty hold lsn) past free = absurd (cc)
+may-want other past free = refl
+
+-- A call may end at a moment for want of room or of memory.
+pub record MayStop (it : Call) (past : List Entry) : Type 0 where
+  pub full : (entries : ℕ) → may_refuse it (error.JournalFull entries) ≡ true
+  pub memoryless : may_refuse it error.NoMemory ≡ true
+  pub wants : may_want it past ≡ true
+
+pub stops-free : (it : Call) (past : List Entry) → is_answered it ≡ true → may_be_reserved it ≡ false → MayStop it past
+stops-free it past here free = record {
+  full = λ entries. (may-stop it entries here free).0;
+  memoryless = (may-stop it 0 here free).1;
+  wants = may-want it past free;
+}
+
+-- one that brings pages in has no reserved entry
+pub brings-free : (it : Call) → brings_in it ≡ true → may_be_reserved it ≡ false
+brings-free (call.SetDirty hold lsn) brings = absurd (cc)
+brings-free (call.EndHold hold) brings = absurd (cc)
+brings-free other brings = refl
+
+-- nor has one that may be told a fault
+pub tells-free : (it : Call) (fault : CcError) → may_refuse it fault ≡ true → is_fault fault ≡ true → may_be_reserved it ≡ false
+tells-free (call.SetDirty hold lsn) (error.ReadFault page) listed fault = absurd (cc)
+tells-free (call.SetDirty hold lsn) (error.WriteFault page) listed fault = absurd (cc)
+tells-free (call.SetDirty hold lsn) (error.LogFault handle) listed fault = absurd (cc)
+tells-free (call.SetDirty hold lsn) other listed fault = absurd (cc)
+tells-free (call.EndHold hold) e listed fault = absurd (cc)
+tells-free other e listed fault = refl
 
 -- a call that brings pages in may be told a fault
-pub may-tell : (it : Call) (e : CcError) → asks_one it ≡ true → brings_in it ≡ true → is_fault e ≡ true → may_refuse it e ≡ true
-may-tell (call.CopyRead file at len true) (error.ReadFault page) one brings fault = refl
-may-tell (call.CopyRead file at len true) (error.WriteFault page) one brings fault = refl
-may-tell (call.CopyRead file at len true) (error.LogFault handle) one brings fault = refl
-may-tell (call.CopyRead file at len true) other one brings fault = absurd (cc)
-may-tell (call.CopyWrite file at bytes) (error.ReadFault page) one brings fault = refl
-may-tell (call.CopyWrite file at bytes) (error.WriteFault page) one brings fault = refl
-may-tell (call.CopyWrite file at bytes) (error.LogFault handle) one brings fault = refl
-may-tell (call.CopyWrite file at bytes) other one brings fault = absurd (cc)
-may-tell (call.Zero file span) (error.ReadFault page) one brings fault = refl
-may-tell (call.Zero file span) (error.WriteFault page) one brings fault = refl
-may-tell (call.Zero file span) (error.LogFault handle) one brings fault = refl
-may-tell (call.Zero file span) other one brings fault = absurd (cc)
-may-tell it e one brings fault = absurd (cc)
+fault-listed : (it : Call) (e : CcError) → is_fault e ≡ true → ((n : ℕ) → may_refuse it (error.ReadFault n) ≡ true) → ((n : ℕ) → may_refuse it (error.WriteFault n) ≡ true) → ((n : ℕ) → may_refuse it (error.LogFault n) ≡ true) → may_refuse it e ≡ true
+fault-listed it (error.ReadFault page) fault read written logged = read page
+fault-listed it (error.WriteFault page) fault read written logged = written page
+fault-listed it (error.LogFault handle) fault read written logged = logged handle
+fault-listed it other fault read written logged = absurd (cc)
+
+pub may-tell : (it : Call) (e : CcError) → is_answered it ≡ true → brings_in it ≡ true → is_fault e ≡ true → may_refuse it e ≡ true
+may-tell (call.CopyRead file at len true) e here brings fault = fault-listed (call.CopyRead file at len true) e fault (λ n. refl) (λ n. refl) (λ n. refl)
+may-tell (call.CopyWrite file at bytes) e here brings fault = fault-listed (call.CopyWrite file at bytes) e fault (λ n. refl) (λ n. refl) (λ n. refl)
+may-tell (call.Zero file span) e here brings fault = fault-listed (call.Zero file span) e fault (λ n. refl) (λ n. refl) (λ n. refl)
+may-tell (call.Map file at len) e here brings fault = fault-listed (call.Map file at len) e fault (λ n. refl) (λ n. refl) (λ n. refl)
+may-tell (call.PinRead file at len exclusive) e here brings fault = fault-listed (call.PinRead file at len exclusive) e fault (λ n. refl) (λ n. refl) (λ n. refl)
+may-tell (call.PreparePin file at len true exclusive) e here brings fault = fault-listed (call.PreparePin file at len true exclusive) e fault (λ n. refl) (λ n. refl) (λ n. refl)
+may-tell (call.PreparePin file at len false exclusive) e here brings fault = fault-listed (call.PreparePin file at len false exclusive) e fault (λ n. refl) (λ n. refl) (λ n. refl)
+may-tell (call.MdlRead file at len) e here brings fault = fault-listed (call.MdlRead file at len) e fault (λ n. refl) (λ n. refl) (λ n. refl)
+may-tell (call.MdlWrite file at len) e here brings fault = fault-listed (call.MdlWrite file at len) e fault (λ n. refl) (λ n. refl) (λ n. refl)
+may-tell it e here brings fault = absurd (cc)

@@ -7,6 +7,7 @@ use Rattle.cc_entry.specs.declared.entry.Entry.{Entry}
 use Rattle.cc_entry.specs.declared.entry.Entry.TheVariants as entry
 use Rattle.cc_entry.specs.declared.reply.Outcome.TheVariants as outcome
 use Rattle.cc_book.specs.Book.{BookState}
+use Rattle.cc_effects.specs.Asked.{brings_in}
 use Rattle.cc_effects.specs.Calls.{IsUnderWay}
 use Rattle.cc_fill.specs.Fill.{MayFill, NextLeft, MadeWay, HasToRead, page_of}
 use Rattle.cc_fill.specs.declared.ways.Next.{Next}
@@ -14,12 +15,12 @@ use Rattle.cc_fill.specs.declared.ways.Next.TheVariants as next
 use Rattle.cc_journal.specs.Journal.{JournalState}
 use Rattle.cc_model.specs.Passes.{calls_of}
 use Rattle.cc_model.specs.Setup.{Setup}
-use Rattle.cc_step.specs.Step.{StandUnder, asks_one, is_stepped}
+use Rattle.cc_step.specs.Step.{StandUnder, is_answered, is_stepped, most_asked}
 use Rattle.cc_turns.specs.Standing.{Standing}
 use Rattle.cc_turns.specs.Takes.{without_journal}
 use Rattle.cc_visits.specs.Hands.{HasBook, IsAtRest, SameDisk}
 use Rattle.cc_visits.specs.Told.{FitsNext, StepAs}
-use Rattle.cc_visits.specs.Visits.{IsOf, IsToBeWritten, IsWaitedFor, StepLeft, StepWent, IsFullStep}
+use Rattle.cc_visits.specs.Visits.{IsFiledNow, IsToBeWritten, IsWaitedFor, StepLeft, StepWent, IsFullStep}
 use Rattle.cc_visits.specs.Ways.{FitsIn}
 use Rattle.cc_visits.specs.declared.tell.Returned.{Returned}
 use Rattle.cc_visits.specs.declared.visits.Step.{Step}
@@ -28,29 +29,30 @@ use Rattle.cc_visits.proofs.Disks.{disk-same, disk-then, disk-call, disk-page_ou
 use Rattle.cc_visits.proofs.Owing.{reserved-page_out, settled-other}
 use Rattle.cc_visits.proofs.Pages.{takes_out}
 use Rattle.cc_visits.proofs.Placing.{has-book, stepping-none, stepping-adds, unneeded-page}
+use Rattle.cc_visits.proofs.Refusals.{brings-free, stops-free}
 use Rattle.cc_visits.proofs.Resting.{disk-held, rest-same}
 use Rattle.cc_visits.proofs.Visiting.{Visiting, Visited, visited}
 
 module _ {Q : Type 0} (posted : Q → Bool) (w v : Standing) (it : Call) (b c : BookState) (j k : JournalState Q)
-    (has : HasBook w b.stream b) (vis : Visiting posted w v b.stream b j) (one : asks_one it ≡ true) (filed : IsOf it b.stream)
+    (has : HasBook w b.stream b) (vis : Visiting posted w v b.stream b j) (here : is_answered it ≡ true) (filed : IsFiledNow w b.stream it)
     (rest : IsAtRest w b.stream) where
   front-disk : SameDisk w.seen j.entries b.stream
   front-disk = disk-held w b.stream j.entries rest.device vis.grows
 
   pub may-fill : MayFill w.setup w.number it b j
   may-fill = record {
-    may = may-step posted w v it b c j k has vis one filed;
+    may = may-step posted w v it b c j k has vis here filed;
     no_transfer = rest-same w.seen j.entries b.stream front-disk rest.no_transfer;
   }
 
   pub fill-as : (pass : ℕ) → pass ≡ v.number → MayFill w.setup pass it b j
-  fill-as pass me = subst (λ (n : ℕ). MayFill w.setup n it b j) (sym (number-is posted w v it b c j k has vis one filed pass me)) may-fill
+  fill-as pass me = subst (λ (n : ℕ). MayFill w.setup n it b j) (sym (number-is posted w v it b c j k has vis here filed pass me)) may-fill
 
   pub stepped : (pass : ℕ) (ended : Next) → pass ≡ v.number → ((u : Setup) → MayFill u pass it b j → NextLeft u pass it ended b c j k) → NextLeft w.setup w.number it ended b c j k
-  stepped pass ended me left = subst (λ (n : ℕ). NextLeft w.setup n it ended b c j k) (number-is posted w v it b c j k has vis one filed pass me) (left w.setup (fill-as pass me))
+  stepped pass ended me left = subst (λ (n : ℕ). NextLeft w.setup n it ended b c j k) (number-is posted w v it b c j k has vis here filed pass me) (left w.setup (fill-as pass me))
 
   pub fits-next : (ended : Next) (out : List ℕ) → NextLeft w.setup w.number it ended b c j k → FitsIn it out → FitsNext ended k.entries out
-  fits-next next.Done out left fits = fits-done posted w v it b c j k has vis one filed left.0 out left.1 fits
+  fits-next next.Done out left fits = fits-done posted w v it b c j k has vis here filed left.0 out left.1 fits
   fits-next other out left fits = tt
 
   -- so many places are under way after it
@@ -91,13 +93,13 @@ module _ {Q : Type 0} (posted : Q → Bool) (w v : Standing) (it : Call) (b c : 
       count now was flight more = omega (arith, more)
 
   pub visited-next : (ended : Next) → NextLeft w.setup w.number it ended b c j k → Visited posted w v b.stream (flight_after ended) c k
-  visited-next next.Done left = visited-done posted w v it b c j k has vis one filed left.0 left.1
-  visited-next (next.Refused e) left = visited-refused posted w v it b c j k has vis one filed e left
+  visited-next next.Done left = visited-done posted w v it b c j k has vis here filed left.0 left.1
+  visited-next (next.Refused e) left = visited-refused posted w v it b c j k has vis here filed e left
   visited-next (next.WentOut again) left = visited-out again left
   visited-next (next.Writes page again) left =
-      visited-same posted w v it b c j k has vis one filed left.same_journal (stand-same left.same_book left.same_journal) (ap (λ (x : BookState). x.stream) left.same_book)
+      visited-same posted w v it b c j k has vis here filed left.same_journal (stand-same left.same_book left.same_journal) (ap (λ (x : BookState). x.stream) left.same_book)
   visited-next (next.Reads page again) left = visited-read page again left
-  visited-next (next.Stopped e) left = visited-same posted w v it b c j k has vis one filed left.1.same_journal left.1.stand left.1.stream
+  visited-next (next.Stopped e) left = visited-same posted w v it b c j k has vis here filed left.1.same_journal left.1.stand left.1.stream
 
   -- the journal is the front, with one entry more or none
   pub disk-grew : (now : List Entry) → SameDisk j.entries now b.stream → k.entries ≡ now → SameDisk w.seen k.entries b.stream
@@ -130,43 +132,43 @@ module _ {Q : Type 0} (posted : Q → Bool) (w v : Standing) (it : Call) (b c : 
       subst (λ (x : Step). StepWent x w (without_journal k v)) (sym told.0) (visited-next (next.Stopped e) left).went
 
   -- and what is left of the call
-  pub left-next : is_stepped it ≡ true → (ended : Next) (answer : Step) (was now : List ℕ) → NextLeft w.setup w.number it ended b c j k → StepAs ended answer k.entries was now → (begun : List Entry) → IsUnderWay w.number it begun w.seen → StepLeft w.setup w.number b.stream it answer begun k.entries was now
-  left-next is next.Done answer was now left told begun way =
+  pub left-next : is_stepped it ≡ true → brings_in it ≡ true → (ended : Next) (answer : Step) (was now : List ℕ) → NextLeft w.setup w.number it ended b c j k → StepAs ended answer k.entries was now → (begun : List Entry) → IsUnderWay w.number it begun w.seen → StepLeft w.setup w.number b.stream it answer begun k.entries was now
+  left-next is brings next.Done answer was now left told begun way =
       subst (λ (x : Step). StepLeft w.setup w.number b.stream it x begun k.entries was now) (sym told.1)
-      (left.0, left-done posted w v it b c j k has vis one filed begun way is left.0 left.1, told.2 left.0 (last-done posted w v it b c j k has vis one filed left.0 left.1))
-  left-next is (next.Refused e) answer was now left told begun way =
+      (left.0, left-done posted w v it b c j k has vis here filed begun way is left.0 left.1, told.2 left.0 (last-done posted w v it b c j k has vis here filed left.0 left.1))
+  left-next is brings (next.Refused e) answer was now left told begun way =
       subst (λ (x : Step). StepLeft w.setup w.number b.stream it x begun k.entries was now) (sym told.0)
-      (left-refused posted w v it b c j k has vis one filed begun way e left, told.1)
-  left-next is (next.WentOut again) answer was now left told begun way =
+      (left-refused posted w v it b c j k has vis here filed begun way e left, told.1)
+  left-next is brings (next.WentOut again) answer was now left told begun way =
       subst (λ (x : Step). StepLeft w.setup w.number b.stream it x begun k.entries was now) (sym told.0) (
         left.call_is,
         subst (λ (past : List Entry). IsUnderWay w.number it begun past) (sym (ap (λ (x : JournalState Q). x.entries) left.placed))
-            (takes_out w.number it begun j.entries (page_of b left.page) (way-on posted w v it b c j k has vis one filed begun way) left.next),
+            (takes_out w.number it begun j.entries (page_of b left.page) (way-on posted w v it b c j k has vis here filed begun way) left.next),
         told.1,
       )
-  left-next is (next.Writes page again) answer was now left told begun way =
+  left-next is brings (next.Writes page again) answer was now left told begun way =
       subst (λ (x : Step). StepLeft w.setup w.number b.stream it x begun k.entries was now) (sym told.0)
       (subst (λ (x : JournalState Q). (again ≡ it) × IsUnderWay w.number it begun x.entries × IsToBeWritten w.setup b.stream it page x.entries × (now ≡ was)) (sym left.same_journal) (
         left.call_is,
-        way-on posted w v it b c j k has vis one filed begun way,
+        way-on posted w v it b c j k has vis here filed begun way,
         record { admitted = left.admitted; in_the_way = left.in_the_way; dirty = left.dirty; stamped = left.stamped },
         told.1,
       ))
-  left-next is (next.Reads page again) answer was now left told begun way =
+  left-next is brings (next.Reads page again) answer was now left told begun way =
       subst (λ (x : Step). StepLeft w.setup w.number b.stream it x begun k.entries was now) (sym told.0)
       (subst (λ (x : JournalState Q). (again ≡ it) × IsUnderWay w.number it begun x.entries × IsWaitedFor w.setup b.stream it page x.entries × (now ≡ was)) (sym left.reserved)
-      (left.call_is, way-on posted w v it b c j k has vis one filed begun way, record { admitted = left.admitted; least = left.least }, told.1))
-  left-next is (next.Stopped e) answer was now left told begun way =
+      (left.call_is, way-on posted w v it b c j k has vis here filed begun way, record { admitted = left.admitted; least = left.least }, told.1))
+  left-next is brings (next.Stopped e) answer was now left told begun way =
       subst (λ (x : Step). StepLeft w.setup w.number b.stream it x begun k.entries was now) (sym told.0)
-      (left-stopped posted w v it b c j k has vis one filed begun way e left.0 left.1.same_journal, told.1)
+      (left-stopped posted w v it b c j k has vis here filed begun way (most_asked it) e (stops-free it j.entries here (brings-free it brings)) left.0 left.1.same_journal, told.1)
 
-  pub full-next : (ended : Next) (answer : Step) (was now : List ℕ) → NextLeft w.setup w.number it ended b c j k → StepAs ended answer k.entries was now → IsFullStep (without_journal k v) answer
-  full-next next.Done answer was now left told = subst (λ (x : Step). IsFullStep (without_journal k v) x) (sym told.1) tt
+  pub full-next : (ended : Next) (answer : Step) (was now : List ℕ) → NextLeft w.setup w.number it ended b c j k → StepAs ended answer k.entries was now → IsFullStep (without_journal k v) it answer
+  full-next next.Done answer was now left told = subst (λ (x : Step). IsFullStep (without_journal k v) it x) (sym told.1) tt
   full-next (next.Refused e) answer was now left told =
-      subst (λ (x : Step). IsFullStep (without_journal k v) x) (sym told.0) (full-refused posted w v it b c j k has vis one filed Returned e left)
-  full-next (next.WentOut again) answer was now left told = subst (λ (x : Step). IsFullStep (without_journal k v) x) (sym told.0) tt
-  full-next (next.Writes page again) answer was now left told = subst (λ (x : Step). IsFullStep (without_journal k v) x) (sym told.0) tt
-  full-next (next.Reads page again) answer was now left told = subst (λ (x : Step). IsFullStep (without_journal k v) x) (sym told.0) tt
+      subst (λ (x : Step). IsFullStep (without_journal k v) it x) (sym told.0) (full-refused posted w v it b c j k has vis here filed Returned (most_asked it) e left)
+  full-next (next.WentOut again) answer was now left told = subst (λ (x : Step). IsFullStep (without_journal k v) it x) (sym told.0) tt
+  full-next (next.Writes page again) answer was now left told = subst (λ (x : Step). IsFullStep (without_journal k v) it x) (sym told.0) tt
+  full-next (next.Reads page again) answer was now left told = subst (λ (x : Step). IsFullStep (without_journal k v) it x) (sym told.0) tt
   full-next (next.Stopped e) answer was now left told =
-      subst (λ (x : Step). IsFullStep (without_journal k v) x) (sym told.0)
-      (full-stop posted w v it b c j k has vis one filed Returned e left.0 left.1.same_journal (visited-next (next.Stopped e) left))
+      subst (λ (x : Step). IsFullStep (without_journal k v) it x) (sym told.0)
+      (full-stop posted w v it b c j k has vis here filed Returned (most_asked it) e left.0 left.1.same_journal (visited-next (next.Stopped e) left))

@@ -11,14 +11,14 @@ use Rattle.cc_effects.specs.Calls.{IsUnderWay}
 use Rattle.cc_model.specs.Acts.{file_of}
 use Rattle.cc_model.specs.Filing.{IsFiled}
 use Rattle.cc_model.specs.History.{history}
-use Rattle.cc_model.specs.Holds.{Hold}
+use Rattle.cc_model.specs.Holds.{Hold, holds_of}
 use Rattle.cc_model.specs.Ranges.{range_of}
 use Rattle.cc_model.specs.Refusals.{refusal}
 use Rattle.cc_model.specs.Residency.{is_resident}
 use Rattle.cc_model.specs.Setup.{Setup}
 use Rattle.cc_model.specs.Stamps.{is_unstamped}
 use Rattle.cc_model.specs.Touches.{is_dirty, size_of}
-use Rattle.cc_step.specs.Step.{least_absent}
+use Rattle.cc_step.specs.Step.{least_absent, most_asked}
 use Rattle.cc_turns.specs.Standing.{Standing}
 use Rattle.cc_turns.specs.Takes.{Grows}
 use Rattle.cc_visits.specs.Hands.{SameDisk, Went, WentWith}
@@ -31,6 +31,11 @@ use Rattle.cc_visits.specs.declared.visits.Step.TheVariants as step
 -- the call is filed under the stream, whatever holds are open
 abbrev pub IsOf : Call → ℕ → Type 0
 IsOf it s = (holds : List Hold) (pass : ℕ) → IsFiled holds pass (Some s) it (file_of it)
+
+-- The call is filed under the stream, as the pass has seen it: one that names a hold is filed where that hold is open
+-- there, was made by the pass, and serves.
+abbrev pub IsFiledNow : Standing → ℕ → Call → Type 0
+IsFiledNow w s it = IsFiled (holds_of (history w.seen s)) w.number (Some s) it (file_of it)
 
 -- Nothing refuses a call, and this is the least page that it needs and that is not resident.
 pub record IsWaitedFor (u : Setup) (s : ℕ) (it : Call) (page : ℕ) (past : List Entry) : Type 0 where
@@ -59,14 +64,15 @@ StepLeft u me s it (step.Writes page again) old new was now =
 StepLeft u me s it (step.Reads page again) old new was now =
     (again ≡ it) × IsUnderWay me it old new × IsWaitedFor u s it page new × (now ≡ was)
 
--- an attempt that stopped for want of room, or ended otherwise
-abbrev pub IsFullTried : Standing → Tried → Type 0
-IsFullTried w (tried.Ended answer) = IsFull 1 w answer
-IsFullTried w (tried.Waits page again) = Unit {0}
+-- an attempt at a call that stopped for want of room, or ended otherwise
+abbrev pub IsFullTried : Standing → Call → Tried → Type 0
+IsFullTried w it (tried.Ended answer) = IsFull (most_asked it) w answer
+IsFullTried w it (tried.Waits page again) = Unit {0}
 
-abbrev pub IsFullStep : Standing → Step → Type 0
-IsFullStep w (step.Ended answer) = IsFull 1 w answer
-IsFullStep w other = Unit {0}
+-- the same of a step of a call that may bring pages in, each of which asks a place too
+abbrev pub IsFullStep : Standing → Call → Step → Type 0
+IsFullStep w it (step.Ended answer) = IsFull (most_asked it) w answer
+IsFullStep w it other = Unit {0}
 
 -- The pass goes on as it stood; with a page that is to be read it has a place reserved for the entry.
 abbrev pub StepWent : Step → Standing → Standing → Type 0

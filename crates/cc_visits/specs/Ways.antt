@@ -65,11 +65,14 @@ pub record IsHalted (u : Setup) (me s : ℕ) (it : Call) (e : CcError) (old new 
   pub failed : HasFailed me (Calls it) fault old new
   pub admitted : WasAdmitted u it s old (failed.stopped.stopped.before ++ old)
 
--- what a caller is told of a reply: the bytes of a read, in the front of what it handed in, or the state of a stream
+-- what a caller is told of a reply: the bytes of a read, in the front of what it handed in, the id of a hold, the LSNs
+-- of a stream, or its state
 abbrev pub IsTold : Reply → Returned → List ℕ → List ℕ → Type 0
 IsTold (reply.Read bytes) told was now =
     (told ≡ returned.Bytes (length bytes)) × (take (length bytes) now ≡ bytes)
     × (drop (length bytes) now ≡ drop (length bytes) was)
+IsTold (reply.Hold id) told was now = (told ≡ returned.Hold id) × (now ≡ was)
+IsTold (reply.Lsns lsns) told was now = (told ≡ returned.Lsns lsns) × (now ≡ was)
 IsTold (reply.State state) told was now = (told ≡ returned.State state) × (now ≡ was)
 IsTold other told was now = (told ≡ returned.Nothing) × (now ≡ was)
 
@@ -82,6 +85,9 @@ EndedSo u me it (Err e) old new was now = CallLeft u me it (outcome.Failed e) ol
 -- What was handed in has room for what the call reads.
 abbrev pub FitsIn : Call → List ℕ → Type 0
 FitsIn (call.CopyRead file at len wait) out = len ≤ length out
+FitsIn (call.MappedRead hold at len) out = len ≤ length out
+FitsIn (call.PinnedRead hold at len) out = len ≤ length out
+FitsIn (call.MdlBytes hold at len) out = len ≤ length out
 FitsIn other out = Unit {0}
 
 -- Where a call finds the journal full, it has so many entries, and no room for so many more beside what is owed and

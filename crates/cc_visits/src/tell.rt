@@ -5,7 +5,7 @@ ghost use Rattle.std.specs.Option.{option_copied};
 ghost use Rattle.cc_visits.specs.Told.{FitsLast, FitsReply, ToldLast, reply_of};
 ghost use Rattle.cc_visits.specs.Ways.{IsTold};
 
-use cc_entry::{Bytes, Entry, FileState, Outcome, Reply};
+use cc_entry::{Bytes, Entry, FileState, Lsn, Outcome, Reply};
 use cc_journal::Journal;
 
 /// What a call that was done returns to its caller.
@@ -13,6 +13,10 @@ use cc_journal::Journal;
 pub enum Returned {
     /// So many bytes, which stand in the front of what the caller handed in.
     Bytes(usize),
+    /// The id of a hold.
+    Hold(u64),
+    /// The least and the greatest LSN stamped on dirty pages of a stream, where there is one.
+    Lsns(Option<(Lsn, Lsn)>),
     /// The sizes and the log of a stream.
     State(FileState),
     /// Nothing more.
@@ -53,6 +57,8 @@ fn told(reply: &Reply, out: &mut [u8]) -> Returned
 {
     match reply {
         Reply::Read(bytes) => Returned::Bytes(copy(bytes, out)),
+        Reply::Hold(id) => Returned::Hold(*id),
+        Reply::Lsns(lsns) => Returned::Lsns(*lsns),
         Reply::State(state) => Returned::State(*state),
         _ => Returned::Nothing,
     }

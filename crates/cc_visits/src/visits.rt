@@ -9,11 +9,11 @@ ghost use Rattle.cc_effects.specs.Calls.{CallLeft, IsUnderWay};
 ghost use Rattle.cc_effects.specs.Refusals.{may_refuse};
 ghost use Rattle.cc_fill.specs.Fill.{MayLand, LandLeft};
 ghost use Rattle.cc_model.specs.Setup.{Setup};
-ghost use Rattle.cc_step.specs.Step.{StandUnder, asks_one, is_stepped};
+ghost use Rattle.cc_step.specs.Step.{StandUnder, is_answered, is_stepped};
 ghost use Rattle.cc_visits.specs.Hands.{HasBook, IsAtRest, SameDisk, Went, WentWith};
 ghost use Rattle.cc_visits.specs.Told.{FitsNext, FitsStepped, StepAs, TriedAs, UnreadTold, answer_of};
 ghost use Rattle.cc_visits.specs.Ways.{FitsIn, IsFull, IsHalted, WasWanted};
-ghost use Rattle.cc_visits.specs.Visits.{IsOf, TriedLeft, StepLeft, StepWent, IsFullTried, IsFullStep, WasReadFor, UnreadPlaced, UnreadLeft};
+ghost use Rattle.cc_visits.specs.Visits.{IsFiledNow, IsOf, TriedLeft, StepLeft, StepWent, IsFullTried, IsFullStep, WasReadFor, UnreadPlaced, UnreadLeft};
 
 use crate::tell::{Returned, tell};
 use cc_book::Book;
@@ -57,8 +57,7 @@ pub fn attempt_at<T: Turns>(
     requires book { HasBook (T.standing turns.old) book.old.stream book.old }
     requires none { (T.standing turns.old).in_flight ≡ 0 }
     requires stepped { is_stepped call ≡ true }
-    requires one { asks_one call ≡ true }
-    requires filed { IsOf call book.old.stream }
+    requires filed { IsFiledNow (T.standing turns.old) book.old.stream call }
     requires fits { FitsIn call out.old }
     ensures book { HasBook (T.standing turns.new) book.old.stream book.new }
     ensures went { Went (T.standing turns.old) (T.standing turns.new) }
@@ -66,8 +65,10 @@ pub fn attempt_at<T: Turns>(
         IsUnderWay (T.standing turns.old).number call begun (T.standing turns.old).seen →
         TriedLeft (T.standing turns.old).setup (T.standing turns.old).number book.old.stream call result
         begun (T.standing turns.new).seen out.old out.new }
-    ensures full { IsFullTried (T.standing turns.new) result }
+    ensures full { IsFullTried (T.standing turns.new) call result }
 {
+    // The stream's number is what says that a set-dirty without room has its pin among the streams' holds.
+    let _stream = book.stream().number();
     let mut journal = turns.take_journal();
     let pass = turns.me();
     let ended = attempt(alloc, book, &mut journal, pass, call);
@@ -87,7 +88,7 @@ pub fn next_at<T: Turns>(
     requires book { HasBook (T.standing turns.old) book.old.stream book.old }
     requires rest { IsAtRest (T.standing turns.old) book.old.stream }
     requires none { (T.standing turns.old).in_flight ≡ 0 }
-    requires one { asks_one call ≡ true }
+    requires stepped { is_stepped call ≡ true }
     requires brings { brings_in call ≡ true }
     requires filed { IsOf call book.old.stream }
     requires fits { FitsIn call out.old }
@@ -99,7 +100,7 @@ pub fn next_at<T: Turns>(
         IsUnderWay (T.standing turns.old).number call begun (T.standing turns.old).seen →
         StepLeft (T.standing turns.old).setup (T.standing turns.old).number book.old.stream call result
         begun (T.standing turns.new).seen out.old out.new }
-    ensures full { IsFullStep (T.standing turns.new) result }
+    ensures full { IsFullStep (T.standing turns.new) call result }
 {
     let mut journal = turns.take_journal();
     let pass = turns.me();
@@ -123,7 +124,7 @@ pub fn land_at<T: Turns>(
     requires book { HasBook (T.standing turns.old) book.old.stream book.old }
     requires rest { IsAtRest (T.standing turns.old) book.old.stream }
     requires reserved { (T.standing turns.old).in_flight ≡ 1 }
-    requires one { asks_one call.now ≡ true }
+    requires stepped { is_stepped call.now ≡ true }
     requires brings { brings_in call.now ≡ true }
     requires filed { IsOf call.now book.old.stream }
     requires read { WasReadFor (T.standing turns.old) book.old.stream page (option_copied raw) }
@@ -176,7 +177,7 @@ pub fn fail_at<T: Turns>(
 ) -> CcError
     requires book { HasBook (T.standing turns.old) book.old.stream book.old }
     requires none { (T.standing turns.old).in_flight ≡ 0 }
-    requires one { asks_one call ≡ true }
+    requires answered { is_answered call ≡ true }
     requires listed { may_refuse call fault ≡ true }
     requires filed { IsOf call book.old.stream }
     requires halted { (begun : List Entry) × IsHalted (T.standing turns.old).setup (T.standing turns.old).number

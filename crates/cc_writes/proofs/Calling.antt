@@ -1,5 +1,5 @@
 -- A page was written for a call, or was not: what the call is then, and what it leaves.
-use Rattle.std.specs.Prelude.{◌≡◌, ℕ, Bool, true, Result, Ok, Err, List, refl}
+use Rattle.std.specs.Prelude.{◌≡◌, ℕ, Bool, true, false, Result, Ok, Err, List, refl}
 use Rattle.std.specs.declared.option.Option.TheVariants.{None}
 use Rattle.std.proofs.Common.{sym, ap, subst}
 use Rattle.std.proofs.lemmas.Bool.{eq-eqb}
@@ -15,11 +15,12 @@ use Rattle.cc_model.specs.Faults.{Fault, WriteFailed, LogFailed}
 use Rattle.cc_model.specs.History.{history}
 use Rattle.cc_model.specs.Refusals.{refusal}
 use Rattle.cc_model.specs.Setup.{Setup}
-use Rattle.cc_step.specs.Step.{asks_one}
+use Rattle.cc_step.specs.Step.{is_answered}
 use Rattle.cc_turns.specs.Standing.{Standing}
 use Rattle.cc_visits.specs.Hands.{WentWith}
 use Rattle.cc_visits.specs.Ways.{IsAtWork, HasFailed, IsHalted}
-use Rattle.cc_writes.specs.Calls.{PageLeft}
+use Rattle.cc_visits.proofs.Refusals.{may_be_reserved, tells-free}
+use Rattle.cc_writes.specs.Calls.{MayFaultInWriting, PageLeft}
 use Rattle.cc_writes.specs.Writes.{WriteLeft, WriteShown}
 use Rattle.cc_writes.specs.declared.writes.PageWrite.{PageWrite}
 use Rattle.cc_writes.specs.declared.writes.PageWrite.TheVariants as write
@@ -48,6 +49,10 @@ tells-disk it page = rw (eq-eqb page page refl) refl
 pub tells-log : (it : Call) (told handle : ℕ) → told ≡ handle → tells it (error.LogFault told) (LogFailed handle) ≡ true
 tells-log it told handle same = rw same (eq-eqb handle handle refl)
 
+-- a call that may fault in writing has no reserved entry
+faults-free : (it : Call) → MayFaultInWriting it → may_be_reserved it ≡ false
+faults-free it faults = tells-free it (error.WriteFault 0) (faults.disk 0) refl
+
 module _ (w v : Standing) (s page : ℕ) (it : Call)
     (admitted : refusal w.setup w.seen (history w.seen s) it ≡ None) (asked : may_write (Calls it) (record { stream = s; page = page }) w.seen ≡ true) where
   -- what it left of the call
@@ -64,8 +69,8 @@ module _ (w v : Standing) (s page : ℕ) (it : Call)
   pub not_logged : (handle : ℕ) → HasWritten w v s page (Ok (write.NotLogged handle)) → HasFailed w.number (Calls it) (LogFailed handle) w.seen v.seen
   not_logged handle left = of_call (Ok (write.NotLogged handle)) left w.seen (begins w.number it w.seen)
 
-  pub gave_up : (e : CcError) → asks_one it ≡ true → HasWritten w v s page (Err e) → (begun : List Entry) → IsUnderWay w.number it begun w.seen → PageLeft w.setup w.number it (Err e) begun v.seen
-  gave_up e one left begun is = given-up w.setup w.number it (record { stream = s; page = page }) e begun v.seen one (of_call (Err e) left begun is)
+  pub gave_up : (e : CcError) → is_answered it ≡ true → MayFaultInWriting it → HasWritten w v s page (Err e) → (begun : List Entry) → IsUnderWay w.number it begun w.seen → PageLeft w.setup w.number it (Err e) begun v.seen
+  gave_up e here faults left begun is = given-up w.setup w.number it (record { stream = s; page = page }) e begun v.seen here (faults-free it faults) (of_call (Err e) left begun is)
 
   -- a fault of the writing halted it
   module _ (flight n : ℕ) (went : WentWith flight w v) (same : n ≡ s) (e : CcError) (fault : Fault) (is : tells it e fault ≡ true)

@@ -1,5 +1,5 @@
 -- A call that is under way is halted by a fault, or given up.
-use Rattle.std.specs.Prelude.{◌≡◌, ℕ, true, Err, List, ◌++◌, refl}
+use Rattle.std.specs.Prelude.{◌≡◌, ℕ, true, false, Err, List, ◌++◌, refl}
 use Rattle.std.specs.declared.option.Option.TheVariants.{None}
 use Rattle.std.proofs.Common.{sym, ap, ◌∙◌, subst, inl, inr, append_assoc}
 use Rattle.cc_entry.specs.Place.{Page}
@@ -20,9 +20,9 @@ use Rattle.cc_model.specs.Faults.{Fault}
 use Rattle.cc_model.specs.History.{history}
 use Rattle.cc_model.specs.Refusals.{refusal}
 use Rattle.cc_model.specs.Setup.{Setup}
-use Rattle.cc_step.specs.Step.{asks_one}
+use Rattle.cc_step.specs.Step.{is_answered}
 use Rattle.cc_visits.specs.Ways.{IsAtWork, HasFailed, IsHalted}
-use Rattle.cc_visits.proofs.Refusals.{may-stop, may-want}
+use Rattle.cc_visits.proofs.Refusals.{may_be_reserved, may-stop, may-want}
 use Rattle.cc_writes.specs.Writes.{WantedMemory, WriteLeft}
 
 -- a call is work, and this work a call
@@ -65,27 +65,27 @@ halted-since u me s it e fault old mid new way admitted is failed = record {
   };
 }
 
--- a call is given up for want of memory, or of room
-pub no-memory : (me : ℕ) (it : Call) (old new : List Entry) → asks_one it ≡ true → IsUnderWay me it old new → IsUnplaced me it error.NoMemory old new
-no-memory me it old new one way = gives_up me it error.NoMemory old new way (may-stop it 0 one).1 (may-want it new one)
+-- a call whose entry was not reserved is given up for want of memory, or of room
+pub no-memory : (me : ℕ) (it : Call) (old new : List Entry) → is_answered it ≡ true → may_be_reserved it ≡ false → IsUnderWay me it old new → IsUnplaced me it error.NoMemory old new
+no-memory me it old new here free way = gives_up me it error.NoMemory old new way (may-stop it 0 here free).1 (may-want it new free)
 
-no-room : (me : ℕ) (it : Call) (entries : ℕ) (old new : List Entry) → asks_one it ≡ true → IsUnderWay me it old new → IsUnplaced me it (error.JournalFull entries) old new
-no-room me it entries old new one way = gives_up me it (error.JournalFull entries) old new way (may-stop it entries one).0 (may-want it new one)
+no-room : (me : ℕ) (it : Call) (entries : ℕ) (old new : List Entry) → is_answered it ≡ true → may_be_reserved it ≡ false → IsUnderWay me it old new → IsUnplaced me it (error.JournalFull entries) old new
+no-room me it entries old new here free way = gives_up me it (error.JournalFull entries) old new way (may-stop it entries here free).0 (may-want it new free)
 
 -- a transfer found no memory
-wanted-memory : (me : ℕ) (it : Call) (old new : List Entry) → asks_one it ≡ true → WantedMemory me (Calls it) old new → IsUnplaced me it error.NoMemory old new
-wanted-memory me it old new one left = record {
+wanted-memory : (me : ℕ) (it : Call) (old new : List Entry) → is_answered it ≡ true → may_be_reserved it ≡ false → WantedMemory me (Calls it) old new → IsUnplaced me it error.NoMemory old new
+wanted-memory me it old new here free left = record {
   during = left.stopped.during;
   grew = left.stopped.grew;
   works = left.stopped.works;
   came = inr (left.stop, left.stopped.stopped, refl);
-  listed = (may-stop it 0 one).1;
-  wants = rw left.stopped.grew (some-end (λ moment. may_want it moment ≡ true) left.stopped.during old (may-want it (left.stopped.during ++ old) one));
+  listed = (may-stop it 0 here free).1;
+  wants = rw left.stopped.grew (some-end (λ moment. may_want it moment ≡ true) left.stopped.during old (may-want it (left.stopped.during ++ old) free));
 }
 
 -- the page was not written, for want of room or of memory: the call is given up
-pub given-up : (u : Setup) (me : ℕ) (it : Call) (page : Page) (e : CcError) (old new : List Entry) → asks_one it ≡ true → WriteLeft me (Calls it) page (Err e) old new → CallLeft u me it (outcome.Failed e) old new
-given-up u me it page (error.JournalFull entries) old new one left = no-room me it entries old new one (under-way me it old new left)
-given-up u me it page error.NoMemory old new one (inl left) = no-memory me it old new one (under-way me it old new left)
-given-up u me it page error.NoMemory old new one (inr left) = wanted-memory me it old new one left
-given-up u me it page other old new one left = absurd left
+pub given-up : (u : Setup) (me : ℕ) (it : Call) (page : Page) (e : CcError) (old new : List Entry) → is_answered it ≡ true → may_be_reserved it ≡ false → WriteLeft me (Calls it) page (Err e) old new → CallLeft u me it (outcome.Failed e) old new
+given-up u me it page (error.JournalFull entries) old new here free left = no-room me it entries old new here free (under-way me it old new left)
+given-up u me it page error.NoMemory old new here free (inl left) = no-memory me it old new here free (under-way me it old new left)
+given-up u me it page error.NoMemory old new here free (inr left) = wanted-memory me it old new here free left
+given-up u me it page other old new here free left = absurd left

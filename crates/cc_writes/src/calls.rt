@@ -8,7 +8,7 @@ ghost use Rattle.cc_effects.specs.Calls.{IsUnderWay};
 ghost use Rattle.cc_effects.specs.Refusals.{may_refuse};
 ghost use Rattle.cc_model.specs.History.{history};
 ghost use Rattle.cc_model.specs.Refusals.{refusal};
-ghost use Rattle.cc_step.specs.Step.{asks_one};
+ghost use Rattle.cc_step.specs.Step.{is_answered};
 ghost use Rattle.cc_visits.specs.Hands.{HasBook, IsAtRest, SameDisk, Went};
 ghost use Rattle.cc_visits.specs.Ways.{IsFull, IsHalted};
 ghost use Rattle.cc_visits.specs.Visits.{IsOf};
@@ -35,7 +35,7 @@ pub fn write_for<T: Turns>(
     requires known { book.stream < (T.standing turns.old).streams }
     requires both { HasBoth T.Disk.told T.Disk.faults (T.standing turns.old) book.stream book disk.old }
     requires none { (T.standing turns.old).in_flight ≡ 0 }
-    requires one { asks_one call ≡ true }
+    requires answered { is_answered call ≡ true }
     requires faults { MayFaultInWriting call }
     requires filed { IsOf call book.stream }
     requires admitted { refusal (T.standing turns.old).setup (T.standing turns.old).seen
@@ -76,7 +76,7 @@ pub fn fail<T: Turns>(
     requires book { HasBook (T.standing turns.old) book.stream book }
     requires rest { IsAtRest (T.standing turns.old) book.stream }
     requires none { (T.standing turns.old).in_flight ≡ 0 }
-    requires one { asks_one call ≡ true }
+    requires answered { is_answered call ≡ true }
     requires listed { may_refuse call fault ≡ true }
     requires filed { IsOf call book.stream }
     requires halted { (begun : List Entry) × IsHalted (T.standing turns.old).setup (T.standing turns.old).number

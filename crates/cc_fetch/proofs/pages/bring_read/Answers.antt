@@ -17,7 +17,7 @@ unread-requires-clause-wanted g c κs within =
     let v = g.T.Turns.standing c.read_page-book.new.turns in
     subst (λ (n : ℕ). IsWanted v n c.args.call c.args.page) (sym c.read_page-book.ensures.both.book.stream)
     (is_wanted w.in_flight w v c.args.book.stream c.args.page c.args.call c.read_page-book.ensures.went c.read_page-book.ensures.idle
-    c.requires.one c.requires.brings c.requires.filed c.requires.waited)
+    c.requires.stepped c.requires.brings c.requires.filed c.requires.waited)
 
 pub returns-in-Ok-clause-both : goal.returns-in-Ok-clause-both
 returns-in-Ok-clause-both g c =
@@ -47,7 +47,7 @@ returns-in-Err-Failed-clause-left g c =
     let v = g.T.Turns.standing c.read_page-book.new.turns in
     let new = (g.T.Turns.standing c.unread.new.turns).seen in
     left_wanted w.in_flight w v c.args.book.stream c.args.page c.args.call c.read_page-book.ensures.went c.read_page-book.ensures.idle
-    c.requires.one c.requires.brings c.requires.filed c.requires.waited c.unread.result.1 new
+    c.requires.stepped c.requires.brings c.requires.filed c.requires.waited c.unread.result.1 new
     (subst (λ (n : ℕ). (begun : List Entry) → IsUnderWay v.number c.args.call begun v.seen → WasWanted v.setup c.args.call (record { stream = n; page = c.args.page }) begun v.seen → PageLeft v.setup v.number c.args.call c.unread.result.1 begun new)
     c.read_page-book.ensures.both.book.stream c.unread.ensures.left)
 

@@ -1,13 +1,15 @@
-use Rattle.std.specs.Prelude.{◌≡◌, ℕ, ◌+◌, ◌<◌, nat_lt, Bool, true, List, length, min, Option, Some}
+use Rattle.std.specs.Prelude.{◌≡◌, ℕ, ◌+◌, ◌<◌, nat_lt, Bool, true, List, length, min, Option, None, Some, refl}
 use Rattle.std.proofs.Common.{ap, sym, ◌∙◌, subst}
 use Rattle.std.proofs.lemmas.Bool.{and_parts, ltb-true}
 use Rattle.cc_entry.specs.Pages.{has_page, whole_range}
 use Rattle.cc_entry.specs.Place.{File, Range}
+use Rattle.cc_entry.specs.declared.call.Call.{Call}
 use Rattle.cc_entry.specs.declared.call.Call.TheVariants as call
 use Rattle.cc_entry.specs.declared.entry.Entry.{Entry}
 use Rattle.cc_laws.proofs.UnrefusedCalls.{unrefused}
 use Rattle.cc_model.specs.History.{history}
-use Rattle.cc_model.specs.Ranges.{cut_range}
+use Rattle.cc_model.specs.Ranges.{cut_range, range_of}
+use Rattle.cc_model.specs.Reasons.{past_size}
 use Rattle.cc_model.specs.Setup.{Setup}
 use Rattle.cc_model.specs.Touches.{size_of}
 use Rattle.cc_step.proofs.Within.{whole-cut}
@@ -35,6 +37,15 @@ read u past s file at len wait page o waits found =
     let n = needs u past s (call.CopyRead file at len wait) page waits in
     found (in-order (cut_range (size_of (history past s)) at len) n.range page n.range_is n.has)
 
+-- the range of a call that is whole
+whole : (u : Setup) (past : List Entry) (s : ℕ) (it : Call) (at n page : ℕ) (o : Option Range) → range_of (size_of (history past s)) it ≡ Some (whole_range at n) → past_size (size_of (history past s)) (at + n) ≡ None → IsWaiting u past s it page → (at < min (at + n) (size_of (history past s)) → o ≡ Some (cut_range (size_of (history past s)) at n)) → o ≡ range_of (size_of (history past s)) it
+whole u past s it at n page o is within waits found =
+    let size = size_of (history past s) in
+    let needed = needs u past s it page waits in
+    let same : cut_range size at n ≡ whole_range at n = whole-cut size at n within in
+    let order = in-order (whole_range at n) needed.range page (sym is ∙ needed.range_is) needed.has in
+    found (subst (λ (r : Range). r.from < r.to) (sym same) order) ∙ (ap (λ (r : Range). Some r) same ∙ sym is)
+
 pub returns-in-CopyWrite : goal.returns-in-CopyWrite
 returns-in-CopyWrite c u opening past page stands waits =
     let s = c.args.book.now.stream in
@@ -49,3 +60,48 @@ returns-in-CopyRead c u opening past page stands waits =
     rw c.in-CopyRead.is
     (read u past s c.in-CopyRead.file c.in-CopyRead.at c.in-CopyRead.len c.in-CopyRead.wait page c.span_below-in-CopyRead.result (rw c.in-CopyRead.is at waits)
     (c.span_below-in-CopyRead.ensures opening past stands))
+
+pub returns-in-Map : goal.returns-in-Map
+returns-in-Map c u opening past page stands waits =
+    let s = c.args.book.now.stream in
+    let it = call.Map c.in-Map.file c.in-Map.at c.in-Map.len in
+    let waiting : IsWaiting u past s it page = rw c.in-Map.is at waits in
+    rw c.in-Map.is
+    (whole u past s it c.in-Map.at c.in-Map.len page c.span_below-in-Map.result refl (unrefused u past (history past s) it waiting.admitted).within_size waiting
+    (c.span_below-in-Map.ensures opening past stands))
+
+pub returns-in-PinRead : goal.returns-in-PinRead
+returns-in-PinRead c u opening past page stands waits =
+    let s = c.args.book.now.stream in
+    let it = call.PinRead c.in-PinRead.file c.in-PinRead.at c.in-PinRead.len c.in-PinRead.exclusive in
+    let waiting : IsWaiting u past s it page = rw c.in-PinRead.is at waits in
+    rw c.in-PinRead.is
+    (whole u past s it c.in-PinRead.at c.in-PinRead.len page c.span_below-in-PinRead.result refl (unrefused u past (history past s) it waiting.admitted).within_size waiting
+    (c.span_below-in-PinRead.ensures opening past stands))
+
+pub returns-in-PreparePin : goal.returns-in-PreparePin
+returns-in-PreparePin c u opening past page stands waits =
+    let s = c.args.book.now.stream in
+    let it = call.PreparePin c.in-PreparePin.file c.in-PreparePin.at c.in-PreparePin.len c.in-PreparePin.zero c.in-PreparePin.exclusive in
+    let waiting : IsWaiting u past s it page = rw c.in-PreparePin.is at waits in
+    rw c.in-PreparePin.is
+    (whole u past s it c.in-PreparePin.at c.in-PreparePin.len page c.span_below-in-PreparePin.result refl (unrefused u past (history past s) it waiting.admitted).within_size waiting
+    (c.span_below-in-PreparePin.ensures opening past stands))
+
+pub returns-in-MdlRead : goal.returns-in-MdlRead
+returns-in-MdlRead c u opening past page stands waits =
+    let s = c.args.book.now.stream in
+    let it = call.MdlRead c.in-MdlRead.file c.in-MdlRead.at c.in-MdlRead.len in
+    let waiting : IsWaiting u past s it page = rw c.in-MdlRead.is at waits in
+    rw c.in-MdlRead.is
+    (whole u past s it c.in-MdlRead.at c.in-MdlRead.len page c.span_below-in-MdlRead.result refl (unrefused u past (history past s) it waiting.admitted).within_size waiting
+    (c.span_below-in-MdlRead.ensures opening past stands))
+
+pub returns-in-MdlWrite : goal.returns-in-MdlWrite
+returns-in-MdlWrite c u opening past page stands waits =
+    let s = c.args.book.now.stream in
+    let it = call.MdlWrite c.in-MdlWrite.file c.in-MdlWrite.at c.in-MdlWrite.len in
+    let waiting : IsWaiting u past s it page = rw c.in-MdlWrite.is at waits in
+    rw c.in-MdlWrite.is
+    (whole u past s it c.in-MdlWrite.at c.in-MdlWrite.len page c.span_below-in-MdlWrite.result refl (unrefused u past (history past s) it waiting.admitted).within_size waiting
+    (c.span_below-in-MdlWrite.ensures opening past stands))

@@ -1,6 +1,25 @@
-use Rattle.std.proofs.Common.{ap}
+use Rattle.std.proofs.Common.{ap, inl, inr}
+use Rattle.cc_entry.specs.Kinds.{is_map, is_pin, is_read_chain}
 use Rattle.cc_entry.specs.declared.reply.Reply.TheVariants as reply
+use Rattle.cc_own.proofs.HeldPages.{served-resident}
+use Rattle.cc_step.proofs.Placed.{so-far}
 use Rattle.cc_step.proofs.replies.reply.Goals as goal
+
+-- a read from the file has its range filled; one through a hold has it resident, since the hold is open
+pub returns-in_ok-read-in-CopyRead : goal.returns-in_ok-read-in-CopyRead
+returns-in_ok-read-in-CopyRead g c u pass stand filed ready =
+    let s = c.args.book.now.stream in
+    let past = c.args.journal.now.entries in
+    let at = c.in-CopyRead.at in
+    let len = c.in-CopyRead.len in
+    let good = so-far u past stand.good in
+    let reads = c.in_ok-read-in-CopyRead.ensures (u.opening s) past stand.stands in
+    elim c.in-CopyRead.is [
+      | inl file ↦ rw file.2 (reads (rw file.2 at ready.filled))
+      | inr (inl map) ↦ rw map.1 (reads (served-resident u pass s map.0 is_map at len past good (rw map.1 at filed)))
+      | inr (inr (inl pin)) ↦ rw pin.1 (reads (served-resident u pass s pin.0 is_pin at len past good (rw pin.1 at filed)))
+      | inr (inr (inr chain)) ↦ rw chain.1 (reads (served-resident u pass s chain.0 is_read_chain at len past good (rw chain.1 at filed)))
+    ]
 
 pub returns-in-State : goal.returns-in-State
 returns-in-State g c u pass stand filed ready =

@@ -1,38 +1,26 @@
-use Rattle.std.specs.Prelude.{◌≡◌, ℕ, ◌+◌, ◌≤◌, false}
-use Rattle.std.proofs.Common.{sym, ◌∙◌, subst, arith}
-use Rattle.cc_journal.specs.Journal.{JournalState}
-use Rattle.cc_step.specs.Step.{MayStep, StepLeft, AttemptLeft, has_placed}
-use Rattle.cc_step.proofs.Attempts.{reserving, may-reserving, placed-attempt, left-attempt, one-reserved}
+use Rattle.std.specs.Prelude.{◌≡◌, ℕ, suc, ◌-◌}
+use Rattle.std.proofs.Common.{sym, ◌∙◌, arith}
 use Rattle.cc_step.proofs.steps.attempt.Goals as goal
 
-pub release-requires : goal.release-requires
-release-requires g c =
+from-one : (asked n : ℕ) → n ≡ asked → (n ≡ 0 → ⊥) → asked ≡ suc (n - 1)
+from-one asked n is some = omega (arith, is, some)
+
+pub place_reserved-requires-clause-may : goal.place_reserved-requires-clause-may
+place_reserved-requires-clause-may g c =
     let u = c.requires.may.0 in
-    let reserved = c.in-Ok.ensures.reserved in
-    let left : StepLeft u c.args.pass c.args.call c.step-ended.result c.args.book.now c.step-ended.new.book (reserving c.args.journal.now) c.step-ended.new.journal =
-    subst (λ (j : JournalState g.row.Q.Denot). StepLeft u c.args.pass c.args.call c.step-ended.result c.args.book.now c.step-ended.new.book j c.step-ended.new.journal) reserved
-    (c.step-ended.ensures u (subst (λ (j : JournalState g.row.Q.Denot). MayStep u c.args.pass c.args.call c.args.book.now j) (sym reserved) (may-reserving u c.args.pass c.args.call c.args.book.now c.args.journal.now c.requires.may.1))) in
-    let away : has_placed c.step-ended.result ≡ false = sym c.has_placed.ensures ∙ c.if-not-has_placed.true in
-    one-more c.step-ended.new.journal.reserved c.args.journal.now.reserved (one-reserved u c.args.pass c.args.call c.step-ended.result c.args.book.now c.step-ended.new.book c.args.journal.now c.step-ended.new.journal away left)
-  where
-    one-more : (n m : ℕ) → n ≡ m + 1 → 1 ≤ n
-    one-more n m is = omega (arith, is)
+    let may = c.requires.may.1 in
+    (u, may, sym (c.places_asked-asked.ensures (u.opening c.args.book.now.stream) c.args.journal.now.entries may.stand.stands) ∙ c.if-asked-eq0.true)
 
-pub returns-then-not-has_placed : goal.returns-then-not-has_placed
-returns-then-not-has_placed g c u may =
-    let reserved = c.in-Ok.ensures.reserved in
-    let left : StepLeft u c.args.pass c.args.call c.step-ended.result c.args.book.now c.step-ended.new.book (reserving c.args.journal.now) c.step-ended.new.journal =
-    subst (λ (j : JournalState g.row.Q.Denot). StepLeft u c.args.pass c.args.call c.step-ended.result c.args.book.now c.step-ended.new.book j c.step-ended.new.journal) reserved
-    (c.step-ended.ensures u (subst (λ (j : JournalState g.row.Q.Denot). MayStep u c.args.pass c.args.call c.args.book.now j) (sym reserved) (may-reserving u c.args.pass c.args.call c.args.book.now c.args.journal.now may))) in
-    let away : has_placed c.step-ended.result ≡ false = sym c.has_placed.ensures ∙ c.if-not-has_placed.true in
-    subst (λ (k : JournalState g.row.Q.Denot). AttemptLeft u c.args.pass c.args.call c.step-ended.result c.args.book.now c.step-ended.new.book c.args.journal.now k) (sym c.release.ensures)
-    (left-attempt u c.args.pass c.args.call c.step-ended.result c.args.book.now c.step-ended.new.book c.args.journal.now c.step-ended.new.journal away left)
+pub place_new-requires-clause-may : goal.place_new-requires-clause-may
+place_new-requires-clause-may g c =
+    let u = c.requires.may.0 in
+    let may = c.requires.may.1 in
+    (u, may, from-one _ _ (c.places_asked-asked.ensures (u.opening c.args.book.now.stream) c.args.journal.now.entries may.stand.stands) c.if-asked-eq0.false)
 
-pub returns-else-not-has_placed : goal.returns-else-not-has_placed
-returns-else-not-has_placed g c u may =
-    let reserved = c.in-Ok.ensures.reserved in
-    let left : StepLeft u c.args.pass c.args.call c.step-ended.result c.args.book.now c.step-ended.new.book (reserving c.args.journal.now) c.step-ended.new.journal =
-    subst (λ (j : JournalState g.row.Q.Denot). StepLeft u c.args.pass c.args.call c.step-ended.result c.args.book.now c.step-ended.new.book j c.step-ended.new.journal) reserved
-    (c.step-ended.ensures u (subst (λ (j : JournalState g.row.Q.Denot). MayStep u c.args.pass c.args.call c.args.book.now j) (sym reserved) (may-reserving u c.args.pass c.args.call c.args.book.now c.args.journal.now may))) in
-    placed-attempt u c.args.pass c.args.call c.step-ended.result c.args.book.now c.step-ended.new.book c.args.journal.now c.step-ended.new.journal
-    (sym c.has_placed.ensures ∙ c.if-not-has_placed.false) left
+pub returns-then-asked-eq0 : goal.returns-then-asked-eq0
+returns-then-asked-eq0 g c u may =
+    c.place_reserved.ensures u may (sym (c.places_asked-asked.ensures (u.opening c.args.book.now.stream) c.args.journal.now.entries may.stand.stands) ∙ c.if-asked-eq0.true)
+
+pub returns-else-asked-eq0 : goal.returns-else-asked-eq0
+returns-else-asked-eq0 g c u may =
+    c.place_new.ensures u may (from-one _ _ (c.places_asked-asked.ensures (u.opening c.args.book.now.stream) c.args.journal.now.entries may.stand.stands) c.if-asked-eq0.false)

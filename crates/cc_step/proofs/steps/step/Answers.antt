@@ -1,5 +1,5 @@
 use Rattle.std.proofs.Common.{ap, sym, ◌∙◌}
-use Rattle.cc_step.proofs.Failing.{stepped-fails}
+use Rattle.cc_step.proofs.Failing.{stepped-answered}
 use Rattle.cc_step.proofs.Placed.{good-failed, so-far}
 use Rattle.cc_step.proofs.steps.step.Goals as goal
 
@@ -19,13 +19,13 @@ fail-requires-clause-may g c =
     let u = c.requires.may.0 in
     let may = c.requires.may.1 in
     let reason = sym (c.in-Ok-Some.ensures u (u.opening c.args.book.now.stream) may.stand.logs_are may.stand.stands) ∙ c.in-Ok-Some.field-0-is in
-    (u, so-far u _ (good-failed u c.args.journal.now.entries c.args.pass c.args.book.now.stream c.args.call c.in-Ok-Some.error (stepped-fails c.args.call c.requires.stepped) may.stand.good may.filed reason), may.stand.stands)
+    (u, so-far u _ (good-failed u c.args.journal.now.entries c.args.pass c.args.book.now.stream c.args.call c.in-Ok-Some.error (stepped-answered c.args.call c.requires.stepped) may.stand.good may.filed reason), may.stand.stands)
 
 pub returns-in-Ok-Some : goal.returns-in-Ok-Some
 returns-in-Ok-Some g c u may =
     let past = c.args.journal.now.entries in
     let reason = sym (c.in-Ok-Some.ensures u (u.opening c.args.book.now.stream) may.stand.logs_are may.stand.stands) ∙ c.in-Ok-Some.field-0-is in
-    let good = good-failed u past c.args.pass c.args.book.now.stream c.args.call c.in-Ok-Some.error (stepped-fails c.args.call c.requires.stepped) may.stand.good may.filed reason in
+    let good = good-failed u past c.args.pass c.args.book.now.stream c.args.call c.in-Ok-Some.error (stepped-answered c.args.call c.requires.stepped) may.stand.good may.filed reason in
     let placed = c.fail.ensures.placed in
     record {
       reason = reason;

@@ -8,6 +8,7 @@ use Rattle.cc_visits.specs.Hands.{HasBook, SameDisk, WentWith}
 use Rattle.cc_visits.specs.Told.{answer_of}
 use Rattle.cc_visits.specs.Ways.{IsFull}
 use Rattle.cc_visits.proofs.Failing.{is-fault, fail-as, has-failed, visited-fail, disk-fail, left-fail, full-fail}
+use Rattle.cc_visits.proofs.Resting.{filed-now}
 use Rattle.cc_visits.proofs.Visiting.{few-left, visiting}
 use Rattle.cc_visits.proofs.visits.fail_at.Goals as goal
 
@@ -19,7 +20,7 @@ fail-ended-requires-clause-fault g c =
     let b = c.args.book.now in
     let j = c.take_journal-journal.result in
     let vis = visiting posted w v b.stream b j c.requires.book c.take_journal-journal.ensures.took c.take_journal-journal.ensures.stands in
-    is-fault posted w v c.args.call b b j j c.requires.book vis c.requires.one c.requires.filed c.args.fault c.requires.listed c.requires.halted.0 c.requires.halted.1
+    is-fault posted w v c.args.call b b j j c.requires.book vis c.requires.answered (filed-now w b.stream c.args.call c.requires.filed) c.args.fault c.requires.listed c.requires.halted.0 c.requires.halted.1
 
 pub fail-ended-requires-clause-may : goal.fail-ended-requires-clause-may
 fail-ended-requires-clause-may g c =
@@ -29,7 +30,7 @@ fail-ended-requires-clause-may g c =
     let b = c.args.book.now in
     let j = c.take_journal-journal.result in
     let vis = visiting posted w v b.stream b j c.requires.book c.take_journal-journal.ensures.took c.take_journal-journal.ensures.stands in
-    (w.setup, fail-as posted w v c.args.call b b j j c.requires.book vis c.requires.one c.requires.filed c.args.fault c.requires.listed c.requires.halted.0 c.requires.halted.1 c.me-pass.result c.me-pass.ensures)
+    (w.setup, fail-as posted w v c.args.call b b j j c.requires.book vis c.requires.answered (filed-now w b.stream c.args.call c.requires.filed) c.args.fault c.requires.listed c.requires.halted.0 c.requires.halted.1 c.me-pass.result c.me-pass.ensures)
 
 pub give_journal-requires-clause-adds : goal.give_journal-requires-clause-adds
 give_journal-requires-clause-adds g c =
@@ -41,8 +42,8 @@ give_journal-requires-clause-adds g c =
     let vis = visiting posted w v b.stream b j c.requires.book c.take_journal-journal.ensures.took c.take_journal-journal.ensures.stands in
     let n = c.fail-ended.new.book in
     let k = c.fail-ended.new.journal in
-    let left = has-failed posted w v c.args.call b n j k c.requires.book vis c.requires.one c.requires.filed c.args.fault c.requires.listed c.requires.halted.0 c.requires.halted.1 c.me-pass.result c.fail-ended.result c.me-pass.ensures c.fail-ended.ensures in
-    let given = visited-fail posted w v c.args.call b n j k c.requires.book vis c.requires.one c.requires.filed c.args.fault c.requires.listed c.requires.halted.0 c.requires.halted.1 c.fail-ended.result left in
+    let left = has-failed posted w v c.args.call b n j k c.requires.book vis c.requires.answered (filed-now w b.stream c.args.call c.requires.filed) c.args.fault c.requires.listed c.requires.halted.0 c.requires.halted.1 c.me-pass.result c.fail-ended.result c.me-pass.ensures c.fail-ended.ensures in
+    let given = visited-fail posted w v c.args.call b n j k c.requires.book vis c.requires.answered (filed-now w b.stream c.args.call c.requires.filed) c.args.fault c.requires.listed c.requires.halted.0 c.requires.halted.1 c.fail-ended.result left in
     given.adds
 
 pub give_journal-requires-clause-stands : goal.give_journal-requires-clause-stands
@@ -55,8 +56,8 @@ give_journal-requires-clause-stands g c =
     let vis = visiting posted w v b.stream b j c.requires.book c.take_journal-journal.ensures.took c.take_journal-journal.ensures.stands in
     let n = c.fail-ended.new.book in
     let k = c.fail-ended.new.journal in
-    let left = has-failed posted w v c.args.call b n j k c.requires.book vis c.requires.one c.requires.filed c.args.fault c.requires.listed c.requires.halted.0 c.requires.halted.1 c.me-pass.result c.fail-ended.result c.me-pass.ensures c.fail-ended.ensures in
-    let given = visited-fail posted w v c.args.call b n j k c.requires.book vis c.requires.one c.requires.filed c.args.fault c.requires.listed c.requires.halted.0 c.requires.halted.1 c.fail-ended.result left in
+    let left = has-failed posted w v c.args.call b n j k c.requires.book vis c.requires.answered (filed-now w b.stream c.args.call c.requires.filed) c.args.fault c.requires.listed c.requires.halted.0 c.requires.halted.1 c.me-pass.result c.fail-ended.result c.me-pass.ensures c.fail-ended.ensures in
+    let given = visited-fail posted w v c.args.call b n j k c.requires.book vis c.requires.answered (filed-now w b.stream c.args.call c.requires.filed) c.args.fault c.requires.listed c.requires.halted.0 c.requires.halted.1 c.fail-ended.result left in
     given.journal
 
 pub give_journal-requires-clause-few : goal.give_journal-requires-clause-few
@@ -69,8 +70,8 @@ give_journal-requires-clause-few g c =
     let vis = visiting posted w v b.stream b j c.requires.book c.take_journal-journal.ensures.took c.take_journal-journal.ensures.stands in
     let n = c.fail-ended.new.book in
     let k = c.fail-ended.new.journal in
-    let left = has-failed posted w v c.args.call b n j k c.requires.book vis c.requires.one c.requires.filed c.args.fault c.requires.listed c.requires.halted.0 c.requires.halted.1 c.me-pass.result c.fail-ended.result c.me-pass.ensures c.fail-ended.ensures in
-    let given = visited-fail posted w v c.args.call b n j k c.requires.book vis c.requires.one c.requires.filed c.args.fault c.requires.listed c.requires.halted.0 c.requires.halted.1 c.fail-ended.result left in
+    let left = has-failed posted w v c.args.call b n j k c.requires.book vis c.requires.answered (filed-now w b.stream c.args.call c.requires.filed) c.args.fault c.requires.listed c.requires.halted.0 c.requires.halted.1 c.me-pass.result c.fail-ended.result c.me-pass.ensures c.fail-ended.ensures in
+    let given = visited-fail posted w v c.args.call b n j k c.requires.book vis c.requires.answered (filed-now w b.stream c.args.call c.requires.filed) c.args.fault c.requires.listed c.requires.halted.0 c.requires.halted.1 c.fail-ended.result left in
     few-left w.in_flight given.went (omega (arith, c.requires.none))
 
 pub returns-clause-book : goal.returns-clause-book
@@ -83,8 +84,8 @@ returns-clause-book g c =
     let vis = visiting posted w v b.stream b j c.requires.book c.take_journal-journal.ensures.took c.take_journal-journal.ensures.stands in
     let n = c.fail-ended.new.book in
     let k = c.fail-ended.new.journal in
-    let left = has-failed posted w v c.args.call b n j k c.requires.book vis c.requires.one c.requires.filed c.args.fault c.requires.listed c.requires.halted.0 c.requires.halted.1 c.me-pass.result c.fail-ended.result c.me-pass.ensures c.fail-ended.ensures in
-    let given = visited-fail posted w v c.args.call b n j k c.requires.book vis c.requires.one c.requires.filed c.args.fault c.requires.listed c.requires.halted.0 c.requires.halted.1 c.fail-ended.result left in
+    let left = has-failed posted w v c.args.call b n j k c.requires.book vis c.requires.answered (filed-now w b.stream c.args.call c.requires.filed) c.args.fault c.requires.listed c.requires.halted.0 c.requires.halted.1 c.me-pass.result c.fail-ended.result c.me-pass.ensures c.fail-ended.ensures in
+    let given = visited-fail posted w v c.args.call b n j k c.requires.book vis c.requires.answered (filed-now w b.stream c.args.call c.requires.filed) c.args.fault c.requires.listed c.requires.halted.0 c.requires.halted.1 c.fail-ended.result left in
     subst (λ (x : Standing). HasBook x b.stream n) (sym c.give_journal.ensures) given.book
 
 pub returns-clause-went : goal.returns-clause-went
@@ -97,8 +98,8 @@ returns-clause-went g c =
     let vis = visiting posted w v b.stream b j c.requires.book c.take_journal-journal.ensures.took c.take_journal-journal.ensures.stands in
     let n = c.fail-ended.new.book in
     let k = c.fail-ended.new.journal in
-    let left = has-failed posted w v c.args.call b n j k c.requires.book vis c.requires.one c.requires.filed c.args.fault c.requires.listed c.requires.halted.0 c.requires.halted.1 c.me-pass.result c.fail-ended.result c.me-pass.ensures c.fail-ended.ensures in
-    let given = visited-fail posted w v c.args.call b n j k c.requires.book vis c.requires.one c.requires.filed c.args.fault c.requires.listed c.requires.halted.0 c.requires.halted.1 c.fail-ended.result left in
+    let left = has-failed posted w v c.args.call b n j k c.requires.book vis c.requires.answered (filed-now w b.stream c.args.call c.requires.filed) c.args.fault c.requires.listed c.requires.halted.0 c.requires.halted.1 c.me-pass.result c.fail-ended.result c.me-pass.ensures c.fail-ended.ensures in
+    let given = visited-fail posted w v c.args.call b n j k c.requires.book vis c.requires.answered (filed-now w b.stream c.args.call c.requires.filed) c.args.fault c.requires.listed c.requires.halted.0 c.requires.halted.1 c.fail-ended.result left in
     subst (λ (x : Standing). WentWith w.in_flight w x) (sym c.give_journal.ensures) given.went
 
 pub returns-clause-disk : goal.returns-clause-disk
@@ -111,8 +112,8 @@ returns-clause-disk g c device =
     let vis = visiting posted w v b.stream b j c.requires.book c.take_journal-journal.ensures.took c.take_journal-journal.ensures.stands in
     let n = c.fail-ended.new.book in
     let k = c.fail-ended.new.journal in
-    let left = has-failed posted w v c.args.call b n j k c.requires.book vis c.requires.one c.requires.filed c.args.fault c.requires.listed c.requires.halted.0 c.requires.halted.1 c.me-pass.result c.fail-ended.result c.me-pass.ensures c.fail-ended.ensures in
-    subst (λ (x : Standing). SameDisk w.seen x.seen b.stream) (sym c.give_journal.ensures) (disk-fail posted w v c.args.call b n j k c.requires.book vis c.requires.one c.requires.filed c.args.fault c.requires.listed c.requires.halted.0 c.requires.halted.1 device c.fail-ended.result left)
+    let left = has-failed posted w v c.args.call b n j k c.requires.book vis c.requires.answered (filed-now w b.stream c.args.call c.requires.filed) c.args.fault c.requires.listed c.requires.halted.0 c.requires.halted.1 c.me-pass.result c.fail-ended.result c.me-pass.ensures c.fail-ended.ensures in
+    subst (λ (x : Standing). SameDisk w.seen x.seen b.stream) (sym c.give_journal.ensures) (disk-fail posted w v c.args.call b n j k c.requires.book vis c.requires.answered (filed-now w b.stream c.args.call c.requires.filed) c.args.fault c.requires.listed c.requires.halted.0 c.requires.halted.1 device c.fail-ended.result left)
 
 pub returns-clause-left : goal.returns-clause-left
 returns-clause-left g c begun halted =
@@ -124,8 +125,8 @@ returns-clause-left g c begun halted =
     let vis = visiting posted w v b.stream b j c.requires.book c.take_journal-journal.ensures.took c.take_journal-journal.ensures.stands in
     let n = c.fail-ended.new.book in
     let k = c.fail-ended.new.journal in
-    let left = has-failed posted w v c.args.call b n j k c.requires.book vis c.requires.one c.requires.filed c.args.fault c.requires.listed c.requires.halted.0 c.requires.halted.1 c.me-pass.result c.fail-ended.result c.me-pass.ensures c.fail-ended.ensures in
-    let ended = left-fail posted w v c.args.call b n j k c.requires.book vis c.requires.one c.requires.filed c.args.fault c.requires.listed c.requires.halted.0 c.requires.halted.1 begun halted c.fail-ended.result left in
+    let left = has-failed posted w v c.args.call b n j k c.requires.book vis c.requires.answered (filed-now w b.stream c.args.call c.requires.filed) c.args.fault c.requires.listed c.requires.halted.0 c.requires.halted.1 c.me-pass.result c.fail-ended.result c.me-pass.ensures c.fail-ended.ensures in
+    let ended = left-fail posted w v c.args.call b n j k c.requires.book vis c.requires.answered (filed-now w b.stream c.args.call c.requires.filed) c.args.fault c.requires.listed c.requires.halted.0 c.requires.halted.1 begun halted c.fail-ended.result left in
     subst (λ (e : CcError). CallLeft w.setup w.number c.args.call (outcome.Failed e) begun (g.T.Turns.standing c.give_journal.new.self).seen) (sym c.answer_of.ensures)
     (subst (λ (x : Standing). CallLeft w.setup w.number c.args.call (outcome.Failed (answer_of c.fail-ended.result c.args.fault)) begun x.seen) (sym c.give_journal.ensures) ended)
 
@@ -139,7 +140,7 @@ returns-clause-full g c =
     let vis = visiting posted w v b.stream b j c.requires.book c.take_journal-journal.ensures.took c.take_journal-journal.ensures.stands in
     let n = c.fail-ended.new.book in
     let k = c.fail-ended.new.journal in
-    let left = has-failed posted w v c.args.call b n j k c.requires.book vis c.requires.one c.requires.filed c.args.fault c.requires.listed c.requires.halted.0 c.requires.halted.1 c.me-pass.result c.fail-ended.result c.me-pass.ensures c.fail-ended.ensures in
-    let full = full-fail posted w v c.args.call b n j k c.requires.book vis c.requires.one c.requires.filed c.args.fault c.requires.listed c.requires.halted.0 c.requires.halted.1 c.fail-ended.result left in
+    let left = has-failed posted w v c.args.call b n j k c.requires.book vis c.requires.answered (filed-now w b.stream c.args.call c.requires.filed) c.args.fault c.requires.listed c.requires.halted.0 c.requires.halted.1 c.me-pass.result c.fail-ended.result c.me-pass.ensures c.fail-ended.ensures in
+    let full = full-fail posted w v c.args.call b n j k c.requires.book vis c.requires.answered (filed-now w b.stream c.args.call c.requires.filed) c.args.fault c.requires.listed c.requires.halted.0 c.requires.halted.1 c.fail-ended.result left in
     subst (λ (e : CcError). IsFull {A = Unit {0}} 1 (g.T.Turns.standing c.give_journal.new.self) (Err e)) (sym c.answer_of.ensures)
     (subst (λ (x : Standing). IsFull {A = Unit {0}} 1 x (Err (answer_of c.fail-ended.result c.args.fault))) (sym c.give_journal.ensures) full)

@@ -82,4 +82,4 @@ returns-in-Err-clause-left g c begun way =
     let w = g.T.Turns.standing c.args.turns.now in
     let v = g.T.Turns.standing c.write_page-book.new.turns in
     subst (λ (r : Result Call CcError). PageLeft w.setup w.number c.args.call r begun v.seen) (sym c.given_up.ensures)
-    (gave_up w v c.args.book.stream c.args.page c.args.call c.requires.admitted c.requires.asked c.in-Err.error c.requires.one (rw c.in-Err.is at c.write_page-book.ensures.left) begun way)
+    (gave_up w v c.args.book.stream c.args.page c.args.call c.requires.admitted c.requires.asked c.in-Err.error c.requires.answered c.requires.faults (rw c.in-Err.is at c.write_page-book.ensures.left) begun way)
