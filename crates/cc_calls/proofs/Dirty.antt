@@ -16,9 +16,9 @@ use Rattle.cc_model.specs.Cache.{all_streams, dirty_total, is_any_dirty}
 use Rattle.cc_model.specs.History.{history}
 use Rattle.cc_model.specs.Legal.{IsOutcome}
 use Rattle.cc_model.specs.Numbers.{is_empty}
-use Rattle.cc_model.specs.Refusals.{refusal}
 use Rattle.cc_model.specs.Setup.{Setup}
 use Rattle.cc_model.specs.Touches.{dirty_pages}
+use Rattle.cc_calls.proofs.Streamless.{dirty-unrefused}
 
 none-more : (n : ℕ) → n ≡ 0 + n
 none-more n = omega arith
@@ -43,10 +43,6 @@ dirty-rows past rows follows sound =
     ∙ (ap (λ n. nat_lt 0 n) (dirty_total-rows past rows follows sound sound.numbered)
     ∙ sym (any-counted (λ s. dirty_pages (history past s)) all_streams))
 
--- nothing refuses the call that asks it
-unrefused : (u : Setup) (past : List Entry) → refusal u past [] call.IsDirtyData ≡ None
-unfolding refusal
-unrefused u past = refl
-
+-- that is what the call is told, which nothing refuses
 pub dirty-outcome : (u : Setup) (past : List Entry) (pass : ℕ) (flag : Bool) → flag ≡ is_any_dirty past → IsOutcome u past pass None call.IsDirtyData (outcome.Done (reply.Flag flag))
-dirty-outcome u past pass flag is = (unrefused u past, ap reply.Flag is)
+dirty-outcome u past pass flag is = (dirty-unrefused u past, ap reply.Flag is)

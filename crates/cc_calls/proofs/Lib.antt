@@ -2,10 +2,12 @@
 pub mod Turning
 pub mod Replies
 pub mod Waiting
+pub mod Paging
 pub mod Copying
 pub mod SettingCalls
 pub mod States
 pub mod LogCalls
 pub mod Streamless
 pub mod Dirty
+pub mod Tables
 pub mod FlushCalls

@@ -11,6 +11,7 @@ use Rattle.cc_effects.specs.LogCalls.{AppendLeft, LogFlushLeft}
 use Rattle.cc_effects.specs.Moments.{IsIdle, PlacedOnly, AtSome}
 use Rattle.cc_effects.proofs.Stretches.{idle-then, only-before, some-before}
 use Rattle.cc_journal.specs.Journal.{JournalState}
+use Rattle.cc_model.specs.Good.{IsGood}
 use Rattle.cc_model.specs.Logs.{floor_of, flushed_to}
 use Rattle.cc_model.specs.Passes.{is_mine, is_call_of}
 use Rattle.cc_log.specs.Turn.{IsAppendError}
@@ -29,6 +30,7 @@ use Rattle.cc_writes.specs.declared.log.LogFlush.{LogFlush}
 use Rattle.cc_writes.specs.declared.log.LogFlush.TheVariants as flush
 use Rattle.cc_writes.proofs.Visits.{went-then}
 use Rattle.cc_calls.specs.Answers.{IsFree}
+use Rattle.cc_calls.specs.Pages.{StaysGood}
 use Rattle.cc_calls.specs.Logs.{IsNotFull, LogEnds, NoPlace, PlaceLeft}
 
 -- a journal in which a place was asked for has the entries that it had
@@ -190,9 +192,12 @@ flush-not-full w handle lsn (Err e) seen left = rw left.1 tt
 
 -- A call that got no place ends with its refusal.
 module _ (w v : Standing) (handle : ℕ) (e : CcError) (can : IsFree w) (grows : Grows w v.seen) (left : PlaceLeft handle (Err e) w v)
-    (full : IsFull {A = Unit {0}} 1 v (Err e)) where
+    (full : IsFull {A = Unit {0}} 1 v (Err e)) (good : IsGood v.setup v.seen) where
   settled-still : IsSettled v
   settled-still = rw (ap (λ x. x.number) left.1.same) (settled-idle w.number w.seen v.seen (idle-grows w v.seen grows) can.settled)
+
+  good-still : StaysGood w v
+  good-still was_good = subst (λ (u : Setup). IsGood u v.seen) (ap (λ x. x.setup) left.1.same) good
 
   pub append-no-place : (bytes : List ℕ) (answer : Result ℕ CcError) → IsErrAnd answer (λ told. told ≡ e) → LogEnds w v (AppendLeft w.setup w.number handle bytes) answer
   append-no-place bytes (Ok lsn) told = absurd told
@@ -201,6 +206,7 @@ module _ (w v : Standing) (handle : ℕ) (e : CcError) (can : IsFree w) (grows :
     full = full;
     goes_on = left.1;
     settled = settled-still;
+    good = good-still;
   })
 
   pub flush-no-place : (lsn : ℕ) (answer : Result (Unit {0}) CcError) → IsErrAnd answer (λ told. told ≡ e) → LogEnds w v (LogFlushLeft w.setup w.number handle lsn) answer
@@ -210,11 +216,12 @@ module _ (w v : Standing) (handle : ℕ) (e : CcError) (can : IsFree w) (grows :
     full = full;
     goes_on = left.1;
     settled = settled-still;
+    good = good-still;
   })
 
 -- One that got its place ends as it went on from there.
 module _ (w v x : Standing) (handle : ℕ) (can : IsFree w) (grows : Grows w v.seen) (place : PlaceLeft handle (Ok tt) w v)
-    (went : WentWith 0 v x) where
+    (went : WentWith 0 v x) (good : IsGood x.setup x.seen) where
   number : v.number ≡ w.number
   number = ap (λ y. y.number) place.1.same
 
@@ -223,6 +230,9 @@ module _ (w v x : Standing) (handle : ℕ) (can : IsFree w) (grows : Grows w v.s
 
   went-whole : WentWith w.in_flight w x
   went-whole = subst (λ (n : ℕ). WentWith n w x) (sym can.none) (went-then (suc w.in_flight) 0 w v x place.1 went)
+
+  good-there : StaysGood w x
+  good-there was_good = subst (λ (u : Setup). IsGood u x.seen) (ap (λ y. y.setup) went-whole.same) good
 
   settled-there : owes_store x.seen w.number ≡ false → IsSettled x
   settled-there none = rw (ap (λ y. y.number) went-whole.same) none
@@ -236,6 +246,7 @@ module _ (w v x : Standing) (handle : ℕ) (can : IsFree w) (grows : Grows w v.s
         full = not-full x answer room;
         goes_on = went-whole;
         settled = settled-there (append-settled w.setup w.number handle bytes answer w.seen x.seen whole can.settled);
+        good = good-there;
       }
 
   pub flush-ends : (lsn : ℕ) (result : Result LogFlush CcError) → LogLeft v handle lsn result x.seen → LogEnds w x (LogFlushLeft w.setup w.number handle lsn) (answered result)
@@ -249,6 +260,7 @@ module _ (w v x : Standing) (handle : ℕ) (can : IsFree w) (grows : Grows w v.s
         full = not-full x (answered result) (flush-not-full v handle lsn result x.seen left);
         goes_on = went-whole;
         settled = settled-there (flush-settled w.setup w.number handle lsn (answered result) w.seen x.seen whole can.settled);
+        good = good-there;
       }
 
 -- what an append leaves as its turn of the log was taken, it leaves as a whole

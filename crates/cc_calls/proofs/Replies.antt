@@ -1,4 +1,5 @@
--- What a call was told that is done, in a good journal: nothing, the state of its stream, or the bytes of its read.
+-- What a call was told that is done, in a good journal: nothing, the state of its stream or its LSNs, or the bytes of its
+-- read.
 use Rattle.std.specs.Prelude.{◌≡◌, ℕ, ◌≤◌, Bool, true, List, [], length, Option, None, Some, refl}
 use Rattle.std.proofs.Common.{subst, arith}
 use Rattle.std.proofs.lemmas.List.FromFn.{length-map-range_with_len}
@@ -18,6 +19,8 @@ use Rattle.cc_model.specs.History.{Effect}
 use Rattle.cc_model.specs.Legal.{stream_history, stream_opening}
 use Rattle.cc_model.specs.Replies.{IsReply, Reads, state_of}
 use Rattle.cc_model.specs.Setup.{Setup}
+use Rattle.cc_model.specs.Stamps.{lsns_over}
+use Rattle.cc_model.specs.Touches.{dirty_pages}
 use Rattle.cc_calls.specs.Answers.{is_setting}
 
 -- whether a call answers no value: one that sets something of its stream, or changes bytes
@@ -48,6 +51,13 @@ pub state-reply : (u : Setup) (me : ℕ) (file : File) (r : Reply) (old new : Li
 state-reply u me file r old new good left =
     let d = outcome-defined u me (call.State file) (outcome.Done r) old new [] good left refl in
     (state_of (stream_history _ d.1), d.5.1)
+
+-- its LSNs, where those were asked
+pub lsns-reply : (u : Setup) (me : ℕ) (file : File) (r : Reply) (old new : List Entry) → IsGood u new → CallLeft u me (call.LsnForFile file) (outcome.Done r) old new → (lsns : Option (ℕ × ℕ)) × (r ≡ reply.Lsns lsns)
+lsns-reply u me file r old new good left =
+    let d = outcome-defined u me (call.LsnForFile file) (outcome.Done r) old new [] good left refl in
+    let h = stream_history _ d.1 in
+    (lsns_over h (dirty_pages h), d.5.1)
 
 -- The bytes of a read, no more than it asks.
 pub record IsRead (r : Reply) (len : ℕ) : Type 0 where

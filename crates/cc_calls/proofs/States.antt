@@ -1,43 +1,54 @@
--- What the call leaves that asks for the state of a stream, by how its turn ended.
+-- What the calls leave that ask for the state of a stream, and for its LSNs.
 use Rattle.std.specs.Prelude.{◌≡◌, ℕ, List, Ok}
+use Rattle.std.specs.declared.option.Option.{Option}
 use Rattle.cc_entry.specs.Place.{File}
 use Rattle.cc_entry.specs.declared.call.Call.TheVariants as call
-use Rattle.cc_entry.specs.declared.entry.Entry.{Entry}
 use Rattle.cc_entry.specs.declared.place.FileState.{FileState}
 use Rattle.cc_entry.specs.declared.reply.Outcome.TheVariants as outcome
 use Rattle.cc_entry.specs.declared.reply.Reply.TheVariants as reply
 use Rattle.cc_effects.specs.Calls.{CallLeft}
-use Rattle.cc_model.specs.Good.{IsGood}
-use Rattle.cc_model.specs.Setup.{Setup}
 use Rattle.cc_turns.specs.Standing.{Standing}
-use Rattle.cc_visits.specs.Hands.{IsSettled, Went}
-use Rattle.cc_visits.specs.Visits.{IsWaitedFor}
-use Rattle.cc_visits.specs.Ways.{EndedSo}
 use Rattle.cc_visits.specs.declared.tell.Returned.{Returned}
 use Rattle.cc_visits.specs.declared.tell.Returned.TheVariants as returned
-use Rattle.cc_calls.specs.Answers.{CallEnds, state_outcome}
-use Rattle.cc_calls.proofs.Replies.{state-reply}
+use Rattle.cc_calls.specs.Answers.{CallEnds, lsns_outcome, state_outcome}
+use Rattle.cc_calls.specs.Paged.{CalledAtOnce}
+use Rattle.cc_calls.proofs.Replies.{lsns-reply, state-reply}
 
--- it needs no page
-pub state-waits : (u : Setup) (s page : ℕ) (file : File) (past : List Entry) → IsWaitedFor u s (call.State file) page past → ⊥
-state-waits u s page file past waits = absurd (cc waits.least)
-
-module _ (w v : Standing) (file : File) (was now : List ℕ) (good : IsGood w.setup v.seen) where
+module _ (w v : Standing) (file : File) (was now : List ℕ) where
   -- it is told the state
-  told-state : (told : Returned) → EndedSo w.setup w.number (call.State file) (Ok told) w.seen v.seen was now → (state : FileState) × (told ≡ returned.State state) × CallLeft w.setup w.number (call.State file) (outcome.Done (reply.State state)) w.seen v.seen
-  told-state told ended =
-      let r = state-reply w.setup w.number file ended.0 w.seen v.seen good ended.1 in
-      let tells = rw r.1 at ended.2 in
-      (r.0, tells.0, rw r.1 at ended.1)
+  told-state : (told : Returned) → CalledAtOnce w v (call.State file) (Ok told) was now → (state : FileState) × (told ≡ returned.State state) × CallLeft w.setup w.number (call.State file) (outcome.Done (reply.State state)) w.seen v.seen
+  told-state told c =
+      let r = state-reply w.setup w.number file c.left.0 w.seen v.seen c.good c.left.1 in
+      let tells = rw r.1 at c.left.2 in
+      (r.0, tells.0, rw r.1 at c.left.1)
 
-  pub state-done : (state : FileState) → Went w v → IsSettled v → EndedSo w.setup w.number (call.State file) (Ok (returned.State state)) w.seen v.seen was now → CallEnds state_outcome w v (call.State file) (Ok state)
-  state-done state went settled ended =
-      let told = told-state (returned.State state) ended in
-      record { left = rw (inner told.0 told.1) told.2; full = tt; goes_on = went; settled = settled }
+  pub state-done : (state : FileState) → CalledAtOnce w v (call.State file) (Ok (returned.State state)) was now → CallEnds state_outcome w v (call.State file) (Ok state)
+  state-done state c =
+      let told = told-state (returned.State state) c in
+      record { left = rw (inner told.0 told.1) told.2; full = tt; goes_on = c.goes_on; settled = c.settled; good = λ was_good. c.good }
     where
       inner : (x : FileState) → returned.State state ≡ returned.State x → state ≡ x
       inner x same = cc
 
   -- and nothing else
-  pub state-told : (told : Returned) → ((state : FileState) → told ≡ returned.State state → ⊥) → EndedSo w.setup w.number (call.State file) (Ok told) w.seen v.seen was now → ⊥
-  state-told told other ended = let k = told-state told ended in other k.0 k.1
+  pub state-told : (told : Returned) → ((state : FileState) → told ≡ returned.State state → ⊥) → CalledAtOnce w v (call.State file) (Ok told) was now → ⊥
+  state-told told other c = let k = told-state told c in other k.0 k.1
+
+  -- the other is told the LSNs
+  told-lsns : (told : Returned) → CalledAtOnce w v (call.LsnForFile file) (Ok told) was now → (lsns : Option (ℕ × ℕ)) × (told ≡ returned.Lsns lsns) × CallLeft w.setup w.number (call.LsnForFile file) (outcome.Done (reply.Lsns lsns)) w.seen v.seen
+  told-lsns told c =
+      let r = lsns-reply w.setup w.number file c.left.0 w.seen v.seen c.good c.left.1 in
+      let tells = rw r.1 at c.left.2 in
+      (r.0, tells.0, rw r.1 at c.left.1)
+
+  pub lsns-done : (lsns : Option (ℕ × ℕ)) → CalledAtOnce w v (call.LsnForFile file) (Ok (returned.Lsns lsns)) was now → CallEnds lsns_outcome w v (call.LsnForFile file) (Ok lsns)
+  lsns-done lsns c =
+      let told = told-lsns (returned.Lsns lsns) c in
+      record { left = rw (inner told.0 told.1) told.2; full = tt; goes_on = c.goes_on; settled = c.settled; good = λ was_good. c.good }
+    where
+      inner : (x : Option (ℕ × ℕ)) → returned.Lsns lsns ≡ returned.Lsns x → lsns ≡ x
+      inner x same = cc
+
+  -- and nothing else
+  pub lsns-told : (told : Returned) → ((lsns : Option (ℕ × ℕ)) → told ≡ returned.Lsns lsns → ⊥) → CalledAtOnce w v (call.LsnForFile file) (Ok told) was now → ⊥
+  lsns-told told other c = let k = told-lsns told c in other k.0 k.1

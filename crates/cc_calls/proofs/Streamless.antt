@@ -2,7 +2,7 @@
 -- what a visit to the journal that placed it leaves.
 use Rattle.std.specs.Prelude.{◌≡◌, ℕ, suc, ◌+◌, ◌-◌, Bool, true, false, List, [], ◌∷◌, length, Result, Ok, Err, None, refl}
 use Rattle.std.specs.Bool.{OnTrue}
-use Rattle.std.proofs.Common.{ap, sym, ◌∙◌, subst, inl, inr}
+use Rattle.std.proofs.Common.{ap, sym, ◌∙◌, subst, arith, inl, inr}
 use Rattle.std.proofs.lemmas.Bool.{eq-eqb}
 use Rattle.cc_entry.specs.declared.call.Call.{Call}
 use Rattle.cc_entry.specs.declared.call.Call.TheVariants as call
@@ -14,8 +14,9 @@ use Rattle.cc_entry.specs.declared.reply.Outcome.{Outcome}
 use Rattle.cc_entry.specs.declared.reply.Outcome.TheVariants as outcome
 use Rattle.cc_entry.specs.declared.reply.Reply.{Reply}
 use Rattle.cc_effects.specs.Calls.{CallLeft, HasDone, IsUnderWay}
+use Rattle.cc_book.specs.Book.{Gains}
 use Rattle.cc_effects.specs.Refusals.{may_refuse, may_want}
-use Rattle.cc_effects.proofs.Starts.{begins, ends_done, gives_up}
+use Rattle.cc_effects.proofs.Starts.{begins, ends_done, ends_refused, gives_up}
 use Rattle.cc_journal.specs.Journal.{JournalState, MayBePushed}
 use Rattle.cc_journal.proofs.GoodEntries.{MayBePushed-good}
 use Rattle.cc_laws.proofs.HistorySteps.{history-no_effect}
@@ -33,22 +34,25 @@ use Rattle.cc_model.specs.Holds.{Hold, holds_of}
 use Rattle.cc_model.specs.Legal.{IsLegal, IsLegalEntry, IsOutcome}
 use Rattle.cc_model.specs.Passes.{calls_of, is_store}
 use Rattle.cc_model.specs.Ranges.{needs_pages, range_of}
+use Rattle.cc_model.specs.Refusals.{refusal}
 use Rattle.cc_model.specs.Room.{owed_by_stream, reserved_in}
 use Rattle.cc_model.specs.Setup.{Setup}
 use Rattle.cc_model.specs.Touches.{size_of}
 use Rattle.cc_model.specs.Turns.{Turn, Device, Book, Log, Journal, needs, is_quiet}
-use Rattle.cc_step.specs.Step.{IsStop, ends_in_store, owes_store}
-use Rattle.cc_step.proofs.Attempts.{adds-reserving, reserving}
+use Rattle.cc_step.specs.Step.{Adds, IsStop, ends_in_store, most_asked, owes_store}
 use Rattle.cc_step.proofs.Placed.{so-far}
 use Rattle.cc_step.proofs.Reserved.{stores-call, sum-same}
 use Rattle.cc_turns.specs.Standing.{Standing, Held, holds}
-use Rattle.cc_turns.specs.Takes.{without_journal}
+use Rattle.cc_turns.specs.Journal.{JournalStands}
+use Rattle.cc_turns.specs.Takes.{Takes, with_journal, without_journal}
 use Rattle.cc_visits.specs.Hands.{IsSettled}
+use Rattle.cc_visits.specs.Ways.{IsFull}
 use Rattle.cc_visits.proofs.Others.{under_way-on}
 use Rattle.cc_visits.proofs.Replies.{full-stopped}
 use Rattle.cc_writes.proofs.Quiet.{settled-grown}
-use Rattle.cc_writes.proofs.Visits.{Visiting, Visited, visited, stepping-none}
+use Rattle.cc_writes.proofs.Visits.{Visiting, Visited, visited, visiting, stepping-none}
 use Rattle.cc_calls.specs.Answers.{CallEnds, IsFree}
+use Rattle.cc_calls.specs.Pages.{StaysGood}
 use Rattle.cc_calls.specs.Streamless.{HasEnded, StreamlessLeft, is_streamless, streamless}
 use Rattle.cc_calls.proofs.LogCalls.{idle-grows}
 
@@ -66,6 +70,12 @@ no-range size other alone = absurd (cc)
 no-store : (it : Call) (ended : Outcome) → is_streamless it ≡ true → is_store it ended ≡ false
 no-store (call.NcStore file page bytes) ended alone = absurd (cc)
 no-store other ended alone = refl
+
+-- it asks one place
+one-asked : (it : Call) → is_streamless it ≡ true → most_asked it ≡ 1
+one-asked (call.DirtyPages handle) alone = refl
+one-asked call.IsDirtyData alone = refl
+one-asked other alone = absurd (cc)
 
 -- it may find no room and no memory, and nothing is to do before it is done
 may-stop : (it : Call) (entries : ℕ) → is_streamless it ≡ true → (may_refuse it (error.JournalFull entries) ≡ true) × (may_refuse it error.NoMemory ≡ true)
@@ -85,6 +95,17 @@ has-done me other during old alone = absurd (cc)
 on_needed : (b : Bool) (P : Type 0) → P → OnTrue b P
 on_needed true P p = p
 on_needed false P p = tt
+
+-- nothing refuses the question whether a page is dirty
+pub dirty-unrefused : (u : Setup) (past : List Entry) → refusal u past [] call.IsDirtyData ≡ None
+unfolding refusal
+dirty-unrefused u past = refl
+
+-- one that may fail for want of its log may be refused for it
+log-listed : (u : Setup) (past : List Entry) (pass handle : ℕ) (it : Call) → is_streamless it ≡ true → IsOutcome u past pass None it (outcome.Failed (error.NoLog handle)) → may_refuse it (error.NoLog handle) ≡ true
+log-listed u past pass handle (call.DirtyPages log) alone is = refl
+log-listed u past pass handle call.IsDirtyData alone is = let none = dirty-unrefused u past in absurd (cc (none, is))
+log-listed u past pass handle other alone is = absurd (cc)
 
 nothing_owed : (e : Entry) (past : List Entry) → owed_begin past ≡ None → IsOwed (owed_begin past) e
 nothing_owed e past none = rw none tt
@@ -139,11 +160,28 @@ settled-streamless : (past : List Entry) (pass : ℕ) (it : Call) (ended : Outco
 settled-streamless past pass it ended alone =
     ap ends_in_store (up_to_call-call pass (suc (calls_of past pass)) None it ended past pass (eq-eqb pass pass refl)) ∙ no-store it ended alone
 
+-- a journal with one place more reserved
+abbrev pub reserving : {Q : Type 0} → JournalState Q → JournalState Q
+reserving j = record j { reserved = j.reserved + 1 }
+
+back : (n : ℕ) → (n + 1) - 1 ≡ n
+back n = omega arith
+
+-- an entry for which one place was reserved
+pub adds-reserved : {Q : Type 0} (e : Entry) (j k : JournalState Q) → Gains e (reserving j) k → Adds e j k
+adds-reserved e j k placed = placed ∙ ap (λ (n : ℕ). record j { entries = e ∷ j.entries; reserved = n; rows = k.rows }) (back j.reserved)
+
+-- the place was given back
+pub given-back : {Q : Type 0} (j between k : JournalState Q) → between ≡ reserving j → k ≡ record between { reserved = between.reserved - 1 } → k ≡ j
+given-back {Q = Q} j between k same given =
+    subst (λ (x : JournalState Q). k ≡ record x { reserved = x.reserved - 1 }) same given
+    ∙ ap (λ (n : ℕ). record j { reserved = n }) (back j.reserved)
+
 -- the call ended, whose entry was placed where one place was reserved for it
 pub ended-streamless : {Q : Type 0} (pass nth : ℕ) (it : Call) (ended : Outcome) (j between k : JournalState Q) → between ≡ reserving j → nth ≡ suc (calls_of between.entries pass) → k ≡ record between { entries = entry.Call pass nth None it ended ∷ between.entries; reserved = between.reserved - 1; rows = k.rows } → ((u : Setup) → u.logs ≡ j.logs → IsOutcome u between.entries pass None it ended) → HasEnded pass it ended j k
 ended-streamless {Q = Q} pass nth it ended j between k same next placed is = record {
   is = λ u logs. subst (λ (past : List Entry). IsOutcome u past pass None it ended) (ap (λ (x : JournalState Q). x.entries) same) (is u logs);
-  placed = adds-reserving (streamless pass j.entries it ended) j k
+  placed = adds-reserved (streamless pass j.entries it ended) j k
       (subst (λ (n : ℕ). k ≡ record (reserving j) { entries = entry.Call pass n None it ended ∷ j.entries; reserved = (reserving j).reserved - 1; rows = k.rows })
       (next ∙ ap (λ (x : JournalState Q). suc (calls_of x.entries pass)) same)
       (subst (λ (x : JournalState Q). k ≡ record x { entries = entry.Call pass nth None it ended ∷ x.entries; reserved = x.reserved - 1; rows = k.rows }) same placed));
@@ -164,6 +202,9 @@ module _ {Q : Type 0} (posted : Q → Bool) (w v : Standing) (it : Call) (j k : 
   away : w.held.journal ≡ false
   away = ap (λ h. h.journal) can.free
 
+  logs : w.setup.logs ≡ j.logs
+  logs = sym (vis.journal.logs_are ∙ ap (λ x. x.setup.logs) vis.taken.same)
+
   -- it ended with its entry
   module _ (ended : Outcome) (has : HasEnded w.number it ended j k) where
     entries-are : k.entries ≡ streamless w.number j.entries it ended ∷ j.entries
@@ -173,7 +214,7 @@ module _ {Q : Type 0} (posted : Q → Bool) (w v : Standing) (it : Call) (j k : 
     visited-ended = visited posted w v w.in_flight (streamless w.number j.entries it ended ∷ []) j k away vis (record {
       kept = has.placed ∙ ap (λ (x : JournalState Q). record j { entries = streamless w.number j.entries it ended ∷ j.entries; reserved = x.reserved; rows = k.rows }) (sym has.placed);
       good = subst (λ (past : List Entry). IsGood w.setup past) (sym entries-are)
-          (good-streamless w.setup j.entries w.number it ended alone (has.is w.setup (sym (vis.journal.logs_are ∙ ap (λ x. x.setup.logs) vis.taken.same))) vis.good);
+          (good-streamless w.setup j.entries w.number it ended alone (has.is w.setup logs) vis.good);
       own = (eq-eqb w.number w.number refl, tt);
       held = quiet-streamless (record w.held { journal = true }) w.number j.entries it ended refl;
       reserved = ap (λ x. x.reserved) has.placed
@@ -194,22 +235,26 @@ module _ {Q : Type 0} (posted : Q → Bool) (w v : Standing) (it : Call) (j k : 
   settled-stopped same =
       ap (λ n. owes_store k.entries n) number ∙ (ap (λ (x : JournalState Q). owes_store x.entries w.number) same ∙ settled-front)
 
-  stopped-left : (e : CcError) → IsStop e j → k ≡ j → CallLeft w.setup w.number it (outcome.Failed e) w.seen k.entries
+  stopped-left : (e : CcError) → IsStop 1 e j → k ≡ j → CallLeft w.setup w.number it (outcome.Failed e) w.seen k.entries
   stopped-left e stop same = subst (λ (x : JournalState Q). CallLeft w.setup w.number it (outcome.Failed e) w.seen x.entries) (sym same) (by stop)
     where
-      by : IsStop e j → CallLeft w.setup w.number it (outcome.Failed e) w.seen j.entries
+      by : IsStop 1 e j → CallLeft w.setup w.number it (outcome.Failed e) w.seen j.entries
       by (inl full) =
           subst (λ (x : CcError). CallLeft w.setup w.number it (outcome.Failed x) w.seen j.entries) (sym full.0)
           (gives_up w.number it (error.JournalFull (length j.entries)) w.seen j.entries way (may-stop it (length j.entries) alone).0 (may-want it j.entries alone))
       by (inr none) =
-          subst (λ (x : CcError). CallLeft w.setup w.number it (outcome.Failed x) w.seen j.entries) (sym none)
+          subst (λ (x : CcError). CallLeft w.setup w.number it (outcome.Failed x) w.seen j.entries) (sym none.0)
           (gives_up w.number it error.NoMemory w.seen j.entries way (may-stop it 0 alone).1 (may-want it j.entries alone))
 
   -- by its answer
   module _ {A : Type 0} (told : Result A CcError → Outcome) where
-    pub visited-streamless : (answer : Result A CcError) → StreamlessLeft told w.number it answer j k → Visited posted w v w.in_flight k
+    visited-streamless : (answer : Result A CcError) → StreamlessLeft told w.number it answer j k → Visited posted w v w.in_flight k
     visited-streamless (Ok a) left = visited-ended (told (Ok a)) left
-    visited-streamless (Err e) left = visited-stopped left.1
+    visited-streamless (Err (error.NoLog handle)) left = visited-ended (outcome.Failed (error.NoLog handle)) left
+    visited-streamless (Err other) left = visited-stopped left.1
+
+    stays-good : Visited posted w v w.in_flight k → StaysGood w (without_journal k v)
+    stays-good given was_good = subst (λ (u : Setup). IsGood u k.entries) (ap (λ x. x.setup) given.went.same) given.good
 
     done-streamless : (a : A) (r : Reply) → told (Ok a) ≡ outcome.Done r → StreamlessLeft told w.number it (Ok a) j k → CallEnds told w (without_journal k v) it (Ok a)
     done-streamless a r is left = record {
@@ -219,16 +264,57 @@ module _ {Q : Type 0} (posted : Q → Bool) (w v : Standing) (it : Call) (j k : 
       full = tt;
       goes_on = (visited-ended (told (Ok a)) left).went;
       settled = settled-ended (told (Ok a)) left;
+      good = stays-good (visited-ended (told (Ok a)) left);
     }
 
-    stopped-streamless : (e : CcError) → told (Err e) ≡ outcome.Failed e → StreamlessLeft told w.number it (Err e) j k → CallEnds told w (without_journal k v) it (Err e)
-    stopped-streamless e is left = record {
-      left = subst (λ (o : Outcome). CallLeft w.setup w.number it o w.seen k.entries) (sym is) (stopped-left e left.0 left.1);
-      full = full-stopped A posted (without_journal k v) k e (visited-stopped left.1).journal (subst (λ (x : JournalState Q). IsStop e x) (sym left.1) left.0);
-      goes_on = (visited-stopped left.1).went;
-      settled = settled-stopped left.1;
+    -- it was refused, for there is no such log
+    refused-streamless : (handle : ℕ) → told (Err (error.NoLog handle)) ≡ outcome.Failed (error.NoLog handle) → StreamlessLeft told w.number it (Err (error.NoLog handle)) j k → CallEnds told w (without_journal k v) it (Err (error.NoLog handle))
+    refused-streamless handle is left =
+        let ended : Outcome = outcome.Failed (error.NoLog handle) in
+        let listed = log-listed w.setup j.entries w.number handle it alone (left.is w.setup logs) in
+        record {
+          left = subst (λ (o : Outcome). CallLeft w.setup w.number it o w.seen k.entries) (sym is)
+              (subst (λ (past : List Entry). CallLeft w.setup w.number it ended w.seen past) (sym (entries-are ended left))
+              (inl (ends_refused w.number (suc (calls_of j.entries w.number)) None it (error.NoLog handle) w.seen j.entries way (filed (holds_of []) w.number it alone) listed)));
+          full = tt;
+          goes_on = (visited-ended ended left).went;
+          settled = settled-ended ended left;
+          good = stays-good (visited-ended ended left);
+        }
+
+    stopped-streamless : (e : CcError) → told (Err e) ≡ outcome.Failed e → IsStop 1 e j → k ≡ j → CallEnds told w (without_journal k v) it (Err e)
+    stopped-streamless e is stop same = record {
+      left = subst (λ (o : Outcome). CallLeft w.setup w.number it o w.seen k.entries) (sym is) (stopped-left e stop same);
+      full = subst (λ (n : ℕ). IsFull {A = A} n (without_journal k v) (Err e)) (sym (one-asked it alone))
+          (full-stopped A posted 1 (without_journal k v) k e (visited-stopped same).journal (subst (λ (x : JournalState Q). IsStop 1 e x) (sym same) stop));
+      goes_on = (visited-stopped same).went;
+      settled = settled-stopped same;
+      good = stays-good (visited-stopped same);
     }
 
-    pub ends-streamless : (reply : A → Reply) → ((a : A) → told (Ok a) ≡ outcome.Done (reply a)) → ((e : CcError) → told (Err e) ≡ outcome.Failed e) → (answer : Result A CcError) → StreamlessLeft told w.number it answer j k → CallEnds told w (without_journal k v) it answer
+    ends-streamless : (reply : A → Reply) → ((a : A) → told (Ok a) ≡ outcome.Done (reply a)) → ((e : CcError) → told (Err e) ≡ outcome.Failed e) → (answer : Result A CcError) → StreamlessLeft told w.number it answer j k → CallEnds told w (without_journal k v) it answer
     ends-streamless reply done failed (Ok a) left = done-streamless a (reply a) (done a) left
-    ends-streamless reply done failed (Err e) left = stopped-streamless e (failed e) left
+    ends-streamless reply done failed (Err (error.NoLog handle)) left = refused-streamless handle (failed (error.NoLog handle)) left
+    ends-streamless reply done failed (Err other) left = stopped-streamless other (failed other) left.0 left.1
+
+-- A visit as a whole, from the taking of the journal: what is given, and how the call ended.
+module _ {Q A : Type 0} (posted : Q → Bool) (w v : Standing) (it : Call) (j k : JournalState Q) (pass : ℕ) (can : IsFree w)
+    (took : Takes with_journal w v) (stands : JournalStands posted v j) (alone : is_streamless it ≡ true) (me : pass ≡ v.number)
+    (told : Result A CcError → Outcome) (answer : Result A CcError) (left : StreamlessLeft told pass it answer j k) where
+  vis : Visiting posted w v j
+  vis = visiting posted w v j took stands
+
+  mine : StreamlessLeft told w.number it answer j k
+  mine = subst (λ (n : ℕ). StreamlessLeft told n it answer j k) (me ∙ ap (λ x. x.number) took.same) left
+
+  pub gives-streamless : Visited posted w v w.in_flight k
+  gives-streamless = visited-streamless posted w v it j k can vis alone told answer mine
+
+  pub whole-streamless : (reply : A → Reply) → ((a : A) → told (Ok a) ≡ outcome.Done (reply a)) → ((e : CcError) → told (Err e) ≡ outcome.Failed e) → (z : Standing) → z ≡ without_journal k v → CallEnds told w z it answer
+  whole-streamless reply done failed z is =
+      subst (λ (x : Standing). CallEnds told w x it answer) (sym is) (ends-streamless posted w v it j k can vis alone told reply done failed answer mine)
+
+-- One that stopped before it placed its entry.
+pub stopped-answer : {Q A : Type 0} (told : Result A CcError → Outcome) (pass : ℕ) (it : Call) (e : CcError) (j k : JournalState Q) → IsStop 1 e j → k ≡ j → StreamlessLeft told pass it (Err e) j k
+stopped-answer {Q = Q} {A = A} told pass it e j k (inl full) same = rw full.0 (inl (refl, full.1), same)
+stopped-answer {Q = Q} {A = A} told pass it e j k (inr none) same = rw none.0 (inr (refl, none.1), same)

@@ -13,15 +13,23 @@ use Rattle.cc_effects.specs.Moments.{IsIdle}
 use Rattle.cc_effects.proofs.Stretches.{grew-after}
 use Rattle.cc_effects.proofs.WorkSteps.{works-after, unsynced-append, unsynced-others, unstopped-after}
 use Rattle.cc_fetch.specs.Fetch.{CanCall}
+use Rattle.cc_model.specs.Acts.{file_of}
+use Rattle.cc_model.specs.Filing.{IsFiled}
+use Rattle.cc_model.specs.Good.{IsGood, IsGoodSoFar}
+use Rattle.cc_model.specs.History.{history}
+use Rattle.cc_model.specs.Holds.{holds_of}
+use Rattle.cc_own.proofs.OwnHolds.{filed-grows}
+use Rattle.cc_step.proofs.Placed.{so-far}
 use Rattle.cc_turns.specs.Standing.{Standing, Held, nothing}
 use Rattle.cc_turns.specs.Takes.{Takes, with_book, without_book}
 use Rattle.cc_visits.specs.Hands.{HasBook, IsSettled, Went}
-use Rattle.cc_visits.specs.Visits.{TriedLeft}
-use Rattle.cc_visits.specs.Ways.{EndedSo, IsFull}
+use Rattle.cc_visits.specs.Visits.{IsFiledNow, IsFullTried, TriedLeft}
 use Rattle.cc_visits.specs.declared.tell.Returned.{Returned}
 use Rattle.cc_visits.specs.declared.visits.Tried.{Tried}
+use Rattle.cc_visits.specs.declared.visits.Tried.TheVariants as tried
 use Rattle.cc_visits.proofs.Visiting.{settled-others}
 use Rattle.cc_calls.specs.Answers.{CallEnds}
+use Rattle.cc_calls.specs.Paged.{CalledAtOnce}
 
 -- a call that is under way is so after others went on
 way-then : (me : ℕ) (it : Call) (begun old new : List Entry) → IsUnderWay me it begun old → IsIdle me old new → IsUnderWay me it begun new
@@ -44,19 +52,41 @@ module _ (w v : Standing) (s : ℕ) (b : BookState) (took : Takes (with_book s) 
     settled = rw (took.grows.grew, ap (λ x. x.number) took.same) (settled-others w.number took.grows.later w.seen took.grows.others can.settled);
   }
 
+  -- the call is filed under its stream still
+  pub filed-now : (it : Call) → IsFiledNow w s it → IsFiledNow v b.stream it
+  filed-now it filed =
+      subst (λ (past : List Entry). IsFiled (holds_of (history past b.stream)) v.number (Some b.stream) it (file_of it)) (sym took.grows.grew)
+      (subst (λ (me : ℕ). IsFiled (holds_of (history (took.grows.later ++ w.seen) b.stream)) me (Some b.stream) it (file_of it)) (sym (ap (λ x. x.number) took.same))
+      (subst (λ (n : ℕ). IsFiled (holds_of (history (took.grows.later ++ w.seen) n)) w.number (Some n) it (file_of it)) (sym b_is)
+      (filed-grows v.setup w.number s it took.grows.later w.seen sound took.grows.others filed)))
+    where
+      sound : IsGoodSoFar v.setup (took.grows.later ++ w.seen)
+      sound = subst (λ (past : List Entry). IsGoodSoFar v.setup past) took.grows.grew (so-far v.setup v.seen took.good)
+
   -- what an attempt with it leaves, the turn leaves
-  pub turn-left : (x y : Standing) (it : Call) (tried : Tried) (begun : List Entry) (was now : List ℕ) → y ≡ without_book x → (IsUnderWay v.number it begun v.seen → TriedLeft v.setup v.number b.stream it tried begun x.seen was now) → IsUnderWay w.number it begun w.seen → TriedLeft w.setup w.number s it tried begun y.seen was now
-  turn-left x y it tried begun was now gave left way =
+  pub turn-left : (x y : Standing) (it : Call) (ended : Tried) (begun : List Entry) (was now : List ℕ) → y ≡ without_book x → (IsUnderWay v.number it begun v.seen → TriedLeft v.setup v.number b.stream it ended begun x.seen was now) → IsUnderWay w.number it begun w.seen → TriedLeft w.setup w.number s it ended begun y.seen was now
+  turn-left x y it ended begun was now gave left way =
       let number : v.number ≡ w.number = ap (λ x. x.number) took.same in
       let idle : IsIdle w.number w.seen v.seen = record { during = took.grows.later; grew = took.grows.grew; others = took.grows.others } in
       let on : IsUnderWay v.number it begun v.seen = rw number (way-then w.number it begun w.seen v.seen way idle) in
       rw (ap (λ x. x.seen) gave) (rw (ap (λ x. x.setup) took.same, number, b_is) at (left on))
 
--- a call that failed in it
-pub turn-failed : {A : Type 0} (told : Result A CcError → Outcome) (w v : Standing) (it : Call) (e : CcError) (was now : List ℕ) → told (Err e) ≡ outcome.Failed e → Went w v → IsSettled v → IsFull {A = Returned} 1 v (Err e) → EndedSo w.setup w.number it (Err e) w.seen v.seen was now → CallEnds told w v it (Err e)
-turn-failed told w v it e was now is went settled full ended = record {
-  left = subst (λ (o : Outcome). CallLeft w.setup w.number it o w.seen v.seen) (sym is) ended.0;
-  full = full;
+-- a call that ended in it
+pub at-once : (w v : Standing) (s : ℕ) (it : Call) (ended : Tried) (answer : Result Returned CcError) (was now : List ℕ) → ended ≡ tried.Ended answer → Went w v → IsSettled v → IsGood w.setup v.seen → IsFullTried v it ended → TriedLeft w.setup w.number s it ended w.seen v.seen was now → CalledAtOnce w v it answer was now
+at-once w v s it ended answer was now is went settled good full left = record {
+  left = subst (λ (t : Tried). TriedLeft w.setup w.number s it t w.seen v.seen was now) is left;
+  full = subst (λ (t : Tried). IsFullTried v it t) is full;
   goes_on = went;
   settled = settled;
+  good = good;
+}
+
+-- and failed
+pub failed-at-once : {A : Type 0} (told : Result A CcError → Outcome) (w v : Standing) (it : Call) (e : CcError) (was now : List ℕ) → told (Err e) ≡ outcome.Failed e → CalledAtOnce w v it (Err e) was now → CallEnds told w v it (Err e)
+failed-at-once told w v it e was now is c = record {
+  left = subst (λ (o : Outcome). CallLeft w.setup w.number it o w.seen v.seen) (sym is) c.left.0;
+  full = c.full;
+  goes_on = c.goes_on;
+  settled = c.settled;
+  good = λ was_good. c.good;
 }

@@ -16,15 +16,29 @@ use Rattle.cc_model.specs.Ranges.{range_of}
 use Rattle.cc_model.specs.Residency.{is_resident}
 use Rattle.cc_model.specs.Setup.{Setup}
 use Rattle.cc_model.specs.Touches.{size_of}
-use Rattle.cc_step.specs.Step.{asks_one, least_absent}
+use Rattle.cc_step.specs.Step.{is_stepped, least_absent}
 use Rattle.cc_visits.specs.Visits.{IsOf, IsWaitedFor}
-use Rattle.cc_calls.specs.Copied.{is_copying}
+use Rattle.cc_calls.specs.Paged.{is_paged}
 
-pub asks : (it : Call) → is_copying it ≡ true → asks_one it ≡ true
-asks (call.CopyRead file at len wait) copies = refl
-asks (call.CopyWrite file at bytes) copies = refl
-asks (call.Zero file span) copies = refl
-asks other copies = absurd (cc)
+pub stepped : (it : Call) → is_paged it ≡ true → is_stepped it ≡ true
+stepped (call.CopyRead file at len wait) paged = refl
+stepped (call.CopyWrite file at bytes) paged = refl
+stepped (call.Zero file span) paged = refl
+stepped (call.Map file at len) paged = refl
+stepped (call.PinRead file at len exclusive) paged = refl
+stepped (call.PreparePin file at len zeroed exclusive) paged = refl
+stepped (call.MdlRead file at len) paged = refl
+stepped (call.MdlWrite file at len) paged = refl
+stepped other paged = absurd (cc)
+
+-- one without a range waits for none
+pub never-waits : (u : Setup) (s page : ℕ) (it : Call) (past : List Entry) → ((size : ℕ) → range_of size it ≡ None) → IsWaitedFor u s it page past → ⊥
+never-waits u s page it past pageless waits =
+    clash (range_of (size_of (history past s)) it) (pageless (size_of (history past s))) waits.least
+  where
+    clash : (o : Option Range) → o ≡ None → least_absent (history past s) o ≡ Some page → ⊥
+    clash None is least = absurd (cc)
+    clash (Some r) is least = absurd (cc)
 
 -- a number that is found in a range of numbers lies in it, and passes the test
 found-between : (test : ℕ → Bool) (from len p : ℕ) → find test (range_with_len from len) ≡ Some p → (from ≤ p) × (p < from + len) × (test p ≡ true)
@@ -62,28 +76,38 @@ least-page h (Some r) page least =
     let k = found-page (λ p. not (is_resident h p)) r page least in
     (k.0, fails (is_resident h page) k.1)
 
-of-stream : (it : Call) (s page : ℕ) → is_copying it ≡ true → IsOf it s → is_of (file_of it) (record { stream = s; page = page }) ≡ true
-of-stream (call.CopyRead file at len wait) s page copies filed = let is = filed [] 0 in eq-eqb file.stream s (cc)
-of-stream (call.CopyWrite file at bytes) s page copies filed = let is = filed [] 0 in eq-eqb file.stream s (cc)
-of-stream (call.Zero file span) s page copies filed = let is = filed [] 0 in eq-eqb file.stream s (cc)
-of-stream other s page copies filed = absurd (cc)
+of-stream : (it : Call) (s page : ℕ) → is_paged it ≡ true → IsOf it s → is_of (file_of it) (record { stream = s; page = page }) ≡ true
+of-stream (call.CopyRead file at len wait) s page paged filed = let is = filed [] 0 in eq-eqb file.stream s (cc)
+of-stream (call.CopyWrite file at bytes) s page paged filed = let is = filed [] 0 in eq-eqb file.stream s (cc)
+of-stream (call.Zero file span) s page paged filed = let is = filed [] 0 in eq-eqb file.stream s (cc)
+of-stream (call.Map file at len) s page paged filed = let is = filed [] 0 in eq-eqb file.stream s (cc)
+of-stream (call.PinRead file at len exclusive) s page paged filed = let is = filed [] 0 in eq-eqb file.stream s (cc)
+of-stream (call.PreparePin file at len zeroed exclusive) s page paged filed = let is = filed [] 0 in eq-eqb file.stream s (cc)
+of-stream (call.MdlRead file at len) s page paged filed = let is = filed [] 0 in eq-eqb file.stream s (cc)
+of-stream (call.MdlWrite file at len) s page paged filed = let is = filed [] 0 in eq-eqb file.stream s (cc)
+of-stream other s page paged filed = absurd (cc)
 
 -- the page that it waits for
 pub record IsMissed (it : Call) (s page : ℕ) (past : List Entry) : Type 0 where
   pub reached : reaches it (record { stream = s; page = page }) past ≡ true
   pub absent : is_resident (history past s) page ≡ false
 
-pub missed-page : (u : Setup) (it : Call) (s page : ℕ) (past : List Entry) → is_copying it ≡ true → IsOf it s → IsWaitedFor u s it page past → IsMissed it s page past
-missed-page u it s page past copies filed waits =
+pub missed-page : (u : Setup) (it : Call) (s page : ℕ) (past : List Entry) → is_paged it ≡ true → IsOf it s → IsWaitedFor u s it page past → IsMissed it s page past
+missed-page u it s page past paged filed waits =
     let k = least-page (history past s) (range_of (size_of (history past s)) it) page waits.least in
-    record { reached = and_from _ _ (of-stream it s page copies filed) k.0; absent = k.1 }
+    record { reached = and_from _ _ (of-stream it s page paged filed) k.0; absent = k.1 }
 
 -- a read that may not wait is refused for it
-pub brings : (u : Setup) (it : Call) (s page : ℕ) (past : List Entry) → is_copying it ≡ true → IsWaitedFor u s it page past → brings_in it ≡ true
-brings u (call.CopyRead file at len true) s page past copies waits = refl
-brings u (call.CopyRead file at len false) s page past copies waits =
+pub brings : (u : Setup) (it : Call) (s page : ℕ) (past : List Entry) → is_paged it ≡ true → IsWaitedFor u s it page past → brings_in it ≡ true
+brings u (call.CopyRead file at len true) s page past paged waits = refl
+brings u (call.CopyRead file at len false) s page past paged waits =
     let none = (unrefused u past (history past s) (call.CopyRead file at len false) waits.admitted).is_resident in
     absurd (cc (rw waits.least at none))
-brings u (call.CopyWrite file at bytes) s page past copies waits = refl
-brings u (call.Zero file span) s page past copies waits = refl
-brings u other s page past copies waits = absurd (cc)
+brings u (call.CopyWrite file at bytes) s page past paged waits = refl
+brings u (call.Zero file span) s page past paged waits = refl
+brings u (call.Map file at len) s page past paged waits = refl
+brings u (call.PinRead file at len exclusive) s page past paged waits = refl
+brings u (call.PreparePin file at len zeroed exclusive) s page past paged waits = refl
+brings u (call.MdlRead file at len) s page past paged waits = refl
+brings u (call.MdlWrite file at len) s page past paged waits = refl
+brings u other s page past paged waits = absurd (cc)

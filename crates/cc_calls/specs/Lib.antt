@@ -1,7 +1,7 @@
 -- What the contracts cite.
 pub mod Answers
 pub mod Pages
-pub mod Copied
+pub mod Paged
 pub mod Logs
 pub mod Streamless
 pub mod Flushes

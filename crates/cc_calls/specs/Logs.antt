@@ -7,14 +7,16 @@ use Rattle.cc_turns.specs.Standing.{Standing}
 use Rattle.cc_visits.specs.Hands.{IsSettled, Went, WentWith}
 use Rattle.cc_visits.specs.Ways.{IsFull}
 use Rattle.cc_writes.specs.Logs.{IsWant}
+use Rattle.cc_calls.specs.Pages.{StaysGood}
 
--- A call on a log was answered so: it left what explains the answer, a journal that is full is full, and the pass goes
--- on as it stood, and may call again.
+-- A call on a log was answered so: it left what explains the answer, a journal that is full is full, the pass goes on
+-- as it stood and may call again, and what it has seen stays good.
 pub record LogEnds {A : Type 0} (old new : Standing) (Left : Result A CcError → Between) (answer : Result A CcError) : Type 0 where
   pub left : Left answer old.seen new.seen
   pub full : IsFull 1 new answer
   pub goes_on : Went old new
   pub settled : IsSettled new
+  pub good : StaysGood old new
 
 -- A place is reserved for one entry more, or there was no room for it.
 abbrev pub RoomLeft : Result (Unit {0}) CcError → Standing → Standing → Type 0

@@ -11,12 +11,13 @@ use Rattle.cc_entry.specs.declared.reply.Reply.TheVariants as reply
 use Rattle.cc_effects.specs.Asked.{reaches}
 use Rattle.cc_effects.specs.Calls.{CallLeft}
 use Rattle.cc_effects.specs.Moments.{AtSome}
+use Rattle.cc_model.specs.Good.{IsGood}
 use Rattle.cc_model.specs.History.{history}
 use Rattle.cc_model.specs.Residency.{is_resident}
 use Rattle.cc_turns.specs.Standing.{Standing}
 use Rattle.cc_visits.specs.Hands.{IsSettled}
 use Rattle.cc_visits.specs.Ways.{IsFull}
-use Rattle.cc_calls.specs.Answers.{outcome_of}
+use Rattle.cc_flush.specs.Flush.{outcome_of}
 -- A pass goes on as it stood: it has seen more, what others have reserved may be other, and it may have taken the
 -- turn of a disk.
 pub use Rattle.cc_fetch.specs.Fetch.{WentOn}
@@ -25,6 +26,10 @@ pub use Rattle.cc_fetch.specs.Fetch.{WentOn}
 -- more, or for the two of a transfer.
 abbrev pub IsFullOf : {A : Type 0} → Standing → Result A CcError → Type 0
 IsFullOf w answer = IsFull 2 w answer
+
+-- What the pass has seen stays good.
+abbrev pub StaysGood : Standing → Standing → Type 0
+StaysGood old new = IsGood old.setup old.seen → IsGood old.setup new.seen
 
 -- at a moment of the call a page of its range was not resident
 abbrev pub HadMissed : Call → List Entry → List Entry → Type 0
@@ -35,12 +40,13 @@ HadMissed it old new =
 abbrev pub TookDeviceFor : Call → Standing → Standing → Type 0
 TookDeviceFor it old new = (new.device_turns ≡ old.device_turns) ⊎ HadMissed it old.seen new.seen
 
--- What a call that needs pages left: what explains that it ended so, the pass as it stood, settled, and a turn of a
--- disk taken only for a page that was not resident.
+-- What a call that needs pages left: what explains that it ended so, the pass as it stood, settled, what it has seen
+-- still good, and a turn of a disk taken only for a page that was not resident.
 pub record PagesLeft (old new : Standing) (it : Call) (ended : Outcome) : Type 0 where
   pub left : CallLeft old.setup old.number it ended old.seen new.seen
   pub goes_on : WentOn old new
   pub settled : IsSettled new
+  pub good : StaysGood old new
   pub missed : TookDeviceFor it old new
 
 -- A call that changes bytes was answered so.

@@ -1,18 +1,13 @@
 //! The calls that copy bytes out of a stream's pages and into them.
 
-ghost use Rattle.std.specs.Prelude.{◌≡◌, true};
 ghost use Rattle.cc_entry.specs.declared.call.Call.TheVariants as call;
-ghost use Rattle.cc_visits.specs.Ways.{FitsIn};
-ghost use Rattle.cc_visits.specs.Visits.{IsOf};
 ghost use Rattle.cc_calls.specs.Answers.{CanCall};
-ghost use Rattle.cc_calls.specs.Copied.{Copied, is_copying};
 ghost use Rattle.cc_calls.specs.Pages.{ChangeEnds, ReadEnds};
 
-use crate::turned::turned;
-use cc_entry::{Bytes, Call, CcError, FileId, Span, StreamId};
-use cc_fetch::fetch;
+use crate::turned::call_paged;
+use cc_entry::{Bytes, Call, CcError, FileId, Span};
 use cc_turns::Turns;
-use cc_visits::{Returned, Tried};
+use cc_visits::Returned;
 use std::alloc::Global;
 
 /// Copies the bytes of a stream from a place on into the front of `out`, as far as they go below the size, and answers
@@ -38,7 +33,7 @@ pub fn copy_read<T: Turns>(
         len,
         wait,
     };
-    match copied(alloc, turns, file.stream(), call, out) {
+    match call_paged(alloc, turns, file.stream(), call, out) {
         Ok(told) => match told {
             Returned::Bytes(read) => Ok(read),
             _ => unreachable!(),
@@ -63,7 +58,7 @@ pub fn copy_write<T: Turns>(
 {
     let bytes = Bytes::of(alloc, piece)?;
     let call = Call::CopyWrite { file, at, bytes };
-    copied(alloc, turns, file.stream(), call, &mut [])?;
+    call_paged(alloc, turns, file.stream(), call, &mut [])?;
     Ok(())
 }
 
@@ -80,27 +75,6 @@ pub fn zero_data<T: Turns>(
     ensures ends { ChangeEnds (T.standing turns.old) (T.standing turns.new) (call.Zero file span) result }
 {
     let call = Call::Zero { file, span };
-    copied(alloc, turns, file.stream(), call, &mut [])?;
+    call_paged(alloc, turns, file.stream(), call, &mut [])?;
     Ok(())
-}
-
-// Makes such a call: in one turn of its stream's book where all its pages are resident, else with the turn of the
-// stream's disk too.
-fn copied<T: Turns>(
-    alloc: Global,
-    turns: &mut T,
-    stream: StreamId,
-    call: Call,
-    out: &mut [u8],
-) -> Result<Returned, CcError>
-    requires can { CanCall (T.standing turns.old) stream }
-    requires copies { is_copying call ≡ true }
-    requires filed { IsOf call stream }
-    requires fits { FitsIn call out.old }
-    ensures { Copied (T.standing turns.old) (T.standing turns.new) call result out.old out.new }
-{
-    match turned(alloc, turns, stream, call, out) {
-        Tried::Ended(answer) => answer,
-        Tried::Waits(_, call) => fetch(alloc, turns, stream, call, out),
-    }
 }

@@ -4,7 +4,8 @@
 //! pass had seen, and its answer is the one that the definitions give at its entry's front. At its end the pass holds
 //! the turns that it held, and has no more entries reserved.
 //!
-//! `turned` takes the turn of a stream's book for a call. `settings` has the calls that need no page and set something
+//! `turned` makes a call on a stream, in one turn of the stream's book or with the turn of its disk too; the calls on
+//! holds, which stand above, are made by it too. `settings` has the calls that need no page and set something
 //! of their stream, `queries` those that tell something and change nothing, `copies` those that copy bytes out of a
 //! stream's pages and into them, `flushes` the one that writes the dirty pages of a stream and syncs its disk, `logs`
 //! the two calls on a log, an append and a flush. Below are the turns (`cc_turns`), the visits of a pass to the journal
@@ -22,7 +23,8 @@ mod turned;
 pub use copies::{copy_read, copy_write, zero_data};
 pub use flushes::flush;
 pub use logs::{log_append, log_flush};
-pub use queries::{file_state, is_dirty_data};
+pub use queries::{dirty_pages, file_state, is_dirty_data, lsn_for_file};
 pub use settings::{
     initialize, set_attributes, set_file_sizes, set_granularity, set_log_handle, set_threshold,
 };
+pub use turned::{call_at_once, call_paged};

@@ -2,6 +2,7 @@
 
 ghost use Rattle.std.specs.Prelude.{◌≡◌, ◌<◌, false, None, Some};
 ghost use Rattle.cc_effects.specs.LogCalls.{AppendLeft, LogFlushLeft};
+ghost use Rattle.cc_model.specs.Good.{IsGood};
 ghost use Rattle.cc_turns.specs.Log.{LogStands};
 ghost use Rattle.cc_turns.specs.Takes.{Grows};
 ghost use Rattle.cc_visits.specs.Hands.{WentWith};
@@ -56,6 +57,7 @@ fn reserve_for<T: Turns>(turns: &mut T, handle: u8) -> Result<(), CcError>
     requires away { (T.standing turns.old).held.journal ≡ false }
     requires none { (T.standing turns.old).in_flight ≡ 0 }
     ensures grows { Grows (T.standing turns.old) (T.standing turns.new).seen }
+    ensures good { IsGood (T.standing turns.new).setup (T.standing turns.new).seen }
     ensures left { PlaceLeft handle result (T.standing turns.old) (T.standing turns.new) }
     ensures full { IsFull 1 (T.standing turns.new) result }
 {
@@ -74,6 +76,7 @@ fn reserve<T: Turns>(turns: &mut T) -> Result<(), CcError>
     requires away { (T.standing turns.old).held.journal ≡ false }
     requires none { (T.standing turns.old).in_flight ≡ 0 }
     ensures grows { Grows (T.standing turns.old) (T.standing turns.new).seen }
+    ensures good { IsGood (T.standing turns.new).setup (T.standing turns.new).seen }
     ensures left { RoomLeft result (T.standing turns.old) (T.standing turns.new) }
     ensures full { IsFull 1 (T.standing turns.new) result }
 {
@@ -95,6 +98,7 @@ fn append_to<T: Turns>(
     requires reserved { (T.standing turns.old).in_flight ≡ 1 }
     requires known { handle < (T.standing turns.old).setup.logs }
     requires same { bytes ≡ piece.now }
+    ensures good { IsGood (T.standing turns.new).setup (T.standing turns.new).seen }
     ensures went { WentWith 0 (T.standing turns.old) (T.standing turns.new) }
     ensures left { AppendLeft (T.standing turns.old).setup (T.standing turns.old).number handle piece.now result
         (T.standing turns.old).seen (T.standing turns.new).seen }
@@ -122,6 +126,7 @@ fn append_held<T: Turns>(
     requires handle { log.old.handle ≡ handle }
     requires stands { LogStands T.Log.told T.Log.faults ((T.standing turns.old).logs handle)
         (T.standing turns.old).seen log.old }
+    ensures good { IsGood (T.standing turns.new).setup (T.standing turns.new).seen }
     ensures went { WentWith 0 (T.standing turns.old) (T.standing turns.new) }
     ensures left { AppendLeft (T.standing turns.old).setup (T.standing turns.old).number handle piece.now result
         (T.standing turns.old).seen (T.standing turns.new).seen }

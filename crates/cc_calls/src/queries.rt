@@ -1,16 +1,18 @@
 //! The calls that tell something, and change nothing.
 
+ghost use Rattle.std.specs.Prelude.{◌<◌};
 ghost use Rattle.cc_entry.specs.declared.call.Call.TheVariants as call;
 ghost use Rattle.cc_model.specs.Good.{IsGood};
 ghost use Rattle.cc_model.specs.Setup.{Setup};
-ghost use Rattle.cc_calls.specs.Answers.{CallEnds, CanCall, IsFree, flag_outcome, state_outcome};
-ghost use Rattle.cc_calls.specs.Streamless.{StreamlessLeft};
+ghost use Rattle.cc_calls.specs.Answers.{CallEnds, CanCall, IsFree, flag_outcome, lsns_outcome, rows_outcome, state_outcome};
+ghost use Rattle.cc_calls.specs.Streamless.{PlacesStreamless, StreamlessLeft, TableOf};
 
-use crate::turned::turned;
-use cc_entry::{Call, CcError, Entry, FileId, FileState, Outcome, Reply};
+use crate::turned::call_at_once;
+use cc_entry::{Call, CcError, Entry, FileId, FileState, Lsn, Outcome, Reply, Rows};
 use cc_journal::Journal;
+use cc_table::dirty_table;
 use cc_turns::Turns;
-use cc_visits::{Returned, Tried};
+use cc_visits::Returned;
 use std::alloc::Global;
 
 /// The sizes of a stream, and its log.
@@ -24,14 +26,55 @@ pub fn file_state<T: Turns>(
     requires can { CanCall (T.standing turns.old) file.stream }
     ensures ends { CallEnds state_outcome (T.standing turns.old) (T.standing turns.new) (call.State file) result }
 {
-    match turned(alloc, turns, file.stream(), Call::State { file }, &mut []) {
-        Tried::Ended(Ok(told)) => match told {
+    match call_at_once(alloc, turns, file.stream(), Call::State { file }, &mut []) {
+        Ok(told) => match told {
             Returned::State(state) => Ok(state),
             _ => unreachable!(),
         },
-        Tried::Ended(Err(error)) => Err(error),
-        Tried::Waits(..) => unreachable!(),
+        Err(error) => Err(error),
     }
+}
+
+/// The least and the greatest LSN stamped on dirty pages of a stream and not yet written, where there is one
+/// (`CcGetLsnForFileObject`).
+///
+/// `NotCached`, `JournalFull`, `NoMemory`.
+pub fn lsn_for_file<T: Turns>(
+    alloc: Global,
+    turns: &mut T,
+    file: FileId,
+) -> Result<Option<(Lsn, Lsn)>, CcError>
+    requires can { CanCall (T.standing turns.old) file.stream }
+    ensures ends { CallEnds lsns_outcome (T.standing turns.old) (T.standing turns.new) (call.LsnForFile file) result }
+{
+    match call_at_once(
+        alloc,
+        turns,
+        file.stream(),
+        Call::LsnForFile { file },
+        &mut [],
+    ) {
+        Ok(told) => match told {
+            Returned::Lsns(lsns) => Ok(lsns),
+            _ => unreachable!(),
+        },
+        Err(error) => Err(error),
+    }
+}
+
+/// The dirty page table of a log: a row for each dirty page with a stamp, of a stream with this log, by stream and page
+/// (`CcGetDirtyPages`).
+///
+/// `NoLog`, `JournalFull`, `NoMemory`.
+pub fn dirty_pages<T: Turns>(alloc: Global, turns: &mut T, handle: u8) -> Result<Rows, CcError>
+    requires can { IsFree (T.standing turns.old) }
+    ensures ends { CallEnds rows_outcome (T.standing turns.old) (T.standing turns.new) (call.DirtyPages handle) result }
+{
+    let mut journal = turns.take_journal();
+    let pass = turns.me();
+    let answer = tell_rows(alloc, &mut journal, pass, handle);
+    turns.give_journal(journal);
+    answer
 }
 
 /// Whether a page is dirty, of whichever stream (`CcIsThereDirtyData`).
@@ -46,6 +89,63 @@ pub fn is_dirty_data<T: Turns>(turns: &mut T) -> Result<bool, CcError>
     let answer = tell_dirty(&mut journal, pass);
     turns.give_journal(journal);
     answer
+}
+
+// Tells the dirty page table of a log, from a journal in hand: where there is room for the entry of the call, it is
+// placed.
+fn tell_rows<Q>(
+    alloc: Global,
+    journal: &mut Journal<Q>,
+    pass: u32,
+    handle: u8,
+) -> Result<Rows, CcError>
+    requires good { (u : Setup) × IsGood u journal.old.entries }
+    ensures { StreamlessLeft rows_outcome pass (call.DirtyPages handle) result journal.old journal.new }
+{
+    journal.reserve(1)?;
+    match rows_of(alloc, journal, handle) {
+        Ok((rows, told)) => {
+            place(journal, pass, handle, Outcome::Done(Reply::Rows(rows)));
+            Ok(told)
+        }
+        Err(error) => {
+            match error {
+                CcError::NoLog { .. } => place(journal, pass, handle, Outcome::Failed(error)),
+                _ => journal.release(1),
+            }
+            Err(error)
+        }
+    }
+}
+
+// The dirty page table of a log, which there has to be, twice: for the entry, and for the caller.
+fn rows_of<Q>(alloc: Global, journal: &Journal<Q>, handle: u8) -> Result<(Rows, Rows), CcError>
+    ensures { TableOf journal.now.logs handle journal.now.entries result }
+{
+    if journal.logs() <= handle {
+        return Err(CcError::NoLog {
+            handle: u64::from(handle),
+        });
+    }
+    let rows = dirty_table(alloc, journal, handle)?;
+    let told = dirty_table(alloc, journal, handle)?;
+    Ok((rows, told))
+}
+
+// Places the entry of a question for the dirty page table of a log, for which a place is reserved.
+fn place<Q>(journal: &mut Journal<Q>, pass: u32, handle: u8, outcome: Outcome)
+    requires reserved { 0 < journal.old.reserved }
+    requires good { (u : Setup) × IsGood u journal.old.entries }
+    ensures { PlacesStreamless pass (call.DirtyPages handle) outcome journal.old journal.new }
+{
+    let nth = journal.next_call(pass);
+    journal.push(Entry::Call {
+        pass,
+        nth,
+        stream: None,
+        call: Call::DirtyPages { handle },
+        outcome,
+    });
 }
 
 // Tells whether a page is dirty, from a journal in hand: where there is room for the entry of the call, it is placed.

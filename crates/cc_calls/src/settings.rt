@@ -5,10 +5,9 @@ ghost use Rattle.cc_entry.specs.declared.call.Call.TheVariants as call;
 ghost use Rattle.cc_visits.specs.Visits.{IsOf};
 ghost use Rattle.cc_calls.specs.Answers.{CanCall, CallSets, is_setting};
 
-use crate::turned::turned;
+use crate::turned::call_at_once;
 use cc_entry::{Call, CcError, FileId, FileSizes, Quota, StreamId};
 use cc_turns::Turns;
-use cc_visits::Tried;
 use std::alloc::Global;
 
 /// Makes the shared cache map of a stream, with a private one for the file object, or the private one alone where there
@@ -141,9 +140,6 @@ fn set<T: Turns>(alloc: Global, turns: &mut T, stream: StreamId, call: Call) -> 
     requires filed { IsOf call stream }
     ensures { CallSets (T.standing turns.old) (T.standing turns.new) call result }
 {
-    match turned(alloc, turns, stream, call, &mut []) {
-        Tried::Ended(Ok(_)) => Ok(()),
-        Tried::Ended(Err(error)) => Err(error),
-        Tried::Waits(..) => unreachable!(),
-    }
+    call_at_once(alloc, turns, stream, call, &mut [])?;
+    Ok(())
 }

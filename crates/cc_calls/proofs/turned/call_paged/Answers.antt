@@ -1,21 +1,21 @@
 use Rattle.cc_effects.proofs.Starts.{begins}
-use Rattle.cc_calls.proofs.Copying.{has-waited, in-turn, with-disk}
-use Rattle.cc_calls.proofs.Waiting.{asks, brings}
-use Rattle.cc_calls.proofs.copies.copied.Goals as goal
+use Rattle.cc_calls.proofs.Paging.{has-waited, in-turn, with-disk}
+use Rattle.cc_calls.proofs.Waiting.{brings, stepped}
+use Rattle.cc_calls.proofs.turned.call_paged.Goals as goal
 
-pub fetch-requires-clause-one : goal.fetch-requires-clause-one
-fetch-requires-clause-one g c κs within =
+pub fetch-requires-clause-stepped : goal.fetch-requires-clause-stepped
+fetch-requires-clause-stepped g c κs within =
     let w = g.T.Turns.standing c.args.turns.now in
     let v = g.T.Turns.standing c.turned.new.turns in
     let has = has-waited w v c.args.stream c.in-Waits.field-0 c.args.call c.in-Waits.call c.args.out.now c.turned.new.out c.turned.result c.in-Waits.is c.turned.ensures.left in
-    rw has.call_is (asks c.args.call c.requires.copies)
+    rw has.call_is (stepped c.args.call c.requires.paged)
 
 pub fetch-requires-clause-brings : goal.fetch-requires-clause-brings
 fetch-requires-clause-brings g c κs within =
     let w = g.T.Turns.standing c.args.turns.now in
     let v = g.T.Turns.standing c.turned.new.turns in
     let has = has-waited w v c.args.stream c.in-Waits.field-0 c.args.call c.in-Waits.call c.args.out.now c.turned.new.out c.turned.result c.in-Waits.is c.turned.ensures.left in
-    rw has.call_is (brings w.setup c.args.call c.args.stream c.in-Waits.field-0 v.seen c.requires.copies has.waits)
+    rw has.call_is (brings w.setup c.args.call c.args.stream c.in-Waits.field-0 v.seen c.requires.paged has.waits)
 
 pub fetch-requires-clause-filed : goal.fetch-requires-clause-filed
 fetch-requires-clause-filed g c κs within =
@@ -45,5 +45,5 @@ returns-in-Waits g c =
     let v = g.T.Turns.standing c.turned.new.turns in
     let has = has-waited w v c.args.stream c.in-Waits.field-0 c.args.call c.in-Waits.call c.args.out.now c.turned.new.out c.turned.result c.in-Waits.is c.turned.ensures.left in
     with-disk w v (g.T.Turns.standing c.fetch.new.turns) c.args.stream c.in-Waits.field-0 c.args.call c.in-Waits.call c.fetch.result
-    c.args.out.now c.turned.new.out c.fetch.new.out c.requires.copies c.requires.filed c.turned.ensures.went has
+    c.args.out.now c.turned.new.out c.fetch.new.out c.requires.paged c.requires.filed c.turned.ensures.went has
     c.fetch.ensures.goes_on c.fetch.ensures.settled c.fetch.ensures.good c.fetch.ensures.full c.fetch.ensures.left

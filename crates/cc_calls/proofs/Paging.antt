@@ -1,0 +1,109 @@
+-- What a call leaves that needs pages: in one turn of its stream's book, or with the turn of the disk too.
+use Rattle.std.specs.Prelude.{◌≡◌, ℕ, true, List, ◌∷◌, ◌++◌, max, Result, Ok, Err, refl}
+use Rattle.std.proofs.Common.{ap, sym, ◌∙◌, arith, inl, inr, append_assoc, subst, true≢false}
+use Rattle.cc_entry.specs.declared.call.Call.{Call}
+use Rattle.cc_entry.specs.declared.entry.Entry.{Entry}
+use Rattle.cc_entry.specs.declared.entry.Entry.TheVariants as entry
+use Rattle.cc_entry.specs.declared.error.CcError.{CcError}
+use Rattle.cc_entry.specs.declared.error.CcError.TheVariants as error
+use Rattle.cc_entry.specs.declared.reply.Outcome.{Outcome}
+use Rattle.cc_entry.specs.declared.reply.Outcome.TheVariants as outcome
+use Rattle.cc_effects.specs.Calls.{CallLeft, IsUnderWay}
+use Rattle.cc_effects.proofs.FrontLaws.{placed-of}
+use Rattle.cc_effects.proofs.Starts.{begins}
+use Rattle.cc_model.specs.Good.{IsGood}
+use Rattle.cc_model.specs.Setup.{Setup}
+use Rattle.cc_step.specs.Step.{most_asked}
+use Rattle.cc_turns.specs.Standing.{Standing}
+use Rattle.cc_visits.specs.Hands.{IsSettled, Went}
+use Rattle.cc_visits.specs.Visits.{IsOf, IsWaitedFor, TriedLeft}
+use Rattle.cc_visits.specs.declared.visits.Tried.{Tried}
+use Rattle.cc_visits.specs.declared.visits.Tried.TheVariants as tried
+use Rattle.cc_visits.specs.declared.tell.Returned.{Returned}
+use Rattle.cc_visits.specs.Ways.{EndedSo, IsFull}
+use Rattle.cc_fetch.specs.Fetch.{WentOn, most_room}
+use Rattle.cc_calls.specs.Paged.{Paged, is_paged}
+use Rattle.cc_calls.proofs.Waiting.{IsMissed, brings, missed-page}
+
+-- where there is no room for so many entries more, there is none for those of a transfer too
+fuller : (w : Standing) (asked : ℕ) (answer : Result Returned CcError) → IsFull asked w answer → IsFull (max 2 asked) w answer
+fuller w asked (Ok told) full = tt
+fuller w asked (Err (error.JournalFull entries)) full = (full.0, omega (arith, full.1))
+fuller w asked (Err other) full = tt
+
+same-turns : (w v : Standing) → Went w v → v.device_turns ≡ w.device_turns
+same-turns w v went = ap (λ x. x.device_turns) went.same
+
+went-on : (w v : Standing) → Went w v → WentOn w v
+went-on w v went = record { same = went.same ∙ ap (λ (n : ℕ). record w { seen = v.seen; others = v.others; device_turns = n }) (sym (same-turns w v went)) }
+
+-- it ended in that one turn
+pub in-turn : (w v : Standing) (it : Call) (answer : Result Returned CcError) (was now : List ℕ) → Went w v → IsSettled v → IsGood w.setup v.seen → IsFull (most_asked it) v answer → EndedSo w.setup w.number it answer w.seen v.seen was now → Paged w v it answer was now
+in-turn w v it answer was now went settled good full left = record {
+  left = left;
+  full = fuller v (most_asked it) answer full;
+  goes_on = went-on w v went;
+  settled = settled;
+  good = good;
+  missed = inl (same-turns w v went);
+  no_wait = λ none. same-turns w v went;
+}
+
+-- a call that ended left a longer journal
+call-grew : (u : Setup) (me : ℕ) (it : Call) (answered : Outcome) (old new : List Entry) → CallLeft u me it answered old new → (later : List Entry) × (new ≡ later ++ old)
+call-grew u me it (outcome.Failed (error.JournalFull entries)) old new left = (left.during, left.grew)
+call-grew u me it (outcome.Failed error.NoMemory) old new left = (left.during, left.grew)
+call-grew u me it answered old new left =
+    let p = placed-of u me it answered old new left refl in
+    let own : List Entry = entry.Call me p.1.nth p.1.stream it answered ∷ p.0 in
+    (p.1.later ++ own, p.1.grew ∙ sym (append_assoc p.1.later own old))
+
+ended-grew : (u : Setup) (me : ℕ) (it : Call) (answer : Result Returned CcError) (old new : List Entry) (was now : List ℕ) → EndedSo u me it answer old new was now → (later : List Entry) × (new ≡ later ++ old)
+ended-grew u me it (Ok told) old new was now ended = call-grew u me it (outcome.Done ended.0) old new ended.1
+ended-grew u me it (Err e) old new was now ended = call-grew u me it (outcome.Failed e) old new ended.0
+
+-- It waited after that turn, and ended with the turn of the disk.
+pub record HasWaited (w v : Standing) (s page : ℕ) (it again : Call) (was now : List ℕ) : Type 0 where
+  pub call_is : again ≡ it
+  pub way : IsUnderWay w.number it w.seen v.seen
+  pub waits : IsWaitedFor w.setup s it page v.seen
+  pub same : now ≡ was
+
+pub has-waited : (w v : Standing) (s page : ℕ) (it again : Call) (was now : List ℕ) (ended : Tried) → ended ≡ tried.Waits page again → ((begun : List Entry) → IsUnderWay w.number it begun w.seen → TriedLeft w.setup w.number s it ended begun v.seen was now) → HasWaited w v s page it again was now
+has-waited w v s page it again was now ended is left =
+    let k = rw is at (left w.seen (begins w.number it w.seen)) in
+    record { call_is = k.0; way = k.1; waits = k.2; same = k.3 }
+
+pub with-disk : (w v x : Standing) (s page : ℕ) (it again : Call) (answer : Result Returned CcError) (was between now : List ℕ) → is_paged it ≡ true → IsOf it s → Went w v → HasWaited w v s page it again was between → WentOn v x → IsSettled x → IsGood x.setup x.seen → IsFull (most_room again) x answer → ((begun : List Entry) → IsUnderWay v.number again begun v.seen → EndedSo v.setup v.number again answer begun x.seen between now) → Paged w x it answer was now
+with-disk w v x s page it again answer was between now paged filed went has on settled good full left = record {
+  left = rw (setup, number, has.call_is, has.same) at (left w.seen way);
+  full = subst (λ (call : Call). IsFull (most_room call) x answer) has.call_is full;
+  goes_on = record { same = on.same ∙ ap (λ (y : Standing). record y { seen = x.seen; others = x.others; device_turns = x.device_turns }) went.same };
+  settled = settled;
+  good = rw (ap (λ y. y.setup) on.same, setup) at good;
+  missed =
+      inr (record {
+        moment = v.seen;
+        later = grew.0;
+        since = has.way.during;
+        ends = grew.1;
+        begins = has.way.grew;
+        holds = (record { stream = s; page = page }, missed.reached, missed.absent);
+      });
+  no_wait = λ none. absurd (true≢false (sym (brings w.setup it s page v.seen paged has.waits) ∙ none));
+}
+  where
+    setup : v.setup ≡ w.setup
+    setup = ap (λ x. x.setup) went.same
+
+    number : v.number ≡ w.number
+    number = ap (λ x. x.number) went.same
+
+    way : IsUnderWay v.number again w.seen v.seen
+    way = rw (number, has.call_is) has.way
+
+    grew : (later : List Entry) × (x.seen ≡ later ++ v.seen)
+    grew = ended-grew v.setup v.number again answer v.seen x.seen between now (left v.seen (begins v.number again v.seen))
+
+    missed : IsMissed it s page v.seen
+    missed = missed-page w.setup it s page v.seen paged filed has.waits
