@@ -1,6 +1,10 @@
 -- Lines in longer stretches, one more line of a caller, and the lines that a caller has.
-use Rattle.std.specs.Prelude.{◌≡◌, ℕ, ◌<◌, Bool, true, false, List, [], ◌∷◌, ◌++◌, length, refl, if◌then◌else◌, Ok, Err}
+use Rattle.std.specs.Prelude.{◌≡◌, ℕ, ◌<◌, Bool, true, false, List, [], ◌∷◌, ◌++◌, ◌||◌, length, refl, if◌then◌else◌, Ok, Err}
+use Rattle.std.specs.declared.option.Option.{Option}
+use Rattle.std.specs.declared.option.Option.TheVariants.{Some, None}
 use Rattle.std.proofs.Common.{ap, arith}
+use Rattle.cc_entry.specs.Kinds.{is_map, is_pin, is_repin, is_read_chain, is_write_chain}
+use Rattle.cc_entry.specs.declared.hold.HoldKind.{HoldKind}
 use Rattle.cc_entry.specs.declared.call.Call.{Call}
 use Rattle.cc_entry.specs.declared.call.Call.TheVariants as call
 use Rattle.cc_entry.specs.declared.error.CcError.TheVariants as error
@@ -15,12 +19,14 @@ use Rattle.cc_script.specs.declared.script.Action.TheVariants as action
 use Rattle.cc_script.specs.declared.script.ActionLine.{ActionLine}
 use Rattle.cc_model.specs.Setup.{Setup}
 use Rattle.cc_model.specs.Room.{room_in}
-use Rattle.cc_effects.specs.Moments.{IsIdle}
+use Rattle.cc_effects.specs.Moments.{IsIdle, Between}
 use Rattle.cc_effects.proofs.Stretches.{idle-then, idle-none, some-after, some-before}
 use Rattle.cc_effects.proofs.CallSteps.{left-after, left-before}
+use Rattle.cc_effects.proofs.NoncachedSteps.{unpin-after, unpin-before}
 use Rattle.cc_effects.proofs.OtherSteps.{append-after, append-before, log-flush-after, log-flush-before}
-use Rattle.cc_pieces.specs.Bindings.{Binding}
+use Rattle.cc_pieces.specs.Bindings.{Binding, hold_named, OnHold}
 use Rattle.cc_pieces.specs.Answered.{CallAnswered, AppendAnswered, LogFlushAnswered}
+use Rattle.cc_pieces.specs.HoldLines.{HoldLine, HeldReadBy, UnpinAnswered, UnrepinLine}
 use Rattle.cc_pieces.specs.Served.{Served, bindings_after}
 use Rattle.cc_pieces.specs.Rooms.{WasFull, HadNoRoom}
 use Rattle.cc_pieces.specs.Runs.{Explains, Ran, bindings_of, asked_of}
@@ -55,15 +61,83 @@ log_flushed-after u me handle lsn (answer.Given reply.Unit) old new newer left i
 log_flushed-after u me handle lsn (answer.Refused e) old new newer left idle = log-flush-after {T = Unit {0}} u me handle lsn (Err e) old new newer left idle
 log_flushed-after u me handle lsn other old new newer left idle = absurd left
 
+-- a line on a hold, whatever it leaves there
+held-before : (me : ℕ) (hold : Option ℕ) (Left : ℕ → Answer → Between) (told : Answer) (older old new : List Entry) → ((id : ℕ) → Left id told old new → Left id told older new) → IsIdle me older old → OnHold me hold Left told old new → OnHold me hold Left told older new
+held-before me None Left told older old new step idle left = (left.0, idle-then me older old new idle left.1)
+held-before me (Some id) Left told older old new step idle left = step id left
+
+hold_line-before : (u : Setup) (me : ℕ) (bindings : List Binding) (word : ℕ) (of_kind : HoldKind → Bool) (call_on : ℕ → Call) (told : Answer) (older old new : List Entry) → IsIdle me older old → HoldLine u me bindings word of_kind call_on told old new → HoldLine u me bindings word of_kind call_on told older new
+hold_line-before u me bindings word of_kind call_on told older old new idle left =
+    held-before me (hold_named bindings word of_kind) (λ id. CallAnswered u me (call_on id)) told older old new (λ id one. answered-before u me (call_on id) told older old new idle one) idle left
+
+held_read-before : (u : Setup) (me : ℕ) (bindings : List Binding) (word at len : ℕ) (mapped : Option ℕ) (told : Answer) (older old new : List Entry) → IsIdle me older old → HeldReadBy u me bindings word at len mapped told old new → HeldReadBy u me bindings word at len mapped told older new
+held_read-before u me bindings word at len (Some id) told older old new idle left = answered-before u me (call.MappedRead id at len) told older old new idle left
+held_read-before u me bindings word at len None told older old new idle left = hold_line-before u me bindings word is_pin (λ id. call.PinnedRead id at len) told older old new idle left
+
+unpinned-before : (u : Setup) (me : ℕ) (through : Bool) (id : ℕ) (told : Answer) (older old new : List Entry) → IsIdle me older old → UnpinAnswered u me through id told old new → UnpinAnswered u me through id told older new
+unpinned-before u me through id (answer.Given r) older old new idle left = unpin-before u me id through (outcome.Done r) older old new idle left
+unpinned-before u me through id (answer.Refused e) older old new idle left = unpin-before u me id through (outcome.Failed e) older old new idle left
+unpinned-before u me through id other older old new idle left = absurd left
+
+unrepinned-before : (u : Setup) (me : ℕ) (bindings : List Binding) (word : ℕ) (through : Bool) (told : Answer) (older old new : List Entry) → IsIdle me older old → UnrepinLine u me bindings word through told old new → UnrepinLine u me bindings word through told older new
+unrepinned-before u me bindings word through told older old new idle left =
+    held-before me (hold_named bindings word is_repin) (UnpinAnswered u me through) told older old new (λ id one. unpinned-before u me through id told older old new idle one) idle left
+
+held-after : (me : ℕ) (hold : Option ℕ) (Left : ℕ → Answer → Between) (told : Answer) (old new newer : List Entry) → ((id : ℕ) → Left id told old new → Left id told old newer) → OnHold me hold Left told old new → IsIdle me new newer → OnHold me hold Left told old newer
+held-after me None Left told old new newer step left idle = (left.0, idle-then me old new newer left.1 idle)
+held-after me (Some id) Left told old new newer step left idle = step id left
+
+hold_line-after : (u : Setup) (me : ℕ) (bindings : List Binding) (word : ℕ) (of_kind : HoldKind → Bool) (call_on : ℕ → Call) (told : Answer) (old new newer : List Entry) → HoldLine u me bindings word of_kind call_on told old new → IsIdle me new newer → HoldLine u me bindings word of_kind call_on told old newer
+hold_line-after u me bindings word of_kind call_on told old new newer left idle =
+    held-after me (hold_named bindings word of_kind) (λ id. CallAnswered u me (call_on id)) told old new newer (λ id one. answered-after u me (call_on id) told old new newer one idle) left idle
+
+held_read-after : (u : Setup) (me : ℕ) (bindings : List Binding) (word at len : ℕ) (mapped : Option ℕ) (told : Answer) (old new newer : List Entry) → HeldReadBy u me bindings word at len mapped told old new → IsIdle me new newer → HeldReadBy u me bindings word at len mapped told old newer
+held_read-after u me bindings word at len (Some id) told old new newer left idle = answered-after u me (call.MappedRead id at len) told old new newer left idle
+held_read-after u me bindings word at len None told old new newer left idle = hold_line-after u me bindings word is_pin (λ id. call.PinnedRead id at len) told old new newer left idle
+
+unpinned-after : (u : Setup) (me : ℕ) (through : Bool) (id : ℕ) (told : Answer) (old new newer : List Entry) → UnpinAnswered u me through id told old new → IsIdle me new newer → UnpinAnswered u me through id told old newer
+unpinned-after u me through id (answer.Given r) old new newer left idle = unpin-after u me id through (outcome.Done r) old new newer left idle
+unpinned-after u me through id (answer.Refused e) old new newer left idle = unpin-after u me id through (outcome.Failed e) old new newer left idle
+unpinned-after u me through id other old new newer left idle = absurd left
+
+unrepinned-after : (u : Setup) (me : ℕ) (bindings : List Binding) (word : ℕ) (through : Bool) (told : Answer) (old new newer : List Entry) → UnrepinLine u me bindings word through told old new → IsIdle me new newer → UnrepinLine u me bindings word through told old newer
+unrepinned-after u me bindings word through told old new newer left idle =
+    held-after me (hold_named bindings word is_repin) (UnpinAnswered u me through) told old new newer (λ id one. unpinned-after u me through id told old new newer one idle) left idle
+
 served-before : (u : Setup) (me : ℕ) (bindings : List Binding) (asked : Action) (told : Answer) (older old new : List Entry) → IsIdle me older old → Served u me bindings asked told old new → Served u me bindings asked told older new
 served-before u me bindings (action.CopyRead file at len wait) told older old new idle left = answered-before u me (call.CopyRead file at len wait) told older old new idle left
 served-before u me bindings (action.CopyWrite file at bytes) told older old new idle left = answered-before u me (call.CopyWrite file at bytes) told older old new idle left
 served-before u me bindings (action.Zero file span) told older old new idle left = answered-before u me (call.Zero file span) told older old new idle left
-served-before u me bindings (action.SetSizes file allocation size) told older old new idle left =
-    answered-before u me (call.SetSizes file allocation size) told older old new idle left
+served-before u me bindings (action.Map file at len word) told older old new idle left = answered-before u me (call.Map file at len) told older old new idle left
+served-before u me bindings (action.PinRead file at len word exclusive) told older old new idle left = answered-before u me (call.PinRead file at len exclusive) told older old new idle left
+served-before u me bindings (action.PinMapped word exclusive) told older old new idle left =
+    hold_line-before u me bindings word is_map (λ id. call.PinMapped id exclusive) told older old new idle left
+served-before u me bindings (action.PreparePin file at len word zero exclusive) told older old new idle left =
+    answered-before u me (call.PreparePin file at len zero exclusive) told older old new idle left
+served-before u me bindings (action.HeldRead word at len) told older old new idle left =
+    held_read-before u me bindings word at len (hold_named bindings word is_map) told older old new idle left
+served-before u me bindings (action.PinnedWrite word at bytes) told older old new idle left =
+    hold_line-before u me bindings word is_pin (λ id. call.PinnedWrite id at bytes) told older old new idle left
+served-before u me bindings (action.SetDirty word lsn) told older old new idle left = hold_line-before u me bindings word is_pin (λ id. call.SetDirty id lsn) told older old new idle left
+served-before u me bindings (action.Unpin word) told older old new idle left =
+    hold_line-before u me bindings word (λ its_kind. is_map its_kind || is_pin its_kind) (λ id. call.EndHold id) told older old new idle left
+served-before u me bindings (action.Repin word made) told older old new idle left = hold_line-before u me bindings word is_pin (λ id. call.Repin id) told older old new idle left
+served-before u me bindings (action.UnpinRepinned word through) told older old new idle left = unrepinned-before u me bindings word through told older old new idle left
+served-before u me bindings (action.MdlRead file at len word) told older old new idle left = answered-before u me (call.MdlRead file at len) told older old new idle left
+served-before u me bindings (action.MdlWrite file at len word) told older old new idle left = answered-before u me (call.MdlWrite file at len) told older old new idle left
+served-before u me bindings (action.MdlBytes word at len) told older old new idle left =
+    hold_line-before u me bindings word is_read_chain (λ id. call.MdlBytes id at len) told older old new idle left
+served-before u me bindings (action.MdlStore word at bytes) told older old new idle left =
+    hold_line-before u me bindings word is_write_chain (λ id. call.MdlStore id at bytes) told older old new idle left
+served-before u me bindings (action.MdlDone word) told older old new idle left =
+    hold_line-before u me bindings word (λ its_kind. is_read_chain its_kind || is_write_chain its_kind) (λ id. call.EndHold id) told older old new idle left
+served-before u me bindings (action.MdlAbort word) told older old new idle left = hold_line-before u me bindings word is_write_chain (λ id. call.EndHold id) told older old new idle left
+served-before u me bindings (action.SetSizes file allocation size) told older old new idle left = answered-before u me (call.SetSizes file allocation size) told older old new idle left
 served-before u me bindings (action.State file) told older old new idle left = answered-before u me (call.State file) told older old new idle left
 served-before u me bindings (action.Flush file span) told older old new idle left = answered-before u me (call.Flush file span) told older old new idle left
 served-before u me bindings action.IsDirtyData told older old new idle left = answered-before u me call.IsDirtyData told older old new idle left
+served-before u me bindings (action.DirtyPages handle) told older old new idle left = answered-before u me (call.DirtyPages handle) told older old new idle left
+served-before u me bindings (action.LsnForFile file) told older old new idle left = answered-before u me (call.LsnForFile file) told older old new idle left
 served-before u me bindings (action.SetLog file handle) told older old new idle left = answered-before u me (call.SetLog file handle) told older old new idle left
 served-before u me bindings (action.Append handle bytes) told older old new idle left = appended-before u me handle bytes told older old new idle left
 served-before u me bindings (action.LogFlush handle lsn) told older old new idle left = log_flushed-before u me handle lsn told older old new idle left
@@ -72,11 +146,36 @@ served-after : (u : Setup) (me : ℕ) (bindings : List Binding) (asked : Action)
 served-after u me bindings (action.CopyRead file at len wait) told old new newer left idle = answered-after u me (call.CopyRead file at len wait) told old new newer left idle
 served-after u me bindings (action.CopyWrite file at bytes) told old new newer left idle = answered-after u me (call.CopyWrite file at bytes) told old new newer left idle
 served-after u me bindings (action.Zero file span) told old new newer left idle = answered-after u me (call.Zero file span) told old new newer left idle
-served-after u me bindings (action.SetSizes file allocation size) told old new newer left idle =
-    answered-after u me (call.SetSizes file allocation size) told old new newer left idle
+served-after u me bindings (action.Map file at len word) told old new newer left idle = answered-after u me (call.Map file at len) told old new newer left idle
+served-after u me bindings (action.PinRead file at len word exclusive) told old new newer left idle = answered-after u me (call.PinRead file at len exclusive) told old new newer left idle
+served-after u me bindings (action.PinMapped word exclusive) told old new newer left idle =
+    hold_line-after u me bindings word is_map (λ id. call.PinMapped id exclusive) told old new newer left idle
+served-after u me bindings (action.PreparePin file at len word zero exclusive) told old new newer left idle =
+    answered-after u me (call.PreparePin file at len zero exclusive) told old new newer left idle
+served-after u me bindings (action.HeldRead word at len) told old new newer left idle =
+    held_read-after u me bindings word at len (hold_named bindings word is_map) told old new newer left idle
+served-after u me bindings (action.PinnedWrite word at bytes) told old new newer left idle =
+    hold_line-after u me bindings word is_pin (λ id. call.PinnedWrite id at bytes) told old new newer left idle
+served-after u me bindings (action.SetDirty word lsn) told old new newer left idle = hold_line-after u me bindings word is_pin (λ id. call.SetDirty id lsn) told old new newer left idle
+served-after u me bindings (action.Unpin word) told old new newer left idle =
+    hold_line-after u me bindings word (λ its_kind. is_map its_kind || is_pin its_kind) (λ id. call.EndHold id) told old new newer left idle
+served-after u me bindings (action.Repin word made) told old new newer left idle = hold_line-after u me bindings word is_pin (λ id. call.Repin id) told old new newer left idle
+served-after u me bindings (action.UnpinRepinned word through) told old new newer left idle = unrepinned-after u me bindings word through told old new newer left idle
+served-after u me bindings (action.MdlRead file at len word) told old new newer left idle = answered-after u me (call.MdlRead file at len) told old new newer left idle
+served-after u me bindings (action.MdlWrite file at len word) told old new newer left idle = answered-after u me (call.MdlWrite file at len) told old new newer left idle
+served-after u me bindings (action.MdlBytes word at len) told old new newer left idle =
+    hold_line-after u me bindings word is_read_chain (λ id. call.MdlBytes id at len) told old new newer left idle
+served-after u me bindings (action.MdlStore word at bytes) told old new newer left idle =
+    hold_line-after u me bindings word is_write_chain (λ id. call.MdlStore id at bytes) told old new newer left idle
+served-after u me bindings (action.MdlDone word) told old new newer left idle =
+    hold_line-after u me bindings word (λ its_kind. is_read_chain its_kind || is_write_chain its_kind) (λ id. call.EndHold id) told old new newer left idle
+served-after u me bindings (action.MdlAbort word) told old new newer left idle = hold_line-after u me bindings word is_write_chain (λ id. call.EndHold id) told old new newer left idle
+served-after u me bindings (action.SetSizes file allocation size) told old new newer left idle = answered-after u me (call.SetSizes file allocation size) told old new newer left idle
 served-after u me bindings (action.State file) told old new newer left idle = answered-after u me (call.State file) told old new newer left idle
 served-after u me bindings (action.Flush file span) told old new newer left idle = answered-after u me (call.Flush file span) told old new newer left idle
 served-after u me bindings action.IsDirtyData told old new newer left idle = answered-after u me call.IsDirtyData told old new newer left idle
+served-after u me bindings (action.DirtyPages handle) told old new newer left idle = answered-after u me (call.DirtyPages handle) told old new newer left idle
+served-after u me bindings (action.LsnForFile file) told old new newer left idle = answered-after u me (call.LsnForFile file) told old new newer left idle
 served-after u me bindings (action.SetLog file handle) told old new newer left idle = answered-after u me (call.SetLog file handle) told old new newer left idle
 served-after u me bindings (action.Append handle bytes) told old new newer left idle = appended-after u me handle bytes told old new newer left idle
 served-after u me bindings (action.LogFlush handle lsn) told old new newer left idle = log_flushed-after u me handle lsn told old new newer left idle

@@ -1,7 +1,6 @@
 -- A word names the hold that its line made.
-use Rattle.std.specs.Prelude.{◌≡◌, ℕ, true, List, [], ◌∷◌, refl}
+use Rattle.std.specs.Prelude.{◌≡◌, ℕ, List, [], refl}
 use Rattle.std.specs.declared.option.Option.TheVariants.{Some, None}
-use Rattle.std.specs.Str.{bytes_eq}
 use Rattle.std.proofs.Common.{eq-eqb}
 use Rattle.cc_entry.specs.Kinds.{is_map, is_pin}
 use Rattle.cc_entry.specs.declared.hold.HoldKind.TheVariants as kind
@@ -14,18 +13,14 @@ use Rattle.cc_effects.specs.Moments.{IsIdle}
 use Rattle.cc_pieces.specs.Bindings.{bound, pinned, hold_named}
 use Rattle.cc_pieces.specs.HoldLines.{PinnedWriteLine}
 
-same-name : (name : List ℕ) → bytes_eq name name ≡ true
-same-name [] = refl
-same-name (byte ∷ name) = rw (eq-eqb byte byte refl) (same-name name)
+pub named : (word id : ℕ) → hold_named (bound word kind.Map (answer.Given (reply.Hold id)) []) word is_map ≡ Some id
+named word id = rw (eq-eqb word word refl) refl
 
-pub named : (name : List ℕ) (id : ℕ) → hold_named (bound name kind.Map (answer.Given (reply.Hold id)) []) name is_map ≡ Some id
-named name id = rw (same-name name) refl
+pub of-its-kind : (word id : ℕ) → hold_named (bound word kind.Map (answer.Given (reply.Hold id)) []) word is_pin ≡ None
+of-its-kind word id = rw (eq-eqb word word refl) refl
 
-pub of-its-kind : (name : List ℕ) (id : ℕ) → hold_named (bound name kind.Map (answer.Given (reply.Hold id)) []) name is_pin ≡ None
-of-its-kind name id = rw (same-name name) refl
+pub named-pin : (word id : ℕ) → hold_named (pinned word (answer.Given (reply.Hold id)) (bound word kind.Map (answer.Given (reply.Hold id)) [])) word is_pin ≡ Some id
+named-pin word id = rw (eq-eqb word word refl) (rw (eq-eqb word word refl) refl)
 
-pub named-pin : (name : List ℕ) (id : ℕ) → hold_named (pinned name (answer.Given (reply.Hold id)) (bound name kind.Map (answer.Given (reply.Hold id)) [])) name is_pin ≡ Some id
-named-pin name id = rw (same-name name) (rw (same-name name) refl)
-
-pub no-pin-write : (u : Setup) (me : ℕ) (name bytes : List ℕ) (id at : ℕ) (told : Answer) (old new : List Entry) → PinnedWriteLine u me (bound name kind.Map (answer.Given (reply.Hold id)) []) name at bytes told old new → (told ≡ answer.NoHold) × IsIdle me old new
-no-pin-write u me name bytes id at told old new line = rw (same-name name) at line
+pub no-pin-write : (u : Setup) (me word : ℕ) (bytes : List ℕ) (id at : ℕ) (told : Answer) (old new : List Entry) → PinnedWriteLine u me (bound word kind.Map (answer.Given (reply.Hold id)) []) word at bytes told old new → (told ≡ answer.NoHold) × IsIdle me old new
+no-pin-write u me word bytes id at told old new line = rw (eq-eqb word word refl) at line

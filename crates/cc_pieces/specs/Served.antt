@@ -1,5 +1,5 @@
--- What each action of a script leaves: one case for each. The other lines, on holds, of the shim and without a
--- call's entry, are defined beside, and become a case here with their verb.
+-- What each action of a script leaves: one case for each. The other lines, of the shim and without a call's entry, are
+-- defined beside, and become a case here with their verb.
 use Rattle.std.specs.Prelude.{ℕ, List, []}
 use Rattle.cc_entry.specs.declared.call.Call.TheVariants as call
 use Rattle.cc_entry.specs.declared.answer.Answer.{Answer}
@@ -7,7 +7,10 @@ use Rattle.cc_script.specs.declared.script.Action.{Action}
 use Rattle.cc_script.specs.declared.script.Action.TheVariants as action
 use Rattle.cc_model.specs.Setup.{Setup}
 use Rattle.cc_effects.specs.Moments.{Between}
-use Rattle.cc_pieces.specs.Bindings.{Binding}
+use Rattle.cc_entry.specs.declared.hold.HoldKind.TheVariants as kind
+use Rattle.cc_pieces.specs.Bindings.{Binding, bound, pinned}
+use Rattle.cc_pieces.specs.HoldLines.{PinMappedLine, HeldReadLine, PinnedWriteLine, StampLine, UnpinLine, RepinLine, UnrepinLine}
+use Rattle.cc_pieces.specs.HoldLines.{ChainReadLine, ChainStoreLine, ChainDoneLine, ChainAbortLine}
 use Rattle.cc_pieces.specs.Answered.{CallAnswered, AppendAnswered, LogFlushAnswered}
 
 -- from one moment to another, the caller's line left what explains its answer
@@ -15,11 +18,31 @@ abbrev pub Served : Setup → ℕ → List Binding → Action → Answer → Bet
 Served u me bindings (action.CopyRead file at len wait) told old new = CallAnswered u me (call.CopyRead file at len wait) told old new
 Served u me bindings (action.CopyWrite file at bytes) told old new = CallAnswered u me (call.CopyWrite file at bytes) told old new
 Served u me bindings (action.Zero file span) told old new = CallAnswered u me (call.Zero file span) told old new
+Served u me bindings (action.Map file at len word) told old new = CallAnswered u me (call.Map file at len) told old new
+Served u me bindings (action.PinRead file at len word exclusive) told old new =
+    CallAnswered u me (call.PinRead file at len exclusive) told old new
+Served u me bindings (action.PinMapped word exclusive) told old new = PinMappedLine u me bindings word exclusive told old new
+Served u me bindings (action.PreparePin file at len word zero exclusive) told old new =
+    CallAnswered u me (call.PreparePin file at len zero exclusive) told old new
+Served u me bindings (action.HeldRead word at len) told old new = HeldReadLine u me bindings word at len told old new
+Served u me bindings (action.PinnedWrite word at bytes) told old new = PinnedWriteLine u me bindings word at bytes told old new
+Served u me bindings (action.SetDirty word lsn) told old new = StampLine u me bindings word lsn told old new
+Served u me bindings (action.Unpin word) told old new = UnpinLine u me bindings word told old new
+Served u me bindings (action.Repin word made) told old new = RepinLine u me bindings word told old new
+Served u me bindings (action.UnpinRepinned word through) told old new = UnrepinLine u me bindings word through told old new
+Served u me bindings (action.MdlRead file at len word) told old new = CallAnswered u me (call.MdlRead file at len) told old new
+Served u me bindings (action.MdlWrite file at len word) told old new = CallAnswered u me (call.MdlWrite file at len) told old new
+Served u me bindings (action.MdlBytes word at len) told old new = ChainReadLine u me bindings word at len told old new
+Served u me bindings (action.MdlStore word at bytes) told old new = ChainStoreLine u me bindings word at bytes told old new
+Served u me bindings (action.MdlDone word) told old new = ChainDoneLine u me bindings word told old new
+Served u me bindings (action.MdlAbort word) told old new = ChainAbortLine u me bindings word told old new
 Served u me bindings (action.SetSizes file allocation size) told old new =
     CallAnswered u me (call.SetSizes file allocation size) told old new
 Served u me bindings (action.State file) told old new = CallAnswered u me (call.State file) told old new
 Served u me bindings (action.Flush file span) told old new = CallAnswered u me (call.Flush file span) told old new
 Served u me bindings action.IsDirtyData told old new = CallAnswered u me call.IsDirtyData told old new
+Served u me bindings (action.DirtyPages handle) told old new = CallAnswered u me (call.DirtyPages handle) told old new
+Served u me bindings (action.LsnForFile file) told old new = CallAnswered u me (call.LsnForFile file) told old new
 Served u me bindings (action.SetLog file handle) told old new = CallAnswered u me (call.SetLog file handle) told old new
 Served u me bindings (action.Append handle bytes) told old new = AppendAnswered u me handle bytes told old new
 Served u me bindings (action.LogFlush handle lsn) told old new = LogFlushAnswered u me handle lsn told old new
@@ -29,10 +52,28 @@ abbrev pub bindings_after : Action → Answer → List Binding → List Binding
 bindings_after (action.CopyRead file at len wait) told bindings = bindings
 bindings_after (action.CopyWrite file at bytes) told bindings = bindings
 bindings_after (action.Zero file span) told bindings = bindings
+bindings_after (action.Map file at len word) told bindings = bound word kind.Map told bindings
+bindings_after (action.PinRead file at len word exclusive) told bindings = bound word kind.Pin told bindings
+bindings_after (action.PinMapped word exclusive) told bindings = pinned word told bindings
+bindings_after (action.PreparePin file at len word zero exclusive) told bindings = bound word kind.Pin told bindings
+bindings_after (action.HeldRead word at len) told bindings = bindings
+bindings_after (action.PinnedWrite word at bytes) told bindings = bindings
+bindings_after (action.SetDirty word lsn) told bindings = bindings
+bindings_after (action.Unpin word) told bindings = bindings
+bindings_after (action.Repin word made) told bindings = bound made kind.Repin told bindings
+bindings_after (action.UnpinRepinned word through) told bindings = bindings
+bindings_after (action.MdlRead file at len word) told bindings = bound word kind.ReadChain told bindings
+bindings_after (action.MdlWrite file at len word) told bindings = bound word kind.WriteChain told bindings
+bindings_after (action.MdlBytes word at len) told bindings = bindings
+bindings_after (action.MdlStore word at bytes) told bindings = bindings
+bindings_after (action.MdlDone word) told bindings = bindings
+bindings_after (action.MdlAbort word) told bindings = bindings
 bindings_after (action.SetSizes file allocation size) told bindings = bindings
 bindings_after (action.State file) told bindings = bindings
 bindings_after (action.Flush file span) told bindings = bindings
 bindings_after action.IsDirtyData told bindings = bindings
+bindings_after (action.DirtyPages handle) told bindings = bindings
+bindings_after (action.LsnForFile file) told bindings = bindings
 bindings_after (action.SetLog file handle) told bindings = bindings
 bindings_after (action.Append handle bytes) told bindings = bindings
 bindings_after (action.LogFlush handle lsn) told bindings = bindings
@@ -42,10 +83,28 @@ abbrev pub posted_by : Action → Answer → List ℕ
 posted_by (action.CopyRead file at len wait) told = []
 posted_by (action.CopyWrite file at bytes) told = []
 posted_by (action.Zero file span) told = []
+posted_by (action.Map file at len word) told = []
+posted_by (action.PinRead file at len word exclusive) told = []
+posted_by (action.PinMapped word exclusive) told = []
+posted_by (action.PreparePin file at len word zero exclusive) told = []
+posted_by (action.HeldRead word at len) told = []
+posted_by (action.PinnedWrite word at bytes) told = []
+posted_by (action.SetDirty word lsn) told = []
+posted_by (action.Unpin word) told = []
+posted_by (action.Repin word made) told = []
+posted_by (action.UnpinRepinned word through) told = []
+posted_by (action.MdlRead file at len word) told = []
+posted_by (action.MdlWrite file at len word) told = []
+posted_by (action.MdlBytes word at len) told = []
+posted_by (action.MdlStore word at bytes) told = []
+posted_by (action.MdlDone word) told = []
+posted_by (action.MdlAbort word) told = []
 posted_by (action.SetSizes file allocation size) told = []
 posted_by (action.State file) told = []
 posted_by (action.Flush file span) told = []
 posted_by action.IsDirtyData told = []
+posted_by (action.DirtyPages handle) told = []
+posted_by (action.LsnForFile file) told = []
 posted_by (action.SetLog file handle) told = []
 posted_by (action.Append handle bytes) told = []
 posted_by (action.LogFlush handle lsn) told = []

@@ -65,18 +65,18 @@ pub fn reads_answer_the_plain_file()
 
 /// A word names the hold that its line made, of the kind that the hold is now; a refused line binds nothing.
 pub fn words_name_holds()
-    ensures made { (name : List ℕ) (id : ℕ) → hold_named (bound name kind.Map (answer.Given (reply.Hold id)) []) name is_map ≡ Some id }
-    ensures of_its_kind { (name : List ℕ) (id : ℕ) → hold_named (bound name kind.Map (answer.Given (reply.Hold id)) []) name is_pin ≡ None }
-    ensures pinned { (name : List ℕ) (id : ℕ) →
-        hold_named (pinned name (answer.Given (reply.Hold id)) (bound name kind.Map (answer.Given (reply.Hold id)) [])) name is_pin ≡ Some id }
-    ensures refused { (name : List ℕ) (e : CcError) → hold_named (bound name kind.Map (answer.Refused e) []) name is_map ≡ None }
+    ensures made { (word id : ℕ) → hold_named (bound word kind.Map (answer.Given (reply.Hold id)) []) word is_map ≡ Some id }
+    ensures of_its_kind { (word id : ℕ) → hold_named (bound word kind.Map (answer.Given (reply.Hold id)) []) word is_pin ≡ None }
+    ensures pinned { (word id : ℕ) →
+        hold_named (pinned word (answer.Given (reply.Hold id)) (bound word kind.Map (answer.Given (reply.Hold id)) [])) word is_pin ≡ Some id }
+    ensures refused { (word : ℕ) (e : CcError) → hold_named (bound word kind.Map (answer.Refused e) []) word is_map ≡ None }
 {}
 
 /// A line on a word that names no hold of the kind that it needs is answered so, and leaves nothing.
 pub fn lines_without_hold_leave_nothing()
-    ensures read { (u : Setup) (me : ℕ) (name : List ℕ) (at len : ℕ) (told : Answer) (old new : List Entry) →
-        HeldReadLine u me [] name at len told old new → (told ≡ answer.NoHold) × IsIdle me old new }
-    ensures write { (u : Setup) (me : ℕ) (name bytes : List ℕ) (id at : ℕ) (told : Answer) (old new : List Entry) →
-        PinnedWriteLine u me (bound name kind.Map (answer.Given (reply.Hold id)) []) name at bytes told old new →
+    ensures read { (u : Setup) (me word at len : ℕ) (told : Answer) (old new : List Entry) →
+        HeldReadLine u me [] word at len told old new → (told ≡ answer.NoHold) × IsIdle me old new }
+    ensures write { (u : Setup) (me word : ℕ) (bytes : List ℕ) (id at : ℕ) (told : Answer) (old new : List Entry) →
+        PinnedWriteLine u me (bound word kind.Map (answer.Given (reply.Hold id)) []) word at bytes told old new →
         (told ≡ answer.NoHold) × IsIdle me old new }
 {}

@@ -1,148 +1,34 @@
 -- Every script of the grammar keeps within what its run may rely on.
-use Rattle.std.proofs.Common.{◌≡◌, ℕ, zero, suc, ◌+◌, ◌<◌, ◌≤◌, ◌==◌, Bool, true, false, ◌&&◌, not, Some, None, Option, Result, Ok, Err, IfOk, IfSome, option_map, List, [], ◌∷◌, ◌++◌, length, nat_lt, nat_le, if◌then◌else◌, slice_index, codes, refl, ap, sym, ◌∙◌, subst, length-append, lit≤, arith}
+use Rattle.std.proofs.Common.{◌≡◌, ℕ, zero, suc, ◌+◌, ◌<◌, ◌≤◌, ◌==◌, Bool, true, false, ◌&&◌, not, Some, None, Option, Result, Ok, Err, IfOk, IfSome, option_map, List, [], ◌∷◌, ◌++◌, length, nat_lt, nat_le, if◌then◌else◌, slice_index, codes, refl, ap, sym, ◌∙◌, subst, length-append, lit≤, arith, ◌≢◌, get_or, replicate}
 use Rattle.std.specs.List.{AllByRecursion, list_all, AllPairs, slice_index_or}
 use Rattle.std.specs.Str.Lines.{strip_carriage_return}
-use Rattle.std.proofs.lemmas.List.{nil_from_length}
+use Rattle.std.specs.Prelude.{slice_set}
+use Rattle.std.proofs.lemmas.List.{nil_from_length, length-set, get_or-set_same, get_or-set_other}
+use Rattle.std.proofs.lemmas.Bool.{eqb-true, eqb-false}
 use Rattle.std.proofs.lemmas.Bool.Decides.{nat_tests}
 use Rattle.cc_script.specs.declared.script.Mode.{Mode}
 use Rattle.cc_script.specs.declared.script.Script.{Script}
 use Rattle.cc_script.specs.declared.script.StreamLine.{StreamLine}
 use Rattle.cc_script.specs.declared.script.Action.{Action}
-use Rattle.cc_script.specs.declared.script.Action.TheVariants as action
 use Rattle.cc_script.specs.declared.script.ActionLine.{ActionLine}
 use Rattle.cc_script.specs.declared.verb.Verb.{Verb}
 use Rattle.cc_script.specs.declared.verb.Verb.TheVariants as verb
 use Rattle.cc_script.specs.declared.reading.Reading.{Reading}
 use Rattle.cc_script.specs.Text.{lines, words}
-use Rattle.cc_script.specs.Words.{number_of, number_between, name_of, bytes_of, caller_of}
+use Rattle.cc_script.specs.Words.{number_of, number_between, name_of, caller_of}
 use Rattle.cc_script.specs.Verbs.{verb_in}
-use Rattle.cc_script.specs.Actions.{next, flag, ended, file_of, span_of, copy_read_of, copy_write_of, zero_of, set_sizes_of, state_of, flush_span_of, flush_of, set_log_of, append_of, log_flush_of, action_of, bytes_moved}
-use Rattle.cc_script.specs.Grammar.{nothing_read, may_add, with_stream, quota_of, log_of, stream_of, setting_of, with_journal, with_threshold, with_phase, placed, with_action, action_line, verb_line, called_line, uncalled_line, line_by, words_line, is_printable, text_line, line_of, or_wrong, lines_of, script_of}
+use Rattle.cc_script.specs.declared.bound.Bound.{Bound}
+use Rattle.cc_script.specs.declared.caller_words.CallerWords.{CallerWords}
+use Rattle.cc_script.specs.Actions.{next, flag}
+use Rattle.cc_script.specs.ActionTable.{action_of, bytes_counted, dirty_lines}
+use Rattle.cc_script.specs.HoldWords.{may_use, bound_after, IsRightIf, bound_so_far, UsesRight}
+use Rattle.cc_script.specs.Grammar.{nothing_read, may_add, with_stream, quota_of, log_of, stream_of, setting_of, with_journal, with_threshold, with_phase, placed, no_words, words_by, keeps_totals, with_action, action_line, verb_line, called_line, uncalled_line, line_by, words_line, is_printable, text_line, line_of, or_wrong, lines_of, script_of}
 use Rattle.cc_script.specs.declared.script.ScriptFault.{ScriptFault}
 use Rattle.cc_script.specs.Answers.{Reads}
-use Rattle.cc_script.specs.Within.{IsActionWithin, IsStreamWithin, IsLineWithin, PhasesAscend, IsWithin}
-use Rattle.cc_script.proofs.Steps.{then-gives, if-gives, both, next-gives, ended-gives, between-gives, caller-gives, file-gives, bytes-give}
-
--- an action that is read
-record IsRead (streams : List StreamLine) (a : Action) : Type 0 where
-  file : IsActionWithin streams a
-  moved : bytes_moved a ≤ 2097152
-
-copy_read-gives : (streams : List StreamLine) (ws : List (List ℕ)) (a : Action) → copy_read_of streams ws ≡ Some a → IsRead streams a
-unfolding copy_read_of
-copy_read-gives streams ws a e =
-    let file = then-gives (next (file_of streams) ws) _ a e in
-    let at = then-gives (next number_of file.0.1) _ a file.2 in
-    let len = then-gives (next (number_between 0 2097152) at.0.1) _ a at.2 in
-    let end = ended-gives _ _ a len.2 in
-    let f = next-gives (file_of streams) ws file.0.0 file.0.1 file.1 in
-    let l = next-gives (number_between 0 2097152) at.0.1 len.0.0 len.0.1 len.1 in
-    let b = between-gives 0 2097152 l.word len.0.0 l.reads in
-    subst (IsRead streams) end.1
-    (record { file = file-gives streams f.word file.0.0 f.reads; moved = b.most })
-
-copy_write-gives : (streams : List StreamLine) (ws : List (List ℕ)) (a : Action) → copy_write_of streams ws ≡ Some a → IsRead streams a
-unfolding copy_write_of
-copy_write-gives streams ws a e =
-    let file = then-gives (next (file_of streams) ws) _ a e in
-    let at = then-gives (next number_of file.0.1) _ a file.2 in
-    let bytes = then-gives (next bytes_of at.0.1) _ a at.2 in
-    let end = ended-gives _ _ a bytes.2 in
-    let f = next-gives (file_of streams) ws file.0.0 file.0.1 file.1 in
-    let b = next-gives bytes_of at.0.1 bytes.0.0 bytes.0.1 bytes.1 in
-    subst (IsRead streams) end.1
-    (record { file = file-gives streams f.word file.0.0 f.reads; moved = bytes-give b.word bytes.0.0 b.reads })
-
-zero-gives : (streams : List StreamLine) (ws : List (List ℕ)) (a : Action) → zero_of streams ws ≡ Some a → IsRead streams a
-unfolding zero_of
-zero-gives streams ws a e =
-    let file = then-gives (next (file_of streams) ws) _ a e in
-    let span = then-gives (span_of file.0.1) _ a file.2 in
-    let end = ended-gives _ _ a span.2 in
-    let f = next-gives (file_of streams) ws file.0.0 file.0.1 file.1 in
-    subst (IsRead streams) end.1
-    (record { file = file-gives streams f.word file.0.0 f.reads; moved = omega arith })
-
-set_sizes-gives : (streams : List StreamLine) (ws : List (List ℕ)) (a : Action) → set_sizes_of streams ws ≡ Some a → IsRead streams a
-unfolding set_sizes_of
-set_sizes-gives streams ws a e =
-    let file = then-gives (next (file_of streams) ws) _ a e in
-    let allocation = then-gives (next number_of file.0.1) _ a file.2 in
-    let size = then-gives (next number_of allocation.0.1) _ a allocation.2 in
-    let end = ended-gives _ _ a size.2 in
-    let f = next-gives (file_of streams) ws file.0.0 file.0.1 file.1 in
-    subst (IsRead streams) end.1
-    (record { file = file-gives streams f.word file.0.0 f.reads; moved = omega arith })
-
-state-gives : (streams : List StreamLine) (ws : List (List ℕ)) (a : Action) → state_of streams ws ≡ Some a → IsRead streams a
-unfolding state_of
-state-gives streams ws a e =
-    let file = then-gives (next (file_of streams) ws) _ a e in
-    let end = ended-gives _ _ a file.2 in
-    let f = next-gives (file_of streams) ws file.0.0 file.0.1 file.1 in
-    subst (IsRead streams) end.1
-    (record { file = file-gives streams f.word file.0.0 f.reads; moved = omega arith })
-
-flush-gives : (streams : List StreamLine) (ws : List (List ℕ)) (a : Action) → flush_of streams ws ≡ Some a → IsRead streams a
-unfolding flush_of
-flush-gives streams ws a e =
-    let file = then-gives (next (file_of streams) ws) _ a e in
-    let span = then-gives (flush_span_of file.0.1) _ a file.2 in
-    let f = next-gives (file_of streams) ws file.0.0 file.0.1 file.1 in
-    let same : action.Flush file.0.0 span.0 ≡ a = cc in
-    subst (IsRead streams) same
-    (record { file = file-gives streams f.word file.0.0 f.reads; moved = omega arith })
-
-is_dirty-gives : (streams : List StreamLine) (ws : List (List ℕ)) (a : Action) → ended ws action.IsDirtyData ≡ Some a → IsRead streams a
-is_dirty-gives streams ws a e =
-    subst (IsRead streams) (ended-gives ws action.IsDirtyData a e).1
-    (record { file = tt; moved = omega arith })
-
-set_log-gives : (streams : List StreamLine) (ws : List (List ℕ)) (a : Action) → set_log_of streams ws ≡ Some a → IsRead streams a
-unfolding set_log_of
-set_log-gives streams ws a e =
-    let file = then-gives (next (file_of streams) ws) _ a e in
-    let log = then-gives (next (number_between 0 3) file.0.1) _ a file.2 in
-    let end = ended-gives _ _ a log.2 in
-    let f = next-gives (file_of streams) ws file.0.0 file.0.1 file.1 in
-    subst (IsRead streams) end.1
-    (record { file = file-gives streams f.word file.0.0 f.reads; moved = omega arith })
-
-append-gives : (streams : List StreamLine) (ws : List (List ℕ)) (a : Action) → append_of ws ≡ Some a → IsRead streams a
-unfolding append_of
-append-gives streams ws a e =
-    let log = then-gives (next (number_between 0 3) ws) _ a e in
-    let bytes = then-gives (next bytes_of log.0.1) _ a log.2 in
-    let end = ended-gives _ _ a bytes.2 in
-    let b = next-gives bytes_of log.0.1 bytes.0.0 bytes.0.1 bytes.1 in
-    subst (IsRead streams) end.1
-    (record { file = tt; moved = bytes-give b.word bytes.0.0 b.reads })
-
-log_flush-gives : (streams : List StreamLine) (ws : List (List ℕ)) (a : Action) → log_flush_of ws ≡ Some a → IsRead streams a
-unfolding log_flush_of
-log_flush-gives streams ws a e =
-    let log = then-gives (next (number_between 0 3) ws) _ a e in
-    let lsn = then-gives (next (number_between 1 4611686018427387904) log.0.1) _ a log.2 in
-    let end = ended-gives _ _ a lsn.2 in
-    subst (IsRead streams) end.1 (record { file = tt; moved = omega arith })
-
--- an action keeps within what a line may name and move
-action-gives : (streams : List StreamLine) (v : Verb) (ws : List (List ℕ)) (a : Action) → action_of streams v ws ≡ Some a → IsRead streams a
-unfolding action_of
-action-gives streams verb.CopyRead ws a e = copy_read-gives streams ws a e
-action-gives streams verb.CopyWrite ws a e = copy_write-gives streams ws a e
-action-gives streams verb.Zero ws a e = zero-gives streams ws a e
-action-gives streams verb.SetSizes ws a e = set_sizes-gives streams ws a e
-action-gives streams verb.State ws a e = state-gives streams ws a e
-action-gives streams verb.Flush ws a e = flush-gives streams ws a e
-action-gives streams verb.IsDirtyData ws a e = is_dirty-gives streams ws a e
-action-gives streams verb.SetLog ws a e = set_log-gives streams ws a e
-action-gives streams verb.Append ws a e = append-gives streams ws a e
-action-gives streams verb.LogFlush ws a e = log_flush-gives streams ws a e
-action-gives streams verb.Stream ws a e = absurd (cc)
-action-gives streams verb.Journal ws a e = absurd (cc)
-action-gives streams verb.Threshold ws a e = absurd (cc)
-action-gives streams verb.Phase ws a e = absurd (cc)
+use Rattle.cc_script.specs.Within.{IsStreamWithin, IsLineWithin, PhasesAscend, IsWithin}
+use Rattle.cc_script.proofs.Steps.{then-gives, if-gives, both, next-gives, ended-gives, between-gives, caller-gives}
+use Rattle.cc_script.proofs.ActionsRead.{IsNumbered, action-gives}
+use Rattle.cc_script.proofs.UsedRight.{used-right, after-length, numbered-length, so_far-onto, right-onto}
 
 -- a quota is in its range
 quota-gives : (ws : List (List ℕ)) (q : ℕ) (more : List (List ℕ)) → quota_of ws ≡ Some (q, more) → (8 ≤ q) × (q ≤ 64)
@@ -217,10 +103,23 @@ ascend-onto streams from [] line low all order = (low, tt)
 ascend-onto streams from (first ∷ lines) line low all order =
     (order.0, ascend-onto streams first.phase lines line all.0.last_phase all.1 order.1)
 
--- The script so far keeps within that, and has no more lines than were read.
+-- what the reader keeps of a caller's words is what the lines so far bind
+record IsKept (caller : ℕ) (own : CallerWords) (lines : List ActionLine) : Type 0 where
+  bounds : own.bounds ≡ bound_so_far caller [] lines
+  names : length own.names ≡ length own.bounds
+
+-- The script so far keeps within that, has no more lines than were read, and its words are kept.
 record IsSoFar (n : ℕ) (r : Reading) : Type 0 where
   within : IsWithin r.script
   few : length r.script.lines ≤ n
+  callers : length r.words ≡ 17
+  kept : (caller : ℕ) → caller ≤ 16 → IsKept caller (words_by caller r) r.script.lines
+
+none-kept : (n caller : ℕ) → get_or (replicate n no_words) caller no_words ≡ no_words
+none-kept zero zero = refl
+none-kept zero (suc caller) = refl
+none-kept (suc n) zero = refl
+none-kept (suc n) (suc caller) = none-kept n caller
 
 nothing-so_far : IsSoFar 0 nothing_read
 nothing-so_far =
@@ -241,13 +140,16 @@ nothing-so_far =
         few_lines = lit≤ tt;
         lines = tt;
         in_order = tt;
+        words = λ caller. tt;
       };
       few = lit≤ tt;
+      callers = refl;
+      kept = λ caller low. subst (λ (own : CallerWords). IsKept caller own []) (sym (none-kept 17 caller)) (record { bounds = refl; names = refl });
     }
 
 -- a line that adds no action leaves room for it
 later : (n : ℕ) (r : Reading) → IsSoFar n r → IsSoFar (n + 1) r
-later n r is = record { within = is.within; few = let few = is.few in omega (arith, few) }
+later n r is = record { within = is.within; few = let few = is.few in omega (arith, few); callers = is.callers; kept = is.kept }
 
 no_lines : (xs : List ActionLine) → (length xs == 0) ≡ true → xs ≡ []
 no_lines xs e = let z : length xs ≡ 0 = grind (arith, nat_tests, e) in nil_from_length xs z
@@ -281,8 +183,11 @@ stream-so_far n stream r new one is e =
         few_lines = w.few_lines;
         lines = subst (AllByRecursion (IsLineWithin (r.script.streams ++ stream ∷ []) r.script.phases)) (sym empty) tt;
         in_order = w.in_order;
+        words = w.words;
       };
       few = is.few;
+      callers = is.callers;
+      kept = is.kept;
     })
 
 journal-so_far : (n capacity : ℕ) (r new : Reading) → (64 ≤ capacity) × (capacity ≤ 1048576) → IsSoFar n r → with_journal capacity r ≡ Some new → IsSoFar n new
@@ -310,8 +215,11 @@ journal-so_far n capacity r new range is e =
         few_lines = w.few_lines;
         lines = w.lines;
         in_order = w.in_order;
+        words = w.words;
       };
       few = is.few;
+      callers = is.callers;
+      kept = is.kept;
     })
 
 threshold-so_far : (n pages : ℕ) (r new : Reading) → (1 ≤ pages) × (pages ≤ 16384) → IsSoFar n r → with_threshold pages r ≡ Some new → IsSoFar n new
@@ -339,8 +247,11 @@ threshold-so_far n pages r new range is e =
         few_lines = w.few_lines;
         lines = w.lines;
         in_order = w.in_order;
+        words = w.words;
       };
       few = is.few;
+      callers = is.callers;
+      kept = is.kept;
     })
 
 -- a line keeps within one phase more
@@ -382,23 +293,65 @@ phase-so_far n ws r new is e =
         few_lines = w.few_lines;
         lines = all-weaker (IsLineWithin r.script.streams r.script.phases) (IsLineWithin r.script.streams (r.script.phases + 1)) (one_phase-more r.script.streams r.script.phases) r.script.lines w.lines;
         in_order = w.in_order;
+        words = w.words;
       };
       few = is.few;
+      callers = is.callers;
+      kept = is.kept;
     })
 
+-- a line of another caller changes nothing of a caller's words
+right-if : (caller c : ℕ) (a : Action) (lines : List ActionLine) (t : Bool) → (caller == c) ≡ t → UsesRight (bound_so_far caller [] lines) a → IsRightIf t (bound_so_far c [] lines) a
+right-if caller c a lines true e is = subst (λ (c : ℕ). UsesRight (bound_so_far c [] lines) a) (eqb-true caller c e) is
+right-if caller c a lines false e is = tt
+
+-- the words of each caller behind a line
+kept-on : (caller : ℕ) (own : CallerWords) (line : ActionLine) (r : Reading) → line.caller ≡ caller → caller < length r.words → IsKept caller own (r.script.lines ++ line ∷ []) → ((c : ℕ) → c ≤ 16 → IsKept c (words_by c r) r.script.lines) → (c : ℕ) → c ≤ 16 → IsKept c (get_or (slice_set r.words caller own) c no_words) (r.script.lines ++ line ∷ [])
+kept-on caller own line r by low is kept c few = either (caller == c) refl
+  where
+    either : (t : Bool) → (caller == c) ≡ t → IsKept c (get_or (slice_set r.words caller own) c no_words) (r.script.lines ++ line ∷ [])
+    either true e =
+        let here : get_or (slice_set r.words caller own) caller no_words ≡ own = get_or-set_same r.words caller own no_words low in
+        subst (λ (c : ℕ). IsKept c (get_or (slice_set r.words caller own) c no_words) (r.script.lines ++ line ∷ [])) (eqb-true caller c e)
+        (subst (λ (own : CallerWords). IsKept caller own (r.script.lines ++ line ∷ [])) (sym here) is)
+    either false e =
+        let other : c ≢ caller = λ same. eqb-false caller c e (sym same) in
+        let there : get_or (slice_set r.words caller own) c no_words ≡ get_or r.words c no_words = get_or-set_other r.words caller c own no_words other in
+        let k = kept c few in
+        let bound : bound_so_far c [] (r.script.lines ++ line ∷ []) ≡ bound_so_far c [] r.script.lines =
+        so_far-onto c [] r.script.lines line ∙ rw (by, e) refl in
+        subst (λ (own : CallerWords). IsKept c own (r.script.lines ++ line ∷ [])) (sym there)
+        (record { bounds = k.bounds ∙ sym bound; names = k.names })
+
+same-caller : (c : ℕ) (t : Bool) → (c == c) ≡ t → t ≡ true
+same-caller c true e = refl
+same-caller c false e = absurd (eqb-false c c e refl)
+
 -- a line of a caller's action
-action-so_far : (n line caller : ℕ) (v : Verb) (ws : List (List ℕ)) (r new : Reading) → n < 65536 → (1 ≤ caller) × (caller ≤ 16) → IsSoFar n r → action_line line caller v ws r ≡ Some new → IsSoFar (n + 1) new
+action-so_far : (m : Mode) (n line caller : ℕ) (v : Verb) (ws : List (List ℕ)) (r new : Reading) → n < 65536 → (1 ≤ caller) × (caller ≤ 16) → IsSoFar n r → action_line m line caller v ws r ≡ Some new → IsSoFar (n + 1) new
 unfolding action_line with_action
-action-so_far n line caller v ws r new room range is e =
-    let found = then-gives (action_of r.script.streams v ws) _ new e in
-    let a = found.0 in
-    let read = action-gives r.script.streams v ws a found.1 in
-    let t = if-gives (nat_le (r.total + bytes_moved a) 33554432) _ new found.2 in
+action-so_far m n line caller v ws r new room range is e =
+    let own = words_by caller r in
+    let found = then-gives (action_of m r.script.streams own.names v ws) _ new e in
+    let a = found.0.0 in
+    let read = action-gives m r.script.streams own.names v ws found.0 found.1 in
+    let t = if-gives (keeps_totals a r && may_use a own.bounds) _ new found.2 in
+    let tests = both (keeps_totals a r) (may_use a own.bounds) t.0 in
     let w = is.within in
     let few = is.few in
+    let k = is.kept caller range.1 in
     let last : ActionLine = placed line caller a r in
     let len : length (r.script.lines ++ last ∷ []) ≡ length r.script.lines + 1 = length-append r.script.lines (last ∷ []) in
-    let same : (let made : Reading = record r { script = record r.script { lines = r.script.lines ++ last ∷ [] }; total = r.total + bytes_moved a } in made) ≡ new = cc in
+    let numbered : IsNumbered a (length own.bounds) (length found.0.1) = subst (λ (old : ℕ). IsNumbered a old (length found.0.1)) k.names read.numbered in
+    let right : UsesRight own.bounds a = used-right a own.bounds (length found.0.1) numbered tests.1 in
+    let so_far : UsesRight (bound_so_far caller [] r.script.lines) a = subst (λ (bounds : List Bound). UsesRight bounds a) k.bounds right in
+    let after : CallerWords = record { names = found.0.1; bounds = bound_after a own.bounds } in
+    let is_own : (caller == caller) ≡ true = same-caller caller (caller == caller) refl in
+    let kept : IsKept caller after (r.script.lines ++ last ∷ []) = record {
+      bounds = ap (bound_after a) k.bounds ∙ sym (so_far-onto caller [] r.script.lines last ∙ rw is_own refl);
+      names = numbered-length a (length own.bounds) (length found.0.1) numbered ∙ sym (after-length a own.bounds right);
+    } in
+    let same : (let made : Reading = record r { script = record r.script { lines = r.script.lines ++ last ∷ [] }; total = r.total + bytes_counted a; dirty = r.dirty + dirty_lines a; words = slice_set r.words caller after } in made) ≡ new = cc in
     let one : IsLineWithin r.script.streams r.script.phases last = record {
       first_caller = range.0;
       last_caller = range.1;
@@ -407,6 +360,9 @@ action-so_far n line caller v ws r new room range is e =
       file = read.file;
       moved = read.moved;
     } in
+    let all = is.callers in
+    let most = range.1 in
+    let low : caller < length r.words = omega (arith, all, most) in
     subst (IsSoFar (n + 1)) same
     (record {
       within = record {
@@ -425,32 +381,53 @@ action-so_far n line caller v ws r new room range is e =
         few_lines = omega (arith, len, few, room);
         lines = all-onto (IsLineWithin r.script.streams r.script.phases) r.script.lines last w.lines one;
         in_order = ascend-onto r.script.streams 1 r.script.lines last w.first_phase w.lines w.in_order;
+        words = λ c. right-onto c [] r.script.lines last (w.words c) (right-if caller c a r.script.lines (caller == c) refl so_far);
       };
       few = omega (arith, len, few);
+      callers = length-set r.words caller after ∙ is.callers;
+      kept = kept-on caller after last r refl low kept is.kept;
     })
 
-verb-so_far : (n line : ℕ) (v : Verb) (ws : List (List ℕ)) (r new : Reading) → n < 65536 → IsSoFar n r → verb_line line v ws r ≡ Some new → IsSoFar (n + 1) new
+verb-so_far : (m : Mode) (n line : ℕ) (v : Verb) (ws : List (List ℕ)) (r new : Reading) → n < 65536 → IsSoFar n r → verb_line m line v ws r ≡ Some new → IsSoFar (n + 1) new
 unfolding verb_line
-verb-so_far n line verb.Stream ws r new room is e =
+verb-so_far m n line verb.Stream ws r new room is e =
     let found = then-gives (stream_of line ws) _ new e in
     later n new (stream-so_far n found.0 r new (stream-gives line ws found.0 found.1) is found.2)
-verb-so_far n line verb.Journal ws r new room is e =
+verb-so_far m n line verb.Journal ws r new room is e =
     let found = then-gives (setting_of 64 1048576 ws) _ new e in
     later n new (journal-so_far n found.0 r new (setting-gives 64 1048576 ws found.0 found.1) is found.2)
-verb-so_far n line verb.Threshold ws r new room is e =
+verb-so_far m n line verb.Threshold ws r new room is e =
     let found = then-gives (setting_of 1 16384 ws) _ new e in
     later n new (threshold-so_far n found.0 r new (setting-gives 1 16384 ws found.0 found.1) is found.2)
-verb-so_far n line verb.Phase ws r new room is e = later n new (phase-so_far n ws r new is e)
-verb-so_far n line verb.CopyRead ws r new room is e = action-so_far n line 1 verb.CopyRead ws r new room (lit≤ tt, lit≤ tt) is e
-verb-so_far n line verb.CopyWrite ws r new room is e = action-so_far n line 1 verb.CopyWrite ws r new room (lit≤ tt, lit≤ tt) is e
-verb-so_far n line verb.Zero ws r new room is e = action-so_far n line 1 verb.Zero ws r new room (lit≤ tt, lit≤ tt) is e
-verb-so_far n line verb.SetSizes ws r new room is e = action-so_far n line 1 verb.SetSizes ws r new room (lit≤ tt, lit≤ tt) is e
-verb-so_far n line verb.State ws r new room is e = action-so_far n line 1 verb.State ws r new room (lit≤ tt, lit≤ tt) is e
-verb-so_far n line verb.Flush ws r new room is e = action-so_far n line 1 verb.Flush ws r new room (lit≤ tt, lit≤ tt) is e
-verb-so_far n line verb.IsDirtyData ws r new room is e = action-so_far n line 1 verb.IsDirtyData ws r new room (lit≤ tt, lit≤ tt) is e
-verb-so_far n line verb.SetLog ws r new room is e = action-so_far n line 1 verb.SetLog ws r new room (lit≤ tt, lit≤ tt) is e
-verb-so_far n line verb.Append ws r new room is e = action-so_far n line 1 verb.Append ws r new room (lit≤ tt, lit≤ tt) is e
-verb-so_far n line verb.LogFlush ws r new room is e = action-so_far n line 1 verb.LogFlush ws r new room (lit≤ tt, lit≤ tt) is e
+verb-so_far m n line verb.Phase ws r new room is e = later n new (phase-so_far n ws r new is e)
+verb-so_far m n line verb.CopyRead ws r new room is e = action-so_far m n line 1 verb.CopyRead ws r new room (lit≤ tt, lit≤ tt) is e
+verb-so_far m n line verb.CopyWrite ws r new room is e = action-so_far m n line 1 verb.CopyWrite ws r new room (lit≤ tt, lit≤ tt) is e
+verb-so_far m n line verb.Zero ws r new room is e = action-so_far m n line 1 verb.Zero ws r new room (lit≤ tt, lit≤ tt) is e
+verb-so_far m n line verb.Map ws r new room is e = action-so_far m n line 1 verb.Map ws r new room (lit≤ tt, lit≤ tt) is e
+verb-so_far m n line verb.PinRead ws r new room is e = action-so_far m n line 1 verb.PinRead ws r new room (lit≤ tt, lit≤ tt) is e
+verb-so_far m n line verb.PinMapped ws r new room is e = action-so_far m n line 1 verb.PinMapped ws r new room (lit≤ tt, lit≤ tt) is e
+verb-so_far m n line verb.PreparePin ws r new room is e = action-so_far m n line 1 verb.PreparePin ws r new room (lit≤ tt, lit≤ tt) is e
+verb-so_far m n line verb.HeldRead ws r new room is e = action-so_far m n line 1 verb.HeldRead ws r new room (lit≤ tt, lit≤ tt) is e
+verb-so_far m n line verb.PinnedWrite ws r new room is e = action-so_far m n line 1 verb.PinnedWrite ws r new room (lit≤ tt, lit≤ tt) is e
+verb-so_far m n line verb.SetDirty ws r new room is e = action-so_far m n line 1 verb.SetDirty ws r new room (lit≤ tt, lit≤ tt) is e
+verb-so_far m n line verb.Unpin ws r new room is e = action-so_far m n line 1 verb.Unpin ws r new room (lit≤ tt, lit≤ tt) is e
+verb-so_far m n line verb.Repin ws r new room is e = action-so_far m n line 1 verb.Repin ws r new room (lit≤ tt, lit≤ tt) is e
+verb-so_far m n line verb.UnpinRepinned ws r new room is e = action-so_far m n line 1 verb.UnpinRepinned ws r new room (lit≤ tt, lit≤ tt) is e
+verb-so_far m n line verb.MdlRead ws r new room is e = action-so_far m n line 1 verb.MdlRead ws r new room (lit≤ tt, lit≤ tt) is e
+verb-so_far m n line verb.MdlWrite ws r new room is e = action-so_far m n line 1 verb.MdlWrite ws r new room (lit≤ tt, lit≤ tt) is e
+verb-so_far m n line verb.MdlBytes ws r new room is e = action-so_far m n line 1 verb.MdlBytes ws r new room (lit≤ tt, lit≤ tt) is e
+verb-so_far m n line verb.MdlStore ws r new room is e = action-so_far m n line 1 verb.MdlStore ws r new room (lit≤ tt, lit≤ tt) is e
+verb-so_far m n line verb.MdlDone ws r new room is e = action-so_far m n line 1 verb.MdlDone ws r new room (lit≤ tt, lit≤ tt) is e
+verb-so_far m n line verb.MdlAbort ws r new room is e = action-so_far m n line 1 verb.MdlAbort ws r new room (lit≤ tt, lit≤ tt) is e
+verb-so_far m n line verb.SetSizes ws r new room is e = action-so_far m n line 1 verb.SetSizes ws r new room (lit≤ tt, lit≤ tt) is e
+verb-so_far m n line verb.State ws r new room is e = action-so_far m n line 1 verb.State ws r new room (lit≤ tt, lit≤ tt) is e
+verb-so_far m n line verb.Flush ws r new room is e = action-so_far m n line 1 verb.Flush ws r new room (lit≤ tt, lit≤ tt) is e
+verb-so_far m n line verb.IsDirtyData ws r new room is e = action-so_far m n line 1 verb.IsDirtyData ws r new room (lit≤ tt, lit≤ tt) is e
+verb-so_far m n line verb.DirtyPages ws r new room is e = action-so_far m n line 1 verb.DirtyPages ws r new room (lit≤ tt, lit≤ tt) is e
+verb-so_far m n line verb.LsnForFile ws r new room is e = action-so_far m n line 1 verb.LsnForFile ws r new room (lit≤ tt, lit≤ tt) is e
+verb-so_far m n line verb.SetLog ws r new room is e = action-so_far m n line 1 verb.SetLog ws r new room (lit≤ tt, lit≤ tt) is e
+verb-so_far m n line verb.Append ws r new room is e = action-so_far m n line 1 verb.Append ws r new room (lit≤ tt, lit≤ tt) is e
+verb-so_far m n line verb.LogFlush ws r new room is e = action-so_far m n line 1 verb.LogFlush ws r new room (lit≤ tt, lit≤ tt) is e
 
 -- a line by a caller, or without a caller word
 by-so_far : (mode : Mode) (n line : ℕ) (caller : Option ℕ) (word : List ℕ) (more : List (List ℕ)) (r new : Reading) → n < 65536 → caller_of word ≡ caller → IsSoFar n r → line_by mode line caller word more r ≡ Some new → IsSoFar (n + 1) new
@@ -459,11 +436,11 @@ by-so_far mode n line (Some caller) word more r new room by is e =
     let c = caller-gives word caller by in
     let found = then-gives (next (verb_in mode) more) _ new e in
     let w = next-gives (verb_in mode) more found.0.0 found.0.1 found.1 in
-    action-so_far n line caller found.0.0 found.0.1 r new room c is found.2
+    action-so_far mode n line caller found.0.0 found.0.1 r new room c is found.2
 by-so_far mode n line None word more r new room by is e =
     let found = then-gives (next (verb_in mode) (word ∷ more)) _ new e in
     let w = next-gives (verb_in mode) (word ∷ more) found.0.0 found.0.1 found.1 in
-    verb-so_far n line found.0.0 found.0.1 r new room is found.2
+    verb-so_far mode n line found.0.0 found.0.1 r new room is found.2
 
 words-so_far : (mode : Mode) (n line : ℕ) (ws : List (List ℕ)) (r new : Reading) → n < 65536 → IsSoFar n r → words_line mode line ws r ≡ Some new → IsSoFar (n + 1) new
 unfolding words_line

@@ -1,4 +1,4 @@
--- The actions by cases on their verb: the words behind it, in their order.
+-- The actions that name no hold: the words behind the verb, in their order.
 use Rattle.std.specs.Prelude.{ℕ, Bool, true, false, not, ◌==◌, Option, Some, None, option_map, List, [], ◌∷◌, length, nat_le, if◌then◌else◌, codes}
 use Rattle.std.specs.List.{position}
 use Rattle.std.specs.Str.{bytes_eq}
@@ -6,8 +6,6 @@ use Rattle.cc_entry.specs.Place.{File, Range}
 use Rattle.cc_script.specs.declared.script.StreamLine.{StreamLine}
 use Rattle.cc_script.specs.declared.script.Action.{Action}
 use Rattle.cc_script.specs.declared.script.Action.TheVariants as action
-use Rattle.cc_script.specs.declared.verb.Verb.{Verb}
-use Rattle.cc_script.specs.declared.verb.Verb.TheVariants as verb
 use Rattle.cc_script.specs.Outcome.{◌>>=◌}
 use Rattle.cc_script.specs.Words.{number_of, number_between, bytes_of}
 
@@ -110,32 +108,14 @@ log_flush_of ws = do
   lsn ← next (number_between 1 4611686018427387904) log.1
   ended lsn.1 (action.LogFlush log.0 lsn.0)
 
--- the action of a verb
-unfoldable pub action_of : List StreamLine → Verb → List (List ℕ) → Option Action
-action_of streams verb.CopyRead ws = copy_read_of streams ws
-action_of streams verb.CopyWrite ws = copy_write_of streams ws
-action_of streams verb.Zero ws = zero_of streams ws
-action_of streams verb.SetSizes ws = set_sizes_of streams ws
-action_of streams verb.State ws = state_of streams ws
-action_of streams verb.Flush ws = flush_of streams ws
-action_of streams verb.IsDirtyData ws = ended ws action.IsDirtyData
-action_of streams verb.SetLog ws = set_log_of streams ws
-action_of streams verb.Append ws = append_of ws
-action_of streams verb.LogFlush ws = log_flush_of ws
-action_of streams verb.Stream ws = None
-action_of streams verb.Journal ws = None
-action_of streams verb.Threshold ws = None
-action_of streams verb.Phase ws = None
+-- dirty LOG
+unfoldable pub dirty_pages_of : List (List ℕ) → Option Action
+dirty_pages_of ws = do
+  log ← next (number_between 0 3) ws
+  ended log.1 (action.DirtyPages log.0)
 
--- how many bytes an action reads, writes or appends
-abbrev pub bytes_moved : Action → ℕ
-bytes_moved (action.CopyRead _ _ len _) = len
-bytes_moved (action.CopyWrite _ _ bytes) = length bytes
-bytes_moved (action.Zero _ _) = 0
-bytes_moved (action.SetSizes _ _ _) = 0
-bytes_moved (action.State _) = 0
-bytes_moved (action.Flush _ _) = 0
-bytes_moved action.IsDirtyData = 0
-bytes_moved (action.SetLog _ _) = 0
-bytes_moved (action.Append _ bytes) = length bytes
-bytes_moved (action.LogFlush _ _) = 0
+-- lsns FILE
+unfoldable pub lsn_for_file_of : List StreamLine → List (List ℕ) → Option Action
+lsn_for_file_of streams ws = do
+  file ← next (file_of streams) ws
+  ended file.1 (action.LsnForFile file.0)

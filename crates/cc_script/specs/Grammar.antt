@@ -1,5 +1,5 @@
 -- The script that bytes spell: line after line, or the first line that is not in the grammar.
-use Rattle.std.specs.Prelude.{ℕ, ◌+◌, ◌==◌, Bool, true, false, ◌&&◌, not, Option, Some, None, Result, Ok, Err, is_some, option_map, List, [], ◌∷◌, ◌++◌, length, nat_lt, nat_le, slice_index, if◌then◌else◌, codes}
+use Rattle.std.specs.Prelude.{ℕ, ◌+◌, ◌==◌, Bool, true, false, ◌&&◌, not, Option, Some, None, Result, Ok, Err, is_some, option_map, List, [], ◌∷◌, ◌++◌, length, nat_lt, nat_le, slice_index, slice_set, get_or, replicate, if◌then◌else◌, codes}
 use Rattle.std.specs.List.{list_all}
 use Rattle.std.specs.Str.Lines.{strip_carriage_return}
 use Rattle.cc_script.specs.declared.script.Mode.{Mode}
@@ -10,20 +10,33 @@ use Rattle.cc_script.specs.declared.script.ActionLine.{ActionLine}
 use Rattle.cc_script.specs.declared.verb.Verb.{Verb}
 use Rattle.cc_script.specs.declared.verb.Verb.TheVariants as verb
 use Rattle.cc_script.specs.declared.reading.Reading.{Reading}
+use Rattle.cc_script.specs.declared.caller_words.CallerWords.{CallerWords}
 use Rattle.cc_script.specs.Outcome.{◌>>=◌}
 use Rattle.cc_script.specs.Text.{lines, words}
 use Rattle.cc_script.specs.Words.{number_of, number_between, name_of, caller_of}
 use Rattle.cc_script.specs.Verbs.{verb_in}
-use Rattle.cc_script.specs.Actions.{next, flag, ended, stream_named, action_of, bytes_moved}
+use Rattle.cc_script.specs.Actions.{next, flag, ended, stream_named}
+use Rattle.cc_script.specs.ActionTable.{action_of, bytes_counted, dirty_lines}
+use Rattle.cc_script.specs.HoldWords.{may_use, bound_after}
 
--- before the first line
+-- no words, of a caller that has bound none
+abbrev pub no_words : CallerWords
+no_words = record { names = []; bounds = [] }
+
+-- before the first line; the words of the callers stand by their numbers, from 0 on, which binds none
 abbrev pub nothing_read : Reading
 nothing_read = record {
   script = record { journal = 1048576; threshold = 1024; ticks = 0; aheads = 0; phases = 1; streams = []; lines = [] };
   total = 0;
   has_journal = false;
   has_threshold = false;
+  dirty = 0;
+  words = replicate 17 no_words;
 }
+
+-- the words that a caller bound so far
+abbrev pub words_by : ℕ → Reading → CallerWords
+words_by caller r = get_or r.words caller no_words
 
 -- a stream may follow: before the first action, while there are fewer than 16, by a new name
 unfoldable pub may_add : StreamLine → Reading → Bool
@@ -97,55 +110,84 @@ with_phase ws r =
 abbrev pub placed : ℕ → ℕ → Action → Reading → ActionLine
 placed n caller action r = record { line = n; phase = r.script.phases; caller = caller; action = action }
 
--- an action: all together read, write and append at most 33554432 bytes
-unfoldable pub with_action : ℕ → ℕ → Action → Reading → Option Reading
-with_action n caller action r =
-    if nat_le (r.total + bytes_moved action) 33554432
+-- the totals that one more line keeps to: in all 33554432 bytes, and 64 lines `dirty`
+abbrev pub keeps_totals : Action → Reading → Bool
+keeps_totals action r = nat_le (r.total + bytes_counted action) 33554432 && nat_le (r.dirty + dirty_lines action) 64
+
+-- what a caller's words stand for behind its line
+abbrev pub words_after : Action → CallerWords → CallerWords
+words_after action own = record own { bounds = bound_after action own.bounds }
+
+-- An action of a caller with these words, of which those that it binds are known already: within the totals, and on
+-- holds as the words allow.
+unfoldable pub with_action : ℕ → ℕ → CallerWords → Action → Reading → Option Reading
+with_action n caller own action r =
+    if keeps_totals action r && may_use action own.bounds
     then Some (record r {
       script = record r.script { lines = r.script.lines ++ placed n caller action r ∷ [] };
-      total = r.total + bytes_moved action;
+      total = r.total + bytes_counted action;
+      dirty = r.dirty + dirty_lines action;
+      words = slice_set r.words caller (words_after action own);
     })
     else None
 
-unfoldable pub action_line : ℕ → ℕ → Verb → List (List ℕ) → Reading → Option Reading
-action_line n caller v ws r = do
-  action ← action_of r.script.streams v ws
-  with_action n caller action r
+unfoldable pub action_line : Mode → ℕ → ℕ → Verb → List (List ℕ) → Reading → Option Reading
+action_line mode n caller v ws r = do
+  found ← action_of mode r.script.streams (words_by caller r).names v ws
+  with_action n caller (record (words_by caller r) { names = found.1 }) found.0 r
 
 -- a line of a verb, without a caller word
-unfoldable pub verb_line : ℕ → Verb → List (List ℕ) → Reading → Option Reading
-verb_line n verb.Stream ws r = do
+unfoldable pub verb_line : Mode → ℕ → Verb → List (List ℕ) → Reading → Option Reading
+verb_line mode n verb.Stream ws r = do
   stream ← stream_of n ws
   with_stream stream r
-verb_line n verb.Journal ws r = do
+verb_line mode n verb.Journal ws r = do
   capacity ← setting_of 64 1048576 ws
   with_journal capacity r
-verb_line n verb.Threshold ws r = do
+verb_line mode n verb.Threshold ws r = do
   pages ← setting_of 1 16384 ws
   with_threshold pages r
-verb_line n verb.Phase ws r = with_phase ws r
-verb_line n verb.CopyRead ws r = action_line n 1 verb.CopyRead ws r
-verb_line n verb.CopyWrite ws r = action_line n 1 verb.CopyWrite ws r
-verb_line n verb.Zero ws r = action_line n 1 verb.Zero ws r
-verb_line n verb.SetSizes ws r = action_line n 1 verb.SetSizes ws r
-verb_line n verb.State ws r = action_line n 1 verb.State ws r
-verb_line n verb.Flush ws r = action_line n 1 verb.Flush ws r
-verb_line n verb.IsDirtyData ws r = action_line n 1 verb.IsDirtyData ws r
-verb_line n verb.SetLog ws r = action_line n 1 verb.SetLog ws r
-verb_line n verb.Append ws r = action_line n 1 verb.Append ws r
-verb_line n verb.LogFlush ws r = action_line n 1 verb.LogFlush ws r
+verb_line mode n verb.Phase ws r = with_phase ws r
+verb_line mode n verb.CopyRead ws r = action_line mode n 1 verb.CopyRead ws r
+verb_line mode n verb.CopyWrite ws r = action_line mode n 1 verb.CopyWrite ws r
+verb_line mode n verb.Zero ws r = action_line mode n 1 verb.Zero ws r
+verb_line mode n verb.Map ws r = action_line mode n 1 verb.Map ws r
+verb_line mode n verb.PinRead ws r = action_line mode n 1 verb.PinRead ws r
+verb_line mode n verb.PinMapped ws r = action_line mode n 1 verb.PinMapped ws r
+verb_line mode n verb.PreparePin ws r = action_line mode n 1 verb.PreparePin ws r
+verb_line mode n verb.HeldRead ws r = action_line mode n 1 verb.HeldRead ws r
+verb_line mode n verb.PinnedWrite ws r = action_line mode n 1 verb.PinnedWrite ws r
+verb_line mode n verb.SetDirty ws r = action_line mode n 1 verb.SetDirty ws r
+verb_line mode n verb.Unpin ws r = action_line mode n 1 verb.Unpin ws r
+verb_line mode n verb.Repin ws r = action_line mode n 1 verb.Repin ws r
+verb_line mode n verb.UnpinRepinned ws r = action_line mode n 1 verb.UnpinRepinned ws r
+verb_line mode n verb.MdlRead ws r = action_line mode n 1 verb.MdlRead ws r
+verb_line mode n verb.MdlWrite ws r = action_line mode n 1 verb.MdlWrite ws r
+verb_line mode n verb.MdlBytes ws r = action_line mode n 1 verb.MdlBytes ws r
+verb_line mode n verb.MdlStore ws r = action_line mode n 1 verb.MdlStore ws r
+verb_line mode n verb.MdlDone ws r = action_line mode n 1 verb.MdlDone ws r
+verb_line mode n verb.MdlAbort ws r = action_line mode n 1 verb.MdlAbort ws r
+verb_line mode n verb.SetSizes ws r = action_line mode n 1 verb.SetSizes ws r
+verb_line mode n verb.State ws r = action_line mode n 1 verb.State ws r
+verb_line mode n verb.Flush ws r = action_line mode n 1 verb.Flush ws r
+verb_line mode n verb.IsDirtyData ws r = action_line mode n 1 verb.IsDirtyData ws r
+verb_line mode n verb.DirtyPages ws r = action_line mode n 1 verb.DirtyPages ws r
+verb_line mode n verb.LsnForFile ws r = action_line mode n 1 verb.LsnForFile ws r
+verb_line mode n verb.SetLog ws r = action_line mode n 1 verb.SetLog ws r
+verb_line mode n verb.Append ws r = action_line mode n 1 verb.Append ws r
+verb_line mode n verb.LogFlush ws r = action_line mode n 1 verb.LogFlush ws r
 
 -- an action behind a caller word
 unfoldable pub called_line : Mode → ℕ → ℕ → List (List ℕ) → Reading → Option Reading
 called_line mode n caller ws r = do
   v ← next (verb_in mode) ws
-  action_line n caller v.0 v.1 r
+  action_line mode n caller v.0 v.1 r
 
 -- a line that doesn't begin with a caller word
 unfoldable pub uncalled_line : Mode → ℕ → List (List ℕ) → Reading → Option Reading
 uncalled_line mode n ws r = do
   v ← next (verb_in mode) ws
-  verb_line n v.0 v.1 r
+  verb_line mode n v.0 v.1 r
 
 -- a line, by the caller that its first word names, if any
 abbrev pub line_by : Mode → ℕ → Option ℕ → List ℕ → List (List ℕ) → Reading → Option Reading

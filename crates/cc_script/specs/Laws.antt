@@ -1,5 +1,5 @@
 -- What the definitions of the grammar come to, in words of their own.
-use Rattle.std.specs.Prelude.{ℕ, ◌≡◌, ◌==◌, ◌<◌, ◌^◌, ◌↔◌, Bool, not, IsTrue, Option, Some, None, Ok, List, [], ◌∷◌, ◌++◌, ◌⊎◌, true, ◌≤◌, ◌/◌, ◌%◌, length, map, replicate, nat_lt, codes, if◌then◌else◌}
+use Rattle.std.specs.Prelude.{ℕ, ◌≡◌, ◌+◌, ◌==◌, ◌<◌, ◌^◌, ◌↔◌, Bool, not, IsTrue, Option, Some, None, Ok, List, [], ◌∷◌, ◌++◌, ◌⊎◌, true, ◌≤◌, ◌/◌, ◌%◌, length, map, replicate, nat_lt, codes, if◌then◌else◌}
 use Rattle.std.specs.List.{join_with_byte, list_all, flat_map, AllPairs}
 use Rattle.std.specs.Fmt.{decimal, digit_glyph}
 use Rattle.cc_entry.specs.Place.{File}
@@ -15,6 +15,8 @@ use Rattle.cc_script.specs.Verbs.{verb_text, verb_of}
 use Rattle.cc_script.specs.declared.script.Mode.{Mode}
 use Rattle.cc_script.specs.declared.script.Script.{Script}
 use Rattle.cc_script.specs.Grammar.{stream_of, setting_of, script_of}
+use Rattle.cc_script.specs.declared.bound.Bound.{Bound}
+use Rattle.cc_script.specs.HoldWords.{bound_so_far, AreUsedRight, words_bound}
 use Rattle.cc_script.specs.Within.{PhasesAscend, IsWithin}
 
 -- a number's word is exactly its decimal text
@@ -151,3 +153,20 @@ ScriptsAreWithin = (mode : Mode) (bytes : List ℕ) (script : Script) → script
 abbrev pub PhasesRise : Type 0
 PhasesRise =
     (from : ℕ) (lines : List ActionLine) → PhasesAscend from lines → AllPairs (λ first later. first.phase ≤ later.phase) lines
+
+-- the lines of a script that follow others are right over what those bound
+abbrev pub WordsGoOn : Type 0
+WordsGoOn =
+    (caller : ℕ) (bounds : List Bound) (lines more : List ActionLine) → AreUsedRight caller bounds (lines ++ more) →
+    AreUsedRight caller bounds lines × AreUsedRight caller (bound_so_far caller bounds lines) more
+
+abbrev pub WordsAddUp : Type 0
+WordsAddUp =
+    (caller : ℕ) (bounds : List Bound) (lines more : List ActionLine) →
+    bound_so_far caller bounds (lines ++ more) ≡ bound_so_far caller (bound_so_far caller bounds lines) more
+
+-- a caller's lines bind as many words as are counted
+abbrev pub WordsAreCounted : Type 0
+WordsAreCounted =
+    (caller : ℕ) (bounds : List Bound) (lines : List ActionLine) → AreUsedRight caller bounds lines →
+    length (bound_so_far caller bounds lines) ≡ length bounds + words_bound caller lines

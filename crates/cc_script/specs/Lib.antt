@@ -2,7 +2,11 @@ pub mod Outcome
 pub mod Text
 pub mod Words
 pub mod Verbs
+pub mod HoldNames
 pub mod Actions
+pub mod HoldActions
+pub mod ActionTable
+pub mod HoldWords
 pub mod Grammar
 pub mod Answers
 pub mod Within

@@ -7,7 +7,8 @@ use Rattle.cc_script.specs.declared.script.StreamLine.{StreamLine}
 use Rattle.cc_script.specs.declared.script.Action.{Action}
 use Rattle.cc_script.specs.declared.script.Action.TheVariants as action
 use Rattle.cc_script.specs.declared.script.ActionLine.{ActionLine}
-use Rattle.cc_script.specs.Actions.{bytes_moved}
+use Rattle.cc_script.specs.ActionTable.{bytes_moved}
+use Rattle.cc_script.specs.HoldWords.{AreUsedRight}
 
 -- a file that a line may name: the first object of a stream of the script
 pub record IsFileWithin (streams : List StreamLine) (file : File) : Type 0 where
@@ -19,10 +20,28 @@ abbrev pub IsActionWithin : List StreamLine → Action → Type 0
 IsActionWithin streams (action.CopyRead file _ _ _) = IsFileWithin streams file
 IsActionWithin streams (action.CopyWrite file _ _) = IsFileWithin streams file
 IsActionWithin streams (action.Zero file _) = IsFileWithin streams file
+IsActionWithin streams (action.Map file _ _ _) = IsFileWithin streams file
+IsActionWithin streams (action.PinRead file _ _ _ _) = IsFileWithin streams file
+IsActionWithin streams (action.PinMapped _ _) = Unit {0}
+IsActionWithin streams (action.PreparePin file _ _ _ _ _) = IsFileWithin streams file
+IsActionWithin streams (action.HeldRead _ _ _) = Unit {0}
+IsActionWithin streams (action.PinnedWrite _ _ _) = Unit {0}
+IsActionWithin streams (action.SetDirty _ _) = Unit {0}
+IsActionWithin streams (action.Unpin _) = Unit {0}
+IsActionWithin streams (action.Repin _ _) = Unit {0}
+IsActionWithin streams (action.UnpinRepinned _ _) = Unit {0}
+IsActionWithin streams (action.MdlRead file _ _ _) = IsFileWithin streams file
+IsActionWithin streams (action.MdlWrite file _ _ _) = IsFileWithin streams file
+IsActionWithin streams (action.MdlBytes _ _ _) = Unit {0}
+IsActionWithin streams (action.MdlStore _ _ _) = Unit {0}
+IsActionWithin streams (action.MdlDone _) = Unit {0}
+IsActionWithin streams (action.MdlAbort _) = Unit {0}
 IsActionWithin streams (action.SetSizes file _ _) = IsFileWithin streams file
 IsActionWithin streams (action.State file) = IsFileWithin streams file
 IsActionWithin streams (action.Flush file _) = IsFileWithin streams file
 IsActionWithin streams action.IsDirtyData = Unit {0}
+IsActionWithin streams (action.DirtyPages _) = Unit {0}
+IsActionWithin streams (action.LsnForFile file) = IsFileWithin streams file
 IsActionWithin streams (action.SetLog file _) = IsFileWithin streams file
 IsActionWithin streams (action.Append _ _) = Unit {0}
 IsActionWithin streams (action.LogFlush _ _) = Unit {0}
@@ -66,3 +85,4 @@ pub record IsWithin (script : Script) : Type 0 where
   pub few_lines : length script.lines ≤ 65536
   pub lines : AllByRecursion (IsLineWithin script.streams script.phases) script.lines
   pub in_order : PhasesAscend 1 script.lines
+  pub words : (caller : ℕ) → AreUsedRight caller [] script.lines

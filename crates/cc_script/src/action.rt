@@ -1,14 +1,20 @@
 //! The actions, each read from the words behind its verb.
 
 ghost use Rattle.std.specs.Prelude.{◌≡◌};
-ghost use Rattle.cc_script.specs.Outcome.{Gives};
-ghost use Rattle.cc_script.specs.Actions.{copy_read_of, copy_write_of, zero_of, set_sizes_of, state_of, flush_span_of, flush_of, set_log_of, append_of, log_flush_of, ended, action_of, bytes_moved};
+ghost use Rattle.cc_script.specs.Outcome.{Gives, TakesIf};
+ghost use Rattle.cc_script.specs.Actions.{copy_read_of, copy_write_of, zero_of, set_sizes_of, state_of, flush_span_of, flush_of, set_log_of, append_of, log_flush_of, dirty_pages_of, lsn_for_file_of, ended};
+ghost use Rattle.cc_script.specs.ActionTable.{action_of, bytes_counted, dirty_lines};
 ghost use Rattle.cc_script.specs.declared.script.Action.TheVariants as action;
 
 use crate::byte_word::LONGEST;
 use crate::fault::LineFault;
+use crate::hold_action::{
+    held_read, map, mdl_abort, mdl_bytes, mdl_done, mdl_read, mdl_store, mdl_write, pin_mapped,
+    pin_read, pinned_write, prepare_pin, repin, set_dirty, unpin, unpin_repinned,
+};
+use crate::hold_word::HoldNames;
 use crate::part::Words;
-use crate::script::{Action, StreamLines};
+use crate::script::{Action, Mode, StreamLines};
 use crate::verb::Verb;
 use cc_entry::Span;
 use std::alloc::Global;
@@ -163,24 +169,68 @@ fn log_flush(words: &mut Words) -> Option<Action>
     }
 }
 
-/// The action of a verb, `Syntax` where it has none of these words.
-#[tactic(auto, unfolding(crate::specs::Actions::action_of))]
+#[tactic(auto, unfolding(crate::specs::Actions::dirty_pages_of))]
+fn dirty_pages(words: &mut Words) -> Option<Action>
+    ensures { result ≡ dirty_pages_of words.old }
+{
+    let handle = words.handle()?;
+    if words.is_empty() {
+        Some(Action::DirtyPages { handle })
+    } else {
+        None
+    }
+}
+
+#[tactic(auto, unfolding(crate::specs::Actions::lsn_for_file_of))]
+fn lsn_for_file(streams: &StreamLines, words: &mut Words) -> Option<Action>
+    ensures { result ≡ lsn_for_file_of streams.now words.old }
+{
+    let file = words.file(streams)?;
+    if words.is_empty() {
+        Some(Action::LsnForFile { file })
+    } else {
+        None
+    }
+}
+
+/// The action of a verb, `Syntax` where it has none of these words. A word that it binds is known from now on.
+#[tactic(auto, unfolding(crate::specs::ActionTable::action_of))]
 pub(crate) fn action(
     alloc: Global,
+    mode: Mode,
     streams: &StreamLines,
+    names: &mut HoldNames,
     verb: Verb,
     words: &mut Words,
 ) -> Result<Action, LineFault>
-    ensures { Gives (action_of streams.now verb words.old) result }
+    ensures { TakesIf (action_of mode streams.now names.old verb words.old) result names.new }
 {
     match verb {
         Verb::CopyRead => copy_read(streams, words).ok_or(LineFault::Syntax),
         Verb::CopyWrite => copy_write(alloc, streams, words),
         Verb::Zero => zero(streams, words).ok_or(LineFault::Syntax),
+        Verb::Map => map(alloc, streams, names, words),
+        Verb::PinRead => pin_read(alloc, streams, names, words),
+        Verb::PinMapped => pin_mapped(names, words).ok_or(LineFault::Syntax),
+        Verb::PreparePin => prepare_pin(alloc, streams, names, words),
+        Verb::HeldRead => held_read(names, words).ok_or(LineFault::Syntax),
+        Verb::PinnedWrite => pinned_write(alloc, names, words),
+        Verb::SetDirty => set_dirty(names, words).ok_or(LineFault::Syntax),
+        Verb::Unpin => unpin(names, words).ok_or(LineFault::Syntax),
+        Verb::Repin => repin(alloc, names, words),
+        Verb::UnpinRepinned => unpin_repinned(mode, names, words).ok_or(LineFault::Syntax),
+        Verb::MdlRead => mdl_read(alloc, streams, names, words),
+        Verb::MdlWrite => mdl_write(alloc, streams, names, words),
+        Verb::MdlBytes => mdl_bytes(names, words).ok_or(LineFault::Syntax),
+        Verb::MdlStore => mdl_store(alloc, names, words),
+        Verb::MdlDone => mdl_done(names, words).ok_or(LineFault::Syntax),
+        Verb::MdlAbort => mdl_abort(names, words).ok_or(LineFault::Syntax),
         Verb::SetSizes => set_sizes(streams, words).ok_or(LineFault::Syntax),
         Verb::State => state(streams, words).ok_or(LineFault::Syntax),
         Verb::Flush => flush(streams, words).ok_or(LineFault::Syntax),
         Verb::IsDirtyData => is_dirty_data(words).ok_or(LineFault::Syntax),
+        Verb::DirtyPages => dirty_pages(words).ok_or(LineFault::Syntax),
+        Verb::LsnForFile => lsn_for_file(streams, words).ok_or(LineFault::Syntax),
         Verb::SetLog => set_log(streams, words).ok_or(LineFault::Syntax),
         Verb::Append => append(alloc, words),
         Verb::LogFlush => log_flush(words).ok_or(LineFault::Syntax),
@@ -188,19 +238,32 @@ pub(crate) fn action(
     }
 }
 
-/// How many bytes an action reads, writes or appends.
-pub(crate) fn bytes_moved(action: &Action) -> u64
-    ensures { result ≡ bytes_moved action.now }
+/// How many bytes of an action count in the total: those that it reads, writes or appends, and the length of a hold
+/// that it makes.
+pub(crate) fn bytes_counted(action: &Action) -> u64
+    ensures { result ≡ bytes_counted action.now }
 {
     match action {
-        Action::CopyRead { len, .. } => *len,
+        Action::CopyRead { len, .. }
+        | Action::HeldRead { len, .. }
+        | Action::MdlBytes { len, .. }
+        | Action::Map { len, .. }
+        | Action::PinRead { len, .. }
+        | Action::PreparePin { len, .. }
+        | Action::MdlRead { len, .. }
+        | Action::MdlWrite { len, .. } => *len,
+        Action::PinnedWrite { bytes, .. } | Action::MdlStore { bytes, .. } => bytes.len(),
         Action::CopyWrite { bytes, .. } | Action::Append { bytes, .. } => bytes.len(),
-        Action::Zero { .. }
-        | Action::SetSizes { .. }
-        | Action::State { .. }
-        | Action::Flush { .. }
-        | Action::IsDirtyData
-        | Action::SetLog { .. }
-        | Action::LogFlush { .. } => 0,
+        _ => 0,
+    }
+}
+
+/// Whether a line is `dirty`, as a number.
+pub(crate) fn dirty_lines(action: &Action) -> u64
+    ensures { result ≡ dirty_lines action.now }
+{
+    match action {
+        Action::DirtyPages { .. } => 1,
+        _ => 0,
     }
 }

@@ -1,6 +1,6 @@
 //! Laws of the grammar: functions without a body, whose clauses are proved.
 
-ghost use Rattle.cc_script.specs.Laws.{NumbersAreDecimal, VerbsDiffer, VerbsAreFound, VerbsAreNoCallers, LinesJoin, LinesAreWhole, WordsSpell, StreamsSpell, ReadsSpell, SettingsSpell, ScriptsAreWithin, PhasesRise};
+ghost use Rattle.cc_script.specs.Laws.{NumbersAreDecimal, VerbsDiffer, VerbsAreFound, VerbsAreNoCallers, LinesJoin, LinesAreWhole, WordsSpell, StreamsSpell, ReadsSpell, SettingsSpell, ScriptsAreWithin, PhasesRise, WordsGoOn, WordsAddUp, WordsAreCounted};
 
 /// A number's word is exactly its decimal text, and stands for a number below 2^64.
 
@@ -38,4 +38,12 @@ pub fn lines_spell()
 pub fn scripts_are_within()
     ensures within { ScriptsAreWithin }
     ensures phases { PhasesRise }
+{}
+
+/// What a caller bound goes on from line to line: lines that follow others are right over what those bound, and a
+/// caller's lines bind as many words as are counted.
+pub fn words_go_on()
+    ensures right { WordsGoOn }
+    ensures adds { WordsAddUp }
+    ensures counted { WordsAreCounted }
 {}

@@ -3,15 +3,21 @@
 //! The grammar is a definition in specs/: bytes as lines, a line as words, and a table by cases over the
 //! verbs. `read_script` answers exactly the script that the bytes spell, else the number of the first
 //! line that is not in the grammar, or want of memory. What it answers keeps within the ranges that
-//! a run relies on, so that the run needs no test of its script. Laws of the grammar in words of their own, as that a number's
+//! a run relies on, so that the run needs no test of its script: a word that names a hold is looked up once, as it is
+//! read, and stands for its number from then on. Laws of the grammar in words of their own, as that a number's
 //! word is its decimal text, are clauses of functions without a body.
 //!
-//! It stands on cc_entry, for the values of the words; the program's runs stand on it.
+//! It stands on cc_entry, for the values of the words, and on `indexmap`, by which a word that names a hold is found;
+//! the program's runs stand on it.
 #![tactic(auto)]
 
 mod action;
+mod bound;
 mod byte_word;
+mod caller_words;
 mod fault;
+mod hold_action;
+mod hold_word;
 mod laws;
 mod name;
 mod part;
@@ -19,11 +25,15 @@ mod read;
 mod reading;
 mod script;
 mod slot;
+mod stretch;
 mod verb;
 mod word;
 
+pub use bound::{Bound, Need};
+pub use hold_word::HoldWord;
 pub use laws::{
-    lines_join, lines_spell, numbers_are_decimal, scripts_are_within, verbs_differ, words_spell,
+    lines_join, lines_spell, numbers_are_decimal, scripts_are_within, verbs_differ, words_go_on,
+    words_spell,
 };
 pub use name::Name;
 pub use read::read_script;

@@ -1,6 +1,6 @@
 //! The reader of scripts: lines, words, and the script that they spell.
 
-ghost use Rattle.std.specs.Prelude.{◌≡◌, IfOk};
+ghost use Rattle.std.specs.Prelude.{◌≡◌, ◌≤◌, IfOk};
 ghost use Rattle.std.specs.List.{list_all};
 ghost use Rattle.std.specs.Str.Lines.{strip_carriage_return};
 ghost use Rattle.cc_script.specs.Outcome.{Becomes};
@@ -31,7 +31,9 @@ pub fn read_script(alloc: Global, bytes: &[u8], mode: Mode) -> Result<Script, Sc
 fn read_lines(alloc: Global, bytes: &[u8], mode: Mode) -> Result<Script, ScriptFault>
     ensures { Reads (script_of mode bytes.now) result }
 {
-    let mut reading = Reading::new(alloc);
+    let Ok(mut reading) = Reading::new(alloc) else {
+        return Err(ScriptFault::NoMemory);
+    };
     let mut rest = bytes;
     let mut line = 0;
     while !rest.is_empty() {
@@ -101,10 +103,11 @@ impl Reading {
         caller: u32,
         words: &mut Words,
     ) -> Result<(), LineFault>
+        requires { caller ≤ 16 }
         ensures { Becomes (called_line mode number caller words.old self.old) result self.new }
     {
         let verb = words.verb(mode).ok_or(LineFault::Syntax)?;
-        self.action(alloc, number, caller, verb, words)
+        self.action(alloc, mode, number, caller, verb, words)
     }
 
     // The words of a line without a caller word.
@@ -119,7 +122,7 @@ impl Reading {
         ensures { Becomes (uncalled_line mode number words.old self.old) result self.new }
     {
         let verb = words.verb(mode).ok_or(LineFault::Syntax)?;
-        self.verb(alloc, number, verb, words)
+        self.verb(alloc, mode, number, verb, words)
     }
 }
 

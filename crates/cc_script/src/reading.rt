@@ -1,15 +1,18 @@
 //! What the lines so far say, and how one more line changes it.
 
-ghost use Rattle.std.specs.Prelude.{◌≡◌, ◌<◌, ◌^◌, length};
+ghost use Rattle.std.specs.Prelude.{◌≡◌, ◌<◌, ◌≤◌, ◌+◌, ◌^◌, true, false, length, IfOk, MatchOption};
 ghost use Rattle.std.specs.Bool.{OnTrue};
 ghost use Rattle.cc_script.specs.Outcome.{Gives, Becomes};
-ghost use Rattle.cc_script.specs.Grammar.{nothing_read, may_add, with_stream, stream_of, setting_of, with_journal, with_threshold, with_phase, with_action, action_line, verb_line};
+ghost use Rattle.cc_script.specs.ActionTable.{bytes_counted, dirty_lines};
+ghost use Rattle.cc_script.specs.Grammar.{nothing_read, may_add, with_stream, stream_of, setting_of, with_journal, with_threshold, with_phase, keeps_totals, with_action, action_line, verb_line};
 
-use crate::action::{action, bytes_moved};
+use crate::action::{action, bytes_counted, dirty_lines};
+use crate::caller_words::{AllWords, CallerWords};
 use crate::fault::LineFault;
 use crate::part::Words;
-use crate::script::{Action, ActionLine, ActionLines, Script, StreamLine, StreamLines};
+use crate::script::{Action, ActionLine, ActionLines, Mode, Script, StreamLine, StreamLines};
 use crate::verb::Verb;
+use cc_entry::NoMemory;
 use std::alloc::Global;
 
 /// The most entries of a journal, and what it has where no line says so.
@@ -18,8 +21,11 @@ pub(crate) const MOST_ENTRIES: u64 = 1048576;
 /// The highest cache threshold, in pages.
 const MOST_PAGES: u64 = 16384;
 
-/// The most bytes that the lines of a script read, write and append.
+/// The most bytes that the lines of a script read, write, append and hold.
 const MOST_BYTES: u64 = 33554432;
+
+/// The most lines `dirty` of a script.
+const MOST_DIRTY: u64 = 64;
 
 /// What the lines so far say.
 #[derive(Drop)]
@@ -28,11 +34,14 @@ pub(crate) struct Reading {
     pub(crate) total: u64,
     pub(crate) has_journal: bool,
     pub(crate) has_threshold: bool,
+    /// How many lines are `dirty`.
+    pub(crate) dirty: u64,
+    pub(crate) words: AllWords,
 }
 
 impl Reading {
-    pub(crate) fn new(alloc: Global) -> Reading
-        ensures { result ≡ nothing_read }
+    pub(crate) fn new(alloc: Global) -> Result<Reading, NoMemory>
+        ensures { IfOk result (λ reading. reading ≡ nothing_read) }
     {
         let script = Script {
             journal: 1048576,
@@ -43,12 +52,14 @@ impl Reading {
             streams: StreamLines::new(alloc),
             lines: ActionLines::new(alloc),
         };
-        Reading {
+        Ok(Reading {
             script,
             total: 0,
             has_journal: false,
             has_threshold: false,
-        }
+            dirty: 0,
+            words: AllWords::new(alloc)?,
+        })
     }
 
     #[tactic(auto, unfolding(crate::specs::Grammar::may_add))]
@@ -107,40 +118,76 @@ impl Reading {
         Ok(())
     }
 
-    #[tactic(auto, unfolding(crate::specs::Grammar::with_action))]
-    fn add_action(&mut self, number: u32, caller: u32, action: Action) -> Result<(), LineFault>
-        ensures { Becomes (with_action number caller action self.old) result self.new }
+    // The total of bytes and the number of `dirty` lines with one more line, where they are not too high.
+    fn totals_with(&self, action: &Action) -> Option<(u64, u64)>
+        ensures { MatchOption result (keeps_totals action.now self.now ≡ false) (λ totals.
+            (keeps_totals action.now self.now ≡ true)
+            × (totals.0 ≡ self.now.total + bytes_counted action.now)
+            × (totals.1 ≡ self.now.dirty + dirty_lines action.now)) }
     {
-        let moved = bytes_moved(&action);
-        match self.total.checked_add(moved) {
-            Some(total) if total <= MOST_BYTES => {
-                let phase = self.script.phases;
-                self.script.lines.push(ActionLine {
-                    line: number,
-                    phase,
-                    caller,
-                    action,
-                })?;
-                self.total = total;
-                Ok(())
-            }
-            _ => Err(LineFault::Syntax),
+        let total = self.total.checked_add(bytes_counted(action))?;
+        let dirty = self.dirty.checked_add(dirty_lines(action))?;
+        if total <= MOST_BYTES && dirty <= MOST_DIRTY {
+            Some((total, dirty))
+        } else {
+            None
         }
     }
 
-    #[tactic(auto, unfolding(crate::specs::Grammar::action_line))]
+    // An action of a caller with these words, of which those that it binds are known already.
+    #[tactic(auto, unfolding(crate::specs::Grammar::with_action))]
+    fn add_action(
+        &mut self,
+        number: u32,
+        caller: u32,
+        own: CallerWords,
+        action: Action,
+    ) -> Result<(), LineFault>
+        requires caller { caller ≤ 16 }
+        ensures { Becomes (with_action number caller own action self.old) result self.new }
+    {
+        let (total, dirty) = self.totals_with(&action).ok_or(LineFault::Syntax)?;
+        if !own.bounds.may_use(&action) {
+            return Err(LineFault::Syntax);
+        }
+        let mut own = own;
+        own.bounds.follow(&action)?;
+        self.words.put(caller, own);
+        let phase = self.script.phases;
+        self.script.lines.push(ActionLine {
+            line: number,
+            phase,
+            caller,
+            action,
+        })?;
+        self.total = total;
+        self.dirty = dirty;
+        Ok(())
+    }
+
+    #[tactic(auto, using(crate::proofs::Taken::action_taken), unfolding(crate::specs::Grammar::action_line))]
     pub(crate) fn action(
         &mut self,
         alloc: Global,
+        mode: Mode,
         number: u32,
         caller: u32,
         verb: Verb,
         words: &mut Words,
     ) -> Result<(), LineFault>
-        ensures { Becomes (action_line number caller verb words.old self.old) result self.new }
+        requires { caller ≤ 16 }
+        ensures { Becomes (action_line mode number caller verb words.old self.old) result self.new }
     {
-        let action = action(alloc, &self.script.streams, verb, words)?;
-        self.add_action(number, caller, action)
+        let mut own = self.words.take(caller);
+        let action = action(
+            alloc,
+            mode,
+            &self.script.streams,
+            &mut own.names,
+            verb,
+            words,
+        )?;
+        self.add_action(number, caller, own, action)
     }
 
     /// A line of a verb, without a caller word.
@@ -148,11 +195,12 @@ impl Reading {
     pub(crate) fn verb(
         &mut self,
         alloc: Global,
+        mode: Mode,
         number: u32,
         verb: Verb,
         words: &mut Words,
     ) -> Result<(), LineFault>
-        ensures { Becomes (verb_line number verb words.old self.old) result self.new }
+        ensures { Becomes (verb_line mode number verb words.old self.old) result self.new }
     {
         match verb {
             Verb::Stream => {
@@ -171,13 +219,31 @@ impl Reading {
             Verb::CopyRead
             | Verb::CopyWrite
             | Verb::Zero
+            | Verb::Map
+            | Verb::PinRead
+            | Verb::PinMapped
+            | Verb::PreparePin
+            | Verb::HeldRead
+            | Verb::PinnedWrite
+            | Verb::SetDirty
+            | Verb::Unpin
+            | Verb::Repin
+            | Verb::UnpinRepinned
+            | Verb::MdlRead
+            | Verb::MdlWrite
+            | Verb::MdlBytes
+            | Verb::MdlStore
+            | Verb::MdlDone
+            | Verb::MdlAbort
             | Verb::SetSizes
             | Verb::State
             | Verb::Flush
             | Verb::IsDirtyData
+            | Verb::DirtyPages
+            | Verb::LsnForFile
             | Verb::SetLog
             | Verb::Append
-            | Verb::LogFlush => self.action(alloc, number, 1, verb, words),
+            | Verb::LogFlush => self.action(alloc, mode, number, 1, verb, words),
         }
     }
 }

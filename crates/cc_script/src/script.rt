@@ -3,7 +3,9 @@
 ghost use Rattle.std.specs.Prelude.{◌≡◌, ◌∷◌, ◌++◌, ◌<◌, ◌≤◌, ◌==◌, [], length, vec_len, OnOk, OnErr};
 ghost use Rattle.std.specs.List.{position};
 ghost use Rattle.std.specs.Str.{bytes_eq};
+ghost use Rattle.cc_script.specs.HoldWords.{binds, words_bound};
 
+use crate::hold_word::HoldWord;
 use crate::name::Name;
 use cc_entry::{Bytes, FileId, Lsn, NoMemory, Quota, Span, StreamId};
 use std::alloc::Global;
@@ -131,6 +133,88 @@ pub enum Action {
         file: FileId,
         span: Span,
     },
+    Map {
+        file: FileId,
+        at: u64,
+        len: u64,
+        word: HoldWord,
+    },
+    PinRead {
+        file: FileId,
+        at: u64,
+        len: u64,
+        word: HoldWord,
+        exclusive: bool,
+    },
+    PinMapped {
+        word: HoldWord,
+        exclusive: bool,
+    },
+    PreparePin {
+        file: FileId,
+        at: u64,
+        len: u64,
+        word: HoldWord,
+        zero: bool,
+        exclusive: bool,
+    },
+    /// A read of the bytes of a map or of a pin.
+    HeldRead {
+        word: HoldWord,
+        at: u64,
+        len: u64,
+    },
+    PinnedWrite {
+        word: HoldWord,
+        at: u64,
+        bytes: Bytes,
+    },
+    SetDirty {
+        word: HoldWord,
+        lsn: Option<Lsn>,
+    },
+    /// The end of a map or of a pin.
+    Unpin {
+        word: HoldWord,
+    },
+    /// A repin of the pin of a word, which another word names from now on.
+    Repin {
+        word: HoldWord,
+        made: HoldWord,
+    },
+    UnpinRepinned {
+        word: HoldWord,
+        through: bool,
+    },
+    MdlRead {
+        file: FileId,
+        at: u64,
+        len: u64,
+        word: HoldWord,
+    },
+    MdlWrite {
+        file: FileId,
+        at: u64,
+        len: u64,
+        word: HoldWord,
+    },
+    MdlBytes {
+        word: HoldWord,
+        at: u64,
+        len: u64,
+    },
+    MdlStore {
+        word: HoldWord,
+        at: u64,
+        bytes: Bytes,
+    },
+    /// The end of a chain, of whichever kind.
+    MdlDone {
+        word: HoldWord,
+    },
+    MdlAbort {
+        word: HoldWord,
+    },
     SetSizes {
         file: FileId,
         allocation: u64,
@@ -144,6 +228,12 @@ pub enum Action {
         span: Option<Span>,
     },
     IsDirtyData,
+    DirtyPages {
+        handle: u8,
+    },
+    LsnForFile {
+        file: FileId,
+    },
     SetLog {
         file: FileId,
         handle: u8,
@@ -156,6 +246,23 @@ pub enum Action {
         handle: u8,
         lsn: Lsn,
     },
+}
+
+impl Action {
+    /// Whether it binds a word to a hold.
+    pub fn binds(&self) -> bool
+        ensures { result ≡ binds self.now }
+    {
+        matches!(
+            self,
+            Action::Map { .. }
+                | Action::PinRead { .. }
+                | Action::PreparePin { .. }
+                | Action::Repin { .. }
+                | Action::MdlRead { .. }
+                | Action::MdlWrite { .. }
+        )
+    }
 }
 
 /// An action with its line, its phase and its caller, all counted from 1.
@@ -237,6 +344,21 @@ pub struct Script {
     pub phases: u32,
     pub streams: StreamLines,
     pub lines: ActionLines,
+}
+
+impl Script {
+    /// How many words a caller binds, so that there may be room for all of them at once.
+    pub fn words_of(&self, caller: u32) -> usize
+        ensures { result ≡ words_bound caller self.now.lines }
+    {
+        let mut count = 0;
+        for line in self.lines.as_slice() {
+            if line.caller == caller && line.action.binds() {
+                count += 1;
+            }
+        }
+        count
+    }
 }
 
 /// Why a script is not read.

@@ -5,12 +5,16 @@ ghost use Rattle.cc_script.specs.Outcome.{Takes, TakesIf};
 ghost use Rattle.cc_script.specs.Words.{number_of, number_between, name_of, bytes_of};
 ghost use Rattle.cc_script.specs.Verbs.{verb_in};
 ghost use Rattle.cc_script.specs.Actions.{next, flag, file_of, span_of};
+ghost use Rattle.cc_script.specs.HoldNames.{word_of};
+ghost use Rattle.cc_script.specs.HoldActions.{stretch_of};
 ghost use Rattle.cc_script.specs.Grammar.{quota_of, log_of};
 
 use crate::fault::LineFault;
+use crate::hold_word::{HoldNames, HoldWord};
 use crate::name::Name;
 use crate::part::Words;
 use crate::script::{Mode, StreamLines};
+use crate::stretch::Stretch;
 use crate::verb::Verb;
 use crate::{byte_word, word};
 use cc_entry::{Bytes, FileId, Lsn, Quota, Span};
@@ -112,6 +116,24 @@ impl Words<'_> {
     {
         let stream = streams.find(self.next()?)?;
         FileId::new(stream.number(), 0)
+    }
+
+    /// A file, and so many bytes of it from a place on.
+    #[tactic(auto, unfolding(crate::specs::HoldActions::stretch_of))]
+    pub(crate) fn stretch(&mut self, streams: &StreamLines) -> Option<Stretch>
+        ensures { Takes (stretch_of streams.now self.old) result self.new }
+    {
+        let file = self.file(streams)?;
+        let at = self.number()?;
+        let len = self.number()?;
+        Some(Stretch { file, at, len })
+    }
+
+    /// A word that was bound.
+    pub(crate) fn word(&mut self, names: &HoldNames) -> Option<HoldWord>
+        ensures { Takes (next (word_of names.now) self.old) result self.new }
+    {
+        names.find(self.next()?)
     }
 
     pub(crate) fn name(&mut self, alloc: Global) -> Result<Name, LineFault>

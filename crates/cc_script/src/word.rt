@@ -69,7 +69,8 @@ pub(crate) fn is_name_byte(c: u8) -> bool
 /// The caller that a word `t1` to `t16` names.
 #[tactic(auto, unfolding(crate::specs::Words::caller_of))]
 pub(crate) fn caller(word: &[u8]) -> Option<u32>
-    ensures { result ≡ caller_of word.now }
+    ensures value { result ≡ caller_of word.now }
+    ensures in_range { IfSome result (λ caller. caller ≤ 16) }
 {
     let (first, number) = first_byte(word)?;
     if first != b't' {

@@ -15,21 +15,21 @@ use Rattle.cc_pieces.specs.Bindings.{Binding}
 use Rattle.cc_worked.specs.Values.{a, opened, done, answers, read_in}
 use Rattle.cc_worked.specs.PiecesWithoutEntry.{one_written}
 
--- the word of a hold
-abbrev pub word : List ℕ
-word = 104 ∷ []
+-- the word of a hold, by its number
+abbrev pub word : ℕ
+word = 0
 
 -- the caller's one binding, of the word to a map
 abbrev pub one_map : List Binding
-one_map = record { name = word; id = 1; kind = kind.Map } ∷ []
+one_map = record { word = word; id = 1; kind = kind.Map } ∷ []
 
 -- the same of a hold of another kind
 abbrev pub one_of : HoldKind → List Binding
-one_of its_kind = record { name = word; id = 1; kind = its_kind } ∷ []
+one_of its_kind = record { word = word; id = 1; kind = its_kind } ∷ []
 
 -- another word
-abbrev pub other_word : List ℕ
-other_word = 105 ∷ []
+abbrev pub other_word : ℕ
+other_word = 1
 
 -- a page is mapped
 abbrev pub mapped : List Entry
@@ -57,7 +57,7 @@ repinned_range = done 1 3 (call.EndHold 1) ∷ answers 1 2 (call.Repin 1) (reply
 
 -- the word names the repin
 abbrev pub one_repin : List Binding
-one_repin = record { name = word; id = 2; kind = kind.Repin } ∷ []
+one_repin = record { word = word; id = 2; kind = kind.Repin } ∷ []
 
 -- a tick's answer in a phase
 abbrev pub tick_in : ℕ → LineReply

@@ -1,0 +1,368 @@
+-- What an action that is read names and moves.
+use Rattle.std.proofs.Common.{◌≡◌, ℕ, suc, ◌+◌, ◌≤◌, Bool, true, false, Some, None, Option, is_some, List, [], ◌∷◌, ◌++◌, length, if◌then◌else◌, refl, ap, subst, length-append, arith}
+use Rattle.cc_script.specs.declared.script.Mode.{Mode}
+use Rattle.cc_script.specs.declared.script.Mode.TheVariants as mode
+use Rattle.cc_script.specs.declared.stretch.Stretch.{Stretch}
+use Rattle.cc_script.specs.declared.script.StreamLine.{StreamLine}
+use Rattle.cc_script.specs.declared.script.Action.{Action}
+use Rattle.cc_script.specs.declared.script.Action.TheVariants as action
+use Rattle.cc_script.specs.declared.verb.Verb.{Verb}
+use Rattle.cc_script.specs.declared.verb.Verb.TheVariants as verb
+use Rattle.cc_script.specs.Words.{number_of, number_between, name_of, bytes_of}
+use Rattle.cc_script.specs.HoldNames.{word_of, new_word}
+use Rattle.cc_script.specs.Actions.{next, ended, file_of, span_of, copy_read_of, copy_write_of, zero_of, set_sizes_of, state_of, flush_span_of, flush_of, set_log_of, append_of, log_flush_of, dirty_pages_of, lsn_for_file_of}
+use Rattle.cc_script.specs.HoldActions.{stretch_of, map_of, pin_read_of, pin_mapped_of, prepare_pin_of, held_read_of, pinned_write_of, stamp_of, set_dirty_of, unpin_of, repin_of, unpin_repinned_of, mdl_read_of, mdl_write_of, mdl_bytes_of, mdl_store_of, mdl_done_of, mdl_abort_of}
+use Rattle.cc_script.specs.ActionTable.{binds_none, action_of, bytes_moved}
+use Rattle.cc_script.specs.Within.{IsFileWithin, IsActionWithin}
+use Rattle.cc_script.proofs.Steps.{then-gives, next-gives, ended-gives, between-gives, file-gives, bytes-give}
+
+-- an action binds a word of the next number, or none
+abbrev pub IsNumbered : Action → ℕ → ℕ → Type 0
+IsNumbered (action.Map _ _ _ word) old new = (word ≡ old) × (new ≡ suc old)
+IsNumbered (action.PinRead _ _ _ word _) old new = (word ≡ old) × (new ≡ suc old)
+IsNumbered (action.PreparePin _ _ _ word _ _) old new = (word ≡ old) × (new ≡ suc old)
+IsNumbered (action.Repin _ made) old new = (made ≡ old) × (new ≡ suc old)
+IsNumbered (action.MdlRead _ _ _ word) old new = (word ≡ old) × (new ≡ suc old)
+IsNumbered (action.MdlWrite _ _ _ word) old new = (word ≡ old) × (new ≡ suc old)
+IsNumbered other old new = new ≡ old
+
+-- an action that is read
+pub record IsRead (streams : List StreamLine) (old : ℕ) (found : Action × List (List ℕ)) : Type 0 where
+  pub file : IsActionWithin streams found.0
+  pub moved : bytes_moved found.0 ≤ 2097152
+  pub numbered : IsNumbered found.0 old (length found.1)
+
+-- one that binds no word
+record IsPlain (streams : List StreamLine) (a : Action) : Type 0 where
+  file : IsActionWithin streams a
+  moved : bytes_moved a ≤ 2097152
+  numbered : (n : ℕ) → IsNumbered a n n
+
+none-bound : (streams : List StreamLine) (names : List (List ℕ)) (o : Option Action) (found : Action × List (List ℕ)) → ((a : Action) → o ≡ Some a → IsPlain streams a) → binds_none names o ≡ Some found → IsRead streams (length names) found
+none-bound streams names (Some a) found plain e =
+    let is = plain a refl in
+    let same : (let it : Action × List (List ℕ) = (a, names) in it) ≡ found = cc in
+    subst (IsRead streams (length names)) same (record { file = is.file; moved = is.moved; numbered = is.numbered (length names) })
+none-bound streams names None found plain e = absurd (cc)
+
+-- a new word has the next number
+new-gives : (names : List (List ℕ)) (name : List ℕ) (found : ℕ × List (List ℕ)) → new_word names name ≡ Some found → (found.0 ≡ length names) × (length found.1 ≡ suc (length names))
+unfolding new_word
+new-gives names name found e = either (is_some (word_of names name)) e
+  where
+    either : (t : Bool) → (if t then None else Some (length names, names ++ name ∷ [])) ≡ Some found → (found.0 ≡ length names) × (length found.1 ≡ suc (length names))
+    either true g = absurd (cc)
+    either false g =
+        let same : (let it : ℕ × List (List ℕ) = (length names, names ++ name ∷ []) in it) ≡ found = cc in
+        let len : length (names ++ name ∷ []) ≡ length names + 1 = length-append names (name ∷ []) in
+        subst (λ (found : ℕ × List (List ℕ)). (found.0 ≡ length names) × (length found.1 ≡ suc (length names))) same (refl, omega (arith, len))
+
+stretch-gives : (streams : List StreamLine) (ws : List (List ℕ)) (on : Stretch) (more : List (List ℕ)) → stretch_of streams ws ≡ Some (on, more) → IsFileWithin streams on.file
+unfolding stretch_of
+stretch-gives streams ws on more e =
+    let file = then-gives (next (file_of streams) ws) _ (on, more) e in
+    let at = then-gives (next number_of file.0.1) _ (on, more) file.2 in
+    let len = then-gives (next number_of at.0.1) _ (on, more) at.2 in
+    let f = next-gives (file_of streams) ws file.0.0 file.0.1 file.1 in
+    let pair : (let it : Stretch × List (List ℕ) = (record { file = file.0.0; at = at.0.0; len = len.0.0 }, len.0.1) in it) ≡ (on, more) = cc in
+    let same : file.0.0 ≡ on.file = ap (λ (it : Stretch × List (List ℕ)). it.0.file) pair in
+    subst (IsFileWithin streams) same (file-gives streams f.word file.0.0 f.reads)
+
+copy_read-gives : (streams : List StreamLine) (ws : List (List ℕ)) (a : Action) → copy_read_of streams ws ≡ Some a → IsPlain streams a
+unfolding copy_read_of
+copy_read-gives streams ws a e =
+    let file = then-gives (next (file_of streams) ws) _ a e in
+    let at = then-gives (next number_of file.0.1) _ a file.2 in
+    let len = then-gives (next (number_between 0 2097152) at.0.1) _ a at.2 in
+    let end = ended-gives _ _ a len.2 in
+    let f = next-gives (file_of streams) ws file.0.0 file.0.1 file.1 in
+    let l = next-gives (number_between 0 2097152) at.0.1 len.0.0 len.0.1 len.1 in
+    let b = between-gives 0 2097152 l.word len.0.0 l.reads in
+    subst (IsPlain streams) end.1
+    (record { file = file-gives streams f.word file.0.0 f.reads; moved = b.most; numbered = λ n. refl })
+
+copy_write-gives : (streams : List StreamLine) (ws : List (List ℕ)) (a : Action) → copy_write_of streams ws ≡ Some a → IsPlain streams a
+unfolding copy_write_of
+copy_write-gives streams ws a e =
+    let file = then-gives (next (file_of streams) ws) _ a e in
+    let at = then-gives (next number_of file.0.1) _ a file.2 in
+    let bytes = then-gives (next bytes_of at.0.1) _ a at.2 in
+    let end = ended-gives _ _ a bytes.2 in
+    let f = next-gives (file_of streams) ws file.0.0 file.0.1 file.1 in
+    let b = next-gives bytes_of at.0.1 bytes.0.0 bytes.0.1 bytes.1 in
+    subst (IsPlain streams) end.1
+    (record { file = file-gives streams f.word file.0.0 f.reads; moved = bytes-give b.word bytes.0.0 b.reads; numbered = λ n. refl })
+
+zero-gives : (streams : List StreamLine) (ws : List (List ℕ)) (a : Action) → zero_of streams ws ≡ Some a → IsPlain streams a
+unfolding zero_of
+zero-gives streams ws a e =
+    let file = then-gives (next (file_of streams) ws) _ a e in
+    let span = then-gives (span_of file.0.1) _ a file.2 in
+    let end = ended-gives _ _ a span.2 in
+    let f = next-gives (file_of streams) ws file.0.0 file.0.1 file.1 in
+    subst (IsPlain streams) end.1
+    (record { file = file-gives streams f.word file.0.0 f.reads; moved = omega arith; numbered = λ n. refl })
+
+set_sizes-gives : (streams : List StreamLine) (ws : List (List ℕ)) (a : Action) → set_sizes_of streams ws ≡ Some a → IsPlain streams a
+unfolding set_sizes_of
+set_sizes-gives streams ws a e =
+    let file = then-gives (next (file_of streams) ws) _ a e in
+    let allocation = then-gives (next number_of file.0.1) _ a file.2 in
+    let size = then-gives (next number_of allocation.0.1) _ a allocation.2 in
+    let end = ended-gives _ _ a size.2 in
+    let f = next-gives (file_of streams) ws file.0.0 file.0.1 file.1 in
+    subst (IsPlain streams) end.1
+    (record { file = file-gives streams f.word file.0.0 f.reads; moved = omega arith; numbered = λ n. refl })
+
+state-gives : (streams : List StreamLine) (ws : List (List ℕ)) (a : Action) → state_of streams ws ≡ Some a → IsPlain streams a
+unfolding state_of
+state-gives streams ws a e =
+    let file = then-gives (next (file_of streams) ws) _ a e in
+    let end = ended-gives _ _ a file.2 in
+    let f = next-gives (file_of streams) ws file.0.0 file.0.1 file.1 in
+    subst (IsPlain streams) end.1
+    (record { file = file-gives streams f.word file.0.0 f.reads; moved = omega arith; numbered = λ n. refl })
+
+flush-gives : (streams : List StreamLine) (ws : List (List ℕ)) (a : Action) → flush_of streams ws ≡ Some a → IsPlain streams a
+unfolding flush_of
+flush-gives streams ws a e =
+    let file = then-gives (next (file_of streams) ws) _ a e in
+    let span = then-gives (flush_span_of file.0.1) _ a file.2 in
+    let f = next-gives (file_of streams) ws file.0.0 file.0.1 file.1 in
+    let same : action.Flush file.0.0 span.0 ≡ a = cc in
+    subst (IsPlain streams) same
+    (record { file = file-gives streams f.word file.0.0 f.reads; moved = omega arith; numbered = λ n. refl })
+
+is_dirty-gives : (streams : List StreamLine) (ws : List (List ℕ)) (a : Action) → ended ws action.IsDirtyData ≡ Some a → IsPlain streams a
+is_dirty-gives streams ws a e =
+    subst (IsPlain streams) (ended-gives ws action.IsDirtyData a e).1
+    (record { file = tt; moved = omega arith; numbered = λ n. refl })
+
+set_log-gives : (streams : List StreamLine) (ws : List (List ℕ)) (a : Action) → set_log_of streams ws ≡ Some a → IsPlain streams a
+unfolding set_log_of
+set_log-gives streams ws a e =
+    let file = then-gives (next (file_of streams) ws) _ a e in
+    let log = then-gives (next (number_between 0 3) file.0.1) _ a file.2 in
+    let end = ended-gives _ _ a log.2 in
+    let f = next-gives (file_of streams) ws file.0.0 file.0.1 file.1 in
+    subst (IsPlain streams) end.1
+    (record { file = file-gives streams f.word file.0.0 f.reads; moved = omega arith; numbered = λ n. refl })
+
+append-gives : (streams : List StreamLine) (ws : List (List ℕ)) (a : Action) → append_of ws ≡ Some a → IsPlain streams a
+unfolding append_of
+append-gives streams ws a e =
+    let log = then-gives (next (number_between 0 3) ws) _ a e in
+    let bytes = then-gives (next bytes_of log.0.1) _ a log.2 in
+    let end = ended-gives _ _ a bytes.2 in
+    let b = next-gives bytes_of log.0.1 bytes.0.0 bytes.0.1 bytes.1 in
+    subst (IsPlain streams) end.1
+    (record { file = tt; moved = bytes-give b.word bytes.0.0 b.reads; numbered = λ n. refl })
+
+log_flush-gives : (streams : List StreamLine) (ws : List (List ℕ)) (a : Action) → log_flush_of ws ≡ Some a → IsPlain streams a
+unfolding log_flush_of
+log_flush-gives streams ws a e =
+    let log = then-gives (next (number_between 0 3) ws) _ a e in
+    let lsn = then-gives (next (number_between 1 4611686018427387904) log.0.1) _ a log.2 in
+    let end = ended-gives _ _ a lsn.2 in
+    subst (IsPlain streams) end.1 (record { file = tt; moved = omega arith; numbered = λ n. refl })
+
+map-gives : (streams : List StreamLine) (names ws : List (List ℕ)) (found : Action × List (List ℕ)) → map_of streams names ws ≡ Some found → IsRead streams (length names) found
+unfolding map_of
+map-gives streams names ws found e =
+    let on = then-gives (stretch_of streams ws) _ found e in
+    let name = then-gives (next name_of on.0.1) _ found on.2 in
+    let bound = then-gives (new_word names name.0.0) _ found name.2 in
+    let end = ended-gives _ _ found bound.2 in
+    subst (IsRead streams (length names)) end.1
+    (record { file = stretch-gives streams ws on.0.0 on.0.1 on.1; moved = omega arith; numbered = new-gives names name.0.0 bound.0 bound.1 })
+
+pin_read-gives : (streams : List StreamLine) (names ws : List (List ℕ)) (found : Action × List (List ℕ)) → pin_read_of streams names ws ≡ Some found → IsRead streams (length names) found
+unfolding pin_read_of
+pin_read-gives streams names ws found e =
+    let on = then-gives (stretch_of streams ws) _ found e in
+    let name = then-gives (next name_of on.0.1) _ found on.2 in
+    let bound = then-gives (new_word names name.0.0) _ found name.2 in
+    let end = ended-gives _ _ found bound.2 in
+    subst (IsRead streams (length names)) end.1
+    (record { file = stretch-gives streams ws on.0.0 on.0.1 on.1; moved = omega arith; numbered = new-gives names name.0.0 bound.0 bound.1 })
+
+pin_mapped-gives : (streams : List StreamLine) (names ws : List (List ℕ)) (a : Action) → pin_mapped_of names ws ≡ Some a → IsPlain streams a
+unfolding pin_mapped_of
+pin_mapped-gives streams names ws a e =
+    let word = then-gives (next (word_of names) ws) _ a e in
+    let end = ended-gives _ _ a word.2 in
+    subst (IsPlain streams) end.1 (record { file = tt; moved = omega arith; numbered = λ n. refl })
+
+prepare_pin-gives : (streams : List StreamLine) (names ws : List (List ℕ)) (found : Action × List (List ℕ)) → prepare_pin_of streams names ws ≡ Some found → IsRead streams (length names) found
+unfolding prepare_pin_of
+prepare_pin-gives streams names ws found e =
+    let on = then-gives (stretch_of streams ws) _ found e in
+    let name = then-gives (next name_of on.0.1) _ found on.2 in
+    let bound = then-gives (new_word names name.0.0) _ found name.2 in
+    let end = ended-gives _ _ found bound.2 in
+    subst (IsRead streams (length names)) end.1
+    (record { file = stretch-gives streams ws on.0.0 on.0.1 on.1; moved = omega arith; numbered = new-gives names name.0.0 bound.0 bound.1 })
+
+held_read-gives : (streams : List StreamLine) (names ws : List (List ℕ)) (a : Action) → held_read_of names ws ≡ Some a → IsPlain streams a
+unfolding held_read_of
+held_read-gives streams names ws a e =
+    let word = then-gives (next (word_of names) ws) _ a e in
+    let at = then-gives (next number_of word.0.1) _ a word.2 in
+    let len = then-gives (next (number_between 0 2097152) at.0.1) _ a at.2 in
+    let end = ended-gives _ _ a len.2 in
+    let l = next-gives (number_between 0 2097152) at.0.1 len.0.0 len.0.1 len.1 in
+    let b = between-gives 0 2097152 l.word len.0.0 l.reads in
+    subst (IsPlain streams) end.1 (record { file = tt; moved = b.most; numbered = λ n. refl })
+
+pinned_write-gives : (streams : List StreamLine) (names ws : List (List ℕ)) (a : Action) → pinned_write_of names ws ≡ Some a → IsPlain streams a
+unfolding pinned_write_of
+pinned_write-gives streams names ws a e =
+    let word = then-gives (next (word_of names) ws) _ a e in
+    let at = then-gives (next number_of word.0.1) _ a word.2 in
+    let bytes = then-gives (next bytes_of at.0.1) _ a at.2 in
+    let end = ended-gives _ _ a bytes.2 in
+    let b = next-gives bytes_of at.0.1 bytes.0.0 bytes.0.1 bytes.1 in
+    subst (IsPlain streams) end.1 (record { file = tt; moved = bytes-give b.word bytes.0.0 b.reads; numbered = λ n. refl })
+
+set_dirty-gives : (streams : List StreamLine) (names ws : List (List ℕ)) (a : Action) → set_dirty_of names ws ≡ Some a → IsPlain streams a
+unfolding set_dirty_of
+set_dirty-gives streams names ws a e =
+    let word = then-gives (next (word_of names) ws) _ a e in
+    let lsn = then-gives (stamp_of word.0.1) _ a word.2 in
+    let same : action.SetDirty word.0.0 lsn.0 ≡ a = cc in
+    subst (IsPlain streams) same (record { file = tt; moved = omega arith; numbered = λ n. refl })
+
+unpin-gives : (streams : List StreamLine) (names ws : List (List ℕ)) (a : Action) → unpin_of names ws ≡ Some a → IsPlain streams a
+unfolding unpin_of
+unpin-gives streams names ws a e =
+    let word = then-gives (next (word_of names) ws) _ a e in
+    let end = ended-gives _ _ a word.2 in
+    subst (IsPlain streams) end.1 (record { file = tt; moved = omega arith; numbered = λ n. refl })
+
+repin-gives : (streams : List StreamLine) (names ws : List (List ℕ)) (found : Action × List (List ℕ)) → repin_of names ws ≡ Some found → IsRead streams (length names) found
+unfolding repin_of
+repin-gives streams names ws found e =
+    let word = then-gives (next (word_of names) ws) _ found e in
+    let name = then-gives (next name_of word.0.1) _ found word.2 in
+    let bound = then-gives (new_word names name.0.0) _ found name.2 in
+    let end = ended-gives _ _ found bound.2 in
+    subst (IsRead streams (length names)) end.1
+    (record { file = tt; moved = omega arith; numbered = new-gives names name.0.0 bound.0 bound.1 })
+
+unpin_repinned-gives : (streams : List StreamLine) (m : Mode) (names ws : List (List ℕ)) (a : Action) → unpin_repinned_of m names ws ≡ Some a → IsPlain streams a
+unfolding unpin_repinned_of
+unpin_repinned-gives streams mode.Run names ws a e =
+    let word = then-gives (next (word_of names) ws) _ a e in
+    let end = ended-gives _ _ a word.2 in
+    subst (IsPlain streams) end.1 (record { file = tt; moved = omega arith; numbered = λ n. refl })
+unpin_repinned-gives streams mode.Steps names ws a e =
+    let word = then-gives (next (word_of names) ws) _ a e in
+    let end = ended-gives _ _ a word.2 in
+    subst (IsPlain streams) end.1 (record { file = tt; moved = omega arith; numbered = λ n. refl })
+
+mdl_read-gives : (streams : List StreamLine) (names ws : List (List ℕ)) (found : Action × List (List ℕ)) → mdl_read_of streams names ws ≡ Some found → IsRead streams (length names) found
+unfolding mdl_read_of
+mdl_read-gives streams names ws found e =
+    let on = then-gives (stretch_of streams ws) _ found e in
+    let name = then-gives (next name_of on.0.1) _ found on.2 in
+    let bound = then-gives (new_word names name.0.0) _ found name.2 in
+    let end = ended-gives _ _ found bound.2 in
+    subst (IsRead streams (length names)) end.1
+    (record { file = stretch-gives streams ws on.0.0 on.0.1 on.1; moved = omega arith; numbered = new-gives names name.0.0 bound.0 bound.1 })
+
+mdl_write-gives : (streams : List StreamLine) (names ws : List (List ℕ)) (found : Action × List (List ℕ)) → mdl_write_of streams names ws ≡ Some found → IsRead streams (length names) found
+unfolding mdl_write_of
+mdl_write-gives streams names ws found e =
+    let on = then-gives (stretch_of streams ws) _ found e in
+    let name = then-gives (next name_of on.0.1) _ found on.2 in
+    let bound = then-gives (new_word names name.0.0) _ found name.2 in
+    let end = ended-gives _ _ found bound.2 in
+    subst (IsRead streams (length names)) end.1
+    (record { file = stretch-gives streams ws on.0.0 on.0.1 on.1; moved = omega arith; numbered = new-gives names name.0.0 bound.0 bound.1 })
+
+mdl_bytes-gives : (streams : List StreamLine) (names ws : List (List ℕ)) (a : Action) → mdl_bytes_of names ws ≡ Some a → IsPlain streams a
+unfolding mdl_bytes_of
+mdl_bytes-gives streams names ws a e =
+    let word = then-gives (next (word_of names) ws) _ a e in
+    let at = then-gives (next number_of word.0.1) _ a word.2 in
+    let len = then-gives (next (number_between 0 2097152) at.0.1) _ a at.2 in
+    let end = ended-gives _ _ a len.2 in
+    let l = next-gives (number_between 0 2097152) at.0.1 len.0.0 len.0.1 len.1 in
+    let b = between-gives 0 2097152 l.word len.0.0 l.reads in
+    subst (IsPlain streams) end.1 (record { file = tt; moved = b.most; numbered = λ n. refl })
+
+mdl_store-gives : (streams : List StreamLine) (names ws : List (List ℕ)) (a : Action) → mdl_store_of names ws ≡ Some a → IsPlain streams a
+unfolding mdl_store_of
+mdl_store-gives streams names ws a e =
+    let word = then-gives (next (word_of names) ws) _ a e in
+    let at = then-gives (next number_of word.0.1) _ a word.2 in
+    let bytes = then-gives (next bytes_of at.0.1) _ a at.2 in
+    let end = ended-gives _ _ a bytes.2 in
+    let b = next-gives bytes_of at.0.1 bytes.0.0 bytes.0.1 bytes.1 in
+    subst (IsPlain streams) end.1 (record { file = tt; moved = bytes-give b.word bytes.0.0 b.reads; numbered = λ n. refl })
+
+mdl_done-gives : (streams : List StreamLine) (names ws : List (List ℕ)) (a : Action) → mdl_done_of names ws ≡ Some a → IsPlain streams a
+unfolding mdl_done_of
+mdl_done-gives streams names ws a e =
+    let word = then-gives (next (word_of names) ws) _ a e in
+    let end = ended-gives _ _ a word.2 in
+    subst (IsPlain streams) end.1 (record { file = tt; moved = omega arith; numbered = λ n. refl })
+
+mdl_abort-gives : (streams : List StreamLine) (names ws : List (List ℕ)) (a : Action) → mdl_abort_of names ws ≡ Some a → IsPlain streams a
+unfolding mdl_abort_of
+mdl_abort-gives streams names ws a e =
+    let word = then-gives (next (word_of names) ws) _ a e in
+    let end = ended-gives _ _ a word.2 in
+    subst (IsPlain streams) end.1 (record { file = tt; moved = omega arith; numbered = λ n. refl })
+
+dirty_pages-gives : (streams : List StreamLine) (ws : List (List ℕ)) (a : Action) → dirty_pages_of ws ≡ Some a → IsPlain streams a
+unfolding dirty_pages_of
+dirty_pages-gives streams ws a e =
+    let log = then-gives (next (number_between 0 3) ws) _ a e in
+    let end = ended-gives _ _ a log.2 in
+    subst (IsPlain streams) end.1 (record { file = tt; moved = omega arith; numbered = λ n. refl })
+
+lsn_for_file-gives : (streams : List StreamLine) (ws : List (List ℕ)) (a : Action) → lsn_for_file_of streams ws ≡ Some a → IsPlain streams a
+unfolding lsn_for_file_of
+lsn_for_file-gives streams ws a e =
+    let file = then-gives (next (file_of streams) ws) _ a e in
+    let end = ended-gives _ _ a file.2 in
+    let f = next-gives (file_of streams) ws file.0.0 file.0.1 file.1 in
+    subst (IsPlain streams) end.1
+    (record { file = file-gives streams f.word file.0.0 f.reads; moved = omega arith; numbered = λ n. refl })
+
+-- an action keeps within what a line may name and move, and binds a word of the next number, or none
+pub action-gives : (m : Mode) (streams : List StreamLine) (names : List (List ℕ)) (v : Verb) (ws : List (List ℕ)) (found : Action × List (List ℕ)) → action_of m streams names v ws ≡ Some found → IsRead streams (length names) found
+unfolding action_of
+action-gives m streams names verb.CopyRead ws found e = none-bound streams names (copy_read_of streams ws) found (copy_read-gives streams ws) e
+action-gives m streams names verb.CopyWrite ws found e = none-bound streams names (copy_write_of streams ws) found (copy_write-gives streams ws) e
+action-gives m streams names verb.Zero ws found e = none-bound streams names (zero_of streams ws) found (zero-gives streams ws) e
+action-gives m streams names verb.SetSizes ws found e = none-bound streams names (set_sizes_of streams ws) found (set_sizes-gives streams ws) e
+action-gives m streams names verb.State ws found e = none-bound streams names (state_of streams ws) found (state-gives streams ws) e
+action-gives m streams names verb.Flush ws found e = none-bound streams names (flush_of streams ws) found (flush-gives streams ws) e
+action-gives m streams names verb.IsDirtyData ws found e = none-bound streams names (ended ws action.IsDirtyData) found (is_dirty-gives streams ws) e
+action-gives m streams names verb.SetLog ws found e = none-bound streams names (set_log_of streams ws) found (set_log-gives streams ws) e
+action-gives m streams names verb.Append ws found e = none-bound streams names (append_of ws) found (append-gives streams ws) e
+action-gives m streams names verb.LogFlush ws found e = none-bound streams names (log_flush_of ws) found (log_flush-gives streams ws) e
+action-gives m streams names verb.DirtyPages ws found e = none-bound streams names (dirty_pages_of ws) found (dirty_pages-gives streams ws) e
+action-gives m streams names verb.LsnForFile ws found e = none-bound streams names (lsn_for_file_of streams ws) found (lsn_for_file-gives streams ws) e
+action-gives m streams names verb.PinMapped ws found e = none-bound streams names (pin_mapped_of names ws) found (pin_mapped-gives streams names ws) e
+action-gives m streams names verb.HeldRead ws found e = none-bound streams names (held_read_of names ws) found (held_read-gives streams names ws) e
+action-gives m streams names verb.PinnedWrite ws found e = none-bound streams names (pinned_write_of names ws) found (pinned_write-gives streams names ws) e
+action-gives m streams names verb.SetDirty ws found e = none-bound streams names (set_dirty_of names ws) found (set_dirty-gives streams names ws) e
+action-gives m streams names verb.Unpin ws found e = none-bound streams names (unpin_of names ws) found (unpin-gives streams names ws) e
+action-gives m streams names verb.MdlBytes ws found e = none-bound streams names (mdl_bytes_of names ws) found (mdl_bytes-gives streams names ws) e
+action-gives m streams names verb.MdlStore ws found e = none-bound streams names (mdl_store_of names ws) found (mdl_store-gives streams names ws) e
+action-gives m streams names verb.MdlDone ws found e = none-bound streams names (mdl_done_of names ws) found (mdl_done-gives streams names ws) e
+action-gives m streams names verb.MdlAbort ws found e = none-bound streams names (mdl_abort_of names ws) found (mdl_abort-gives streams names ws) e
+action-gives m streams names verb.UnpinRepinned ws found e = none-bound streams names (unpin_repinned_of m names ws) found (unpin_repinned-gives streams m names ws) e
+action-gives m streams names verb.Map ws found e = map-gives streams names ws found e
+action-gives m streams names verb.PinRead ws found e = pin_read-gives streams names ws found e
+action-gives m streams names verb.PreparePin ws found e = prepare_pin-gives streams names ws found e
+action-gives m streams names verb.MdlRead ws found e = mdl_read-gives streams names ws found e
+action-gives m streams names verb.MdlWrite ws found e = mdl_write-gives streams names ws found e
+action-gives m streams names verb.Repin ws found e = repin-gives streams names ws found e
+action-gives m streams names verb.Stream ws found e = absurd (cc)
+action-gives m streams names verb.Journal ws found e = absurd (cc)
+action-gives m streams names verb.Threshold ws found e = absurd (cc)
+action-gives m streams names verb.Phase ws found e = absurd (cc)

@@ -1,0 +1,74 @@
+-- The actions by cases on their verb, and what each adds to the totals of a script.
+use Rattle.std.specs.Prelude.{ℕ, Option, None, option_map, List, length}
+use Rattle.cc_script.specs.declared.script.Mode.{Mode}
+use Rattle.cc_script.specs.declared.script.StreamLine.{StreamLine}
+use Rattle.cc_script.specs.declared.script.Action.{Action}
+use Rattle.cc_script.specs.declared.script.Action.TheVariants as action
+use Rattle.cc_script.specs.declared.verb.Verb.{Verb}
+use Rattle.cc_script.specs.declared.verb.Verb.TheVariants as verb
+use Rattle.cc_script.specs.Actions.{ended, copy_read_of, copy_write_of, zero_of, set_sizes_of, state_of, flush_of, set_log_of, append_of, log_flush_of, dirty_pages_of, lsn_for_file_of}
+use Rattle.cc_script.specs.HoldActions.{map_of, pin_read_of, pin_mapped_of, prepare_pin_of, held_read_of, pinned_write_of, set_dirty_of, unpin_of, repin_of, unpin_repinned_of, mdl_read_of, mdl_write_of, mdl_bytes_of, mdl_store_of, mdl_done_of, mdl_abort_of}
+
+-- an action that binds no word
+abbrev pub binds_none : List (List ℕ) → Option Action → Option (Action × List (List ℕ))
+binds_none names action = option_map (λ a. (a, names)) action
+
+-- the action of a verb, where its caller bound these words, and the words that are bound behind it
+unfoldable pub action_of : Mode → List StreamLine → List (List ℕ) → Verb → List (List ℕ) → Option (Action × List (List ℕ))
+action_of mode streams names verb.CopyRead ws = binds_none names (copy_read_of streams ws)
+action_of mode streams names verb.CopyWrite ws = binds_none names (copy_write_of streams ws)
+action_of mode streams names verb.Zero ws = binds_none names (zero_of streams ws)
+action_of mode streams names verb.Map ws = map_of streams names ws
+action_of mode streams names verb.PinRead ws = pin_read_of streams names ws
+action_of mode streams names verb.PinMapped ws = binds_none names (pin_mapped_of names ws)
+action_of mode streams names verb.PreparePin ws = prepare_pin_of streams names ws
+action_of mode streams names verb.HeldRead ws = binds_none names (held_read_of names ws)
+action_of mode streams names verb.PinnedWrite ws = binds_none names (pinned_write_of names ws)
+action_of mode streams names verb.SetDirty ws = binds_none names (set_dirty_of names ws)
+action_of mode streams names verb.Unpin ws = binds_none names (unpin_of names ws)
+action_of mode streams names verb.Repin ws = repin_of names ws
+action_of mode streams names verb.UnpinRepinned ws = binds_none names (unpin_repinned_of mode names ws)
+action_of mode streams names verb.MdlRead ws = mdl_read_of streams names ws
+action_of mode streams names verb.MdlWrite ws = mdl_write_of streams names ws
+action_of mode streams names verb.MdlBytes ws = binds_none names (mdl_bytes_of names ws)
+action_of mode streams names verb.MdlStore ws = binds_none names (mdl_store_of names ws)
+action_of mode streams names verb.MdlDone ws = binds_none names (mdl_done_of names ws)
+action_of mode streams names verb.MdlAbort ws = binds_none names (mdl_abort_of names ws)
+action_of mode streams names verb.SetSizes ws = binds_none names (set_sizes_of streams ws)
+action_of mode streams names verb.State ws = binds_none names (state_of streams ws)
+action_of mode streams names verb.Flush ws = binds_none names (flush_of streams ws)
+action_of mode streams names verb.IsDirtyData ws = binds_none names (ended ws action.IsDirtyData)
+action_of mode streams names verb.DirtyPages ws = binds_none names (dirty_pages_of ws)
+action_of mode streams names verb.LsnForFile ws = binds_none names (lsn_for_file_of streams ws)
+action_of mode streams names verb.SetLog ws = binds_none names (set_log_of streams ws)
+action_of mode streams names verb.Append ws = binds_none names (append_of ws)
+action_of mode streams names verb.LogFlush ws = binds_none names (log_flush_of ws)
+action_of mode streams names verb.Stream ws = None
+action_of mode streams names verb.Journal ws = None
+action_of mode streams names verb.Threshold ws = None
+action_of mode streams names verb.Phase ws = None
+
+-- how many bytes an action reads, writes or appends
+abbrev pub bytes_moved : Action → ℕ
+bytes_moved (action.CopyRead _ _ len _) = len
+bytes_moved (action.CopyWrite _ _ bytes) = length bytes
+bytes_moved (action.HeldRead _ _ len) = len
+bytes_moved (action.PinnedWrite _ _ bytes) = length bytes
+bytes_moved (action.MdlBytes _ _ len) = len
+bytes_moved (action.MdlStore _ _ bytes) = length bytes
+bytes_moved (action.Append _ bytes) = length bytes
+bytes_moved other = 0
+
+-- how many bytes count in the total: those that it moves, and the length of a hold that it makes
+abbrev pub bytes_counted : Action → ℕ
+bytes_counted (action.Map _ _ len _) = len
+bytes_counted (action.PinRead _ _ len _ _) = len
+bytes_counted (action.PreparePin _ _ len _ _ _) = len
+bytes_counted (action.MdlRead _ _ len _) = len
+bytes_counted (action.MdlWrite _ _ len _) = len
+bytes_counted other = bytes_moved other
+
+-- whether a line is `dirty`, as a number
+abbrev pub dirty_lines : Action → ℕ
+dirty_lines (action.DirtyPages _) = 1
+dirty_lines other = 0
