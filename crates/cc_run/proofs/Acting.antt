@@ -1,17 +1,20 @@
 -- What a line of a caller leaves on a desk.
-use Rattle.std.specs.Prelude.{◌≡◌, ◌≢◌, ℕ, ◌+◌, ◌<◌, ◌≤◌, false, Err, List, ◌++◌, length, refl}
+use Rattle.std.specs.Prelude.{◌≡◌, ◌≢◌, ℕ, ◌+◌, ◌<◌, ◌≤◌, false, List, ◌++◌, length, refl}
 use Rattle.std.proofs.Common.{sym, subst, ap, ◌∙◌, arith}
 use Rattle.cc_entry.specs.declared.answer.Answer.{Answer}
 use Rattle.cc_entry.specs.declared.answer.Answer.TheVariants as answer
 use Rattle.cc_entry.specs.declared.call.Call.{Call}
 use Rattle.cc_entry.specs.declared.error.CcError.TheVariants as error
 use Rattle.cc_entry.specs.declared.entry.Entry.{Entry}
+use Rattle.cc_script.specs.declared.bound.Bound.{Bound}
 use Rattle.cc_script.specs.declared.script.ActionLine.{ActionLine}
+use Rattle.cc_script.specs.HoldWords.{UsesRight}
+use Rattle.cc_model.specs.Good.{IsGood}
 use Rattle.cc_model.specs.Room.{room_in}
 use Rattle.cc_model.specs.Setup.{Setup}
 use Rattle.cc_effects.specs.Moments.{IsIdle}
 use Rattle.cc_effects.proofs.Stretches.{some-end}
-use Rattle.cc_pieces.specs.Answered.{CallAnswered, AppendAnswered, LogFlushAnswered}
+use Rattle.cc_pieces.specs.Answered.{CallAnswered}
 use Rattle.cc_pieces.specs.Bindings.{Binding}
 use Rattle.cc_pieces.specs.Rooms.{HadNoRoom, WasFull}
 use Rattle.cc_pieces.specs.Served.{Served}
@@ -19,42 +22,31 @@ use Rattle.cc_step.specs.Step.{owes_store}
 use Rattle.cc_turns.specs.Standing.{Standing}
 use Rattle.cc_turns.specs.Takes.{HasActed}
 use Rattle.cc_visits.specs.Hands.{Went, IsSettled}
-use Rattle.cc_calls.specs.Pages.{WentOn, IsFullOf}
+use Rattle.cc_visits.specs.Ways.{IsFullError}
+use Rattle.cc_calls.specs.Pages.{WentOn}
 use Rattle.cc_run.specs.Desks.{IsReady, IsSameRun, IsSamePass}
-use Rattle.cc_run.specs.Lines.{IsFullTold, LineLeft}
+use Rattle.cc_lines.specs.Holds.{NamesStand, NamesState}
+use Rattle.cc_lines.specs.Line.{CanServe, IsFullTold, IsServable, LineEnds}
+use Rattle.cc_run.specs.Lines.{LineEnd, LineLeft, MayServeLine}
 use Rattle.cc_run.proofs.Others.{idle-acted, settled-all}
 
 -- a journal that is full, with nothing of the pass under way and not much of others, was so at the end of the line
-full-at : (w : Standing) (limit entries : ℕ) (during old : List Entry) → w.seen ≡ during ++ old → w.in_flight ≡ 0 → w.others + 2 ≤ limit → IsFullOf {A = Unit {0}} w (Err (error.JournalFull entries)) → WasFull w.setup limit entries old w.seen
+pub full-at : (w : Standing) (limit entries : ℕ) (during old : List Entry) → w.seen ≡ during ++ old → w.in_flight ≡ 0 → w.others + 3 ≤ limit → IsFullError 3 w (error.JournalFull entries) → WasFull w.setup limit entries old w.seen
 unfolding room_in
 full-at w limit entries during old grew rest few full =
     rw grew (some-end (λ moment. (entries ≡ length moment) × (room_in w.setup moment 0 < limit)) during old
     (rw (← grew) (full.0, omega (arith, full.1, rest, few))))
 
-room-at : (w : Standing) (limit : ℕ) (told : Answer) (during old : List Entry) → w.seen ≡ during ++ old → w.in_flight ≡ 0 → w.others + 2 ≤ limit → IsFullTold w told → HadNoRoom w.setup limit told old w.seen
+room-at : (w : Standing) (limit : ℕ) (told : Answer) (during old : List Entry) → w.seen ≡ during ++ old → w.in_flight ≡ 0 → w.others + 3 ≤ limit → IsFullTold w told → HadNoRoom w.setup limit told old w.seen
 room-at w limit (answer.Refused (error.JournalFull entries)) during old grew rest few full = full-at w limit entries during old grew rest few full
 room-at w limit (answer.NcRefused done cause) during old grew rest few full = absurd full
 room-at w limit other during old grew rest few full = tt
 
-pub room-within : (w : Standing) (limit : ℕ) (u : Setup) (me : ℕ) (it : Call) (told : Answer) (old : List Entry) → CallAnswered u me it told old w.seen → w.in_flight ≡ 0 → w.others + 2 ≤ limit → IsFullTold w told → HadNoRoom w.setup limit told old w.seen
-room-within w limit u me it (answer.Refused (error.JournalFull entries)) old left rest few full = full-at w limit entries left.during old left.grew rest few full
-room-within w limit u me it (answer.NcRefused done cause) old left rest few full = absurd full
-room-within w limit u me it other old left rest few full = tt
-
--- an append to a log, and a flush of one, that found the journal full placed nothing
-pub room-append : (w : Standing) (limit : ℕ) (u : Setup) (me handle : ℕ) (bytes : List ℕ) (told : Answer) (old : List Entry) → AppendAnswered u me handle bytes told old w.seen → w.in_flight ≡ 0 → w.others + 2 ≤ limit → IsFullTold w told → HadNoRoom w.setup limit told old w.seen
-room-append w limit u me handle bytes (answer.Refused (error.JournalFull entries)) old left rest few full = full-at w limit entries left.during old left.grew rest few full
-room-append w limit u me handle bytes (answer.NcRefused done cause) old left rest few full = absurd full
-room-append w limit u me handle bytes other old left rest few full = tt
-
-pub room-log_flush : (w : Standing) (limit : ℕ) (u : Setup) (me handle lsn : ℕ) (told : Answer) (old : List Entry) → LogFlushAnswered u me handle lsn told old w.seen → w.in_flight ≡ 0 → w.others + 2 ≤ limit → IsFullTold w told → HadNoRoom w.setup limit told old w.seen
-room-log_flush w limit u me handle lsn (answer.Refused (error.JournalFull entries)) old left rest few full = full-at w limit entries left.during old left.grew rest few full
-room-log_flush w limit u me handle lsn (answer.NcRefused done cause) old left rest few full = absurd full
-room-log_flush w limit u me handle lsn other old left rest few full = tt
-
 -- on a desk others have nothing under way
 pub room-left : (w : Standing) (u : Setup) (me : ℕ) (it : Call) (told : Answer) (old : List Entry) → CallAnswered u me it told old w.seen → w.in_flight ≡ 0 → w.others ≡ 0 → IsFullTold w told → HadNoRoom w.setup 4 told old w.seen
-room-left w u me it told old left rest alone full = room-within w 4 u me it told old left rest (omega (arith, alone)) full
+room-left w u me it (answer.Refused (error.JournalFull entries)) old left rest alone full = full-at w 4 entries left.during old left.grew rest (omega (arith, alone)) full
+room-left w u me it (answer.NcRefused done cause) old left rest alone full = absurd full
+room-left w u me it other old left rest alone full = tt
 
 -- the same pass in the same run, where a call went on
 pub goes-pass : (old new : Standing) → Went old new → IsSamePass old new
@@ -87,6 +79,25 @@ pass-then old between new first second = record {
   since = second.since ∙ first.since;
 }
 
+-- a line is served by its caller, as what is kept of the caller's words allows
+pub can-serve-line : (w0 w1 : Standing) (line : ActionLine) (names : NamesState) → w1 ≡ record w0 { number = line.caller; since = w0.seen } → IsReady w0 → IsServable w0.streams line.action → IsGood w1.setup w1.seen → MayServeLine w0.streams w0.seen line names → CanServe w1 line.action names
+can-serve-line w0 w1 line names acts ready servable good may =
+    let streams : w1.streams ≡ w0.streams = ap (λ w. w.streams) acts in
+    let number : w1.number ≡ line.caller = ap (λ w. w.number) acts in
+    let seen : w1.seen ≡ w0.seen = ap (λ w. w.seen) acts in
+    record {
+      servable = rw streams servable;
+      free = ap (λ w. w.held) acts ∙ ready.free;
+      none = ap (λ w. w.in_flight) acts ∙ ready.at_rest;
+      settled = rw (seen, number) (ready.settled line.caller);
+      good = good;
+      bounds = may.bounds;
+      bindings = may.bindings;
+      stand = rw (streams, number, seen) may.stand;
+      right = may.right;
+      room = may.room;
+    }
+
 module _ (w0 w1 w2 : Standing) (caller : ℕ) (acts : w1 ≡ record w0 { number = caller; since = w0.seen }) (went : WentOn w1 w2) (settled : IsSettled w2) (own : HasActed w2.number w2.since w2.seen) (ready : IsReady w0) where
   number-is : w2.number ≡ caller
   number-is = ap (λ w. w.number) went.same ∙ ap (λ w. w.number) acts
@@ -117,15 +128,27 @@ module _ (w0 w1 w2 : Standing) (caller : ℕ) (acts : w1 ≡ record w0 { number 
     settled = settled-all caller w0.seen w2.seen acted (subst (λ n. owes_store w2.seen n ≡ false) number-is settled) ready.settled;
   }
 
-  pub left-after : (line : ActionLine) (told : Answer) → line.caller ≡ caller → ((bindings : List Binding) → Served w1.setup w1.number bindings line.action told w1.seen w2.seen) → IsFullTold w2 told → w2.others ≡ 0 → LineLeft w0.setup line told w0.seen w2.seen
-  left-after line told is served full alone = record {
-    explained = λ bindings. record {
+  pub left-after : (bindings : List Binding) (line : ActionLine) (told : Answer) → line.caller ≡ caller → Served w1.setup w1.number bindings line.action told w1.seen w2.seen → IsFullTold w2 told → w2.others ≡ 0 → LineLeft w0.setup bindings line told w0.seen w2.seen
+  left-after bindings line told is served full alone = record {
+    explained = record {
       served =
           let setup : w1.setup ≡ w0.setup = ap (λ w. w.setup) acts in
           let number : w1.number ≡ line.caller = ap (λ w. w.number) acts ∙ sym is in
           let seen : w1.seen ≡ w0.seen = ap (λ w. w.seen) acts in
-          rw (setup, number, seen) at (served bindings);
+          rw (setup, number, seen) at served;
       room = subst (λ u. HadNoRoom u 4 told w0.seen w2.seen) run-after.setup (room-at w2 4 told acted.added w0.seen acted.grew at_rest (omega (arith, alone)) full);
     };
     alone = λ me other. alone-after me (λ e. other (e ∙ sym is));
   }
+
+  -- and what is kept of the caller's words stands
+  pub line-end : (bounds : List Bound) (bindings : List Binding) (line : ActionLine) (told : Answer) (was now : NamesState) → line.caller ≡ caller → LineEnds w1 w2 line.action told was now → w2.others ≡ 0 → NamesStand w0.streams line.caller w0.seen bounds bindings was.named → UsesRight bounds line.action → LineEnd w0 bounds bindings line told w0.seen w2.seen now
+  line-end bounds bindings line told was now is ended alone stand right =
+      let streams : w1.streams ≡ w0.streams = ap (λ w. w.streams) acts in
+      let number : w1.number ≡ line.caller = ap (λ w. w.number) acts ∙ sym is in
+      let seen : w1.seen ≡ w0.seen = ap (λ w. w.seen) acts in
+      let so = ended.served bounds bindings (rw (streams, number, seen) stand) right in
+      record {
+        left = left-after bindings line told is so.0 ended.full alone;
+        stand = let now_is : w2.number ≡ line.caller = number-is ∙ sym is in rw (run-after.streams, now_is) at so.1;
+      }

@@ -1,38 +1,35 @@
 -- The lines of a caller on a board, one more and another's, and what it leaves.
 use Rattle.std.specs.Prelude.{◌≡◌, ◌≢◌, ℕ, suc, ◌+◌, ◌<◌, ◌≤◌, ◌==◌, Bool, true, false, List, [], ◌∷◌, ◌++◌, length, take, drop, refl, vec_capacity}
-use Rattle.std.specs.List.{AllByRecursion}
 use Rattle.std.proofs.Common.{sym, ap, subst, ◌∙◌, arith, get_or}
 use Rattle.std.proofs.lemmas.Bool.{eqb-true, eqb-false}
 use Rattle.std.proofs.lemmas.List.{length-append}
 use Rattle.cc_entry.specs.declared.answer.Answer.{Answer}
-use Rattle.cc_entry.specs.declared.call.Call.TheVariants as call
-use Rattle.cc_entry.specs.declared.entry.Entry.{Entry}
-use Rattle.cc_script.specs.declared.script.Action.{Action}
-use Rattle.cc_script.specs.declared.script.Action.TheVariants as action
 use Rattle.cc_script.specs.declared.script.ActionLine.{ActionLine}
-use Rattle.cc_model.specs.Setup.{Setup}
 use Rattle.cc_effects.proofs.Stretches.{idle-none}
 use Rattle.cc_pieces.specs.Bindings.{Binding}
 use Rattle.cc_pieces.specs.Rooms.{HadNoRoom}
-use Rattle.cc_pieces.specs.Runs.{Explains, Ran, bindings_of}
-use Rattle.cc_pieces.specs.Served.{Served}
+use Rattle.cc_pieces.specs.Runs.{Ran, bindings_of}
 use Rattle.cc_pieces.proofs.LineSteps.{ran-more}
 use Rattle.cc_step.specs.Step.{owes_store}
 use Rattle.cc_turns.specs.Desk.{Tells}
 use Rattle.cc_turns.specs.Slots.{setup_in}
 use Rattle.cc_turns.specs.Standing.{Standing, nothing}
-use Rattle.cc_visits.specs.Hands.{IsSettled}
 use Rattle.cc_calls.specs.Pages.{WentOn}
-use Rattle.cc_board.specs.Board.{BoardState, IsOf, SeatedState, pass_of}
-use Rattle.cc_board.specs.View.{held_of, name_of, run_of, standing_at}
+use Rattle.cc_board.specs.Board.{BoardState, SeatedState, pass_of}
+use Rattle.cc_board.specs.View.{held_of, standing_at}
 use Rattle.cc_board.proofs.Names.{same_board}
-use Rattle.cc_run.specs.Callers.{MayRun, CallerRan, AllRan, asked_own, count_of}
-use Rattle.cc_run.specs.Lines.{CanServe, IsFullTold, IsServable}
+use Rattle.cc_script.specs.declared.bound.Bound.{Bound}
+use Rattle.cc_script.specs.HoldWords.{AreUsedRight, UsesRight, bound_so_far, words_bound}
+use Rattle.cc_model.specs.Good.{IsGood}
+use Rattle.cc_run.specs.Callers.{MayRun, CallerRan, AllRan, WordsStand, asked_own, count_of}
+use Rattle.cc_lines.specs.Holds.{NamesStand, NamesState}
+use Rattle.cc_lines.specs.Line.{CanServe, IsServable, LineEnds}
 use Rattle.cc_run.specs.declared.callers.Caller.{Caller}
 use Rattle.cc_run.specs.declared.callers.Finished.{Finished}
-use Rattle.cc_run.proofs.Acting.{room-append, room-log_flush, room-within}
-use Rattle.cc_run.proofs.Lists.{all-at, parted}
+use Rattle.cc_run.proofs.FullLines.{room-served}
+use Rattle.cc_run.proofs.Lists.{parted}
 use Rattle.cc_run.proofs.Merging.{own-more, own-none, own-other, count-more, count-other}
+use Rattle.cc_run.proofs.WordSteps.{bindings-append, bound-long, bound-other, bound-own, right-back, right-first, right-front, words-append, words-first}
 
 -- how many lines of two parts are a caller's
 pub count-append : (me : ℕ) (xs ys : List ActionLine) → count_of me (xs ++ ys) ≡ count_of me xs + count_of me ys
@@ -86,20 +83,6 @@ other-last me (l ∷ lines) line answers apart = by (λ rest. other-last me line
         let not = eqb-false l.caller me at in
         own-other me l (lines ++ line ∷ []) rest not ∙ (later rest ∙ sym (own-other me l lines rest not))
 
--- a line that found the journal full was so with little room, where others have little under way
-room-served : (w : Standing) (limit : ℕ) (u : Setup) (me : ℕ) (bindings : List Binding) (asked : Action) (told : Answer) (old : List Entry) → Served u me bindings asked told old w.seen → w.in_flight ≡ 0 → w.others + 2 ≤ limit → IsFullTold w told → HadNoRoom w.setup limit told old w.seen
-room-served w limit u me bindings (action.CopyRead file at len wait) told old left rest few full = room-within w limit u me (call.CopyRead file at len wait) told old left rest few full
-room-served w limit u me bindings (action.CopyWrite file at bytes) told old left rest few full = room-within w limit u me (call.CopyWrite file at bytes) told old left rest few full
-room-served w limit u me bindings (action.Zero file span) told old left rest few full = room-within w limit u me (call.Zero file span) told old left rest few full
-room-served w limit u me bindings (action.SetSizes file allocation size) told old left rest few full =
-    room-within w limit u me (call.SetSizes file allocation size) told old left rest few full
-room-served w limit u me bindings (action.State file) told old left rest few full = room-within w limit u me (call.State file) told old left rest few full
-room-served w limit u me bindings (action.Flush file span) told old left rest few full = room-within w limit u me (call.Flush file span) told old left rest few full
-room-served w limit u me bindings action.IsDirtyData told old left rest few full = room-within w limit u me call.IsDirtyData told old left rest few full
-room-served w limit u me bindings (action.SetLog file handle) told old left rest few full = room-within w limit u me (call.SetLog file handle) told old left rest few full
-room-served w limit u me bindings (action.Append handle bytes) told old left rest few full = room-append w limit u me handle bytes told old left rest few full
-room-served w limit u me bindings (action.LogFlush handle lsn) told old left rest few full = room-log_flush w limit u me handle lsn told old left rest few full
-
 went-then : (old between new : Standing) → WentOn old between → WentOn between new → WentOn old new
 went-then old between new first second =
     let on : Standing → Standing = λ w. record w { seen = new.seen; others = new.others; device_turns = new.device_turns } in
@@ -112,21 +95,40 @@ seat_at tells s = standing_at tells s.board.id s.knows s.device_turns
 abbrev pub seat_of : {D L Q : Type 0} → BoardState D L → Caller D L Q → SeatedState D L
 seat_of board caller = record { board = board; knows = caller.pass.knows; device_turns = caller.pass.device_turns }
 
--- So many lines were run: the pass went on from how it was seated.
-pub record LinesRan {D L Q : Type 0} (tells : Tells D L Q) (board : BoardState D L) (caller : Caller D L Q) (lines : List ActionLine)
-    (answers : List Answer) (seated : SeatedState D L) : Type 0 where
+-- So many lines were run: the pass went on from how it was seated, what it has seen is good, and what is kept of its words
+-- stands for it.
+pub record RanSoFar {D L Q : Type 0} (tells : Tells D L Q) (board : BoardState D L) (all : List ActionLine) (caller : Caller D L Q)
+    (lines : List ActionLine) (answers : List Answer) (seated : SeatedState D L) (names : NamesState) : Type 0 where
   pub went : WentOn (seat_at tells (seat_of board caller)) (seat_at tells seated)
   pub free : held_of seated.knows ≡ nothing
   pub settled : owes_store seated.knows.seen caller.pass.knows.number ≡ false
   pub whole : length answers ≡ count_of caller.pass.knows.number lines
-  pub ran : (bindings : List Binding) →
+  pub good : IsGood (setup_in tells board.begun) seated.knows.seen
+  pub room : names.room ≡ caller.names.room
+  pub ran : (bounds : List Bound) (bindings : List Binding) → WordsStand board caller.pass bounds bindings caller.names →
+      AreUsedRight caller.pass.knows.number bounds all →
       Ran (setup_in tells board.begun) 32 caller.pass.knows.number bindings
       (asked_own caller.pass.knows.number lines answers) caller.pass.knows.seen seated.knows.seen
+      × NamesStand (length board.begun.disks) caller.pass.knows.number seated.knows.seen
+      (bound_so_far caller.pass.knows.number bounds lines)
+      (bindings_of bindings (asked_own caller.pass.knows.number lines answers)) names.named
 
-module _ {D L Q : Type 0} (tells : Tells D L Q) (board : BoardState D L) (all : List ActionLine) (caller : Caller D L Q) (may : MayRun board all caller) where
+-- lines that are none of a caller's bind nothing of it
+bound-none : (me : ℕ) (bounds : List Bound) (lines : List ActionLine) → count_of me lines ≡ 0 → bound_so_far me bounds lines ≡ bounds
+bound-none me bounds [] none = refl
+bound-none me bounds (line ∷ lines) none = by (bound-none me bounds lines) (line.caller == me) refl
+  where
+    by : (count_of me lines ≡ 0 → bound_so_far me bounds lines ≡ bounds) → (b : Bool) → (line.caller == me) ≡ b → bound_so_far me bounds (line ∷ lines) ≡ bounds
+    by rest true at = absurd (omega (arith, none, count-more me line lines (eqb-true line.caller me at)))
+    by rest false at = rw at (rest (sym (count-other me line lines (eqb-false line.caller me at)) ∙ none))
+
+module _ {D L Q : Type 0} (tells : Tells D L Q) (board : BoardState D L) (all : List ActionLine) (caller : Caller D L Q) (may : MayRun tells board all caller) where
+  abbrev me : ℕ
+  me = caller.pass.knows.number
+
   -- none at first
-  pub ran-none : (seated : SeatedState D L) → seated.board ≡ board → pass_of seated ≡ caller.pass → held_of seated.knows ≡ nothing → LinesRan tells board caller [] [] seated
-  ran-none seated here is free =
+  pub ran-none : (seated : SeatedState D L) (names : NamesState) → seated.board ≡ board → pass_of seated ≡ caller.pass → held_of seated.knows ≡ nothing → names ≡ caller.names → RanSoFar tells board all caller [] [] seated names
+  ran-none seated names here is free names_are =
       let same : seated ≡ seat_of board caller = λ i. record { board = here i; knows = (is i).knows; device_turns = (is i).device_turns } in
       let seen : seated.knows.seen ≡ caller.pass.knows.seen = ap (λ p. p.knows.seen) is in
       record {
@@ -134,83 +136,139 @@ module _ {D L Q : Type 0} (tells : Tells D L Q) (board : BoardState D L) (all : 
         free = free;
         settled = rw seen may.settled;
         whole = refl;
-        ran = λ bindings. rw seen (idle-none caller.pass.knows.number caller.pass.knows.seen);
+        good = rw seen may.good;
+        room = ap (λ n. n.room) names_are;
+        ran = λ bounds bindings stand right. (rw seen (idle-none me caller.pass.knows.seen), rw (seen, names_are) stand);
       }
 
-  module _ (lines : List ActionLine) (answers : List Answer) (seated : SeatedState D L) (ran : LinesRan tells board caller lines answers seated) where
-    number-is : seated.knows.number ≡ caller.pass.knows.number
+  module _ (lines : List ActionLine) (answers : List Answer) (seated : SeatedState D L) (names : NamesState) (ran : RanSoFar tells board all caller lines answers seated names) where
+    number-is : seated.knows.number ≡ me
     number-is = ap (λ w. w.number) ran.went.same
 
+    setup-is : (seat_at tells seated).setup ≡ setup_in tells board.begun
+    setup-is = ap (λ w. w.setup) ran.went.same ∙ ap (setup_in tells) may.run
+
+    streams-are : (seat_at tells seated).streams ≡ length board.begun.disks
+    streams-are = ap (λ w. w.streams) ran.went.same ∙ ap (λ r. length r.disks) may.run
+
+    -- the line that is next is right over what was bound so far
+    right-next : (bounds : List Bound) (line : ActionLine) (rest : List ActionLine) → all ≡ lines ++ line ∷ rest → line.caller ≡ me → AreUsedRight me bounds all → UsesRight (bound_so_far me bounds lines) line.action
+    right-next bounds line rest parts own right =
+        right-first me (bound_so_far me bounds lines) line rest own (right-back me bounds lines (line ∷ rest) (subst (AreUsedRight me bounds) parts right))
+
     -- it may serve a line
-    pub can-serve : (line : ActionLine) → IsServable (length board.begun.disks) line.action → CanServe (seat_at tells seated) line.action
-    can-serve line servable = record {
-      servable = subst (λ n. IsServable n line.action) (sym (ap (λ w. w.streams) ran.went.same ∙ ap (λ r. length r.disks) may.run)) servable;
-      free = ran.free;
-      none = ap (λ w. w.in_flight) ran.went.same ∙ may.none;
-      settled = rw number-is ran.settled;
-    }
+    pub can-serve : (line : ActionLine) (rest : List ActionLine) → all ≡ lines ++ line ∷ rest → line.caller ≡ me → IsServable (length board.begun.disks) line.action → CanServe (seat_at tells seated) line.action names
+    can-serve line rest parts own servable =
+        let so = ran.ran may.bounds may.bindings may.stand may.right in
+        record {
+          servable = subst (λ n. IsServable n line.action) (sym streams-are) servable;
+          free = ran.free;
+          none = ap (λ w. w.in_flight) ran.went.same ∙ may.none;
+          settled = rw number-is ran.settled;
+          good = subst (λ u. IsGood u seated.knows.seen) (sym setup-is) ran.good;
+          bounds = bound_so_far me may.bounds lines;
+          bindings = bindings_of may.bindings (asked_own me lines answers);
+          stand = rw (streams-are, number-is) so.1;
+          right = right-next may.bounds line rest parts own may.right;
+          room = λ binds_one.
+              omega (
+                arith,
+                so.1.counted,
+                bound-long me may.bounds lines (right-front me may.bounds lines (line ∷ rest) (subst (AreUsedRight me may.bounds) parts may.right)),
+                may.stand.counted,
+                may.word_room,
+                ap (words_bound me) parts,
+                words-append me lines (line ∷ rest),
+                words-first me line rest own binds_one,
+                ran.room,
+              );
+        }
 
     -- one line of the caller
-    pub ran-own : (line : ActionLine) (told : Answer) (after : SeatedState D L) → line.caller ≡ caller.pass.knows.number → ((bindings : List Binding) → Served (seat_at tells seated).setup seated.knows.number bindings line.action told seated.knows.seen after.knows.seen) → IsFullTold (seat_at tells after) told → WentOn (seat_at tells seated) (seat_at tells after) → IsSettled (seat_at tells after) → after.knows.others ≤ after.knows.before + after.knows.passes → LinesRan tells board caller (lines ++ line ∷ []) (answers ++ told ∷ []) after
-    ran-own line told after own served full went settled few =
-        let me = caller.pass.knows.number in
-        let setup : (seat_at tells seated).setup ≡ setup_in tells board.begun = ap (λ w. w.setup) ran.went.same ∙ ap (setup_in tells) may.run in
-        let setup_after : (seat_at tells after).setup ≡ setup_in tells board.begun = ap (λ w. w.setup) went.same ∙ setup in
+    pub ran-own : (line : ActionLine) (rest : List ActionLine) (told : Answer) (after : SeatedState D L) (now : NamesState) → all ≡ lines ++ line ∷ rest → line.caller ≡ me → LineEnds (seat_at tells seated) (seat_at tells after) line.action told names now → after.knows.others ≤ after.knows.before + after.knows.passes → RanSoFar tells board all caller (lines ++ line ∷ []) (answers ++ told ∷ []) after now
+    ran-own line rest told after now parts own ended few =
+        let went = ended.goes_on in
+        let setup_after : (seat_at tells after).setup ≡ setup_in tells board.begun = ap (λ w. w.setup) went.same ∙ setup-is in
+        let streams_after : (seat_at tells after).streams ≡ length board.begun.disks = ap (λ w. w.streams) went.same ∙ streams-are in
         let number_after : after.knows.number ≡ me = ap (λ w. w.number) went.same ∙ number-is in
-        let rest : after.knows.in_flight ≡ 0 = ap (λ w. w.in_flight) went.same ∙ (ap (λ w. w.in_flight) ran.went.same ∙ may.none) in
+        let none : after.knows.in_flight ≡ 0 = ap (λ w. w.in_flight) went.same ∙ (ap (λ w. w.in_flight) ran.went.same ∙ may.none) in
         let most : after.knows.before + after.knows.passes ≡ caller.pass.knows.before + caller.pass.knows.passes =
         ap (λ w. w.most_others) went.same ∙ ap (λ w. w.most_others) ran.went.same in
         record {
           went = went-then (seat_at tells (seat_of board caller)) (seat_at tells seated) (seat_at tells after) ran.went went;
           free = ap (λ w. w.held) went.same ∙ ran.free;
-          settled = subst (λ n. owes_store after.knows.seen n ≡ false) number_after settled;
+          settled = subst (λ n. owes_store after.knows.seen n ≡ false) number_after ended.settled;
           whole = omega (arith, length-append answers (told ∷ []), ran.whole, count-append me lines (line ∷ []), count-more me line [] own);
-          ran = λ bindings. rw (own-last me lines line answers told own ran.whole)
-              (ran-more (setup_in tells board.begun) 32 me bindings (asked_own me lines answers) line.action told caller.pass.knows.seen seated.knows.seen after.knows.seen (ran.ran bindings)
-              (record {
-                served = rw (setup, number-is) at (served (bindings_of bindings (asked_own me lines answers)));
-                room = subst (λ u. HadNoRoom u 32 told seated.knows.seen after.knows.seen) setup_after
-                    (room-served (seat_at tells after) 32 (seat_at tells seated).setup seated.knows.number (bindings_of bindings (asked_own me lines answers)) line.action told seated.knows.seen
-                    (served (bindings_of bindings (asked_own me lines answers))) rest (omega (arith, few, most, may.few)) full);
-              }));
+          good = subst (λ u. IsGood u after.knows.seen) setup-is ended.good;
+          room = ended.room ∙ ran.room;
+          ran = λ bounds bindings stand right.
+              let so = ran.ran bounds bindings stand right in
+              let named = bindings_of bindings (asked_own me lines answers) in
+              let served = ended.served (bound_so_far me bounds lines) named (rw (streams-are, number-is) so.1) (right-next bounds line rest parts own right) in (
+                rw (own-last me lines line answers told own ran.whole)
+                    (ran-more (setup_in tells board.begun) 32 me bindings (asked_own me lines answers) line.action told caller.pass.knows.seen seated.knows.seen after.knows.seen so.0
+                    (record {
+                      served = rw (setup-is, number-is) at served.0;
+                      room = subst (λ u. HadNoRoom u 32 told seated.knows.seen after.knows.seen) setup_after
+                          (room-served (seat_at tells after) 32 (seat_at tells seated).setup seated.knows.number named line.action told seated.knows.seen
+                          served.0 none (omega (arith, few, most, may.few)) ended.full);
+                    })),
+                rw (own-last me lines line answers told own ran.whole, bound-own me bounds lines line own, bindings-append bindings (asked_own me lines answers) ((line.action, told) ∷ []))
+                    (rw (streams_after, number_after) at served.1),
+              );
         }
 
     -- a line of another
-    pub ran-other : (line : ActionLine) → line.caller ≢ caller.pass.knows.number → LinesRan tells board caller (lines ++ line ∷ []) answers seated
+    pub ran-other : (line : ActionLine) → line.caller ≢ me → RanSoFar tells board all caller (lines ++ line ∷ []) answers seated names
     ran-other line apart = record {
       went = ran.went;
       free = ran.free;
       settled = ran.settled;
-      whole = omega (arith, ran.whole, count-append caller.pass.knows.number lines (line ∷ []), count-other caller.pass.knows.number line [] apart);
-      ran = λ bindings. rw (other-last caller.pass.knows.number lines line answers apart) (ran.ran bindings);
+      whole = omega (arith, ran.whole, count-append me lines (line ∷ []), count-other me line [] apart);
+      good = ran.good;
+      room = ran.room;
+      ran = λ bounds bindings stand right. rw (other-last me lines line answers apart, bound-other me bounds lines line apart) (ran.ran bounds bindings stand right);
     }
 
     -- all were run
-    pub caller-ran : (ended : Finished D L Q) → lines ≡ all → ended.pass ≡ pass_of seated → ended.answers.items ≡ answers → CallerRan tells board all caller ended
-    caller-ran ended whole is told =
-        let me = caller.pass.knows.number in
+    pub caller-ran : (ended : Finished D L Q) → lines ≡ all → ended.pass ≡ pass_of seated → ended.answers.items ≡ answers → ended.names ≡ names → CallerRan tells board all caller ended
+    caller-ran ended whole is told names_are =
         let seen : ended.pass.knows.seen ≡ seated.knows.seen = ap (λ p. p.knows.seen) is in
+        let number : ended.pass.knows.number ≡ me = ap (λ p. p.knows.number) is ∙ number-is in
         record {
           here = ap (λ p. p.board) is ∙ same_board seated.board.id board.id (ap (λ w. w.shared) ran.went.same);
-          number = ap (λ p. p.knows.number) is ∙ number-is;
+          number = number;
           none = ap (λ p. p.knows.in_flight) is ∙ (ap (λ w. w.in_flight) ran.went.same ∙ may.none);
-          settled = rw (seen, ap (λ p. p.knows.number) is ∙ number-is) ran.settled;
+          settled = rw (seen, number) ran.settled;
           whole = ap length told ∙ (ran.whole ∙ ap (count_of me) whole);
-          ran = λ bindings. rw (← whole, told, seen) (ran.ran bindings);
+          word_room = ap (λ n. n.room) names_are ∙ ran.room;
+          ran = λ bounds bindings stand right.
+              let so = ran.ran bounds bindings stand right in
+              record {
+                ran = rw (← whole, told, seen) so.0;
+                stand = rw (← whole, told, seen, number, names_are) so.1;
+              };
         }
 
 -- a caller that has no room has no lines
-pub ran-no_lines : {D L Q : Type 0} (tells : Tells D L Q) (board : BoardState D L) (all : List ActionLine) (caller : Caller D L Q) (ended : Finished D L Q) → MayRun board all caller → vec_capacity caller.room ≡ 0 → ended.pass ≡ caller.pass → ended.answers ≡ caller.room → CallerRan tells board all caller ended
-ran-no_lines tells board all caller ended may zero same none =
+pub ran-no_lines : {D L Q : Type 0} (tells : Tells D L Q) (board : BoardState D L) (all : List ActionLine) (caller : Caller D L Q) (ended : Finished D L Q) → MayRun tells board all caller → vec_capacity caller.room ≡ 0 → ended.pass ≡ caller.pass → ended.answers ≡ caller.room → ended.names ≡ caller.names → CallerRan tells board all caller ended
+ran-no_lines tells board all caller ended may zero same none names_are =
     let me = caller.pass.knows.number in
     let empty : ended.answers.items ≡ [] = ap (λ v. v.items) none ∙ may.room.empty in
+    let no_lines : count_of me all ≡ 0 = omega (arith, may.room.room, zero) in
+    let seen : ended.pass.knows.seen ≡ caller.pass.knows.seen = ap (λ p. p.knows.seen) same in
+    let number : ended.pass.knows.number ≡ me = ap (λ p. p.knows.number) same in
     record {
       here = ap (λ p. p.board) same ∙ may.here;
-      number = ap (λ p. p.knows.number) same;
+      number = number;
       none = ap (λ p. p.knows.in_flight) same ∙ may.none;
       settled = subst (λ p. owes_store p.knows.seen p.knows.number ≡ false) (sym same) may.settled;
-      whole = omega (arith, ap length empty, may.room.room, zero);
-      ran = λ bindings. rw (empty, own-none me all, ap (λ p. p.knows.seen) same) (idle-none me caller.pass.knows.seen);
+      whole = omega (arith, ap length empty, no_lines);
+      word_room = ap (λ n. n.room) names_are;
+      ran = λ bounds bindings stand right. record {
+        ran = rw (empty, own-none me all, seen) (idle-none me caller.pass.knows.seen);
+        stand = rw (empty, own-none me all, bound-none me bounds all no_lines, seen, number, names_are) stand;
+      };
     }
 
 -- as many ended as there were callers, and one more behind them

@@ -1,7 +1,9 @@
 mod Acting
 mod Ascending
-mod Calls
 mod LinesRan
+mod FullLines
+mod WordSteps
+mod NamesKept
 mod Lists
 mod Opening
 mod Others

@@ -1,5 +1,5 @@
 -- Facts of lists and answers.
-use Rattle.std.specs.Prelude.{◌≡◌, ℕ, zero, suc, ◌<◌, List, [], ◌∷◌, ◌++◌, length, take, drop, Result, Ok, Err, IfOk, IfSome, Option, refl}
+use Rattle.std.specs.Prelude.{◌≡◌, ℕ, zero, suc, ◌<◌, List, [], ◌∷◌, ◌++◌, length, map, take, drop, slice_get, Result, Ok, Err, IfOk, IfSome, Option, Some, refl}
 use Rattle.std.specs.Result.{result_ok}
 use Rattle.std.specs.List.{AllByRecursion}
 use Rattle.std.proofs.Common.{sym, subst, arith, ap, get_or}
@@ -45,3 +45,15 @@ all-take P n xs all = all-front P (take n xs) (drop n xs) (subst (AllByRecursion
 pub if_some-ok : {T E : Type 0} {P Q : T → Type 0} (r : Result T E) (o : Option T) → o ≡ result_ok r → ((t : T) → P t → Q t) → IfOk r P → IfSome o Q
 if_some-ok (Ok t) o is more fact = rw is (more t fact)
 if_some-ok (Err e) o is more fact = rw is tt
+
+-- an item is there below the length
+pub there : {A : Type 0} (xs : List A) (n : ℕ) → n < length xs → (x : A) × (slice_get xs n ≡ Some x)
+there [] n within = absurd (omega (arith, within))
+there (x ∷ xs) zero within = (x, refl)
+there (x ∷ xs) (suc n) within = there xs n (omega (arith, within))
+
+-- an item of a row that is mapped
+pub mapped-at : {A B : Type 0} (f : A → B) (xs : List A) (n : ℕ) (x : A) (d : B) → slice_get xs n ≡ Some x → get_or (map f xs) n d ≡ f x
+mapped-at f [] n x d at = absurd (cc (at))
+mapped-at f (y ∷ xs) zero x d at = let is : y ≡ x = cc (at) in ap f is
+mapped-at f (y ∷ xs) (suc n) x d at = mapped-at f xs n x d at

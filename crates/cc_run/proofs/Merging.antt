@@ -1,5 +1,5 @@
 -- The answers of a phase come together: one line more, with the answer that its caller's row gives.
-use Rattle.std.specs.Prelude.{◌≡◌, ◌≢◌, ℕ, suc, ◌+◌, ◌-◌, ◌<◌, ◌≤◌, ◌==◌, Bool, true, false, List, [], ◌∷◌, ◌++◌, length, map, reverse, get_or, refl, if◌then◌else◌}
+use Rattle.std.specs.Prelude.{◌≡◌, ◌≢◌, ℕ, suc, ◌-◌, ◌≤◌, ◌==◌, Bool, true, false, List, [], ◌∷◌, ◌++◌, length, map, reverse, get_or, refl}
 use Rattle.std.specs.List.{AllByRecursion}
 use Rattle.std.proofs.Common.{sym, ap, ◌∙◌, arith, append_assoc, append-nil, set}
 use Rattle.std.proofs.Math.ListN.{length-set}
@@ -7,7 +7,6 @@ use Rattle.std.proofs.lemmas.Bool.{eqb-true, eqb-false, ne_eqb, eq-eqb}
 use Rattle.std.proofs.lemmas.List.{get_or-set_same, get_or-set_other, reverse-append}
 use Rattle.cc_entry.specs.declared.answer.Answer.{Answer}
 use Rattle.cc_entry.specs.declared.answer.LineReply.{LineReply}
-use Rattle.cc_script.specs.declared.script.Action.{Action}
 use Rattle.cc_script.specs.declared.script.ActionLine.{ActionLine}
 use Rattle.cc_pieces.specs.Phases.{is_of_phase}
 use Rattle.cc_pieces.specs.Runs.{asked_of}

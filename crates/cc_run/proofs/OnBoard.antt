@@ -1,42 +1,49 @@
 -- A phase that ran on a board: what is known of its callers, and of the desk that the board closed into.
-use Rattle.std.specs.Prelude.{◌≡◌, ◌≢◌, ◌⊎◌, ℕ, zero, suc, ◌+◌, ◌-◌, ◌<◌, ◌≤◌, ◌==◌, ◌&&◌, Bool, true, false, List, [], ◌∷◌, ◌++◌, length, map, reverse, get_or, slice_get, Contains, vec_capacity, refl}
+use Rattle.std.specs.Prelude.{◌≡◌, ◌≢◌, ◌⊎◌, ℕ, zero, suc, ◌+◌, ◌-◌, ◌<◌, ◌≤◌, ◌==◌, ◌&&◌, Bool, true, false, List, [], ◌∷◌, ◌++◌, length, map, reverse, get_or, slice_get, Contains, vec_capacity, refl, if◌then◌else◌}
 use Rattle.std.specs.declared.option.Option.{Option}
 use Rattle.std.specs.declared.option.Option.TheVariants.{Some}
 use Rattle.std.specs.declared.vec.Vec.{Vec}
 use Rattle.std.specs.Global.{Global}
 use Rattle.std.specs.List.{AllByRecursion}
 use Rattle.std.proofs.Common.{sym, ap, subst, ◌∙◌, arith, inl, inr}
-use Rattle.std.proofs.lemmas.Bool.{ne_eqb}
+use Rattle.std.proofs.lemmas.Bool.{eq-eqb, ne_eqb}
 use Rattle.std.proofs.lemmas.List.{get_or-reverse, length-reverse, length-append, reverse-append, map-append}
-use Rattle.std.proofs.lemmas.Option.{slice_get_within}
+use Rattle.std.proofs.lemmas.Option.{get_or_from_slice_get, slice_get_within}
 use Rattle.cc_entry.specs.declared.answer.Answer.{Answer}
 use Rattle.cc_entry.specs.declared.answer.LineReply.{LineReply}
 use Rattle.cc_entry.specs.declared.entry.Entry.{Entry}
 use Rattle.cc_traits.specs.Disk.{Disk}
 use Rattle.cc_traits.specs.Log.{Log}
+use Rattle.cc_script.specs.declared.bound.Bound.{Bound}
+use Rattle.cc_script.specs.declared.script.Action.{Action}
 use Rattle.cc_script.specs.declared.script.ActionLine.{ActionLine}
+use Rattle.cc_script.specs.HoldWords.{AreUsedRight, words_bound}
+use Rattle.cc_model.specs.Good.{IsGood}
 use Rattle.cc_model.specs.Setup.{Setup}
 use Rattle.cc_effects.specs.Moments.{IsIdle}
 use Rattle.cc_pieces.specs.Bindings.{Binding}
 use Rattle.cc_pieces.specs.Phases.{is_of_phase}
-use Rattle.cc_pieces.specs.Rooms.{is_alone, room_limit}
-use Rattle.cc_pieces.specs.Runs.{Ran, asked_of}
+use Rattle.cc_pieces.specs.Rooms.{is_alone}
+use Rattle.cc_pieces.specs.Runs.{Ran, asked_of, bindings_of}
 use Rattle.cc_pieces.proofs.LineSteps.{ran-idle}
 use Rattle.cc_pieces.proofs.OneCaller.{asked-none}
 use Rattle.cc_step.specs.Step.{owes_store}
 use Rattle.cc_turns.specs.Desk.{DeskState, Tells, tells_of, standing_of}
 use Rattle.cc_turns.specs.Places.{IsRoomFor}
-use Rattle.cc_turns.specs.Slots.{setup_in, under_way_in}
-use Rattle.cc_turns.specs.Standing.{nothing}
+use Rattle.cc_turns.specs.Slots.{setup_in}
 use Rattle.cc_board.specs.Board.{BoardState, FirstState, IsFirstOf, IsOf, IsOpened, IsHandedBack, IsClosed}
-use Rattle.cc_run.specs.Callers.{AllRan, AreRows, CallerRan, MayRun, MayAllRun, asked_own, count_of, row_at}
+use Rattle.cc_run.specs.Callers.{AllRan, AreRows, CallerRan, LinesRan, MayRun, MayAllRun, WordsStand, asked_own, count_of, row_at}
+use Rattle.cc_lines.specs.Holds.{NamesStand, NamesState}
 use Rattle.cc_run.specs.Desks.{IsReady, IsSameRun}
-use Rattle.cc_run.specs.Lines.{IsCaller, IsServable}
-use Rattle.cc_run.specs.Phases.{PhaseLeft, PhaseServed}
+use Rattle.cc_lines.specs.Line.{IsServable}
+use Rattle.cc_run.specs.Lines.{AllStand, IsCaller, KeepRoom, MayServe, after_lines, asked_by, bound_by}
+use Rattle.cc_run.specs.Phases.{PhaseEnds}
 use Rattle.cc_run.specs.Threads.{AreJoined, AreRooms, AreSplit, MayJoin, MaySplit, Merged, under_way_of}
 use Rattle.cc_run.specs.declared.callers.Caller.{Caller}
 use Rattle.cc_run.specs.declared.callers.Finished.{Finished}
 use Rattle.cc_run.proofs.CallersRan.{all-ran-long}
+use Rattle.cc_run.proofs.Lists.{mapped-at, there}
+use Rattle.cc_run.proofs.NamesKept.{names-keep}
 use Rattle.cc_run.proofs.Others.{settled-idle}
 use Rattle.cc_run.proofs.RowSteps.{reverse_twice}
 
@@ -47,18 +54,7 @@ all-from : {A : Type 0} (P : A → Type 0) (xs : List A) → ((n : ℕ) (x : A) 
 all-from P [] each = tt
 all-from P (x ∷ xs) each = (each 0 x refl, all-from P xs (λ n y at. each (suc n) y at))
 
--- an item is there below the length
-there : {A : Type 0} (xs : List A) (n : ℕ) → n < length xs → (x : A) × (slice_get xs n ≡ Some x)
-there [] n within = absurd (omega (arith, within))
-there (x ∷ xs) zero within = (x, refl)
-there (x ∷ xs) (suc n) within = there xs n (omega (arith, within))
-
--- an item of a row that is mapped, and that it is contained
-mapped-at : {A B : Type 0} (f : A → B) (xs : List A) (n : ℕ) (x : A) (d : B) → slice_get xs n ≡ Some x → get_or (map f xs) n d ≡ f x
-mapped-at f [] n x d at = absurd (cc (at))
-mapped-at f (y ∷ xs) zero x d at = let is : y ≡ x = cc (at) in ap f is
-mapped-at f (y ∷ xs) (suc n) x d at = mapped-at f xs n x d at
-
+-- a row that is mapped is as long, and its items are contained
 long : {A B : Type 0} (f : A → B) (xs : List A) → length (map f xs) ≡ length xs
 long f [] = refl
 long f (x ∷ xs) = ap suc (long f xs)
@@ -72,6 +68,47 @@ turned : {A B : Type 0} (f : A → B) (xs : List A) → map f (reverse xs) ≡ r
 turned f [] = refl
 turned f (x ∷ xs) =
     ap (map f) (reverse-append (x ∷ []) xs) ∙ (map-append f (reverse xs) (x ∷ []) ∙ (ap (λ l. l ++ f x ∷ []) (turned f xs) ∙ sym (reverse-append (f x ∷ []) (map f xs))))
+
+mapped-there : {A B : Type 0} (f : A → B) (xs : List A) (n : ℕ) (x : A) → slice_get xs n ≡ Some x → slice_get (map f xs) n ≡ Some (f x)
+mapped-there f [] n x at = absurd (cc (at))
+mapped-there f (y ∷ xs) zero x at = let is : y ≡ x = cc (at) in ap (λ z. Some (f z)) is
+mapped-there f (y ∷ xs) (suc n) x at = mapped-there f xs n x at
+
+some-same : {A : Type 0} (a b : A) → Some a ≡ Some b → a ≡ b
+some-same a b same = cc (same)
+
+-- rows whose items are mapped to the same one by one
+same-map : {A B : Type 0} (f : A → B) (xs ys : List A) → length xs ≡ length ys → ((n : ℕ) (x y : A) → slice_get xs n ≡ Some x → slice_get ys n ≡ Some y → f x ≡ f y) → map f xs ≡ map f ys
+same-map f [] [] same each = refl
+same-map f [] (y ∷ ys) same each = absurd (omega (arith, same))
+same-map f (x ∷ xs) [] same each = absurd (omega (arith, same))
+same-map f (x ∷ xs) (y ∷ ys) same each =
+    ap (λ b. b ∷ map f xs) (each 0 x y refl refl)
+    ∙ ap (λ l. f y ∷ l) (same-map f xs ys (omega (arith, same)) (λ n a b first second. each (suc n) a b first second))
+
+-- an item of a row of 16 that is turned round
+turned-at : {A : Type 0} (xs : List A) (n : ℕ) (x : A) → length xs ≡ 16 → n < 16 → slice_get (reverse xs) (15 - n) ≡ Some x → slice_get xs n ≡ Some x
+turned-at xs n x sixteen within at =
+    let one = there xs n (omega (arith, within, sixteen)) in
+    let place : length xs - 1 - (15 - n) ≡ n = omega (arith, sixteen, within) in
+    let same : x ≡ one.0 =
+    sym (get_or_from_slice_get (reverse xs) (15 - n) x x at)
+    ∙ (get_or-reverse xs (15 - n) x (omega (arith, sixteen, within)) ∙ (ap (λ k. get_or xs k x) place ∙ get_or_from_slice_get xs n one.0 x one.1)) in
+    one.1 ∙ ap Some (sym same)
+
+-- of a phase, the lines of a caller are all its lines
+asked-phase : (phase me : ℕ) (lines : List ActionLine) (replies : List LineReply) → AllByRecursion (λ line. line.phase ≡ phase) lines → asked_of (is_of_phase phase me) lines replies ≡ asked_by me lines replies
+asked-phase phase me [] replies those = refl
+asked-phase phase me (line ∷ lines) [] those = refl
+asked-phase phase me (line ∷ lines) (reply ∷ replies) those =
+    rw (eq-eqb line.phase phase those.0, asked-phase phase me lines replies those.1) (by (line.caller == me))
+  where
+    asked : List (Action × Answer)
+    asked = asked_by me lines replies
+
+    by : (b : Bool) → (if b && true then (line.action, reply.answer) ∷ asked else asked) ≡ (if b then (line.action, reply.answer) ∷ asked else asked)
+    by true = refl
+    by false = refl
 
 below-or : (n k : ℕ) → (n < k) ⊎ (k ≤ n)
 below-or n zero = inr (omega arith)
@@ -122,25 +159,49 @@ module _ {D L Q : Type 0} (told : D → Option Disk) (faults : D → ℕ) (log_t
     passes = opened.passes_are;
   }
 
-  module _ (lines : List ActionLine) (rooms : List (Vec Answer Global)) (split_first : FirstState D L) (callers : List (Caller D L Q)) (split : AreSplit board rooms first split_first callers) where
-    pub may-all-run : AreRooms lines rooms → AllByRecursion (λ line. IsServable (length desk.begun.disks) line.action) lines → MayAllRun board lines callers
-    may-all-run are servable = all-from (MayRun board lines) callers each
+  module _ (lines : List ActionLine) (was turned_names : List NamesState) (names_turned : turned_names ≡ reverse was) (sixteen : length was ≡ 16) (rooms : List (Vec Answer Global)) (split_first : FirstState D L) (callers : List (Caller D L Q)) (split : AreSplit board rooms turned_names first split_first callers) where
+    -- what is kept of a caller's words when it is made, and that it stands
+    names-at : (n : ℕ) (caller : Caller D L Q) → slice_get callers n ≡ Some caller → slice_get was n ≡ Some caller.names
+    names-at n caller at =
+        let made = split.each n caller at in
+        let within : n < 16 = omega (arith, slice_get_within callers n caller at, split.counted) in
+        turned-at was n caller.names sixteen within
+        (subst (λ rows. slice_get rows (15 - n) ≡ Some caller.names) names_turned (made.3 ∙ ap Some (sym made.4.names_are)))
+
+    words-at : (bounds : ℕ → List Bound) (bindings : ℕ → List Binding) (n : ℕ) (caller : Caller D L Q) → slice_get callers n ≡ Some caller → AllStand (length desk.begun.disks) desk.last.entries bounds bindings was → WordsStand board caller.pass (bounds (suc n)) (bindings (suc n)) caller.names
+    words-at bounds bindings n caller at stand =
+        let is = (split.each n caller at).4 in
+        let seen : caller.pass.knows.seen ≡ desk.last.entries = is.seen_is ∙ opened.seen_is in
+        let streams : length board.begun.disks ≡ length desk.begun.disks = ap (λ b. length b.disks) opened.run_is in
+        rw (streams, is.number_is, seen) (stand.each n caller.names (names-at n caller at))
+
+    pub may-all-run : AreRooms lines rooms → AllByRecursion (λ line. IsServable (length desk.begun.disks) line.action) lines → IsGood (standing_of told faults log_told log_faults desk).setup desk.last.entries → MayServe (length desk.begun.disks) desk.last.entries lines was → MayAllRun (tells_of told faults log_told log_faults posted) board lines callers
+    may-all-run are servable good words = all-from (MayRun (tells_of told faults log_told log_faults posted) board lines) callers each
       where
-        each : (n : ℕ) (caller : Caller D L Q) → slice_get callers n ≡ Some caller → MayRun board lines caller
+        each : (n : ℕ) (caller : Caller D L Q) → slice_get callers n ≡ Some caller → MayRun (tells_of told faults log_told log_faults posted) board lines caller
         each n caller at =
             let made = split.each n caller at in
-            let is = made.2 in
+            let is = made.4 in
             let within : n < 16 = omega (arith, slice_get_within callers n caller at, split.counted) in
             let number : 16 - (15 - n) ≡ caller.pass.knows.number = omega (arith, within, is.number_is) in
+            let run : setup_in (tells_of told faults log_told log_faults posted) board.begun ≡ (standing_of told faults log_told log_faults desk).setup =
+            ap (setup_in (tells_of told faults log_told log_faults posted)) opened.run_is in
             record {
               here = is.here;
               run = is.run ∙ opened.first_run;
               none = is.none;
               settled = ap (λ past. owes_store past caller.pass.knows.number) (is.seen_is ∙ opened.seen_is) ∙ ready.settled caller.pass.knows.number;
+              good = rw (run, is.seen_is ∙ opened.seen_is) good;
               few = omega (arith, is.before_is, is.passes_are, opened.before_is, opened.passes_are, ready.at_rest);
               servable = subst (λ k. AllByRecursion (λ line. IsServable k line.action) lines) (sym (ap (λ b. length b.disks) opened.run_is)) servable;
+              bounds = words.bounds (suc n);
+              bindings = words.bindings (suc n);
+              stand = words-at words.bounds words.bindings n caller at words.stand;
+              right = subst (λ k. AreUsedRight k (words.bounds (suc n)) lines) (sym is.number_is) (words.right (suc n));
               room = subst (λ k. IsRoomFor (count_of k lines) caller.room.items (vec_capacity caller.room)) number
-                  (subst (λ (room : Vec Answer Global). IsRoomFor (count_of (16 - (15 - n)) lines) room.items (vec_capacity room)) (sym is.room_is) (are.each (15 - n) made.0 made.1));
+                  (subst (λ (room : Vec Answer Global). IsRoomFor (count_of (16 - (15 - n)) lines) room.items (vec_capacity room)) (sym is.room_is) (are.each (15 - n) made.0 made.2));
+              word_room =
+                  subst (λ k. length caller.names.named + words_bound k lines ≤ caller.names.room) (sym is.number_is) (words.room n caller.names (names-at n caller at));
             }
 
     module _ (ended : List (Finished D L Q)) (ran : AllRan (tells_of told faults log_told log_faults posted) board lines callers ended) where
@@ -154,7 +215,7 @@ module _ {D L Q : Type 0} (told : D → Option Disk) (faults : D → ℕ) (log_t
         each = all-here (tells_of told faults log_told log_faults posted) board lines callers ended ran;
       }
 
-      module _ (joined_first : FirstState D L) (rows : List (Vec Answer Global)) (joined : AreJoined split_first joined_first ended rows) where
+      module _ (joined_first : FirstState D L) (rows : List (Vec Answer Global)) (joined_names : List NamesState) (joined : AreJoined split_first joined_first ended rows joined_names) where
         pub first-here : IsFirstOf board joined_first
         first-here = joined.board_is ∙ (split.board_is ∙ opened.is_of)
 
@@ -201,22 +262,50 @@ module _ {D L Q : Type 0} (told : D → Option Disk) (faults : D → ℕ) (log_t
           one : Finished D L Q
           at : slice_get ended n ≡ Some one
           ran_so : CallerRan (tells_of told faults log_told log_faults posted) board lines caller one
+          caller_at : slice_get callers n ≡ Some caller
           number_is : caller.pass.knows.number ≡ suc n
           seen_is : caller.pass.knows.seen ≡ desk.last.entries
 
         ended-at : (n : ℕ) → n < 16 → Ended n
         ended-at n within =
             let caller = there callers n (omega (arith, within, split.counted)) in
-            let made = (split.each n caller.0 caller.1).2 in
+            let made = (split.each n caller.0 caller.1).4 in
             let one = ran-at (tells_of told faults log_told log_faults posted) board lines callers ended n caller.0 ran caller.1 in
             record {
               caller = caller.0;
               one = one.0;
               at = one.1;
               ran_so = one.2;
+              caller_at = caller.1;
               number_is = made.number_is;
               seen_is = made.seen_is ∙ opened.seen_is;
             }
+
+        -- what is kept of the callers' words, from the first on
+        module _ (names : List NamesState) (names_back : names ≡ reverse joined_names) where
+          abbrev named : Finished D L Q → NamesState
+          named one = one.names
+
+          names-are : names ≡ map named ended
+          names-are = names_back ∙ (ap reverse (joined.names_are ∙ turned named ended) ∙ reverse_twice (map named ended))
+
+          names-of : (n : ℕ) (one : Finished D L Q) (row : NamesState) → slice_get ended n ≡ Some one → slice_get names n ≡ Some row → row ≡ one.names
+          names-of n one row at here =
+              let there_too : slice_get names n ≡ Some one.names = ap (λ l. slice_get l n) names-are ∙ mapped-there named ended n one at in
+              some-same row one.names (sym here ∙ there_too)
+
+          names-long : length names ≡ 16
+          names-long = ap length names-are ∙ (long named ended ∙ as-many)
+
+          pub keep-room : KeepRoom was names
+          keep-room = same-map (λ (row : NamesState). row.room) names was (names-long ∙ sym sixteen) each
+            where
+              each : (n : ℕ) (row before : NamesState) → slice_get names n ≡ Some row → slice_get was n ≡ Some before → row.room ≡ before.room
+              each n row before at first =
+                  let e = ended-at n (omega (arith, slice_get_within names n row at, names-long)) in
+                  let is : row ≡ e.one.names = names-of n e.one row e.at at in
+                  let same : e.caller.names ≡ before = some-same e.caller.names before (sym (names-at n e.caller e.caller_at) ∙ first) in
+                  ap (λ r. r.room) is ∙ (e.ran_so.word_room ∙ ap (λ r. r.room) same)
 
         pub are-rows : AreRows lines answers
         are-rows = (ap length rows-turned ∙ (length-reverse (map turn ended) ∙ (long turn ended ∙ as-many)), each)
@@ -276,36 +365,67 @@ module _ {D L Q : Type 0} (told : D → Option Disk) (faults : D → ℕ) (log_t
           abbrev setup : Setup
           setup = (standing_of told faults log_told log_faults desk).setup
 
-          pub phase-on-board : (before after : List LineReply) (phase : ℕ) → AllByRecursion (λ line. IsCaller line.caller) lines → AllByRecursion (λ line. line.phase ≡ phase) lines → is_alone phase lines ≡ false → Merged lines answers before after → PhaseServed setup phase lines before after desk.last.entries now.last.entries
-          phase-on-board before after phase are those apart merged = record {
-            answers = merged.answers;
-            grew = merged.grew;
-            left = record { lines_are = merged.lines_are; ran = λ me bindings. rw apart (ran-of me bindings) };
-          }
-            where
-              no-lines : (me : ℕ) → ((line : ActionLine) → IsCaller line.caller → line.caller ≢ me) → (bindings : List Binding) → IsIdle me desk.last.entries now.last.entries → Ran setup 32 me bindings (asked_of (is_of_phase phase me) lines merged.answers) desk.last.entries now.last.entries
-              no-lines me other bindings idle =
-                  subst (λ l. Ran setup 32 me bindings l desk.last.entries now.last.entries) (sym (asked-none (is_of_phase phase me) lines merged.answers (of_none phase me lines other are))) idle
+          module _ (names : List NamesState) (names_back : names ≡ reverse joined_names) (good : IsGood (standing_of told faults log_told log_faults now).setup now.last.entries) (before after : List LineReply) (phase : ℕ) (bounds : ℕ → List Bound) (bindings : ℕ → List Binding) (are : AllByRecursion (λ line. IsCaller line.caller) lines) (those : AllByRecursion (λ line. line.phase ≡ phase) lines) (merged : Merged lines answers before after) (stand : AllStand (length desk.begun.disks) desk.last.entries bounds bindings was) (right : (me : ℕ) → AreUsedRight me (bounds me) lines) where
+            abbrev asked : ℕ → List (Action × Answer)
+            asked me = asked_of (is_of_phase phase me) lines merged.answers
 
-              own-lines : (n : ℕ) → n < 16 → (bindings : List Binding) → Ran setup 32 (suc n) bindings (asked_of (is_of_phase phase (suc n)) lines merged.answers) desk.last.entries now.last.entries
-              own-lines n within bindings =
-                  let e = ended-at n within in
-                  let asked : asked_of (is_of_phase phase (suc n)) lines merged.answers ≡ asked_own (suc n) lines e.one.answers.items =
-                  merged.asked phase (suc n) those (omega arith) (omega (arith, within)) ∙ ap (asked_own (suc n) lines) (row-is n e.one within e.at) in
-                  let run : setup_in (tells_of told faults log_told log_faults posted) board.begun ≡ setup =
-                  ap (setup_in (tells_of told faults log_told log_faults posted)) opened.run_is in
-                  let own : Ran setup 32 (suc n) bindings (asked_own (suc n) lines e.one.answers.items) desk.last.entries e.one.pass.knows.seen =
-                  rw (run, e.number_is, e.seen_is) at (e.ran_so.ran bindings) in
-                  subst (λ l. Ran setup 32 (suc n) bindings l desk.last.entries now.last.entries) (sym asked)
-                  (ran-idle setup 32 (suc n) bindings (asked_own (suc n) lines e.one.answers.items) desk.last.entries e.one.pass.knows.seen now.last.entries own (idle-caller n e))
+            run : setup_in (tells_of told faults log_told log_faults posted) board.begun ≡ setup
+            run = ap (setup_in (tells_of told faults log_told log_faults posted)) opened.run_is
 
-              ran-of : (me : ℕ) (bindings : List Binding) → Ran setup 32 me bindings (asked_of (is_of_phase phase me) lines merged.answers) desk.last.entries now.last.entries
-              ran-of zero bindings = no-lines 0 (λ line caller same. omega (arith, caller.first, same)) bindings idle-first
-              ran-of (suc n) bindings = by (below-or n 16)
-                where
-                  by : (n < 16) ⊎ (16 ≤ n) → Ran setup 32 (suc n) bindings (asked_of (is_of_phase phase (suc n)) lines merged.answers) desk.last.entries now.last.entries
-                  by (inl within) = own-lines n within bindings
-                  by (inr above) = no-lines (suc n) (λ line caller same. omega (arith, caller.last, same, above)) bindings (idle-unmade (suc n) (omega (arith, above)))
+            own-asked : (n : ℕ) (e : Ended n) → n < 16 → asked (suc n) ≡ asked_own (suc n) lines e.one.answers.items
+            own-asked n e within =
+                merged.asked phase (suc n) those (omega arith) (omega (arith, within)) ∙ ap (asked_own (suc n) lines) (row-is n e.one within e.at)
+
+            own-ran : (n : ℕ) (e : Ended n) → LinesRan (tells_of told faults log_told log_faults posted) board lines (bounds (suc n)) (bindings (suc n)) e.caller e.one
+            own-ran n e =
+                e.ran_so.ran (bounds (suc n)) (bindings (suc n)) (words-at bounds bindings n e.caller e.caller_at stand)
+                (subst (λ k. AreUsedRight k (bounds (suc n)) lines) (sym e.number_is) (right (suc n)))
+
+            no-lines : (me : ℕ) → ((line : ActionLine) → IsCaller line.caller → line.caller ≢ me) → IsIdle me desk.last.entries now.last.entries → Ran setup 32 me (bindings me) (asked me) desk.last.entries now.last.entries
+            no-lines me other idle =
+                subst (λ l. Ran setup 32 me (bindings me) l desk.last.entries now.last.entries) (sym (asked-none (is_of_phase phase me) lines merged.answers (of_none phase me lines other are))) idle
+
+            own-lines : (n : ℕ) → n < 16 → Ran setup 32 (suc n) (bindings (suc n)) (asked (suc n)) desk.last.entries now.last.entries
+            own-lines n within =
+                let e = ended-at n within in
+                let ran = (own-ran n e).ran in
+                let own : Ran setup 32 (suc n) (bindings (suc n)) (asked_own (suc n) lines e.one.answers.items) desk.last.entries e.one.pass.knows.seen =
+                rw (run, e.number_is, e.seen_is) at ran in
+                subst (λ l. Ran setup 32 (suc n) (bindings (suc n)) l desk.last.entries now.last.entries) (sym (own-asked n e within))
+                (ran-idle setup 32 (suc n) (bindings (suc n)) (asked_own (suc n) lines e.one.answers.items) desk.last.entries e.one.pass.knows.seen now.last.entries own (idle-caller n e))
+
+            ran-of : (me : ℕ) → Ran setup 32 me (bindings me) (asked me) desk.last.entries now.last.entries
+            ran-of zero = no-lines 0 (λ line caller same. omega (arith, caller.first, same)) idle-first
+            ran-of (suc n) = by (below-or n 16)
+              where
+                by : (n < 16) ⊎ (16 ≤ n) → Ran setup 32 (suc n) (bindings (suc n)) (asked (suc n)) desk.last.entries now.last.entries
+                by (inl within) = own-lines n within
+                by (inr above) = no-lines (suc n) (λ line caller same. omega (arith, caller.last, same, above)) (idle-unmade (suc n) (omega (arith, above)))
+
+            -- what is kept of a caller's words stood for what it had seen, and so for all
+            stand-at : (n : ℕ) (row : NamesState) → slice_get names n ≡ Some row → NamesStand (length desk.begun.disks) (suc n) now.last.entries (bound_by lines bounds (suc n)) (after_lines lines merged.answers bindings (suc n)) row.named
+            stand-at n row at =
+                let within : n < 16 = omega (arith, slice_get_within names n row at, names-long names names_back) in
+                let e = ended-at n within in
+                let there_then = (own-ran n e).stand in
+                let streams : length board.begun.disks ≡ length desk.begun.disks = ap (λ b. length b.disks) opened.run_is in
+                let number : e.one.pass.knows.number ≡ suc n = e.ran_so.number ∙ e.number_is in
+                let told_all : asked_by (suc n) lines merged.answers ≡ asked_own (suc n) lines e.one.answers.items =
+                sym (asked-phase phase (suc n) lines merged.answers those) ∙ own-asked n e within in
+                let seen : NamesStand (length desk.begun.disks) (suc n) e.one.pass.knows.seen (bound_by lines bounds (suc n)) (bindings_of (bindings (suc n)) (asked_own (suc n) lines e.one.answers.items)) e.one.names.named =
+                rw (streams, number, e.number_is) at there_then in
+                rw (names-of names names_back n e.one row e.at at, told_all)
+                (names-keep (standing_of told faults log_told log_faults now).setup (length desk.begun.disks) (suc n) e.one.pass.knows.seen now.last.entries (bound_by lines bounds (suc n)) _ e.one.names.named good (idle-caller n e) seen)
+
+            pub phase-on-board : is_alone phase lines ≡ false → PhaseEnds setup (length desk.begun.disks) phase bounds bindings lines before after desk.last.entries now.last.entries names
+            phase-on-board apart = record {
+              served = record {
+                answers = merged.answers;
+                grew = merged.grew;
+                left = record { lines_are = merged.lines_are; ran = λ me. rw apart (ran-of me) };
+              };
+              stand = record { counted = names-long names names_back; each = stand-at };
+            }
 
 -- a desk that came back is ready as before, in the same run
 module _ {D L Q : Type 0} (told : D → Option Disk) (faults : D → ℕ) (log_told : L → Option Log) (log_faults : L → ℕ) (desk back : DeskState D L Q) (handed : IsHandedBack desk back) where

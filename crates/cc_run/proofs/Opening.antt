@@ -21,7 +21,8 @@ use Rattle.cc_pieces.specs.Openings.{LoggedOpening, Opened, Opens, first_object_
 use Rattle.cc_pieces.specs.Rooms.{HadNoRoom}
 use Rattle.cc_turns.specs.Standing.{Standing}
 use Rattle.cc_visits.specs.Hands.{Went}
-use Rattle.cc_run.specs.Lines.{IsFullTold, StreamsLeft, StreamsOpened}
+use Rattle.cc_lines.specs.Line.{IsFullTold}
+use Rattle.cc_run.specs.Lines.{StreamsLeft, StreamsOpened}
 use Rattle.cc_run.proofs.Acting.{room-left}
 
 -- one stream more

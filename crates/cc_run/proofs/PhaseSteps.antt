@@ -1,10 +1,10 @@
 -- The phases one after the other: the lines of each, and what was served so far.
-use Rattle.std.specs.Prelude.{◌≡◌, ℕ, suc, ◌+◌, ◌<◌, ◌≤◌, ◌==◌, ◌++◌, Bool, true, false, List, [], ◌∷◌, length, map, slice_get, Some, refl, if◌then◌else◌}
+use Rattle.std.specs.Prelude.{◌≡◌, ℕ, zero, suc, ◌+◌, ◌<◌, ◌≤◌, ◌==◌, ◌++◌, Bool, true, false, List, [], ◌∷◌, length, map, slice_get, Some, refl, if◌then◌else◌}
 use Rattle.std.specs.Bool.{MatchBool}
 use Rattle.std.specs.List.{AllByRecursion, AllWithin, HoldsAt, list_all}
 use Rattle.std.proofs.Common.{sym, ap, subst, ◌∙◌, arith, append-nil, append_assoc}
 use Rattle.std.proofs.lemmas.Bool.{eq-eqb}
-use Rattle.std.proofs.lemmas.List.{length-append, length-map}
+use Rattle.std.proofs.lemmas.List.{length-append, length-map, map-append}
 use Rattle.std.proofs.lemmas.List.Elements.{All-from_all_within}
 use Rattle.std.proofs.lemmas.List.Folds.{list_all_at}
 use Rattle.std.proofs.lemmas.List.Sums.{list_all-from_AllPass}
@@ -15,8 +15,15 @@ use Rattle.cc_script.specs.Within.{PhasesAscend}
 use Rattle.cc_model.specs.Setup.{Setup}
 use Rattle.cc_pieces.specs.Explained.{answered_lines}
 use Rattle.cc_pieces.specs.Rooms.{is_alone}
-use Rattle.cc_run.specs.Phases.{PhaseServed, PhasesServed}
+use Rattle.cc_script.specs.declared.bound.Bound.{Bound}
+use Rattle.cc_script.specs.HoldWords.{AreUsedRight}
+use Rattle.cc_pieces.specs.Bindings.{Binding}
+use Rattle.cc_lines.specs.Holds.{NamesState}
+use Rattle.cc_run.specs.Lines.{AllStand, HaveNoWords, HaveRoom, KeepRoom, MayServe, after_lines, bound_by}
+use Rattle.cc_run.specs.Phases.{PhaseEnds, PhaseLeft, PhaseServed, PhasesLeft, PhasesServed}
 use Rattle.cc_run.proofs.Lists.{all-back}
+use Rattle.cc_run.proofs.NamesKept.{names-none}
+use Rattle.cc_run.proofs.WordSteps.{after-append, bound-append, right-back, right-front, room-rest, words-append}
 
 -- whether a test passed at each line
 pub passes : (test : ActionLine → Bool) (lines : List ActionLine) (any : ActionLine) (r : Bool) → MatchBool r (AllWithin (λ line. test line ≡ true) lines 0 (length lines)) ((k : ℕ) × (k < length lines) × HoldsAt (λ line. test line ≡ false) lines k) → r ≡ list_all test lines
@@ -40,53 +47,126 @@ pub same-long : (lines : List ActionLine) (replies : List LineReply) → answere
 same-long lines replies same =
     sym (length-map lines (λ line. line.line)) ∙ (sym (ap length same) ∙ length-map replies (λ reply. reply.line))
 
-pub phase-long : (u : Setup) (phase : ℕ) (lines : List ActionLine) (before after : List LineReply) (old new : List Entry) → PhaseServed u phase lines before after old new → length after ≡ length before + length lines
-phase-long u phase lines before after old new served =
+pub phase-long : (u : Setup) (phase : ℕ) (bindings : ℕ → List Binding) (lines : List ActionLine) (before after : List LineReply) (old new : List Entry) → PhaseServed u phase bindings lines before after old new → length after ≡ length before + length lines
+phase-long u phase bindings lines before after old new served =
     ap length served.grew ∙ (length-append before served.answers ∙ ap (λ n. length before + n) (sym (same-long lines served.answers served.left.lines_are)))
+
+-- so has each line of several phases
+pub phases-lines : (u : Setup) (n : ℕ) (lines : List ActionLine) (replies : List LineReply) (old new : List Entry) → PhasesLeft u n lines replies old new → answered_lines replies ≡ map (λ line. line.line) lines
+phases-lines u zero lines replies old new left = rw (left.0, left.1) refl
+phases-lines u (suc n) lines replies old new left =
+    rw (left.5, left.6) (map-append (λ reply. reply.line) left.2 left.3
+    ∙ (ap (λ l. l ++ answered_lines left.3) (phases-lines u n left.0 left.2 old left.4 left.7)
+    ∙ (ap (λ l. map (λ line. line.line) left.0 ++ l) left.9.lines_are ∙ sym (map-append (λ line. line.line) left.0 left.1))))
 
 -- no line ascends from a phase behind the last one
 pub none-later : (from phases : ℕ) (lines : List ActionLine) → phases < from → PhasesAscend from lines → AllByRecursion (λ line. line.phase ≤ phases) lines → lines ≡ []
 none-later from phases [] above ascend within = refl
 none-later from phases (line ∷ lines) above ascend within = absurd (omega (arith, above, ascend.0, within.0))
 
--- The phases before the next one were served; the rest are the lines of that one and of the later ones.
-pub record SoFar (u : Setup) (next : ℕ) (lines rest : List ActionLine) (before after : List LineReply) (old new : List Entry) : Type 0 where
+-- nothing was bound, and no word names anything
+abbrev pub no_bounds : ℕ → List Bound
+no_bounds me = []
+
+abbrev pub no_bindings : ℕ → List Binding
+no_bindings me = []
+
+-- what is so of each row is so of one
+all-there : {A : Type 0} (P : A → Type 0) (xs : List A) (n : ℕ) (x : A) → AllByRecursion P xs → slice_get xs n ≡ Some x → P x
+all-there P [] n x all at = absurd (cc at)
+all-there P (y ∷ xs) zero x all at = let is : y ≡ x = cc at in subst P is all.0
+all-there P (y ∷ xs) (suc n) x all at = all-there P xs n x all.1 at
+
+stand-none : (streams : ℕ) (past : List Entry) (lines : List ActionLine) (rows : List NamesState) → HaveNoWords lines rows → AllStand streams past no_bounds no_bindings rows
+stand-none streams past lines rows have = record {
+  counted = have.counted;
+  each = λ n names at. names-none streams (suc n) past names.named (all-there (λ names. names.named ≡ []) rows n names have.none at);
+}
+
+-- what was bound, and what words name, behind lines in two parts
+stand-join : (streams : ℕ) (past : List Entry) (bounds : ℕ → List Bound) (bindings : ℕ → List Binding) (front now : List ActionLine) (told answers : List LineReply) (rows : List NamesState) → length front ≡ length told → AllStand streams past (bound_by now (bound_by front bounds)) (after_lines now answers (after_lines front told bindings)) rows → AllStand streams past (bound_by (front ++ now) bounds) (after_lines (front ++ now) (told ++ answers) bindings) rows
+stand-join streams past bounds bindings front now told answers rows same stand = record {
+  counted = stand.counted;
+  each = λ n names at.
+      rw (bound-append (suc n) (bounds (suc n)) front now, after-append (suc n) bindings front now told answers same) (stand.each n names at);
+}
+
+-- The phases before the next one were served; the rest are the lines of that one and of the later ones; and what is kept
+-- of the callers' words stands.
+pub record SoFar (u : Setup) (streams next : ℕ) (lines rest : List ActionLine) (before after : List LineReply) (old new : List Entry)
+    (rows : List NamesState) : Type 0 where
   pub phases : ℕ
   pub next_is : next ≡ suc phases
   pub front : List ActionLine
   pub lines_are : lines ≡ front ++ rest
   pub served : PhasesServed u phases front before after old new
+  pub stand : AllStand streams new (bound_by front no_bounds) (after_lines front served.answers no_bindings) rows
 
-pub so_far-none : (u : Setup) (lines : List ActionLine) (replies : List LineReply) (past : List Entry) → SoFar u 1 lines lines replies replies past past
-so_far-none u lines replies past = record {
+pub so_far-none : (u : Setup) (streams : ℕ) (lines : List ActionLine) (replies : List LineReply) (past : List Entry) (rows : List NamesState) → HaveNoWords lines rows → SoFar u streams 1 lines lines replies replies past past rows
+so_far-none u streams lines replies past rows have = record {
   phases = 0;
   next_is = refl;
   front = [];
   lines_are = refl;
   served = record { answers = []; grew = sym (append-nil replies); left = (refl, refl, refl) };
+  stand = stand-none streams past lines rows have;
 }
 
-pub so_far-more : (u : Setup) (next : ℕ) (lines rest now later : List ActionLine) (before between after : List LineReply) (old middle new : List Entry) → SoFar u next lines rest before between old middle → rest ≡ now ++ later → AllByRecursion (λ line. line.phase ≡ next) now → PhaseServed u next now between after middle new → SoFar u (next + 1) lines later before after old new
-so_far-more u next lines rest now later before between after old middle new so_far parts those_next one_next =
-    let those : AllByRecursion (λ line. line.phase ≡ suc so_far.phases) now = rw so_far.next_is at those_next in
-    let one : PhaseServed u (suc so_far.phases) now between after middle new = rw so_far.next_is at one_next in
-    record {
-      phases = suc so_far.phases;
-      next_is = omega (arith, so_far.next_is);
-      front = so_far.front ++ now;
-      lines_are = so_far.lines_are ∙ (ap (λ l. so_far.front ++ l) parts ∙ sym (append_assoc so_far.front now later));
-      served = record {
-        answers = so_far.served.answers ++ one.answers;
-        grew = one.grew ∙ (ap (λ l. l ++ one.answers) so_far.served.grew ∙ append_assoc before so_far.served.answers one.answers);
-        left = (so_far.front, now, so_far.served.answers, one.answers, middle, refl, refl, so_far.served.left, those, one.left);
-      };
+module _ (u : Setup) (streams next : ℕ) (lines rest : List ActionLine) (before between : List LineReply) (old middle : List Entry) (rows : List NamesState) (so_far : SoFar u streams next lines rest before between old middle rows) where
+  abbrev pub bound_there : ℕ → List Bound
+  bound_there = bound_by so_far.front no_bounds
+
+  abbrev pub named_there : ℕ → List Binding
+  named_there = after_lines so_far.front so_far.served.answers no_bindings
+
+  module _ (was : List NamesState) (now later : List ActionLine) (have : HaveNoWords lines was) (parts : rest ≡ now ++ later) where
+    lines_parts : lines ≡ so_far.front ++ (now ++ later)
+    lines_parts = so_far.lines_are ∙ ap (λ l. so_far.front ++ l) parts
+
+    right-all : (me : ℕ) → AreUsedRight me [] (so_far.front ++ (now ++ later))
+    right-all me = subst (AreUsedRight me []) lines_parts (have.right me)
+
+    -- the lines of the next phase use their words right, and may be served
+    pub so_far-right : (me : ℕ) → AreUsedRight me (bound_there me) now
+    so_far-right me = right-front me (bound_there me) now later (right-back me [] so_far.front (now ++ later) (right-all me))
+
+    pub so_far-serve : KeepRoom was rows → MayServe streams middle now rows
+    so_far-serve keep = record {
+      bounds = bound_there;
+      bindings = named_there;
+      stand = so_far.stand;
+      right = so_far-right;
+      room = λ n names at.
+          let room = room-rest streams old middle no_bounds no_bindings named_there so_far.front (now ++ later) was rows (stand-none streams old lines was have) so_far.stand
+          (λ me. right-front me [] so_far.front (now ++ later) (right-all me)) keep (subst (λ l. HaveRoom l was) lines_parts have.room) n names at in
+          omega (arith, room, words-append (suc n) now later);
     }
 
-pub so_far-all : (u : Setup) (next phases : ℕ) (lines rest : List ActionLine) (before after : List LineReply) (old new : List Entry) → SoFar u next lines rest before after old new → next ≡ phases + 1 → rest ≡ [] → PhasesServed u phases lines before after old new
-so_far-all u next phases lines rest before after old new so_far is none =
-    let last : so_far.phases ≡ phases = omega (arith, is, so_far.next_is) in
-    rw (so_far.lines_are, none, append-nil so_far.front, ← last) so_far.served
+  pub so_far-more : (now later : List ActionLine) (after : List LineReply) (new : List Entry) (rows_now : List NamesState) → rest ≡ now ++ later → AllByRecursion (λ line. line.phase ≡ next) now → PhaseEnds u streams next bound_there named_there now between after middle new rows_now → SoFar u streams (next + 1) lines later before after old new rows_now
+  so_far-more now later after new rows_now parts those_next ended =
+      let those : AllByRecursion (λ line. line.phase ≡ suc so_far.phases) now = rw so_far.next_is at those_next in
+      record {
+        phases = suc so_far.phases;
+        next_is = omega (arith, so_far.next_is);
+        front = so_far.front ++ now;
+        lines_are = so_far.lines_are ∙ (ap (λ l. so_far.front ++ l) parts ∙ sym (append_assoc so_far.front now later));
+        served = record {
+          answers = so_far.served.answers ++ ended.served.answers;
+          grew = ended.served.grew ∙ (ap (λ l. l ++ ended.served.answers) so_far.served.grew ∙ append_assoc before so_far.served.answers ended.served.answers);
+          left = (so_far.front, now, so_far.served.answers, ended.served.answers, middle, refl, refl, so_far.served.left, those, last);
+        };
+        stand = stand-join streams new no_bounds no_bindings so_far.front now so_far.served.answers ended.served.answers rows_now
+            (same-long so_far.front so_far.served.answers (phases-lines u so_far.phases so_far.front so_far.served.answers old middle so_far.served.left)) ended.stand;
+      }
+    where
+      last : PhaseLeft u (suc so_far.phases) named_there now ended.served.answers middle new
+      last = rw so_far.next_is at ended.served.left
 
--- what is so of each line is so of the rest
-pub so_far-rest : (u : Setup) (next : ℕ) (lines rest : List ActionLine) (before after : List LineReply) (old new : List Entry) (P : ActionLine → Type 0) → SoFar u next lines rest before after old new → AllByRecursion P lines → AllByRecursion P rest
-so_far-rest u next lines rest before after old new P so_far all = all-back P so_far.front rest (rw so_far.lines_are at all)
+  pub so_far-all : (phases : ℕ) → next ≡ phases + 1 → rest ≡ [] → PhasesServed u phases lines before between old middle
+  so_far-all phases is none =
+      let last : so_far.phases ≡ phases = omega (arith, is, so_far.next_is) in
+      rw (so_far.lines_are, none, append-nil so_far.front, ← last) so_far.served
+
+  -- what is so of each line is so of the rest
+  pub so_far-rest : (P : ActionLine → Type 0) → AllByRecursion P lines → AllByRecursion P rest
+  so_far-rest P all = all-back P so_far.front rest (rw so_far.lines_are at all)

@@ -1,9 +1,8 @@
 -- The run of the phases, one after the other, explains all answers.
-use Rattle.std.specs.Prelude.{◌≡◌, ◌≢◌, ℕ, zero, suc, ◌+◌, ◌<◌, ◌≤◌, ◌==◌, ◌&&◌, Bool, true, false, List, [], ◌∷◌, ◌++◌, length, map, refl, if◌then◌else◌}
+use Rattle.std.specs.Prelude.{◌≡◌, ◌≢◌, ℕ, zero, suc, ◌+◌, ◌<◌, ◌≤◌, ◌==◌, ◌&&◌, Bool, true, false, List, [], ◌∷◌, ◌++◌, length, refl, if◌then◌else◌}
 use Rattle.std.specs.List.{AllByRecursion, list_all, IsDistinct}
 use Rattle.std.proofs.Common.{sym, ap, subst, ◌∙◌, arith, inl, append-nil, append_assoc}
-use Rattle.std.proofs.lemmas.Bool.{ne_eqb}
-use Rattle.std.proofs.lemmas.List.{map-append}
+use Rattle.std.proofs.lemmas.Bool.{le-ltb, lt-ltb, ne_eqb}
 use Rattle.std.proofs.lemmas.List.Folds.{list_all-append}
 use Rattle.cc_entry.specs.declared.answer.LineReply.{LineReply}
 use Rattle.cc_entry.specs.declared.entry.Entry.{Entry}
@@ -13,26 +12,16 @@ use Rattle.cc_script.specs.Within.{IsLineWithin, IsWithin}
 use Rattle.cc_model.specs.Setup.{Setup}
 use Rattle.cc_effects.specs.Moments.{IsIdle}
 use Rattle.cc_pieces.specs.Rooms.{is_alone, room_limit}
-use Rattle.cc_pieces.specs.Runs.{Ran, bindings_of, asked_of}
-use Rattle.cc_pieces.specs.Phases.{Plan, PhaseRan, PhasesRan, is_of_phase, lines_before}
-use Rattle.cc_pieces.specs.Explained.{answered_lines, IsExplained}
+use Rattle.cc_pieces.specs.Runs.{Ran, asked_of}
+use Rattle.cc_pieces.specs.Phases.{Plan, PhaseRan, PhasesRan, is_before_phase, is_of_phase, lines_before}
+use Rattle.cc_pieces.specs.Explained.{IsExplained}
 use Rattle.cc_pieces.proofs.OneCaller.{asked-none, posted-none}
-use Rattle.cc_run.specs.Lines.{StreamsOpened, given_of, lines_answered}
+use Rattle.cc_run.specs.Lines.{StreamsOpened, after_lines, asked_by, given_of, lines_answered}
 use Rattle.cc_run.specs.Phases.{PhaseLeft, PhasesLeft, PhasesServed}
 use Rattle.cc_run.proofs.Lists.{all-map, all-front, all-back, all-join}
 use Rattle.cc_run.proofs.Opening.{opened-left}
-use Rattle.cc_run.proofs.PhaseSteps.{same-long}
-
--- which lines pass a test, of a list in two parts
-asked-append : (test : ActionLine → Bool) (lines more : List ActionLine) (replies others : List LineReply) → length lines ≡ length replies → asked_of test (lines ++ more) (replies ++ others) ≡ asked_of test lines replies ++ asked_of test more others
-asked-append test [] more [] others same = refl
-asked-append test [] more (r ∷ replies) others same = absurd (cc)
-asked-append test (l ∷ lines) more [] others same = absurd (cc)
-asked-append test (l ∷ lines) more (r ∷ replies) others same = by (test l) (asked-append test lines more replies others (omega (arith, same)))
-  where
-    by : (b : Bool) → asked_of test (lines ++ more) (replies ++ others) ≡ asked_of test lines replies ++ asked_of test more others → (if b then (l.action, r.answer) ∷ asked_of test (lines ++ more) (replies ++ others) else asked_of test (lines ++ more) (replies ++ others)) ≡ (if b then (l.action, r.answer) ∷ asked_of test lines replies else asked_of test lines replies) ++ asked_of test more others
-    by true rest = ap (λ all. (l.action, r.answer) ∷ all) rest
-    by false rest = rest
+use Rattle.cc_run.proofs.PhaseSteps.{phases-lines, same-long}
+use Rattle.cc_run.proofs.WordSteps.{asked-append}
 
 -- a line of another phase, and one of another caller
 of_other : (q me : ℕ) (line : ActionLine) → line.phase ≢ q → is_of_phase q me line ≡ false
@@ -41,6 +30,27 @@ of_other q me line apart = rw (ne_eqb line.phase q apart) (by (line.caller == me
     by : (b : Bool) → (b && false) ≡ false
     by true = refl
     by false = refl
+
+-- nor is a line of this phase or a later one of an earlier phase, but one of an earlier phase is, where it is the caller's
+no_before : (q me : ℕ) (line : ActionLine) → q ≤ line.phase → is_before_phase q me line ≡ false
+no_before q me line least = rw (le-ltb line.phase q least) (by (line.caller == me))
+  where
+    by : (b : Bool) → (b && false) ≡ false
+    by true = refl
+    by false = refl
+
+is_before : (q me : ℕ) (line : ActionLine) → line.phase < q → is_before_phase q me line ≡ (line.caller == me)
+is_before q me line less = rw (lt-ltb line.phase q less) (by (line.caller == me))
+  where
+    by : (b : Bool) → (b && true) ≡ b
+    by true = refl
+    by false = refl
+
+-- what a caller was asked before a phase, of the earlier phases' lines
+asked-earlier : (q me : ℕ) (lines : List ActionLine) (replies : List LineReply) → AllByRecursion (λ line. line.phase < q) lines → asked_of (is_before_phase q me) lines replies ≡ asked_by me lines replies
+asked-earlier q me [] replies less = refl
+asked-earlier q me (line ∷ lines) [] less = refl
+asked-earlier q me (line ∷ lines) (reply ∷ replies) less = rw (is_before q me line less.0, asked-earlier q me lines replies less.1) refl
 
 no_caller : (q me : ℕ) (line : ActionLine) → 16 < me → line.caller ≤ 16 → is_of_phase q me line ≡ false
 no_caller q me line above few = rw (ne_eqb line.caller me (λ e. omega (arith, e, above, few))) refl
@@ -70,14 +80,7 @@ alone-before phase (line ∷ lines) more apart = by (line.phase == phase) (alone
         list_all-append own lines more ∙ (ap (λ b. list_all own lines && b) (others-pass phase line.caller more apart) ∙ and-true (list_all own lines))
     by false rest = rest
 
--- each line of several phases has a reply, and is of one of them
-phases-lines : (u : Setup) (n : ℕ) (lines : List ActionLine) (replies : List LineReply) (old new : List Entry) → PhasesLeft u n lines replies old new → answered_lines replies ≡ map (λ line. line.line) lines
-phases-lines u zero lines replies old new left = rw (left.0, left.1) refl
-phases-lines u (suc n) lines replies old new left =
-    rw (left.5, left.6) (map-append (λ reply. reply.line) left.2 left.3
-    ∙ (ap (λ l. l ++ answered_lines left.3) (phases-lines u n left.0 left.2 old left.4 left.7)
-    ∙ (ap (λ l. map (λ line. line.line) left.0 ++ l) left.9.lines_are ∙ sym (map-append (λ line. line.line) left.0 left.1))))
-
+-- each line of several phases is of one of them
 phases-within : (u : Setup) (n : ℕ) (lines : List ActionLine) (replies : List LineReply) (old new : List Entry) → PhasesLeft u n lines replies old new → AllByRecursion (λ line. line.phase ≤ n) lines
 phases-within u zero lines replies old new left = rw left.0 tt
 phases-within u (suc n) lines replies old new left =
@@ -90,10 +93,9 @@ module _ (u : Setup) (all : List ActionLine) (answers : List LineReply) (few : A
   abbrev plan : Plan
   plan = record { lines = all; answers = answers; ticks = 0; aheads = 0 }
 
-  phase-ran : (phase : ℕ) (earlier last later : List ActionLine) (told own others : List LineReply) (old new : List Entry) → all ≡ earlier ++ (last ++ later) → answers ≡ told ++ (own ++ others) → length earlier ≡ length told → AllByRecursion (λ line. line.phase ≢ phase) earlier → AllByRecursion (λ line. line.phase ≢ phase) later → PhaseLeft u phase last own old new → PhaseRan u plan phase [] [] old new
-  phase-ran phase earlier last later told own others old new lines_are replies_are long before behind left = record {
-    callers = λ me lazy ahead.
-        rw (asked me, alone) (left.ran me (bindings_of [] (lines_before plan phase me)));
+  phase-ran : (phase : ℕ) (earlier last later : List ActionLine) (told own others : List LineReply) (old new : List Entry) → all ≡ earlier ++ (last ++ later) → answers ≡ told ++ (own ++ others) → length earlier ≡ length told → AllByRecursion (λ line. line.phase < phase) earlier → AllByRecursion (λ line. line.phase ≡ phase) last → AllByRecursion (λ line. phase < line.phase) later → PhaseLeft u phase (after_lines earlier told (λ me. [])) last own old new → PhaseRan u plan phase [] [] old new
+  phase-ran phase earlier last later told own others old new lines_are replies_are long less those more left = record {
+    callers = λ me lazy ahead. rw (asked me, alone, asked-before me) (left.ran me);
     all_ticks = refl;
     ticks = idle 17 (omega arith);
     all_steps = inl refl;
@@ -102,6 +104,26 @@ module _ (u : Setup) (all : List ActionLine) (answers : List LineReply) (few : A
     where
       other : (me : ℕ) (lines : List ActionLine) → AllByRecursion (λ line. line.phase ≢ phase) lines → AllByRecursion (λ line. is_of_phase phase me line ≡ false) lines
       other me lines apart = all-map (λ line. line.phase ≢ phase) (λ line. is_of_phase phase me line ≡ false) lines (of_other phase me) apart
+
+      before : AllByRecursion (λ line. line.phase ≢ phase) earlier
+      before = all-map (λ line. line.phase < phase) (λ line. line.phase ≢ phase) earlier (λ line lower e. omega (arith, lower, e)) less
+
+      behind : AllByRecursion (λ line. line.phase ≢ phase) later
+      behind = all-map (λ line. phase < line.phase) (λ line. line.phase ≢ phase) later (λ line higher e. omega (arith, higher, e)) more
+
+      asked-before : (me : ℕ) → lines_before plan phase me ≡ asked_by me earlier told
+      asked-before me =
+          let test = is_before_phase phase me in
+          let rest : AllByRecursion (λ line. phase ≤ line.phase) (last ++ later) =
+          all-join (λ line. phase ≤ line.phase) last later
+          (all-map (λ line. line.phase ≡ phase) (λ line. phase ≤ line.phase) last (λ line is. omega (arith, is)) those)
+          (all-map (λ line. phase < line.phase) (λ line. phase ≤ line.phase) later (λ line higher. omega (arith, higher)) more) in
+          ap (λ l. asked_of test l answers) lines_are
+          ∙ (ap (λ r. asked_of test (earlier ++ (last ++ later)) r) replies_are
+          ∙ (asked-append test earlier (last ++ later) told (own ++ others) long
+          ∙ (ap (λ l. asked_of test earlier told ++ l) (asked-none test (last ++ later) (own ++ others)
+          (all-map (λ line. phase ≤ line.phase) (λ line. test line ≡ false) (last ++ later) (no_before phase me) rest))
+          ∙ (append-nil (asked_of test earlier told) ∙ asked-earlier phase me earlier told less))))
 
       asked : (me : ℕ) → asked_of (is_of_phase phase me) all answers ≡ asked_of (is_of_phase phase me) last own
       asked me =
@@ -125,7 +147,7 @@ module _ (u : Setup) (all : List ActionLine) (answers : List LineReply) (few : A
       idle me above =
           let none : asked_of (is_of_phase phase me) last own ≡ [] =
           asked-none (is_of_phase phase me) last own (all-map (λ line. line.caller ≤ 16) (λ line. is_of_phase phase me line ≡ false) last (λ line least. no_caller phase me line above least) few_last) in
-          subst (λ l. Ran u (room_limit 0 0 (is_alone phase last)) me [] l old new) none (left.ran me [])
+          subst (λ l. Ran u (room_limit 0 0 (is_alone phase last)) me (after_lines earlier told (λ me. []) me) l old new) none (left.ran me)
 
   -- the phases up to one, where the later ones ran behind them
   phases-ran : (n left_over : ℕ) (lines more : List ActionLine) (replies others : List LineReply) (old between new : List Entry) → all ≡ lines ++ more → answers ≡ replies ++ others → AllByRecursion (λ line. n < line.phase) more → PhasesLeft u n lines replies old between → PhasesRan u plan (suc n) left_over [] [] between new → PhasesRan u plan 1 (n + left_over) [] [] old new
@@ -151,8 +173,8 @@ module _ (u : Setup) (all : List ActionLine) (answers : List LineReply) (few : A
       one =
           phase-ran (suc n) left.0 left.1 more left.2 left.3 others left.4 between lines_parts replies_parts
           (same-long left.0 left.2 (phases-lines u n left.0 left.2 old left.4 left.7))
-          (all-map (λ line. line.phase ≤ n) (λ line. line.phase ≢ suc n) left.0 (λ line less e. omega (arith, less, e)) (phases-within u n left.0 left.2 old left.4 left.7))
-          (all-map (λ line. suc n < line.phase) (λ line. line.phase ≢ suc n) more (λ line less e. omega (arith, less, e)) later) left.9
+          (all-map (λ line. line.phase ≤ n) (λ line. line.phase < suc n) left.0 (λ line less. omega (arith, less)) (phases-within u n left.0 left.2 old left.4 left.7))
+          left.8 later left.9
 
   pub all-ran : (n : ℕ) (old new : List Entry) → PhasesLeft u n all answers old new → PhasesRan u (record { lines = all; answers = answers; ticks = 0; aheads = 0 }) 1 n [] [] old new
   all-ran n old new left =

@@ -26,7 +26,8 @@ use Rattle.cc_run.specs.Disks.{DisksStand}
 use Rattle.cc_run.specs.Ends.{has_devices, has_log}
 use Rattle.cc_run.specs.Logs.{LogsStand}
 use Rattle.cc_run.specs.Setups.{setup_of}
-use Rattle.cc_run.specs.Lines.{IsServable, StreamsOpened}
+use Rattle.cc_lines.specs.Line.{IsServable}
+use Rattle.cc_run.specs.Lines.{StreamsOpened}
 use Rattle.cc_run.proofs.Lists.{all-map}
 
 -- no pass owes anything at first
@@ -39,13 +40,31 @@ servable : (streams : List StreamLine) (n : ℕ) (asked : Action) → length str
 servable streams n (action.CopyRead file at len wait) few within = let there = within.stream in omega (arith, there, few)
 servable streams n (action.CopyWrite file at bytes) few within = let there = within.stream in omega (arith, there, few)
 servable streams n (action.Zero file span) few within = let there = within.stream in omega (arith, there, few)
+servable streams n (action.Map file at len word) few within = let there = within.stream in omega (arith, there, few)
+servable streams n (action.PinRead file at len word exclusive) few within = let there = within.stream in omega (arith, there, few)
+servable streams n (action.PreparePin file at len word zero exclusive) few within = let there = within.stream in omega (arith, there, few)
+servable streams n (action.MdlRead file at len word) few within = let there = within.stream in omega (arith, there, few)
+servable streams n (action.MdlWrite file at len word) few within = let there = within.stream in omega (arith, there, few)
 servable streams n (action.SetSizes file allocation size) few within = let there = within.stream in omega (arith, there, few)
 servable streams n (action.State file) few within = let there = within.stream in omega (arith, there, few)
 servable streams n (action.Flush file span) few within = let there = within.stream in omega (arith, there, few)
-servable streams n action.IsDirtyData few within = tt
+servable streams n (action.LsnForFile file) few within = let there = within.stream in omega (arith, there, few)
 servable streams n (action.SetLog file handle) few within = let there = within.stream in omega (arith, there, few)
+servable streams n (action.PinMapped word exclusive) few within = tt
+servable streams n (action.HeldRead word at len) few within = tt
+servable streams n (action.PinnedWrite word at bytes) few within = tt
+servable streams n (action.SetDirty word lsn) few within = tt
+servable streams n (action.Unpin word) few within = tt
+servable streams n (action.Repin word made) few within = tt
+servable streams n (action.UnpinRepinned word through) few within = tt
+servable streams n (action.MdlBytes word at len) few within = tt
+servable streams n (action.MdlStore word at bytes) few within = tt
+servable streams n (action.MdlDone word) few within = tt
+servable streams n (action.MdlAbort word) few within = tt
+servable streams n (action.DirtyPages handle) few within = tt
 servable streams n (action.Append handle bytes) few within = tt
 servable streams n (action.LogFlush handle lsn) few within = tt
+servable streams n action.IsDirtyData few within = tt
 
 pub servable-all : (streams : List StreamLine) (phases n : ℕ) (lines : List ActionLine) → length streams ≤ n → AllByRecursion (IsLineWithin streams phases) lines → AllByRecursion (λ line. IsServable n line.action) lines
 servable-all streams phases n lines few within =

@@ -1,19 +1,22 @@
 -- The callers of a phase on threads, over one board.
-use Rattle.std.specs.Prelude.{◌≡◌, ◌≢◌, ℕ, suc, ◌+◌, ◌-◌, ◌≤◌, ◌==◌, false, List, [], ◌∷◌, length, reverse, get_or, vec_capacity, if◌then◌else◌}
+use Rattle.std.specs.Prelude.{◌≡◌, ℕ, suc, ◌+◌, ◌-◌, ◌≤◌, ◌==◌, false, List, [], ◌∷◌, length, reverse, get_or, vec_capacity, if◌then◌else◌}
 use Rattle.std.specs.List.{AllByRecursion}
 use Rattle.cc_entry.specs.declared.answer.Answer.{Answer}
-use Rattle.cc_entry.specs.declared.entry.Entry.{Entry}
 use Rattle.cc_script.specs.declared.script.Action.{Action}
 use Rattle.cc_script.specs.declared.script.ActionLine.{ActionLine}
 use Rattle.cc_pieces.specs.Bindings.{Binding}
-use Rattle.cc_pieces.specs.Runs.{Ran}
+use Rattle.cc_pieces.specs.Runs.{Ran, bindings_of}
+use Rattle.cc_script.specs.HoldWords.{AreUsedRight, bound_so_far, words_bound}
+use Rattle.cc_script.specs.declared.bound.Bound.{Bound}
+use Rattle.cc_model.specs.Good.{IsGood}
 use Rattle.cc_step.specs.Step.{owes_store}
 use Rattle.cc_turns.specs.Desk.{Tells}
 use Rattle.cc_turns.specs.Places.{IsRoomFor}
 use Rattle.cc_turns.specs.Slots.{setup_in}
-use Rattle.cc_board.specs.Board.{BoardState, IsOf}
+use Rattle.cc_board.specs.Board.{BoardState, IsOf, PassState}
 use Rattle.cc_board.specs.View.{run_of}
-use Rattle.cc_run.specs.Lines.{IsServable}
+use Rattle.cc_lines.specs.Holds.{NamesState, NamesStand}
+use Rattle.cc_lines.specs.Line.{IsServable}
 use Rattle.cc_run.specs.declared.callers.Caller.{Caller}
 use Rattle.cc_run.specs.declared.callers.Finished.{Finished}
 
@@ -29,19 +32,43 @@ asked_own me lines [] = []
 asked_own me (line ∷ lines) (told ∷ answers) =
     if line.caller == me then (line.action, told) ∷ asked_own me lines answers else asked_own me lines (told ∷ answers)
 
+-- What is kept of the words of a caller stands for what its pass has seen.
+abbrev pub WordsStand : {D L : Type 0} → BoardState D L → PassState D L → List Bound → List Binding → NamesState → Type 0
+WordsStand board pass bounds bindings names =
+    NamesStand (length board.begun.disks) pass.knows.number pass.knows.seen bounds bindings names.named
+
 -- A caller may run its lines: its pass is of the board, with nothing under way, and owes no end of a noncached write;
--- others have few entries under way; each line is one that a run serves; and there is room for each answer.
-pub record MayRun {D L Q : Type 0} (board : BoardState D L) (lines : List ActionLine) (caller : Caller D L Q) : Type 0 where
+-- what it has seen is good; others have few entries under way; each line is one that a run serves; the caller uses its
+-- words right, as they are kept; and there is room for each answer and each word.
+pub record MayRun {D L Q : Type 0} (tells : Tells D L Q) (board : BoardState D L) (lines : List ActionLine)
+    (caller : Caller D L Q) : Type 0 where
   pub here : IsOf board caller.pass
   pub run : run_of caller.pass.knows ≡ board.begun
   pub none : caller.pass.knows.in_flight ≡ 0
   pub settled : owes_store caller.pass.knows.seen caller.pass.knows.number ≡ false
-  pub few : caller.pass.knows.before + caller.pass.knows.passes ≤ 30
+  pub good : IsGood (setup_in tells board.begun) caller.pass.knows.seen
+  pub few : caller.pass.knows.before + caller.pass.knows.passes ≤ 29
   pub servable : AllByRecursion (λ line. IsServable (length board.begun.disks) line.action) lines
+  pub bounds : List Bound
+  pub bindings : List Binding
+  pub stand : WordsStand board caller.pass bounds bindings caller.names
+  pub right : AreUsedRight caller.pass.knows.number bounds lines
   pub room : IsRoomFor (count_of caller.pass.knows.number lines) caller.room.items (vec_capacity caller.room)
+  pub word_room : length caller.names.named + words_bound caller.pass.knows.number lines ≤ caller.names.room
+
+-- From what a caller had seen to what it has seen now its lines left pieces that follow each other, over what its words
+-- name; and what is kept of them stands for it.
+pub record LinesRan {D L Q : Type 0} (tells : Tells D L Q) (board : BoardState D L) (lines : List ActionLine)
+    (bounds : List Bound) (bindings : List Binding) (caller : Caller D L Q) (ended : Finished D L Q) : Type 0 where
+  pub ran :
+      Ran (setup_in tells board.begun) 32 caller.pass.knows.number bindings
+      (asked_own caller.pass.knows.number lines ended.answers.items) caller.pass.knows.seen ended.pass.knows.seen
+  pub stand :
+      WordsStand board ended.pass (bound_so_far caller.pass.knows.number bounds lines)
+      (bindings_of bindings (asked_own caller.pass.knows.number lines ended.answers.items)) ended.names
 
 -- A caller ran its lines: its pass has nothing under way, and owes no end of a noncached write; each of its lines has an
--- answer; and from what it had seen to what it has seen now they left pieces that follow each other.
+-- answer; and they left what explains them.
 pub record CallerRan {D L Q : Type 0} (tells : Tells D L Q) (board : BoardState D L) (lines : List ActionLine)
     (caller : Caller D L Q) (ended : Finished D L Q) : Type 0 where
   pub here : IsOf board ended.pass
@@ -49,13 +76,13 @@ pub record CallerRan {D L Q : Type 0} (tells : Tells D L Q) (board : BoardState 
   pub none : ended.pass.knows.in_flight ≡ 0
   pub settled : owes_store ended.pass.knows.seen ended.pass.knows.number ≡ false
   pub whole : length ended.answers.items ≡ count_of caller.pass.knows.number lines
-  pub ran : (bindings : List Binding) →
-      Ran (setup_in tells board.begun) 32 caller.pass.knows.number bindings
-      (asked_own caller.pass.knows.number lines ended.answers.items) caller.pass.knows.seen ended.pass.knows.seen
+  pub word_room : ended.names.room ≡ caller.names.room
+  pub ran : (bounds : List Bound) (bindings : List Binding) → WordsStand board caller.pass bounds bindings caller.names →
+      AreUsedRight caller.pass.knows.number bounds lines → LinesRan tells board lines bounds bindings caller ended
 
 -- each of several callers may run its lines, and did so
-abbrev pub MayAllRun : {D L Q : Type 0} → BoardState D L → List ActionLine → List (Caller D L Q) → Type 0
-MayAllRun board lines callers = AllByRecursion (MayRun board lines) callers
+abbrev pub MayAllRun : {D L Q : Type 0} → Tells D L Q → BoardState D L → List ActionLine → List (Caller D L Q) → Type 0
+MayAllRun tells board lines callers = AllByRecursion (MayRun tells board lines) callers
 
 abbrev pub AllRan : {D L Q : Type 0} → Tells D L Q → BoardState D L → List ActionLine → List (Caller D L Q) → List (Finished D L Q) → Type 0
 AllRan tells board lines [] [] = Unit {0}

@@ -1,92 +1,123 @@
 -- What the lines of a script leave, one after the other.
-use Rattle.std.specs.Prelude.{◌≡◌, ◌≢◌, ℕ, Bool, suc, ◌<◌, ◌≤◌, List, [], ◌∷◌, ◌++◌, map, Result, Ok, Err}
-use Rattle.cc_entry.specs.declared.place.FileState.{FileState}
+use Rattle.std.specs.Prelude.{◌≡◌, ◌≢◌, ℕ, suc, ◌+◌, ◌≤◌, ◌==◌, List, [], ◌∷◌, ◌++◌, length, map, slice_get, if◌then◌else◌}
+use Rattle.std.specs.declared.option.Option.TheVariants.{Some}
+use Rattle.std.specs.List.{AllByRecursion}
 use Rattle.cc_entry.specs.declared.answer.Answer.{Answer}
-use Rattle.cc_entry.specs.declared.answer.Answer.TheVariants as answer
 use Rattle.cc_entry.specs.declared.answer.LineReply.{LineReply}
 use Rattle.cc_entry.specs.declared.entry.Entry.{Entry}
-use Rattle.cc_entry.specs.declared.error.CcError.{CcError}
-use Rattle.cc_entry.specs.declared.reply.Reply.TheVariants as reply
 use Rattle.cc_script.specs.declared.script.Action.{Action}
-use Rattle.cc_script.specs.declared.script.Action.TheVariants as action
 use Rattle.cc_script.specs.declared.script.ActionLine.{ActionLine}
 use Rattle.cc_script.specs.declared.script.StreamLine.{StreamLine}
 use Rattle.cc_script.specs.declared.script.Script.{Script}
+use Rattle.cc_script.specs.HoldWords.{AreUsedRight, UsesRight, bound_after, bound_so_far, words_bound}
+use Rattle.cc_script.specs.declared.bound.Bound.{Bound}
 use Rattle.cc_model.specs.Setup.{Setup}
 use Rattle.cc_effects.specs.Moments.{Between, IsIdle}
 use Rattle.cc_pieces.specs.Bindings.{Binding}
 use Rattle.cc_pieces.specs.Openings.{Opens}
-use Rattle.cc_pieces.specs.Runs.{Explains}
+use Rattle.cc_pieces.specs.Runs.{Explains, asked_of, bindings_of}
+use Rattle.cc_pieces.specs.Served.{bindings_after}
 use Rattle.cc_pieces.specs.Explained.{Given, Answered, answered_lines}
-use Rattle.cc_turns.specs.Standing.{Standing, nothing}
-use Rattle.cc_visits.specs.Hands.{IsSettled}
-use Rattle.cc_calls.specs.Pages.{IsFullOf}
-
--- an action on one of so many streams, or on none
-abbrev pub IsServable : ℕ → Action → Type 0
-IsServable streams (action.CopyRead file at len wait) = file.stream < streams
-IsServable streams (action.CopyWrite file at bytes) = file.stream < streams
-IsServable streams (action.Zero file span) = file.stream < streams
-IsServable streams (action.SetSizes file allocation size) = file.stream < streams
-IsServable streams (action.State file) = file.stream < streams
-IsServable streams (action.Flush file span) = file.stream < streams
-IsServable streams action.IsDirtyData = Unit {0}
-IsServable streams (action.SetLog file handle) = file.stream < streams
-IsServable streams (action.Append handle bytes) = Unit {0}
-IsServable streams (action.LogFlush handle lsn) = Unit {0}
-
--- a pass may make the call of an action
-pub record CanServe (w : Standing) (asked : Action) : Type 0 where
-  pub servable : IsServable w.streams asked
-  pub free : w.held ≡ nothing
-  pub none : w.in_flight ≡ 0
-  pub settled : IsSettled w
+use Rattle.cc_turns.specs.Standing.{Standing}
+use Rattle.cc_lines.specs.Holds.{NamesState, NamesStand, HasRoom}
 
 -- the number of a caller of a script
 pub record IsCaller (number : ℕ) : Type 0 where
   pub first : 1 ≤ number
   pub last : number ≤ 16
 
--- the answer of a line whose call answers no value
-abbrev pub told_of : Result (Unit {0}) CcError → Answer
-told_of (Ok done) = answer.Given reply.Unit
-told_of (Err e) = answer.Refused e
+-- the bindings of each caller behind a line
+abbrev pub after_line : ActionLine → Answer → (ℕ → List Binding) → ℕ → List Binding
+after_line line told bindings me =
+    if line.caller == me then bindings_after line.action told (bindings me) else bindings me
 
--- the answer of a line that asks for the state of a stream, and for a flag
-abbrev pub state_told : Result FileState CcError → Answer
-state_told (Ok state) = answer.Given (reply.State state)
-state_told (Err e) = answer.Refused e
+-- the lines of a caller, each with its answer
+abbrev pub asked_by : ℕ → List ActionLine → List LineReply → List (Action × Answer)
+asked_by me lines replies = asked_of (λ line. line.caller == me) lines replies
 
-abbrev pub flag_told : Result Bool CcError → Answer
-flag_told (Ok flag) = answer.Given (reply.Flag flag)
-flag_told (Err e) = answer.Refused e
+-- the bindings of each caller behind several lines
+abbrev pub after_lines : List ActionLine → List LineReply → (ℕ → List Binding) → ℕ → List Binding
+after_lines lines replies bindings me = bindings_of (bindings me) (asked_by me lines replies)
 
--- an answer, which is none of a noncached call, says that the journal is full only where it is
-abbrev pub IsFullTold : Standing → Answer → Type 0
-IsFullTold w (answer.Refused e) = IsFullOf {A = Unit {0}} w (Err e)
-IsFullTold w (answer.NcRefused done cause) = ⊥
-IsFullTold w other = Unit {0}
+-- what each caller bound, behind several lines
+abbrev pub bound_by : List ActionLine → (ℕ → List Bound) → ℕ → List Bound
+bound_by lines bounds me = bound_so_far me (bounds me) lines
 
 -- A line left what explains its answer, and its caller alone placed anything.
-pub record LineLeft (u : Setup) (line : ActionLine) (told : Answer) (old new : List Entry) : Type 0 where
-  pub explained : (bindings : List Binding) → Explains u 4 line.caller bindings line.action told old new
+pub record LineLeft (u : Setup) (bindings : List Binding) (line : ActionLine) (told : Answer) (old new : List Entry) : Type 0 where
+  pub explained : Explains u 4 line.caller bindings line.action told old new
   pub alone : (me : ℕ) → me ≢ line.caller → IsIdle me old new
 
 -- lines left what explains their answers, each with a reply of its own
-abbrev pub LinesLeft : Setup → List ActionLine → List LineReply → Between
-LinesLeft u [] [] old new = new ≡ old
-LinesLeft u (line ∷ lines) (reply ∷ replies) old new =
+abbrev pub LinesLeft : Setup → (ℕ → List Binding) → List ActionLine → List LineReply → Between
+LinesLeft u bindings [] [] old new = new ≡ old
+LinesLeft u bindings (line ∷ lines) (reply ∷ replies) old new =
     (between : List Entry)
     × (reply.line ≡ line.line)
-    × LineLeft u line reply.answer old between
-    × LinesLeft u lines replies between new
-LinesLeft u lines replies old new = ⊥
+    × LineLeft u (bindings line.caller) line reply.answer old between
+    × LinesLeft u (after_line line reply.answer bindings) lines replies between new
+LinesLeft u bindings lines replies old new = ⊥
 
 -- The lines were served, and their replies stand behind those that were there.
-pub record LinesServed (u : Setup) (lines : List ActionLine) (before after : List LineReply) (old new : List Entry) : Type 0 where
+pub record LinesServed (u : Setup) (bindings : ℕ → List Binding) (lines : List ActionLine) (before after : List LineReply)
+    (old new : List Entry) : Type 0 where
   pub answers : List LineReply
   pub grew : after ≡ before ++ answers
-  pub left : LinesLeft u lines answers old new
+  pub left : LinesLeft u bindings lines answers old new
+
+-- What is kept of the words of the 16 callers stands for a past.
+pub record AllStand (streams : ℕ) (past : List Entry) (bounds : ℕ → List Bound) (bindings : ℕ → List Binding)
+    (rows : List NamesState) : Type 0 where
+  pub counted : length rows ≡ 16
+  pub each : (n : ℕ) (names : NamesState) → slice_get rows n ≡ Some names →
+      NamesStand streams (suc n) past (bounds (suc n)) (bindings (suc n)) names.named
+
+-- There is room for the words that each caller binds in these lines.
+abbrev pub HaveRoom : List ActionLine → List NamesState → Type 0
+HaveRoom lines rows =
+    (n : ℕ) (names : NamesState) → slice_get rows n ≡ Some names → length names.named + words_bound (suc n) lines ≤ names.room
+
+-- Lines may be served with what is kept of the callers' words: it stands for the past, each caller uses its words right,
+-- and there is room for those that it binds.
+pub record MayServe (streams : ℕ) (past : List Entry) (lines : List ActionLine) (rows : List NamesState) : Type 0 where
+  pub bounds : ℕ → List Bound
+  pub bindings : ℕ → List Binding
+  pub stand : AllStand streams past bounds bindings rows
+  pub right : (me : ℕ) → AreUsedRight me (bounds me) lines
+  pub room : HaveRoom lines rows
+
+-- A line may be served with what is kept of its caller's words.
+pub record MayServeLine (streams : ℕ) (past : List Entry) (line : ActionLine) (names : NamesState) : Type 0 where
+  pub bounds : List Bound
+  pub bindings : List Binding
+  pub stand : NamesStand streams line.caller past bounds bindings names.named
+  pub right : UsesRight bounds line.action
+  pub room : HasRoom line.action names
+
+-- A line was served, and what is kept of its caller's words stands for it.
+pub record LineEnd (w : Standing) (bounds : List Bound) (bindings : List Binding) (line : ActionLine) (told : Answer)
+    (old new : List Entry) (names : NamesState) : Type 0 where
+  pub left : LineLeft w.setup bindings line told old new
+  pub stand :
+      NamesStand w.streams line.caller new (bound_after line.action bounds) (bindings_after line.action told bindings) names.named
+
+-- Lines were served, and what is kept of the callers' words stands for them.
+pub record LinesEnd (w : Standing) (bounds : ℕ → List Bound) (bindings : ℕ → List Binding) (lines : List ActionLine)
+    (before after : List LineReply) (old new : List Entry) (rows : List NamesState) : Type 0 where
+  pub served : LinesServed w.setup bindings lines before after old new
+  pub stand : AllStand w.streams new (bound_by lines bounds) (after_lines lines served.answers bindings) rows
+
+-- Nothing is kept of any word yet; each of the 16 callers uses its words right in these lines, and there is room for
+-- those that it binds.
+pub record HaveNoWords (lines : List ActionLine) (rows : List NamesState) : Type 0 where
+  pub counted : length rows ≡ 16
+  pub none : AllByRecursion (λ names. names.named ≡ []) rows
+  pub right : (me : ℕ) → AreUsedRight me [] lines
+  pub room : HaveRoom lines rows
+
+-- the rows of words have the room that they had
+abbrev pub KeepRoom : List NamesState → List NamesState → Type 0
+KeepRoom was now = map (λ names. names.room) now ≡ map (λ names. names.room) was
 
 -- the streams, numbered from one on, were opened one after the other, each with a reply of its own
 abbrev pub StreamsLeft : Setup → ℕ → List StreamLine → List LineReply → Between

@@ -7,9 +7,9 @@ ghost use Rattle.cc_turns.specs.Places.{IsRoomFor};
 ghost use Rattle.cc_turns.specs.Desk.{tells_of};
 ghost use Rattle.cc_run.specs.Callers.{MayRun, CallerRan, MayAllRun, AllRan};
 
-use crate::line::serve_at;
 use cc_board::{Board, Pass, Seated};
 use cc_entry::Answer;
+use cc_lines::{Names, serve_at};
 use cc_script::ActionLine;
 use cc_traits::{Gate, LogFile, PageDisk, PostRoutine, Told};
 use cc_turns::Turns;
@@ -23,15 +23,18 @@ pub(crate) struct Caller<D: Told, L: LogFile, Q: PostRoutine> {
     pub(crate) pass: Pass<D, L, Q>,
     /// Room for the answer of each of its lines.
     pub(crate) room: Vec<Answer>,
+    /// What its words name, with room for those that its lines bind.
+    pub(crate) names: Names,
     /// How many calls it made in the phases before.
     pub(crate) calls: u32,
 }
 
-/// What a caller leaves: its pass, and the answers of its lines in their order.
+/// What a caller leaves: its pass, the answers of its lines in their order, and what its words name.
 #[derive(Drop)]
 pub(crate) struct Finished<D: Told, L: LogFile, Q: PostRoutine> {
     pub(crate) pass: Pass<D, L, Q>,
     pub(crate) answers: Vec<Answer>,
+    pub(crate) names: Names,
 }
 
 /// Runs the lines of each caller, on a thread of its own where it has any. A thread that can't be started is run by the
@@ -51,7 +54,7 @@ pub(crate) fn run_callers<
     callers: Vec<Caller<D, L, Q>>,
     room: Vec<Finished<D, L, Q>>,
 ) -> Vec<Finished<D, L, Q>>
-    requires may { MayAllRun board.now lines.now callers.items }
+    requires may { MayAllRun (tells_of D.told D.faults L.told L.faults Q.posted) board.now lines.now callers.items }
     requires room { IsRoomFor (length callers.items) room.items (vec_capacity room) }
     ensures ran { AllRan (tells_of D.told D.faults L.told L.faults Q.posted) board.now lines.now
         callers.items result.items }
@@ -65,23 +68,28 @@ pub(crate) fn run_callers<
         let Caller {
             pass,
             room: answers,
+            names,
             calls: _,
         } = caller;
         let mut ended = run_callers(rt, alloc, board, lines, gate, callers, room);
-        ended.push_reserved(Finished { pass, answers });
+        ended.push_reserved(Finished {
+            pass,
+            answers,
+            names,
+        });
         return ended;
     }
     let (mut ended, last) = join(
         rt,
         move || -> Vec<Finished<D, L, Q>>
             requires { IsSync R.row
-                × MayAllRun board.now lines.now callers.items
+                × MayAllRun (tells_of D.told D.faults L.told L.faults Q.posted) board.now lines.now callers.items
                 × IsRoomFor (length callers.items) room.items (vec_capacity room) }
             ensures { AllRan (tells_of D.told D.faults L.told L.faults Q.posted) board.entry.now lines.entry.now
                 callers.items result.items × (vec_capacity result ≡ vec_capacity room) }
         { run_callers(rt, alloc, board, lines, gate, callers, room) },
         move || -> Finished<D, L, Q>
-            requires { IsSync R.row × MayRun board.now lines.now caller }
+            requires { IsSync R.row × MayRun (tells_of D.told D.faults L.told L.faults Q.posted) board.now lines.now caller }
             ensures { CallerRan (tells_of D.told D.faults L.told L.faults Q.posted) board.entry.now lines.entry.now
                 caller result }
         { run_caller(rt, alloc, board, lines, gate, caller) },
@@ -99,12 +107,13 @@ fn run_caller<R: Wait, D: PageDisk, L: LogFile, Q: PostRoutine, P: Gate>(
     gate: &P,
     caller: Caller<D, L, Q>,
 ) -> Finished<D, L, Q>
-    requires may { MayRun board.now lines.now caller }
+    requires may { MayRun (tells_of D.told D.faults L.told L.faults Q.posted) board.now lines.now caller }
     ensures ran { CallerRan (tells_of D.told D.faults L.told L.faults Q.posted) board.now lines.now caller result }
 {
     let Caller {
         pass,
         room: mut answers,
+        mut names,
         mut calls,
     } = caller;
     let mut seated = Seated::new(rt, board, pass);
@@ -112,7 +121,7 @@ fn run_caller<R: Wait, D: PageDisk, L: LogFile, Q: PostRoutine, P: Gate>(
     for line in lines {
         if line.caller == me {
             calls = calls.saturating_add(1);
-            let answer = serve_at(alloc, &mut seated, &line.action, gate, calls);
+            let answer = serve_at(alloc, &mut seated, &line.action, gate, calls, &mut names);
             seated.note_others();
             answers.push_reserved(answer);
         }
@@ -120,5 +129,6 @@ fn run_caller<R: Wait, D: PageDisk, L: LogFile, Q: PostRoutine, P: Gate>(
     Finished {
         pass: seated.into_pass(),
         answers,
+        names,
     }
 }

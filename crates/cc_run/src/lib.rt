@@ -8,7 +8,7 @@
 //! after a run began loses nothing of what happened.
 //!
 //! `top` has the call, `run` the run, `openings` and `phases` its two parts, `lines` a phase on the desk, `threads` one
-//! on a board, `callers` what each thread does, `line` the call of one line, `call_numbers` what the gate is told.
+//! on a board, `callers` what each thread does, `call_numbers` what the gate is told.
 //!
 //! It stands on the script, on the text, on the calls, on the turns of one thread and on those that threads share, on
 //! the traits of the outside, on what a journal means and on how it explains answers. The program stands on it.
@@ -18,7 +18,6 @@ mod call_numbers;
 mod callers;
 mod devices;
 mod intake;
-mod line;
 mod lines;
 mod no_run;
 mod openings;

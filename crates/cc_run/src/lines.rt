@@ -1,15 +1,21 @@
 //! The lines of a phase on a desk, in their order.
 
-ghost use Rattle.std.specs.Prelude.{◌≡◌, ◌≢◌, ℕ, ◌+◌, ◌≤◌, length, vec_len, vec_capacity};
+ghost use Rattle.std.specs.Prelude.{◌≡◌, ◌≢◌, ℕ, ◌+◌, ◌≤◌, List, length, vec_len, vec_capacity};
 ghost use Rattle.std.specs.List.{AllByRecursion};
 ghost use Rattle.cc_effects.specs.Moments.{IsIdle};
 ghost use Rattle.cc_turns.specs.Desk.{standing_of};
 ghost use Rattle.cc_run.specs.Desks.{IsReady, IsSameRun};
-ghost use Rattle.cc_run.specs.Lines.{IsServable, IsCaller, LineLeft, LinesServed};
+ghost use Rattle.cc_model.specs.Good.{IsGood};
+ghost use Rattle.cc_pieces.specs.Bindings.{Binding};
+ghost use Rattle.cc_script.specs.HoldWords.{AreUsedRight, UsesRight};
+ghost use Rattle.cc_script.specs.declared.bound.Bound.{Bound};
+ghost use Rattle.cc_lines.specs.Holds.{NamesStand};
+ghost use Rattle.cc_lines.specs.Line.{IsServable};
+ghost use Rattle.cc_run.specs.Lines.{AllStand, IsCaller, KeepRoom, LineEnd, LinesEnd, MayServe, MayServeLine};
 
 use crate::call_numbers::Calls;
-use crate::line::serve_at;
 use cc_entry::{Answer, LineReply};
+use cc_lines::{Names, serve_at};
 use cc_script::ActionLine;
 use cc_traits::{Gate, LogFile, PageDisk, PostRoutine};
 use cc_turns::Desk;
@@ -22,22 +28,30 @@ pub(crate) fn serve_lines<D: PageDisk, L: LogFile, Q: PostRoutine, P: Gate>(
     lines: &[ActionLine],
     gate: &P,
     calls: &mut Calls,
+    names: &mut [Names],
     replies: &mut Vec<LineReply>,
 )
     requires ready { IsReady (standing_of D.told D.faults L.told L.faults desk.old) }
     requires servable { AllByRecursion (λ line.
         IsServable (standing_of D.told D.faults L.told L.faults desk.old).streams line.action) lines.now }
     requires callers { AllByRecursion (λ line. IsCaller line.caller) lines.now }
+    requires words { MayServe (standing_of D.told D.faults L.told L.faults desk.old).streams desk.old.last.entries
+        lines.now names.old }
     requires room { vec_len replies.old + length lines.now ≤ vec_capacity replies.old }
-    ensures served { LinesServed (standing_of D.told D.faults L.told L.faults desk.old).setup lines.now
-        replies.old.items replies.new.items desk.old.last.entries desk.new.last.entries }
+    ensures served { (bounds : ℕ → List Bound) (bindings : ℕ → List Binding) →
+        AllStand (standing_of D.told D.faults L.told L.faults desk.old).streams desk.old.last.entries bounds bindings names.old →
+        ((me : ℕ) → AreUsedRight me (bounds me) lines.now) →
+        LinesEnd (standing_of D.told D.faults L.told L.faults desk.old) bounds bindings lines.now
+        replies.old.items replies.new.items desk.old.last.entries desk.new.last.entries names.new }
+    ensures kept_room { KeepRoom names.old names.new }
     ensures run { IsSameRun (standing_of D.told D.faults L.told L.faults desk.old)
         (standing_of D.told D.faults L.told L.faults desk.new) }
     ensures ready { IsReady (standing_of D.told D.faults L.told L.faults desk.new) }
     ensures capacity { vec_capacity replies.new ≡ vec_capacity replies.old }
 {
     for line in lines {
-        let answer = serve_line(alloc, desk, line, gate, calls.next(line.caller));
+        let own = &mut names[line.caller as usize - 1];
+        let answer = serve_line(alloc, desk, line, gate, calls.next(line.caller), own);
         replies.push_reserved(LineReply {
             line: line.line,
             answer,
@@ -52,17 +66,26 @@ fn serve_line<D: PageDisk, L: LogFile, Q: PostRoutine, P: Gate>(
     line: &ActionLine,
     gate: &P,
     number: u32,
+    names: &mut Names,
 ) -> Answer
     requires ready { IsReady (standing_of D.told D.faults L.told L.faults desk.old) }
     requires servable { IsServable (standing_of D.told D.faults L.told L.faults desk.old).streams line.now.action }
-    ensures left { LineLeft (standing_of D.told D.faults L.told L.faults desk.old).setup line.now
-        result desk.old.last.entries desk.new.last.entries }
+    requires words { MayServeLine (standing_of D.told D.faults L.told L.faults desk.old).streams desk.old.last.entries
+        line.now names.old }
+    ensures left { (bounds : List Bound) (bindings : List Binding) →
+        NamesStand (standing_of D.told D.faults L.told L.faults desk.old).streams line.now.caller
+        desk.old.last.entries bounds bindings names.old.named → UsesRight bounds line.now.action →
+        LineEnd (standing_of D.told D.faults L.told L.faults desk.old) bounds bindings line.now
+        result desk.old.last.entries desk.new.last.entries names.new }
+    ensures kept_room { names.new.room ≡ names.old.room }
+    ensures good { IsGood (standing_of D.told D.faults L.told L.faults desk.old).setup desk.new.last.entries }
     ensures run { IsSameRun (standing_of D.told D.faults L.told L.faults desk.old)
         (standing_of D.told D.faults L.told L.faults desk.new) }
     ensures ready { IsReady (standing_of D.told D.faults L.told L.faults desk.new) }
 {
     desk.act_as(line.caller);
-    let answer = serve_at(alloc, desk, &line.action, gate, number);
+    desk.good();
+    let answer = serve_at(alloc, desk, &line.action, gate, number, names);
     desk.own();
     answer
 }

@@ -7,11 +7,12 @@ ghost use Rattle.cc_calls.specs.Answers.{CanCall};
 ghost use Rattle.cc_visits.specs.Hands.{Went, IsSettled};
 ghost use Rattle.cc_turns.specs.Desk.{standing_of};
 ghost use Rattle.cc_run.specs.Desks.{IsReady, IsSameRun};
-ghost use Rattle.cc_run.specs.Lines.{IsFullTold, StreamsOpened};
+ghost use Rattle.cc_lines.specs.Line.{IsFullTold};
+ghost use Rattle.cc_run.specs.Lines.{StreamsOpened};
 
-use crate::line::answered;
 use cc_calls::{initialize, set_log_handle};
 use cc_entry::{Answer, FileId, FileSizes, LineReply};
+use cc_lines::answered;
 use cc_script::StreamLine;
 use cc_traits::{LogFile, PageDisk, PostRoutine};
 use cc_turns::{Desk, Turns};

@@ -1,18 +1,23 @@
 //! The phases of a script, one after the other: in each the callers run on threads, over one board.
 
-ghost use Rattle.std.specs.Prelude.{◌≡◌, ℕ, ◌+◌, ◌<◌, ◌≤◌, ◌++◌, ◌==◌, suc, take, drop, length, vec_len, vec_capacity};
+ghost use Rattle.std.specs.Prelude.{◌≡◌, ℕ, ◌+◌, ◌<◌, ◌≤◌, ◌++◌, ◌==◌, suc, List, take, drop, length, vec_len, vec_capacity};
 ghost use Rattle.std.specs.List.{AllByRecursion};
 ghost use Rattle.cc_pieces.specs.Rooms.{is_alone};
 ghost use Rattle.cc_script.specs.Within.{PhasesAscend};
 ghost use Rattle.cc_turns.specs.Desk.{standing_of};
 ghost use Rattle.cc_run.specs.Desks.{IsReady, IsSameRun};
-ghost use Rattle.cc_run.specs.Lines.{IsServable, IsCaller};
-ghost use Rattle.cc_run.specs.Phases.{PhaseServed, PhasesServed};
+ghost use Rattle.cc_pieces.specs.Bindings.{Binding};
+ghost use Rattle.cc_script.specs.HoldWords.{AreUsedRight};
+ghost use Rattle.cc_script.specs.declared.bound.Bound.{Bound};
+ghost use Rattle.cc_lines.specs.Line.{IsServable};
+ghost use Rattle.cc_run.specs.Lines.{AllStand, HaveNoWords, IsCaller, KeepRoom, MayServe};
+ghost use Rattle.cc_run.specs.Phases.{PhaseEnds, PhasesServed};
 
 use crate::call_numbers::Calls;
 use crate::lines::serve_lines;
 use crate::threads::serve_on_threads;
 use cc_entry::LineReply;
+use cc_lines::Names;
 use cc_script::ActionLine;
 use cc_traits::{Gate, LogFile, PageDisk, PostRoutine};
 use cc_turns::Desk;
@@ -34,6 +39,7 @@ pub(crate) fn serve_phases<
     phases: u32,
     lines: &[ActionLine],
     gate: &P,
+    names: Vec<Names>,
     replies: &mut Vec<LineReply>,
 ) -> Desk<D, L, Q>
     requires ready { IsReady (standing_of D.told D.faults L.told L.faults desk) }
@@ -43,6 +49,7 @@ pub(crate) fn serve_phases<
     requires few { phases < 2048 }
     requires ascend { PhasesAscend 1 lines.now }
     requires within { AllByRecursion (λ line. line.phase ≤ phases) lines.now }
+    requires words { HaveNoWords lines.now names.items }
     requires room { vec_len replies.old + length lines.now ≤ vec_capacity replies.old }
     ensures served { PhasesServed (standing_of D.told D.faults L.told L.faults desk).setup phases lines.now
         replies.old.items replies.new.items desk.last.entries result.last.entries }
@@ -51,11 +58,14 @@ pub(crate) fn serve_phases<
     ensures ready { IsReady (standing_of D.told D.faults L.told L.faults result) }
 {
     let mut desk = desk;
+    let mut names = names;
     let mut calls = Calls::new();
     let mut rest = lines;
     for phase in 1..phases + 1 {
         let (now, later) = rest.split_at(count_of_phase(rest, phase));
-        desk = serve_phase(rt, alloc, desk, phase, now, gate, &mut calls, replies);
+        desk = serve_phase(
+            rt, alloc, desk, phase, now, gate, &mut calls, &mut names, replies,
+        );
         rest = later;
     }
     desk
@@ -91,6 +101,7 @@ fn serve_phase<
     lines: &[ActionLine],
     gate: &P,
     calls: &mut Calls,
+    names: &mut Vec<Names>,
     replies: &mut Vec<LineReply>,
 ) -> Desk<D, L, Q>
     requires ready { IsReady (standing_of D.told D.faults L.told L.faults desk) }
@@ -98,9 +109,16 @@ fn serve_phase<
         IsServable (standing_of D.told D.faults L.told L.faults desk).streams line.action) lines.now }
     requires callers { AllByRecursion (λ line. IsCaller line.caller) lines.now }
     requires those { AllByRecursion (λ line. line.phase ≡ phase) lines.now }
+    requires words { MayServe (standing_of D.told D.faults L.told L.faults desk).streams desk.last.entries
+        lines.now names.old.items }
     requires room { vec_len replies.old + length lines.now ≤ vec_capacity replies.old }
-    ensures served { PhaseServed (standing_of D.told D.faults L.told L.faults desk).setup phase lines.now
-        replies.old.items replies.new.items desk.last.entries result.last.entries }
+    ensures served { (bounds : ℕ → List Bound) (bindings : ℕ → List Binding) →
+        AllStand (standing_of D.told D.faults L.told L.faults desk).streams desk.last.entries bounds bindings
+        names.old.items → ((me : ℕ) → AreUsedRight me (bounds me) lines.now) →
+        PhaseEnds (standing_of D.told D.faults L.told L.faults desk).setup
+        (standing_of D.told D.faults L.told L.faults desk).streams phase bounds bindings lines.now
+        replies.old.items replies.new.items desk.last.entries result.last.entries names.new.items }
+    ensures kept_room { KeepRoom names.old.items names.new.items }
     ensures run { IsSameRun (standing_of D.told D.faults L.told L.faults desk)
         (standing_of D.told D.faults L.told L.faults result) }
     ensures ready { IsReady (standing_of D.told D.faults L.told L.faults result) }
@@ -108,12 +126,12 @@ fn serve_phase<
 {
     let mut desk = desk;
     if !is_alone(lines) {
-        match serve_on_threads(rt, alloc, desk, lines, gate, calls, replies) {
+        match serve_on_threads(rt, alloc, desk, lines, gate, calls, names, replies) {
             Ok(desk) => return desk,
             Err(back) => desk = back,
         }
     }
-    serve_lines(alloc, &mut desk, lines, gate, calls, replies);
+    serve_lines(alloc, &mut desk, lines, gate, calls, names, replies);
     desk
 }
 

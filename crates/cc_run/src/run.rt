@@ -9,7 +9,7 @@ ghost use Rattle.cc_turns.specs.Standing.{nothing};
 ghost use Rattle.cc_turns.specs.Desk.{IsFresh, standing_of};
 ghost use Rattle.cc_run.specs.Ends.{has_devices};
 ghost use Rattle.cc_run.specs.Disks.{DisksAre, DisksStand, AreCounted, HaveRisen};
-ghost use Rattle.cc_run.specs.Lines.{given_of, lines_answered};
+ghost use Rattle.cc_run.specs.Lines.{HaveNoWords, given_of, lines_answered};
 ghost use Rattle.cc_run.specs.Logs.{LogsAre, LogsStand, LogsCounted};
 ghost use Rattle.cc_pieces.specs.Explained.{IsExplained};
 ghost use Rattle.cc_run.specs.Setups.{setup_of};
@@ -18,8 +18,9 @@ use crate::openings::open_streams;
 use crate::phases::serve_phases;
 use crate::row::{first_of, put_back};
 use crate::table::printed_rows;
-use cc_entry::{Entry, LineReply};
+use cc_entry::{Entry, LineReply, NoMemory};
 use cc_journal::Parts;
+use cc_lines::Names;
 use cc_print::TableRow;
 use cc_script::Script;
 use cc_traits::{Gate, LogFile, PageDisk, PostRoutine, Setup};
@@ -84,6 +85,9 @@ pub(crate) fn run_script<
     let Ok(replies) = Vec::with_capacity(alloc, count) else {
         return Err((rest, further));
     };
+    let Ok(names) = names_for(alloc, script) else {
+        return Err((rest, further));
+    };
     let Ok(disks) = first_of(alloc, &mut rest, MOST_DISKS) else {
         return Err((rest, further));
     };
@@ -104,7 +108,7 @@ pub(crate) fn run_script<
                 table,
                 disks,
                 logs,
-            } = run_on(rt, alloc, script, gate, desk, replies);
+            } = run_on(rt, alloc, script, gate, desk, names, replies);
             Ok(RunResult {
                 replies,
                 journal,
@@ -117,18 +121,32 @@ pub(crate) fn run_script<
     }
 }
 
-// Runs a script on a desk of which nothing happened yet, with room for the replies.
+// What is kept of the words of the 16 callers, none yet, with room for all that each binds.
+fn names_for(alloc: Global, script: &Script) -> Result<Vec<Names>, NoMemory>
+    requires { IsWithin script.now }
+    ensures { IfOk result (λ names. HaveNoWords script.now.lines names.items) }
+{
+    let mut names = Vec::with_capacity(alloc, 16)?;
+    for caller in 1..17 {
+        names.push_reserved(Names::with_room(alloc, script.words_of(caller))?);
+    }
+    Ok(names)
+}
+
+// Runs a script on a desk of which nothing happened yet, with room for the replies and for the callers' words.
 fn run_on<R: Threads + Wait + Sync, D: PageDisk, L: LogFile + Send, Q: PostRoutine + Send, P: Gate>(
     rt: &R,
     alloc: Global,
     script: &Script,
     gate: &P,
     desk: Desk<D, L, Q>,
+    names: Vec<Names>,
     replies: Vec<LineReply>,
 ) -> RunResult<D, L>
     requires fresh { IsFresh desk.begun desk }
     requires within { IsWithin script.now }
     requires enough { length script.now.streams ≤ length desk.begun.disks }
+    requires words { HaveNoWords script.now.lines names.items }
     requires none { replies.items ≡ [] }
     requires room { length script.now.streams + length script.now.lines ≤ vec_capacity replies }
     ensures good { IsGood (standing_of D.told D.faults L.told L.faults desk).setup (reverse result.journal.items) }
@@ -150,6 +168,7 @@ fn run_on<R: Threads + Wait + Sync, D: PageDisk, L: LogFile + Send, Q: PostRouti
         script.phases,
         script.lines.as_slice(),
         gate,
+        names,
         &mut replies,
     );
     let table = printed_rows(alloc, desk.journal().dirty().rows()).ok();

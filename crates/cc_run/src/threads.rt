@@ -1,7 +1,7 @@
 //! A phase on threads: a board is made of the desk, each caller runs its lines with a pass of it, and it is closed into
 //! the desk again.
 
-ghost use Rattle.std.specs.Prelude.{◌≡◌, ◌≢◌, ℕ, ◌+◌, ◌<◌, ◌≤◌, ◌++◌, false, length, map, vec_len, vec_capacity, IfOk, IfErr, OnOk, OnErr};
+ghost use Rattle.std.specs.Prelude.{◌≡◌, ◌≢◌, ℕ, ◌+◌, ◌<◌, ◌≤◌, ◌++◌, [], false, List, length, map, vec_len, vec_capacity, IfOk, IfErr, OnOk, OnErr};
 ghost use Rattle.std.specs.List.{AllByRecursion};
 ghost use Rattle.cc_pieces.specs.Explained.{answered_lines};
 ghost use Rattle.cc_pieces.specs.Phases.{is_of_phase};
@@ -12,14 +12,19 @@ ghost use Rattle.cc_turns.specs.Desk.{standing_of, tells_of};
 ghost use Rattle.cc_turns.specs.Places.{IsRoomFor};
 ghost use Rattle.cc_run.specs.Callers.{AllRan, AreRows, MayAllRun, asked_own, count_of, row_at};
 ghost use Rattle.cc_run.specs.Desks.{IsReady, IsSameRun};
-ghost use Rattle.cc_run.specs.Lines.{IsServable, IsCaller};
-ghost use Rattle.cc_run.specs.Phases.{PhaseServed};
+ghost use Rattle.cc_pieces.specs.Bindings.{Binding};
+ghost use Rattle.cc_script.specs.HoldWords.{AreUsedRight};
+ghost use Rattle.cc_script.specs.declared.bound.Bound.{Bound};
+ghost use Rattle.cc_lines.specs.Line.{IsServable};
+ghost use Rattle.cc_run.specs.Lines.{AllStand, IsCaller, KeepRoom, MayServe};
+ghost use Rattle.cc_run.specs.Phases.{PhaseEnds};
 ghost use Rattle.cc_run.specs.Threads.{AreRooms, AreSplit, AreJoined, Merged, MaySplit, MayJoin};
 
 use crate::call_numbers::Calls;
 use crate::callers::{Caller, Finished, run_callers};
 use cc_board::{Board, FirstPass};
 use cc_entry::{Answer, LineReply, NoMemory};
+use cc_lines::Names;
 use cc_script::ActionLine;
 use cc_traits::{Gate, LogFile, PageDisk, PostRoutine, Told};
 use cc_turns::Desk;
@@ -45,21 +50,28 @@ pub(crate) fn serve_on_threads<
     lines: &[ActionLine],
     gate: &P,
     calls: &mut Calls,
+    names: &mut Vec<Names>,
     replies: &mut Vec<LineReply>,
 ) -> Result<Desk<D, L, Q>, Desk<D, L, Q>>
     requires ready { IsReady (standing_of D.told D.faults L.told L.faults desk) }
     requires servable { AllByRecursion (λ line.
         IsServable (standing_of D.told D.faults L.told L.faults desk).streams line.action) lines.now }
     requires callers { AllByRecursion (λ line. IsCaller line.caller) lines.now }
+    requires words { MayServe (standing_of D.told D.faults L.told L.faults desk).streams desk.last.entries
+        lines.now names.old.items }
     requires room { vec_len replies.old + length lines.now ≤ vec_capacity replies.old }
-    ensures served { IfOk result (λ now. (phase : ℕ) → AllByRecursion (λ line. line.phase ≡ phase) lines.now →
-        is_alone phase lines.now ≡ false →
-        PhaseServed (standing_of D.told D.faults L.told L.faults desk).setup phase lines.now
-        replies.old.items replies.new.items desk.last.entries now.last.entries) }
+    ensures served { IfOk result (λ now. (phase : ℕ) (bounds : ℕ → List Bound) (bindings : ℕ → List Binding) →
+        AllByRecursion (λ line. line.phase ≡ phase) lines.now → is_alone phase lines.now ≡ false →
+        AllStand (standing_of D.told D.faults L.told L.faults desk).streams desk.last.entries bounds bindings
+        names.old.items → ((me : ℕ) → AreUsedRight me (bounds me) lines.now) →
+        PhaseEnds (standing_of D.told D.faults L.told L.faults desk).setup
+        (standing_of D.told D.faults L.told L.faults desk).streams phase bounds bindings lines.now
+        replies.old.items replies.new.items desk.last.entries now.last.entries names.new.items) }
+    ensures kept_room { KeepRoom names.old.items names.new.items }
     ensures run { IfOk result (λ now. IsSameRun (standing_of D.told D.faults L.told L.faults desk)
         (standing_of D.told D.faults L.told L.faults now)) }
     ensures ready { IfOk result (λ now. IsReady (standing_of D.told D.faults L.told L.faults now)) }
-    ensures kept { OnErr result (replies.new.items ≡ replies.old.items) }
+    ensures kept { OnErr result ((replies.new.items ≡ replies.old.items) × (names.new.items ≡ names.old.items)) }
     ensures same { IfErr result (λ back. back.last.entries ≡ desk.last.entries) }
     ensures run_kept { IfErr result (λ back. IsSameRun (standing_of D.told D.faults L.told L.faults desk)
         (standing_of D.told D.faults L.told L.faults back)) }
@@ -75,15 +87,19 @@ pub(crate) fn serve_on_threads<
         Ok(rooms) => rooms,
         Err(NoMemory) => return Err(desk),
     };
+    desk.good();
     let (board, mut first) = match Board::new(alloc, desk, CALLERS) {
         Ok(made) => made,
         Err((desk, _)) => return Err(desk),
     };
-    let callers = split_all(&board, &mut first, calls, rooms, callers);
+    names.reverse();
+    let callers = split_all(&board, &mut first, calls, rooms, names, callers);
     let ended = run_callers(rt, alloc, &board, lines, gate, callers, ended);
-    let rows = join_all(&board, &mut first, calls, ended, rows);
+    let rows = join_all(&board, &mut first, calls, ended, names, rows);
+    names.reverse();
     match board.close(first) {
         Ok(desk) => {
+            desk.good();
             merge(lines, rows, replies);
             Ok(desk)
         }
@@ -155,12 +171,15 @@ fn split_all<D: PageDisk, L: LogFile, Q: PostRoutine>(
     first: &mut FirstPass<D, L, Q>,
     calls: &Calls,
     rooms: Vec<Vec<Answer>>,
+    names: &mut Vec<Names>,
     callers: Vec<Caller<D, L, Q>>,
 ) -> Vec<Caller<D, L, Q>>
     requires may { MaySplit board.now first.old }
     requires rooms { length rooms.items ≡ 16 }
+    requires names { length names.old.items ≡ 16 }
     requires room { IsRoomFor 16 callers.items (vec_capacity callers) }
-    ensures split { AreSplit board.now rooms.items first.old first.new result.items }
+    ensures split { AreSplit board.now rooms.items names.old.items first.old first.new result.items }
+    ensures emptied { (names.new.items ≡ []) × (vec_capacity names.new ≡ vec_capacity names.old) }
 {
     let mut rooms = rooms;
     let mut callers = callers;
@@ -170,9 +189,13 @@ fn split_all<D: PageDisk, L: LogFile, Q: PostRoutine>(
         let Some(pass) = board.split(first) else {
             unreachable!()
         };
+        let Some(own) = names.pop() else {
+            unreachable!()
+        };
         callers.push_reserved(Caller {
             pass,
             room,
+            names: own,
             calls: calls.of(number),
         });
     }
@@ -180,22 +203,31 @@ fn split_all<D: PageDisk, L: LogFile, Q: PostRoutine>(
 }
 
 // Joins the pass of each caller. Of each the row of its answers is left, from the last caller on, and from the last
-// answer on.
+// answer on, and what its words name, from the last caller on too.
 fn join_all<D: PageDisk, L: LogFile, Q: PostRoutine>(
     board: &Board<D, L, Q>,
     first: &mut FirstPass<D, L, Q>,
     calls: &mut Calls,
     ended: Vec<Finished<D, L, Q>>,
+    names: &mut Vec<Names>,
     rows: Vec<Vec<Answer>>,
 ) -> Vec<Vec<Answer>>
     requires may { MayJoin board.now first.old ended.items }
     requires room { IsRoomFor 16 rows.items (vec_capacity rows) }
-    ensures joined { AreJoined first.old first.new ended.items result.items }
+    requires name_room { IsRoomFor 16 names.old.items (vec_capacity names.old) }
+    ensures joined { AreJoined first.old first.new ended.items result.items names.new.items }
 {
     let mut ended = ended;
     let mut rows = rows;
     let mut number = u32::from(CALLERS);
-    while let Some(Finished { pass, answers }) = ended.pop() {
+    while let Some(
+        Finished {
+            pass,
+            answers,
+            names: own,
+        },
+    ) = ended.pop()
+    {
         board.join(first, pass);
         let made = u32::try_from(answers.len()).unwrap_or(u32::MAX);
         calls.add(number, made);
@@ -203,6 +235,7 @@ fn join_all<D: PageDisk, L: LogFile, Q: PostRoutine>(
         let mut row = answers;
         row.reverse();
         rows.push_reserved(row);
+        names.push_reserved(own);
     }
     rows
 }

@@ -1,21 +1,85 @@
-use Rattle.std.proofs.Common.{◌≡◌, ◌+◌, ◌++◌, ◌∷◌, [], take, sym, subst, ◌∙◌, arith, ap}
-use Rattle.std.proofs.lemmas.List.{take_more}
-use Rattle.cc_run.specs.Lines.{LineLeft}
-use Rattle.cc_run.proofs.Acting.{run-then}
-use Rattle.cc_run.proofs.LinesRan.{served-more}
+use Rattle.std.proofs.Common.{◌≡◌, ◌+◌, ◌-◌, ◌<◌, ◌++◌, ◌∷◌, [], ℕ, List, suc, length, take, drop, get_or, refl, sym, subst, ◌∙◌, arith, ap}
+use Rattle.std.proofs.lemmas.List.{append-nil, take_all, take_more}
+use Rattle.cc_script.specs.declared.script.ActionLine.{ActionLine}
+use Rattle.cc_turns.specs.Desk.{standing_of}
+use Rattle.cc_run.specs.Lines.{IsCaller, LinesEnd}
+use Rattle.cc_run.proofs.Acting.{run-same, run-then}
+use Rattle.std.specs.List.{AllByRecursion}
+use Rattle.cc_model.specs.Good.{IsGood}
+use Rattle.cc_run.proofs.LinesRan.{lines-more, may-line, put-keeps, put-long, row-at}
+use Rattle.cc_run.proofs.Lists.{all-at, parted}
 use Rattle.cc_run.proofs.RowSteps.{longer}
 use Rattle.cc_run.proofs.lines.serve_lines.Goals as goal
+
+-- the lines are those before this one, it, and those behind it
+parts-at : (lines : List ActionLine) (i : ℕ) (line : ActionLine) → i < length lines → line ≡ get_or lines i line → lines ≡ take i lines ++ line ∷ drop (suc i) lines
+parts-at lines i line low is = parted lines i line low ∙ ap (λ one. take i lines ++ one ∷ drop (suc i) lines) (sym is)
+
+-- the line's caller is one of the 16
+caller-at : (lines : List ActionLine) (i : ℕ) (line : ActionLine) → i < length lines → line ≡ get_or lines i line → AllByRecursion (λ line. IsCaller line.caller) lines → IsCaller line.caller
+caller-at lines i line low is all = subst (λ (l : ActionLine). IsCaller l.caller) (sym is) (all-at (λ line. IsCaller line.caller) lines i line low all)
+
+behind-one : (line : ActionLine) → IsCaller line.caller → line.caller ≡ suc (line.caller - 1)
+behind-one line own = omega (arith, own.first)
+
+pub loop-line-init : goal.loop-line-init
+loop-line-init g c = record {
+  run = run-same _;
+  ready = c.requires.ready;
+  long = omega arith;
+  room = refl;
+  counted = c.requires.words.stand.counted;
+  keep = refl;
+  served = λ bounds bindings stand right. record {
+    served = record { answers = []; grew = sym (append-nil _); left = refl };
+    stand = record { counted = stand.counted; each = stand.each };
+  };
+}
+
+pub serve_line-answer-requires-clause-words : goal.serve_line-answer-requires-clause-words
+serve_line-answer-requires-clause-words g c κs within =
+    let before = c.loop-line.invariant in
+    let lines = c.args.lines.now in
+    let i = c.loop-line.line-index in
+    let line = c.line-item.result in
+    let own = caller-at lines i line c.loop-line-test.true c.line-item.is c.requires.callers in
+    let w = standing_of g.D.Told.told g.D.Told.faults g.L.LogFile.told g.L.LogFile.faults c.args.desk.now in
+    rw before.run.streams
+    (may-line w lines (take i lines) (drop (suc i) lines) line c.args.replies.now.items c.loop-line.replies.items c.args.desk.now.last.entries c.loop-line.desk.last.entries
+    c.args.names.now c.loop-line.names (line.caller - 1) _ c.requires.words (parts-at lines i line c.loop-line-test.true c.line-item.is) (behind-one line own)
+    (row-at c.loop-line.names (line.caller - 1) c.index-names-line.result (omega (arith, own.first, own.last, before.counted))) before.keep
+    (before.served c.requires.words.bounds c.requires.words.bindings c.requires.words.stand c.requires.words.right))
 
 pub loop-line-preserved : goal.loop-line-preserved
 loop-line-preserved g c =
     let before = c.loop-line.invariant in
-    let more : take (c.loop-line.line-index + 1) c.args.lines.now ≡ take c.loop-line.line-index c.args.lines.now ++ c.line-item.result ∷ [] =
-    take_more c.args.lines.now c.loop-line.line-index c.line-item.result c.loop-line-test.true ∙ ap (λ x. take c.loop-line.line-index c.args.lines.now ++ x ∷ []) (sym c.line-item.is) in
-    let one = subst (λ u. LineLeft u c.line-item.result c.serve_line-answer.result c.loop-line.desk.last.entries c.serve_line-answer.new.desk.last.entries) before.run.setup c.serve_line-answer.ensures.left in
+    let lines = c.args.lines.now in
+    let i = c.loop-line.line-index in
+    let line = c.line-item.result in
+    let own = caller-at lines i line c.loop-line-test.true c.line-item.is c.requires.callers in
+    let w = standing_of g.D.Told.told g.D.Told.faults g.L.LogFile.told g.L.LogFile.faults c.args.desk.now in
+    let v = standing_of g.D.Told.told g.D.Told.faults g.L.LogFile.told g.L.LogFile.faults c.loop-line.desk in
+    let here = row-at c.loop-line.names (line.caller - 1) c.index-names-line.result (omega (arith, own.first, own.last, before.counted)) in
+    let more : take (i + 1) lines ≡ take i lines ++ line ∷ [] =
+    take_more lines i line c.loop-line-test.true ∙ ap (λ x. take i lines ++ x ∷ []) (sym c.line-item.is) in
     record {
       run = run-then _ _ _ before.run c.serve_line-answer.ensures.run;
       ready = c.serve_line-answer.ensures.ready;
       long = omega (arith, longer _ _ _ c.push_reserved.ensures.items, before.long);
       room = c.push_reserved.ensures.capacity ∙ before.room;
-      served = rw (more, c.push_reserved.ensures.items) (served-more _ (take c.loop-line.line-index c.args.lines.now) c.line-item.result c.serve_line-answer.result _ _ _ _ _ before.served one);
+      counted = put-long c.loop-line.names (line.caller - 1) c.serve_line-answer.new.names ∙ before.counted;
+      keep = put-keeps c.loop-line.names (line.caller - 1) _ c.serve_line-answer.new.names here c.serve_line-answer.ensures.kept_room ∙ before.keep;
+      served = λ bounds bindings stand right.
+          rw (more, c.push_reserved.ensures.items)
+          (lines-more w v bounds bindings lines (take i lines) (drop (suc i) lines) line c.serve_line-answer.result c.args.replies.now.items c.loop-line.replies.items
+          c.args.desk.now.last.entries c.loop-line.desk.last.entries c.serve_line-answer.new.desk.last.entries c.loop-line.names (line.caller - 1) _ c.serve_line-answer.new.names
+          before.run.setup before.run.streams (parts-at lines i line c.loop-line-test.true c.line-item.is) (behind-one line own) here
+          (subst (λ u. IsGood u c.serve_line-answer.new.desk.last.entries) before.run.setup c.serve_line-answer.ensures.good) right
+          (before.served bounds bindings stand right) c.serve_line-answer.ensures.left);
     }
+
+pub returns-clause-served : goal.returns-clause-served
+returns-clause-served g c = λ bounds bindings stand right.
+    let w = standing_of g.D.Told.told g.D.Told.faults g.L.LogFile.told g.L.LogFile.faults c.args.desk.now in
+    subst (λ lines. LinesEnd w bounds bindings lines c.args.replies.now.items c.loop-line.replies.items c.args.desk.now.last.entries c.loop-line.desk.last.entries c.loop-line.names)
+    (take_all c.loop-line.line-index c.args.lines.now c.loop-line-test.false) (c.loop-line.invariant.served bounds bindings stand right)

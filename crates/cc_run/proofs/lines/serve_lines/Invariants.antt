@@ -1,8 +1,11 @@
-use Rattle.std.proofs.Common.{◌≡◌, ◌+◌, length, take}
+use Rattle.std.proofs.Common.{◌≡◌, ◌+◌, ℕ, List, length, take}
 use Rattle.std.specs.Prelude.{vec_capacity}
+use Rattle.cc_script.specs.HoldWords.{AreUsedRight}
+use Rattle.cc_script.specs.declared.bound.Bound.{Bound}
+use Rattle.cc_pieces.specs.Bindings.{Binding}
 use Rattle.cc_turns.specs.Desk.{standing_of}
 use Rattle.cc_run.specs.Desks.{IsReady, IsSameRun}
-use Rattle.cc_run.specs.Lines.{LinesServed}
+use Rattle.cc_run.specs.Lines.{AllStand, KeepRoom, LinesEnd}
 use Rattle.cc_run.proofs.lines.serve_lines.Given as goal
 
 abbrev pub invariant-loop-line : goal.invariant-loop-line
@@ -13,5 +16,10 @@ invariant-loop-line g l =
       ready : IsReady (at l.desk);
       long : length l.replies.items ≡ length l.initial.replies.items + l.line-index;
       room : vec_capacity l.replies ≡ vec_capacity l.initial.replies;
-      served : LinesServed (at l.initial.desk).setup (take l.line-index l.lines) l.initial.replies.items l.replies.items l.initial.desk.last.entries l.desk.last.entries;
+      counted : length l.names ≡ 16;
+      keep : KeepRoom l.initial.names l.names;
+      served : (bounds : ℕ → List Bound) (bindings : ℕ → List Binding) →
+          AllStand (at l.initial.desk).streams l.initial.desk.last.entries bounds bindings l.initial.names →
+          ((me : ℕ) → AreUsedRight me (bounds me) l.lines) →
+          LinesEnd (at l.initial.desk) bounds bindings (take l.line-index l.lines) l.initial.replies.items l.replies.items l.initial.desk.last.entries l.desk.last.entries l.names;
     }

@@ -3,6 +3,7 @@ use Rattle.std.specs.Prelude.{vec_capacity}
 use Rattle.cc_script.specs.Within.{PhasesAscend}
 use Rattle.cc_turns.specs.Desk.{standing_of}
 use Rattle.cc_run.specs.Desks.{IsReady, IsSameRun}
+use Rattle.cc_run.specs.Lines.{KeepRoom}
 use Rattle.cc_run.proofs.PhaseSteps.{SoFar}
 use Rattle.cc_run.proofs.phases.serve_phases.Given as goal
 
@@ -16,5 +17,6 @@ invariant-loop-phase g l =
       room : length l.replies.items + length l.rest ≤ vec_capacity l.fn.replies;
       within : l.phase ≤ l.fn.phases + 1;
       ascend : PhasesAscend l.phase l.rest;
-      so_far : SoFar (at l.fn.desk).setup l.phase l.fn.lines l.rest l.fn.replies.items l.replies.items l.fn.desk.last.entries l.desk.last.entries;
+      keep : KeepRoom l.fn.names.items l.names.items;
+      so_far : SoFar (at l.fn.desk).setup (at l.fn.desk).streams l.phase l.fn.lines l.rest l.fn.replies.items l.replies.items l.fn.desk.last.entries l.desk.last.entries l.names.items;
     }

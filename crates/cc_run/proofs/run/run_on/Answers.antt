@@ -3,7 +3,8 @@ use Rattle.std.specs.List.{AllByRecursion}
 use Rattle.cc_script.specs.Within.{IsLineWithin}
 use Rattle.cc_journal.specs.Rows.{Follows}
 use Rattle.cc_pieces.specs.Table.{table_of}
-use Rattle.cc_run.specs.Lines.{IsServable, IsCaller}
+use Rattle.cc_lines.specs.Line.{IsServable}
+use Rattle.cc_run.specs.Lines.{IsCaller}
 use Rattle.cc_run.specs.Rows.{printed_row}
 use Rattle.cc_run.proofs.DirtyRows.{rows-table}
 use Rattle.cc_run.proofs.Lists.{all-map, if_some-ok}
@@ -28,6 +29,9 @@ pub serve_phases-desk-requires-clause-callers : goal.serve_phases-desk-requires-
 serve_phases-desk-requires-clause-callers g c κs within =
     rw c.as_slice-2.ensures (all-map (IsLineWithin c.args.script.now.streams c.args.script.now.phases) (λ line. IsCaller line.caller) c.args.script.now.lines
     (λ line is. record { first = is.first_caller; last = is.last_caller }) c.requires.within.lines)
+
+pub serve_phases-desk-requires-clause-words : goal.serve_phases-desk-requires-clause-words
+serve_phases-desk-requires-clause-words g c κs within = rw c.as_slice-2.ensures c.requires.words
 
 pub serve_phases-desk-requires-clause-within : goal.serve_phases-desk-requires-clause-within
 serve_phases-desk-requires-clause-within g c κs within =

@@ -4,6 +4,7 @@ use Rattle.std.specs.Global.{Global}
 use Rattle.std.specs.declared.vec.Vec.{Vec}
 use Rattle.cc_entry.specs.declared.answer.Answer.{Answer}
 use Rattle.cc_board.specs.Board.{FirstState, IsOf, after_join}
+use Rattle.cc_lines.specs.Holds.{NamesState}
 use Rattle.cc_run.specs.Lines.{IsCaller}
 use Rattle.cc_run.specs.Threads.{under_way_of}
 use Rattle.cc_run.specs.declared.callers.Finished.{Finished}
@@ -50,6 +51,19 @@ rows-next {D = D} {L = L} {Q = Q} rows new row gone one before turned is =
     ap (map items) is ∙ (map_push items rows row ∙ (ap (λ l. l ++ row.items ∷ []) before ∙ (ap (λ l. map turn (reverse gone) ++ l ∷ []) turned
     ∙ sym (ap (map turn) (reverse-append (one ∷ []) gone) ∙ map_push turn (reverse gone) one))))
 
+-- what is kept of one caller's words more
+names-next : {D L Q : Type 0} (names new : List NamesState) (gone : List (Finished D L Q)) (one : Finished D L Q) →
+    names ≡ map (λ one. one.names) (reverse gone) → new ≡ names ++ one.names ∷ [] → new ≡ map (λ one. one.names) (reverse (one ∷ gone))
+names-next {D = D} {L = L} {Q = Q} names new gone one before is =
+    let named : Finished D L Q → NamesState = λ one. one.names in
+    is ∙ (ap (λ l. l ++ one.names ∷ []) before ∙ sym (ap (map named) (reverse-append (one ∷ []) gone) ∙ map_push named (reverse gone) one))
+
+pub push_reserved-requires-in-Some : goal.push_reserved-requires-in-Some
+push_reserved-requires-in-Some g c =
+    let is = numbered c.loop-pass.ended.items c.pop.new.self.items c.in-Some.field-0 c.loop-pass.number (length c.loop-pass.rows.items)
+    c.in-Some.ensures.items c.loop-pass.invariant.counted c.loop-pass.invariant.as_many in
+    has-room c.loop-pass.names c.loop-pass.number is.first c.loop-pass.invariant.names_as_many c.loop-pass.invariant.names_room
+
 pub loop-pass-init : goal.loop-pass-init
 loop-pass-init g c = record {
   gone = [];
@@ -58,6 +72,9 @@ loop-pass-init g c = record {
   as_many = omega (arith, ap length c.requires.room.empty, c.from-number.ensures);
   room = c.requires.room.room;
   first = after-none c.args.first.now;
+  names_as_many = omega (arith, ap length c.requires.name_room.empty, c.from-number.ensures);
+  names_room = c.requires.name_room.room;
+  names_are = c.requires.name_room.empty;
   rows_are = ap (map (λ row. row.items)) c.requires.room.empty;
 }
 
@@ -94,6 +111,9 @@ loop-pass-preserved g c =
       as_many = omega (arith, longer-by-one, before.counted, before.as_many, longer _ _ _ c.push_reserved.ensures.items);
       room = rw c.push_reserved.ensures.capacity before.room;
       first = after-next c.args.first.now c.loop-pass.first c.join.new.first before.gone c.in-Some.field-0 before.first c.join.ensures;
+      names_as_many = omega (arith, longer-by-one, before.counted, before.names_as_many, longer _ _ _ c.push_reserved-in-Some.ensures.items);
+      names_room = rw c.push_reserved-in-Some.ensures.capacity before.names_room;
+      names_are = names-next c.loop-pass.names.items c.push_reserved-in-Some.new.self.items before.gone c.in-Some.field-0 before.names_are c.push_reserved-in-Some.ensures.items;
       rows_are = rows-next c.loop-pass.rows.items c.push_reserved.new.self.items c.reverse.new.self before.gone c.in-Some.field-0
           before.rows_are c.reverse.ensures.items c.push_reserved.ensures.items;
     }

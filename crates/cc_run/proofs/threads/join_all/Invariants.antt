@@ -16,6 +16,9 @@ invariant-loop-pass g l = record {
       ended = map (λ one. (one.pass.knows.number, one.pass.knows.seen)) gone ++ l.initial.first.knows.ended;
     };
   };
+  names_as_many : length l.names.items + l.number ≡ 16;
+  names_room : 16 ≤ vec_capacity l.names;
+  names_are : l.names.items ≡ map (λ one. one.names) (reverse gone);
   rows_are : map (λ row. row.items) l.rows.items ≡ map (λ one. reverse one.answers.items) (reverse gone);
 }
 

@@ -1,5 +1,5 @@
 -- One line more, and the last one.
-use Rattle.std.proofs.Common.{◌≡◌, ℕ, ◌+◌, ◌-◌, ◌<◌, ◌++◌, ◌∷◌, [], List, length, drop, map, slice_set, get_or, sym, ap, subst, ◌∙◌, arith, suc, refl, add-one}
+use Rattle.std.proofs.Common.{◌≡◌, ◌+◌, ◌-◌, ◌<◌, ◌++◌, ◌∷◌, [], length, drop, map, slice_set, get_or, sym, ap, subst, ◌∙◌, arith, suc, refl, add-one}
 use Rattle.std.proofs.Math.ListN.{set}
 use Rattle.std.proofs.Math.Seq.{drop-cons}
 use Rattle.std.proofs.lemmas.List.{get_or-map, map-set, drop_all, length-map}

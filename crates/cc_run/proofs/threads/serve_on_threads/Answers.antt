@@ -1,34 +1,49 @@
-use Rattle.std.proofs.Common.{refl}
-use Rattle.cc_run.proofs.OnBoard.{may-all-run, may-join, none-out, are-rows, same-run, ready-now, phase-on-board, back-run, back-ready}
+use Rattle.std.proofs.Common.{◌∙◌, arith, ap, length, refl}
+use Rattle.std.proofs.lemmas.List.{length-reverse}
+use Rattle.cc_run.proofs.OnBoard.{are-rows, back-ready, back-run, keep-room, may-all-run, may-join, none-out, phase-on-board, ready-now, same-run}
 use Rattle.cc_run.proofs.threads.serve_on_threads.Goals as goal
+
+pub split_all-callers-requires-clause-names : goal.split_all-callers-requires-clause-names
+split_all-callers-requires-clause-names g c κs within =
+    ap length c.reverse.ensures.items ∙ (length-reverse c.args.names.now.items ∙ c.requires.words.stand.counted)
 
 pub run_callers-ended-requires-clause-may : goal.run_callers-ended-requires-clause-may
 run_callers-ended-requires-clause-may g c κs within =
-    may-all-run g.D.Told.told g.D.Told.faults g.L.LogFile.told g.L.LogFile.faults g.Q.PostRoutine.posted c.args.desk _ _ c.requires.ready c.in-Ok-new.ensures.opened c.args.lines.now _ _ _ c.split_all-callers.ensures.split c.in-Ok.ensures.rooms c.requires.servable
+    may-all-run g.D.Told.told g.D.Told.faults g.L.LogFile.told g.L.LogFile.faults g.Q.PostRoutine.posted c.args.desk _ _ c.requires.ready c.in-Ok-new.ensures.opened c.args.lines.now c.args.names.now.items _ c.reverse.ensures.items c.requires.words.stand.counted _ _ _ c.split_all-callers.ensures.split c.in-Ok.ensures.rooms c.requires.servable c.good.ensures c.requires.words
 
 pub join_all-rows-requires-clause-may : goal.join_all-rows-requires-clause-may
 join_all-rows-requires-clause-may g c κs within =
-    may-join g.D.Told.told g.D.Told.faults g.L.LogFile.told g.L.LogFile.faults g.Q.PostRoutine.posted c.args.desk _ _ c.requires.ready c.in-Ok-new.ensures.opened c.args.lines.now _ _ _ c.split_all-callers.ensures.split _ c.run_callers-ended.ensures.ran
+    may-join g.D.Told.told g.D.Told.faults g.L.LogFile.told g.L.LogFile.faults g.Q.PostRoutine.posted c.args.desk _ _ c.requires.ready c.in-Ok-new.ensures.opened c.args.lines.now c.args.names.now.items _ c.reverse.ensures.items c.requires.words.stand.counted _ _ _ c.split_all-callers.ensures.split _ c.run_callers-ended.ensures.ran
+
+pub join_all-rows-requires-clause-name_room : goal.join_all-rows-requires-clause-name_room
+join_all-rows-requires-clause-name_room g c κs within = record {
+  empty = c.split_all-callers.ensures.emptied.0;
+  room = omega (arith, c.split_all-callers.ensures.emptied.1, c.reverse.ensures.capacity, c.args.names.now.ok.0, c.requires.words.stand.counted);
+}
 
 pub merge-requires-clause-rows : goal.merge-requires-clause-rows
 merge-requires-clause-rows g c =
-    are-rows g.D.Told.told g.D.Told.faults g.L.LogFile.told g.L.LogFile.faults g.Q.PostRoutine.posted c.args.desk _ _ c.requires.ready c.in-Ok-new.ensures.opened c.args.lines.now _ _ _ c.split_all-callers.ensures.split _ c.run_callers-ended.ensures.ran _ _ c.join_all-rows.ensures.joined
+    are-rows g.D.Told.told g.D.Told.faults g.L.LogFile.told g.L.LogFile.faults g.Q.PostRoutine.posted c.args.desk _ _ c.requires.ready c.in-Ok-new.ensures.opened c.args.lines.now c.args.names.now.items _ c.reverse.ensures.items c.requires.words.stand.counted _ _ _ c.split_all-callers.ensures.split _ c.run_callers-ended.ensures.ran _ _ _ c.join_all-rows.ensures.joined
 
 pub unreachable-requires : goal.unreachable-requires
 unreachable-requires g c =
-    none-out g.D.Told.told g.D.Told.faults g.L.LogFile.told g.L.LogFile.faults g.Q.PostRoutine.posted c.args.desk _ _ c.requires.ready c.in-Ok-new.ensures.opened c.args.lines.now _ _ _ c.split_all-callers.ensures.split _ c.run_callers-ended.ensures.ran _ _ c.join_all-rows.ensures.joined (c.in-Err-close.ensures.refused.0 refl)
+    none-out g.D.Told.told g.D.Told.faults g.L.LogFile.told g.L.LogFile.faults g.Q.PostRoutine.posted c.args.desk _ _ c.requires.ready c.in-Ok-new.ensures.opened c.args.lines.now c.args.names.now.items _ c.reverse.ensures.items c.requires.words.stand.counted _ _ _ c.split_all-callers.ensures.split _ c.run_callers-ended.ensures.ran _ _ _ c.join_all-rows.ensures.joined (c.in-Err-close.ensures.refused.0 refl)
 
 pub returns-clause-served : goal.returns-clause-served
-returns-clause-served g c = λ phase those apart.
-    phase-on-board g.D.Told.told g.D.Told.faults g.L.LogFile.told g.L.LogFile.faults g.Q.PostRoutine.posted c.args.desk _ _ c.requires.ready c.in-Ok-new.ensures.opened c.args.lines.now _ _ _ c.split_all-callers.ensures.split _ c.run_callers-ended.ensures.ran _ _ c.join_all-rows.ensures.joined _ c.in-Ok-close.ensures.closed _ _ phase c.requires.callers those apart c.merge.ensures.merged
+returns-clause-served g c = λ phase bounds bindings those apart stand right.
+    phase-on-board g.D.Told.told g.D.Told.faults g.L.LogFile.told g.L.LogFile.faults g.Q.PostRoutine.posted c.args.desk _ _ c.requires.ready c.in-Ok-new.ensures.opened c.args.lines.now c.args.names.now.items _ c.reverse.ensures.items c.requires.words.stand.counted _ _ _ c.split_all-callers.ensures.split _ c.run_callers-ended.ensures.ran _ _ _ c.join_all-rows.ensures.joined _ c.in-Ok-close.ensures.closed _ c.reverse-2.ensures.items c.good-in-Ok-close.ensures _ _ phase bounds bindings c.requires.callers those c.merge.ensures.merged stand right apart
+
+pub returns-clause-kept_room : goal.returns-clause-kept_room
+returns-clause-kept_room g c =
+    keep-room g.D.Told.told g.D.Told.faults g.L.LogFile.told g.L.LogFile.faults g.Q.PostRoutine.posted c.args.desk _ _ c.requires.ready c.in-Ok-new.ensures.opened c.args.lines.now c.args.names.now.items _ c.reverse.ensures.items c.requires.words.stand.counted _ _ _ c.split_all-callers.ensures.split _ c.run_callers-ended.ensures.ran _ _ _ c.join_all-rows.ensures.joined _ c.reverse-2.ensures.items
 
 pub returns-clause-run : goal.returns-clause-run
 returns-clause-run g c =
-    same-run g.D.Told.told g.D.Told.faults g.L.LogFile.told g.L.LogFile.faults g.Q.PostRoutine.posted c.args.desk _ _ c.requires.ready c.in-Ok-new.ensures.opened c.args.lines.now _ _ _ c.split_all-callers.ensures.split _ c.run_callers-ended.ensures.ran _ _ c.join_all-rows.ensures.joined _ c.in-Ok-close.ensures.closed
+    same-run g.D.Told.told g.D.Told.faults g.L.LogFile.told g.L.LogFile.faults g.Q.PostRoutine.posted c.args.desk _ _ c.requires.ready c.in-Ok-new.ensures.opened c.args.lines.now c.args.names.now.items _ c.reverse.ensures.items c.requires.words.stand.counted _ _ _ c.split_all-callers.ensures.split _ c.run_callers-ended.ensures.ran _ _ _ c.join_all-rows.ensures.joined _ c.in-Ok-close.ensures.closed
 
 pub returns-clause-ready : goal.returns-clause-ready
 returns-clause-ready g c =
-    ready-now g.D.Told.told g.D.Told.faults g.L.LogFile.told g.L.LogFile.faults g.Q.PostRoutine.posted c.args.desk _ _ c.requires.ready c.in-Ok-new.ensures.opened c.args.lines.now _ _ _ c.split_all-callers.ensures.split _ c.run_callers-ended.ensures.ran _ _ c.join_all-rows.ensures.joined _ c.in-Ok-close.ensures.closed
+    ready-now g.D.Told.told g.D.Told.faults g.L.LogFile.told g.L.LogFile.faults g.Q.PostRoutine.posted c.args.desk _ _ c.requires.ready c.in-Ok-new.ensures.opened c.args.lines.now c.args.names.now.items _ c.reverse.ensures.items c.requires.words.stand.counted _ _ _ c.split_all-callers.ensures.split _ c.run_callers-ended.ensures.ran _ _ _ c.join_all-rows.ensures.joined _ c.in-Ok-close.ensures.closed
 
 pub returns-in-Err-new-clause-run_kept : goal.returns-in-Err-new-clause-run_kept
 returns-in-Err-new-clause-run_kept g c =

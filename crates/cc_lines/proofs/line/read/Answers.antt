@@ -1,5 +1,5 @@
-use Rattle.cc_run.proofs.Calls.{unplaced-read}
-use Rattle.cc_run.proofs.line.read.Goals as goal
+use Rattle.cc_lines.proofs.Calls.{unplaced-read}
+use Rattle.cc_lines.proofs.line.read.Goals as goal
 
 pub returns-in_default-clause-answered : goal.returns-in_default-clause-answered
 returns-in_default-clause-answered g c = unplaced-read _ _ _ _ _ _

@@ -1,58 +1,53 @@
 //! One line: its action's call, over any turns, and its answer.
 
-ghost use Rattle.std.specs.Prelude.{ℕ, List};
 ghost use Rattle.cc_entry.specs.declared.call.Call.TheVariants as call;
 ghost use Rattle.cc_pieces.specs.Answered.{AppendAnswered, CallAnswered};
-ghost use Rattle.cc_pieces.specs.Bindings.{Binding};
-ghost use Rattle.cc_pieces.specs.Served.{Served};
 ghost use Rattle.cc_turns.specs.Standing.{Standing};
 ghost use Rattle.cc_calls.specs.Answers.{CanCall, IsFree};
 ghost use Rattle.cc_visits.specs.Hands.{IsSettled};
-ghost use Rattle.cc_calls.specs.Pages.{WentOn};
-ghost use Rattle.cc_run.specs.Lines.{CanServe, IsFullTold, flag_told, state_told, told_of};
+ghost use Rattle.cc_calls.specs.Pages.{StaysGood, WentOn};
+ghost use Rattle.cc_lines.specs.Line.{CanServe, IsFullTold, LineEnds, flag_told, lsns_told, rows_told, state_told, told_of};
 ghost use Rattle.std.specs.Prelude.{◌≡◌};
 
-use cc_calls::{
-    copy_read, copy_write, file_state, flush, is_dirty_data, log_append, log_flush, set_file_sizes,
-    set_log_handle, zero_data,
+use crate::held_lines::{
+    chain, chain_abort, chain_done, chain_read, chain_store, held_read, held_write, hold_again,
+    map, pin, pin_map, prepare, release, release_repinned, stamp, write_chain,
 };
-use cc_entry::{Answer, Bytes, BytesRoom, CcError, FileId, FileState, Reply, Span};
+use crate::holds::Names;
+use cc_calls::{
+    copy_read, copy_write, dirty_pages, file_state, flush, is_dirty_data, log_append, log_flush,
+    lsn_for_file, set_file_sizes, set_log_handle, zero_data,
+};
+use cc_entry::{Answer, Bytes, BytesRoom, CcError, FileId, FileState, Lsn, Reply, Rows};
 use cc_script::Action;
 use cc_traits::Gate;
 use cc_turns::Turns;
 use std::alloc::Global;
 
 /// Serves an action between the two sides of the gate, as the call of its caller with this number.
-pub(crate) fn serve_at<T: Turns, P: Gate>(
+pub fn serve_at<T: Turns, P: Gate>(
     alloc: Global,
     turns: &mut T,
     action: &Action,
     gate: &P,
     number: u32,
+    names: &mut Names,
 ) -> Answer
-    requires { CanServe (T.standing turns.old) action.now }
-    ensures served { (bindings : List Binding) → Served (T.standing turns.old).setup (T.standing turns.old).number
-        bindings action.now result (T.standing turns.old).seen (T.standing turns.new).seen }
-    ensures full { IsFullTold (T.standing turns.new) result }
-    ensures goes_on { WentOn (T.standing turns.old) (T.standing turns.new) }
-    ensures settled { IsSettled (T.standing turns.new) }
+    requires { CanServe (T.standing turns.old) action.now names.old }
+    ensures { LineEnds (T.standing turns.old) (T.standing turns.new) action.now result names.old names.new }
 {
     let caller = turns.me();
     gate.before(caller, number);
-    let answer = serve(alloc, turns, action);
+    let answer = serve(alloc, turns, action, names);
     gate.after(caller, number);
     answer
 }
 
-/// Serves an action, and answers its line. Want of memory is an answer, of a call that was not done: what the answer
-/// of one that was done takes is there before.
-fn serve<T: Turns>(alloc: Global, turns: &mut T, action: &Action) -> Answer
-    requires { CanServe (T.standing turns.old) action.now }
-    ensures served { (bindings : List Binding) → Served (T.standing turns.old).setup (T.standing turns.old).number
-        bindings action.now result (T.standing turns.old).seen (T.standing turns.new).seen }
-    ensures full { IsFullTold (T.standing turns.new) result }
-    ensures goes_on { WentOn (T.standing turns.old) (T.standing turns.new) }
-    ensures settled { IsSettled (T.standing turns.new) }
+// Serves an action, and answers its line. Want of memory is an answer, of a call that was not done: what the answer of
+// one that was done takes is there before.
+fn serve<T: Turns>(alloc: Global, turns: &mut T, action: &Action, names: &mut Names) -> Answer
+    requires { CanServe (T.standing turns.old) action.now names.old }
+    ensures { LineEnds (T.standing turns.old) (T.standing turns.new) action.now result names.old names.new }
 {
     match action {
         Action::CopyRead {
@@ -62,7 +57,42 @@ fn serve<T: Turns>(alloc: Global, turns: &mut T, action: &Action) -> Answer
             wait,
         } => read(alloc, turns, *file, *at, *len, *wait),
         Action::CopyWrite { file, at, bytes } => write(alloc, turns, *file, *at, bytes),
-        Action::Zero { file, span } => zero(alloc, turns, *file, *span),
+        Action::Zero { file, span } => answered(zero_data(alloc, turns, *file, *span)),
+        Action::Map { file, at, len, .. } => map(alloc, turns, names, *file, *at, *len),
+        Action::PinRead {
+            file,
+            at,
+            len,
+            exclusive,
+            ..
+        } => pin(alloc, turns, names, *file, *at, *len, *exclusive),
+        Action::PinMapped { word, exclusive } => pin_map(alloc, turns, names, *word, *exclusive),
+        Action::PreparePin {
+            file,
+            at,
+            len,
+            zero,
+            exclusive,
+            ..
+        } => prepare(alloc, turns, names, *file, *at, *len, *zero, *exclusive),
+        Action::HeldRead { word, at, len } => held_read(alloc, turns, names, *word, *at, *len),
+        Action::PinnedWrite { word, at, bytes } => {
+            held_write(alloc, turns, names, *word, *at, bytes)
+        }
+        Action::SetDirty { word, lsn } => stamp(alloc, turns, names, *word, *lsn),
+        Action::Unpin { word } => release(alloc, turns, names, *word),
+        Action::Repin { word, .. } => hold_again(alloc, turns, names, *word),
+        Action::UnpinRepinned { word, through } => {
+            release_repinned(alloc, turns, names, *word, *through)
+        }
+        Action::MdlRead { file, at, len, .. } => chain(alloc, turns, names, *file, *at, *len),
+        Action::MdlWrite { file, at, len, .. } => {
+            write_chain(alloc, turns, names, *file, *at, *len)
+        }
+        Action::MdlBytes { word, at, len } => chain_read(alloc, turns, names, *word, *at, *len),
+        Action::MdlStore { word, at, bytes } => chain_store(alloc, turns, names, *word, *at, bytes),
+        Action::MdlDone { word } => chain_done(alloc, turns, names, *word),
+        Action::MdlAbort { word } => chain_abort(alloc, turns, names, *word),
         Action::SetSizes {
             file,
             allocation,
@@ -71,6 +101,8 @@ fn serve<T: Turns>(alloc: Global, turns: &mut T, action: &Action) -> Answer
         Action::State { file } => state(file_state(alloc, turns, *file)),
         Action::Flush { file, span } => answered(flush(alloc, turns, *file, *span)),
         Action::IsDirtyData => flag(is_dirty_data(turns)),
+        Action::DirtyPages { handle } => rows(dirty_pages(alloc, turns, *handle)),
+        Action::LsnForFile { file } => lsns(lsn_for_file(alloc, turns, *file)),
         Action::SetLog { file, handle } => answered(set_log_handle(alloc, turns, *file, *handle)),
         Action::Append { handle, bytes } => append(alloc, turns, *handle, bytes),
         Action::LogFlush { handle, lsn } => answered(log_flush(turns, *handle, *lsn)),
@@ -78,7 +110,7 @@ fn serve<T: Turns>(alloc: Global, turns: &mut T, action: &Action) -> Answer
 }
 
 /// The answer of a line whose call answers no value.
-pub(crate) fn answered(ended: Result<(), CcError>) -> Answer
+pub fn answered(ended: Result<(), CcError>) -> Answer
     ensures { result ≡ told_of ended }
 {
     match ended {
@@ -107,6 +139,26 @@ fn flag(ended: Result<bool, CcError>) -> Answer
     }
 }
 
+// The answer of a line that asks for the dirty page table of a log.
+fn rows(ended: Result<Rows, CcError>) -> Answer
+    ensures { result ≡ rows_told ended }
+{
+    match ended {
+        Ok(rows) => Answer::Given(Reply::Rows(rows)),
+        Err(error) => Answer::Refused(error),
+    }
+}
+
+// The answer of a line that asks for the LSNs of a stream.
+fn lsns(ended: Result<Option<(Lsn, Lsn)>, CcError>) -> Answer
+    ensures { result ≡ lsns_told ended }
+{
+    match ended {
+        Ok(lsns) => Answer::Given(Reply::Lsns(lsns)),
+        Err(error) => Answer::Refused(error),
+    }
+}
+
 // A copied read, whose bytes are the answer.
 fn read<T: Turns>(
     alloc: Global,
@@ -122,6 +174,7 @@ fn read<T: Turns>(
     ensures full { IsFullTold (T.standing turns.new) result }
     ensures goes_on { WentOn (T.standing turns.old) (T.standing turns.new) }
     ensures settled { IsSettled (T.standing turns.new) }
+    ensures good { StaysGood (T.standing turns.old) (T.standing turns.new) }
 {
     let Ok(mut out) = vec![in alloc; 0; len as usize] else {
         return Answer::Refused(CcError::NoMemory);
@@ -143,23 +196,12 @@ fn write<T: Turns>(alloc: Global, turns: &mut T, file: FileId, at: u64, bytes: &
     ensures full { IsFullTold (T.standing turns.new) result }
     ensures goes_on { WentOn (T.standing turns.old) (T.standing turns.new) }
     ensures settled { IsSettled (T.standing turns.new) }
+    ensures good { StaysGood (T.standing turns.old) (T.standing turns.new) }
 {
     let Ok(piece) = bytes.to_vec(alloc) else {
         return Answer::Refused(CcError::NoMemory);
     };
     answered(copy_write(alloc, turns, file, at, &piece))
-}
-
-// A zeroing.
-fn zero<T: Turns>(alloc: Global, turns: &mut T, file: FileId, span: Span) -> Answer
-    requires { CanCall (T.standing turns.old) file.stream }
-    ensures answered { CallAnswered (T.standing turns.old).setup (T.standing turns.old).number
-        (call.Zero file span) result (T.standing turns.old).seen (T.standing turns.new).seen }
-    ensures full { IsFullTold (T.standing turns.new) result }
-    ensures goes_on { WentOn (T.standing turns.old) (T.standing turns.new) }
-    ensures settled { IsSettled (T.standing turns.new) }
-{
-    answered(zero_data(alloc, turns, file, span))
 }
 
 // An append to a log.
@@ -170,6 +212,7 @@ fn append<T: Turns>(alloc: Global, turns: &mut T, handle: u8, bytes: &Bytes) -> 
     ensures full { IsFullTold (T.standing turns.new) result }
     ensures goes_on { WentOn (T.standing turns.old) (T.standing turns.new) }
     ensures settled { IsSettled (T.standing turns.new) }
+    ensures good { StaysGood (T.standing turns.old) (T.standing turns.new) }
 {
     let Ok(piece) = bytes.to_vec(alloc) else {
         return Answer::Refused(CcError::NoMemory);

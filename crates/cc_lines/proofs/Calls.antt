@@ -11,7 +11,7 @@ use Rattle.cc_effects.specs.Refusals.{may_refuse, may_want}
 use Rattle.cc_effects.proofs.Stretches.{some-begin}
 
 -- a call that may be refused so, for which nothing was placed
-unplaced : (me : ℕ) (it : Call) (past : List Entry) → may_refuse it error.NoMemory ≡ true → may_want it past ≡ true → IsUnplaced me it error.NoMemory past past
+pub unplaced : (me : ℕ) (it : Call) (past : List Entry) → may_refuse it error.NoMemory ≡ true → may_want it past ≡ true → IsUnplaced me it error.NoMemory past past
 unplaced me it past listed wants = record {
   during = [];
   grew = refl;

@@ -1,0 +1,12 @@
+-- Lemmas, each before those that cite it.
+pub mod Calls
+pub mod KeptWords
+pub mod WordLines
+pub mod WordChanges
+pub mod HoldLines
+pub mod UseLines
+pub mod EndLines
+pub mod PinLines
+pub mod PlainLines
+pub mod HeldReads
+pub mod ServeLines

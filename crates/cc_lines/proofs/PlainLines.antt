@@ -1,0 +1,140 @@
+-- Lines that make a call on no hold that they name: that they end as a line is to.
+use Rattle.std.specs.Prelude.{◌≡◌, ℕ, Result, Ok, Err, List, refl}
+use Rattle.std.specs.declared.option.Option.{Option}
+use Rattle.std.specs.declared.option.Option.TheVariants.{Some, None}
+use Rattle.std.proofs.Common.{sym, subst}
+use Rattle.cc_entry.specs.declared.answer.Answer.{Answer}
+use Rattle.cc_entry.specs.declared.answer.Answer.TheVariants as answer
+use Rattle.cc_entry.specs.declared.call.Call.{Call}
+use Rattle.cc_entry.specs.declared.call.Call.TheVariants as call
+use Rattle.cc_entry.specs.declared.entry.Entry.{Entry}
+use Rattle.cc_entry.specs.declared.error.CcError.{CcError}
+use Rattle.cc_script.specs.HoldWords.{bound_after}
+use Rattle.cc_script.specs.declared.bound.Bound.{Bound}
+use Rattle.cc_script.specs.declared.script.Action.{Action}
+use Rattle.cc_script.specs.declared.script.Action.TheVariants as action
+use Rattle.cc_model.specs.Good.{IsGood}
+use Rattle.cc_model.specs.Setup.{Setup}
+use Rattle.cc_effects.specs.LogCalls.{LogFlushLeft}
+use Rattle.cc_own.specs.Own.{IsUnchanged}
+use Rattle.cc_own.proofs.VerbsKeep.{append-unchanged, log_flush-unchanged}
+use Rattle.cc_pieces.specs.Answered.{AppendAnswered, CallAnswered, LogFlushAnswered}
+use Rattle.cc_pieces.specs.Bindings.{Binding}
+use Rattle.cc_pieces.specs.Served.{Served, bindings_after}
+use Rattle.cc_calls.specs.Pages.{WentOn}
+use Rattle.cc_turns.specs.Standing.{Standing}
+use Rattle.cc_visits.specs.Hands.{IsSettled}
+use Rattle.cc_lines.specs.Holds.{NamesState}
+use Rattle.cc_lines.specs.Line.{IsFullTold, LineEnds, StandFor, told_of}
+use Rattle.cc_lines.proofs.WordLines.{answered-unchanged, stand-on}
+
+-- the call of an action that is served by one call on no hold
+abbrev pub plain_call : Action → Option Call
+plain_call (action.CopyRead file at len wait) = Some (call.CopyRead file at len wait)
+plain_call (action.CopyWrite file at bytes) = Some (call.CopyWrite file at bytes)
+plain_call (action.Zero file span) = Some (call.Zero file span)
+plain_call (action.SetSizes file allocation size) = Some (call.SetSizes file allocation size)
+plain_call (action.State file) = Some (call.State file)
+plain_call (action.Flush file span) = Some (call.Flush file span)
+plain_call action.IsDirtyData = Some call.IsDirtyData
+plain_call (action.DirtyPages handle) = Some (call.DirtyPages handle)
+plain_call (action.LsnForFile file) = Some (call.LsnForFile file)
+plain_call (action.SetLog file handle) = Some (call.SetLog file handle)
+plain_call other = None
+
+some-same : (a b : Call) → Some a ≡ Some b → a ≡ b
+some-same a b is = cc is
+
+module _ (u : Setup) (me : ℕ) (it : Call) (told : Answer) (old new : List Entry) (left : CallAnswered u me it told old new) where
+  is-call : (one : Call) → Some one ≡ Some it → CallAnswered u me one told old new
+  is-call one is = subst (λ c. CallAnswered u me c told old new) (sym (some-same one it is)) left
+
+  pub plain-unchanged : (asked : Action) → plain_call asked ≡ Some it → (id : ℕ) → IsUnchanged me id old new
+  plain-unchanged (action.CopyRead file at len wait) is id = answered-unchanged u me id (call.CopyRead file at len wait) told old new (is-call _ is) refl
+  plain-unchanged (action.CopyWrite file at bytes) is id = answered-unchanged u me id (call.CopyWrite file at bytes) told old new (is-call _ is) refl
+  plain-unchanged (action.Zero file span) is id = answered-unchanged u me id (call.Zero file span) told old new (is-call _ is) refl
+  plain-unchanged (action.SetSizes file allocation size) is id = answered-unchanged u me id (call.SetSizes file allocation size) told old new (is-call _ is) refl
+  plain-unchanged (action.State file) is id = answered-unchanged u me id (call.State file) told old new (is-call _ is) refl
+  plain-unchanged (action.Flush file span) is id = answered-unchanged u me id (call.Flush file span) told old new (is-call _ is) refl
+  plain-unchanged action.IsDirtyData is id = answered-unchanged u me id call.IsDirtyData told old new (is-call _ is) refl
+  plain-unchanged (action.DirtyPages handle) is id = answered-unchanged u me id (call.DirtyPages handle) told old new (is-call _ is) refl
+  plain-unchanged (action.LsnForFile file) is id = answered-unchanged u me id (call.LsnForFile file) told old new (is-call _ is) refl
+  plain-unchanged (action.SetLog file handle) is id = answered-unchanged u me id (call.SetLog file handle) told old new (is-call _ is) refl
+  plain-unchanged other is id = absurd (cc is)
+
+  pub plain-served : (bindings : List Binding) (asked : Action) → plain_call asked ≡ Some it → Served u me bindings asked told old new
+  plain-served bindings (action.CopyRead file at len wait) is = is-call _ is
+  plain-served bindings (action.CopyWrite file at bytes) is = is-call _ is
+  plain-served bindings (action.Zero file span) is = is-call _ is
+  plain-served bindings (action.SetSizes file allocation size) is = is-call _ is
+  plain-served bindings (action.State file) is = is-call _ is
+  plain-served bindings (action.Flush file span) is = is-call _ is
+  plain-served bindings action.IsDirtyData is = is-call _ is
+  plain-served bindings (action.DirtyPages handle) is = is-call _ is
+  plain-served bindings (action.LsnForFile file) is = is-call _ is
+  plain-served bindings (action.SetLog file handle) is = is-call _ is
+  plain-served bindings other is = absurd (cc is)
+
+-- such a line, a log append and a log flush leave the words as they were
+plain-stand : (new : Standing) (asked : Action) (it : Call) (told : Answer) (bounds : List Bound) (bindings : List Binding) (names : NamesState) → plain_call asked ≡ Some it → StandFor new bounds bindings names → StandFor new (bound_after asked bounds) (bindings_after asked told bindings) names
+plain-stand new (action.CopyRead file at len wait) it told bounds bindings names is stand = stand
+plain-stand new (action.CopyWrite file at bytes) it told bounds bindings names is stand = stand
+plain-stand new (action.Zero file span) it told bounds bindings names is stand = stand
+plain-stand new (action.SetSizes file allocation size) it told bounds bindings names is stand = stand
+plain-stand new (action.State file) it told bounds bindings names is stand = stand
+plain-stand new (action.Flush file span) it told bounds bindings names is stand = stand
+plain-stand new action.IsDirtyData it told bounds bindings names is stand = stand
+plain-stand new (action.DirtyPages handle) it told bounds bindings names is stand = stand
+plain-stand new (action.LsnForFile file) it told bounds bindings names is stand = stand
+plain-stand new (action.SetLog file handle) it told bounds bindings names is stand = stand
+plain-stand new other it told bounds bindings names is stand = absurd (cc is)
+
+module _ (old new : Standing) (told : Answer) (names : NamesState) (full : IsFullTold new told) (went : WentOn old new) (settled : IsSettled new) (good : IsGood old.setup new.seen) where
+  pub plain-line : (asked : Action) (it : Call) → plain_call asked ≡ Some it → CallAnswered old.setup old.number it told old.seen new.seen → LineEnds old new asked told names names
+  plain-line asked it is left = record {
+    served = λ bounds bindings stand right. (
+      plain-served old.setup old.number it told old.seen new.seen left bindings asked is,
+      plain-stand new asked it told bounds bindings names is
+          (stand-on old new went good bounds bindings names (plain-unchanged old.setup old.number it told old.seen new.seen left asked is) stand),
+    );
+    full = full;
+    goes_on = went;
+    settled = settled;
+    good = good;
+    room = refl;
+  }
+
+  pub append-line : (handle : ℕ) (bytes : List ℕ) → AppendAnswered old.setup old.number handle bytes told old.seen new.seen → LineEnds old new (action.Append handle bytes) told names names
+  append-line handle bytes left = record {
+    served = λ bounds bindings stand right. (left, stand-on old new went good bounds bindings names (unchanged left) stand);
+    full = full;
+    goes_on = went;
+    settled = settled;
+    good = good;
+    room = refl;
+  }
+    where
+      by : (told : Answer) → AppendAnswered old.setup old.number handle bytes told old.seen new.seen → (id : ℕ) → IsUnchanged old.number id old.seen new.seen
+      by (answer.NewLsn lsn) left id = append-unchanged old.setup old.number id handle bytes (Ok lsn) old.seen new.seen left
+      by (answer.Refused e) left id = append-unchanged old.setup old.number id handle bytes (Err e) old.seen new.seen left
+      by other left id = absurd left
+
+      unchanged : AppendAnswered old.setup old.number handle bytes told old.seen new.seen → (id : ℕ) → IsUnchanged old.number id old.seen new.seen
+      unchanged left = by told left
+
+  pub log_flush-line : (handle lsn : ℕ) (ended : Result (Unit {0}) CcError) → told ≡ told_of ended → LogFlushLeft {T = Unit {0}} old.setup old.number handle lsn ended old.seen new.seen → LineEnds old new (action.LogFlush handle lsn) told names names
+  log_flush-line handle lsn ended is left = record {
+    served = λ bounds bindings stand right. (
+      subst (λ t. LogFlushAnswered old.setup old.number handle lsn t old.seen new.seen) (sym is) (by ended left),
+      stand-on old new went good bounds bindings names (λ id. log_flush-unchanged old.setup old.number id handle lsn ended old.seen new.seen left) stand,
+    );
+    full = full;
+    goes_on = went;
+    settled = settled;
+    good = good;
+    room = refl;
+  }
+    where
+      by : (ended : Result (Unit {0}) CcError) → LogFlushLeft {T = Unit {0}} old.setup old.number handle lsn ended old.seen new.seen → LogFlushAnswered old.setup old.number handle lsn (told_of ended) old.seen new.seen
+      by (Ok done) left = left
+      by (Err e) left = left

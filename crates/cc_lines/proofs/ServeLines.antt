@@ -1,0 +1,168 @@
+-- How a line that is served goes by its action and its answer: what its call asks, and that it ends as a line is to.
+use Rattle.std.specs.Prelude.{◌≡◌, ℕ, ◌<◌, ◌≤◌, Bool, Result, Ok, Err, List, length}
+use Rattle.std.specs.declared.option.Option.{Option}
+use Rattle.std.specs.declared.option.Option.TheVariants.{Some}
+use Rattle.std.proofs.Common.{sym, ap, subst, ◌∙◌, arith}
+use Rattle.cc_entry.specs.Place.{File, Range}
+use Rattle.cc_entry.specs.declared.answer.Answer.{Answer}
+use Rattle.cc_entry.specs.declared.call.Call.{Call}
+use Rattle.cc_entry.specs.declared.call.Call.TheVariants as call
+use Rattle.cc_entry.specs.declared.entry.Entry.{Entry}
+use Rattle.cc_entry.specs.declared.error.CcError.{CcError}
+use Rattle.cc_entry.specs.declared.place.DirtyRow.{DirtyRow}
+use Rattle.cc_entry.specs.declared.place.FileState.{FileState}
+use Rattle.cc_script.specs.declared.script.Action.{Action}
+use Rattle.cc_script.specs.declared.script.Action.TheVariants as action
+use Rattle.cc_model.specs.Good.{IsGood}
+use Rattle.cc_model.specs.Setup.{Setup}
+use Rattle.cc_effects.specs.Calls.{CallLeft}
+use Rattle.cc_effects.specs.LogCalls.{LogFlushLeft}
+use Rattle.cc_pieces.specs.Answered.{CallAnswered}
+use Rattle.cc_step.specs.Step.{most_asked}
+use Rattle.cc_calls.specs.Answers.{CallEnds, CanCall, IsFree, flag_outcome, lsns_outcome, outcome_of, rows_outcome, state_outcome}
+use Rattle.cc_calls.specs.Flushes.{FlushEnds}
+use Rattle.cc_calls.specs.Logs.{LogEnds}
+use Rattle.cc_calls.specs.Pages.{ChangeEnds}
+use Rattle.cc_turns.specs.Standing.{Standing}
+use Rattle.cc_visits.specs.Ways.{IsFull}
+use Rattle.cc_lines.specs.Holds.{NamesState}
+use Rattle.cc_lines.specs.Line.{CanServe, IsFullTold, LineEnds, flag_told, lsns_told, rows_told, state_told, told_of}
+use Rattle.cc_lines.proofs.WordLines.{full-told, went-on}
+use Rattle.cc_lines.proofs.UseLines.{told-answered, told-full}
+use Rattle.cc_lines.proofs.PlainLines.{log_flush-line, plain-line, plain_call}
+
+-- ---- the same line by another name of its answer, or of its action
+
+pub told-as : (old new : Standing) (asked : Action) (told it : Answer) (was now : NamesState) → told ≡ it → LineEnds old new asked it was now → LineEnds old new asked told was now
+told-as old new asked told it was now is ends = subst (λ t. LineEnds old new asked t was now) (sym is) ends
+
+pub asked-as : (old new : Standing) (asked it : Action) (told : Answer) (was now : NamesState) → asked ≡ it → LineEnds old new it told was now → LineEnds old new asked told was now
+asked-as old new asked it told was now is ends = subst (λ a. LineEnds old new a told was now) (sym is) ends
+
+pub can-as : (w : Standing) (asked it : Action) (names : NamesState) → asked ≡ it → CanServe w asked names → CanServe w it names
+can-as w asked it names is can = subst (λ a. CanServe w a names) is can
+
+-- what a call on a stream asks, and one on none
+pub may-on : (w : Standing) (asked : Action) (names : NamesState) (stream : ℕ) → CanServe w asked names → stream < w.streams → CanCall w stream
+may-on w asked names stream can known = record { known = known; free = can.free; none = can.none; settled = can.settled }
+
+pub may-free : (w : Standing) (asked : Action) (names : NamesState) → CanServe w asked names → IsFree w
+may-free w asked names can = record { free = can.free; none = can.none; settled = can.settled }
+
+-- ---- a line that binds a word binds the next one
+
+module _ (w : Standing) (asked : Action) (names : NamesState) (can : CanServe w asked names) where
+  pub next-map : (file : File) (at len word : ℕ) → asked ≡ action.Map file at len word → asked ≡ action.Map file at len (length names.named)
+  next-map file at len word is =
+      let there = can-as w asked (action.Map file at len word) names is can in
+      is ∙ ap (λ n. action.Map file at len n) (there.right ∙ sym there.stand.counted)
+
+  pub next-pin : (file : File) (at len word : ℕ) (exclusive : Bool) → asked ≡ action.PinRead file at len word exclusive → asked ≡ action.PinRead file at len (length names.named) exclusive
+  next-pin file at len word exclusive is =
+      let there = can-as w asked (action.PinRead file at len word exclusive) names is can in
+      is ∙ ap (λ n. action.PinRead file at len n exclusive) (there.right ∙ sym there.stand.counted)
+
+  pub next-prepare : (file : File) (at len word : ℕ) (zero exclusive : Bool) → asked ≡ action.PreparePin file at len word zero exclusive → asked ≡ action.PreparePin file at len (length names.named) zero exclusive
+  next-prepare file at len word zero exclusive is =
+      let there = can-as w asked (action.PreparePin file at len word zero exclusive) names is can in
+      is ∙ ap (λ n. action.PreparePin file at len n zero exclusive) (there.right ∙ sym there.stand.counted)
+
+  pub next-chain : (file : File) (at len word : ℕ) → asked ≡ action.MdlRead file at len word → asked ≡ action.MdlRead file at len (length names.named)
+  next-chain file at len word is =
+      let there = can-as w asked (action.MdlRead file at len word) names is can in
+      is ∙ ap (λ n. action.MdlRead file at len n) (there.right ∙ sym there.stand.counted)
+
+  pub next-write_chain : (file : File) (at len word : ℕ) → asked ≡ action.MdlWrite file at len word → asked ≡ action.MdlWrite file at len (length names.named)
+  next-write_chain file at len word is =
+      let there = can-as w asked (action.MdlWrite file at len word) names is can in
+      is ∙ ap (λ n. action.MdlWrite file at len n) (there.right ∙ sym there.stand.counted)
+
+  pub next-repin : (word made : ℕ) → asked ≡ action.Repin word made → asked ≡ action.Repin word (length names.named)
+  next-repin word made is =
+      let there = can-as w asked (action.Repin word made) names is can in
+      is ∙ ap (λ n. action.Repin word n) (there.right.1 ∙ sym there.stand.counted)
+
+-- ---- a line that makes a call on no hold
+
+state-answered : (u : Setup) (me : ℕ) (it : Call) (ended : Result FileState CcError) (old new : List Entry) → CallLeft u me it (state_outcome ended) old new → CallAnswered u me it (state_told ended) old new
+state-answered u me it (Ok state) old new left = left
+state-answered u me it (Err e) old new left = left
+
+flag-answered : (u : Setup) (me : ℕ) (it : Call) (ended : Result Bool CcError) (old new : List Entry) → CallLeft u me it (flag_outcome ended) old new → CallAnswered u me it (flag_told ended) old new
+flag-answered u me it (Ok flag) old new left = left
+flag-answered u me it (Err e) old new left = left
+
+rows-answered : (u : Setup) (me : ℕ) (it : Call) (ended : Result (List DirtyRow) CcError) (old new : List Entry) → CallLeft u me it (rows_outcome ended) old new → CallAnswered u me it (rows_told ended) old new
+rows-answered u me it (Ok rows) old new left = left
+rows-answered u me it (Err e) old new left = left
+
+lsns-answered : (u : Setup) (me : ℕ) (it : Call) (ended : Result (Option (ℕ × ℕ)) CcError) (old new : List Entry) → CallLeft u me it (lsns_outcome ended) old new → CallAnswered u me it (lsns_told ended) old new
+lsns-answered u me it (Ok lsns) old new left = left
+lsns-answered u me it (Err e) old new left = left
+
+state-full : (n : ℕ) (w : Standing) (ended : Result FileState CcError) → n ≤ 3 → IsFull n w ended → IsFullTold w (state_told ended)
+state-full n w (Ok state) less full = tt
+state-full n w (Err e) less full = full-told n w e less full
+
+flag-full : (n : ℕ) (w : Standing) (ended : Result Bool CcError) → n ≤ 3 → IsFull n w ended → IsFullTold w (flag_told ended)
+flag-full n w (Ok flag) less full = tt
+flag-full n w (Err e) less full = full-told n w e less full
+
+rows-full : (n : ℕ) (w : Standing) (ended : Result (List DirtyRow) CcError) → n ≤ 3 → IsFull n w ended → IsFullTold w (rows_told ended)
+rows-full n w (Ok rows) less full = tt
+rows-full n w (Err e) less full = full-told n w e less full
+
+lsns-full : (n : ℕ) (w : Standing) (ended : Result (Option (ℕ × ℕ)) CcError) → n ≤ 3 → IsFull n w ended → IsFullTold w (lsns_told ended)
+lsns-full n w (Ok lsns) less full = tt
+lsns-full n w (Err e) less full = full-told n w e less full
+
+module _ (old new : Standing) (names : NamesState) (asked : Action) (told : Answer) (good : IsGood old.setup old.seen) where
+  -- a change of bytes that is not through a hold
+  pub change-line : (it : Call) (ended : Result (Unit {0}) CcError) → plain_call asked ≡ Some it → told ≡ told_of ended → ChangeEnds old new it ended → LineEnds old new asked told names names
+  change-line it ended is tells ends =
+      told-as old new asked told (told_of ended) names names tells
+      (plain-line old new (told_of ended) names (told-full 2 new ended (omega arith) ends.full) ends.pages.goes_on ends.pages.settled (ends.pages.good good) asked it is
+      (told-answered old.setup old.number it ended old.seen new.seen ends.pages.left))
+
+  -- a call that sets something
+  pub set-line : (it : Call) (ended : Result (Unit {0}) CcError) → plain_call asked ≡ Some it → most_asked it ≤ 3 → told ≡ told_of ended → CallEnds outcome_of old new it ended → LineEnds old new asked told names names
+  set-line it ended is less tells ends =
+      told-as old new asked told (told_of ended) names names tells
+      (plain-line old new (told_of ended) names (told-full (most_asked it) new ended less ends.full) (went-on old new ends.goes_on) ends.settled (ends.good good) asked it is
+      (told-answered old.setup old.number it ended old.seen new.seen ends.left))
+
+  pub flush-line : (file : File) (span : Option Range) (ended : Result (Unit {0}) CcError) → plain_call asked ≡ Some (call.Flush file span) → told ≡ told_of ended → FlushEnds old new file span ended → LineEnds old new asked told names names
+  flush-line file span ended is tells ends =
+      told-as old new asked told (told_of ended) names names tells
+      (plain-line old new (told_of ended) names (told-full 2 new ended (omega arith) ends.full) ends.goes_on ends.settled ends.good asked (call.Flush file span) is
+      (told-answered old.setup old.number (call.Flush file span) ended old.seen new.seen ends.left))
+
+  -- the questions
+  pub state-line : (it : Call) (ended : Result FileState CcError) → plain_call asked ≡ Some it → most_asked it ≤ 3 → told ≡ state_told ended → CallEnds state_outcome old new it ended → LineEnds old new asked told names names
+  state-line it ended is less tells ends =
+      told-as old new asked told (state_told ended) names names tells
+      (plain-line old new (state_told ended) names (state-full (most_asked it) new ended less ends.full) (went-on old new ends.goes_on) ends.settled (ends.good good) asked it is
+      (state-answered old.setup old.number it ended old.seen new.seen ends.left))
+
+  pub flag-line : (it : Call) (ended : Result Bool CcError) → plain_call asked ≡ Some it → most_asked it ≤ 3 → told ≡ flag_told ended → CallEnds flag_outcome old new it ended → LineEnds old new asked told names names
+  flag-line it ended is less tells ends =
+      told-as old new asked told (flag_told ended) names names tells
+      (plain-line old new (flag_told ended) names (flag-full (most_asked it) new ended less ends.full) (went-on old new ends.goes_on) ends.settled (ends.good good) asked it is
+      (flag-answered old.setup old.number it ended old.seen new.seen ends.left))
+
+  pub rows-line : (it : Call) (ended : Result (List DirtyRow) CcError) → plain_call asked ≡ Some it → most_asked it ≤ 3 → told ≡ rows_told ended → CallEnds rows_outcome old new it ended → LineEnds old new asked told names names
+  rows-line it ended is less tells ends =
+      told-as old new asked told (rows_told ended) names names tells
+      (plain-line old new (rows_told ended) names (rows-full (most_asked it) new ended less ends.full) (went-on old new ends.goes_on) ends.settled (ends.good good) asked it is
+      (rows-answered old.setup old.number it ended old.seen new.seen ends.left))
+
+  pub lsns-line : (it : Call) (ended : Result (Option (ℕ × ℕ)) CcError) → plain_call asked ≡ Some it → most_asked it ≤ 3 → told ≡ lsns_told ended → CallEnds lsns_outcome old new it ended → LineEnds old new asked told names names
+  lsns-line it ended is less tells ends =
+      told-as old new asked told (lsns_told ended) names names tells
+      (plain-line old new (lsns_told ended) names (lsns-full (most_asked it) new ended less ends.full) (went-on old new ends.goes_on) ends.settled (ends.good good) asked it is
+      (lsns-answered old.setup old.number it ended old.seen new.seen ends.left))
+
+  -- a flush of a log
+  pub flushed-line : (handle lsn : ℕ) (ended : Result (Unit {0}) CcError) → told ≡ told_of ended → LogEnds old new (LogFlushLeft old.setup old.number handle lsn) ended → LineEnds old new (action.LogFlush handle lsn) told names names
+  flushed-line handle lsn ended tells ends =
+      log_flush-line old new told names (subst (IsFullTold new) (sym tells) (told-full 1 new ended (omega arith) ends.full)) (went-on old new ends.goes_on) ends.settled (ends.good good) handle lsn ended tells ends.left

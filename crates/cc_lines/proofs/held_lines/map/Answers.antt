@@ -1,0 +1,24 @@
+use Rattle.std.specs.Prelude.{Ok, Err, refl}
+use Rattle.cc_lines.specs.declared.holds.Named.TheVariants as named
+use Rattle.cc_lines.proofs.HoldLines.{map-ends}
+use Rattle.cc_lines.proofs.ServeLines.{may-on, told-as}
+use Rattle.cc_lines.proofs.held_lines.map.Goals as goal
+
+pub map_data-requires-clause-can : goal.map_data-requires-clause-can
+map_data-requires-clause-can g c κs within = may-on (g.T.Turns.standing c.args.turns.now) _ _ c.args.file.stream c.requires c.requires.servable
+
+pub bind-requires : goal.bind-requires
+bind-requires g c = c.requires.room refl
+
+pub returns-in-Ok : goal.returns-in-Ok
+returns-in-Ok g c =
+    told-as _ _ _ _ _ _ _ c.bind.ensures.told
+    (map-ends _ _ _ _ _ _ _ (Ok (named.Map c.in-Ok.hold)) c.requires (rw c.in-Ok.is at c.map_data.ensures.ends) (refl, refl) c.bind.ensures.bound)
+
+pub bind-requires-in-Err : goal.bind-requires-in-Err
+bind-requires-in-Err g c = c.requires.room refl
+
+pub returns-in-Err : goal.returns-in-Err
+returns-in-Err g c =
+    told-as _ _ _ _ _ _ _ c.bind-in-Err.ensures.told
+    (map-ends _ _ _ _ _ _ _ (Err c.in-Err.error) c.requires (rw c.in-Err.is at c.map_data.ensures.ends) tt c.bind-in-Err.ensures.bound)

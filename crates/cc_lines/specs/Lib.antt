@@ -1,0 +1,3 @@
+-- What the contracts cite.
+pub mod Holds
+pub mod Line

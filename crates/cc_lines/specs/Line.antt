@@ -1,0 +1,127 @@
+-- What a line of a script asks, and what it leaves.
+use Rattle.std.specs.Prelude.{◌≡◌, ℕ, Bool, ◌<◌, List, Result, Ok, Err}
+use Rattle.std.specs.declared.option.Option.{Option}
+use Rattle.cc_entry.specs.declared.place.DirtyRow.{DirtyRow}
+use Rattle.cc_entry.specs.declared.place.FileState.{FileState}
+use Rattle.cc_entry.specs.declared.answer.Answer.{Answer}
+use Rattle.cc_entry.specs.declared.answer.Answer.TheVariants as answer
+use Rattle.cc_entry.specs.declared.error.CcError.{CcError}
+use Rattle.cc_entry.specs.declared.reply.Reply.TheVariants as reply
+use Rattle.cc_entry.specs.declared.call.Call.{Call}
+use Rattle.cc_entry.specs.declared.hold.HoldKind.{HoldKind}
+use Rattle.cc_pieces.specs.Answered.{CallAnswered}
+use Rattle.cc_script.specs.declared.script.Action.{Action}
+use Rattle.cc_script.specs.declared.script.Action.TheVariants as action
+use Rattle.cc_script.specs.HoldWords.{UsesRight, bound_after}
+use Rattle.cc_script.specs.declared.bound.Bound.{Bound}
+use Rattle.cc_model.specs.Good.{IsGood}
+use Rattle.cc_pieces.specs.Bindings.{Binding}
+use Rattle.cc_pieces.specs.Served.{Served, bindings_after}
+use Rattle.cc_turns.specs.Standing.{Standing, nothing}
+use Rattle.cc_visits.specs.Hands.{IsSettled}
+use Rattle.cc_visits.specs.Ways.{IsFullError}
+use Rattle.cc_calls.specs.Pages.{StaysGood, WentOn}
+use Rattle.cc_pin.specs.Held.{IsHolding}
+use Rattle.cc_pin.specs.declared.held.Held.{Held}
+use Rattle.cc_lines.specs.Holds.{NamesState, NamesStand, HasRoom}
+
+-- an action on one of so many streams, or on none; one on a hold names no stream
+abbrev pub IsServable : ℕ → Action → Type 0
+IsServable streams (action.CopyRead file at len wait) = file.stream < streams
+IsServable streams (action.CopyWrite file at bytes) = file.stream < streams
+IsServable streams (action.Zero file span) = file.stream < streams
+IsServable streams (action.Map file at len word) = file.stream < streams
+IsServable streams (action.PinRead file at len word exclusive) = file.stream < streams
+IsServable streams (action.PinMapped word exclusive) = Unit {0}
+IsServable streams (action.PreparePin file at len word zero exclusive) = file.stream < streams
+IsServable streams (action.HeldRead word at len) = Unit {0}
+IsServable streams (action.PinnedWrite word at bytes) = Unit {0}
+IsServable streams (action.SetDirty word lsn) = Unit {0}
+IsServable streams (action.Unpin word) = Unit {0}
+IsServable streams (action.Repin word made) = Unit {0}
+IsServable streams (action.UnpinRepinned word through) = Unit {0}
+IsServable streams (action.MdlRead file at len word) = file.stream < streams
+IsServable streams (action.MdlWrite file at len word) = file.stream < streams
+IsServable streams (action.MdlBytes word at len) = Unit {0}
+IsServable streams (action.MdlStore word at bytes) = Unit {0}
+IsServable streams (action.MdlDone word) = Unit {0}
+IsServable streams (action.MdlAbort word) = Unit {0}
+IsServable streams (action.SetSizes file allocation size) = file.stream < streams
+IsServable streams (action.State file) = file.stream < streams
+IsServable streams (action.Flush file span) = file.stream < streams
+IsServable streams action.IsDirtyData = Unit {0}
+IsServable streams (action.DirtyPages handle) = Unit {0}
+IsServable streams (action.LsnForFile file) = file.stream < streams
+IsServable streams (action.SetLog file handle) = file.stream < streams
+IsServable streams (action.Append handle bytes) = Unit {0}
+IsServable streams (action.LogFlush handle lsn) = Unit {0}
+
+-- What is kept of the words of a pass stands for what it has seen.
+abbrev pub StandFor : Standing → List Bound → List Binding → NamesState → Type 0
+StandFor w bounds bindings names = NamesStand w.streams w.number w.seen bounds bindings names.named
+
+-- A pass may make the call of an action: it holds no turn, has nothing under way, and owes no end of a noncached write;
+-- what it has seen is good; and the action uses right the words that are kept for it, with room for the one that it
+-- binds.
+pub record CanServe (w : Standing) (asked : Action) (names : NamesState) : Type 0 where
+  pub servable : IsServable w.streams asked
+  pub free : w.held ≡ nothing
+  pub none : w.in_flight ≡ 0
+  pub settled : IsSettled w
+  pub good : IsGood w.setup w.seen
+  pub bounds : List Bound
+  pub bindings : List Binding
+  pub stand : StandFor w bounds bindings names
+  pub right : UsesRight bounds asked
+  pub room : HasRoom asked names
+
+-- an answer, which is none of a noncached call, says that the journal is full only where it is
+abbrev pub IsFullTold : Standing → Answer → Type 0
+IsFullTold w (answer.Refused e) = IsFullError 3 w e
+IsFullTold w (answer.NcRefused done cause) = ⊥
+IsFullTold w other = Unit {0}
+
+-- A line was served: it left what explains its answer, over what the caller's words name, and what is kept of them
+-- stands for it then; a journal that is full is full; the pass goes on as it stood and may call again; and what it has
+-- seen is good.
+pub record LineEnds (old new : Standing) (asked : Action) (told : Answer) (was now : NamesState) : Type 0 where
+  pub served : (bounds : List Bound) (bindings : List Binding) → StandFor old bounds bindings was → UsesRight bounds asked →
+      Served old.setup old.number bindings asked told old.seen new.seen
+      × StandFor new (bound_after asked bounds) (bindings_after asked told bindings) now
+  pub full : IsFullTold new told
+  pub goes_on : WentOn old new
+  pub settled : IsSettled new
+  pub good : IsGood old.setup new.seen
+  pub room : now.room ≡ was.room
+
+-- the answer of a line whose call answers no value
+abbrev pub told_of : Result (Unit {0}) CcError → Answer
+told_of (Ok done) = answer.Given reply.Unit
+told_of (Err e) = answer.Refused e
+
+-- the answer of a line that asks for the state of a stream, and for a flag
+abbrev pub state_told : Result FileState CcError → Answer
+state_told (Ok state) = answer.Given (reply.State state)
+state_told (Err e) = answer.Refused e
+
+abbrev pub flag_told : Result Bool CcError → Answer
+flag_told (Ok flag) = answer.Given (reply.Flag flag)
+flag_told (Err e) = answer.Refused e
+
+-- the answer of a line that asks for rows of the dirty page table, or for LSNs
+abbrev pub rows_told : Result (List DirtyRow) CcError → Answer
+rows_told (Ok rows) = answer.Given (reply.Rows rows)
+rows_told (Err e) = answer.Refused e
+
+abbrev pub lsns_told : Result (Option (ℕ × ℕ)) CcError → Answer
+lsns_told (Ok lsns) = answer.Given (reply.Lsns lsns)
+lsns_told (Err e) = answer.Refused e
+
+-- A read through a hold was answered so, and the pass has the hold still.
+pub record HeldReadTold (old new : Standing) (of_kind : HoldKind → Bool) (held : Held) (it : Call) (told : Answer) : Type 0 where
+  pub answered : CallAnswered old.setup old.number it told old.seen new.seen
+  pub full : IsFullTold new told
+  pub goes_on : WentOn old new
+  pub settled : IsSettled new
+  pub good : StaysGood old new
+  pub holding : IsGood old.setup old.seen → IsHolding new of_kind held

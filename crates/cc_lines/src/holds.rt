@@ -1,0 +1,103 @@
+//! The holds that the words of a caller name.
+
+ghost use Rattle.std.specs.Prelude.{◌≡◌, ◌<◌, ◌≤◌, ◌++◌, ◌∷◌, [], Option, Some, None, IfOk, length, slice_get, slice_set};
+ghost use Rattle.std.specs.Option.{option_copied};
+ghost use Rattle.cc_lines.specs.Holds.{named_at};
+
+use cc_entry::NoMemory;
+use cc_mdl::{ReadChain, WriteChain};
+use cc_pin::{Hold, Mapped, Pinned, Repinned};
+use cc_script::HoldWord;
+use std::alloc::Global;
+use std::marker::Model;
+use std::mem::replace;
+
+/// What a word of a caller names.
+#[derive(Debug, Drop)]
+pub enum Named {
+    Map(Mapped),
+    Pin(Pinned),
+    Repin(Repinned),
+    ReadChain(ReadChain),
+    WriteChain(WriteChain),
+}
+
+impl Named {
+    ghost use Rattle.std.specs.Prelude.{◌≡◌};
+    ghost use Rattle.cc_lines.specs.Holds.{held_of};
+
+    /// The id of the hold.
+    pub fn id(&self) -> u64
+        ensures { result ≡ (held_of self.now).id }
+    {
+        match self {
+            Named::Map(hold) => hold.id(),
+            Named::Pin(hold) => hold.id(),
+            Named::Repin(hold) => hold.id(),
+            Named::ReadChain(hold) => hold.id(),
+            Named::WriteChain(hold) => hold.id(),
+        }
+    }
+}
+
+/// What the words of a caller name, in the order in which its lines bind them: nothing where the hold was not made, or
+/// was ended.
+#[derive(Debug, Drop)]
+pub struct Names {
+    named: Vec<Option<Named>>,
+}
+
+impl Model for Names {
+    ghost use Rattle.std.specs.Prelude.{vec_capacity};
+    ghost use Rattle.cc_lines.specs.Holds.{NamesState};
+
+    ghost Value = { NamesState };
+
+    ghost view = { λ n. record { named = n.named.items; room = vec_capacity n.named } };
+}
+
+impl Names {
+    /// No words yet, with room for so many.
+    pub fn with_room(alloc: Global, words: usize) -> Result<Names, NoMemory>
+        ensures { IfOk result (λ names. (names.named ≡ []) × (words ≤ names.room)) }
+    {
+        Ok(Names {
+            named: Vec::with_capacity(alloc, words)?,
+        })
+    }
+
+    /// Binds the next word to what was made, where anything was. There is room for it.
+    pub fn bind(&mut self, named: Option<Named>)
+        requires { length self.old.named < self.old.room }
+        ensures { self.new ≡ record self.old { named = self.old.named ++ named ∷ [] } }
+    {
+        self.named.push_reserved(named);
+    }
+
+    /// What a word names.
+    pub fn get(&self, word: HoldWord) -> Option<&Named>
+        ensures { option_copied result ≡ named_at self.now.named word }
+    {
+        match self.named.get(word.number()) {
+            Some(named) => named.as_ref(),
+            None => None,
+        }
+    }
+
+    /// Takes out what a word names, which names nothing then.
+    pub fn take(&mut self, word: HoldWord) -> Option<Named>
+        requires { word < length self.old.named }
+        ensures taken { result ≡ named_at self.old.named word }
+        ensures rest { self.new ≡ record self.old { named = slice_set self.old.named word None } }
+    {
+        replace(&mut self.named[word.number()], None)
+    }
+
+    /// A word names this from now on.
+    pub fn put(&mut self, word: HoldWord, named: Named)
+        requires { word < length self.old.named }
+        ensures { self.new ≡ record self.old { named = slice_set self.old.named word (Some named) } }
+    {
+        self.named[word.number()] = Some(named);
+    }
+}

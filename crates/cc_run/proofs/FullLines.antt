@@ -1,0 +1,107 @@
+-- A line that found the journal full left what was there before it, and the journal had little room.
+use Rattle.std.specs.Prelude.{◌≡◌, ℕ, ◌+◌, ◌≤◌, Bool, true, false, List, ◌∷◌, ◌++◌}
+use Rattle.std.specs.declared.option.Option.{Option}
+use Rattle.std.specs.declared.option.Option.TheVariants.{Some, None}
+use Rattle.std.proofs.Common.{sym, ◌∙◌, append_assoc}
+use Rattle.cc_entry.specs.Kinds.{is_map, is_pin, is_repin, is_read_chain, is_write_chain}
+use Rattle.cc_entry.specs.declared.answer.Answer.{Answer}
+use Rattle.cc_entry.specs.declared.answer.Answer.TheVariants as answer
+use Rattle.cc_entry.specs.declared.call.Call.{Call}
+use Rattle.cc_entry.specs.declared.call.Call.TheVariants as call
+use Rattle.cc_entry.specs.declared.entry.Entry.{Entry}
+use Rattle.cc_entry.specs.declared.entry.Entry.TheVariants as entry
+use Rattle.cc_entry.specs.declared.reply.Outcome.TheVariants as outcome
+use Rattle.cc_entry.specs.declared.reply.Reply.TheVariants as reply
+use Rattle.cc_entry.specs.declared.error.CcError.TheVariants as error
+use Rattle.cc_script.specs.declared.script.Action.{Action}
+use Rattle.cc_script.specs.declared.script.Action.TheVariants as action
+use Rattle.cc_model.specs.Setup.{Setup}
+use Rattle.cc_effects.proofs.Stretches.{grew-after}
+use Rattle.cc_pieces.specs.Answered.{AppendAnswered, CallAnswered, LogFlushAnswered}
+use Rattle.cc_pieces.specs.Bindings.{Binding, OnHold, hold_named}
+use Rattle.cc_pieces.specs.HoldLines.{HeldReadBy, UnpinAnswered}
+use Rattle.cc_pieces.specs.Rooms.{HadNoRoom}
+use Rattle.cc_pieces.specs.Served.{Served}
+use Rattle.cc_turns.specs.Standing.{Standing}
+use Rattle.cc_lines.specs.Line.{IsFullTold}
+use Rattle.cc_run.proofs.Acting.{full-at}
+
+-- the journal has what it had, and more in front
+record Grew (old new : List Entry) : Type 0 where
+  during : List Entry
+  grew : new ≡ during ++ old
+
+module _ (u : Setup) (me entries : ℕ) (old new : List Entry) where
+  abbrev full : Answer
+  full = answer.Refused (error.JournalFull entries)
+
+  grew-call : (it : Call) → CallAnswered u me it full old new → Grew old new
+  grew-call it left = record { during = left.during; grew = left.grew }
+
+  grew-hold : (o : Option ℕ) (call_on : ℕ → Call) → OnHold me o (λ id. CallAnswered u me (call_on id)) full old new → Grew old new
+  grew-hold None call_on left = absurd (cc (left.0))
+  grew-hold (Some id) call_on left = grew-call (call_on id) left
+
+  grew-read : (bindings : List Binding) (word at len : ℕ) (o : Option ℕ) → HeldReadBy u me bindings word at len o full old new → Grew old new
+  grew-read bindings word at len (Some id) left = grew-call (call.MappedRead id at len) left
+  grew-read bindings word at len None left = grew-hold (hold_named bindings word is_pin) (λ id. call.PinnedRead id at len) left
+
+  grew-unpin : (through : Bool) (id : ℕ) → UnpinAnswered u me through id full old new → Grew old new
+  grew-unpin false id left = record { during = left.during; grew = left.grew }
+  grew-unpin true id left =
+      let ended = left.2.done.placed in
+      let own : List Entry = entry.Call me ended.nth ended.stream (call.EndHold id) (outcome.Done reply.Unit) ∷ left.2.done.earlier in
+      record {
+        during = (left.3.during ++ ended.later) ++ own;
+        grew =
+            grew-after left.3.during ended.later (own ++ old) left.0 new left.3.grew ended.grew
+            ∙ sym (append_assoc (left.3.during ++ ended.later) own old);
+      }
+
+  grew-end : (through : Bool) (o : Option ℕ) → OnHold me o (UnpinAnswered u me through) full old new → Grew old new
+  grew-end through None left = absurd (cc (left.0))
+  grew-end through (Some id) left = grew-unpin through id left
+
+  grew-append : (handle : ℕ) (bytes : List ℕ) → AppendAnswered u me handle bytes full old new → Grew old new
+  grew-append handle bytes left = record { during = left.during; grew = left.grew }
+
+  grew-log_flush : (handle lsn : ℕ) → LogFlushAnswered u me handle lsn full old new → Grew old new
+  grew-log_flush handle lsn left = record { during = left.during; grew = left.grew }
+
+  grew-served : (bindings : List Binding) (asked : Action) → Served u me bindings asked full old new → Grew old new
+  grew-served bindings (action.CopyRead file at len wait) left = grew-call (call.CopyRead file at len wait) left
+  grew-served bindings (action.CopyWrite file at bytes) left = grew-call (call.CopyWrite file at bytes) left
+  grew-served bindings (action.Zero file span) left = grew-call (call.Zero file span) left
+  grew-served bindings (action.Map file at len word) left = grew-call (call.Map file at len) left
+  grew-served bindings (action.PinRead file at len word exclusive) left = grew-call (call.PinRead file at len exclusive) left
+  grew-served bindings (action.PinMapped word exclusive) left = grew-hold (hold_named bindings word is_map) (λ id. call.PinMapped id exclusive) left
+  grew-served bindings (action.PreparePin file at len word zero exclusive) left = grew-call (call.PreparePin file at len zero exclusive) left
+  grew-served bindings (action.HeldRead word at len) left = grew-read bindings word at len (hold_named bindings word is_map) left
+  grew-served bindings (action.PinnedWrite word at bytes) left = grew-hold (hold_named bindings word is_pin) (λ id. call.PinnedWrite id at bytes) left
+  grew-served bindings (action.SetDirty word lsn) left = grew-hold (hold_named bindings word is_pin) (λ id. call.SetDirty id lsn) left
+  grew-served bindings (action.Unpin word) left = grew-hold (hold_named bindings word _) (λ id. call.EndHold id) left
+  grew-served bindings (action.Repin word made) left = grew-hold (hold_named bindings word is_pin) (λ id. call.Repin id) left
+  grew-served bindings (action.UnpinRepinned word through) left = grew-end through (hold_named bindings word is_repin) left
+  grew-served bindings (action.MdlRead file at len word) left = grew-call (call.MdlRead file at len) left
+  grew-served bindings (action.MdlWrite file at len word) left = grew-call (call.MdlWrite file at len) left
+  grew-served bindings (action.MdlBytes word at len) left = grew-hold (hold_named bindings word is_read_chain) (λ id. call.MdlBytes id at len) left
+  grew-served bindings (action.MdlStore word at bytes) left = grew-hold (hold_named bindings word is_write_chain) (λ id. call.MdlStore id at bytes) left
+  grew-served bindings (action.MdlDone word) left = grew-hold (hold_named bindings word _) (λ id. call.EndHold id) left
+  grew-served bindings (action.MdlAbort word) left = grew-hold (hold_named bindings word is_write_chain) (λ id. call.EndHold id) left
+  grew-served bindings (action.SetSizes file allocation size) left = grew-call (call.SetSizes file allocation size) left
+  grew-served bindings (action.State file) left = grew-call (call.State file) left
+  grew-served bindings (action.Flush file span) left = grew-call (call.Flush file span) left
+  grew-served bindings action.IsDirtyData left = grew-call call.IsDirtyData left
+  grew-served bindings (action.DirtyPages handle) left = grew-call (call.DirtyPages handle) left
+  grew-served bindings (action.LsnForFile file) left = grew-call (call.LsnForFile file) left
+  grew-served bindings (action.SetLog file handle) left = grew-call (call.SetLog file handle) left
+  grew-served bindings (action.Append handle bytes) left = grew-append handle bytes left
+  grew-served bindings (action.LogFlush handle lsn) left = grew-log_flush handle lsn left
+
+-- a line that found the journal full was so with little room, where others have little under way
+pub room-served : (w : Standing) (limit : ℕ) (u : Setup) (me : ℕ) (bindings : List Binding) (asked : Action) (told : Answer) (old : List Entry) → Served u me bindings asked told old w.seen → w.in_flight ≡ 0 → w.others + 3 ≤ limit → IsFullTold w told → HadNoRoom w.setup limit told old w.seen
+room-served w limit u me bindings asked (answer.Refused (error.JournalFull entries)) old left rest few full =
+    let more = grew-served u me entries old w.seen bindings asked left in
+    full-at w limit entries more.during old more.grew rest few full
+room-served w limit u me bindings asked (answer.NcRefused done cause) old left rest few full = absurd full
+room-served w limit u me bindings asked other old left rest few _ = tt
