@@ -1,15 +1,17 @@
 //! Scripts that run whole: through the top call, over devices in memory.
 //!
-//! The crate has tests, and the devices that they need beside those of `cc_memdev` and `cc_filedev`: a sink
-//! that takes a few bytes a call, a source of line feeds, a disk that tells nothing, and one that waits. Each test runs a
-//! script by the words of the command line and compares the exit status and the text with what the script
+//! The crate has tests, and what they need: runs over devices in memory, and devices beside those of `cc_memdev` and
+//! `cc_filedev`, a sink that takes a few bytes a call, a source of line feeds, a disk that tells nothing, and one that
+//! waits. Each test runs a script by the words of the command line and compares the exit status and the text with what the script
 //! language and the format of the text say (docs/SCRIPTS.md). No expected text is taken from the program.
-//! Nothing stands on this crate.
+//! The tests of lines on holds stand on it (`cc_hold_rows`).
 #![tactic(auto)]
 
 mod devices;
+mod program;
 
 pub use devices::{LineFeeds, Moment, NarrowSink, UntoldDisk, WaitingDisk, WaitsIn};
+pub use program::{Row, Seen, disk, log_failing, run, run_logged, run_with};
 
 #[cfg(test)]
 mod ample;
@@ -25,8 +27,6 @@ mod files;
 mod flushes;
 #[cfg(test)]
 mod logs;
-#[cfg(test)]
-mod program;
 #[cfg(test)]
 mod statuses;
 #[cfg(test)]

@@ -8,7 +8,7 @@ use std::sync::Wait;
 use std::thread::Threads;
 
 /// A gate that holds nobody back.
-pub(crate) struct Free;
+pub struct Free;
 
 impl Gate for Free {
     fn before(&self, _caller: u32, _call: u32) {}
@@ -18,30 +18,30 @@ impl Gate for Free {
 
 /// A script, and the whole text of its run.
 #[derive(Clone, Copy)]
-pub(crate) struct Row {
-    pub(crate) script: &'static str,
-    pub(crate) text: &'static str,
+pub struct Row {
+    pub script: &'static str,
+    pub text: &'static str,
 }
 
 /// What is seen of a run.
 #[derive(Drop)]
-pub(crate) struct Seen {
-    pub(crate) status: u8,
-    pub(crate) text: String,
+pub struct Seen {
+    pub status: u8,
+    pub text: String,
 }
 
 /// What a run gave back: its status, how many replies and entries there are, the disks and the logs.
 #[derive(Drop)]
-pub(crate) struct Left<D> {
-    pub(crate) status: u8,
-    pub(crate) replies: usize,
-    pub(crate) entries: usize,
-    pub(crate) disks: Vec<D>,
-    pub(crate) logs: Vec<MemLog>,
+pub struct Left<D> {
+    pub status: u8,
+    pub replies: usize,
+    pub entries: usize,
+    pub disks: Vec<D>,
+    pub logs: Vec<MemLog>,
 }
 
 /// A disk of 5A whose reads, writes and syncs with these numbers fail.
-pub(crate) fn disk_failing(
+pub fn disk_failing(
     alloc: Global,
     reads: &[u64],
     writes: &[u64],
@@ -56,11 +56,7 @@ pub(crate) fn disk_failing(
 }
 
 /// A log without entries whose appends and flushes with these numbers fail.
-pub(crate) fn log_failing(
-    alloc: Global,
-    appends: &[u64],
-    flushes: &[u64],
-) -> Result<MemLog, AllocError> {
+pub fn log_failing(alloc: Global, appends: &[u64], flushes: &[u64]) -> Result<MemLog, AllocError> {
     let fails = LogFails {
         appends: appends.to_vec(alloc)?,
         flushes: flushes.to_vec(alloc)?,
@@ -69,33 +65,33 @@ pub(crate) fn log_failing(
 }
 
 /// A disk of 5A whose reads with these numbers fail.
-pub(crate) fn disk(alloc: Global, reads: &[u64]) -> Result<MemDisk, AllocError> {
+pub fn disk(alloc: Global, reads: &[u64]) -> Result<MemDisk, AllocError> {
     disk_failing(alloc, reads, &[], &[])
 }
 
 /// No disk.
-pub(crate) fn no_disk() -> Option<MemDisk> {
+pub fn no_disk() -> Option<MemDisk> {
     None
 }
 
 /// A sink that takes all.
-pub(crate) fn sink(alloc: Global) -> MemSink {
+pub fn sink(alloc: Global) -> MemSink {
     MemSink::new(alloc, Vec::new(alloc))
 }
 
 /// The script as a source that gives up to 4096 bytes a call.
-pub(crate) fn source(alloc: Global, script: &str) -> Result<MemSource, AllocError> {
+pub fn source(alloc: Global, script: &str) -> Result<MemSource, AllocError> {
     let bytes = script.as_bytes().to_vec(alloc)?;
     Ok(MemSource::new(bytes, 4096, Vec::new(alloc)))
 }
 
 /// The text that a sink took.
-pub(crate) fn text_of(alloc: Global, sink: &MemSink) -> Result<String, AllocError> {
+pub fn text_of(alloc: Global, sink: &MemSink) -> Result<String, AllocError> {
     String::from_utf8_lossy(alloc, sink.taken())
 }
 
 /// Runs the program over these disks and logs, with a gate.
-pub(crate) fn left_with<R: Threads + Wait + Sync, S: Source, K: Sink, D: PageDisk + Drop, P: Gate>(
+pub fn left_with<R: Threads + Wait + Sync, S: Source, K: Sink, D: PageDisk + Drop, P: Gate>(
     rt: &R,
     alloc: Global,
     words: &[&str],
@@ -140,7 +136,7 @@ pub(crate) fn left_with<R: Threads + Wait + Sync, S: Source, K: Sink, D: PageDis
 }
 
 /// Runs the program over these disks.
-pub(crate) fn left_by<R: Threads + Wait + Sync, S: Source, K: Sink, D: PageDisk + Drop>(
+pub fn left_by<R: Threads + Wait + Sync, S: Source, K: Sink, D: PageDisk + Drop>(
     rt: &R,
     alloc: Global,
     words: &[&str],
@@ -153,7 +149,7 @@ pub(crate) fn left_by<R: Threads + Wait + Sync, S: Source, K: Sink, D: PageDisk 
 }
 
 /// Runs the program over a disk or none, and answers its status.
-pub(crate) fn status_of<R: Threads + Wait + Sync, S: Source, K: Sink, D: PageDisk + Drop>(
+pub fn status_of<R: Threads + Wait + Sync, S: Source, K: Sink, D: PageDisk + Drop>(
     rt: &R,
     alloc: Global,
     words: &[&str],
@@ -169,7 +165,7 @@ pub(crate) fn status_of<R: Threads + Wait + Sync, S: Source, K: Sink, D: PageDis
 }
 
 /// Runs a script over a disk.
-pub(crate) fn run_over<R: Threads + Wait + Sync, D: PageDisk + Drop>(
+pub fn run_over<R: Threads + Wait + Sync, D: PageDisk + Drop>(
     rt: &R,
     alloc: Global,
     script: &str,
@@ -183,7 +179,7 @@ pub(crate) fn run_over<R: Threads + Wait + Sync, D: PageDisk + Drop>(
 }
 
 /// Runs a script over a disk that it gives back.
-pub(crate) fn run_on<R: Threads + Wait + Sync>(
+pub fn run_on<R: Threads + Wait + Sync>(
     rt: &R,
     alloc: Global,
     script: &str,
@@ -203,7 +199,7 @@ pub(crate) fn run_on<R: Threads + Wait + Sync>(
 }
 
 /// Runs a script over five disks that never fail.
-pub(crate) fn run_over_five<R: Threads + Wait + Sync>(
+pub fn run_over_five<R: Threads + Wait + Sync>(
     rt: &R,
     alloc: Global,
     script: &str,
@@ -223,7 +219,7 @@ pub(crate) fn run_over_five<R: Threads + Wait + Sync>(
 }
 
 /// Runs a script over a disk that never fails.
-pub(crate) fn run<R: Threads + Wait + Sync>(
+pub fn run<R: Threads + Wait + Sync>(
     rt: &R,
     alloc: Global,
     script: &str,
@@ -232,7 +228,7 @@ pub(crate) fn run<R: Threads + Wait + Sync>(
 }
 
 /// Runs a script over a disk, with a gate.
-pub(crate) fn run_with<R: Threads + Wait + Sync, D: PageDisk + Drop, P: Gate>(
+pub fn run_with<R: Threads + Wait + Sync, D: PageDisk + Drop, P: Gate>(
     rt: &R,
     alloc: Global,
     script: &str,
@@ -260,8 +256,8 @@ pub(crate) fn run_with<R: Threads + Wait + Sync, D: PageDisk + Drop, P: Gate>(
     })
 }
 
-/// Runs a script over a disk and these logs, which it gives back.
-pub(crate) fn run_logged<R: Threads + Wait + Sync>(
+/// Runs a script over two disks and these logs, which it gives back.
+pub fn run_logged<R: Threads + Wait + Sync>(
     rt: &R,
     alloc: Global,
     script: &str,
@@ -270,7 +266,9 @@ pub(crate) fn run_logged<R: Threads + Wait + Sync>(
     let mut source = source(alloc, script)?;
     let mut sink = sink(alloc);
     let mut disks = Vec::new(alloc);
-    disks.push(disk(alloc, &[])?).map_err(|_| AllocError)?;
+    for _ in 0..2 {
+        disks.push(disk(alloc, &[])?).map_err(|_| AllocError)?;
+    }
     let left = left_with(
         rt,
         alloc,

@@ -1,0 +1,17 @@
+//! Scripts on holds, stamps and descriptor chains that run whole, through the top call, over devices in memory.
+//!
+//! Each test runs a script by the words of the command line and compares the exit status and the text with what the
+//! script language and the format of the text say (docs/SCRIPTS.md). No expected text is taken from the program. Nothing
+//! stands on this crate.
+#![tactic(auto)]
+
+#[cfg(test)]
+mod chains;
+#[cfg(test)]
+mod holds;
+#[cfg(test)]
+mod stamps;
+#[cfg(test)]
+mod threads;
+#[cfg(test)]
+mod words;
