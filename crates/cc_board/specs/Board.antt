@@ -1,5 +1,5 @@
 -- A board and its passes, as contracts see them.
-use Rattle.std.specs.Prelude.{◌≡◌, ◌≢◌, ℕ, ◌+◌, ◌<◌, ◌≤◌, Bool, true, false, suc, List, [], ◌∷◌, ◌++◌, length, Contains, vec_capacity}
+use Rattle.std.specs.Prelude.{◌≡◌, ◌≢◌, ℕ, ◌+◌, ◌<◌, ◌≤◌, Bool, true, false, List, [], ◌∷◌, ◌++◌, length, Contains}
 use Rattle.std.specs.declared.option.Option.{Option}
 use Rattle.std.specs.declared.option.Option.TheVariants.{Some, None}
 use Rattle.atomic_table.specs.Seated.{TableId}
@@ -8,7 +8,7 @@ use Rattle.cc_effects.specs.Moments.{IsIdle}
 use Rattle.cc_model.specs.Turns.{Turn, Device, Book, Log, Journal}
 use Rattle.cc_turns.specs.Standing.{Held, nothing}
 use Rattle.cc_turns.specs.Desk.{Begun, DeskState}
-use Rattle.cc_turns.specs.Slots.{slot_of, slots_of, under_way_in}
+use Rattle.cc_turns.specs.Slots.{slot_of, under_way_in}
 use Rattle.cc_turns.specs.declared.slots.Place.{Place}
 use Rattle.cc_board.specs.declared.rule.View.{View}
 use Rattle.cc_board.specs.View.{run_of, held_of, split_left, split_right, with_number, joined}

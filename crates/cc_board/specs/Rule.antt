@@ -1,21 +1,21 @@
 -- The rule of a board: what is true between any two steps of its passes.
-use Rattle.std.specs.Prelude.{◌≡◌, ℕ, ◌≢◌, ◌+◌, ◌-◌, ◌≤◌, ◌<◌, Bool, true, false, suc, List, [], ◌∷◌, length, slice_index, if◌then◌else◌, Contains}
+use Rattle.std.specs.Prelude.{◌≡◌, ℕ, ◌≢◌, ◌+◌, ◌-◌, ◌≤◌, ◌<◌, true, false, suc, List, [], ◌∷◌, length, slice_index, if◌then◌else◌, Contains}
 use Rattle.std.specs.declared.option.Option.{Option}
-use Rattle.std.specs.declared.option.Option.TheVariants.{Some, None}
+use Rattle.std.specs.declared.option.Option.TheVariants.{Some}
 use mathlib.Core.Option.{some, Option as Maybe}
 use lib.ListN.{get_elem?}
-use Rattle.atomic_table.specs.Table.{State, Me, Step}
+use Rattle.atomic_table.specs.Table.{State}
 use Rattle.cc_entry.specs.declared.entry.Entry.{Entry}
 use Rattle.cc_effects.specs.Moments.{IsIdle}
 use Rattle.cc_model.specs.Good.{IsGood}
-use Rattle.cc_model.specs.Turns.{Turn, Device, Book, Log, Journal}
+use Rattle.cc_model.specs.Turns.{Turn}
 use Rattle.cc_turns.specs.Standing.{holds, nothing}
 use Rattle.cc_turns.specs.Desk.{Begun, Tells}
 use Rattle.cc_turns.specs.Slots.{slots_of, slot_of, HasTurn, setup_in, Fits}
 use Rattle.cc_turns.specs.Takes.{Grows}
 use Rattle.cc_turns.specs.declared.slots.Place.{Place}
 use Rattle.cc_board.specs.declared.rule.View.{View}
-use Rattle.cc_board.specs.View.{run_of, held_of, standing_of, with_turn, without_turn, with_number}
+use Rattle.cc_board.specs.View.{run_of, held_of, standing_of}
 
 -- the sum of a number of each view
 abbrev pub total : {V : Type 0} → (V → ℕ) → List V → ℕ

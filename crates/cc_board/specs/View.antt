@@ -1,12 +1,10 @@
 -- What a pass of a board knows.
-use Rattle.std.specs.Prelude.{◌≡◌, ℕ, ◌-◌, ◌+◌, Bool, true, false, List, [], ◌∷◌, length, slice_get}
+use Rattle.std.specs.Prelude.{ℕ, ◌-◌, ◌+◌, true, false, List, [], ◌∷◌, length, slice_get}
 use Rattle.std.specs.declared.option.Option.TheVariants.{Some, None}
 use Rattle.atomic_table.specs.Seated.{TableId}
-use Rattle.cc_entry.specs.declared.entry.Entry.{Entry}
-use Rattle.cc_journal.specs.Journal.{JournalState}
 use Rattle.cc_model.specs.Room.{reserved_in}
 use Rattle.cc_model.specs.Turns.{Turn, Device, Book, Log, Journal}
-use Rattle.cc_turns.specs.Standing.{Standing, Held, nothing}
+use Rattle.cc_turns.specs.Standing.{Standing, Held}
 use Rattle.cc_turns.specs.Desk.{Begun, Tells, disk_at_first, log_at_first, made_from}
 use Rattle.cc_turns.specs.Slots.{setup_in}
 use Rattle.cc_turns.specs.declared.slots.Place.{Place}

@@ -1,5 +1,5 @@
 -- A pass took the turns of a stream's disk and of its book: what is in hand then, and what the call leaves at its end.
-use Rattle.std.specs.Prelude.{◌≡◌, ℕ, false, Result, List, refl}
+use Rattle.std.specs.Prelude.{◌≡◌, ℕ, Result, List, refl}
 use Rattle.std.specs.declared.option.Option.{Option}
 use Rattle.std.specs.declared.option.Option.TheVariants.{Some, None}
 use Rattle.std.proofs.Common.{sym, ap, ◌∙◌, subst}
@@ -14,7 +14,6 @@ use Rattle.cc_effects.proofs.Stretches.{idle-then}
 use Rattle.cc_model.specs.History.{history}
 use Rattle.cc_model.specs.Images.{open_of}
 use Rattle.cc_model.specs.Setup.{Setup}
-use Rattle.cc_step.specs.Step.{owes_store}
 use Rattle.cc_turns.specs.Disk.{DiskStands, opening_of}
 use Rattle.cc_turns.specs.Standing.{Standing, Held, nothing}
 use Rattle.cc_turns.specs.Takes.{Takes, with_device, with_book, without_device, without_book}
@@ -22,7 +21,6 @@ use Rattle.cc_turns.proofs.Taking.{disk_kept, transfer_kept}
 use Rattle.cc_visits.specs.Ways.{EndedSo}
 use Rattle.cc_visits.specs.declared.tell.Returned.{Returned}
 use Rattle.cc_visits.proofs.Others.{under_way-on}
-use Rattle.cc_visits.proofs.Visiting.{settled-others}
 use Rattle.cc_writes.specs.Writes.{HasBoth}
 use Rattle.cc_fetch.specs.Fetch.{CanCall}
 
@@ -48,10 +46,6 @@ module _ (w v x : Standing) (s : ℕ) (can : CanCall w s) (first : Takes (with_d
       (record { during = first.grows.later; grew = first.grows.grew; others = first.grows.others })
       (record { during = second.grows.later; grew = second.grows.grew; others = subst (λ (n : ℕ). Others n second.grows.later) number_first second.grows.others })
 
-  settled : owes_store x.seen x.number ≡ false
-  settled = subst (λ (n : ℕ). owes_store x.seen n ≡ false) (sym number_both)
-      (ap (λ (past : List Entry). owes_store past w.number) idle.grew ∙ settled-others w.number idle.during w.seen idle.others can.settled)
-
   module _ {D : Type 0} (told : D → Option Disk) (faults : D → ℕ) (b : BookState) (disk : D) (opening : v.setup.opening s ≡ opening_of (v.disks s).told)
       (stands : DiskStands told faults (v.disks s) v.seen s disk) (at_rest : open_of (history v.seen s) ≡ None)
       (b_is : b.stream ≡ s) (b_stands : BookStands (x.setup.opening s) x.seen b) where
@@ -62,7 +56,6 @@ module _ (w v x : Standing) (s : ℕ) (can : CanCall w s) (first : Takes (with_d
         stream = b_is;
         stands = b_stands;
         good = second.good;
-        settled = settled;
       };
       rest = record {
         device = ap (λ (h : Held). h.device) both_held;

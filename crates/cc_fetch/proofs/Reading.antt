@@ -1,5 +1,5 @@
 -- A page is read: what the read is known to have found, and what is in hand after it where the book was given.
-use Rattle.std.specs.Prelude.{◌≡◌, ℕ, false, Result, Ok, Err, List, ◌∷◌, ◌++◌, refl}
+use Rattle.std.specs.Prelude.{◌≡◌, ℕ, Result, Ok, Err, List, ◌∷◌, ◌++◌, refl}
 use Rattle.std.specs.declared.option.Option.{Option}
 use Rattle.std.specs.declared.option.Option.TheVariants.{Some}
 use Rattle.std.proofs.Common.{sym, ap, ◌∙◌, subst}
@@ -14,7 +14,6 @@ use Rattle.cc_model.specs.Allowed.{IsAllowed}
 use Rattle.cc_model.specs.Good.{IsGood, IsGoodSoFar}
 use Rattle.cc_model.specs.History.{history}
 use Rattle.cc_model.specs.Setup.{Setup}
-use Rattle.cc_step.specs.Step.{owes_store}
 use Rattle.cc_transfer.specs.Transfers.{CanRead, fill_failed}
 use Rattle.cc_turns.specs.Disk.{DiskStands, opening_of}
 use Rattle.cc_turns.specs.Standing.{Standing, DiskAtFirst, Held, nothing}
@@ -23,7 +22,6 @@ use Rattle.cc_turns.proofs.DiskGrows.{disk_grows}
 use Rattle.cc_turns.proofs.Taking.{disk_kept, transfer_kept}
 use Rattle.cc_visits.specs.Hands.{HasBook, IsAtRest}
 use Rattle.cc_visits.specs.Visits.{WasReadFor}
-use Rattle.cc_visits.proofs.Visiting.{settled-others}
 use Rattle.cc_writes.specs.Writes.{HasBoth}
 use Rattle.cc_fetch.specs.Rounds.{MayTellFailure}
 
@@ -69,8 +67,6 @@ module _ {D : Type 0} (told : D → Option Disk) (faults : D → ℕ) (w v : Sta
     stream = is;
     stands = stands;
     good = took.good;
-    settled = subst (λ (n : ℕ). owes_store v.seen n ≡ false) (ap (λ x. x.number) (sym took.same))
-        (ap (λ (past : List Entry). owes_store past w.number) took.grows.grew ∙ settled-others w.number took.grows.later w.seen took.grows.others both.book.settled);
   }
 
   rest_taken : IsAtRest v s

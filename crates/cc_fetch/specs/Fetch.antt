@@ -3,15 +3,12 @@ use Rattle.std.specs.Prelude.{◌≡◌, ℕ, ◌<◌, max}
 use Rattle.cc_entry.specs.declared.call.Call.{Call}
 use Rattle.cc_step.specs.Step.{most_asked}
 use Rattle.cc_turns.specs.Standing.{Standing, nothing}
-use Rattle.cc_visits.specs.Hands.{IsSettled}
 
--- A pass may call on a stream: the stream has a disk, the pass holds no turn and has nothing under way, and it owes no
--- end of a noncached write.
+-- A pass may call on a stream: the stream has a disk, and the pass holds no turn and has nothing under way.
 pub record CanCall (w : Standing) (s : ℕ) : Type 0 where
   pub known : s < w.streams
   pub free : w.held ≡ nothing
   pub none : w.in_flight ≡ 0
-  pub settled : IsSettled w
 
 -- As many places as a call asks that brings pages in: those that it may ask where it is done, or the two of a transfer.
 abbrev pub most_room : Call → ℕ

@@ -6,7 +6,7 @@ ghost use Rattle.cc_effects.specs.Asked.{brings_in};
 ghost use Rattle.cc_effects.specs.Calls.{IsUnderWay};
 ghost use Rattle.cc_model.specs.Good.{IsGood};
 ghost use Rattle.cc_step.specs.Step.{is_stepped};
-ghost use Rattle.cc_visits.specs.Hands.{IsSettled, Went};
+ghost use Rattle.cc_visits.specs.Hands.{Went};
 ghost use Rattle.cc_visits.specs.Ways.{EndedSo, FitsIn, IsFull};
 ghost use Rattle.cc_visits.specs.Visits.{IsOf};
 ghost use Rattle.cc_writes.specs.Writes.{HasBoth};
@@ -42,7 +42,6 @@ pub fn fetch<T: Turns>(
     requires filed { IsOf call stream }
     requires fits { FitsIn call out.old }
     ensures goes_on { WentOn (T.standing turns.old) (T.standing turns.new) }
-    ensures settled { IsSettled (T.standing turns.new) }
     ensures good { IsGood (T.standing turns.new).setup (T.standing turns.new).seen }
     ensures left { (begun : List Entry) →
         IsUnderWay (T.standing turns.old).number call begun (T.standing turns.old).seen →

@@ -78,7 +78,7 @@ module _ {Q : Type 0} (posted : Q → Bool) (w v : Standing) (file : File) (span
         subst (λ (x : JournalState Q). CallLeft w.setup w.number it (outcome.Failed e) begun x.entries) (sym left.1.same_journal) (left-stopped e left.0)
 
   pub visited-finish : (ended : Finished) → FinishLeft w.setup w.number file span ended b c j k → Visited posted w v b.stream w.in_flight c k
-  visited-finish finished.Done left = visited-done posted w v it b c j k has vis refl filed reply.Unit left
+  visited-finish finished.Done left = visited-done posted w v it b c j k has vis refl filed refl reply.Unit left
   visited-finish (finished.Refused e) left = visited-refused posted w v it b c j k has vis refl filed e left
   visited-finish (finished.Stopped e) left = visited-same posted w v it b c j k has vis refl filed left.1.same_journal left.1.stand left.1.stream
 

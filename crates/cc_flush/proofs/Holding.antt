@@ -42,7 +42,6 @@ use Rattle.cc_visits.proofs.Resting.{is-held}
 use Rattle.cc_writes.specs.Calls.{MayFaultInWriting, PageLeft}
 use Rattle.cc_writes.specs.Writes.{HasBoth, HasTransferred, WantedMemory}
 use Rattle.cc_writes.proofs.Halting.{given-up}
-use Rattle.cc_writes.proofs.Quiet.{settled-grows, settled-placed}
 use Rattle.cc_writes.proofs.Visits.{went-then}
 use Rattle.cc_flush.specs.Flush.{IsFlushing, IsAtPage, IsAtSync, IsAtEnd, IsSyncTold, RoundLeft, round_of}
 use Rattle.cc_flush.specs.declared.flush.Round.{Round}
@@ -150,8 +149,6 @@ module _ {D : Type 0} (told : D → Option Disk) (faults : D → ℕ) (w x v : S
         stream = is;
         stands = stands;
         good = took.good;
-        settled = settled-grows x v (ap (λ (y : Standing). y.number) took.same) took.grows
-            (settled-placed (without_book w) x (entry.Sync w.number s end) number_same refl placed both.book.settled);
       };
       rest = record {
         device = ap (λ (h : Held). h.device) v_held ∙ device;

@@ -62,7 +62,7 @@ none-among test (m ∷ ns) n none among = go (test m) refl none (m == n) refl am
     go false fails it false other this rest = rest it this
 
 -- where a hold passes a test, one has the least id
-some-least : (test : Hold → Bool) (holds : List Hold) → list_any test holds ≡ true → least_id test holds ≡ None → ⊥
+pub some-least : (test : Hold → Bool) (holds : List Hold) → list_any test holds ≡ true → least_id test holds ≡ None → ⊥
 some-least test [] any none = absurd (cc)
 some-least test (hold ∷ holds) any none = go (test hold) any none (some-least test holds)
   where

@@ -9,6 +9,7 @@ use Rattle.cc_entry.specs.declared.entry.Entry.{Entry}
 use Rattle.cc_entry.specs.declared.error.CcError.{CcError}
 use Rattle.cc_entry.specs.declared.reply.Reply.TheVariants as reply
 use Rattle.cc_book.specs.Book.{BookState, BookStands, Gains, GoesOn, MayDo, MayPlace, done, failed}
+use Rattle.cc_journal.specs.Calls.{owed_end}
 use Rattle.cc_journal.specs.Journal.{JournalState}
 use Rattle.cc_model.specs.Acts.{file_of}
 use Rattle.cc_model.specs.Allowed.{IsAllowed, IsAllowedSoFar, IsOwed, owed_begin}
@@ -21,10 +22,10 @@ use Rattle.cc_model.specs.Holds.{holds_of}
 use Rattle.cc_model.specs.Legal.{IsLegal, IsLegalEntry}
 use Rattle.cc_model.specs.Passes.{calls_of}
 use Rattle.cc_model.specs.Refusals.{refusal}
-use Rattle.cc_model.specs.Room.{reserved_in}
 use Rattle.cc_model.specs.Setup.{Setup}
 use Rattle.cc_step.specs.Step.{StandUnder, MayStep, AttemptDone, AttemptRefused, FoundNone}
 use Rattle.cc_step.proofs.Attempts.{reserving}
+use Rattle.cc_step.proofs.Attempts.{forgoing, forgone-within}
 use Rattle.cc_step.proofs.Ended.{refused-placed}
 use Rattle.cc_step.proofs.Placed.{good-failed, so-far}
 use Rattle.cc_step.proofs.Reserved.{reserved-done}
@@ -70,10 +71,20 @@ module _ {Q : Type 0} (u : Setup) (pass : ℕ) (file : File) (span : Option Rang
   pub may-fail : (e : CcError) → refusal u j.entries (history j.entries b.stream) it ≡ Some e → MayPlace j.entries (failed pass j.entries b.stream it e) b
   may-fail e reason = (u, so-far u _ (good-failed u j.entries pass b.stream it e refl may.stand.good may.filed reason), may.stand.stands)
 
-  pub refused-here : (e : CcError) (c : BookState) (k : JournalState Q) → refusal u j.entries (history j.entries b.stream) it ≡ Some e → Gains (failed pass j.entries b.stream it e) j k → GoesOn j.entries k.entries b c → c ≡ b → AttemptRefused u pass it e b c (without_one j) k
+  pub refused-here : (e : CcError) (c : BookState) (k : JournalState Q) → refusal u j.entries (history j.entries b.stream) it ≡ Some e → Gains (failed pass j.entries b.stream it e) j k → GoesOn j.entries k.entries b c → c ≡ b → AttemptRefused u pass it e b c (without_one j) (forgoing j pass k)
   refused-here e c k reason gains goes same =
       refused-placed u pass it e b c (without_one j) k refl may reason
       (subst (λ (x : JournalState Q). Gains (failed pass x.entries b.stream it e) x k) (sym back) gains) goes same
+
+  -- what the pass owed is still reserved
+  forgone-left : (e : Entry) (k : JournalState Q) → Gains e j k → owed_end j.entries pass ≤ k.reserved
+  forgone-left e k gains = within _ _ _ (forgone-within pass (without_one j) may.owed) (ap (λ (x : JournalState Q). x.reserved) gains)
+    where
+      within : (owed less now : ℕ) → owed ≤ less → now ≡ less → owed ≤ now
+      within owed less now most same = omega (arith, most, same)
+
+  pub refused-within : (e : CcError) (k : JournalState Q) → Gains (failed pass j.entries b.stream it e) j k → owed_end j.entries pass ≤ k.reserved
+  refused-within e k gains = forgone-left (failed pass j.entries b.stream it e) k gains
 
   -- it found no memory, and the place was given back
   pub found-none : (k : JournalState Q) → k ≡ record j { reserved = j.reserved - 1 } → FoundNone u b b (without_one j) k
@@ -104,11 +115,11 @@ module _ {Q : Type 0} (u : Setup) (pass : ℕ) (file : File) (span : Option Rang
       pub may-do : MayDo u j.entries pass it reply.Unit b
       may-do = record { good = so-far u _ good-here; stands = may.stand.stands }
 
-      pub done-here : (c : BookState) (k : JournalState Q) → Gains (done pass j.entries b.stream it reply.Unit) j k → BookStands (u.opening b.stream) k.entries c → c.stream ≡ b.stream → AttemptDone u pass it reply.Unit b c (without_one j) k
+      pub done-here : (c : BookState) (k : JournalState Q) → Gains (done pass j.entries b.stream it reply.Unit) j k → BookStands (u.opening b.stream) k.entries c → c.stream ≡ b.stream → AttemptDone u pass it reply.Unit b c (without_one j) (forgoing j pass k)
       done-here c k gains stands stream = record {
-        placed = gains ∙ ap (λ (n : ℕ). record j { entries = done pass j.entries b.stream it reply.Unit ∷ j.entries; reserved = n; rows = k.rows })
-            (owing (j.reserved - 1) (reserved_in j.entries) (reserved_in (done pass j.entries b.stream it reply.Unit ∷ j.entries)) may.owed
-            (reserved-done j.entries pass (suc (calls_of j.entries pass)) b.stream it reply.Unit refl refl may.settled));
+        placed = ap (λ (x : JournalState Q). forgoing j pass x) gains
+            ∙ ap (λ (n : ℕ). record j { entries = done pass j.entries b.stream it reply.Unit ∷ j.entries; reserved = n; rows = k.rows })
+            (owing _ _ _ _ may.owed (reserved-done j.entries pass (suc (calls_of j.entries pass)) b.stream it reply.Unit refl refl));
         stand = record {
           good = rw (ap (λ (x : JournalState Q). x.entries) gains) good-here;
           stands = subst (λ (n : ℕ). BookStands (u.opening n) k.entries c) (sym stream) stands;
@@ -118,8 +129,11 @@ module _ {Q : Type 0} (u : Setup) (pass : ℕ) (file : File) (span : Option Rang
         stream = stream;
       }
         where
-          owing : (reserved before after : ℕ) → before ≤ reserved → after ≡ before → reserved ≡ after + (reserved - before)
-          owing reserved before after within same = omega (arith, within, same)
+          owing : (owed reserved before after : ℕ) → before ≤ reserved → owed + after ≡ before → reserved - owed ≡ after + (reserved - before)
+          owing owed reserved before after within same = omega (arith, within, same)
+
+      pub owed-within : (k : JournalState Q) → Gains (done pass j.entries b.stream it reply.Unit) j k → owed_end j.entries pass ≤ k.reserved
+      owed-within k gains = forgone-left (done pass j.entries b.stream it reply.Unit) k gains
 
 -- the same where the place was asked for
 module _ {Q : Type 0} (u : Setup) (pass : ℕ) (file : File) (span : Option Range) (b c : BookState) (j k : JournalState Q) where

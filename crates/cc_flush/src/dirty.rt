@@ -12,7 +12,7 @@ use cc_events::span_has;
 use cc_journal::Journal;
 
 /// The least dirty page of a span of a stream, from a page on; of the whole stream where no span is said.
-pub(crate) fn next_dirty<Q>(
+pub fn next_dirty<Q>(
     journal: &Journal<Q>,
     stream: StreamId,
     span: Option<Span>,

@@ -20,4 +20,5 @@ mod flush;
 mod steps;
 mod visits;
 
+pub use dirty::next_dirty;
 pub use flush::flush_held;

@@ -76,7 +76,9 @@ fn go_on<Q>(
     let call = Call::Flush { file, span: *span };
     match book.refusal(alloc, journal, &call) {
         Ok(Some(error)) => {
+            let owed = journal.owed_end(pass);
             book.fail(journal, pass, call, error);
+            journal.release(owed);
             Next::Refused(error)
         }
         Ok(None) => match next_dirty(journal, book.stream(), *span, from) {
@@ -129,16 +131,24 @@ fn end<Q>(
     let call = Call::Flush { file, span: *span };
     match book.refusal(alloc, journal, &call) {
         Ok(Some(error)) => {
+            let owed = journal.owed_end(pass);
             book.fail(journal, pass, call, error);
+            journal.release(owed);
             Finished::Refused(error)
         }
-        Ok(None) => match book.done(alloc, journal, pass, call, Reply::Unit) {
-            Ok(()) => Finished::Done,
-            Err(NoMemory) => {
-                journal.release(1);
-                Finished::Stopped(CcError::NoMemory)
+        Ok(None) => {
+            let owed = journal.owed_end(pass);
+            match book.done(alloc, journal, pass, call, Reply::Unit) {
+                Ok(()) => {
+                    journal.release(owed);
+                    Finished::Done
+                }
+                Err(NoMemory) => {
+                    journal.release(1);
+                    Finished::Stopped(CcError::NoMemory)
+                }
             }
-        },
+        }
         Err(NoMemory) => {
             journal.release(1);
             Finished::Stopped(CcError::NoMemory)

@@ -13,6 +13,7 @@ use Rattle.cc_model.specs.Setup.{Setup}
 use Rattle.cc_model.specs.Throttle.{may_go, queue, deferred}
 use Rattle.cc_stream.specs.Stream.{Stream}
 use Rattle.cc_journal.specs.Calls.{CountsCalls}
+use Rattle.cc_journal.specs.declared.calls.PassCalls.{PassCalls}
 use Rattle.cc_journal.specs.Kept.{Kept, HasMemory}
 use Rattle.cc_journal.specs.Places.{Places}
 use Rattle.cc_journal.specs.Queue.{Waiting, QueueStands}
@@ -27,7 +28,7 @@ use Rattle.cc_journal.proofs.DeferredSteps.{queue_stands_other}
 use Rattle.cc_journal.proofs.StreamsSteps.{total_by, stands_left}
 
 -- an empty journal
-pub kept_none : {Q : Type 0} (states : List Stream) (places : Places) (table : Table) (counts : List (ℕ × ℕ)) (waiting : Waiting Q) (total : ℕ) (last : Option Page) → StreamsStand [] states places table.rows → CountsCalls [] counts → QueueStands [] waiting.writes waiting.count → ScansStand [] total last → table.rows ≡ [] → 16384 ≤ table.capacity → waiting.writes ≡ [] → Kept [] states places table counts 0 waiting total last
+pub kept_none : {Q : Type 0} (states : List Stream) (places : Places) (table : Table) (counts : List (ℕ × PassCalls)) (waiting : Waiting Q) (total : ℕ) (last : Option Page) → StreamsStand [] states places table.rows → CountsCalls [] counts → QueueStands [] waiting.writes waiting.count → ScansStand [] total last → table.rows ≡ [] → 16384 ≤ table.capacity → waiting.writes ≡ [] → Kept [] states places table counts 0 waiting total last
 unfolding holds_made
 kept_none states places table counts waiting total last streams calls queue scans empty capacity none = record {
   streams = streams;
@@ -75,7 +76,7 @@ unfolding may_go
 may_go_by u past s n own total count threshold is_own is_total is_count is = rw (is_own, is_total, is_count, is) refl
 
 -- an entry that is no deferral and no post
-pub kept_push : {Q : Type 0} (e : Entry) (past : List Entry) (states now_states : List Stream) (places now_places : Places) (table now_table : Table) (counts now_counts : List (ℕ × ℕ)) (holds made : ℕ) (waiting : Waiting Q) (total now_total : ℕ) (last now_last : Option Page) → Kept past states places table counts holds waiting total last → is_defer_or_post e ≡ false → dirty_total (e ∷ past) ≤ 16384 → StreamsStand (e ∷ past) now_states now_places now_table.rows → Sound now_table.rows → now_table.capacity ≡ table.capacity → CountsCalls (e ∷ past) now_counts → made ≡ holds_made_by e → ScansStand (e ∷ past) now_total now_last → Kept (e ∷ past) now_states now_places now_table now_counts (holds + made) waiting now_total now_last
+pub kept_push : {Q : Type 0} (e : Entry) (past : List Entry) (states now_states : List Stream) (places now_places : Places) (table now_table : Table) (counts now_counts : List (ℕ × PassCalls)) (holds made : ℕ) (waiting : Waiting Q) (total now_total : ℕ) (last now_last : Option Page) → Kept past states places table counts holds waiting total last → is_defer_or_post e ≡ false → dirty_total (e ∷ past) ≤ 16384 → StreamsStand (e ∷ past) now_states now_places now_table.rows → Sound now_table.rows → now_table.capacity ≡ table.capacity → CountsCalls (e ∷ past) now_counts → made ≡ holds_made_by e → ScansStand (e ∷ past) now_total now_last → Kept (e ∷ past) now_states now_places now_table now_counts (holds + made) waiting now_total now_last
 unfolding holds_made
 kept_push e past states now_states places now_places table now_table counts now_counts holds made waiting total now_total last now_last kept kind few streams sound capacity calls is scans = record {
   streams = streams;
@@ -89,7 +90,7 @@ kept_push e past states now_states places now_places table now_table counts now_
 }
 
 -- an entry that changes the queue alone
-pub kept_queue : {Q : Type 0} (e : Entry) (past : List Entry) (states : List Stream) (places : Places) (table : Table) (counts : List (ℕ × ℕ)) (holds : ℕ) (waiting now_waiting : Waiting Q) (total : ℕ) (last : Option Page) → Kept past states places table counts holds waiting total last → leaves_streams e ≡ true → ((me : ℕ) → is_call_of me e ≡ false) → holds_made_by e ≡ 0 → is_scan e ≡ false → QueueStands (e ∷ past) now_waiting.writes now_waiting.count → length now_waiting.writes ≤ 64 → Kept (e ∷ past) states places table counts holds now_waiting total last
+pub kept_queue : {Q : Type 0} (e : Entry) (past : List Entry) (states : List Stream) (places : Places) (table : Table) (counts : List (ℕ × PassCalls)) (holds : ℕ) (waiting now_waiting : Waiting Q) (total : ℕ) (last : Option Page) → Kept past states places table counts holds waiting total last → leaves_streams e ≡ true → ((me : ℕ) → is_call_of me e ≡ false) → holds_made_by e ≡ 0 → is_scan e ≡ false → QueueStands (e ∷ past) now_waiting.writes now_waiting.count → length now_waiting.writes ≤ 64 → Kept (e ∷ past) states places table counts holds now_waiting total last
 unfolding holds_made
 kept_queue e past states places table counts holds waiting now_waiting total last kept left no_call none no_scan queue short = record {
   streams = stands_left e past states places table.rows left kept.streams;

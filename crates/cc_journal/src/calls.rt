@@ -1,22 +1,31 @@
-//! How many calls of each pass have ended.
+//! What is kept of the calls of each pass.
 
 ghost use Rattle.std.specs.Prelude.{ℕ, ◌≡◌, ◌+◌, ◌-◌, ◌^◌, ◌<◌, ◌≤◌, [], ◌∷◌, List, Option, OnOk};
 ghost use Rattle.indexmap.specs.IndexMap.{spare};
-ghost use Rattle.cc_entry.specs.declared.call.Call.{Call};
 ghost use Rattle.cc_entry.specs.declared.entry.Entry.{Entry};
 ghost use Rattle.cc_entry.specs.declared.entry.Entry.TheVariants as entry;
+ghost use Rattle.cc_entry.specs.declared.call.Call.{Call};
 ghost use Rattle.cc_entry.specs.declared.reply.Outcome.{Outcome};
-ghost use Rattle.cc_model.specs.Passes.{calls_of};
-ghost use Rattle.cc_journal.specs.Calls.{count_in, CountsCalls};
+ghost use Rattle.cc_model.specs.Passes.{is_store};
+ghost use Rattle.cc_journal.specs.Calls.{count_in, owes_in, CountsCalls};
 
-use cc_entry::{Entry, NoMemory};
+use cc_entry::{Call, Entry, NoMemory, Outcome};
 use indexmap::IndexMap;
 use std::alloc::Global;
 
-/// The ended calls of each pass that has ended one.
+/// What is kept of a pass that has ended a call.
+#[derive(Clone, Copy)]
+pub(crate) struct PassCalls {
+    // How many calls it has ended.
+    count: u32,
+    // Whether the last of them is a noncached store that was done: the end of that write has a place reserved.
+    owes: bool,
+}
+
+/// The calls of each pass that has ended one.
 #[derive(Drop)]
 pub(crate) struct CallCounts {
-    counts: IndexMap<u32, u32>,
+    counts: IndexMap<u32, PassCalls>,
 }
 
 impl CallCounts {
@@ -34,8 +43,18 @@ impl CallCounts {
         ensures { result ≡ count_in self.now.counts.entries pass }
     {
         match self.counts.get(&pass) {
-            Some(count) => *count,
+            Some(calls) => calls.count,
             None => 0,
+        }
+    }
+
+    /// Whether the pass owes the end of a noncached write.
+    pub(crate) fn owes(&self, pass: u32) -> bool
+        ensures { result ≡ owes_in self.now.counts.entries pass }
+    {
+        match self.counts.get(&pass) {
+            Some(calls) => calls.owes,
+            None => false,
         }
     }
 
@@ -48,17 +67,17 @@ impl CallCounts {
         self.counts.reserve(passes).map_err(|_| NoMemory)
     }
 
-    /// Counts one more ended call of the pass.
-    pub(crate) fn count(&mut self, pass: u32)
+    /// Counts one more ended call of the pass, which is a done noncached store or is none.
+    pub(crate) fn count(&mut self, pass: u32, owes: bool)
         requires room { 0 < spare self.old.counts }
         requires few { count_in self.old.counts.entries pass < 2 ^ 32 - 1 }
         ensures counted { (past : List Entry) (nth : ℕ) (stream : Option ℕ) (call : Call) (ended : Outcome) →
-            CountsCalls past self.old.counts.entries →
+            owes ≡ is_store call ended → CountsCalls past self.old.counts.entries →
             CountsCalls (entry.Call pass nth stream call ended ∷ past) self.new.counts.entries }
         ensures room { spare self.old.counts ≤ spare self.new.counts + 1 }
     {
         let count = self.of(pass) + 1;
-        let _old = self.counts.insert(pass, count).unwrap();
+        let _old = self.counts.insert(pass, PassCalls { count, owes }).unwrap();
     }
 
     /// Follows an entry.
@@ -69,8 +88,24 @@ impl CallCounts {
             CountsCalls (entry.now ∷ past) self.new.counts.entries }
         ensures room { spare self.old.counts ≤ spare self.new.counts + 1 }
     {
-        if let Entry::Call { pass, .. } = entry {
-            self.count(*pass);
+        if let Entry::Call {
+            pass,
+            call,
+            outcome,
+            ..
+        } = entry
+        {
+            self.count(*pass, is_store(call, outcome));
         }
+    }
+}
+
+// Whether a call is a noncached store that was done.
+fn is_store(call: &Call, ended: &Outcome) -> bool
+    ensures { result ≡ is_store call.now ended.now }
+{
+    match (call, ended) {
+        (Call::NcStore { .. }, Outcome::Done(_)) => true,
+        _ => false,
     }
 }

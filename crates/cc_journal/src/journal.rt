@@ -12,6 +12,7 @@ ghost use Rattle.cc_model.specs.History.{Did, history};
 ghost use Rattle.cc_laws.proofs.QueueSteps.{is_defer_or_post, is_scan};
 ghost use Rattle.cc_model.specs.Cache.{holds_made, holds_made_by, makes_hold, lazy_pages, views_taken};
 ghost use Rattle.cc_model.specs.Passes.{calls_of};
+ghost use Rattle.cc_journal.specs.Calls.{owed_end};
 ghost use Rattle.cc_model.specs.Touches.{is_mapped};
 ghost use Rattle.cc_model.specs.Setup.{Setup};
 ghost use Rattle.cc_model.specs.Settings.{log_of};
@@ -259,6 +260,14 @@ impl<Q> Journal<Q> {
         // The capacity is what bounds the number.
         let _most = self.capacity;
         self.calls.of(pass) + 1
+    }
+
+    /// How many places are reserved for the end of a noncached write of a pass: one, where its last call is the store of
+    /// that write. The pass's next call has no use for it, unless it is that end.
+    pub fn owed_end(&self, pass: u32) -> u32
+        ensures { result ≡ owed_end self.now.entries pass }
+    {
+        u32::from(self.calls.owes(pass))
     }
 
     /// The id of the next hold.

@@ -70,7 +70,7 @@ module _ (w v : Standing) (of_kind : HoldKind → Bool) (file : File) (at len : 
       let told = made-id (returned.Hold id) ended in
       let left = rw (same-id told.0 id told.1.0) at told.1.1 in
       record {
-        pages = record { left = left; goes_on = ended.goes_on; settled = ended.settled; good = λ was_good. ended.good; missed = ended.missed };
+        pages = record { left = left; goes_on = ended.goes_on; good = λ was_good. ended.good; missed = ended.missed };
         full = tt;
         range = refl;
         holding = made-held w v of_kind (ap (λ (x : Standing). x.number) ended.goes_on.same) file at len id it of makes left (so-far w.setup v.seen ended.good);
@@ -78,7 +78,7 @@ module _ (w v : Standing) (of_kind : HoldKind → Bool) (file : File) (at len : 
 
   pub made-failed : (e : CcError) → Paged w v it (Err e) was now → MakingEnds w v of_kind file at len it (Err e)
   made-failed e ended = record {
-    pages = record { left = ended.left.0; goes_on = ended.goes_on; settled = ended.settled; good = λ was_good. ended.good; missed = ended.missed };
+    pages = record { left = ended.left.0; goes_on = ended.goes_on; good = λ was_good. ended.good; missed = ended.missed };
     full = ended.full;
     range = tt;
     holding = tt;
@@ -100,7 +100,7 @@ module _ (w v : Standing) (pinned : Held) (was now : List ℕ) (h : IsHolding w 
       let number = ap (λ (x : Standing). x.number) ended.goes_on.same in
       let has = repin-leaves w.setup w.number pinned.file.stream id pinned.id h.hold w.seen v.seen left (so-far w.setup v.seen ended.good) h.has in
       record {
-        call_ends = record { left = left; full = tt; goes_on = ended.goes_on; settled = ended.settled; good = λ was_good. ended.good };
+        call_ends = record { left = left; full = tt; goes_on = ended.goes_on; good = λ was_good. ended.good };
         range = refl;
         holding = record {
           hold = new_hold id w.number h.hold.file h.hold.at h.hold.len kind.Repin false [];
@@ -115,7 +115,7 @@ module _ (w v : Standing) (pinned : Held) (was now : List ℕ) (h : IsHolding w 
 
   pub repin-failed : (e : CcError) → CalledAtOnce w v (call.Repin pinned.id) (Err e) was now → RepinEnds w v is_repin pinned (Err e)
   repin-failed e ended = record {
-    call_ends = record { left = ended.left.0; full = ended.full; goes_on = ended.goes_on; settled = ended.settled; good = λ was_good. ended.good };
+    call_ends = record { left = ended.left.0; full = ended.full; goes_on = ended.goes_on; good = λ was_good. ended.good };
     range = tt;
     holding = tt;
     pinned_still = failed-still w v is_pin pinned (ap (λ (x : Standing). x.number) ended.goes_on.same) h (call.Repin pinned.id) (outcome.Failed e) e refl ended.left.0 ended.good;

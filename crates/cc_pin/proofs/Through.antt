@@ -118,7 +118,6 @@ module _ (w v : Standing) (of_kind : HoldKind → Bool) (held : Held) (h : IsHol
       left = (v.seen, h.hold, hold-gone, flush-left);
       full = flushed.full;
       goes_on = record { same = flushed.goes_on.same ∙ ap (λ (y : Standing). record y { seen = x.seen; others = x.others; device_turns = x.device_turns }) ended.goes_on.same };
-      settled = flushed.settled;
       good = rw same-setup at flushed.good;
       sure = λ through. absurd (cc);
       durable = λ through. since;

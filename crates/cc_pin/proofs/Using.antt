@@ -63,7 +63,6 @@ module _ (w v : Standing) (of_kind : HoldKind → Bool) (held : Held) (it : Call
         left = left;
         full = tt;
         goes_on = ended.goes_on;
-        settled = ended.settled;
         good = λ was_good. ended.good;
         kept = ap length same ∙ read.1.1;
         holding = call-still w v of_kind held (number-is w v ended.goes_on) h it (outcome.Done (reply.Read now)) left ended.good (fill-keeps (length was) held.id it full);
@@ -74,7 +73,6 @@ module _ (w v : Standing) (of_kind : HoldKind → Bool) (held : Held) (it : Call
     left = ended.left.0;
     full = rw (fill-asks (length was) it full) at ended.full;
     goes_on = ended.goes_on;
-    settled = ended.settled;
     good = λ was_good. ended.good;
     kept = ended.left.1;
     holding = failed-still w v of_kind held (number-is w v ended.goes_on) h it (outcome.Failed e) e refl ended.left.0 ended.good;
@@ -84,13 +82,13 @@ module _ (w v : Standing) (of_kind : HoldKind → Bool) (held : Held) (it : Call
   write-ends told writes ended =
       let left = write-told w.setup w.number w.seen v.seen ended.good it ended.left.0 writes ended.left.1 in
       record {
-        call_ends = record { left = left; full = tt; goes_on = ended.goes_on; settled = ended.settled; good = λ was_good. ended.good };
+        call_ends = record { left = left; full = tt; goes_on = ended.goes_on; good = λ was_good. ended.good };
         holding = write-still w v of_kind held (number-is w v ended.goes_on) h it (outcome.Done reply.Unit) writes left ended.good;
       }
 
   pub write-failed : (e : CcError) → CalledAtOnce w v it (Err e) was now → UseEnds w v of_kind held it (Err e)
   write-failed e ended = record {
-    call_ends = record { left = ended.left.0; full = ended.full; goes_on = ended.goes_on; settled = ended.settled; good = λ was_good. ended.good };
+    call_ends = record { left = ended.left.0; full = ended.full; goes_on = ended.goes_on; good = λ was_good. ended.good };
     holding = failed-still w v of_kind held (number-is w v ended.goes_on) h it (outcome.Failed e) e refl ended.left.0 ended.good;
   }
 
@@ -107,7 +105,6 @@ no-memory w s of_kind held it can stores h = record {
     left = gives_up w.number it error.NoMemory w.seen w.seen (begins w.number it w.seen) (listed it stores) (wants it stores);
     full = tt;
     goes_on = record { same = refl };
-    settled = can.settled;
     good = λ good. good;
   };
   holding = h;
@@ -132,7 +129,6 @@ module _ (w v : Standing) (held : Held) (was now : List ℕ) where
   hold-ended told ended = record {
     left = end-told w.setup w.number w.seen v.seen ended.good held.id ended.left.0 ended.left.1;
     goes_on = ended.goes_on;
-    settled = ended.settled;
     good = ended.good;
   }
 
@@ -142,7 +138,7 @@ module _ (w v : Standing) (held : Held) (was now : List ℕ) where
       let is = pinned-told w.setup w.number w.seen v.seen ended.good held.id exclusive ended.left.0 ended.left.1 in
       let left = rw is at ended.left.1 in
       record {
-        call_ends = record { left = left; full = tt; goes_on = ended.goes_on; settled = ended.settled; good = λ was_good. ended.good };
+        call_ends = record { left = left; full = tt; goes_on = ended.goes_on; good = λ was_good. ended.good };
         pinned = (refl, pinned-now w v held exclusive (reply.Hold held.id) (number-is w v ended.goes_on) h left ended.good);
         back = tt;
       }
@@ -150,7 +146,7 @@ module _ (w v : Standing) (held : Held) (was now : List ℕ) where
   -- or comes back
   pub pinned-failed : (exclusive : Bool) (e : CcError) → IsHolding w is_map held → CalledAtOnce w v (call.PinMapped held.id exclusive) (Err e) was now → PinMappedEnds w v held exclusive (Err (held, e))
   pinned-failed exclusive e h ended = record {
-    call_ends = record { left = ended.left.0; full = ended.full; goes_on = ended.goes_on; settled = ended.settled; good = λ was_good. ended.good };
+    call_ends = record { left = ended.left.0; full = ended.full; goes_on = ended.goes_on; good = λ was_good. ended.good };
     pinned = tt;
     back = (refl, failed-still w v is_map held (number-is w v ended.goes_on) h (call.PinMapped held.id exclusive) (outcome.Failed e) e refl ended.left.0 ended.good);
   }

@@ -20,7 +20,7 @@ use Rattle.cc_model.specs.Good.{IsGood}
 use Rattle.cc_model.specs.History.{history}
 use Rattle.cc_model.specs.Holds.{holds_of, hold_at}
 use Rattle.cc_turns.specs.Standing.{Standing}
-use Rattle.cc_visits.specs.Hands.{IsSettled, Went}
+use Rattle.cc_visits.specs.Hands.{Went}
 use Rattle.cc_visits.specs.Ways.{IsFull}
 use Rattle.cc_calls.specs.Answers.{CallEnds, outcome_of}
 use Rattle.cc_calls.specs.Flushes.{IsDurable}
@@ -101,7 +101,6 @@ pub record HeldReadEnds (old new : Standing) (of_kind : HoldKind → Bool) (held
   pub left : CallLeft old.setup old.number it (filled_outcome answer now) old.seen new.seen
   pub full : IsFull 1 new answer
   pub goes_on : Went old new
-  pub settled : IsSettled new
   pub good : StaysGood old new
   pub kept : KeptOnErr answer was now
   pub holding : IsHolding new of_kind held
@@ -133,7 +132,6 @@ pub record SetDirtyEnds (old new : Standing) (pinned : Held) (lsn : Option ℕ)
 pub record HoldEnded (old new : Standing) (held : Held) : Type 0 where
   pub left : CallLeft old.setup old.number (call.EndHold held.id) (outcome.Done reply.Unit) old.seen new.seen
   pub goes_on : Went old new
-  pub settled : IsSettled new
   pub good : IsGood old.setup new.seen
 
 -- A repin of a pin was answered so: it has a range of its own, and the pass has both.
@@ -149,7 +147,6 @@ pub record UnpinEnds (old new : Standing) (repinned : Held) (through : Bool) (an
   pub left : UnpinLeft old.setup old.number repinned.id through (outcome_of answer) old.seen new.seen
   pub full : IsFullOf new answer
   pub goes_on : WentOn old new
-  pub settled : IsSettled new
   pub good : IsGood old.setup new.seen
   pub sure : through ≡ false → IsOk answer
   pub durable : through ≡ true →

@@ -16,6 +16,7 @@ use Rattle.cc_entry.specs.declared.reply.Outcome.TheVariants as outcome
 use Rattle.cc_entry.specs.declared.reply.Reply.{Reply}
 use Rattle.cc_effects.specs.Asked.{brings_in}
 use Rattle.cc_holds.specs.Stands.{owes_set_dirty}
+use Rattle.cc_journal.specs.Calls.{owed_end}
 use Rattle.cc_laws.proofs.HistorySteps.{history-done, history-done_other}
 use Rattle.cc_laws.proofs.HoldSteps.{holds_of-done}
 use Rattle.cc_laws.proofs.ImageSteps.{open_of-done}
@@ -33,7 +34,7 @@ use Rattle.cc_step.proofs.HoldSums.{owed-more, owed-changed, owed-ended}
 use Rattle.cc_step.proofs.Maps.{serves-kind, map-owes_none}
 use Rattle.cc_step.proofs.Failing.{stepped-answered}
 use Rattle.cc_step.proofs.Reserved.{stores-call, no-store}
-use Rattle.cc_step.specs.Step.{is_stepped, owes_store, places_asked, places_spared, most_asked, asked_now}
+use Rattle.cc_step.specs.Step.{is_stepped, places_asked, places_spared, most_asked, asked_now}
 
 -- no call asks more than its most
 pub most : (holds : List Hold) (it : Call) → places_asked holds it ≤ most_asked it
@@ -202,15 +203,15 @@ owed-elsewhere past pass nth s other it r apart = ap owed_by_stream (history-don
         clash : (other == s) ≡ true → (other == s) ≡ false → ⊥
         clash is_so not_so = absurd (cc)
 
--- What the past owes after a done call, with its own place and those that it gives back: as much as before, and what the
--- call asks.
-pub asked-reserved : (u : Setup) (past : List Entry) (pass nth s : ℕ) (it : Call) (r : Reply) → s < 16 → is_stepped it ≡ true → IsGoodSoFar u past → IsFiled (holds_of (history past s)) pass (Some s) it (file_of it) → owes_store past pass ≡ false → reserved_in (entry.Call pass nth (Some s) it (outcome.Done r) ∷ past) + (1 + places_spared (holds_of (history past s)) it) ≡ reserved_in past + asked_now past s it
+-- What the past owes after a done call, with what its pass owed before, its own place and those that it gives back: as
+-- much as before, and what the call asks.
+pub asked-reserved : (u : Setup) (past : List Entry) (pass nth s : ℕ) (it : Call) (r : Reply) → s < 16 → is_stepped it ≡ true → IsGoodSoFar u past → IsFiled (holds_of (history past s)) pass (Some s) it (file_of it) → (owed_end past pass + reserved_in (entry.Call pass nth (Some s) it (outcome.Done r) ∷ past)) + (1 + places_spared (holds_of (history past s)) it) ≡ reserved_in past + asked_now past s it
 unfolding reserved_in
-asked-reserved u past pass nth s it r below stepped good filed settled =
-    rw (stores-call past pass nth (Some s) it (outcome.Done r) (no-store it (outcome.Done r) (stepped-answered it stepped)) settled)
-    (with-stores _ _ _ _ _
+asked-reserved u past pass nth s it r below stepped good filed =
+    with-stores _ _ _ _ _ _ _
     (one-changed (λ n. owed_by_stream (history (entry.Call pass nth (Some s) it (outcome.Done r) ∷ past) n)) (λ n. owed_by_stream (history past n)) s _ _ 0 16 (omega arith) (omega arith)
-    (λ n apart. owed-elsewhere past pass nth s n it r apart) (owed-there u past pass nth s it r stepped good filed)))
+    (λ n apart. owed-elsewhere past pass nth s n it r apart) (owed-there u past pass nth s it r stepped good filed))
+    (stores-call past pass nth (Some s) it (outcome.Done r) (no-store it (outcome.Done r) (stepped-answered it stepped)))
   where
-    with-stores : (n a m b stores : ℕ) → n + a ≡ m + b → (n + stores) + a ≡ (m + stores) + b
-    with-stores n a m b stores is = omega (arith, is)
+    with-stores : (owed n a m b stores before : ℕ) → n + a ≡ m + b → owed + stores ≡ before → (owed + (n + stores)) + a ≡ (m + before) + b
+    with-stores owed n a m b stores before is same = omega (arith, is, same)

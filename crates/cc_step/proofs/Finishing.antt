@@ -20,7 +20,6 @@ may-more u pass more it b j may = record {
   stand = record { good = may.stand.good; stands = may.stand.stands; logs_are = may.stand.logs_are; threshold_is = may.stand.threshold_is };
   filed = may.filed;
   owed = further (reserved_in j.entries) j.reserved may.owed;
-  settled = may.settled;
 }
   where
     further : (owed n : ℕ) → owed ≤ n → owed ≤ n + more

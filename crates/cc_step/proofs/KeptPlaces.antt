@@ -8,6 +8,7 @@ use Rattle.cc_entry.specs.declared.entry.Entry.{Entry}
 use Rattle.cc_entry.specs.declared.reply.Reply.TheVariants as reply
 use Rattle.cc_book.specs.Book.{BookState, Gains, done, takes_memory}
 use Rattle.cc_holds.specs.Stands.{owes_set_dirty}
+use Rattle.cc_journal.specs.Calls.{owed_end}
 use Rattle.cc_journal.specs.Journal.{JournalState}
 use Rattle.cc_model.specs.Good.{IsGood}
 use Rattle.cc_model.specs.History.{Effect, history}
@@ -57,22 +58,22 @@ none-taken (call.SetDirty hold lsn) none = refl
 none-taken (call.EndHold hold) none = refl
 none-taken other none = absurd none
 
--- its place and those that it gives back are reserved
-pub places-reserved : {Q : Type 0} (u : Setup) (pass : ℕ) (it : Call) (b : BookState) (j : JournalState Q) → b.stream < 16 → is_stepped it ≡ true → MayStep u pass it b j → asked_now j.entries b.stream it ≡ 0 → 1 + places_spared (holds_of (history j.entries b.stream)) it ≤ j.reserved
-places-reserved u pass it b j below stepped may asks = within _ _ _ _ _ (owed-after u pass it reply.Unit b j below stepped may) asks may.owed
+-- its place and those that it gives back are reserved, and what its pass owed before
+pub places-reserved : {Q : Type 0} (u : Setup) (pass : ℕ) (it : Call) (b : BookState) (j : JournalState Q) → b.stream < 16 → is_stepped it ≡ true → MayStep u pass it b j → asked_now j.entries b.stream it ≡ 0 → (1 + places_spared (holds_of (history j.entries b.stream)) it) + owed_end j.entries pass ≤ j.reserved
+places-reserved u pass it b j below stepped may asks = within _ _ _ _ _ _ (owed-after u pass it reply.Unit b j below stepped may) asks may.owed
   where
-    within : (after spared before asked reserved : ℕ) → after + (1 + spared) ≡ before + asked → asked ≡ 0 → before ≤ reserved → 1 + spared ≤ reserved
-    within after spared before asked reserved is none most = omega (arith, is, none, most)
+    within : (owed after spared before asked reserved : ℕ) → (owed + after) + (1 + spared) ≡ before + asked → asked ≡ 0 → before ≤ reserved → (1 + spared) + owed ≤ reserved
+    within owed after spared before asked reserved is none most = omega (arith, is, none, most)
 
 -- with them given back the journal has reserved what its past owes
-pub adds-released : {Q : Type 0} (u : Setup) (pass spared : ℕ) (it : Call) (b : BookState) (j k : JournalState Q) → b.stream < 16 → is_stepped it ≡ true → MayStep u pass it b j → asked_now j.entries b.stream it ≡ 0 → spared ≡ places_spared (holds_of (history j.entries b.stream)) it → Gains (done pass j.entries b.stream it reply.Unit) j k → AddsOwing (done pass j.entries b.stream it reply.Unit) j (record k { reserved = k.reserved - spared })
+pub adds-released : {Q : Type 0} (u : Setup) (pass spared : ℕ) (it : Call) (b : BookState) (j k : JournalState Q) → b.stream < 16 → is_stepped it ≡ true → MayStep u pass it b j → asked_now j.entries b.stream it ≡ 0 → spared ≡ places_spared (holds_of (history j.entries b.stream)) it → Gains (done pass j.entries b.stream it reply.Unit) j k → AddsOwing (done pass j.entries b.stream it reply.Unit) j (record k { reserved = (k.reserved - spared) - owed_end j.entries pass })
 adds-released {Q} u pass spared it b j k below stepped may asks same placed =
-    ap (λ (x : JournalState Q). record x { reserved = x.reserved - spared }) placed
+    ap (λ (x : JournalState Q). record x { reserved = (x.reserved - spared) - owed_end j.entries pass }) placed
     ∙ ap (λ (n : ℕ). record j { entries = done pass j.entries b.stream it reply.Unit ∷ j.entries; reserved = n; rows = k.rows })
-    (numbers _ _ _ _ _ (owed-after u pass it reply.Unit b j below stepped may) same asks may.owed)
+    (numbers _ _ _ _ _ _ (owed-after u pass it reply.Unit b j below stepped may) same asks may.owed)
   where
-    numbers : (after its before asked reserved : ℕ) → after + (1 + its) ≡ before + asked → spared ≡ its → asked ≡ 0 → before ≤ reserved → (reserved - 1) - spared ≡ after + (reserved - before)
-    numbers after its before asked reserved is so none most = omega (arith, is, so, none, most)
+    numbers : (owed after its before asked reserved : ℕ) → (owed + after) + (1 + its) ≡ before + asked → spared ≡ its → asked ≡ 0 → before ≤ reserved → ((reserved - 1) - spared) - owed ≡ after + (reserved - before)
+    numbers owed after its before asked reserved is so none most = omega (arith, is, so, none, most)
 
 -- a good journal stays good with the entry of such a call
 pub good-none : {Q : Type 0} (u : Setup) (pass : ℕ) (it : Call) (b : BookState) (j : JournalState Q) → is_stepped it ≡ true → MayStep u pass it b j → asked_now j.entries b.stream it ≡ 0 → IsGood u (done pass j.entries b.stream it reply.Unit ∷ j.entries)

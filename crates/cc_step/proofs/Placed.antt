@@ -1,6 +1,6 @@
 -- A good journal stays good with the entry of a step.
 use Rattle.std.specs.Prelude.{◌≡◌, ℕ, suc, Bool, true, false, List, ◌∷◌, None, Some, refl}
-use Rattle.std.specs.Bool.{OnTrue}
+use Rattle.std.specs.Bool.{OnTrue, OnFalse}
 use Rattle.cc_entry.specs.declared.call.Call.{Call}
 use Rattle.cc_entry.specs.declared.call.Call.TheVariants as call
 use Rattle.cc_entry.specs.declared.entry.Entry.{Entry}
@@ -19,7 +19,7 @@ use Rattle.cc_model.specs.Filing.{IsFiled}
 use Rattle.cc_model.specs.Good.{IsGood, IsGoodSoFar}
 use Rattle.cc_model.specs.History.{history}
 use Rattle.cc_model.specs.Holds.{holds_of}
-use Rattle.cc_model.specs.Legal.{IsLegal, IsLegalEntry, IsOutcome, IsAdmitted, IsFailure, IsTooLong, NothingElse}
+use Rattle.cc_model.specs.Legal.{ends_own_store, IsLegal, IsLegalEntry, IsOutcome, IsAdmitted, IsFailure, IsTooLong, NothingElse}
 use Rattle.cc_model.specs.Passes.{calls_of}
 use Rattle.cc_model.specs.Ranges.{needs_pages}
 use Rattle.cc_model.specs.Refusals.{refusal}
@@ -28,7 +28,7 @@ use Rattle.cc_model.specs.Setup.{Setup}
 use Rattle.cc_step.specs.Faults.{IsMet}
 use Rattle.cc_step.specs.Step.{is_answered, is_stepped, IsReadyFor}
 use Rattle.cc_step.proofs.Failing.{stepped-answered}
-use Rattle.cc_step.proofs.Reasons.{is_listed, refusal-listed}
+use Rattle.cc_step.proofs.Reasons.{is_listed, refusal-listed, never-long}
 
 -- where nothing is owed, any entry may follow
 nothing_owed : (e : Entry) (past : List Entry) → owed_begin past ≡ None → IsOwed (owed_begin past) e
@@ -84,8 +84,8 @@ failure u past pass s it error.NoMemory here listed is = absurd (cc)
 failure u past pass s it (error.TooLong limit) here listed is = long it here is
   where
     long : (c : Call) → is_answered c ≡ true → refusal u past (history past s) c ≡ Some (error.TooLong limit) → IsTooLong u past (history past s) limit c
-    long (call.NcRead file page) its known = absurd (cc)
-    long (call.NcWrite file page) its known = absurd (cc)
+    long (call.NcRead file page) its known = absurd (never-long u past (history past s) (call.NcRead file page) limit tt known)
+    long (call.NcWrite file page) its known = absurd (never-long u past (history past s) (call.NcWrite file page) limit tt known)
     long other its known = known
 failure u past pass s it other here listed is = is
 
@@ -105,7 +105,11 @@ good-failed u past pass s it e here good filed is =
 
 -- beside a fault nothing refuses such a call
 alone : (u : Setup) (past : List Entry) (pass s : ℕ) (it : Call) → is_answered it ≡ true → refusal u past (history past s) it ≡ None → NothingElse u past pass (Some s) it
-alone u past pass s (call.NcWrite file page) here none = absurd (cc)
+alone u past pass s (call.NcWrite file page) here none = unless (ends_own_store past pass (Some s) (call.NcWrite file page))
+  where
+    unless : (b : Bool) → OnFalse b (refusal u past (history past s) (call.NcWrite file page) ≡ None)
+    unless true = tt
+    unless false = none
 alone u past pass s other here none = none
 
 -- a fault that the call met is its failure, and a fault alone

@@ -169,3 +169,45 @@ all-listed u past h it =
 
 pub refusal-listed : (u : Setup) (past : List Entry) (h : List Effect) (it : Call) (e : CcError) → refusal u past h it ≡ Some e → is_listed e ≡ true
 refusal-listed u past h it e is = subst IsListed is (all-listed u past h it)
+
+-- A noncached call has no refusal of the list for its length, which is not in its entry.
+abbrev IsNoLength : Option CcError → Type 0
+IsNoLength (Some (error.TooLong limit)) = ⊥
+IsNoLength other = Unit {0}
+
+first-no_length : (o : Option CcError) (rest : List (Option CcError)) → IsNoLength o → IsNoLength (first_of rest) → IsNoLength (first_of (o ∷ rest))
+first-no_length None rest here later = later
+first-no_length (Some e) rest here later = here
+
+if-no_length : (b : Bool) (e : CcError) → IsNoLength (Some e) → IsNoLength (refuse_if b e)
+if-no_length true e other = other
+if-no_length false e other = tt
+
+busy-no_length : (id : Option ℕ) → IsNoLength (busy_by id)
+busy-no_length None = tt
+busy-no_length (Some id) = tt
+
+views-no_length : (h : List Effect) (r : Option Range) → IsNoLength (no_views h r)
+views-no_length h None = tt
+views-no_length h (Some r) = if-no_length _ _ tt
+
+abbrev pub IsNoncached : Call → Type 0
+IsNoncached (call.NcRead file page) = Unit {0}
+IsNoncached (call.NcWrite file page) = Unit {0}
+IsNoncached other = ⊥
+
+no-length : (u : Setup) (past : List Entry) (h : List Effect) (it : Call) → IsNoncached it → IsNoLength (refusal u past h it)
+unfolding refusal
+no-length u past h (call.NcRead file page) is =
+    first-no_length (not_cached h (Some file)) _ (if-no_length _ error.NotCached tt) tt
+no-length u past h (call.NcWrite file page) is =
+    let it : Call = call.NcWrite file page in
+    first-no_length (not_cached h (Some file)) _ (if-no_length _ error.NotCached tt)
+    (first-no_length (beyond_size (size_of h) it) _ (if-no_length _ _ tt)
+    (first-no_length (beyond_valid (valid_of h) it) _ (if-no_length _ _ tt)
+    (first-no_length (busy (holds_of h) it) _ (busy-no_length _)
+    (first-no_length (no_views h (range_of (size_of h) it)) _ (views-no_length h (range_of (size_of h) it)) tt))))
+no-length u past h other is = absurd is
+
+pub never-long : (u : Setup) (past : List Entry) (h : List Effect) (it : Call) (limit : ℕ) → IsNoncached it → refusal u past h it ≡ Some (error.TooLong limit) → ⊥
+never-long u past h it limit is refused = subst IsNoLength refused (no-length u past h it is)

@@ -1,5 +1,6 @@
--- The entry of a call that asks one place leaves what is reserved as it was.
-use Rattle.std.specs.Prelude.{◌≡◌, ℕ, ◌+◌, Bool, true, false, ◌||◌, ◌==◌, List, [], ◌∷◌, Option, Some, refl, if◌then◌else◌}
+-- What the past owes after the entry of a call that changes no hold: as before, but for the end of a noncached write of
+-- its pass.
+use Rattle.std.specs.Prelude.{◌≡◌, ℕ, ◌+◌, ◌≤◌, Bool, true, false, ◌||◌, ◌==◌, List, [], ◌∷◌, Option, Some, refl, if◌then◌else◌}
 use Rattle.std.proofs.Common.{ap, sym, ◌∙◌, subst, arith}
 use Rattle.std.proofs.lemmas.Bool.{eqb-true, eq-eqb}
 use Rattle.std.specs.List.{sum_by}
@@ -15,12 +16,14 @@ use Rattle.cc_entry.specs.declared.reply.Reply.{Reply}
 use Rattle.cc_laws.proofs.HoldSteps.{changes_holds, holds_of-other}
 use Rattle.cc_laws.proofs.HistorySteps.{history-done, history-no_effect}
 use Rattle.cc_laws.proofs.ImageSteps.{open_of-done}
+use Rattle.cc_laws.proofs.PassSteps.{up_to_call-call, up_to_call-other}
 use Rattle.cc_model.specs.Cache.{all_streams}
 use Rattle.cc_model.specs.History.{history}
 use Rattle.cc_model.specs.Numbers.{is_among}
 use Rattle.cc_model.specs.Passes.{is_store, up_to_call}
 use Rattle.cc_model.specs.Room.{owed_by_stream, stores_unfinished, reserved_in}
-use Rattle.cc_step.specs.Step.{is_answered, owes_store}
+use Rattle.cc_journal.specs.Calls.{ends_in_store, owed_end}
+use Rattle.cc_step.specs.Step.{is_answered}
 
 none-more : (n : ℕ) → 0 + n ≡ n
 none-more n = omega arith
@@ -56,53 +59,63 @@ same-stores (entry.Defer pass id file pages retrying ∷ past) seen other same =
 same-stores (entry.Posted id ∷ past) seen other same = same-stores past seen other same
 same-stores (entry.Scan pass picked ∷ past) seen other same = same-stores past seen other same
 
--- a pass that owes no store may be passed over
-skip : (past : List Entry) (me : ℕ) (seen other : List ℕ) → ((n : ℕ) → is_among n other ≡ ((me == n) || is_among n seen)) → owes_store past me ≡ false → stores_unfinished seen past ≡ stores_unfinished other past
-unfolding stores_unfinished up_to_call
-skip [] me seen other same none = refl
-skip (entry.Call pass nth stream it ended ∷ past) me seen other same none =
-    go (pass == me) refl (is_among pass seen) refl
-    (λ later. skip past me seen other same later)
-    (λ later. skip past me (pass ∷ seen) (pass ∷ other) (λ n. swapped n (same n)) later)
+swap : (a b n : ℕ) → a + (b + n) ≡ b + (a + n)
+swap a b n = omega arith
+
+among-more : (n : ℕ) (seen other : List ℕ) (me : ℕ) → is_among n other ≡ ((me == n) || is_among n seen) → is_among n seen ≡ true → is_among n other ≡ true
+among-more n seen other me is there = is ∙ rw there (at-end (me == n))
   where
-    swapped : (n : ℕ) → is_among n other ≡ ((me == n) || is_among n seen) → ((pass == n) || is_among n other) ≡ ((me == n) || ((pass == n) || is_among n seen))
-    swapped n is = rw is (turn (pass == n) (me == n) (is_among n seen))
-      where
-        turn : (a b c : Bool) → (a || (b || c)) ≡ (b || (a || c))
-        turn true true c = refl
-        turn true false c = refl
-        turn false true c = refl
-        turn false false c = refl
+    at-end : (a : Bool) → (a || true) ≡ true
+    at-end true = refl
+    at-end false = refl
 
-    go : (b : Bool) → (pass == me) ≡ b → (t : Bool) → is_among pass seen ≡ t → (owes_store past me ≡ false → stores_unfinished seen past ≡ stores_unfinished other past) → (owes_store past me ≡ false → stores_unfinished (pass ∷ seen) past ≡ stores_unfinished (pass ∷ other) past) → stores_unfinished seen (entry.Call pass nth stream it ended ∷ past) ≡ stores_unfinished other (entry.Call pass nth stream it ended ∷ past)
-    go true mine true there rest more =
-        let here : is_among pass other ≡ true = same pass ∙ rw there (at-end (me == pass)) in
-        stores-seen pass nth stream it ended past seen there ∙ same-stores past seen other (λ n. same n ∙ known n) ∙ sym (stores-seen pass nth stream it ended past other here)
-      where
-        at-end : (a : Bool) → (a || true) ≡ true
-        at-end true = refl
-        at-end false = refl
+swapped : (pass n : ℕ) (seen other : List ℕ) (me : ℕ) → is_among n other ≡ ((me == n) || is_among n seen) → ((pass == n) || is_among n other) ≡ ((me == n) || ((pass == n) || is_among n seen))
+swapped pass n seen other me is = rw is (turn (pass == n) (me == n) (is_among n seen))
+  where
+    turn : (a b c : Bool) → (a || (b || c)) ≡ (b || (a || c))
+    turn true true c = refl
+    turn true false c = refl
+    turn false true c = refl
+    turn false false c = refl
 
-        known : (n : ℕ) → ((me == n) || is_among n seen) ≡ is_among n seen
-        known n = by (me == n) refl
-          where
-            by : (a : Bool) → (me == n) ≡ a → ((me == n) || is_among n seen) ≡ is_among n seen
-            by true is = rw is (sym (subst (λ (k : ℕ). is_among k seen ≡ true) (eqb-true pass me mine ∙ eqb-true me n is) there))
-            by false is = rw is refl
+-- what a pass owes after a call of its own, and of another
+owed-own : (pass nth : ℕ) (stream : Option ℕ) (it : Call) (ended : Outcome) (past : List Entry) (me : ℕ) → (pass == me) ≡ true → owed_end (entry.Call pass nth stream it ended ∷ past) me ≡ (if is_store it ended then 1 else 0)
+owed-own pass nth stream it ended past me mine = ap (λ b. if b then 1 else 0) (ap ends_in_store (up_to_call-call pass nth stream it ended past me mine))
+
+owed-other : (pass nth : ℕ) (stream : Option ℕ) (it : Call) (ended : Outcome) (past : List Entry) (me : ℕ) → (pass == me) ≡ false → owed_end (entry.Call pass nth stream it ended ∷ past) me ≡ owed_end past me
+owed-other pass nth stream it ended past me yours = ap (λ b. if b then 1 else 0) (ap ends_in_store (up_to_call-other (entry.Call pass nth stream it ended) past me yours))
+
+-- a pass that is passed over takes what it owes with it
+skip : (past : List Entry) (me : ℕ) (seen other : List ℕ) → ((n : ℕ) → is_among n other ≡ ((me == n) || is_among n seen)) → is_among me seen ≡ false → stores_unfinished seen past ≡ owed_end past me + stores_unfinished other past
+unfolding stores_unfinished up_to_call
+skip [] me seen other same out = refl
+skip (entry.Call pass nth stream it ended ∷ past) me seen other same out =
+    go (pass == me) refl (is_among pass seen) refl (skip past me seen other same out)
+    (λ not_me. skip past me (pass ∷ seen) (pass ∷ other) (λ n. swapped pass n seen other me (same n)) (rw (not_me, out) refl))
+  where
+    go : (b : Bool) → (pass == me) ≡ b → (t : Bool) → is_among pass seen ≡ t → stores_unfinished seen past ≡ owed_end past me + stores_unfinished other past → ((pass == me) ≡ false → stores_unfinished (pass ∷ seen) past ≡ owed_end past me + stores_unfinished (pass ∷ other) past) → stores_unfinished seen (entry.Call pass nth stream it ended ∷ past) ≡ owed_end (entry.Call pass nth stream it ended ∷ past) me + stores_unfinished other (entry.Call pass nth stream it ended ∷ past)
+    go true mine true there rest more = absurd (clash (subst (λ (k : ℕ). is_among k seen ≡ true) (eqb-true pass me mine) there) out)
+      where
+        clash : {b : Bool} → b ≡ true → b ≡ false → ⊥
+        clash t f = absurd (cc)
     go true mine false away rest more =
         let here : is_among pass other ≡ true = same pass ∙ rw (eq-eqb me pass (sym (eqb-true pass me mine))) refl in
-        let store : is_store it ended ≡ false = rw (mine, up_to_call) at none in
-        stores-new pass nth stream it ended past seen away ∙ (rw store (none-more (stores_unfinished (pass ∷ seen) past)) ∙ (same-stores past (pass ∷ seen) other (λ n. same n ∙ ap (λ p. (p == n) || is_among n seen) (sym (eqb-true pass me mine))) ∙ sym (stores-seen pass nth stream it ended past other here)))
+        stores-new pass nth stream it ended past seen away
+        ∙ (ap (λ n. (if is_store it ended then 1 else 0) + n) (same-stores past (pass ∷ seen) other (λ n. same n ∙ ap (λ p. (p == n) || is_among n seen) (sym (eqb-true pass me mine))))
+        ∙ sym (ap (λ n. n + stores_unfinished other (entry.Call pass nth stream it ended ∷ past)) (owed-own pass nth stream it ended past me mine)
+        ∙ ap (λ n. (if is_store it ended then 1 else 0) + n) (stores-seen pass nth stream it ended past other here)))
     go false yours true there rest more =
-        let here : is_among pass other ≡ true = same pass ∙ rw there (at-end (me == pass)) in
-        stores-seen pass nth stream it ended past seen there ∙ rest (rw (yours, up_to_call) at none) ∙ sym (stores-seen pass nth stream it ended past other here)
-      where
-        at-end : (a : Bool) → (a || true) ≡ true
-        at-end true = refl
-        at-end false = refl
+        stores-seen pass nth stream it ended past seen there
+        ∙ (rest
+        ∙ sym (ap (λ n. n + stores_unfinished other (entry.Call pass nth stream it ended ∷ past)) (owed-other pass nth stream it ended past me yours)
+        ∙ ap (λ n. owed_end past me + n) (stores-seen pass nth stream it ended past other (among-more pass seen other me (same pass) there))))
     go false yours false away rest more =
         let here : is_among pass other ≡ false = same pass ∙ rw (away, differs) refl in
-        stores-new pass nth stream it ended past seen away ∙ ap (λ n. (if is_store it ended then 1 else 0) + n) (more (rw (yours, up_to_call) at none)) ∙ sym (stores-new pass nth stream it ended past other here)
+        stores-new pass nth stream it ended past seen away
+        ∙ (ap (λ n. (if is_store it ended then 1 else 0) + n) (more yours)
+        ∙ (swap (if is_store it ended then 1 else 0) (owed_end past me) (stores_unfinished (pass ∷ other) past)
+        ∙ sym (ap (λ n. n + stores_unfinished other (entry.Call pass nth stream it ended ∷ past)) (owed-other pass nth stream it ended past me yours)
+        ∙ ap (λ n. owed_end past me + n) (stores-new pass nth stream it ended past other here))))
       where
         differs : (me == pass) ≡ false
         differs = by (me == pass) refl
@@ -113,18 +126,18 @@ skip (entry.Call pass nth stream it ended ∷ past) me seen other same none =
                 clash : (pass == me) ≡ true → (pass == me) ≡ false → ⊥
                 clash t f = absurd (cc)
             by false is = is
-skip (entry.PageIn pass page from_disk ∷ past) me seen other same none = skip past me seen other same none
-skip (entry.PageOut pass page ∷ past) me seen other same none = skip past me seen other same none
-skip (entry.FillFailed pass page ∷ past) me seen other same none = skip past me seen other same none
-skip (entry.WriteBegin pass page ∷ past) me seen other same none = skip past me seen other same none
-skip (entry.WriteEnd pass page how ∷ past) me seen other same none = skip past me seen other same none
-skip (entry.Sync pass stream how ∷ past) me seen other same none = skip past me seen other same none
-skip (entry.Append pass handle lsn bytes ∷ past) me seen other same none = skip past me seen other same none
-skip (entry.Flushed pass handle to ∷ past) me seen other same none = skip past me seen other same none
-skip (entry.LogFailed pass handle ∷ past) me seen other same none = skip past me seen other same none
-skip (entry.Defer pass id file pages retrying ∷ past) me seen other same none = skip past me seen other same none
-skip (entry.Posted id ∷ past) me seen other same none = skip past me seen other same none
-skip (entry.Scan pass picked ∷ past) me seen other same none = skip past me seen other same none
+skip (entry.PageIn pass page from_disk ∷ past) me seen other same out = skip past me seen other same out
+skip (entry.PageOut pass page ∷ past) me seen other same out = skip past me seen other same out
+skip (entry.FillFailed pass page ∷ past) me seen other same out = skip past me seen other same out
+skip (entry.WriteBegin pass page ∷ past) me seen other same out = skip past me seen other same out
+skip (entry.WriteEnd pass page how ∷ past) me seen other same out = skip past me seen other same out
+skip (entry.Sync pass stream how ∷ past) me seen other same out = skip past me seen other same out
+skip (entry.Append pass handle lsn bytes ∷ past) me seen other same out = skip past me seen other same out
+skip (entry.Flushed pass handle to ∷ past) me seen other same out = skip past me seen other same out
+skip (entry.LogFailed pass handle ∷ past) me seen other same out = skip past me seen other same out
+skip (entry.Defer pass id file pages retrying ∷ past) me seen other same out = skip past me seen other same out
+skip (entry.Posted id ∷ past) me seen other same out = skip past me seen other same out
+skip (entry.Scan pass picked ∷ past) me seen other same out = skip past me seen other same out
 
 -- sums over the same terms are the same
 pub sum-same : (f g : ℕ → ℕ) (ns : List ℕ) → ((n : ℕ) → f n ≡ g n) → sum_by f ns ≡ sum_by g ns
@@ -142,26 +155,36 @@ owed-done past pass nth stream s it r kept = go (stream == s) refl
 owed-failed : (past : List Entry) (pass nth stream s : ℕ) (it : Call) (e : CcError) → owed_by_stream (history (entry.Call pass nth (Some stream) it (outcome.Failed e) ∷ past) s) ≡ owed_by_stream (history past s)
 owed-failed past pass nth stream s it e = rw (history-no_effect (entry.Call pass nth (Some stream) it (outcome.Failed e)) past s refl) refl
 
-pub stores-call : (past : List Entry) (pass nth : ℕ) (stream : Option ℕ) (it : Call) (ended : Outcome) → is_store it ended ≡ false → owes_store past pass ≡ false → stores_unfinished [] (entry.Call pass nth stream it ended ∷ past) ≡ stores_unfinished [] past
+-- the stores that are unfinished after a call that is none, with what its pass owed before
+pub stores-call : (past : List Entry) (pass nth : ℕ) (stream : Option ℕ) (it : Call) (ended : Outcome) → is_store it ended ≡ false → owed_end past pass + stores_unfinished [] (entry.Call pass nth stream it ended ∷ past) ≡ stores_unfinished [] past
 unfolding stores_unfinished
-stores-call past pass nth stream it ended store none = stores-new pass nth stream it ended past [] refl ∙ (rw store (none-more (stores_unfinished (pass ∷ []) past)) ∙ sym (skip past pass [] (pass ∷ []) (λ n. refl) none))
+stores-call past pass nth stream it ended store =
+    ap (λ n. owed_end past pass + n) (stores-new pass nth stream it ended past [] refl ∙ rw store (none-more (stores_unfinished (pass ∷ []) past)))
+    ∙ sym (skip past pass [] (pass ∷ []) (λ n. refl) refl)
 
 pub no-store : (it : Call) (ended : Outcome) → is_answered it ≡ true → is_store it ended ≡ false
 no-store (call.NcStore file page bytes) ended here = absurd (cc)
 no-store other ended here = refl
 
-pub reserved-done : (past : List Entry) (pass nth stream : ℕ) (it : Call) (r : Reply) → is_answered it ≡ true → changes_holds it ≡ false → owes_store past pass ≡ false → reserved_in (entry.Call pass nth (Some stream) it (outcome.Done r) ∷ past) ≡ reserved_in past
-unfolding reserved_in
-reserved-done past pass nth stream it r here kept none =
-    rw (
-      sum-same (λ s. owed_by_stream (history (entry.Call pass nth (Some stream) it (outcome.Done r) ∷ past) s)) (λ s. owed_by_stream (history past s)) all_streams (λ s. owed-done past pass nth stream s it r kept),
-      stores-call past pass nth (Some stream) it (outcome.Done r) (no-store it (outcome.Done r) here) none,
-    ) refl
+with-stores : (owed sums before stores : ℕ) → owed + stores ≡ before → owed + (sums + stores) ≡ sums + before
+with-stores owed sums before stores is = omega (arith, is)
 
-pub reserved-failed : (past : List Entry) (pass nth stream : ℕ) (it : Call) (e : CcError) → is_answered it ≡ true → owes_store past pass ≡ false → reserved_in (entry.Call pass nth (Some stream) it (outcome.Failed e) ∷ past) ≡ reserved_in past
+pub reserved-done : (past : List Entry) (pass nth stream : ℕ) (it : Call) (r : Reply) → is_answered it ≡ true → changes_holds it ≡ false → owed_end past pass + reserved_in (entry.Call pass nth (Some stream) it (outcome.Done r) ∷ past) ≡ reserved_in past
 unfolding reserved_in
-reserved-failed past pass nth stream it e here none =
-    rw (
-      sum-same (λ s. owed_by_stream (history (entry.Call pass nth (Some stream) it (outcome.Failed e) ∷ past) s)) (λ s. owed_by_stream (history past s)) all_streams (λ s. owed-failed past pass nth stream s it e),
-      stores-call past pass nth (Some stream) it (outcome.Failed e) (no-store it (outcome.Failed e) here) none,
-    ) refl
+reserved-done past pass nth stream it r here kept =
+    rw (sum-same (λ s. owed_by_stream (history (entry.Call pass nth (Some stream) it (outcome.Done r) ∷ past) s)) (λ s. owed_by_stream (history past s)) all_streams (λ s. owed-done past pass nth stream s it r kept))
+    (with-stores _ _ _ _ (stores-call past pass nth (Some stream) it (outcome.Done r) (no-store it (outcome.Done r) here)))
+
+pub reserved-failed : (past : List Entry) (pass nth stream : ℕ) (it : Call) (e : CcError) → is_answered it ≡ true → owed_end past pass + reserved_in (entry.Call pass nth (Some stream) it (outcome.Failed e) ∷ past) ≡ reserved_in past
+unfolding reserved_in
+reserved-failed past pass nth stream it e here =
+    rw (sum-same (λ s. owed_by_stream (history (entry.Call pass nth (Some stream) it (outcome.Failed e) ∷ past) s)) (λ s. owed_by_stream (history past s)) all_streams (λ s. owed-failed past pass nth stream s it e))
+    (with-stores _ _ _ _ (stores-call past pass nth (Some stream) it (outcome.Failed e) (no-store it (outcome.Failed e) here)))
+
+-- what a pass owes is among what the past owes
+pub owed-least : (past : List Entry) (pass : ℕ) → owed_end past pass ≤ reserved_in past
+unfolding reserved_in
+owed-least past pass = within _ _ _ _ (skip past pass [] (pass ∷ []) (λ n. refl) refl)
+  where
+    within : (sums stores owed rest : ℕ) → stores ≡ owed + rest → owed ≤ sums + stores
+    within sums stores owed rest is = omega (arith, is)

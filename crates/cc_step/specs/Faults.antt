@@ -13,7 +13,7 @@ use Rattle.cc_model.specs.History.{history}
 use Rattle.cc_model.specs.Ranges.{first_page}
 use Rattle.cc_model.specs.Refusals.{refusal}
 use Rattle.cc_model.specs.Setup.{Setup}
-use Rattle.cc_step.specs.Step.{StandUnder, MayStep, Adds, AttemptRefused, IsStop, FoundNone}
+use Rattle.cc_step.specs.Step.{StandUnder, MayStep, AddsOwing, AttemptRefused, IsStop, FoundNone}
 use Rattle.cc_step.specs.declared.faults.Failed.{Failed}
 use Rattle.cc_step.specs.declared.faults.Failed.TheVariants as ended
 
@@ -37,7 +37,7 @@ pub record MayFail {Q : Type 0} (u : Setup) (pass : ℕ) (it : Call) (fault : Cc
 pub record ToldFault {Q : Type 0} (u : Setup) (pass : ℕ) (it : Call) (fault : CcError)
     (b c : BookState) (j k : JournalState Q) : Type 0 where
   pub admitted : refusal u j.entries (history j.entries b.stream) it ≡ None
-  pub placed : Adds (failed pass j.entries b.stream it fault) j k
+  pub placed : AddsOwing (failed pass j.entries b.stream it fault) j k
   pub stand : StandUnder u c k
   pub same : c ≡ b
 

@@ -1,5 +1,5 @@
 -- The step of a call on a book: what it asks, and what it leaves.
-use Rattle.std.specs.Prelude.{◌≡◌, ℕ, ◌+◌, ◌-◌, ◌<◌, ◌≤◌, ◌⊎◌, Bool, true, false, not, List, [], ◌∷◌, length, if◌then◌else◌}
+use Rattle.std.specs.Prelude.{◌≡◌, ℕ, ◌+◌, ◌-◌, ◌<◌, ◌≤◌, ◌⊎◌, Bool, true, false, not, List, ◌∷◌, length, if◌then◌else◌}
 use Rattle.std.specs.declared.option.Option.{Option}
 use Rattle.std.specs.declared.option.Option.TheVariants.{Some, None}
 use Rattle.std.specs.List.{find}
@@ -10,7 +10,6 @@ use Rattle.cc_entry.specs.declared.call.Call.TheVariants as call
 use Rattle.cc_entry.specs.declared.error.CcError.{CcError}
 use Rattle.cc_entry.specs.declared.error.CcError.TheVariants as error
 use Rattle.cc_entry.specs.declared.entry.Entry.{Entry}
-use Rattle.cc_entry.specs.declared.entry.Entry.TheVariants as entry
 use Rattle.cc_entry.specs.declared.reply.Reply.{Reply}
 use Rattle.cc_book.specs.Book.{BookState, BookStands, Gains, done, failed}
 use Rattle.cc_holds.specs.Stands.{owes_set_dirty}
@@ -21,7 +20,6 @@ use Rattle.cc_model.specs.Filing.{IsFiled}
 use Rattle.cc_model.specs.Good.{IsGood}
 use Rattle.cc_model.specs.History.{Effect, history}
 use Rattle.cc_model.specs.Holds.{Hold, hold_at, holds_of}
-use Rattle.cc_model.specs.Passes.{is_store, up_to_call}
 use Rattle.cc_model.specs.Ranges.{range_of}
 use Rattle.cc_model.specs.Refusals.{refusal}
 use Rattle.cc_model.specs.Replies.{IsReply}
@@ -46,15 +44,6 @@ is_stepped (call.DirtyPages handle) = false
 is_stepped call.IsDirtyData = false
 is_stepped other = true
 
--- whether the last call of a pass, given the past up to it, is a done noncached store: the end of that write is owed
-abbrev pub ends_in_store : List Entry → Bool
-ends_in_store [] = false
-ends_in_store (entry.Call pass nth stream it ended ∷ past) = is_store it ended
-ends_in_store (other ∷ past) = false
-
-abbrev pub owes_store : List Entry → ℕ → Bool
-owes_store past me = ends_in_store (up_to_call past me)
-
 -- A book and a journal stand under a setup: the journal is good, its limits are those of the setup, and the book
 -- stands for it.
 pub record StandUnder {Q : Type 0} (u : Setup) (b : BookState) (j : JournalState Q) : Type 0 where
@@ -63,13 +52,12 @@ pub record StandUnder {Q : Type 0} (u : Setup) (b : BookState) (j : JournalState
   pub logs_are : u.logs ≡ j.logs
   pub threshold_is : u.threshold ≡ j.threshold
 
--- What a pass asks of a book: under some setup the two stand, the call may be filed under the stream, the journal has
--- reserved what its past owes, and the pass owes no end of a noncached write.
+-- What a pass asks of a book: under some setup the two stand, the call may be filed under the stream, and the journal has
+-- reserved what its past owes.
 pub record MayStep {Q : Type 0} (u : Setup) (pass : ℕ) (it : Call) (b : BookState) (j : JournalState Q) : Type 0 where
   pub stand : StandUnder u b j
   pub filed : IsFiled (holds_of (history j.entries b.stream)) pass (Some b.stream) it (file_of it)
   pub owed : reserved_in j.entries ≤ j.reserved
-  pub settled : owes_store j.entries pass ≡ false
 
 -- Nothing refuses a call on a stream, and each page of its range is resident.
 pub record IsReadyFor (u : Setup) (past : List Entry) (s : ℕ) (it : Call) : Type 0 where
@@ -137,10 +125,13 @@ StepLeft u pass more it (stepped.Refused e) b c j k = IsRefused u pass it e b c 
 StepLeft u pass more it (stepped.Waits page again) b c j k = Waits u page it again b c j k
 StepLeft u pass more it (stepped.Stopped e) b c j k = IsWantOf more e j × FoundNone u b c j k
 
--- Whether the entry of a call that is refused or fails is placed here: that of each call that is stepped, and of a
--- flush, which is done elsewhere, once it has synced.
+-- Whether the entry of a call that is refused or fails is placed here: that of each call that is stepped, and of those
+-- that are done elsewhere, once they have synced, emptied a span, read the disk or stored a page.
 abbrev pub is_answered : Call → Bool
 is_answered (call.Flush file span) = true
+is_answered (call.Purge file span) = true
+is_answered (call.NcRead file page) = true
+is_answered (call.NcWrite file page) = true
 is_answered other = is_stepped other
 
 -- How many places a call asks that is done: that of its entry, and those that it reserves with it. A hold reserves its
@@ -199,7 +190,7 @@ pub record AttemptDone {Q : Type 0} (u : Setup) (pass : ℕ) (it : Call) (r : Re
 pub record AttemptRefused {Q : Type 0} (u : Setup) (pass : ℕ) (it : Call) (e : CcError)
     (b c : BookState) (j k : JournalState Q) : Type 0 where
   pub reason : refusal u j.entries (history j.entries b.stream) it ≡ Some e
-  pub placed : Adds (failed pass j.entries b.stream it e) j k
+  pub placed : AddsOwing (failed pass j.entries b.stream it e) j k
   pub stand : StandUnder u c k
   pub same : c ≡ b
 

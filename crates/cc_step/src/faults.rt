@@ -65,16 +65,21 @@ fn answer<Q>(
         FailLeft u pass call fault result book.old book.new journal.old journal.new }
 {
     match journal.reserve(1) {
-        Ok(()) => match refused {
-            Some(error) => {
-                book.fail(journal, pass, call, error);
-                Failed::Refused(error)
+        Ok(()) => {
+            let owed = journal.owed_end(pass);
+            match refused {
+                Some(error) => {
+                    book.fail(journal, pass, call, error);
+                    journal.release(owed);
+                    Failed::Refused(error)
+                }
+                None => {
+                    book.fail(journal, pass, call, fault);
+                    journal.release(owed);
+                    Failed::Told
+                }
             }
-            None => {
-                book.fail(journal, pass, call, fault);
-                Failed::Told
-            }
-        },
+        }
         Err(error) => Failed::Stopped(error),
     }
 }

@@ -31,7 +31,8 @@ pub enum Stepped {
 }
 
 /// Takes the step of a call by this pass where the journal has room for its entry and for what it reserves with it. A
-/// set-dirty that was reserved, and the end of a hold, have their place and take no memory.
+/// set-dirty that was reserved, and the end of a hold, have their place and take no memory. Where the pass owed the end of
+/// a noncached write, whose transfer found no memory, the place of that end is given back.
 ///
 /// `JournalFull` exactly where there is no room, with the number of entries; `NoMemory`.
 pub fn attempt<Q>(
@@ -101,8 +102,11 @@ fn place_new<Q>(
     let _stream = book.stream().number();
     match journal.reserve(1) {
         Ok(()) => {
+            let owed = journal.owed_end(pass);
             let ended = step(alloc, book, journal, pass, call, more);
-            if !has_placed(&ended) {
+            if has_placed(&ended) {
+                journal.release(owed);
+            } else {
                 journal.release(1);
             }
             ended
@@ -130,9 +134,11 @@ fn place_reserved<Q>(
     // The stream's number is what says that it is below 16, so that what its holds owe is counted.
     let _stream = book.stream().number();
     let spared = places_spared(book, &call);
+    let owed = journal.owed_end(pass);
     match book.done(alloc, journal, pass, call, Reply::Unit) {
         Ok(()) => {
             journal.release(spared);
+            journal.release(owed);
             Stepped::Done
         }
         Err(_) => unreachable!(),

@@ -1,5 +1,5 @@
 -- One attempt at a call in a visit: what it gives, and what it leaves of the call.
-use Rattle.std.specs.Prelude.{◌≡◌, ℕ, suc, ◌+◌, ◌<◌, ◌≤◌, Bool, true, List, [], ◌∷◌, Some, Err}
+use Rattle.std.specs.Prelude.{◌≡◌, ℕ, suc, ◌+◌, ◌<◌, ◌≤◌, Bool, true, false, List, [], ◌∷◌, Some, Err}
 use Rattle.std.proofs.Common.{ap, sym, ◌∙◌, subst, inl, inr, arith}
 use Rattle.cc_entry.specs.declared.call.Call.{Call}
 use Rattle.cc_entry.specs.declared.entry.Entry.{Entry}
@@ -33,7 +33,7 @@ use Rattle.cc_visits.specs.declared.tell.Returned.{Returned}
 use Rattle.cc_visits.specs.declared.visits.Tried.{Tried}
 use Rattle.cc_visits.proofs.Ending.{done-left, refused-left, full-left, memoryless-left}
 use Rattle.cc_visits.proofs.Others.{under_way-on}
-use Rattle.cc_visits.proofs.Placing.{has-book, stepping-done, stepping-failed, stepping-same}
+use Rattle.cc_visits.proofs.Placing.{has-book, needs_disk, diskless, stepping-done, stepping-failed, stepping-same}
 use Rattle.cc_visits.proofs.Refusals.{MayStop}
 use Rattle.cc_visits.proofs.Replies.{replied, fits-reply, full-listed, full-stopped}
 use Rattle.cc_visits.proofs.Resting.{filed-held}
@@ -53,7 +53,6 @@ module _ {Q : Type 0} (posted : Q → Bool) (w v : Standing) (it : Call) (b c : 
     stand = vis.stand;
     filed = filed-front;
     owed = covers (reserved_in j.entries) j.reserved w.in_flight v.others vis.reserved_is;
-    settled = vis.settled;
   }
     where
       covers : (owed was flight others : ℕ) → was ≡ owed + flight + others → owed ≤ was
@@ -83,26 +82,26 @@ module _ {Q : Type 0} (posted : Q → Bool) (w v : Standing) (it : Call) (b c : 
     last = ap (λ (x : JournalState Q). x.entries) left.placed;
   }
 
-  pub fits-done : (r : Reply) (out : List ℕ) → AttemptDone w.setup w.number it r b c j k → FitsIn it out → FitsLast k.entries out
-  fits-done r out left fits x answered =
+  pub fits-done : is_stepped it ≡ true → (r : Reply) (out : List ℕ) → AttemptDone w.setup w.number it r b c j k → FitsIn it out → FitsLast k.entries out
+  fits-done stepped r out left fits x answered =
       let reply = replied w.setup w.number b.stream it r j.entries (subst (λ (past : List Entry). IsGood w.setup past) (ap (λ (x : JournalState Q). x.entries) left.placed) left.stand.good) in
       subst (λ (y : Reply). FitsReply y out) (same-reply k.entries r x (last-done r left) answered)
-      (fits-reply w.setup j.entries (w.setup.opening b.stream) (history j.entries b.stream) w.number it r out here reply fits)
+      (fits-reply w.setup j.entries (w.setup.opening b.stream) (history j.entries b.stream) w.number it r out stepped reply fits)
 
-  pub fits-stepped : (ended : Stepped) (out : List ℕ) → AttemptLeft w.setup w.number it ended b c j k → FitsIn it out → FitsStepped ended k.entries out
-  fits-stepped stepped.Done out left fits = fits-done left.0 out left.1 fits
-  fits-stepped (stepped.Refused e) out left fits = tt
-  fits-stepped (stepped.Waits page again) out left fits = tt
-  fits-stepped (stepped.Stopped e) out left fits = tt
+  pub fits-stepped : is_stepped it ≡ true → (ended : Stepped) (out : List ℕ) → AttemptLeft w.setup w.number it ended b c j k → FitsIn it out → FitsStepped ended k.entries out
+  fits-stepped is stepped.Done out left fits = fits-done is left.0 out left.1 fits
+  fits-stepped is (stepped.Refused e) out left fits = tt
+  fits-stepped is (stepped.Waits page again) out left fits = tt
+  fits-stepped is (stepped.Stopped e) out left fits = tt
 
   -- what each way of an attempt gives
-  pub visited-done : (r : Reply) → AttemptDone w.setup w.number it r b c j k → Visited posted w v b.stream w.in_flight c k
-  visited-done r left = visited posted w v b.stream w.in_flight (done w.number j.entries b.stream it r ∷ []) b c j k has vis (stepping-done posted w v b c j k has vis it r here left)
+  pub visited-done : needs_disk it ≡ false → (r : Reply) → AttemptDone w.setup w.number it r b c j k → Visited posted w v b.stream w.in_flight c k
+  visited-done alone r left = visited posted w v b.stream w.in_flight (done w.number j.entries b.stream it r ∷ []) b c j k has vis (stepping-done posted w v b c j k has vis it r alone left)
 
   pub visited-refused : (e : CcError) → AttemptRefused w.setup w.number it e b c j k → Visited posted w v b.stream w.in_flight c k
   visited-refused e left =
       visited posted w v b.stream w.in_flight (failed w.number j.entries b.stream it e ∷ []) b c j k has vis
-      (stepping-failed posted w v b c j k has vis it e here left.placed left.stand (ap (λ (x : BookState). x.stream) left.same))
+      (stepping-failed posted w v b c j k has vis it e left.placed left.stand (ap (λ (x : BookState). x.stream) left.same))
 
   pub visited-same : k ≡ j → StandUnder w.setup c k → c.stream ≡ b.stream → Visited posted w v b.stream w.in_flight c k
   visited-same same stand stream = visited posted w v b.stream w.in_flight [] b c j k has vis (stepping-same posted w v b c j k has vis same stand stream)
@@ -140,14 +139,14 @@ module _ {Q : Type 0} (posted : Q → Bool) (w v : Standing) (it : Call) (b c : 
       full-stopped A posted asked (without_journal k v) k e given.journal (subst (λ (x : JournalState Q). IsStop asked e x) (sym same) stop)
 
   -- an attempt, by how it ended
-  pub visited-attempt : (ended : Stepped) → AttemptLeft w.setup w.number it ended b c j k → Visited posted w v b.stream w.in_flight c k
-  visited-attempt stepped.Done left = visited-done left.0 left.1
-  visited-attempt (stepped.Refused e) left = visited-refused e left
-  visited-attempt (stepped.Waits page again) left =
+  pub visited-attempt : is_stepped it ≡ true → (ended : Stepped) → AttemptLeft w.setup w.number it ended b c j k → Visited posted w v b.stream w.in_flight c k
+  visited-attempt is stepped.Done left = visited-done (diskless it is) left.0 left.1
+  visited-attempt is (stepped.Refused e) left = visited-refused e left
+  visited-attempt is (stepped.Waits page again) left =
       visited-same left.same_journal
       (subst (λ (x : BookState). StandUnder w.setup x k) (sym left.same_book) (subst (λ (x : JournalState Q). StandUnder w.setup b x) (sym left.same_journal) vis.stand))
       (ap (λ (x : BookState). x.stream) left.same_book)
-  visited-attempt (stepped.Stopped e) left = visited-same left.1.same_journal left.1.stand left.1.stream
+  visited-attempt is (stepped.Stopped e) left = visited-same left.1.same_journal left.1.stand left.1.stream
 
   pub left-attempt : is_stepped it ≡ true → b.stream < 16 → (ended : Stepped) (answer : Tried) (was now : List ℕ) → AttemptLeft w.setup w.number it ended b c j k → TriedAs ended answer k.entries was now → (begun : List Entry) → IsUnderWay w.number it begun w.seen → TriedLeft w.setup w.number b.stream it answer begun k.entries was now
   left-attempt is known stepped.Done answer was now left told begun way =
@@ -175,4 +174,4 @@ module _ {Q : Type 0} (posted : Q → Bool) (w v : Standing) (it : Call) (b c : 
       subst (λ (x : Tried). IsFullTried (without_journal k v) it x) (sym told.0)
       (full-stop Returned (most_asked it) e
       (stops-for (asked_now j.entries b.stream it) (most_asked it) e j (most (holds_of (history j.entries b.stream)) it) left.0)
-      left.1.same_journal (visited-attempt (stepped.Stopped e) left))
+      left.1.same_journal (visited-same left.1.same_journal left.1.stand left.1.stream))

@@ -71,7 +71,7 @@ module _ {Q : Type 0} (posted : Q → Bool) (w v : Standing) (it : Call) (b c : 
   visited-fail (ended.Refused e) left = visited-refused posted w v it b c j k has vis here filed e left
   visited-fail ended.Told left =
       visited posted w v b.stream w.in_flight (failed w.number j.entries b.stream it fault ∷ []) b c j k has vis
-      (stepping-failed posted w v b c j k has vis it fault here left.placed left.stand (ap (λ (x : BookState). x.stream) left.same))
+      (stepping-failed posted w v b c j k has vis it fault left.placed left.stand (ap (λ (x : BookState). x.stream) left.same))
   visited-fail (ended.Stopped e) left = visited-same posted w v it b c j k has vis here filed left.1.same_journal left.1.stand left.1.stream
 
   pub disk-fail : w.held.device ≡ Some b.stream → (end : Failed) → FailLeft w.setup w.number it fault end b c j k → SameDisk w.seen k.entries b.stream

@@ -34,7 +34,7 @@ use Rattle.cc_visits.proofs.Attempting.{number-is, way-on}
 use Rattle.cc_visits.proofs.Disks.{disk-same, disk-page_in}
 use Rattle.cc_visits.proofs.Halting.{halts}
 use Rattle.cc_visits.proofs.Others.{some-on, under_way-on}
-use Rattle.cc_visits.proofs.Owing.{reserved-page_in, reserved-fill_failed, settled-other}
+use Rattle.cc_visits.proofs.Owing.{reserved-page_in, reserved-fill_failed}
 use Rattle.cc_visits.proofs.Placing.{has-book, stepping-none, stepping-one, unneeded-page, unneeded-device}
 use Rattle.cc_visits.proofs.Resting.{is-held, disk-held, rest-same}
 use Rattle.cc_visits.proofs.Stepping.{may-fill, disk-grew}
@@ -83,7 +83,7 @@ module _ {Q : Type 0} (posted : Q → Bool) (w v : Standing) (b c : BookState) (
       visited posted w v b.stream 0 (page_in w.number (page_of b page) b ∷ []) b c j k has vis
       (stepping-one posted w v b c j k has vis 0 (page_in w.number (page_of b page) b) (gains-kept (page_in w.number (page_of b page) b) gains) stand stream
       (eq-eqb w.number w.number refl) (unneeded-page w.held b.stream (has-book posted w v b c j k has vis) rest.device)
-      (reserved-page_in w.number (page_of b page) _ j.entries) (settled-other w.number (page_in w.number (page_of b page) b) j.entries refl vis.settled)
+      (reserved-page_in w.number (page_of b page) _ j.entries)
       (fewer (ap (λ (x : JournalState Q). x.reserved) gains)))
 
   pub visited-unread : (page : ℕ) → Gains (entry.FillFailed w.number (page_of b page)) j k → StandUnder w.setup c k → c.stream ≡ b.stream → Visited posted w v b.stream 0 c k
@@ -91,7 +91,7 @@ module _ {Q : Type 0} (posted : Q → Bool) (w v : Standing) (b c : BookState) (
       visited posted w v b.stream 0 (entry.FillFailed w.number (page_of b page) ∷ []) b c j k has vis
       (stepping-one posted w v b c j k has vis 0 (entry.FillFailed w.number (page_of b page)) (gains-kept (entry.FillFailed w.number (page_of b page)) gains) stand stream
       (eq-eqb w.number w.number refl) (unneeded-device w.held b.stream (has-book posted w v b c j k has vis) rest.device)
-      (reserved-fill_failed w.number (page_of b page) j.entries) (settled-other w.number (entry.FillFailed w.number (page_of b page)) j.entries refl vis.settled)
+      (reserved-fill_failed w.number (page_of b page) j.entries)
       (fewer (ap (λ (x : JournalState Q). x.reserved) gains)))
 
 -- A page for a call.

@@ -1,26 +1,18 @@
 -- The entry of a page that comes in, goes out, or could not be read leaves what is reserved as it was, and what the
 -- pass owes.
 use Rattle.std.specs.Prelude.{◌≡◌, ℕ, Bool, true, false, ◌==◌, List, [], ◌∷◌, Option, None, Some, if◌then◌else◌, refl}
-use Rattle.std.proofs.Common.{ap, sym, ◌∙◌}
-use Rattle.std.proofs.lemmas.Bool.{eq-eqb}
+use Rattle.std.proofs.Common.{sym, ◌∙◌}
 use Rattle.std.proofs.lemmas.List.Sums.{sum_by-cons}
 use Rattle.std.specs.List.{cons_option, sum_by}
 use Rattle.cc_entry.specs.Place.{Page}
-use Rattle.cc_entry.specs.declared.call.Call.{Call}
 use Rattle.cc_entry.specs.declared.entry.Entry.{Entry}
 use Rattle.cc_entry.specs.declared.entry.Entry.TheVariants as entry
-use Rattle.cc_entry.specs.declared.reply.Outcome.{Outcome}
 use Rattle.cc_laws.proofs.HoldSteps.{holds_of-came_in, holds_of-went_out}
 use Rattle.cc_laws.proofs.ImageSteps.{open_of-came_in, open_of-went_out}
-use Rattle.cc_laws.proofs.PassSteps.{up_to_call-call, up_to_call-other}
 use Rattle.cc_laws.proofs.QuietSteps.{none_or}
 use Rattle.cc_model.specs.Cache.{all_streams}
 use Rattle.cc_model.specs.History.{Effect, CameIn, WentOut, effect_of, history}
-use Rattle.cc_model.specs.Passes.{is_call_of}
 use Rattle.cc_model.specs.Room.{owed_by_stream, stores_unfinished, reserved_in}
-use Rattle.cc_step.specs.Step.{ends_in_store, owes_store}
-use Rattle.cc_step.specs.Step.{is_answered}
-use Rattle.cc_step.proofs.Reserved.{no-store}
 
 -- sums of the same terms are the same
 sum-same : (f g : ℕ → ℕ) (ns : List ℕ) → ((n : ℕ) → f n ≡ g n) → sum_by f ns ≡ sum_by g ns
@@ -64,11 +56,3 @@ reserved-page_out me page past =
 pub reserved-fill_failed : (me : ℕ) (page : Page) (past : List Entry) → reserved_in (entry.FillFailed me page ∷ past) ≡ reserved_in past
 unfolding stores_unfinished
 reserved-fill_failed me page past = reserved-moved (entry.FillFailed me page) past (λ s. refl) refl
-
--- an entry that is no call leaves what the pass owes
-pub settled-other : (me : ℕ) (e : Entry) (past : List Entry) → is_call_of me e ≡ false → owes_store past me ≡ false → owes_store (e ∷ past) me ≡ false
-settled-other me e past other none = ap ends_in_store (up_to_call-other e past me other) ∙ none
-
--- and a call whose entry is placed with its book owes nothing
-pub settled-call : (me nth : ℕ) (stream : Option ℕ) (it : Call) (ended : Outcome) (past : List Entry) → is_answered it ≡ true → owes_store (entry.Call me nth stream it ended ∷ past) me ≡ false
-settled-call me nth stream it ended past here = ap ends_in_store (up_to_call-call me nth stream it ended past me (eq-eqb me me refl)) ∙ no-store it ended here

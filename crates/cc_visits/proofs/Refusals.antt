@@ -177,6 +177,20 @@ among u past h (call.Flush file span) here =
     let it : Call = call.Flush file span in
     among-first it (not_cached h (Some file)) _ (among-if it _ _ refl)
     (among-first it (busy (holds_of h) it) _ (among-busy it _ (λ n. refl)) tt)
+among u past h (call.Purge file span) here =
+    let it : Call = call.Purge file span in
+    among-first it (not_cached h (Some file)) _ (among-if it _ _ refl)
+    (among-first it (held h it) _ (among-held it _ (λ n. refl)) tt)
+among u past h (call.NcRead file page) here =
+    let it : Call = call.NcRead file page in
+    among-first it (not_cached h (Some file)) _ (among-if it _ _ refl) tt
+among u past h (call.NcWrite file page) here =
+    let it : Call = call.NcWrite file page in
+    among-first it (not_cached h (Some file)) _ (among-if it _ _ refl)
+    (among-first it (beyond_size (size_of h) it) _ (among-if it _ _ refl)
+    (among-first it (beyond_valid (valid_of h) it) _ (among-if it _ _ refl)
+    (among-first it (busy (holds_of h) it) _ (among-busy it _ (λ n. refl))
+    (among-first it (no_views h (range_of (size_of h) it)) _ (among-views it h (range_of (size_of h) it) (λ a q. refl)) tt))))
 among u past h other here = absurd (cc)
 
 -- a refusal that the definition gives is among the call's

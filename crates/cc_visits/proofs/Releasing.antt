@@ -8,7 +8,6 @@ use Rattle.cc_effects.specs.Calls.{IsUnderWay}
 use Rattle.cc_effects.specs.Moments.{IsIdle}
 use Rattle.cc_journal.specs.Journal.{JournalState}
 use Rattle.cc_model.specs.Good.{IsGood}
-use Rattle.cc_step.specs.Step.{owes_store}
 use Rattle.cc_turns.specs.Journal.{JournalStands}
 use Rattle.cc_turns.specs.Standing.{Standing, Held, nothing}
 use Rattle.cc_turns.specs.Takes.{Grows, Takes, Adds, with_journal, without_journal}
@@ -16,7 +15,6 @@ use Rattle.cc_turns.proofs.Taking.{book_kept, adds_nothing}
 use Rattle.cc_visits.specs.Hands.{HasBook, IsAtRest, SameDisk}
 use Rattle.cc_visits.proofs.Others.{under_way-on}
 use Rattle.cc_visits.proofs.Resting.{disk-held, rest-same}
-use Rattle.cc_visits.proofs.Visiting.{settled-others}
 
 module _ {Q : Type 0} (posted : Q → Bool) (w v : Standing) (j k : JournalState Q) (taken : Takes with_journal w v)
     (stands : JournalStands posted v j) (released : k ≡ record j { reserved = j.reserved - 1 }) where
@@ -51,8 +49,6 @@ module _ {Q : Type 0} (posted : Q → Bool) (w v : Standing) (j k : JournalState
           (subst (λ (past : List Entry). BookStands (v.setup.opening s) past b) (sym entries_same)
           (book_kept with_journal w v s b taken refl (ap (λ (h : Held). h.book) has.held) has.stream has.stands));
       good = subst (λ (y : Standing). IsGood y.setup y.seen) (sym given) (subst (λ (past : List Entry). IsGood v.setup past) (sym entries_same) taken.good);
-      settled = subst (λ (n : ℕ). owes_store x.seen n ≡ false) (sym number_same)
-          (ap (λ (past : List Entry). owes_store past w.number) grows.grew ∙ settled-others w.number grows.later w.seen grows.others has.settled);
     }
 
     pub disk_released : (s : ℕ) → w.held.device ≡ Some s → SameDisk w.seen x.seen s

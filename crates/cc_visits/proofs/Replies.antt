@@ -18,7 +18,7 @@ use Rattle.cc_model.specs.History.{Effect, history}
 use Rattle.cc_model.specs.Legal.{IsLegal, IsLegalEntry}
 use Rattle.cc_model.specs.Replies.{IsReply, Reads}
 use Rattle.cc_model.specs.Setup.{Setup}
-use Rattle.cc_step.specs.Step.{is_answered, IsStop}
+use Rattle.cc_step.specs.Step.{is_stepped, IsStop}
 use Rattle.cc_step.proofs.Reasons.{is_listed}
 use Rattle.cc_turns.specs.Journal.{JournalStands}
 use Rattle.cc_turns.specs.Standing.{Standing}
@@ -44,7 +44,7 @@ reads-fit (Some pages) h at len r out reads fits =
     let long : length (answer pages h at len) ≡ answer_length h at len = length-map (range_with_len at (answer_length h at len)) (byte_of pages h) ∙ length-range_with_len at (answer_length h at len) in
     subst (λ (x : Reply). FitsReply x out) (sym reads) (omega (arith, long, short, fits))
 
-pub fits-reply : (u : Setup) (past : List Entry) (told : Option (ℕ → List ℕ)) (h : List Effect) (pass : ℕ) (it : Call) (r : Reply) (out : List ℕ) → is_answered it ≡ true → IsReply u past told h pass it r → FitsIn it out → FitsReply r out
+pub fits-reply : (u : Setup) (past : List Entry) (told : Option (ℕ → List ℕ)) (h : List Effect) (pass : ℕ) (it : Call) (r : Reply) (out : List ℕ) → is_stepped it ≡ true → IsReply u past told h pass it r → FitsIn it out → FitsReply r out
 fits-reply u past told h pass (call.CopyRead file at len wait) r out here is fits = reads-fit told h at len r out is fits
 fits-reply u past told h pass (call.MappedRead hold at len) r out here is fits = reads-fit told h at len r out is fits
 fits-reply u past told h pass (call.PinnedRead hold at len) r out here is fits = reads-fit told h at len r out is fits
@@ -66,7 +66,6 @@ fits-reply u past told h pass (call.MdlWrite file at len) r out here is fits = r
 fits-reply u past told h pass (call.MdlStore hold at bytes) r out here is fits = rw is tt
 fits-reply u past told h pass (call.SetSizes file allocation size) r out here is fits = rw is tt
 fits-reply u past told h pass (call.State file) r out here is fits = rw is tt
-fits-reply u past told h pass (call.Flush file span) r out here is fits = rw is tt
 fits-reply u past told h pass (call.SetLog file handle) r out here is fits = rw is tt
 fits-reply u past told h pass (call.LsnForFile file) r out here is fits = rw is tt
 fits-reply u past told h pass (call.SetGranularity file bytes) r out here is fits = rw is tt

@@ -26,9 +26,9 @@ use Rattle.cc_visits.specs.declared.tell.Returned.{Returned}
 use Rattle.cc_visits.specs.declared.visits.Step.{Step}
 use Rattle.cc_visits.proofs.Attempting.{may-step, number-is, way-on, last-done, fits-done, visited-done, visited-refused, visited-same, left-done, left-refused, left-stopped, full-refused, full-stop}
 use Rattle.cc_visits.proofs.Disks.{disk-same, disk-then, disk-call, disk-page_out}
-use Rattle.cc_visits.proofs.Owing.{reserved-page_out, settled-other}
+use Rattle.cc_visits.proofs.Owing.{reserved-page_out}
 use Rattle.cc_visits.proofs.Pages.{takes_out}
-use Rattle.cc_visits.proofs.Placing.{has-book, stepping-none, stepping-adds, unneeded-page}
+use Rattle.cc_visits.proofs.Placing.{has-book, diskless, stepping-none, stepping-adds, unneeded-page}
 use Rattle.cc_visits.proofs.Refusals.{brings-free, stops-free}
 use Rattle.cc_visits.proofs.Resting.{disk-held, rest-same}
 use Rattle.cc_visits.proofs.Visiting.{Visiting, Visited, visited}
@@ -51,9 +51,9 @@ module _ {Q : Type 0} (posted : Q → Bool) (w v : Standing) (it : Call) (b c : 
   pub stepped : (pass : ℕ) (ended : Next) → pass ≡ v.number → ((u : Setup) → MayFill u pass it b j → NextLeft u pass it ended b c j k) → NextLeft w.setup w.number it ended b c j k
   stepped pass ended me left = subst (λ (n : ℕ). NextLeft w.setup n it ended b c j k) (number-is posted w v it b c j k has vis here filed pass me) (left w.setup (fill-as pass me))
 
-  pub fits-next : (ended : Next) (out : List ℕ) → NextLeft w.setup w.number it ended b c j k → FitsIn it out → FitsNext ended k.entries out
-  fits-next next.Done out left fits = fits-done posted w v it b c j k has vis here filed left.0 out left.1 fits
-  fits-next other out left fits = tt
+  pub fits-next : is_stepped it ≡ true → (ended : Next) (out : List ℕ) → NextLeft w.setup w.number it ended b c j k → FitsIn it out → FitsNext ended k.entries out
+  fits-next is next.Done out left fits = fits-done posted w v it b c j k has vis here filed is left.0 out left.1 fits
+  fits-next is other out left fits = tt
 
   -- so many places are under way after it
   abbrev pub flight_after : Next → ℕ
@@ -70,8 +70,7 @@ module _ {Q : Type 0} (posted : Q → Bool) (w v : Standing) (it : Call) (b c : 
       visited posted w v b.stream w.in_flight (entry.PageOut w.number (page_of b left.page) ∷ []) b c j k has vis
       (stepping-adds posted w v b c j k has vis (entry.PageOut w.number (page_of b left.page)) left.placed left.stand left.stream (eq-eqb w.number w.number refl)
       (unneeded-page w.held b.stream (has-book posted w v b c j k has vis) rest.device)
-      (reserved-page_out w.number (page_of b left.page) j.entries)
-      (settled-other w.number (entry.PageOut w.number (page_of b left.page)) j.entries refl vis.settled))
+      (reserved-page_out w.number (page_of b left.page) j.entries))
 
   stand-same : c ≡ b → k ≡ j → StandUnder w.setup c k
   stand-same book journal = subst (λ (x : BookState). StandUnder w.setup x k) (sym book) (subst (λ (x : JournalState Q). StandUnder w.setup b x) (sym journal) vis.stand)
@@ -92,14 +91,14 @@ module _ {Q : Type 0} (posted : Q → Bool) (w v : Standing) (it : Call) (b c : 
       count : (now was flight : ℕ) → now ≡ was + 1 → now + flight ≡ was + suc flight
       count now was flight more = omega (arith, more)
 
-  pub visited-next : (ended : Next) → NextLeft w.setup w.number it ended b c j k → Visited posted w v b.stream (flight_after ended) c k
-  visited-next next.Done left = visited-done posted w v it b c j k has vis here filed left.0 left.1
-  visited-next (next.Refused e) left = visited-refused posted w v it b c j k has vis here filed e left
-  visited-next (next.WentOut again) left = visited-out again left
-  visited-next (next.Writes page again) left =
+  pub visited-next : is_stepped it ≡ true → (ended : Next) → NextLeft w.setup w.number it ended b c j k → Visited posted w v b.stream (flight_after ended) c k
+  visited-next is next.Done left = visited-done posted w v it b c j k has vis here filed (diskless it is) left.0 left.1
+  visited-next is (next.Refused e) left = visited-refused posted w v it b c j k has vis here filed e left
+  visited-next is (next.WentOut again) left = visited-out again left
+  visited-next is (next.Writes page again) left =
       visited-same posted w v it b c j k has vis here filed left.same_journal (stand-same left.same_book left.same_journal) (ap (λ (x : BookState). x.stream) left.same_book)
-  visited-next (next.Reads page again) left = visited-read page again left
-  visited-next (next.Stopped e) left = visited-same posted w v it b c j k has vis here filed left.1.same_journal left.1.stand left.1.stream
+  visited-next is (next.Reads page again) left = visited-read page again left
+  visited-next is (next.Stopped e) left = visited-same posted w v it b c j k has vis here filed left.1.same_journal left.1.stand left.1.stream
 
   -- the journal is the front, with one entry more or none
   pub disk-grew : (now : List Entry) → SameDisk j.entries now b.stream → k.entries ≡ now → SameDisk w.seen k.entries b.stream
@@ -117,19 +116,19 @@ module _ {Q : Type 0} (posted : Q → Bool) (w v : Standing) (it : Call) (b c : 
   disk-next (next.Stopped e) left = disk-grew j.entries (disk-same j.entries b.stream) (ap (λ (x : JournalState Q). x.entries) left.1.same_journal)
 
   -- how the pass goes on
-  pub went-next : (ended : Next) (answer : Step) (was now : List ℕ) → NextLeft w.setup w.number it ended b c j k → StepAs ended answer k.entries was now → StepWent answer w (without_journal k v)
-  went-next next.Done answer was now left told =
-      subst (λ (x : Step). StepWent x w (without_journal k v)) (sym told.1) (visited-next next.Done left).went
-  went-next (next.Refused e) answer was now left told =
-      subst (λ (x : Step). StepWent x w (without_journal k v)) (sym told.0) (visited-next (next.Refused e) left).went
-  went-next (next.WentOut again) answer was now left told =
-      subst (λ (x : Step). StepWent x w (without_journal k v)) (sym told.0) (visited-next (next.WentOut again) left).went
-  went-next (next.Writes page again) answer was now left told =
-      subst (λ (x : Step). StepWent x w (without_journal k v)) (sym told.0) (visited-next (next.Writes page again) left).went
-  went-next (next.Reads page again) answer was now left told =
-      subst (λ (x : Step). StepWent x w (without_journal k v)) (sym told.0) (visited-next (next.Reads page again) left).went
-  went-next (next.Stopped e) answer was now left told =
-      subst (λ (x : Step). StepWent x w (without_journal k v)) (sym told.0) (visited-next (next.Stopped e) left).went
+  pub went-next : is_stepped it ≡ true → (ended : Next) (answer : Step) (was now : List ℕ) → NextLeft w.setup w.number it ended b c j k → StepAs ended answer k.entries was now → StepWent answer w (without_journal k v)
+  went-next is next.Done answer was now left told =
+      subst (λ (x : Step). StepWent x w (without_journal k v)) (sym told.1) (visited-next is next.Done left).went
+  went-next is (next.Refused e) answer was now left told =
+      subst (λ (x : Step). StepWent x w (without_journal k v)) (sym told.0) (visited-next is (next.Refused e) left).went
+  went-next is (next.WentOut again) answer was now left told =
+      subst (λ (x : Step). StepWent x w (without_journal k v)) (sym told.0) (visited-next is (next.WentOut again) left).went
+  went-next is (next.Writes page again) answer was now left told =
+      subst (λ (x : Step). StepWent x w (without_journal k v)) (sym told.0) (visited-next is (next.Writes page again) left).went
+  went-next is (next.Reads page again) answer was now left told =
+      subst (λ (x : Step). StepWent x w (without_journal k v)) (sym told.0) (visited-next is (next.Reads page again) left).went
+  went-next is (next.Stopped e) answer was now left told =
+      subst (λ (x : Step). StepWent x w (without_journal k v)) (sym told.0) (visited-next is (next.Stopped e) left).went
 
   -- and what is left of the call
   pub left-next : is_stepped it ≡ true → brings_in it ≡ true → (ended : Next) (answer : Step) (was now : List ℕ) → NextLeft w.setup w.number it ended b c j k → StepAs ended answer k.entries was now → (begun : List Entry) → IsUnderWay w.number it begun w.seen → StepLeft w.setup w.number b.stream it answer begun k.entries was now
@@ -162,13 +161,13 @@ module _ {Q : Type 0} (posted : Q → Bool) (w v : Standing) (it : Call) (b c : 
       subst (λ (x : Step). StepLeft w.setup w.number b.stream it x begun k.entries was now) (sym told.0)
       (left-stopped posted w v it b c j k has vis here filed begun way (most_asked it) e (stops-free it j.entries here (brings-free it brings)) left.0 left.1.same_journal, told.1)
 
-  pub full-next : (ended : Next) (answer : Step) (was now : List ℕ) → NextLeft w.setup w.number it ended b c j k → StepAs ended answer k.entries was now → IsFullStep (without_journal k v) it answer
-  full-next next.Done answer was now left told = subst (λ (x : Step). IsFullStep (without_journal k v) it x) (sym told.1) tt
-  full-next (next.Refused e) answer was now left told =
+  pub full-next : is_stepped it ≡ true → (ended : Next) (answer : Step) (was now : List ℕ) → NextLeft w.setup w.number it ended b c j k → StepAs ended answer k.entries was now → IsFullStep (without_journal k v) it answer
+  full-next is next.Done answer was now left told = subst (λ (x : Step). IsFullStep (without_journal k v) it x) (sym told.1) tt
+  full-next is (next.Refused e) answer was now left told =
       subst (λ (x : Step). IsFullStep (without_journal k v) it x) (sym told.0) (full-refused posted w v it b c j k has vis here filed Returned (most_asked it) e left)
-  full-next (next.WentOut again) answer was now left told = subst (λ (x : Step). IsFullStep (without_journal k v) it x) (sym told.0) tt
-  full-next (next.Writes page again) answer was now left told = subst (λ (x : Step). IsFullStep (without_journal k v) it x) (sym told.0) tt
-  full-next (next.Reads page again) answer was now left told = subst (λ (x : Step). IsFullStep (without_journal k v) it x) (sym told.0) tt
-  full-next (next.Stopped e) answer was now left told =
+  full-next is (next.WentOut again) answer was now left told = subst (λ (x : Step). IsFullStep (without_journal k v) it x) (sym told.0) tt
+  full-next is (next.Writes page again) answer was now left told = subst (λ (x : Step). IsFullStep (without_journal k v) it x) (sym told.0) tt
+  full-next is (next.Reads page again) answer was now left told = subst (λ (x : Step). IsFullStep (without_journal k v) it x) (sym told.0) tt
+  full-next is (next.Stopped e) answer was now left told =
       subst (λ (x : Step). IsFullStep (without_journal k v) it x) (sym told.0)
-      (full-stop posted w v it b c j k has vis here filed Returned (most_asked it) e left.0 left.1.same_journal (visited-next (next.Stopped e) left))
+      (full-stop posted w v it b c j k has vis here filed Returned (most_asked it) e left.0 left.1.same_journal (visited-next is (next.Stopped e) left))

@@ -1,31 +1,21 @@
 -- One visit to the journal, with a book in hand: what the pass knows in it, and what it gives.
-use Rattle.std.specs.Prelude.{◌≡◌, ℕ, ◌+◌, ◌-◌, ◌≤◌, Bool, true, false, List, [], ◌∷◌, ◌++◌, Some, refl}
+use Rattle.std.specs.Prelude.{◌≡◌, ℕ, ◌+◌, ◌-◌, ◌≤◌, Bool, true, false, List, ◌++◌, Some, refl}
 use Rattle.std.specs.List.{AllByRecursion}
 use Rattle.std.proofs.Common.{ap, sym, ◌∙◌, subst, arith}
 use Rattle.cc_entry.specs.declared.entry.Entry.{Entry}
 use Rattle.cc_book.specs.Book.{BookState, BookStands}
-use Rattle.cc_effects.specs.Moments.{Others, IsIdle}
+use Rattle.cc_effects.specs.Moments.{IsIdle}
 use Rattle.cc_journal.specs.Journal.{JournalState}
 use Rattle.cc_journal.specs.Queue.{AllUnposted}
-use Rattle.cc_laws.proofs.PassSteps.{up_to_call-not_mine}
 use Rattle.cc_model.specs.Good.{IsGood}
-use Rattle.cc_model.specs.Passes.{up_to_call}
 use Rattle.cc_model.specs.Room.{reserved_in}
 use Rattle.cc_model.specs.Turns.{Turn, is_quiet}
-use Rattle.cc_step.specs.Step.{StandUnder, ends_in_store, owes_store}
+use Rattle.cc_step.specs.Step.{StandUnder}
 use Rattle.cc_turns.specs.Standing.{Standing, Held, nothing, holds}
 use Rattle.cc_turns.specs.Journal.{JournalStands}
 use Rattle.cc_turns.specs.Takes.{Grows, Takes, Adds, with_journal, without_journal, may_be_of}
 use Rattle.cc_turns.proofs.Taking.{book_kept}
 use Rattle.cc_visits.specs.Hands.{HasBook, WentWith}
-
--- entries of others leave the last call of a pass as it was
-up_to-others : (me : ℕ) (later past : List Entry) → Others me later → up_to_call (later ++ past) me ≡ up_to_call past me
-up_to-others me [] past others = refl
-up_to-others me (e ∷ later) past others = up_to_call-not_mine e (later ++ past) me others.0 ∙ up_to-others me later past others.1
-
-pub settled-others : (me : ℕ) (later past : List Entry) → Others me later → owes_store past me ≡ false → owes_store (later ++ past) me ≡ false
-settled-others me later past others none = ap ends_in_store (up_to-others me later past others) ∙ none
 
 -- What a pass knows as it has taken the journal, with a book in its hands: its front is what it has seen now.
 pub record Visiting {Q : Type 0} (posted : Q → Bool) (w v : Standing) (s : ℕ) (b : BookState) (j : JournalState Q) : Type 0 where
@@ -34,7 +24,6 @@ pub record Visiting {Q : Type 0} (posted : Q → Bool) (w v : Standing) (s : ℕ
   pub idle : IsIdle w.number w.seen j.entries
   pub grows : Grows w j.entries
   pub stand : StandUnder w.setup b j
-  pub settled : owes_store j.entries w.number ≡ false
   pub number_is : v.number ≡ w.number
   pub setup_is : v.setup ≡ w.setup
   pub flight_is : v.in_flight ≡ w.in_flight
@@ -57,7 +46,6 @@ visiting posted w v s b j has t js = record {
     logs_are = ap (λ x. x.setup.logs) (sym t.same) ∙ sym js.logs_are;
     threshold_is = ap (λ x. x.setup.threshold) (sym t.same) ∙ sym js.threshold_is;
   };
-  settled = ap (λ past. owes_store past w.number) (js.entries_are ∙ t.grows.grew) ∙ settled-others w.number t.grows.later w.seen t.grows.others has.settled;
   number_is = ap (λ x. x.number) t.same;
   setup_is = ap (λ x. x.setup) t.same;
   flight_is = ap (λ x. x.in_flight) t.same;
@@ -75,7 +63,6 @@ pub record Stepping {Q : Type 0} (w v : Standing) (s flight : ℕ) (added : List
   pub own : AllByRecursion (λ e. may_be_of w.number e ≡ true) added
   pub held : (t : Turn) → holds (record w.held { journal = true }) t ≡ false → is_quiet t added ≡ true
   pub reserved : k.reserved ≡ reserved_in k.entries + flight + v.others
-  pub settled : owes_store k.entries w.number ≡ false
 
 -- What the pass gives, and how it stands with the journal given.
 pub record Visited {Q : Type 0} (posted : Q → Bool) (w v : Standing) (s flight : ℕ) (c : BookState) (k : JournalState Q) : Type 0 where
@@ -109,7 +96,6 @@ visited {Q = Q} posted w v s flight added b c j k has vis step = record {
     stands = subst (λ u. BookStands (u.opening s) k.entries c) (sym vis.setup_is)
         (subst (λ (n : ℕ). BookStands (w.setup.opening n) k.entries c) step.stream step.stand.stands);
     good = subst (λ u. IsGood u k.entries) (sym vis.setup_is) step.stand.good;
-    settled = ap (λ n. owes_store k.entries n) vis.number_is ∙ step.settled;
   };
   went = record {
     same = ap (λ (x : Standing). without_journal k x) vis.taken.same

@@ -1,5 +1,5 @@
 -- What a pass has in its hands: the book of a stream, and the stream's disk.
-use Rattle.std.specs.Prelude.{◌≡◌, ℕ, false, List}
+use Rattle.std.specs.Prelude.{◌≡◌, ℕ, List}
 use Rattle.std.specs.declared.option.Option.TheVariants.{Some, None}
 use Rattle.cc_entry.specs.declared.entry.Entry.{Entry}
 use Rattle.cc_book.specs.Book.{BookState, BookStands}
@@ -8,22 +8,16 @@ use Rattle.cc_laws.specs.Laws.{SameImages, SameCrash}
 use Rattle.cc_model.specs.Good.{IsGood}
 use Rattle.cc_model.specs.History.{history}
 use Rattle.cc_model.specs.Images.{open_of}
-use Rattle.cc_step.specs.Step.{owes_store}
 use Rattle.cc_turns.specs.Disk.{all_ended_well}
 use Rattle.cc_turns.specs.Standing.{Standing, nothing}
 
--- the last call of the pass is no noncached store whose end is owed
-abbrev pub IsSettled : Standing → Type 0
-IsSettled w = owes_store w.seen w.number ≡ false
-
 -- A pass has the book of a stream in its hands. It may hold the turn of a disk too, and no other. What it has seen is
--- good, and it owes no end of a noncached write.
+-- good.
 pub record HasBook (w : Standing) (s : ℕ) (b : BookState) : Type 0 where
   pub held : w.held ≡ record nothing { device = w.held.device; book = Some s }
   pub stream : b.stream ≡ s
   pub stands : BookStands (w.setup.opening s) w.seen b
   pub good : IsGood w.setup w.seen
-  pub settled : IsSettled w
 
 -- It holds the turn of the stream's disk, and no transfer of the stream is under way.
 pub record IsAtRest (w : Standing) (s : ℕ) : Type 0 where

@@ -65,13 +65,14 @@ pub record IsHalted (u : Setup) (me s : ℕ) (it : Call) (e : CcError) (old new 
   pub failed : HasFailed me (Calls it) fault old new
   pub admitted : WasAdmitted u it s old (failed.stopped.stopped.before ++ old)
 
--- what a caller is told of a reply: the bytes of a read, in the front of what it handed in, the id of a hold, the LSNs
--- of a stream, or its state
+-- what a caller is told of a reply: the bytes of a read, in the front of what it handed in, the id of a hold, a flag,
+-- the LSNs of a stream, or its state
 abbrev pub IsTold : Reply → Returned → List ℕ → List ℕ → Type 0
 IsTold (reply.Read bytes) told was now =
     (told ≡ returned.Bytes (length bytes)) × (take (length bytes) now ≡ bytes)
     × (drop (length bytes) now ≡ drop (length bytes) was)
 IsTold (reply.Hold id) told was now = (told ≡ returned.Hold id) × (now ≡ was)
+IsTold (reply.Flag flag) told was now = (told ≡ returned.Flag flag) × (now ≡ was)
 IsTold (reply.Lsns lsns) told was now = (told ≡ returned.Lsns lsns) × (now ≡ was)
 IsTold (reply.State state) told was now = (told ≡ returned.State state) × (now ≡ was)
 IsTold other told was now = (told ≡ returned.Nothing) × (now ≡ was)

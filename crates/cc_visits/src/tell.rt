@@ -15,6 +15,8 @@ pub enum Returned {
     Bytes(usize),
     /// The id of a hold.
     Hold(u64),
+    /// Whether it is so: of an uninitialise, whether the shared map went.
+    Flag(bool),
     /// The least and the greatest LSN stamped on dirty pages of a stream, where there is one.
     Lsns(Option<(Lsn, Lsn)>),
     /// The sizes and the log of a stream.
@@ -58,6 +60,7 @@ fn told(reply: &Reply, out: &mut [u8]) -> Returned
     match reply {
         Reply::Read(bytes) => Returned::Bytes(copy(bytes, out)),
         Reply::Hold(id) => Returned::Hold(*id),
+        Reply::Flag(flag) => Returned::Flag(*flag),
         Reply::Lsns(lsns) => Returned::Lsns(*lsns),
         Reply::State(state) => Returned::State(*state),
         _ => Returned::Nothing,

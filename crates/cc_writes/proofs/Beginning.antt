@@ -24,7 +24,7 @@ use Rattle.cc_visits.specs.Visits.{HasPlaced}
 use Rattle.cc_writes.specs.Logs.{IsWant, IsStopAt}
 use Rattle.cc_writes.specs.Transfers.{BeginLeft, IsBegun, IsUnbegun, BegunLeft}
 use Rattle.cc_writes.proofs.Visits.{Visiting, Visited, visited, stepping-none}
-use Rattle.cc_writes.proofs.Quiet.{holds_no_journal, holds_the_book, history-kept, stands-same, flushed_to-grows, logged-kept, settled-grows, settled-placed, book-after}
+use Rattle.cc_writes.proofs.Quiet.{holds_no_journal, holds_the_book, history-kept, stands-same, flushed_to-grows, logged-kept, book-after}
 use Rattle.cc_writes.proofs.Placed.{may_begin, good-begun, quiet-page}
 use Rattle.cc_writes.proofs.Rooms.{reserved-begun}
 
@@ -100,8 +100,7 @@ module _ {Q : Type 0} (posted : Q → Bool) (w v : Standing) (page : Page) (b : 
         adds = given.adds;
         journal = given.journal;
         book = book-after w.in_flight w (without_journal k v) page.stream b c has given.went (begun.stream ∙ has.stream)
-            (begun.stands (w.setup.opening page.stream) stands) given.good
-            (settled-placed w (without_journal k v) (entry.WriteBegin w.number page) (ap (λ y. y.number) given.went.same) refl placed has.settled);
+            (begun.stands (w.setup.opening page.stream) stands) given.good;
         went = given.went;
         left = record {
           placed = placed;
@@ -124,8 +123,7 @@ module _ {Q : Type 0} (posted : Q → Bool) (w v : Standing) (page : Page) (b : 
         adds = left-there.adds;
         journal = left-there.journal;
         book = book-after w.in_flight w (without_journal k v) page.stream b c has left-there.went (un.stays.1.stream ∙ has.stream)
-            (un.stays.1.stands k.entries (w.setup.opening page.stream) (subst (λ (x : JournalState Q). BookStands (w.setup.opening page.stream) x.entries b) (sym un.stays.0) stands)) left-there.good
-            (settled-grows w (without_journal k v) (ap (λ y. y.number) left-there.went.same) grows has.settled);
+            (un.stays.1.stands k.entries (w.setup.opening page.stream) (subst (λ (x : JournalState Q). BookStands (w.setup.opening page.stream) x.entries b) (sym un.stays.0) stands)) left-there.good;
         went = left-there.went;
         left = (grows, want-stop 2 j e un.cause);
       }

@@ -12,9 +12,8 @@ use Rattle.cc_transfer.specs.Transfers.{CanTransfer, transferred}
 use Rattle.cc_turns.specs.Disk.{DiskStands}
 use Rattle.cc_turns.specs.Standing.{Standing, Held, DiskAtFirst, nothing}
 use Rattle.cc_turns.specs.Takes.{Takes, with_book, without_book}
-use Rattle.cc_visits.specs.Hands.{HasBook, IsSettled}
+use Rattle.cc_visits.specs.Hands.{HasBook}
 use Rattle.cc_writes.specs.Transfers.{GrowsBeside, IsCarried}
-use Rattle.cc_writes.proofs.Quiet.{settled-grows}
 
 -- the pass went on at once
 pub beside-none : (w : Standing) (s : ℕ) (keeps : Bool) → GrowsBeside w s keeps w.seen
@@ -35,8 +34,6 @@ taken-again w y x s n b c has gave is took stream stands = record {
   stream = stream ∙ is;
   stands = subst (λ (m : ℕ). BookStands (x.setup.opening m) x.seen c) is stands;
   good = took.good;
-  settled = settled-grows y x (ap (λ z. z.number) took.same) took.grows
-      (subst (λ (z : Standing). IsSettled z) (sym gave) has.settled);
 }
   where
     held : x.held ≡ record nothing { device = w.held.device; book = Some s }

@@ -19,7 +19,7 @@ use Rattle.cc_turns.specs.Takes.{Adds, without_journal}
 use Rattle.cc_visits.specs.Hands.{HasBook, WentWith}
 use Rattle.cc_visits.specs.Visits.{HasPlaced}
 use Rattle.cc_writes.proofs.Visits.{Visiting, Visited, visited}
-use Rattle.cc_writes.proofs.Quiet.{holds_no_journal, holds_the_book, history-kept, stands-same, settled-placed, book-after}
+use Rattle.cc_writes.proofs.Quiet.{holds_no_journal, holds_the_book, history-kept, stands-same, book-after}
 use Rattle.cc_writes.proofs.Placed.{good-ended, quiet-page}
 use Rattle.cc_writes.proofs.Rooms.{reserved-ended}
 
@@ -86,8 +86,7 @@ module _ {Q : Type 0} (posted : Q → Bool) (w v : Standing) (page : Page) (how 
       adds = given.adds;
       journal = given.journal;
       book = book-after w.in_flight w (without_journal k v) page.stream b c has given.went (stream ∙ has.stream)
-          (goes (w.setup.opening page.stream) stands) given.good
-          (settled-placed w (without_journal k v) (entry.WriteEnd w.number page how) (ap (λ y. y.number) given.went.same) refl placed has.settled);
+          (goes (w.setup.opening page.stream) stands) given.good;
       went = given.went;
       placed = placed;
     }

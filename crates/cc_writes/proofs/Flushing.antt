@@ -26,14 +26,14 @@ use Rattle.cc_turns.specs.Disk.{DiskStands}
 use Rattle.cc_turns.specs.Standing.{Standing, DiskAtFirst}
 use Rattle.cc_turns.specs.Takes.{Grows}
 use Rattle.cc_turns.proofs.DiskGrows.{disk_grows}
-use Rattle.cc_visits.specs.Hands.{HasBook, IsSettled, WentWith}
+use Rattle.cc_visits.specs.Hands.{HasBook, WentWith}
 use Rattle.cc_visits.specs.Visits.{HasPlaced}
 use Rattle.cc_visits.specs.Ways.{IsAtWork, HasFailed}
 use Rattle.cc_writes.specs.Logs.{HoldsBoth, IsDue, HasFlushed, LogLeft, FlushLeft, ReachedBy, IsWant, newest_on}
 use Rattle.cc_writes.specs.declared.log.LogFlush.{LogFlush}
 use Rattle.cc_writes.specs.declared.log.LogFlush.TheVariants as flush
 use Rattle.cc_writes.proofs.Visits.{went-number, went-holds}
-use Rattle.cc_writes.proofs.Quiet.{is_held, history-both, book-kept, settled-grows, settled-placed}
+use Rattle.cc_writes.proofs.Quiet.{is_held, history-both, book-kept}
 use Rattle.cc_writes.proofs.Works.{may_write-same, asks_log, work-grown, work-flushed, work-log_failed}
 use Rattle.cc_writes.proofs.Logging.{left-turn}
 
@@ -109,16 +109,10 @@ flush-history w page (Ok flush.Reached) seen both left =
 flush-history w page (Ok (flush.Failed handle)) seen both left = placed-failed w page.stream handle seen both left.1.placed
 flush-history w page (Err e) seen both left = history-both w page.stream seen both left.0
 
-pub flush-settled : (w x : Standing) (page : Page) (result : Result LogFlush CcError) → x.number ≡ w.number → FlushLeft w page result x.seen → IsSettled w → IsSettled x
-flush-settled w x page (Ok flush.Reached) same left none =
-    ⊎_elim (λ grows. settled-grows w x same grows none) (λ flushed. settled-placed w x (entry.Flushed w.number flushed.0 flushed.1) same refl flushed.2.placed none) left.0
-flush-settled w x page (Ok (flush.Failed handle)) same left none = settled-placed w x (entry.LogFailed w.number handle) same refl left.1.placed none
-flush-settled w x page (Err e) same left none = settled-grows w x same left.0 none
-
 -- so the pass has the book in its hands as before
 pub flush-book : (n : ℕ) (w x : Standing) (page : Page) (b : BookState) (result : Result LogFlush CcError) → HasBook w page.stream b → HoldsBoth w page.stream → WentWith n w x → IsGood x.setup x.seen → FlushLeft w page result x.seen → HasBook x page.stream b
 flush-book n w x page b result has both went good left =
-    book-kept n w x page.stream b has went (flush-history w page result x.seen both left) good (flush-settled w x page result (went-number n w x went) left has.settled)
+    book-kept n w x page.stream b has went (flush-history w page result x.seen both left) good
 
 -- and the disk stands
 module _ {D : Type 0} (told : D → Option Disk) (faults : D → ℕ) (first : DiskAtFirst) (w : Standing) (s : ℕ) (disk : D)

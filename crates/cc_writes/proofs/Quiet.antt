@@ -4,24 +4,19 @@ use Rattle.std.proofs.Common.{ap, sym, ◌∙◌, subst, arith}
 use Rattle.std.proofs.lemmas.Bool.{eq-eqb}
 use Rattle.cc_entry.specs.declared.entry.Entry.{Entry}
 use Rattle.cc_book.specs.Book.{BookState, BookStands}
-use Rattle.cc_effects.specs.Moments.{Others}
 use Rattle.cc_laws.proofs.LogSteps.{floor_of-quiet, flushed_to-entry, flushed_to-quiet}
-use Rattle.cc_laws.proofs.PassSteps.{up_to_call-not_mine, up_to_call-other}
 use Rattle.cc_laws.proofs.QuietSteps.{history-quiet}
 use Rattle.cc_model.specs.Covered.{FlushedUpTo, IsLogged, IsNextLsn}
 use Rattle.cc_model.specs.Good.{IsGood}
 use Rattle.cc_model.specs.History.{history}
 use Rattle.cc_model.specs.Images.{open_of}
 use Rattle.cc_model.specs.Logs.{floor_of, flush_of, flushed_to}
-use Rattle.cc_model.specs.Passes.{up_to_call, is_call_of}
 use Rattle.cc_model.specs.Settings.{log_of}
 use Rattle.cc_model.specs.Stamps.{newest_of}
 use Rattle.cc_model.specs.Turns.{Device, Book, Log}
-use Rattle.cc_step.specs.Step.{ends_in_store, owes_store}
 use Rattle.cc_turns.specs.Standing.{Standing, Held, is_the, nothing}
 use Rattle.cc_turns.specs.Takes.{Grows}
-use Rattle.cc_visits.specs.Hands.{HasBook, IsAtRest, IsSettled, WentWith}
-use Rattle.cc_visits.specs.Visits.{HasPlaced}
+use Rattle.cc_visits.specs.Hands.{HasBook, IsAtRest, WentWith}
 use Rattle.cc_writes.specs.Logs.{HoldsBoth}
 use Rattle.cc_writes.proofs.Visits.{went-held}
 
@@ -94,42 +89,21 @@ logged-kept past now s p same further is = record {
   flushed = rw same (flushed-further past now (log_of (history past s)) (newest_of (history past s) p) further is.flushed);
 }
 
--- entries of others leave the last call of a pass as it was, and so does an entry of its own that is no call
-up_to-others : (me : ℕ) (later past : List Entry) → Others me later → up_to_call (later ++ past) me ≡ up_to_call past me
-up_to-others me [] past others = refl
-up_to-others me (e ∷ later) past others = up_to_call-not_mine e (later ++ past) me others.0 ∙ up_to-others me later past others.1
-
-pub settled-grown : (me : ℕ) (later past : List Entry) → Others me later → owes_store past me ≡ false → owes_store (later ++ past) me ≡ false
-settled-grown me later past others none = ap ends_in_store (up_to-others me later past others) ∙ none
-
-pub settled-grows : (w x : Standing) → x.number ≡ w.number → Grows w x.seen → IsSettled w → IsSettled x
-settled-grows w x same grows none =
-    ap (λ (n : ℕ). owes_store x.seen n) same
-    ∙ (ap (λ (past : List Entry). owes_store past w.number) grows.grew ∙ settled-grown w.number grows.later w.seen grows.others none)
-
-pub settled-placed : (w x : Standing) (e : Entry) → x.number ≡ w.number → is_call_of w.number e ≡ false → HasPlaced w e x.seen → IsSettled w → IsSettled x
-settled-placed w x e same no_call placed none =
-    ap (λ (n : ℕ). owes_store x.seen n) same
-    ∙ (ap (λ (past : List Entry). owes_store past w.number) placed.placed
-    ∙ (ap ends_in_store (up_to_call-other e placed.front w.number no_call)
-    ∙ (ap (λ (past : List Entry). owes_store past w.number) placed.grows.grew ∙ settled-grown w.number placed.grows.later w.seen placed.grows.others none)))
-
 -- The pass has the book in its hands as before, where it goes on.
-pub book-after : (n : ℕ) (w x : Standing) (s : ℕ) (b c : BookState) → HasBook w s b → WentWith n w x → c.stream ≡ s → BookStands (w.setup.opening s) x.seen c → IsGood x.setup x.seen → IsSettled x → HasBook x s c
-book-after n w x s b c has went stream stands good settled = record {
+pub book-after : (n : ℕ) (w x : Standing) (s : ℕ) (b c : BookState) → HasBook w s b → WentWith n w x → c.stream ≡ s → BookStands (w.setup.opening s) x.seen c → IsGood x.setup x.seen → HasBook x s c
+book-after n w x s b c has went stream stands good = record {
   held = went-held n w x went ∙ (has.held ∙ ap (λ (h : Held). record nothing { device = h.device; book = Some s }) (sym (went-held n w x went)));
   stream = stream;
   stands = subst (λ u. BookStands (u.opening s) x.seen c) (sym (ap (λ y. y.setup) went.same)) stands;
   good = good;
-  settled = settled;
 }
 
 -- It has the same book, where the history of its stream is as it was.
-pub book-kept : (n : ℕ) (w x : Standing) (s : ℕ) (b : BookState) → HasBook w s b → WentWith n w x → history x.seen s ≡ history w.seen s → IsGood x.setup x.seen → IsSettled x → HasBook x s b
-book-kept n w x s b has went same good settled =
+pub book-kept : (n : ℕ) (w x : Standing) (s : ℕ) (b : BookState) → HasBook w s b → WentWith n w x → history x.seen s ≡ history w.seen s → IsGood x.setup x.seen → HasBook x s b
+book-kept n w x s b has went same good =
     book-after n w x s b b has went has.stream
     (stands-same (w.setup.opening s) w.seen x.seen b (subst (λ (m : ℕ). history x.seen m ≡ history w.seen m) (sym has.stream) same) has.stands)
-    good settled
+    good
 
 pub rest-kept : (n : ℕ) (w x : Standing) (s : ℕ) → IsAtRest w s → WentWith n w x → history x.seen s ≡ history w.seen s → IsAtRest x s
 rest-kept n w x s rest went same = record {

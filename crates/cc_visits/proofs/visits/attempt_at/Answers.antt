@@ -29,7 +29,7 @@ tried_of-tried-requires g c =
     let n = c.attempt-ended.new.book in
     let k = c.attempt-ended.new.journal in
     let left = attempted posted w v c.args.call b n j k c.requires.book vis (stepped-answered c.args.call c.requires.stepped) c.requires.filed c.me-pass.result c.attempt-ended.result c.me-pass.ensures c.attempt-ended.ensures in
-    record { fits = fits-stepped posted w v c.args.call b n j k c.requires.book vis (stepped-answered c.args.call c.requires.stepped) c.requires.filed c.attempt-ended.result c.args.out.now left c.requires.fits }
+    record { fits = fits-stepped posted w v c.args.call b n j k c.requires.book vis (stepped-answered c.args.call c.requires.stepped) c.requires.filed c.requires.stepped c.attempt-ended.result c.args.out.now left c.requires.fits }
 
 pub give_journal-requires-clause-adds : goal.give_journal-requires-clause-adds
 give_journal-requires-clause-adds g c =
@@ -42,7 +42,7 @@ give_journal-requires-clause-adds g c =
     let n = c.attempt-ended.new.book in
     let k = c.attempt-ended.new.journal in
     let left = attempted posted w v c.args.call b n j k c.requires.book vis (stepped-answered c.args.call c.requires.stepped) c.requires.filed c.me-pass.result c.attempt-ended.result c.me-pass.ensures c.attempt-ended.ensures in
-    let given = visited-attempt posted w v c.args.call b n j k c.requires.book vis (stepped-answered c.args.call c.requires.stepped) c.requires.filed c.attempt-ended.result left in
+    let given = visited-attempt posted w v c.args.call b n j k c.requires.book vis (stepped-answered c.args.call c.requires.stepped) c.requires.filed c.requires.stepped c.attempt-ended.result left in
     given.adds
 
 pub give_journal-requires-clause-stands : goal.give_journal-requires-clause-stands
@@ -56,7 +56,7 @@ give_journal-requires-clause-stands g c =
     let n = c.attempt-ended.new.book in
     let k = c.attempt-ended.new.journal in
     let left = attempted posted w v c.args.call b n j k c.requires.book vis (stepped-answered c.args.call c.requires.stepped) c.requires.filed c.me-pass.result c.attempt-ended.result c.me-pass.ensures c.attempt-ended.ensures in
-    let given = visited-attempt posted w v c.args.call b n j k c.requires.book vis (stepped-answered c.args.call c.requires.stepped) c.requires.filed c.attempt-ended.result left in
+    let given = visited-attempt posted w v c.args.call b n j k c.requires.book vis (stepped-answered c.args.call c.requires.stepped) c.requires.filed c.requires.stepped c.attempt-ended.result left in
     given.journal
 
 pub give_journal-requires-clause-few : goal.give_journal-requires-clause-few
@@ -70,7 +70,7 @@ give_journal-requires-clause-few g c =
     let n = c.attempt-ended.new.book in
     let k = c.attempt-ended.new.journal in
     let left = attempted posted w v c.args.call b n j k c.requires.book vis (stepped-answered c.args.call c.requires.stepped) c.requires.filed c.me-pass.result c.attempt-ended.result c.me-pass.ensures c.attempt-ended.ensures in
-    let given = visited-attempt posted w v c.args.call b n j k c.requires.book vis (stepped-answered c.args.call c.requires.stepped) c.requires.filed c.attempt-ended.result left in
+    let given = visited-attempt posted w v c.args.call b n j k c.requires.book vis (stepped-answered c.args.call c.requires.stepped) c.requires.filed c.requires.stepped c.attempt-ended.result left in
     few-left w.in_flight given.went (omega (arith, c.requires.none))
 
 pub returns-clause-book : goal.returns-clause-book
@@ -84,7 +84,7 @@ returns-clause-book g c =
     let n = c.attempt-ended.new.book in
     let k = c.attempt-ended.new.journal in
     let left = attempted posted w v c.args.call b n j k c.requires.book vis (stepped-answered c.args.call c.requires.stepped) c.requires.filed c.me-pass.result c.attempt-ended.result c.me-pass.ensures c.attempt-ended.ensures in
-    let given = visited-attempt posted w v c.args.call b n j k c.requires.book vis (stepped-answered c.args.call c.requires.stepped) c.requires.filed c.attempt-ended.result left in
+    let given = visited-attempt posted w v c.args.call b n j k c.requires.book vis (stepped-answered c.args.call c.requires.stepped) c.requires.filed c.requires.stepped c.attempt-ended.result left in
     subst (λ (x : Standing). HasBook x b.stream n) (sym c.give_journal.ensures) given.book
 
 pub returns-clause-went : goal.returns-clause-went
@@ -98,7 +98,7 @@ returns-clause-went g c =
     let n = c.attempt-ended.new.book in
     let k = c.attempt-ended.new.journal in
     let left = attempted posted w v c.args.call b n j k c.requires.book vis (stepped-answered c.args.call c.requires.stepped) c.requires.filed c.me-pass.result c.attempt-ended.result c.me-pass.ensures c.attempt-ended.ensures in
-    let given = visited-attempt posted w v c.args.call b n j k c.requires.book vis (stepped-answered c.args.call c.requires.stepped) c.requires.filed c.attempt-ended.result left in
+    let given = visited-attempt posted w v c.args.call b n j k c.requires.book vis (stepped-answered c.args.call c.requires.stepped) c.requires.filed c.requires.stepped c.attempt-ended.result left in
     subst (λ (x : Standing). WentWith w.in_flight w x) (sym c.give_journal.ensures) given.went
 
 pub returns-clause-left : goal.returns-clause-left

@@ -30,7 +30,7 @@ step_of-step-requires g c =
     let n = c.next-ended.new.book in
     let k = c.next-ended.new.journal in
     let left = stepped posted w v c.args.call b n j k c.requires.book vis (stepped-answered c.args.call c.requires.stepped) (filed-now w b.stream c.args.call c.requires.filed) c.requires.rest c.me-pass.result c.next-ended.result c.me-pass.ensures c.next-ended.ensures in
-    record { fits = fits-next posted w v c.args.call b n j k c.requires.book vis (stepped-answered c.args.call c.requires.stepped) (filed-now w b.stream c.args.call c.requires.filed) c.requires.rest c.next-ended.result c.args.out.now left c.requires.fits }
+    record { fits = fits-next posted w v c.args.call b n j k c.requires.book vis (stepped-answered c.args.call c.requires.stepped) (filed-now w b.stream c.args.call c.requires.filed) c.requires.rest c.requires.stepped c.next-ended.result c.args.out.now left c.requires.fits }
 
 pub give_journal-requires-clause-adds : goal.give_journal-requires-clause-adds
 give_journal-requires-clause-adds g c =
@@ -43,7 +43,7 @@ give_journal-requires-clause-adds g c =
     let n = c.next-ended.new.book in
     let k = c.next-ended.new.journal in
     let left = stepped posted w v c.args.call b n j k c.requires.book vis (stepped-answered c.args.call c.requires.stepped) (filed-now w b.stream c.args.call c.requires.filed) c.requires.rest c.me-pass.result c.next-ended.result c.me-pass.ensures c.next-ended.ensures in
-    let given = visited-next posted w v c.args.call b n j k c.requires.book vis (stepped-answered c.args.call c.requires.stepped) (filed-now w b.stream c.args.call c.requires.filed) c.requires.rest c.next-ended.result left in
+    let given = visited-next posted w v c.args.call b n j k c.requires.book vis (stepped-answered c.args.call c.requires.stepped) (filed-now w b.stream c.args.call c.requires.filed) c.requires.rest c.requires.stepped c.next-ended.result left in
     given.adds
 
 pub give_journal-requires-clause-stands : goal.give_journal-requires-clause-stands
@@ -57,7 +57,7 @@ give_journal-requires-clause-stands g c =
     let n = c.next-ended.new.book in
     let k = c.next-ended.new.journal in
     let left = stepped posted w v c.args.call b n j k c.requires.book vis (stepped-answered c.args.call c.requires.stepped) (filed-now w b.stream c.args.call c.requires.filed) c.requires.rest c.me-pass.result c.next-ended.result c.me-pass.ensures c.next-ended.ensures in
-    let given = visited-next posted w v c.args.call b n j k c.requires.book vis (stepped-answered c.args.call c.requires.stepped) (filed-now w b.stream c.args.call c.requires.filed) c.requires.rest c.next-ended.result left in
+    let given = visited-next posted w v c.args.call b n j k c.requires.book vis (stepped-answered c.args.call c.requires.stepped) (filed-now w b.stream c.args.call c.requires.filed) c.requires.rest c.requires.stepped c.next-ended.result left in
     given.journal
 
 pub give_journal-requires-clause-few : goal.give_journal-requires-clause-few
@@ -71,7 +71,7 @@ give_journal-requires-clause-few g c =
     let n = c.next-ended.new.book in
     let k = c.next-ended.new.journal in
     let left = stepped posted w v c.args.call b n j k c.requires.book vis (stepped-answered c.args.call c.requires.stepped) (filed-now w b.stream c.args.call c.requires.filed) c.requires.rest c.me-pass.result c.next-ended.result c.me-pass.ensures c.next-ended.ensures in
-    let given = visited-next posted w v c.args.call b n j k c.requires.book vis (stepped-answered c.args.call c.requires.stepped) (filed-now w b.stream c.args.call c.requires.filed) c.requires.rest c.next-ended.result left in
+    let given = visited-next posted w v c.args.call b n j k c.requires.book vis (stepped-answered c.args.call c.requires.stepped) (filed-now w b.stream c.args.call c.requires.filed) c.requires.rest c.requires.stepped c.next-ended.result left in
     few-left (flight_after posted w v c.args.call b n j k c.requires.book vis (stepped-answered c.args.call c.requires.stepped) (filed-now w b.stream c.args.call c.requires.filed) c.requires.rest c.next-ended.result) given.went
     (few-after posted w v c.args.call b n j k c.requires.book vis (stepped-answered c.args.call c.requires.stepped) (filed-now w b.stream c.args.call c.requires.filed) c.requires.rest c.requires.none c.next-ended.result)
 
@@ -86,7 +86,7 @@ returns-clause-book g c =
     let n = c.next-ended.new.book in
     let k = c.next-ended.new.journal in
     let left = stepped posted w v c.args.call b n j k c.requires.book vis (stepped-answered c.args.call c.requires.stepped) (filed-now w b.stream c.args.call c.requires.filed) c.requires.rest c.me-pass.result c.next-ended.result c.me-pass.ensures c.next-ended.ensures in
-    let given = visited-next posted w v c.args.call b n j k c.requires.book vis (stepped-answered c.args.call c.requires.stepped) (filed-now w b.stream c.args.call c.requires.filed) c.requires.rest c.next-ended.result left in
+    let given = visited-next posted w v c.args.call b n j k c.requires.book vis (stepped-answered c.args.call c.requires.stepped) (filed-now w b.stream c.args.call c.requires.filed) c.requires.rest c.requires.stepped c.next-ended.result left in
     subst (λ (x : Standing). HasBook x b.stream n) (sym c.give_journal.ensures) given.book
 
 pub returns-clause-rest : goal.returns-clause-rest
@@ -100,7 +100,7 @@ returns-clause-rest g c =
     let n = c.next-ended.new.book in
     let k = c.next-ended.new.journal in
     let left = stepped posted w v c.args.call b n j k c.requires.book vis (stepped-answered c.args.call c.requires.stepped) (filed-now w b.stream c.args.call c.requires.filed) c.requires.rest c.me-pass.result c.next-ended.result c.me-pass.ensures c.next-ended.ensures in
-    let given = visited-next posted w v c.args.call b n j k c.requires.book vis (stepped-answered c.args.call c.requires.stepped) (filed-now w b.stream c.args.call c.requires.filed) c.requires.rest c.next-ended.result left in
+    let given = visited-next posted w v c.args.call b n j k c.requires.book vis (stepped-answered c.args.call c.requires.stepped) (filed-now w b.stream c.args.call c.requires.filed) c.requires.rest c.requires.stepped c.next-ended.result left in
     let disk = disk-next posted w v c.args.call b n j k c.requires.book vis (stepped-answered c.args.call c.requires.stepped) (filed-now w b.stream c.args.call c.requires.filed) c.requires.rest c.next-ended.result left in
     subst (λ (x : Standing). IsAtRest x b.stream) (sym c.give_journal.ensures)
     (rest-went (flight_after posted w v c.args.call b n j k c.requires.book vis (stepped-answered c.args.call c.requires.stepped) (filed-now w b.stream c.args.call c.requires.filed) c.requires.rest c.next-ended.result) b.stream w (without_journal k v) c.requires.rest given.went disk)
@@ -116,7 +116,7 @@ returns-clause-went g c =
     let n = c.next-ended.new.book in
     let k = c.next-ended.new.journal in
     let left = stepped posted w v c.args.call b n j k c.requires.book vis (stepped-answered c.args.call c.requires.stepped) (filed-now w b.stream c.args.call c.requires.filed) c.requires.rest c.me-pass.result c.next-ended.result c.me-pass.ensures c.next-ended.ensures in
-    let went = went-next posted w v c.args.call b n j k c.requires.book vis (stepped-answered c.args.call c.requires.stepped) (filed-now w b.stream c.args.call c.requires.filed) c.requires.rest c.next-ended.result c.step_of-step.result c.args.out.now c.step_of-step.new.out left c.step_of-step.ensures in
+    let went = went-next posted w v c.args.call b n j k c.requires.book vis (stepped-answered c.args.call c.requires.stepped) (filed-now w b.stream c.args.call c.requires.filed) c.requires.rest c.requires.stepped c.next-ended.result c.step_of-step.result c.args.out.now c.step_of-step.new.out left c.step_of-step.ensures in
     subst (λ (x : Standing). StepWent c.step_of-step.result w x) (sym c.give_journal.ensures) went
 
 pub returns-clause-disk : goal.returns-clause-disk
@@ -158,5 +158,5 @@ returns-clause-full g c =
     let n = c.next-ended.new.book in
     let k = c.next-ended.new.journal in
     let left = stepped posted w v c.args.call b n j k c.requires.book vis (stepped-answered c.args.call c.requires.stepped) (filed-now w b.stream c.args.call c.requires.filed) c.requires.rest c.me-pass.result c.next-ended.result c.me-pass.ensures c.next-ended.ensures in
-    let full = full-next posted w v c.args.call b n j k c.requires.book vis (stepped-answered c.args.call c.requires.stepped) (filed-now w b.stream c.args.call c.requires.filed) c.requires.rest c.next-ended.result c.step_of-step.result c.args.out.now c.step_of-step.new.out left c.step_of-step.ensures in
+    let full = full-next posted w v c.args.call b n j k c.requires.book vis (stepped-answered c.args.call c.requires.stepped) (filed-now w b.stream c.args.call c.requires.filed) c.requires.rest c.requires.stepped c.next-ended.result c.step_of-step.result c.args.out.now c.step_of-step.new.out left c.step_of-step.ensures in
     subst (λ (x : Standing). IsFullStep x c.args.call c.step_of-step.result) (sym c.give_journal.ensures) full

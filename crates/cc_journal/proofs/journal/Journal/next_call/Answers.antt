@@ -11,7 +11,7 @@ overflow_add-result g c =
     omega (
       arith,
       c.of.ensures,
-      c.self.invariant.0.calls c.args.pass,
+      c.self.invariant.0.calls.count c.args.pass,
       calls_within past c.args.pass,
       length-reverse c.self.inside.entries.items,
       c.self.invariant.1.within,

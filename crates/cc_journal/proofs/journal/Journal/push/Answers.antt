@@ -19,7 +19,7 @@ follow-requires-clause-rows g c =
 pub follow-requires-2-clause-few : goal.follow-requires-2-clause-few
 follow-requires-2-clause-few g c pass =
     let past : List Entry = reverse c.self.inside.entries.items in
-    omega (arith, c.self.invariant.0.calls pass, calls_within past pass, length-reverse c.self.inside.entries.items, c.self.invariant.1.within, c.requires.reserved, ap (λ j. j.reserved) c.self.view_is)
+    omega (arith, c.self.invariant.0.calls.count pass, calls_within past pass, length-reverse c.self.inside.entries.items, c.self.invariant.1.within, c.requires.reserved, ap (λ j. j.reserved) c.self.view_is)
 
 pub overflow_add-self : goal.overflow_add-self
 overflow_add-self g c =
