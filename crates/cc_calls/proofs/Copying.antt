@@ -35,7 +35,6 @@ module _ (w v : Standing) (file : File) (at : ℕ) (wait : Bool) (was now : List
         pages = record {
           left = rw (is, read.1.1) (rw read.0.is at c.left.1);
           goes_on = c.goes_on;
-          settled = c.settled;
           good = λ was_good. c.good;
           missed = c.missed;
         };
@@ -55,7 +54,7 @@ module _ (w v : Standing) (file : File) (at : ℕ) (wait : Bool) (was now : List
 
   pub read-failed : (e : CcError) → Paged w v (call.CopyRead file at (length was) wait) (Err e) was now → ReadEnds w v file at wait (Err e) was now
   read-failed e c = record {
-    pages = record { left = c.left.0; goes_on = c.goes_on; settled = c.settled; good = λ was_good. c.good; missed = c.missed };
+    pages = record { left = c.left.0; goes_on = c.goes_on; good = λ was_good. c.good; missed = c.missed };
     full = c.full;
     rest = c.left.1;
     no_wait = c.no_wait;
@@ -67,7 +66,6 @@ change-done w v it told was now none c = record {
   pages = record {
     left = told-nothing w.setup w.number it c.left.0 w.seen v.seen none c.good c.left.1;
     goes_on = c.goes_on;
-    settled = c.settled;
     good = λ was_good. c.good;
     missed = c.missed;
   };
@@ -81,7 +79,6 @@ change-none w s it (Err e) can listed wants none = rw none (record {
   pages = record {
     left = gives_up w.number it error.NoMemory w.seen w.seen (begins w.number it w.seen) listed wants;
     goes_on = record { same = refl };
-    settled = can.settled;
     good = λ was_good. was_good;
     missed = inl refl;
   };

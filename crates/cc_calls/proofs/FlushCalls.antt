@@ -29,7 +29,7 @@ use Rattle.cc_model.specs.Sizes.{Touch}
 use Rattle.cc_model.specs.Touches.{is_dirty}
 use Rattle.cc_turns.specs.Standing.{Standing, Held, nothing}
 use Rattle.cc_turns.specs.Takes.{Takes, with_device, with_book, without_device, without_book}
-use Rattle.cc_visits.specs.Hands.{IsSettled, Went}
+use Rattle.cc_visits.specs.Hands.{Went}
 use Rattle.cc_visits.specs.Ways.{IsFull}
 use Rattle.cc_fetch.specs.Fetch.{WentOn}
 use Rattle.cc_calls.specs.Answers.{outcome_of}
@@ -101,21 +101,19 @@ module _ (u : Setup) (me : ℕ) (file : File) (span : Option Range) (r : Reply) 
       longer later = ap (λ l. later ++ l) split ∙ sym (append_assoc later after (sync ∷ (left.has_done.before ++ old)))
 
 -- what a flush leaves, where the rest is known of it
-pub flush-ends : (w z : Standing) (file : File) (span : Option Range) (answer : Result (Unit {0}) CcError) → CallLeft w.setup w.number (call.Flush file span) (outcome_of answer) w.seen z.seen → IsFull 2 z answer → WentOn w z → IsSettled z → IsGood w.setup z.seen → FlushEnds w z file span answer
-flush-ends w z file span (Ok _) left full on settled good = record {
+pub flush-ends : (w z : Standing) (file : File) (span : Option Range) (answer : Result (Unit {0}) CcError) → CallLeft w.setup w.number (call.Flush file span) (outcome_of answer) w.seen z.seen → IsFull 2 z answer → WentOn w z → IsGood w.setup z.seen → FlushEnds w z file span answer
+flush-ends w z file span (Ok _) left full on good = record {
   left = left;
   full = full;
   goes_on = on;
-  settled = settled;
   good = good;
   clean = clean-flush w.setup w.number file span reply.Unit w.seen z.seen left;
   durable = durable-flush w.setup w.number file span reply.Unit w.seen z.seen left;
 }
-flush-ends w z file span (Err e) left full on settled good = record {
+flush-ends w z file span (Err e) left full on good = record {
   left = left;
   full = full;
   goes_on = on;
-  settled = settled;
   good = good;
   clean = tt;
   durable = tt;

@@ -11,3 +11,6 @@ pub mod Streamless
 pub mod Dirty
 pub mod Tables
 pub mod FlushCalls
+pub mod Fronts
+pub mod PurgeCalls
+pub mod Closing

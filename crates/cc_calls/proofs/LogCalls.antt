@@ -1,5 +1,5 @@
 -- What the two calls on a log leave, of the journal and of the pass.
-use Rattle.std.specs.Prelude.{◌≡◌, ℕ, suc, ◌+◌, ◌^◌, ◌<◌, ◌≤◌, false, true, List, [], ◌∷◌, ◌++◌, Result, Ok, Err, OnOk, OnErr, IsErrOf, ◌↔◌, refl}
+use Rattle.std.specs.Prelude.{◌≡◌, ℕ, suc, ◌+◌, ◌^◌, ◌<◌, ◌≤◌, true, List, [], ◌∷◌, Result, Ok, Err, OnOk, OnErr, IsErrOf, ◌↔◌, refl}
 use Rattle.std.specs.Result.{IsErrAnd}
 use Rattle.std.proofs.Common.{ap, sym, ◌∙◌, subst, arith, inl, inr, ⊎_elim}
 use Rattle.std.proofs.lemmas.Bool.{eq-eqb}
@@ -13,16 +13,13 @@ use Rattle.cc_effects.proofs.Stretches.{idle-then, only-before, some-before}
 use Rattle.cc_journal.specs.Journal.{JournalState}
 use Rattle.cc_model.specs.Good.{IsGood}
 use Rattle.cc_model.specs.Logs.{floor_of, flushed_to}
-use Rattle.cc_model.specs.Passes.{is_mine, is_call_of}
+use Rattle.cc_model.specs.Passes.{is_mine}
 use Rattle.cc_log.specs.Turn.{IsAppendError}
 use Rattle.cc_model.specs.Setup.{Setup}
-use Rattle.cc_step.specs.Step.{owes_store}
 use Rattle.cc_turns.specs.Log.{log_failures}
 use Rattle.cc_turns.specs.Standing.{Standing}
 use Rattle.cc_turns.specs.Takes.{Grows, Takes, with_log}
-use Rattle.cc_visits.proofs.Owing.{settled-other}
-use Rattle.cc_visits.proofs.Visiting.{settled-others}
-use Rattle.cc_visits.specs.Hands.{IsSettled, WentWith}
+use Rattle.cc_visits.specs.Hands.{WentWith}
 use Rattle.cc_visits.specs.Visits.{HasPlaced}
 use Rattle.cc_visits.specs.Ways.{IsFull}
 use Rattle.cc_writes.specs.Logs.{LogLeft}
@@ -67,21 +64,11 @@ some-front Holds w e seen placed holds = record {
   holds = holds;
 }
 
--- It owes as little as before, where it placed nothing, or one entry that is no call.
-settled-idle : (me : ℕ) (old new : List Entry) → IsIdle me old new → owes_store old me ≡ false → owes_store new me ≡ false
-settled-idle me old new idle none = ap (λ past. owes_store past me) idle.grew ∙ settled-others me idle.during old idle.others none
-
-settled-only : (me : ℕ) (e : Entry) (old new : List Entry) → is_call_of me e ≡ false → PlacedOnly me e old new → owes_store old me ≡ false → owes_store new me ≡ false
-settled-only me e old new other only none =
-    ap (λ past. owes_store past me) only.grew
-    ∙ settled-others me only.later (e ∷ (only.earlier ++ old)) only.quiet_after
-    (settled-other me e (only.earlier ++ old) other (settled-others me only.earlier old only.quiet_before none))
-
 -- what held at a moment held at one of the stretch that began before
 some-idle : (Holds : List Entry → Type 0) (me : ℕ) (old between new : List Entry) → IsIdle me old between → AtSome Holds between new → AtSome Holds old new
 some-idle Holds me old between new idle some = some-before Holds old idle.during new (subst (λ (past : List Entry). AtSome Holds past new) idle.grew some)
 
--- An append left so, after the pass was idle, left so as a whole; and it owes as little as before.
+-- An append left so, after the pass was idle, left so as a whole.
 module _ (u : Setup) (me handle : ℕ) (bytes : List ℕ) where
   append-then : (answer : Result ℕ CcError) (old between new : List Entry) → IsIdle me old between → AppendLeft u me handle bytes answer between new → AppendLeft u me handle bytes answer old new
   append-then (Ok lsn) old between new idle left = (left.0, only-before me (entry.Append me handle lsn bytes) old between new idle left.1)
@@ -96,15 +83,6 @@ module _ (u : Setup) (me handle : ℕ) (bytes : List ℕ) where
   append-then (Err (error.JournalFull entries)) old between new idle left = idle-then me old between new idle left
   append-then (Err error.NoMemory) old between new idle left = idle-then me old between new idle left
   append-then (Err other) old between new idle left = absurd left
-
-  append-settled : (answer : Result ℕ CcError) (old new : List Entry) → AppendLeft u me handle bytes answer old new → owes_store old me ≡ false → owes_store new me ≡ false
-  append-settled (Ok lsn) old new left none = settled-only me (entry.Append me handle lsn bytes) old new refl left.1 none
-  append-settled (Err (error.NoLog missing)) old new left none = settled-idle me old new left.2 none
-  append-settled (Err (error.LogFull full)) old new left none = settled-idle me old new left.2 none
-  append-settled (Err (error.LogFault failed)) old new left none = settled-only me (entry.LogFailed me handle) old new refl left.2.1 none
-  append-settled (Err (error.JournalFull entries)) old new left none = settled-idle me old new left none
-  append-settled (Err error.NoMemory) old new left none = settled-idle me old new left none
-  append-settled (Err other) old new left none = absurd left
 
   -- one that got no place
   append-unplaced : (e : CcError) (old new : List Entry) → NoPlace u.logs handle e → IsIdle me old new → AppendLeft u me handle bytes (Err e) old new
@@ -135,18 +113,6 @@ module _ (u : Setup) (me handle lsn : ℕ) where
   flush-then (Err (error.JournalFull entries)) old between new idle left = idle-then me old between new idle left
   flush-then (Err error.NoMemory) old between new idle left = idle-then me old between new idle left
   flush-then (Err other) old between new idle left = absurd left
-
-  flush-settled : (answer : Result (Unit {0}) CcError) (old new : List Entry) → LogFlushLeft u me handle lsn answer old new → owes_store old me ≡ false → owes_store new me ≡ false
-  flush-settled (Ok done) old new left none =
-      ⊎_elim
-      (λ only. settled-only me (entry.Flushed me handle lsn) old new refl only none)
-      (λ was. settled-idle me old new was.idle none)
-      left.1
-  flush-settled (Err (error.NoLog missing)) old new left none = settled-idle me old new left.2 none
-  flush-settled (Err (error.LogFault failed)) old new left none = settled-only me (entry.LogFailed me handle) old new refl left.2.1 none
-  flush-settled (Err (error.JournalFull entries)) old new left none = settled-idle me old new left none
-  flush-settled (Err error.NoMemory) old new left none = settled-idle me old new left none
-  flush-settled (Err other) old new left none = absurd left
 
   flush-unplaced : (e : CcError) (old new : List Entry) → NoPlace u.logs handle e → IsIdle me old new → LogFlushLeft {T = Unit {0}} u me handle lsn (Err e) old new
   flush-unplaced (error.NoLog missing) old new no_place idle = (no_place.0, no_place.1, idle)
@@ -193,9 +159,6 @@ flush-not-full w handle lsn (Err e) seen left = rw left.1 tt
 -- A call that got no place ends with its refusal.
 module _ (w v : Standing) (handle : ℕ) (e : CcError) (can : IsFree w) (grows : Grows w v.seen) (left : PlaceLeft handle (Err e) w v)
     (full : IsFull {A = Unit {0}} 1 v (Err e)) (good : IsGood v.setup v.seen) where
-  settled-still : IsSettled v
-  settled-still = rw (ap (λ x. x.number) left.1.same) (settled-idle w.number w.seen v.seen (idle-grows w v.seen grows) can.settled)
-
   good-still : StaysGood w v
   good-still was_good = subst (λ (u : Setup). IsGood u v.seen) (ap (λ x. x.setup) left.1.same) good
 
@@ -205,7 +168,6 @@ module _ (w v : Standing) (handle : ℕ) (e : CcError) (can : IsFree w) (grows :
     left = append-unplaced w.setup w.number handle bytes e w.seen v.seen left.0 (idle-grows w v.seen grows);
     full = full;
     goes_on = left.1;
-    settled = settled-still;
     good = good-still;
   })
 
@@ -215,7 +177,6 @@ module _ (w v : Standing) (handle : ℕ) (e : CcError) (can : IsFree w) (grows :
     left = flush-unplaced w.setup w.number handle lsn e w.seen v.seen left.0 (idle-grows w v.seen grows);
     full = full;
     goes_on = left.1;
-    settled = settled-still;
     good = good-still;
   })
 
@@ -234,9 +195,6 @@ module _ (w v x : Standing) (handle : ℕ) (can : IsFree w) (grows : Grows w v.s
   good-there : StaysGood w x
   good-there was_good = subst (λ (u : Setup). IsGood u x.seen) (ap (λ y. y.setup) went-whole.same) good
 
-  settled-there : owes_store x.seen w.number ≡ false → IsSettled x
-  settled-there none = rw (ap (λ y. y.number) went-whole.same) none
-
   pub append-ends : (bytes : List ℕ) (answer : Result ℕ CcError) → AppendLeft v.setup v.number handle bytes answer v.seen x.seen → IsNotFull answer → LogEnds w x (AppendLeft w.setup w.number handle bytes) answer
   append-ends bytes answer left room =
       let whole : AppendLeft w.setup w.number handle bytes answer w.seen x.seen =
@@ -245,7 +203,6 @@ module _ (w v x : Standing) (handle : ℕ) (can : IsFree w) (grows : Grows w v.s
         left = whole;
         full = not-full x answer room;
         goes_on = went-whole;
-        settled = settled-there (append-settled w.setup w.number handle bytes answer w.seen x.seen whole can.settled);
         good = good-there;
       }
 
@@ -259,7 +216,6 @@ module _ (w v x : Standing) (handle : ℕ) (can : IsFree w) (grows : Grows w v.s
         left = whole;
         full = not-full x (answered result) (flush-not-full v handle lsn result x.seen left);
         goes_on = went-whole;
-        settled = settled-there (flush-settled w.setup w.number handle lsn (answered result) w.seen x.seen whole can.settled);
         good = good-there;
       }
 

@@ -15,7 +15,7 @@ use Rattle.cc_model.specs.Good.{IsGood}
 use Rattle.cc_model.specs.Setup.{Setup}
 use Rattle.cc_step.specs.Step.{most_asked}
 use Rattle.cc_turns.specs.Standing.{Standing}
-use Rattle.cc_visits.specs.Hands.{IsSettled, Went}
+use Rattle.cc_visits.specs.Hands.{Went}
 use Rattle.cc_visits.specs.Visits.{IsOf, IsWaitedFor, TriedLeft}
 use Rattle.cc_visits.specs.declared.visits.Tried.{Tried}
 use Rattle.cc_visits.specs.declared.visits.Tried.TheVariants as tried
@@ -38,12 +38,11 @@ went-on : (w v : Standing) → Went w v → WentOn w v
 went-on w v went = record { same = went.same ∙ ap (λ (n : ℕ). record w { seen = v.seen; others = v.others; device_turns = n }) (sym (same-turns w v went)) }
 
 -- it ended in that one turn
-pub in-turn : (w v : Standing) (it : Call) (answer : Result Returned CcError) (was now : List ℕ) → Went w v → IsSettled v → IsGood w.setup v.seen → IsFull (most_asked it) v answer → EndedSo w.setup w.number it answer w.seen v.seen was now → Paged w v it answer was now
-in-turn w v it answer was now went settled good full left = record {
+pub in-turn : (w v : Standing) (it : Call) (answer : Result Returned CcError) (was now : List ℕ) → Went w v → IsGood w.setup v.seen → IsFull (most_asked it) v answer → EndedSo w.setup w.number it answer w.seen v.seen was now → Paged w v it answer was now
+in-turn w v it answer was now went good full left = record {
   left = left;
   full = fuller v (most_asked it) answer full;
   goes_on = went-on w v went;
-  settled = settled;
   good = good;
   missed = inl (same-turns w v went);
   no_wait = λ none. same-turns w v went;
@@ -74,12 +73,11 @@ has-waited w v s page it again was now ended is left =
     let k = rw is at (left w.seen (begins w.number it w.seen)) in
     record { call_is = k.0; way = k.1; waits = k.2; same = k.3 }
 
-pub with-disk : (w v x : Standing) (s page : ℕ) (it again : Call) (answer : Result Returned CcError) (was between now : List ℕ) → is_paged it ≡ true → IsOf it s → Went w v → HasWaited w v s page it again was between → WentOn v x → IsSettled x → IsGood x.setup x.seen → IsFull (most_room again) x answer → ((begun : List Entry) → IsUnderWay v.number again begun v.seen → EndedSo v.setup v.number again answer begun x.seen between now) → Paged w x it answer was now
-with-disk w v x s page it again answer was between now paged filed went has on settled good full left = record {
+pub with-disk : (w v x : Standing) (s page : ℕ) (it again : Call) (answer : Result Returned CcError) (was between now : List ℕ) → is_paged it ≡ true → IsOf it s → Went w v → HasWaited w v s page it again was between → WentOn v x → IsGood x.setup x.seen → IsFull (most_room again) x answer → ((begun : List Entry) → IsUnderWay v.number again begun v.seen → EndedSo v.setup v.number again answer begun x.seen between now) → Paged w x it answer was now
+with-disk w v x s page it again answer was between now paged filed went has on good full left = record {
   left = rw (setup, number, has.call_is, has.same) at (left w.seen way);
   full = subst (λ (call : Call). IsFull (most_room call) x answer) has.call_is full;
   goes_on = record { same = on.same ∙ ap (λ (y : Standing). record y { seen = x.seen; others = x.others; device_turns = x.device_turns }) went.same };
-  settled = settled;
   good = rw (ap (λ y. y.setup) on.same, setup) at good;
   missed =
       inr (record {

@@ -18,6 +18,5 @@ set-done w v it told was now sets c = record {
   left = told-nothing w.setup w.number it c.left.0 w.seen v.seen (nothing-answered it sets) c.good c.left.1;
   full = tt;
   goes_on = c.goes_on;
-  settled = c.settled;
   good = λ was_good. c.good;
 }

@@ -25,7 +25,7 @@ module _ (w v : Standing) (file : File) (was now : List ℕ) where
   pub state-done : (state : FileState) → CalledAtOnce w v (call.State file) (Ok (returned.State state)) was now → CallEnds state_outcome w v (call.State file) (Ok state)
   state-done state c =
       let told = told-state (returned.State state) c in
-      record { left = rw (inner told.0 told.1) told.2; full = tt; goes_on = c.goes_on; settled = c.settled; good = λ was_good. c.good }
+      record { left = rw (inner told.0 told.1) told.2; full = tt; goes_on = c.goes_on; good = λ was_good. c.good }
     where
       inner : (x : FileState) → returned.State state ≡ returned.State x → state ≡ x
       inner x same = cc
@@ -44,7 +44,7 @@ module _ (w v : Standing) (file : File) (was now : List ℕ) where
   pub lsns-done : (lsns : Option (ℕ × ℕ)) → CalledAtOnce w v (call.LsnForFile file) (Ok (returned.Lsns lsns)) was now → CallEnds lsns_outcome w v (call.LsnForFile file) (Ok lsns)
   lsns-done lsns c =
       let told = told-lsns (returned.Lsns lsns) c in
-      record { left = rw (inner told.0 told.1) told.2; full = tt; goes_on = c.goes_on; settled = c.settled; good = λ was_good. c.good }
+      record { left = rw (inner told.0 told.1) told.2; full = tt; goes_on = c.goes_on; good = λ was_good. c.good }
     where
       inner : (x : Option (ℕ × ℕ)) → returned.Lsns lsns ≡ returned.Lsns x → lsns ≡ x
       inner x same = cc

@@ -1,6 +1,6 @@
 -- A call on no stream: its entry may stand, needs no turn but the journal's, changes no history and reserves nothing; and
 -- what a visit to the journal that placed it leaves.
-use Rattle.std.specs.Prelude.{◌≡◌, ℕ, suc, ◌+◌, ◌-◌, Bool, true, false, List, [], ◌∷◌, length, Result, Ok, Err, None, refl}
+use Rattle.std.specs.Prelude.{◌≡◌, ℕ, suc, ◌+◌, ◌-◌, ◌<◌, ◌≤◌, Bool, true, false, List, [], ◌∷◌, length, Result, Ok, Err, None, refl}
 use Rattle.std.specs.Bool.{OnTrue}
 use Rattle.std.proofs.Common.{ap, sym, ◌∙◌, subst, arith, inl, inr}
 use Rattle.std.proofs.lemmas.Bool.{eq-eqb}
@@ -14,13 +14,12 @@ use Rattle.cc_entry.specs.declared.reply.Outcome.{Outcome}
 use Rattle.cc_entry.specs.declared.reply.Outcome.TheVariants as outcome
 use Rattle.cc_entry.specs.declared.reply.Reply.{Reply}
 use Rattle.cc_effects.specs.Calls.{CallLeft, HasDone, IsUnderWay}
-use Rattle.cc_book.specs.Book.{Gains}
 use Rattle.cc_effects.specs.Refusals.{may_refuse, may_want}
 use Rattle.cc_effects.proofs.Starts.{begins, ends_done, ends_refused, gives_up}
+use Rattle.cc_journal.specs.Calls.{owed_end}
 use Rattle.cc_journal.specs.Journal.{JournalState, MayBePushed}
 use Rattle.cc_journal.proofs.GoodEntries.{MayBePushed-good}
 use Rattle.cc_laws.proofs.HistorySteps.{history-no_effect}
-use Rattle.cc_laws.proofs.PassSteps.{up_to_call-call}
 use Rattle.cc_laws.proofs.TurnSteps.{is_quiet-none, is_quiet-unneeded}
 use Rattle.cc_model.specs.Acts.{file_of}
 use Rattle.cc_model.specs.Allowed.{IsAllowed, IsAllowedSoFar, IsOwed, MayEnd, is_fault, owed_begin}
@@ -39,21 +38,19 @@ use Rattle.cc_model.specs.Room.{owed_by_stream, reserved_in}
 use Rattle.cc_model.specs.Setup.{Setup}
 use Rattle.cc_model.specs.Touches.{size_of}
 use Rattle.cc_model.specs.Turns.{Turn, Device, Book, Log, Journal, needs, is_quiet}
-use Rattle.cc_step.specs.Step.{Adds, IsStop, ends_in_store, most_asked, owes_store}
+use Rattle.cc_step.specs.Step.{AddsOwing, IsStop, most_asked}
 use Rattle.cc_step.proofs.Placed.{so-far}
-use Rattle.cc_step.proofs.Reserved.{stores-call, sum-same}
+use Rattle.cc_step.proofs.Reserved.{owed-least, stores-call, sum-same}
 use Rattle.cc_turns.specs.Standing.{Standing, Held, holds}
 use Rattle.cc_turns.specs.Journal.{JournalStands}
 use Rattle.cc_turns.specs.Takes.{Takes, with_journal, without_journal}
-use Rattle.cc_visits.specs.Hands.{IsSettled}
 use Rattle.cc_visits.specs.Ways.{IsFull}
 use Rattle.cc_visits.proofs.Others.{under_way-on}
 use Rattle.cc_visits.proofs.Replies.{full-stopped}
-use Rattle.cc_writes.proofs.Quiet.{settled-grown}
 use Rattle.cc_writes.proofs.Visits.{Visiting, Visited, visited, visiting, stepping-none}
 use Rattle.cc_calls.specs.Answers.{CallEnds, IsFree}
 use Rattle.cc_calls.specs.Pages.{StaysGood}
-use Rattle.cc_calls.specs.Streamless.{HasEnded, StreamlessLeft, is_streamless, streamless}
+use Rattle.cc_calls.specs.Streamless.{HasEnded, PlacesStreamless, StreamlessLeft, is_streamless, streamless}
 use Rattle.cc_calls.proofs.LogCalls.{idle-grows}
 
 -- such a call is filed under no stream, has no range, and is no store
@@ -147,18 +144,16 @@ quiet-streamless h pass past it ended journal t free = is_quiet-unneeded t (stre
         clash : true ≡ false → ⊥
         clash e = absurd (cc)
 
--- it leaves what is reserved, and the pass owes nothing after it
-reserved-streamless : (past : List Entry) (pass : ℕ) (it : Call) (ended : Outcome) → is_streamless it ≡ true → owes_store past pass ≡ false → reserved_in (streamless pass past it ended ∷ past) ≡ reserved_in past
+-- it leaves what is reserved, but for the end of a noncached write of the pass
+reserved-streamless : (past : List Entry) (pass : ℕ) (it : Call) (ended : Outcome) → is_streamless it ≡ true → reserved_in (streamless pass past it ended ∷ past) + owed_end past pass ≡ reserved_in past
 unfolding reserved_in
-reserved-streamless past pass it ended alone none =
-    rw (
-      sum-same (λ s. owed_by_stream (history (streamless pass past it ended ∷ past) s)) (λ s. owed_by_stream (history past s)) all_streams (λ s. ap owed_by_stream (history-no_effect (streamless pass past it ended) past s refl)),
-      stores-call past pass (suc (calls_of past pass)) None it ended (no-store it ended alone) none,
-    ) refl
-
-settled-streamless : (past : List Entry) (pass : ℕ) (it : Call) (ended : Outcome) → is_streamless it ≡ true → owes_store (streamless pass past it ended ∷ past) pass ≡ false
-settled-streamless past pass it ended alone =
-    ap ends_in_store (up_to_call-call pass (suc (calls_of past pass)) None it ended past pass (eq-eqb pass pass refl)) ∙ no-store it ended alone
+reserved-streamless past pass it ended alone =
+    with-stores _ _ _ _ _
+    (sum-same (λ s. owed_by_stream (history (streamless pass past it ended ∷ past) s)) (λ s. owed_by_stream (history past s)) all_streams (λ s. ap owed_by_stream (history-no_effect (streamless pass past it ended) past s refl)))
+    (stores-call past pass (suc (calls_of past pass)) None it ended (no-store it ended alone))
+  where
+    with-stores : (n m now was owed : ℕ) → n ≡ m → owed + now ≡ was → (n + now) + owed ≡ m + was
+    with-stores n m now was owed same stores = omega (arith, same, stores)
 
 -- a journal with one place more reserved
 abbrev pub reserving : {Q : Type 0} → JournalState Q → JournalState Q
@@ -168,8 +163,28 @@ back : (n : ℕ) → (n + 1) - 1 ≡ n
 back n = omega arith
 
 -- an entry for which one place was reserved
-pub adds-reserved : {Q : Type 0} (e : Entry) (j k : JournalState Q) → Gains e (reserving j) k → Adds e j k
-adds-reserved e j k placed = placed ∙ ap (λ (n : ℕ). record j { entries = e ∷ j.entries; reserved = n; rows = k.rows }) (back j.reserved)
+pub adds-owing : {Q : Type 0} (pass : ℕ) (it : Call) (ended : Outcome) (j k : JournalState Q) → is_streamless it ≡ true → reserved_in j.entries ≤ j.reserved → PlacesStreamless pass it ended (reserving j) k → AddsOwing (streamless pass j.entries it ended) j k
+adds-owing pass it ended j k alone within placed =
+    placed ∙ ap (λ (n : ℕ). record j { entries = streamless pass j.entries it ended ∷ j.entries; reserved = n; rows = k.rows })
+    (numbers _ _ _ _ (reserved-streamless j.entries pass it ended alone) within)
+  where
+    numbers : (after end before reserved : ℕ) → after + end ≡ before → before ≤ reserved → ((reserved + 1) - 1) - end ≡ after + (reserved - before)
+    numbers after end before reserved sums most = omega (arith, sums, most)
+
+-- there is room for the entry, and what is given back
+pub owed-there : {Q : Type 0} (pass : ℕ) (j between : JournalState Q) → between ≡ reserving j → reserved_in j.entries ≤ j.reserved → owed_end between.entries pass < between.reserved
+owed-there {Q} pass j between same within =
+    subst (λ (x : JournalState Q). owed_end x.entries pass < x.reserved) (sym same) (below _ _ _ (owed-least j.entries pass) within)
+  where
+    below : (owed before reserved : ℕ) → owed ≤ before → before ≤ reserved → owed < reserved + 1
+    below owed before reserved least most = omega (arith, least, most)
+
+-- a journal that stands has reserved what its entries owe
+pub journal-owes : {Q : Type 0} (posted : Q → Bool) (v : Standing) (j : JournalState Q) → JournalStands posted v j → reserved_in j.entries ≤ j.reserved
+journal-owes posted v j stands = rw stands.entries_are (within _ _ _ _ stands.reserved_is)
+  where
+    within : (reserved owed flight others : ℕ) → reserved ≡ owed + flight + others → owed ≤ reserved
+    within reserved owed flight others is = omega (arith, is)
 
 -- the place was given back
 pub given-back : {Q : Type 0} (j between k : JournalState Q) → between ≡ reserving j → k ≡ record between { reserved = between.reserved - 1 } → k ≡ j
@@ -177,22 +192,26 @@ given-back {Q = Q} j between k same given =
     subst (λ (x : JournalState Q). k ≡ record x { reserved = x.reserved - 1 }) same given
     ∙ ap (λ (n : ℕ). record j { reserved = n }) (back j.reserved)
 
+-- the entry of the call was placed, and what was reserved for the end of a noncached write given back
+pub placed-streamless : {Q : Type 0} (pass nth owed : ℕ) (it : Call) (ended : Outcome) (between pushed k : JournalState Q) → nth ≡ suc (calls_of between.entries pass) → owed ≡ owed_end between.entries pass → pushed ≡ record between { entries = entry.Call pass nth None it ended ∷ between.entries; reserved = between.reserved - 1; rows = pushed.rows } → k ≡ record pushed { reserved = pushed.reserved - owed } → PlacesStreamless pass it ended between k
+placed-streamless {Q} pass nth owed it ended between pushed k next is placed given =
+    subst (λ (n : ℕ). k ≡ record between { entries = entry.Call pass n None it ended ∷ between.entries; reserved = (between.reserved - 1) - owed_end between.entries pass; rows = k.rows }) next
+    (subst (λ (n : ℕ). k ≡ record between { entries = entry.Call pass nth None it ended ∷ between.entries; reserved = (between.reserved - 1) - n; rows = k.rows }) is
+    (given
+    ∙ (ap (λ (x : JournalState Q). record x { reserved = x.reserved - owed }) placed
+    ∙ ap (λ (x : JournalState Q). record between { entries = entry.Call pass nth None it ended ∷ between.entries; reserved = (between.reserved - 1) - owed; rows = x.rows }) (sym given))))
+
 -- the call ended, whose entry was placed where one place was reserved for it
-pub ended-streamless : {Q : Type 0} (pass nth : ℕ) (it : Call) (ended : Outcome) (j between k : JournalState Q) → between ≡ reserving j → nth ≡ suc (calls_of between.entries pass) → k ≡ record between { entries = entry.Call pass nth None it ended ∷ between.entries; reserved = between.reserved - 1; rows = k.rows } → ((u : Setup) → u.logs ≡ j.logs → IsOutcome u between.entries pass None it ended) → HasEnded pass it ended j k
-ended-streamless {Q = Q} pass nth it ended j between k same next placed is = record {
+pub ended-streamless : {Q : Type 0} (pass nth owed : ℕ) (it : Call) (ended : Outcome) (j between pushed k : JournalState Q) → is_streamless it ≡ true → reserved_in j.entries ≤ j.reserved → between ≡ reserving j → nth ≡ suc (calls_of between.entries pass) → owed ≡ owed_end between.entries pass → pushed ≡ record between { entries = entry.Call pass nth None it ended ∷ between.entries; reserved = between.reserved - 1; rows = pushed.rows } → k ≡ record pushed { reserved = pushed.reserved - owed } → ((u : Setup) → u.logs ≡ j.logs → IsOutcome u between.entries pass None it ended) → HasEnded pass it ended j k
+ended-streamless {Q = Q} pass nth owed it ended j between pushed k alone within same next owes placed given is = record {
   is = λ u logs. subst (λ (past : List Entry). IsOutcome u past pass None it ended) (ap (λ (x : JournalState Q). x.entries) same) (is u logs);
-  placed = adds-reserved (streamless pass j.entries it ended) j k
-      (subst (λ (n : ℕ). k ≡ record (reserving j) { entries = entry.Call pass n None it ended ∷ j.entries; reserved = (reserving j).reserved - 1; rows = k.rows })
-      (next ∙ ap (λ (x : JournalState Q). suc (calls_of x.entries pass)) same)
-      (subst (λ (x : JournalState Q). k ≡ record x { entries = entry.Call pass nth None it ended ∷ x.entries; reserved = x.reserved - 1; rows = k.rows }) same placed));
+  placed = adds-owing pass it ended j k alone within
+      (subst (λ (x : JournalState Q). PlacesStreamless pass it ended x k) same (placed-streamless pass nth owed it ended between pushed k next owes placed given));
 }
 
 -- A visit to the journal in which such a call was made.
 module _ {Q : Type 0} (posted : Q → Bool) (w v : Standing) (it : Call) (j k : JournalState Q) (can : IsFree w)
     (vis : Visiting posted w v j) (alone : is_streamless it ≡ true) where
-  settled-front : owes_store j.entries w.number ≡ false
-  settled-front = ap (λ past. owes_store past w.number) vis.grows.grew ∙ settled-grown w.number vis.grows.later w.seen vis.grows.others can.settled
-
   way : IsUnderWay w.number it w.seen j.entries
   way = under_way-on w.number it w.seen w.seen j.entries (begins w.number it w.seen) (idle-grows w j.entries vis.grows)
 
@@ -212,28 +231,22 @@ module _ {Q : Type 0} (posted : Q → Bool) (w v : Standing) (it : Call) (j k : 
 
     visited-ended : Visited posted w v w.in_flight k
     visited-ended = visited posted w v w.in_flight (streamless w.number j.entries it ended ∷ []) j k away vis (record {
-      kept = has.placed ∙ ap (λ (x : JournalState Q). record j { entries = streamless w.number j.entries it ended ∷ j.entries; reserved = x.reserved; rows = k.rows }) (sym has.placed);
+      kept = has.placed ∙ ap (λ (n : ℕ). record j { entries = streamless w.number j.entries it ended ∷ j.entries; reserved = n; rows = k.rows }) (sym (ap (λ (x : JournalState Q). x.reserved) has.placed));
       good = subst (λ (past : List Entry). IsGood w.setup past) (sym entries-are)
           (good-streamless w.setup j.entries w.number it ended alone (has.is w.setup logs) vis.good);
       own = (eq-eqb w.number w.number refl, tt);
       held = quiet-streamless (record w.held { journal = true }) w.number j.entries it ended refl;
-      reserved = ap (λ x. x.reserved) has.placed
-          ∙ (vis.reserved_is
-          ∙ ap (λ (n : ℕ). n + w.in_flight + v.others) (sym (ap reserved_in entries-are ∙ reserved-streamless j.entries w.number it ended alone settled-front)));
+      reserved =
+          count k.reserved j.reserved (reserved_in k.entries) (reserved_in (streamless w.number j.entries it ended ∷ j.entries)) (reserved_in j.entries) w.in_flight v.others
+          (ap reserved_in entries-are) (ap (λ (x : JournalState Q). x.reserved) has.placed) vis.reserved_is;
     })
-
-    settled-ended : IsSettled (without_journal k v)
-    settled-ended =
-        ap (λ n. owes_store k.entries n) number
-        ∙ (ap (λ past. owes_store past w.number) entries-are ∙ settled-streamless j.entries w.number it ended alone)
+      where
+        count : (now was owed after before flight others : ℕ) → owed ≡ after → now ≡ after + (was - before) → was ≡ before + flight + others → now ≡ owed + flight + others
+        count now was owed after before flight others a n w = omega (arith, a, n, w)
 
   -- it stopped, and changed nothing
   visited-stopped : k ≡ j → Visited posted w v w.in_flight k
   visited-stopped same = visited posted w v w.in_flight [] j k away vis (stepping-none posted w v w.in_flight j.reserved j k vis same vis.reserved_is)
-
-  settled-stopped : k ≡ j → IsSettled (without_journal k v)
-  settled-stopped same =
-      ap (λ n. owes_store k.entries n) number ∙ (ap (λ (x : JournalState Q). owes_store x.entries w.number) same ∙ settled-front)
 
   stopped-left : (e : CcError) → IsStop 1 e j → k ≡ j → CallLeft w.setup w.number it (outcome.Failed e) w.seen k.entries
   stopped-left e stop same = subst (λ (x : JournalState Q). CallLeft w.setup w.number it (outcome.Failed e) w.seen x.entries) (sym same) (by stop)
@@ -263,7 +276,6 @@ module _ {Q : Type 0} (posted : Q → Bool) (w v : Standing) (it : Call) (j k : 
           (ends_done w.number (suc (calls_of j.entries w.number)) None it r w.seen j.entries way (filed (holds_of []) w.number it alone) (λ during. has-done w.number it during w.seen alone)));
       full = tt;
       goes_on = (visited-ended (told (Ok a)) left).went;
-      settled = settled-ended (told (Ok a)) left;
       good = stays-good (visited-ended (told (Ok a)) left);
     }
 
@@ -278,7 +290,6 @@ module _ {Q : Type 0} (posted : Q → Bool) (w v : Standing) (it : Call) (j k : 
               (inl (ends_refused w.number (suc (calls_of j.entries w.number)) None it (error.NoLog handle) w.seen j.entries way (filed (holds_of []) w.number it alone) listed)));
           full = tt;
           goes_on = (visited-ended ended left).went;
-          settled = settled-ended ended left;
           good = stays-good (visited-ended ended left);
         }
 
@@ -288,7 +299,6 @@ module _ {Q : Type 0} (posted : Q → Bool) (w v : Standing) (it : Call) (j k : 
       full = subst (λ (n : ℕ). IsFull {A = A} n (without_journal k v) (Err e)) (sym (one-asked it alone))
           (full-stopped A posted 1 (without_journal k v) k e (visited-stopped same).journal (subst (λ (x : JournalState Q). IsStop 1 e x) (sym same) stop));
       goes_on = (visited-stopped same).went;
-      settled = settled-stopped same;
       good = stays-good (visited-stopped same);
     }
 

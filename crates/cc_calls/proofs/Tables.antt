@@ -10,7 +10,6 @@ use Rattle.cc_entry.specs.declared.place.DirtyRow.{DirtyRow}
 use Rattle.cc_entry.specs.declared.reply.Outcome.{Outcome}
 use Rattle.cc_entry.specs.declared.reply.Outcome.TheVariants as outcome
 use Rattle.cc_entry.specs.declared.reply.Reply.TheVariants as reply
-use Rattle.cc_book.specs.Book.{Gains}
 use Rattle.cc_journal.specs.Journal.{JournalState, MayBePushed}
 use Rattle.cc_laws.proofs.HistorySteps.{history-no_effect}
 use Rattle.cc_model.specs.Cache.{all_streams, dirty_count, dirty_total, is_any_dirty}
@@ -21,11 +20,13 @@ use Rattle.cc_model.specs.Refusals.{refusal}
 use Rattle.cc_model.specs.Setup.{Setup}
 use Rattle.cc_model.specs.Stamps.{dirty_table}
 use Rattle.cc_model.specs.Touches.{is_dirty}
+use Rattle.cc_model.specs.Room.{reserved_in}
+use Rattle.cc_step.specs.Step.{AddsOwing}
 use Rattle.cc_step.proofs.Reserved.{sum-same}
 use Rattle.cc_calls.specs.Answers.{rows_outcome}
 use Rattle.cc_calls.specs.Streamless.{PlacesStreamless, StreamlessLeft, TableOf, streamless}
 use Rattle.cc_calls.proofs.Dirty.{dirty-outcome}
-use Rattle.cc_calls.proofs.Streamless.{adds-reserved, given-back, pushed-streamless, reserving, stopped-answer}
+use Rattle.cc_calls.proofs.Streamless.{adds-owing, given-back, pushed-streamless, reserving, stopped-answer}
 
 -- it is refused where there is no such log, and for nothing else
 log-there : (u : Setup) (past : List Entry) (handle : ℕ) → nat_le u.logs handle ≡ false → refusal u past [] (call.DirtyPages handle) ≡ None
@@ -77,18 +78,18 @@ table-none logs handle past (error.NoLog n) other found = absurd (other n refl)
 table-none logs handle past e other found = found
 
 -- What was placed where a place was reserved.
-module _ {Q : Type 0} (pass handle : ℕ) (j between k : JournalState Q) (same : between ≡ reserving j) where
-  placed-adds : (ended : Outcome) → PlacesStreamless pass (call.DirtyPages handle) ended between k → Gains (streamless pass j.entries (call.DirtyPages handle) ended) (reserving j) k
-  placed-adds ended = subst (λ (x : JournalState Q). Gains (streamless pass x.entries (call.DirtyPages handle) ended) x k) same
+module _ {Q : Type 0} (pass handle : ℕ) (j between k : JournalState Q) (same : between ≡ reserving j) (within : reserved_in j.entries ≤ j.reserved) where
+  placed-adds : (ended : Outcome) → PlacesStreamless pass (call.DirtyPages handle) ended between k → AddsOwing (streamless pass j.entries (call.DirtyPages handle) ended) j k
+  placed-adds ended placed =
+      adds-owing pass (call.DirtyPages handle) ended j k refl within (subst (λ (x : JournalState Q). PlacesStreamless pass (call.DirtyPages handle) ended x k) same placed)
 
   pub table-told : (rows told : List DirtyRow) → TableOf between.logs handle between.entries (Ok (rows, told)) → PlacesStreamless pass (call.DirtyPages handle) (outcome.Done (reply.Rows rows)) between k → StreamlessLeft rows_outcome pass (call.DirtyPages handle) (Ok told) j k
   table-told rows told found placed =
       let here : TableOf j.logs handle j.entries (Ok (rows, told)) = subst (λ (x : JournalState Q). TableOf x.logs handle x.entries (Ok (rows, told))) same found in
       record {
         is = λ u logs. table-outcome u j.entries pass handle told (rw logs here.0) here.2;
-        placed = adds-reserved (streamless pass j.entries (call.DirtyPages handle) (outcome.Done (reply.Rows told))) j k
-            (subst (λ (l : List DirtyRow). Gains (streamless pass j.entries (call.DirtyPages handle) (outcome.Done (reply.Rows l))) (reserving j) k) (here.1 ∙ sym here.2)
-            (placed-adds (outcome.Done (reply.Rows rows)) placed));
+        placed = subst (λ (l : List DirtyRow). AddsOwing (streamless pass j.entries (call.DirtyPages handle) (outcome.Done (reply.Rows l))) j k) (here.1 ∙ sym here.2)
+            (placed-adds (outcome.Done (reply.Rows rows)) placed);
       }
 
   pub table-refused : (missing : ℕ) → TableOf between.logs handle between.entries (Err (error.NoLog missing)) → PlacesStreamless pass (call.DirtyPages handle) (outcome.Failed (error.NoLog missing)) between k → StreamlessLeft rows_outcome pass (call.DirtyPages handle) (Err (error.NoLog missing)) j k
@@ -96,7 +97,7 @@ module _ {Q : Type 0} (pass handle : ℕ) (j between k : JournalState Q) (same :
       let here : TableOf j.logs handle j.entries (Err (error.NoLog missing)) = subst (λ (x : JournalState Q). TableOf x.logs handle x.entries (Err (error.NoLog missing))) same found in
       record {
         is = λ u logs. no-log-outcome u j.entries pass handle missing here.0 (rw logs here.1);
-        placed = adds-reserved (streamless pass j.entries (call.DirtyPages handle) (outcome.Failed (error.NoLog missing))) j k (placed-adds (outcome.Failed (error.NoLog missing)) placed);
+        placed = placed-adds (outcome.Failed (error.NoLog missing)) placed;
       }
 
   -- or the place was given back, and nothing changed

@@ -22,12 +22,11 @@ use Rattle.cc_own.proofs.OwnHolds.{filed-grows}
 use Rattle.cc_step.proofs.Placed.{so-far}
 use Rattle.cc_turns.specs.Standing.{Standing, Held, nothing}
 use Rattle.cc_turns.specs.Takes.{Takes, with_book, without_book}
-use Rattle.cc_visits.specs.Hands.{HasBook, IsSettled, Went}
+use Rattle.cc_visits.specs.Hands.{HasBook, Went}
 use Rattle.cc_visits.specs.Visits.{IsFiledNow, IsFullTried, TriedLeft}
 use Rattle.cc_visits.specs.declared.tell.Returned.{Returned}
 use Rattle.cc_visits.specs.declared.visits.Tried.{Tried}
 use Rattle.cc_visits.specs.declared.visits.Tried.TheVariants as tried
-use Rattle.cc_visits.proofs.Visiting.{settled-others}
 use Rattle.cc_calls.specs.Answers.{CallEnds}
 use Rattle.cc_calls.specs.Paged.{CalledAtOnce}
 
@@ -49,7 +48,6 @@ module _ (w v : Standing) (s : ℕ) (b : BookState) (took : Takes (with_book s) 
     stream = refl;
     stands = subst (λ (n : ℕ). BookStands (v.setup.opening n) v.seen b) (sym b_is) stands;
     good = took.good;
-    settled = rw (took.grows.grew, ap (λ x. x.number) took.same) (settled-others w.number took.grows.later w.seen took.grows.others can.settled);
   }
 
   -- the call is filed under its stream still
@@ -72,12 +70,11 @@ module _ (w v : Standing) (s : ℕ) (b : BookState) (took : Takes (with_book s) 
       rw (ap (λ x. x.seen) gave) (rw (ap (λ x. x.setup) took.same, number, b_is) at (left on))
 
 -- a call that ended in it
-pub at-once : (w v : Standing) (s : ℕ) (it : Call) (ended : Tried) (answer : Result Returned CcError) (was now : List ℕ) → ended ≡ tried.Ended answer → Went w v → IsSettled v → IsGood w.setup v.seen → IsFullTried v it ended → TriedLeft w.setup w.number s it ended w.seen v.seen was now → CalledAtOnce w v it answer was now
-at-once w v s it ended answer was now is went settled good full left = record {
+pub at-once : (w v : Standing) (s : ℕ) (it : Call) (ended : Tried) (answer : Result Returned CcError) (was now : List ℕ) → ended ≡ tried.Ended answer → Went w v → IsGood w.setup v.seen → IsFullTried v it ended → TriedLeft w.setup w.number s it ended w.seen v.seen was now → CalledAtOnce w v it answer was now
+at-once w v s it ended answer was now is went good full left = record {
   left = subst (λ (t : Tried). TriedLeft w.setup w.number s it t w.seen v.seen was now) is left;
   full = subst (λ (t : Tried). IsFullTried v it t) is full;
   goes_on = went;
-  settled = settled;
   good = good;
 }
 
@@ -87,6 +84,5 @@ failed-at-once told w v it e was now is c = record {
   left = subst (λ (o : Outcome). CallLeft w.setup w.number it o w.seen v.seen) (sym is) c.left.0;
   full = c.full;
   goes_on = c.goes_on;
-  settled = c.settled;
   good = λ was_good. c.good;
 }

@@ -11,7 +11,7 @@ use Rattle.cc_entry.specs.declared.reply.Outcome.TheVariants as outcome
 use Rattle.cc_entry.specs.declared.reply.Reply.TheVariants as reply
 use Rattle.cc_effects.specs.Calls.{CallLeft}
 use Rattle.cc_turns.specs.Standing.{Standing, nothing}
-use Rattle.cc_visits.specs.Hands.{IsSettled, Went}
+use Rattle.cc_visits.specs.Hands.{Went}
 use Rattle.cc_step.specs.Step.{most_asked}
 use Rattle.cc_visits.specs.Ways.{IsFull}
 use Rattle.cc_calls.specs.Pages.{StaysGood}
@@ -20,12 +20,10 @@ pub use Rattle.cc_fetch.specs.Fetch.{CanCall}
 -- how the entry of a call says that it ended, whose caller was answered no value, or failed
 pub use Rattle.cc_flush.specs.Flush.{outcome_of}
 
--- A pass may make a call that is on no stream: it holds no turn, has nothing under way, and owes no end of a noncached
--- write.
+-- A pass may make a call that is on no stream: it holds no turn, and has nothing under way.
 pub record IsFree (w : Standing) : Type 0 where
   pub free : w.held ≡ nothing
   pub none : w.in_flight ≡ 0
-  pub settled : IsSettled w
 
 -- the same where the caller was answered the sizes and the log of a stream, rows of the dirty page table, LSNs, or a
 -- flag
@@ -62,7 +60,6 @@ pub record CallEnds {A : Type 0} (ended : Result A CcError → Outcome) (old new
   pub left : CallLeft old.setup old.number it (ended answer) old.seen new.seen
   pub full : IsFull (most_asked it) new answer
   pub goes_on : Went old new
-  pub settled : IsSettled new
   pub good : StaysGood old new
 
 -- A call that sets something was answered so.

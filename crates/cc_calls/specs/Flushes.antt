@@ -19,7 +19,6 @@ use Rattle.cc_model.specs.Ranges.{span_has}
 use Rattle.cc_model.specs.Setup.{Setup}
 use Rattle.cc_model.specs.Touches.{is_dirty}
 use Rattle.cc_turns.specs.Standing.{Standing}
-use Rattle.cc_visits.specs.Hands.{IsSettled}
 use Rattle.cc_calls.specs.Answers.{outcome_of}
 use Rattle.cc_calls.specs.Pages.{IsFullOf, WentOn}
 
@@ -56,7 +55,6 @@ pub record FlushEnds (old new : Standing) (file : File) (span : Option Range)
   pub left : CallLeft old.setup old.number (call.Flush file span) (outcome_of answer) old.seen new.seen
   pub full : IsFullOf new answer
   pub goes_on : WentOn old new
-  pub settled : IsSettled new
   pub good : IsGood old.setup new.seen
   pub clean : OnOk answer (LeavesClean old.number file.stream span old.seen new.seen)
   pub durable : OnOk answer (IsDurable old.setup old.number file.stream span old.seen new.seen)

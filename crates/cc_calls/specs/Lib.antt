@@ -5,3 +5,5 @@ pub mod Paged
 pub mod Logs
 pub mod Streamless
 pub mod Flushes
+pub mod Purges
+pub mod Maps

@@ -4,7 +4,7 @@ use Rattle.cc_entry.specs.declared.error.CcError.{CcError}
 use Rattle.cc_entry.specs.declared.error.CcError.TheVariants as error
 use Rattle.cc_effects.specs.Moments.{Between}
 use Rattle.cc_turns.specs.Standing.{Standing}
-use Rattle.cc_visits.specs.Hands.{IsSettled, Went, WentWith}
+use Rattle.cc_visits.specs.Hands.{Went, WentWith}
 use Rattle.cc_visits.specs.Ways.{IsFull}
 use Rattle.cc_writes.specs.Logs.{IsWant}
 use Rattle.cc_calls.specs.Pages.{StaysGood}
@@ -15,7 +15,6 @@ pub record LogEnds {A : Type 0} (old new : Standing) (Left : Result A CcError â†
   pub left : Left answer old.seen new.seen
   pub full : IsFull 1 new answer
   pub goes_on : Went old new
-  pub settled : IsSettled new
   pub good : StaysGood old new
 
 -- A place is reserved for one entry more, or there was no room for it.

@@ -8,7 +8,7 @@ use Rattle.cc_fetch.specs.Fetch.{WentOn, most_room}
 use Rattle.cc_model.specs.Good.{IsGood}
 use Rattle.cc_step.specs.Step.{most_asked}
 use Rattle.cc_turns.specs.Standing.{Standing}
-use Rattle.cc_visits.specs.Hands.{IsSettled, Went}
+use Rattle.cc_visits.specs.Hands.{Went}
 use Rattle.cc_visits.specs.Ways.{EndedSo, IsFull}
 use Rattle.cc_visits.specs.declared.tell.Returned.{Returned}
 use Rattle.cc_calls.specs.Pages.{TookDeviceFor}
@@ -31,7 +31,6 @@ pub record CalledAtOnce (old new : Standing) (it : Call) (answer : Result Return
   pub left : EndedSo old.setup old.number it answer old.seen new.seen was now
   pub full : IsFull (most_asked it) new answer
   pub goes_on : Went old new
-  pub settled : IsSettled new
   pub good : IsGood old.setup new.seen
 
 -- A call that needs pages ended so. The turn of a disk was taken only for a page that was not resident, and for none
@@ -40,7 +39,6 @@ pub record Paged (old new : Standing) (it : Call) (answer : Result Returned CcEr
   pub left : EndedSo old.setup old.number it answer old.seen new.seen was now
   pub full : IsFull (most_room it) new answer
   pub goes_on : WentOn old new
-  pub settled : IsSettled new
   pub good : IsGood old.setup new.seen
   pub missed : TookDeviceFor it old new
   pub no_wait : brings_in it ≡ false → new.device_turns ≡ old.device_turns

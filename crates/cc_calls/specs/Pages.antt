@@ -15,7 +15,6 @@ use Rattle.cc_model.specs.Good.{IsGood}
 use Rattle.cc_model.specs.History.{history}
 use Rattle.cc_model.specs.Residency.{is_resident}
 use Rattle.cc_turns.specs.Standing.{Standing}
-use Rattle.cc_visits.specs.Hands.{IsSettled}
 use Rattle.cc_visits.specs.Ways.{IsFull}
 use Rattle.cc_flush.specs.Flush.{outcome_of}
 -- A pass goes on as it stood: it has seen more, what others have reserved may be other, and it may have taken the
@@ -40,12 +39,11 @@ HadMissed it old new =
 abbrev pub TookDeviceFor : Call → Standing → Standing → Type 0
 TookDeviceFor it old new = (new.device_turns ≡ old.device_turns) ⊎ HadMissed it old.seen new.seen
 
--- What a call that needs pages left: what explains that it ended so, the pass as it stood, settled, what it has seen
+-- What a call that needs pages left: what explains that it ended so, the pass as it stood, what it has seen
 -- still good, and a turn of a disk taken only for a page that was not resident.
 pub record PagesLeft (old new : Standing) (it : Call) (ended : Outcome) : Type 0 where
   pub left : CallLeft old.setup old.number it ended old.seen new.seen
   pub goes_on : WentOn old new
-  pub settled : IsSettled new
   pub good : StaysGood old new
   pub missed : TookDeviceFor it old new
 

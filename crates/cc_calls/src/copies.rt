@@ -44,7 +44,7 @@ pub fn copy_read<T: Turns>(
 
 /// Copies bytes into a stream from a place on (`CcCopyWrite`). At most 1 MiB.
 ///
-/// `NotCached`, `TooLong`, `PastSize`, `BeyondValid`, `NoViews`, `ReadFault`, `WriteFault`, `LogFault`, `JournalFull`,
+/// `NotCached`, `TooLong`, `BeyondSize`, `BeyondValid`, `NoViews`, `ReadFault`, `WriteFault`, `LogFault`, `JournalFull`,
 /// `NoMemory`.
 pub fn copy_write<T: Turns>(
     alloc: Global,

@@ -1,9 +1,11 @@
 //! The calls that tell something, and change nothing.
 
-ghost use Rattle.std.specs.Prelude.{◌<◌};
+ghost use Rattle.std.specs.Prelude.{◌<◌, ◌≤◌};
 ghost use Rattle.cc_entry.specs.declared.call.Call.TheVariants as call;
 ghost use Rattle.cc_model.specs.Good.{IsGood};
+ghost use Rattle.cc_model.specs.Room.{reserved_in};
 ghost use Rattle.cc_model.specs.Setup.{Setup};
+ghost use Rattle.cc_journal.specs.Calls.{owed_end};
 ghost use Rattle.cc_calls.specs.Answers.{CallEnds, CanCall, IsFree, flag_outcome, lsns_outcome, rows_outcome, state_outcome};
 ghost use Rattle.cc_calls.specs.Streamless.{PlacesStreamless, StreamlessLeft, TableOf};
 
@@ -100,6 +102,7 @@ fn tell_rows<Q>(
     handle: u8,
 ) -> Result<Rows, CcError>
     requires good { (u : Setup) × IsGood u journal.old.entries }
+    requires owed { reserved_in journal.old.entries ≤ journal.old.reserved }
     ensures { StreamlessLeft rows_outcome pass (call.DirtyPages handle) result journal.old journal.new }
 {
     journal.reserve(1)?;
@@ -132,13 +135,15 @@ fn rows_of<Q>(alloc: Global, journal: &Journal<Q>, handle: u8) -> Result<(Rows, 
     Ok((rows, told))
 }
 
-// Places the entry of a question for the dirty page table of a log, for which a place is reserved.
+// Places the entry of a question for the dirty page table of a log, for which a place is reserved, and gives the one of
+// the end of a noncached write of the pass back.
 fn place<Q>(journal: &mut Journal<Q>, pass: u32, handle: u8, outcome: Outcome)
-    requires reserved { 0 < journal.old.reserved }
+    requires reserved { owed_end journal.old.entries pass < journal.old.reserved }
     requires good { (u : Setup) × IsGood u journal.old.entries }
     ensures { PlacesStreamless pass (call.DirtyPages handle) outcome journal.old journal.new }
 {
     let nth = journal.next_call(pass);
+    let owed = journal.owed_end(pass);
     journal.push(Entry::Call {
         pass,
         nth,
@@ -146,16 +151,19 @@ fn place<Q>(journal: &mut Journal<Q>, pass: u32, handle: u8, outcome: Outcome)
         call: Call::DirtyPages { handle },
         outcome,
     });
+    journal.release(owed);
 }
 
 // Tells whether a page is dirty, from a journal in hand: where there is room for the entry of the call, it is placed.
 fn tell_dirty<Q>(journal: &mut Journal<Q>, pass: u32) -> Result<bool, CcError>
     requires good { (u : Setup) × IsGood u journal.old.entries }
+    requires owed { reserved_in journal.old.entries ≤ journal.old.reserved }
     ensures { StreamlessLeft flag_outcome pass call.IsDirtyData result journal.old journal.new }
 {
     journal.reserve(1)?;
     let flag = !journal.dirty().rows().is_empty();
     let nth = journal.next_call(pass);
+    let owed = journal.owed_end(pass);
     journal.push(Entry::Call {
         pass,
         nth,
@@ -163,5 +171,6 @@ fn tell_dirty<Q>(journal: &mut Journal<Q>, pass: u32) -> Result<bool, CcError>
         call: Call::IsDirtyData,
         outcome: Outcome::Done(Reply::Flag(flag)),
     });
+    journal.release(owed);
     Ok(flag)
 }

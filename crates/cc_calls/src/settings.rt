@@ -6,33 +6,9 @@ ghost use Rattle.cc_visits.specs.Visits.{IsOf};
 ghost use Rattle.cc_calls.specs.Answers.{CanCall, CallSets, is_setting};
 
 use crate::turned::call_at_once;
-use cc_entry::{Call, CcError, FileId, FileSizes, Quota, StreamId};
+use cc_entry::{Call, CcError, FileId, StreamId};
 use cc_turns::Turns;
 use std::alloc::Global;
-
-/// Makes the shared cache map of a stream, with a private one for the file object, or the private one alone where there
-/// is a shared map (`CcInitializeCacheMap`). Sizes are in bytes, the quota is in view blocks.
-///
-/// `BadSizes`, `NoVacbs`, `JournalFull`, `NoMemory`.
-pub fn initialize<T: Turns>(
-    alloc: Global,
-    turns: &mut T,
-    file: FileId,
-    sizes: FileSizes,
-    quota: Quota,
-    temporary: bool,
-) -> Result<(), CcError>
-    requires { CanCall (T.standing turns.old) file.stream }
-    ensures { CallSets (T.standing turns.old) (T.standing turns.new) (call.Initialise file sizes quota temporary) result }
-{
-    let call = Call::Initialise {
-        file,
-        sizes,
-        quota,
-        temporary,
-    };
-    set(alloc, turns, file.stream(), call)
-}
 
 /// Sets the allocation and the size of a stream, in bytes (`CcSetFileSizes`). Pages at or past the size go.
 ///
@@ -133,8 +109,13 @@ pub fn set_threshold<T: Turns>(
     )
 }
 
-// Makes such a call.
-fn set<T: Turns>(alloc: Global, turns: &mut T, stream: StreamId, call: Call) -> Result<(), CcError>
+/// Makes such a call.
+pub(crate) fn set<T: Turns>(
+    alloc: Global,
+    turns: &mut T,
+    stream: StreamId,
+    call: Call,
+) -> Result<(), CcError>
     requires can { CanCall (T.standing turns.old) stream }
     requires sets { is_setting call ≡ true }
     requires filed { IsOf call stream }

@@ -7,7 +7,7 @@ ghost use Rattle.cc_fetch.specs.Fetch.{CanCall};
 ghost use Rattle.cc_model.specs.Good.{IsGood};
 ghost use Rattle.cc_model.specs.Ranges.{range_of};
 ghost use Rattle.cc_step.specs.Step.{is_stepped};
-ghost use Rattle.cc_visits.specs.Hands.{IsSettled, Went};
+ghost use Rattle.cc_visits.specs.Hands.{Went};
 ghost use Rattle.cc_visits.specs.Ways.{FitsIn};
 ghost use Rattle.cc_visits.specs.Visits.{IsFiledNow, IsOf, IsFullTried, TriedLeft};
 ghost use Rattle.cc_calls.specs.Paged.{CalledAtOnce, Paged, is_paged};
@@ -73,7 +73,6 @@ fn turned<T: Turns>(
     requires filed { IsFiledNow (T.standing turns.old) stream call }
     requires fits { FitsIn call out.old }
     ensures went { Went (T.standing turns.old) (T.standing turns.new) }
-    ensures settled { IsSettled (T.standing turns.new) }
     ensures good { IsGood (T.standing turns.old).setup (T.standing turns.new).seen }
     ensures left { (begun : List Entry) →
         IsUnderWay (T.standing turns.old).number call begun (T.standing turns.old).seen →

@@ -10,7 +10,6 @@ use Rattle.cc_model.specs.Good.{IsGood}
 use Rattle.cc_model.specs.Setup.{Setup}
 use Rattle.cc_turns.specs.Standing.{Standing}
 use Rattle.cc_turns.specs.Takes.{without_device}
-use Rattle.cc_visits.specs.Hands.{IsSettled}
 use Rattle.cc_visits.specs.Ways.{IsFull}
 use Rattle.cc_calls.specs.Answers.{outcome_of}
 use Rattle.cc_calls.proofs.FlushCalls.{flush-ends, full-given, setup-both, went-both}
@@ -46,7 +45,6 @@ returns g c =
           c.flush_held-book.ensures.left w.seen (begins w.number it w.seen))
           (subst (λ (a : Standing). IsFull 2 a answer) (sym given) (full-given y answer c.flush_held-book.ensures.full))
           (went-both w v x y z s can.free first second went given)
-          (subst IsSettled (sym given) both.book.settled)
           (subst (λ (u : Setup). IsGood u z.seen) (setup-both w v x y s first second went)
           (subst (λ (past : List Entry). IsGood y.setup past) (sym (ap (λ (a : Standing). a.seen) given)) both.book.good));
     }

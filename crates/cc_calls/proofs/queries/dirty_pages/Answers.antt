@@ -4,8 +4,12 @@ use Rattle.cc_entry.specs.declared.call.Call.TheVariants as call
 use Rattle.cc_entry.specs.declared.reply.Reply.TheVariants as reply
 use Rattle.cc_visits.proofs.Visiting.{few-left}
 use Rattle.cc_calls.specs.Answers.{rows_outcome}
-use Rattle.cc_calls.proofs.Streamless.{gives-streamless, whole-streamless}
+use Rattle.cc_calls.proofs.Streamless.{gives-streamless, journal-owes, whole-streamless}
 use Rattle.cc_calls.proofs.queries.dirty_pages.Goals as goal
+
+pub tell_rows-answer-requires-clause-owed : goal.tell_rows-answer-requires-clause-owed
+tell_rows-answer-requires-clause-owed g c =
+    journal-owes g.T.Post.PostRoutine.posted (g.T.Turns.standing c.take_journal-journal.new.self) c.take_journal-journal.result c.take_journal-journal.ensures.stands
 
 pub give_journal-requires-clause-adds : goal.give_journal-requires-clause-adds
 give_journal-requires-clause-adds g c =

@@ -7,7 +7,7 @@ pub returns : goal.returns
 returns g c =
     let w = g.T.Turns.standing c.args.turns.now in
     at-once w (g.T.Turns.standing c.turned.new.turns) c.args.stream c.args.call c.turned.result c.in-Ended.answer c.args.out.now c.turned.new.out
-    c.in-Ended.is c.turned.ensures.went c.turned.ensures.settled c.turned.ensures.good c.turned.ensures.full
+    c.in-Ended.is c.turned.ensures.went c.turned.ensures.good c.turned.ensures.full
     (c.turned.ensures.left w.seen (begins w.number c.args.call w.seen))
 
 pub unreachable-requires : goal.unreachable-requires

@@ -35,7 +35,7 @@ pub returns-in-Ended : goal.returns-in-Ended
 returns-in-Ended g c =
     let w = g.T.Turns.standing c.args.turns.now in
     in-turn w (g.T.Turns.standing c.turned.new.turns) c.args.call c.in-Ended.answer c.args.out.now c.turned.new.out
-    c.turned.ensures.went c.turned.ensures.settled c.turned.ensures.good
+    c.turned.ensures.went c.turned.ensures.good
     (rw c.in-Ended.is at c.turned.ensures.full)
     (rw c.in-Ended.is at (c.turned.ensures.left w.seen (begins w.number c.args.call w.seen)))
 
@@ -46,4 +46,4 @@ returns-in-Waits g c =
     let has = has-waited w v c.args.stream c.in-Waits.field-0 c.args.call c.in-Waits.call c.args.out.now c.turned.new.out c.turned.result c.in-Waits.is c.turned.ensures.left in
     with-disk w v (g.T.Turns.standing c.fetch.new.turns) c.args.stream c.in-Waits.field-0 c.args.call c.in-Waits.call c.fetch.result
     c.args.out.now c.turned.new.out c.fetch.new.out c.requires.paged c.requires.filed c.turned.ensures.went has
-    c.fetch.ensures.goes_on c.fetch.ensures.settled c.fetch.ensures.good c.fetch.ensures.full c.fetch.ensures.left
+    c.fetch.ensures.goes_on c.fetch.ensures.good c.fetch.ensures.full c.fetch.ensures.left

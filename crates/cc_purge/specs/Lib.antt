@@ -1,0 +1,4 @@
+-- What the contracts cite.
+pub mod Residents
+pub mod Steps
+pub mod Purge
