@@ -30,7 +30,6 @@ use Rattle.cc_pieces.specs.Served.{Served, bindings_after}
 use Rattle.cc_calls.specs.Answers.{outcome_of}
 use Rattle.cc_calls.specs.Pages.{WentOn}
 use Rattle.cc_turns.specs.Standing.{Standing}
-use Rattle.cc_visits.specs.Hands.{IsSettled}
 use Rattle.cc_pin.specs.Ends.{HoldEnded, UnpinEnds}
 use Rattle.cc_pin.specs.declared.held.Held.{Held}
 use Rattle.cc_lines.specs.Holds.{NamesState, held_of, kind_of, named_at}
@@ -45,15 +44,14 @@ use Rattle.cc_lines.proofs.UseLines.{has-word, no-word, told-full}
 
 -- A line that takes out what a word names.
 module _ (old new : Standing) (names now : NamesState) (word : ℕ) (taken : now ≡ record names { named = slice_set names.named word None }) where
-  taking : (asked : Action) (told : Answer) (n : Need) → WentOn old new → IsSettled new → IsGood old.setup new.seen → IsFullTold new told → ((bounds : List Bound) → UsesRight bounds asked → Uses n bounds word) → ((bounds : List Bound) (bindings : List Binding) → StandFor old bounds bindings names → Uses n bounds word → (other : ℕ) (another : Named) → other ≢ word → named_at names.named other ≡ Some another → IsUnchanged old.number (held_of another).id old.seen new.seen) → ((bounds : List Bound) (bindings : List Binding) → StandFor old bounds bindings names → Uses n bounds word → Served old.setup old.number bindings asked told old.seen new.seen) → ((bounds : List Bound) (bindings : List Binding) → StandFor new (changed as_ended (slice_get bounds word) bounds word) bindings now → StandFor new (bound_after asked bounds) (bindings_after asked told bindings) now) → LineEnds old new asked told names now
-  taking asked told n went settled good full uses keeps left stands = record {
+  taking : (asked : Action) (told : Answer) (n : Need) → WentOn old new → IsGood old.setup new.seen → IsFullTold new told → ((bounds : List Bound) → UsesRight bounds asked → Uses n bounds word) → ((bounds : List Bound) (bindings : List Binding) → StandFor old bounds bindings names → Uses n bounds word → (other : ℕ) (another : Named) → other ≢ word → named_at names.named other ≡ Some another → IsUnchanged old.number (held_of another).id old.seen new.seen) → ((bounds : List Bound) (bindings : List Binding) → StandFor old bounds bindings names → Uses n bounds word → Served old.setup old.number bindings asked told old.seen new.seen) → ((bounds : List Bound) (bindings : List Binding) → StandFor new (changed as_ended (slice_get bounds word) bounds word) bindings now → StandFor new (bound_after asked bounds) (bindings_after asked told bindings) now) → LineEnds old new asked told names now
+  taking asked told n went good full uses keeps left stands = record {
     served = λ bounds bindings stand right. (
       left bounds bindings stand (uses bounds right),
       stands bounds bindings (stand-ended old new went good bounds bindings names stand n word (uses bounds right) now (ap (λ m. m.named) taken) (keeps bounds bindings stand (uses bounds right))),
     );
     full = full;
     goes_on = went;
-    settled = settled;
     good = good;
     room = ap (λ m. m.room) taken;
   }
@@ -62,7 +60,7 @@ module _ (old new : Standing) (names now : NamesState) (word : ℕ) (taken : now
   module _ (it : Named) (is : named_at names.named word ≡ Some it) (ends : HoldEnded old new (held_of it)) where
     ending : (asked : Action) (n : Need) → ((bounds : List Bound) → UsesRight bounds asked → Uses n bounds word) → ((bounds : List Bound) (bindings : List Binding) → StandFor old bounds bindings names → Uses n bounds word → Served old.setup old.number bindings asked (answer.Given reply.Unit) old.seen new.seen) → ((bounds : List Bound) (bindings : List Binding) → StandFor new (changed as_ended (slice_get bounds word) bounds word) bindings now → StandFor new (bound_after asked bounds) (bindings_after asked (answer.Given reply.Unit) bindings) now) → LineEnds old new asked (answer.Given reply.Unit) names now
     ending asked n uses left stands =
-        taking asked (answer.Given reply.Unit) n went ends.settled ends.good tt uses
+        taking asked (answer.Given reply.Unit) n went ends.good tt uses
         (λ bounds bindings stand used. others-kept old new went ends.good bounds bindings names stand n word used now it (call.EndHold (held_of it).id) (answer.Given reply.Unit) is ends.left (λ id apart. apart))
         left stands
       where
@@ -100,7 +98,7 @@ module _ (old new : Standing) (names now : NamesState) (word : ℕ) (taken : now
 
   pub unrepin-line : (held : Held) (through : Bool) (ended : Result (Unit {0}) CcError) → named_at names.named word ≡ Some (named.Repin held) → UnpinEnds old new held through ended → LineEnds old new (action.UnpinRepinned word through) (told_of ended) names now
   unrepin-line held through ended is ends =
-      taking (action.UnpinRepinned word through) (told_of ended) need.Repin ends.goes_on ends.settled ends.good (told-full 2 new ended (omega arith) ends.full) (λ bounds right. right)
+      taking (action.UnpinRepinned word through) (told_of ended) need.Repin ends.goes_on ends.good (told-full 2 new ended (omega arith) ends.full) (λ bounds right. right)
       (λ bounds bindings stand used other another differ also. unpin-unchanged old.setup old.number (held_of another).id held.id through (outcome_of ended) old.seen new.seen ends.left
       (ne_eqb held.id (held_of another).id (stand.apart word other (named.Repin held) another (λ e. differ (sym e)) is also)))
       (λ bounds bindings stand used. on-hold old.number held.id _ (UnpinAnswered old.setup old.number through) (told_of ended) old.seen new.seen
@@ -112,7 +110,7 @@ module _ (old new : Standing) (names now : NamesState) (word : ℕ) (taken : now
 module _ (w : Standing) (names now : NamesState) (word : ℕ) (taken : now ≡ record names { named = slice_set names.named word None }) where
   none-ended : (asked : Action) (n : Need) → CanServe w asked names → ((bounds : List Bound) → UsesRight bounds asked → Uses n bounds word) → ((bounds : List Bound) (bindings : List Binding) → StandFor w bounds bindings names → Uses n bounds word → Served w.setup w.number bindings asked answer.NoHold w.seen w.seen) → ((bounds : List Bound) (bindings : List Binding) → StandFor w (changed as_ended (slice_get bounds word) bounds word) bindings now → StandFor w (bound_after asked bounds) (bindings_after asked answer.NoHold bindings) now) → LineEnds w w asked answer.NoHold names now
   none-ended asked n can uses left stands =
-      taking w w names now word taken asked answer.NoHold n (went-none w) can.settled can.good tt uses
+      taking w w names now word taken asked answer.NoHold n (went-none w) can.good tt uses
       (λ bounds bindings stand used other another differ also. unchanged-idle w.number (held_of another).id w.seen w.seen (idle-none w.number w.seen))
       left stands
 

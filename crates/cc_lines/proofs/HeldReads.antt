@@ -11,7 +11,6 @@ use Rattle.cc_entry.specs.declared.reply.Reply.TheVariants as reply
 use Rattle.cc_effects.specs.Calls.{CallLeft}
 use Rattle.cc_effects.specs.Refusals.{may_refuse, may_want}
 use Rattle.cc_turns.specs.Standing.{Standing}
-use Rattle.cc_visits.specs.Hands.{IsSettled}
 use Rattle.cc_pin.specs.Held.{IsHolding}
 use Rattle.cc_pin.specs.Ends.{HeldReadEnds}
 use Rattle.cc_pin.specs.declared.held.Held.{Held}
@@ -19,12 +18,11 @@ use Rattle.cc_lines.specs.Line.{HeldReadTold}
 use Rattle.cc_lines.proofs.Calls.{unplaced}
 use Rattle.cc_lines.proofs.WordLines.{full-told, went-none, went-on}
 
-pub no-memory : (w : Standing) (of_kind : HoldKind → Bool) (held : Held) (it : Call) → may_refuse it error.NoMemory ≡ true → may_want it w.seen ≡ true → IsSettled w → IsHolding w of_kind held → HeldReadTold w w of_kind held it (answer.Refused error.NoMemory)
-no-memory w of_kind held it listed wants settled holding = record {
+pub no-memory : (w : Standing) (of_kind : HoldKind → Bool) (held : Held) (it : Call) → may_refuse it error.NoMemory ≡ true → may_want it w.seen ≡ true → IsHolding w of_kind held → HeldReadTold w w of_kind held it (answer.Refused error.NoMemory)
+no-memory w of_kind held it listed wants holding = record {
   answered = unplaced w.number it w.seen listed wants;
   full = tt;
   goes_on = went-none w;
-  settled = settled;
   good = λ good. good;
   holding = λ good. holding;
 }
@@ -37,7 +35,6 @@ module _ (old new : Standing) (of_kind : HoldKind → Bool) (held : Held) (it as
         (subst (λ l. CallLeft old.setup old.number it (outcome.Done (reply.Read l)) old.seen new.seen) (sym is) ends.left);
     full = tt;
     goes_on = went-on old new ends.goes_on;
-    settled = ends.settled;
     good = ends.good;
     holding = λ good. ends.holding;
   }
@@ -47,7 +44,6 @@ module _ (old new : Standing) (of_kind : HoldKind → Bool) (held : Held) (it as
     answered = subst (λ c. CallLeft old.setup old.number c (outcome.Failed e) old.seen new.seen) same ends.left;
     full = full-told 1 new e (omega arith) ends.full;
     goes_on = went-on old new ends.goes_on;
-    settled = ends.settled;
     good = ends.good;
     holding = λ good. ends.holding;
   }

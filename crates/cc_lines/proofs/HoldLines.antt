@@ -57,7 +57,6 @@ module _ (old new : Standing) (names now : NamesState) (file : File) (at len : �
         made now ends.pages.left ends.range ends.holding kinds (ap (λ n. n.named) grew));
     full = made-full (max 2 (most_asked it)) new made most ends.full;
     goes_on = ends.pages.goes_on;
-    settled = ends.pages.settled;
     good = ends.pages.good good;
     room = ap (λ n. n.room) grew;
   }

@@ -61,7 +61,6 @@ module _ (old new : Standing) (names now : NamesState) (word : ℕ) (exclusive :
     );
     full = tt;
     goes_on = went;
-    settled = ends.settled;
     good = ends.good can.good;
     room = ap (λ m. m.room) put;
   }
@@ -79,7 +78,6 @@ module _ (old new : Standing) (names now : NamesState) (word : ℕ) (exclusive :
     );
     full = full-told 1 new e (omega arith) ends.full;
     goes_on = went;
-    settled = ends.settled;
     good = ends.good can.good;
     room = ap (λ m. m.room) put;
   }
@@ -98,7 +96,6 @@ module _ (w : Standing) (names now : NamesState) (word : ℕ) (exclusive : Bool)
     );
     full = tt;
     goes_on = went-none w;
-    settled = can.settled;
     good = can.good;
     room = ap (λ m. m.room) same;
   }
@@ -125,7 +122,6 @@ module _ (old new : Standing) (names now : NamesState) (word : ℕ) (pinned : He
     );
     full = made-full 2 new made (omega arith) ends.call_ends.full;
     goes_on = went;
-    settled = ends.call_ends.settled;
     good = ends.call_ends.good can.good;
     room = ap (λ m. m.room) grew;
   }
@@ -167,7 +163,6 @@ no-repin w names now word can none grew = record {
   );
   full = tt;
   goes_on = went-none w;
-  settled = can.settled;
   good = can.good;
   room = ap (λ m. m.room) grew;
 }

@@ -23,19 +23,21 @@ use Rattle.cc_pieces.specs.Bindings.{Binding}
 use Rattle.cc_pieces.specs.Served.{Served, bindings_after}
 use Rattle.cc_calls.specs.Pages.{WentOn}
 use Rattle.cc_turns.specs.Standing.{Standing}
-use Rattle.cc_visits.specs.Hands.{IsSettled}
 use Rattle.cc_lines.specs.Holds.{NamesState}
 use Rattle.cc_lines.specs.Line.{IsFullTold, LineEnds, StandFor, told_of}
 use Rattle.cc_lines.proofs.WordLines.{answered-unchanged, stand-on}
 
 -- the call of an action that is served by one call on no hold
 abbrev pub plain_call : Action → Option Call
+plain_call (action.Initialise file sizes quota temporary) = Some (call.Initialise file sizes quota temporary)
+plain_call (action.Uninitialise file truncate) = Some (call.Uninitialise file truncate)
 plain_call (action.CopyRead file at len wait) = Some (call.CopyRead file at len wait)
 plain_call (action.CopyWrite file at bytes) = Some (call.CopyWrite file at bytes)
 plain_call (action.Zero file span) = Some (call.Zero file span)
 plain_call (action.SetSizes file allocation size) = Some (call.SetSizes file allocation size)
 plain_call (action.State file) = Some (call.State file)
 plain_call (action.Flush file span) = Some (call.Flush file span)
+plain_call (action.Purge file span) = Some (call.Purge file span)
 plain_call action.IsDirtyData = Some call.IsDirtyData
 plain_call (action.DirtyPages handle) = Some (call.DirtyPages handle)
 plain_call (action.LsnForFile file) = Some (call.LsnForFile file)
@@ -50,12 +52,15 @@ module _ (u : Setup) (me : ℕ) (it : Call) (told : Answer) (old new : List Entr
   is-call one is = subst (λ c. CallAnswered u me c told old new) (sym (some-same one it is)) left
 
   pub plain-unchanged : (asked : Action) → plain_call asked ≡ Some it → (id : ℕ) → IsUnchanged me id old new
+  plain-unchanged (action.Initialise file sizes quota temporary) is id = answered-unchanged u me id (call.Initialise file sizes quota temporary) told old new (is-call _ is) refl
+  plain-unchanged (action.Uninitialise file truncate) is id = answered-unchanged u me id (call.Uninitialise file truncate) told old new (is-call _ is) refl
   plain-unchanged (action.CopyRead file at len wait) is id = answered-unchanged u me id (call.CopyRead file at len wait) told old new (is-call _ is) refl
   plain-unchanged (action.CopyWrite file at bytes) is id = answered-unchanged u me id (call.CopyWrite file at bytes) told old new (is-call _ is) refl
   plain-unchanged (action.Zero file span) is id = answered-unchanged u me id (call.Zero file span) told old new (is-call _ is) refl
   plain-unchanged (action.SetSizes file allocation size) is id = answered-unchanged u me id (call.SetSizes file allocation size) told old new (is-call _ is) refl
   plain-unchanged (action.State file) is id = answered-unchanged u me id (call.State file) told old new (is-call _ is) refl
   plain-unchanged (action.Flush file span) is id = answered-unchanged u me id (call.Flush file span) told old new (is-call _ is) refl
+  plain-unchanged (action.Purge file span) is id = answered-unchanged u me id (call.Purge file span) told old new (is-call _ is) refl
   plain-unchanged action.IsDirtyData is id = answered-unchanged u me id call.IsDirtyData told old new (is-call _ is) refl
   plain-unchanged (action.DirtyPages handle) is id = answered-unchanged u me id (call.DirtyPages handle) told old new (is-call _ is) refl
   plain-unchanged (action.LsnForFile file) is id = answered-unchanged u me id (call.LsnForFile file) told old new (is-call _ is) refl
@@ -63,12 +68,15 @@ module _ (u : Setup) (me : ℕ) (it : Call) (told : Answer) (old new : List Entr
   plain-unchanged other is id = absurd (cc is)
 
   pub plain-served : (bindings : List Binding) (asked : Action) → plain_call asked ≡ Some it → Served u me bindings asked told old new
+  plain-served bindings (action.Initialise file sizes quota temporary) is = is-call _ is
+  plain-served bindings (action.Uninitialise file truncate) is = is-call _ is
   plain-served bindings (action.CopyRead file at len wait) is = is-call _ is
   plain-served bindings (action.CopyWrite file at bytes) is = is-call _ is
   plain-served bindings (action.Zero file span) is = is-call _ is
   plain-served bindings (action.SetSizes file allocation size) is = is-call _ is
   plain-served bindings (action.State file) is = is-call _ is
   plain-served bindings (action.Flush file span) is = is-call _ is
+  plain-served bindings (action.Purge file span) is = is-call _ is
   plain-served bindings action.IsDirtyData is = is-call _ is
   plain-served bindings (action.DirtyPages handle) is = is-call _ is
   plain-served bindings (action.LsnForFile file) is = is-call _ is
@@ -77,19 +85,22 @@ module _ (u : Setup) (me : ℕ) (it : Call) (told : Answer) (old new : List Entr
 
 -- such a line, a log append and a log flush leave the words as they were
 plain-stand : (new : Standing) (asked : Action) (it : Call) (told : Answer) (bounds : List Bound) (bindings : List Binding) (names : NamesState) → plain_call asked ≡ Some it → StandFor new bounds bindings names → StandFor new (bound_after asked bounds) (bindings_after asked told bindings) names
+plain-stand new (action.Initialise file sizes quota temporary) it told bounds bindings names is stand = stand
+plain-stand new (action.Uninitialise file truncate) it told bounds bindings names is stand = stand
 plain-stand new (action.CopyRead file at len wait) it told bounds bindings names is stand = stand
 plain-stand new (action.CopyWrite file at bytes) it told bounds bindings names is stand = stand
 plain-stand new (action.Zero file span) it told bounds bindings names is stand = stand
 plain-stand new (action.SetSizes file allocation size) it told bounds bindings names is stand = stand
 plain-stand new (action.State file) it told bounds bindings names is stand = stand
 plain-stand new (action.Flush file span) it told bounds bindings names is stand = stand
+plain-stand new (action.Purge file span) it told bounds bindings names is stand = stand
 plain-stand new action.IsDirtyData it told bounds bindings names is stand = stand
 plain-stand new (action.DirtyPages handle) it told bounds bindings names is stand = stand
 plain-stand new (action.LsnForFile file) it told bounds bindings names is stand = stand
 plain-stand new (action.SetLog file handle) it told bounds bindings names is stand = stand
 plain-stand new other it told bounds bindings names is stand = absurd (cc is)
 
-module _ (old new : Standing) (told : Answer) (names : NamesState) (full : IsFullTold new told) (went : WentOn old new) (settled : IsSettled new) (good : IsGood old.setup new.seen) where
+module _ (old new : Standing) (told : Answer) (names : NamesState) (full : IsFullTold new told) (went : WentOn old new) (good : IsGood old.setup new.seen) where
   pub plain-line : (asked : Action) (it : Call) → plain_call asked ≡ Some it → CallAnswered old.setup old.number it told old.seen new.seen → LineEnds old new asked told names names
   plain-line asked it is left = record {
     served = λ bounds bindings stand right. (
@@ -99,7 +110,6 @@ module _ (old new : Standing) (told : Answer) (names : NamesState) (full : IsFul
     );
     full = full;
     goes_on = went;
-    settled = settled;
     good = good;
     room = refl;
   }
@@ -109,7 +119,6 @@ module _ (old new : Standing) (told : Answer) (names : NamesState) (full : IsFul
     served = λ bounds bindings stand right. (left, stand-on old new went good bounds bindings names (unchanged left) stand);
     full = full;
     goes_on = went;
-    settled = settled;
     good = good;
     room = refl;
   }
@@ -130,7 +139,6 @@ module _ (old new : Standing) (told : Answer) (names : NamesState) (full : IsFul
     );
     full = full;
     goes_on = went;
-    settled = settled;
     good = good;
     room = refl;
   }

@@ -23,6 +23,7 @@ use Rattle.cc_calls.specs.Answers.{CallEnds, CanCall, IsFree, flag_outcome, lsns
 use Rattle.cc_calls.specs.Flushes.{FlushEnds}
 use Rattle.cc_calls.specs.Logs.{LogEnds}
 use Rattle.cc_calls.specs.Pages.{ChangeEnds}
+use Rattle.cc_calls.specs.Purges.{PurgeEnds}
 use Rattle.cc_turns.specs.Standing.{Standing}
 use Rattle.cc_visits.specs.Ways.{IsFull}
 use Rattle.cc_lines.specs.Holds.{NamesState}
@@ -44,10 +45,10 @@ can-as w asked it names is can = subst (λ a. CanServe w a names) is can
 
 -- what a call on a stream asks, and one on none
 pub may-on : (w : Standing) (asked : Action) (names : NamesState) (stream : ℕ) → CanServe w asked names → stream < w.streams → CanCall w stream
-may-on w asked names stream can known = record { known = known; free = can.free; none = can.none; settled = can.settled }
+may-on w asked names stream can known = record { known = known; free = can.free; none = can.none }
 
 pub may-free : (w : Standing) (asked : Action) (names : NamesState) → CanServe w asked names → IsFree w
-may-free w asked names can = record { free = can.free; none = can.none; settled = can.settled }
+may-free w asked names can = record { free = can.free; none = can.none }
 
 -- ---- a line that binds a word binds the next one
 
@@ -121,48 +122,54 @@ module _ (old new : Standing) (names : NamesState) (asked : Action) (told : Answ
   pub change-line : (it : Call) (ended : Result (Unit {0}) CcError) → plain_call asked ≡ Some it → told ≡ told_of ended → ChangeEnds old new it ended → LineEnds old new asked told names names
   change-line it ended is tells ends =
       told-as old new asked told (told_of ended) names names tells
-      (plain-line old new (told_of ended) names (told-full 2 new ended (omega arith) ends.full) ends.pages.goes_on ends.pages.settled (ends.pages.good good) asked it is
+      (plain-line old new (told_of ended) names (told-full 2 new ended (omega arith) ends.full) ends.pages.goes_on (ends.pages.good good) asked it is
       (told-answered old.setup old.number it ended old.seen new.seen ends.pages.left))
 
   -- a call that sets something
   pub set-line : (it : Call) (ended : Result (Unit {0}) CcError) → plain_call asked ≡ Some it → most_asked it ≤ 3 → told ≡ told_of ended → CallEnds outcome_of old new it ended → LineEnds old new asked told names names
   set-line it ended is less tells ends =
       told-as old new asked told (told_of ended) names names tells
-      (plain-line old new (told_of ended) names (told-full (most_asked it) new ended less ends.full) (went-on old new ends.goes_on) ends.settled (ends.good good) asked it is
+      (plain-line old new (told_of ended) names (told-full (most_asked it) new ended less ends.full) (went-on old new ends.goes_on) (ends.good good) asked it is
       (told-answered old.setup old.number it ended old.seen new.seen ends.left))
 
   pub flush-line : (file : File) (span : Option Range) (ended : Result (Unit {0}) CcError) → plain_call asked ≡ Some (call.Flush file span) → told ≡ told_of ended → FlushEnds old new file span ended → LineEnds old new asked told names names
   flush-line file span ended is tells ends =
       told-as old new asked told (told_of ended) names names tells
-      (plain-line old new (told_of ended) names (told-full 2 new ended (omega arith) ends.full) ends.goes_on ends.settled ends.good asked (call.Flush file span) is
+      (plain-line old new (told_of ended) names (told-full 2 new ended (omega arith) ends.full) ends.goes_on ends.good asked (call.Flush file span) is
       (told-answered old.setup old.number (call.Flush file span) ended old.seen new.seen ends.left))
+
+  pub purge-line : (file : File) (span : Option Range) (ended : Result (Unit {0}) CcError) → plain_call asked ≡ Some (call.Purge file span) → told ≡ told_of ended → PurgeEnds old new file span ended → LineEnds old new asked told names names
+  purge-line file span ended is tells ends =
+      told-as old new asked told (told_of ended) names names tells
+      (plain-line old new (told_of ended) names (told-full 2 new ended (omega arith) ends.full) ends.goes_on ends.good asked (call.Purge file span) is
+      (told-answered old.setup old.number (call.Purge file span) ended old.seen new.seen ends.left))
 
   -- the questions
   pub state-line : (it : Call) (ended : Result FileState CcError) → plain_call asked ≡ Some it → most_asked it ≤ 3 → told ≡ state_told ended → CallEnds state_outcome old new it ended → LineEnds old new asked told names names
   state-line it ended is less tells ends =
       told-as old new asked told (state_told ended) names names tells
-      (plain-line old new (state_told ended) names (state-full (most_asked it) new ended less ends.full) (went-on old new ends.goes_on) ends.settled (ends.good good) asked it is
+      (plain-line old new (state_told ended) names (state-full (most_asked it) new ended less ends.full) (went-on old new ends.goes_on) (ends.good good) asked it is
       (state-answered old.setup old.number it ended old.seen new.seen ends.left))
 
   pub flag-line : (it : Call) (ended : Result Bool CcError) → plain_call asked ≡ Some it → most_asked it ≤ 3 → told ≡ flag_told ended → CallEnds flag_outcome old new it ended → LineEnds old new asked told names names
   flag-line it ended is less tells ends =
       told-as old new asked told (flag_told ended) names names tells
-      (plain-line old new (flag_told ended) names (flag-full (most_asked it) new ended less ends.full) (went-on old new ends.goes_on) ends.settled (ends.good good) asked it is
+      (plain-line old new (flag_told ended) names (flag-full (most_asked it) new ended less ends.full) (went-on old new ends.goes_on) (ends.good good) asked it is
       (flag-answered old.setup old.number it ended old.seen new.seen ends.left))
 
   pub rows-line : (it : Call) (ended : Result (List DirtyRow) CcError) → plain_call asked ≡ Some it → most_asked it ≤ 3 → told ≡ rows_told ended → CallEnds rows_outcome old new it ended → LineEnds old new asked told names names
   rows-line it ended is less tells ends =
       told-as old new asked told (rows_told ended) names names tells
-      (plain-line old new (rows_told ended) names (rows-full (most_asked it) new ended less ends.full) (went-on old new ends.goes_on) ends.settled (ends.good good) asked it is
+      (plain-line old new (rows_told ended) names (rows-full (most_asked it) new ended less ends.full) (went-on old new ends.goes_on) (ends.good good) asked it is
       (rows-answered old.setup old.number it ended old.seen new.seen ends.left))
 
   pub lsns-line : (it : Call) (ended : Result (Option (ℕ × ℕ)) CcError) → plain_call asked ≡ Some it → most_asked it ≤ 3 → told ≡ lsns_told ended → CallEnds lsns_outcome old new it ended → LineEnds old new asked told names names
   lsns-line it ended is less tells ends =
       told-as old new asked told (lsns_told ended) names names tells
-      (plain-line old new (lsns_told ended) names (lsns-full (most_asked it) new ended less ends.full) (went-on old new ends.goes_on) ends.settled (ends.good good) asked it is
+      (plain-line old new (lsns_told ended) names (lsns-full (most_asked it) new ended less ends.full) (went-on old new ends.goes_on) (ends.good good) asked it is
       (lsns-answered old.setup old.number it ended old.seen new.seen ends.left))
 
   -- a flush of a log
   pub flushed-line : (handle lsn : ℕ) (ended : Result (Unit {0}) CcError) → told ≡ told_of ended → LogEnds old new (LogFlushLeft old.setup old.number handle lsn) ended → LineEnds old new (action.LogFlush handle lsn) told names names
   flushed-line handle lsn ended tells ends =
-      log_flush-line old new told names (subst (IsFullTold new) (sym tells) (told-full 1 new ended (omega arith) ends.full)) (went-on old new ends.goes_on) ends.settled (ends.good good) handle lsn ended tells ends.left
+      log_flush-line old new told names (subst (IsFullTold new) (sym tells) (told-full 1 new ended (omega arith) ends.full)) (went-on old new ends.goes_on) (ends.good good) handle lsn ended tells ends.left

@@ -48,7 +48,7 @@ has-word w names bounds bindings n word it stand uses is =
 pub may-call : (w : Standing) (asked : Action) (names : NamesState) (n : Need) (word : ℕ) (it : Named) → (can : CanServe w asked names) → Uses n can.bounds word → named_at names.named word ≡ Some it → CanCall w (held_of it).file.stream
 may-call w asked names n word it can uses is =
     let has = has-word w names can.bounds can.bindings n word it can.stand uses is in
-    record { known = has.known; free = can.free; none = can.none; settled = can.settled }
+    record { known = has.known; free = can.free; none = can.none }
 
 pub may-hold : (w : Standing) (asked : Action) (names : NamesState) (n : Need) (word : ℕ) (it : Named) → (can : CanServe w asked names) → Uses n can.bounds word → named_at names.named word ≡ Some it → IsHolding w (test_of it) (held_of it)
 may-hold w asked names n word it can uses is = (has-word w names can.bounds can.bindings n word it can.stand uses is).holds
@@ -72,7 +72,6 @@ module _ (w : Standing) (names : NamesState) where
     served = λ bounds bindings stand right. (left bounds bindings stand right, stands bounds bindings stand);
     full = tt;
     goes_on = went-none w;
-    settled = can.settled;
     good = can.good;
     room = refl;
   }
@@ -129,7 +128,6 @@ use-told old new of_kind held it ended less ends = record {
   answered = told-answered old.setup old.number it ended old.seen new.seen ends.call_ends.left;
   full = told-full (most_asked it) new ended less ends.call_ends.full;
   goes_on = went-on old new ends.call_ends.goes_on;
-  settled = ends.call_ends.settled;
   good = ends.call_ends.good;
   holding = λ good. ends.holding;
 }
@@ -146,7 +144,6 @@ module _ (old new : Standing) (names : NamesState) (word : ℕ) (it : Named) (is
     served = λ bounds bindings stand right. (left bounds bindings stand right ends.answered, stands bounds bindings (after bounds bindings stand (uses bounds right)));
     full = ends.full;
     goes_on = ends.goes_on;
-    settled = ends.settled;
     good = ends.good can.good;
     room = refl;
   }

@@ -1,5 +1,5 @@
 -- What a line of a script asks, and what it leaves.
-use Rattle.std.specs.Prelude.{◌≡◌, ℕ, Bool, ◌<◌, List, Result, Ok, Err}
+use Rattle.std.specs.Prelude.{◌≡◌, ℕ, Bool, ◌<◌, List, length, Result, Ok, Err}
 use Rattle.std.specs.declared.option.Option.{Option}
 use Rattle.cc_entry.specs.declared.place.DirtyRow.{DirtyRow}
 use Rattle.cc_entry.specs.declared.place.FileState.{FileState}
@@ -18,7 +18,6 @@ use Rattle.cc_model.specs.Good.{IsGood}
 use Rattle.cc_pieces.specs.Bindings.{Binding}
 use Rattle.cc_pieces.specs.Served.{Served, bindings_after}
 use Rattle.cc_turns.specs.Standing.{Standing, nothing}
-use Rattle.cc_visits.specs.Hands.{IsSettled}
 use Rattle.cc_visits.specs.Ways.{IsFullError}
 use Rattle.cc_calls.specs.Pages.{StaysGood, WentOn}
 use Rattle.cc_pin.specs.Held.{IsHolding}
@@ -27,6 +26,8 @@ use Rattle.cc_lines.specs.Holds.{NamesState, NamesStand, HasRoom}
 
 -- an action on one of so many streams, or on none; one on a hold names no stream
 abbrev pub IsServable : ℕ → Action → Type 0
+IsServable streams (action.Initialise file sizes quota temporary) = file.stream < streams
+IsServable streams (action.Uninitialise file truncate) = file.stream < streams
 IsServable streams (action.CopyRead file at len wait) = file.stream < streams
 IsServable streams (action.CopyWrite file at bytes) = file.stream < streams
 IsServable streams (action.Zero file span) = file.stream < streams
@@ -49,6 +50,7 @@ IsServable streams (action.MdlAbort word) = Unit {0}
 IsServable streams (action.SetSizes file allocation size) = file.stream < streams
 IsServable streams (action.State file) = file.stream < streams
 IsServable streams (action.Flush file span) = file.stream < streams
+IsServable streams (action.Purge file span) = file.stream < streams
 IsServable streams action.IsDirtyData = Unit {0}
 IsServable streams (action.DirtyPages handle) = Unit {0}
 IsServable streams (action.LsnForFile file) = file.stream < streams
@@ -60,14 +62,12 @@ IsServable streams (action.LogFlush handle lsn) = Unit {0}
 abbrev pub StandFor : Standing → List Bound → List Binding → NamesState → Type 0
 StandFor w bounds bindings names = NamesStand w.streams w.number w.seen bounds bindings names.named
 
--- A pass may make the call of an action: it holds no turn, has nothing under way, and owes no end of a noncached write;
--- what it has seen is good; and the action uses right the words that are kept for it, with room for the one that it
--- binds.
+-- A pass may make the call of an action: it holds no turn and has nothing under way; what it has seen is good; and the
+-- action uses right the words that are kept for it, with room for the one that it binds.
 pub record CanServe (w : Standing) (asked : Action) (names : NamesState) : Type 0 where
   pub servable : IsServable w.streams asked
   pub free : w.held ≡ nothing
   pub none : w.in_flight ≡ 0
-  pub settled : IsSettled w
   pub good : IsGood w.setup w.seen
   pub bounds : List Bound
   pub bindings : List Binding
@@ -90,9 +90,15 @@ pub record LineEnds (old new : Standing) (asked : Action) (told : Answer) (was n
       × StandFor new (bound_after asked bounds) (bindings_after asked told bindings) now
   pub full : IsFullTold new told
   pub goes_on : WentOn old new
-  pub settled : IsSettled new
   pub good : IsGood old.setup new.seen
   pub room : now.room ≡ was.room
+
+-- The same of an action that binds a word, which is the next one: it may be asked so, and its line was served so.
+abbrev pub CanServeNext : Standing → (ℕ → Action) → NamesState → Type 0
+CanServeNext w asked names = CanServe w (asked (length names.named)) names
+
+abbrev pub NextEnds : Standing → Standing → (ℕ → Action) → Answer → NamesState → NamesState → Type 0
+NextEnds old new asked told was now = LineEnds old new (asked (length was.named)) told was now
 
 -- the answer of a line whose call answers no value
 abbrev pub told_of : Result (Unit {0}) CcError → Answer
@@ -122,6 +128,5 @@ pub record HeldReadTold (old new : Standing) (of_kind : HoldKind → Bool) (held
   pub answered : CallAnswered old.setup old.number it told old.seen new.seen
   pub full : IsFullTold new told
   pub goes_on : WentOn old new
-  pub settled : IsSettled new
   pub good : StaysGood old new
   pub holding : IsGood old.setup old.seen → IsHolding new of_kind held

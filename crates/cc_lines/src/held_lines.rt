@@ -7,7 +7,7 @@ ghost use Rattle.cc_calls.specs.Answers.{CanCall};
 ghost use Rattle.cc_pin.specs.Held.{IsHolding, covers};
 ghost use Rattle.cc_script.specs.declared.script.Action.TheVariants as action;
 ghost use Rattle.cc_lines.specs.Holds.{bound_named, made_told};
-ghost use Rattle.cc_lines.specs.Line.{CanServe, HeldReadTold, LineEnds};
+ghost use Rattle.cc_lines.specs.Line.{CanServe, CanServeNext, HeldReadTold, LineEnds, NextEnds};
 
 use crate::holds::{Named, Names};
 use crate::line::answered;
@@ -33,8 +33,9 @@ pub(crate) fn map<T: Turns>(
     at: u64,
     len: u64,
 ) -> Answer
-    requires { CanServe (T.standing turns.old) (action.Map file at len (length names.old.named)) names.old }
-    ensures { LineEnds (T.standing turns.old) (T.standing turns.new) (action.Map file at len (length names.old.named)) result names.old names.new }
+    requires { CanServeNext (T.standing turns.old) (action.Map file at len) names.old }
+    ensures { NextEnds (T.standing turns.old) (T.standing turns.new) (action.Map file at len)
+        result names.old names.new }
 {
     match map_data(alloc, turns, file, at, len) {
         Ok(hold) => bind(names, Ok(Named::Map(hold))),
@@ -52,8 +53,9 @@ pub(crate) fn pin<T: Turns>(
     len: u64,
     exclusive: bool,
 ) -> Answer
-    requires { CanServe (T.standing turns.old) (action.PinRead file at len (length names.old.named) exclusive) names.old }
-    ensures { LineEnds (T.standing turns.old) (T.standing turns.new) (action.PinRead file at len (length names.old.named) exclusive) result names.old names.new }
+    requires { CanServeNext (T.standing turns.old) (λ word. action.PinRead file at len word exclusive) names.old }
+    ensures { NextEnds (T.standing turns.old) (T.standing turns.new) (λ word. action.PinRead file at len word exclusive)
+        result names.old names.new }
 {
     match pin_read(alloc, turns, file, at, len, exclusive) {
         Ok(hold) => bind(names, Ok(Named::Pin(hold))),
@@ -72,8 +74,9 @@ pub(crate) fn prepare<T: Turns>(
     zero: bool,
     exclusive: bool,
 ) -> Answer
-    requires { CanServe (T.standing turns.old) (action.PreparePin file at len (length names.old.named) zero exclusive) names.old }
-    ensures { LineEnds (T.standing turns.old) (T.standing turns.new) (action.PreparePin file at len (length names.old.named) zero exclusive) result names.old names.new }
+    requires { CanServeNext (T.standing turns.old) (λ word. action.PreparePin file at len word zero exclusive) names.old }
+    ensures { NextEnds (T.standing turns.old) (T.standing turns.new) (λ word. action.PreparePin file at len word zero exclusive)
+        result names.old names.new }
 {
     match prepare_pin_write(alloc, turns, file, at, len, zero, exclusive) {
         Ok(hold) => bind(names, Ok(Named::Pin(hold))),
@@ -90,8 +93,9 @@ pub(crate) fn chain<T: Turns>(
     at: u64,
     len: u64,
 ) -> Answer
-    requires { CanServe (T.standing turns.old) (action.MdlRead file at len (length names.old.named)) names.old }
-    ensures { LineEnds (T.standing turns.old) (T.standing turns.new) (action.MdlRead file at len (length names.old.named)) result names.old names.new }
+    requires { CanServeNext (T.standing turns.old) (action.MdlRead file at len) names.old }
+    ensures { NextEnds (T.standing turns.old) (T.standing turns.new) (action.MdlRead file at len)
+        result names.old names.new }
 {
     match mdl_read(alloc, turns, file, at, len) {
         Ok(hold) => bind(names, Ok(Named::ReadChain(hold))),
@@ -108,8 +112,9 @@ pub(crate) fn write_chain<T: Turns>(
     at: u64,
     len: u64,
 ) -> Answer
-    requires { CanServe (T.standing turns.old) (action.MdlWrite file at len (length names.old.named)) names.old }
-    ensures { LineEnds (T.standing turns.old) (T.standing turns.new) (action.MdlWrite file at len (length names.old.named)) result names.old names.new }
+    requires { CanServeNext (T.standing turns.old) (action.MdlWrite file at len) names.old }
+    ensures { NextEnds (T.standing turns.old) (T.standing turns.new) (action.MdlWrite file at len)
+        result names.old names.new }
 {
     match prepare_mdl_write(alloc, turns, file, at, len) {
         Ok(hold) => bind(names, Ok(Named::WriteChain(hold))),
@@ -246,8 +251,8 @@ pub(crate) fn hold_again<T: Turns>(
     names: &mut Names,
     word: HoldWord,
 ) -> Answer
-    requires { CanServe (T.standing turns.old) (action.Repin word (length names.old.named)) names.old }
-    ensures { LineEnds (T.standing turns.old) (T.standing turns.new) (action.Repin word (length names.old.named)) result names.old names.new }
+    requires { CanServeNext (T.standing turns.old) (action.Repin word) names.old }
+    ensures { NextEnds (T.standing turns.old) (T.standing turns.new) (action.Repin word) result names.old names.new }
 {
     match names.get(word) {
         Some(named) => match named {
@@ -464,7 +469,8 @@ fn write_pin<T: Turns>(
     requires can { CanCall (T.standing turns.old) hold.now.file.stream }
     requires holding { IsHolding (T.standing turns.old) is_pin hold.now }
     requires covers { covers hold.now at (length bytes.now) ≡ true }
-    ensures { HeldReadTold (T.standing turns.old) (T.standing turns.new) is_pin hold.now (call.PinnedWrite hold.now.id at bytes.now) result }
+    ensures { HeldReadTold (T.standing turns.old) (T.standing turns.new) is_pin hold.now
+        (call.PinnedWrite hold.now.id at bytes.now) result }
 {
     match bytes.to_vec(alloc) {
         Ok(piece) => answered(pinned_write(alloc, turns, hold, at, &piece)),
@@ -483,7 +489,8 @@ fn store<T: Turns>(
     requires can { CanCall (T.standing turns.old) chain.now.file.stream }
     requires holding { IsHolding (T.standing turns.old) is_write_chain chain.now }
     requires covers { covers chain.now at (length bytes.now) ≡ true }
-    ensures { HeldReadTold (T.standing turns.old) (T.standing turns.new) is_write_chain chain.now (call.MdlStore chain.now.id at bytes.now) result }
+    ensures { HeldReadTold (T.standing turns.old) (T.standing turns.new) is_write_chain chain.now
+        (call.MdlStore chain.now.id at bytes.now) result }
 {
     match bytes.to_vec(alloc) {
         Ok(piece) => answered(mdl_store(alloc, turns, chain, at, &piece)),

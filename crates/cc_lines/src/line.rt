@@ -4,7 +4,6 @@ ghost use Rattle.cc_entry.specs.declared.call.Call.TheVariants as call;
 ghost use Rattle.cc_pieces.specs.Answered.{AppendAnswered, CallAnswered};
 ghost use Rattle.cc_turns.specs.Standing.{Standing};
 ghost use Rattle.cc_calls.specs.Answers.{CanCall, IsFree};
-ghost use Rattle.cc_visits.specs.Hands.{IsSettled};
 ghost use Rattle.cc_calls.specs.Pages.{StaysGood, WentOn};
 ghost use Rattle.cc_lines.specs.Line.{CanServe, IsFullTold, LineEnds, flag_told, lsns_told, rows_told, state_told, told_of};
 ghost use Rattle.std.specs.Prelude.{◌≡◌};
@@ -15,8 +14,8 @@ use crate::held_lines::{
 };
 use crate::holds::Names;
 use cc_calls::{
-    copy_read, copy_write, dirty_pages, file_state, flush, is_dirty_data, log_append, log_flush,
-    lsn_for_file, set_file_sizes, set_log_handle, zero_data,
+    copy_read, copy_write, dirty_pages, file_state, flush, initialize, is_dirty_data, log_append,
+    log_flush, lsn_for_file, purge, set_file_sizes, set_log_handle, uninitialize, zero_data,
 };
 use cc_entry::{Answer, Bytes, BytesRoom, CcError, FileId, FileState, Lsn, Reply, Rows};
 use cc_script::Action;
@@ -50,6 +49,15 @@ fn serve<T: Turns>(alloc: Global, turns: &mut T, action: &Action, names: &mut Na
     ensures { LineEnds (T.standing turns.old) (T.standing turns.new) action.now result names.old names.new }
 {
     match action {
+        Action::Initialise {
+            file,
+            sizes,
+            quota,
+            temporary,
+        } => answered(initialize(alloc, turns, *file, *sizes, *quota, *temporary)),
+        Action::Uninitialise { file, truncate } => {
+            flag(uninitialize(alloc, turns, *file, *truncate))
+        }
         Action::CopyRead {
             file,
             at,
@@ -100,6 +108,7 @@ fn serve<T: Turns>(alloc: Global, turns: &mut T, action: &Action, names: &mut Na
         } => answered(set_file_sizes(alloc, turns, *file, *allocation, *size)),
         Action::State { file } => state(file_state(alloc, turns, *file)),
         Action::Flush { file, span } => answered(flush(alloc, turns, *file, *span)),
+        Action::Purge { file, span } => answered(purge(alloc, turns, *file, *span)),
         Action::IsDirtyData => flag(is_dirty_data(turns)),
         Action::DirtyPages { handle } => rows(dirty_pages(alloc, turns, *handle)),
         Action::LsnForFile { file } => lsns(lsn_for_file(alloc, turns, *file)),
@@ -173,7 +182,6 @@ fn read<T: Turns>(
         (call.CopyRead file at len wait) result (T.standing turns.old).seen (T.standing turns.new).seen }
     ensures full { IsFullTold (T.standing turns.new) result }
     ensures goes_on { WentOn (T.standing turns.old) (T.standing turns.new) }
-    ensures settled { IsSettled (T.standing turns.new) }
     ensures good { StaysGood (T.standing turns.old) (T.standing turns.new) }
 {
     let Ok(mut out) = vec![in alloc; 0; len as usize] else {
@@ -195,7 +203,6 @@ fn write<T: Turns>(alloc: Global, turns: &mut T, file: FileId, at: u64, bytes: &
         (call.CopyWrite file at bytes.now) result (T.standing turns.old).seen (T.standing turns.new).seen }
     ensures full { IsFullTold (T.standing turns.new) result }
     ensures goes_on { WentOn (T.standing turns.old) (T.standing turns.new) }
-    ensures settled { IsSettled (T.standing turns.new) }
     ensures good { StaysGood (T.standing turns.old) (T.standing turns.new) }
 {
     let Ok(piece) = bytes.to_vec(alloc) else {
@@ -211,7 +218,6 @@ fn append<T: Turns>(alloc: Global, turns: &mut T, handle: u8, bytes: &Bytes) -> 
         (T.standing turns.old).seen (T.standing turns.new).seen }
     ensures full { IsFullTold (T.standing turns.new) result }
     ensures goes_on { WentOn (T.standing turns.old) (T.standing turns.new) }
-    ensures settled { IsSettled (T.standing turns.new) }
     ensures good { StaysGood (T.standing turns.old) (T.standing turns.new) }
 {
     let Ok(piece) = bytes.to_vec(alloc) else {

@@ -1,4 +1,5 @@
 pub mod LineSteps
 pub mod PlainReads
+pub mod ClosedMaps
 pub mod OneCaller
 pub mod Words

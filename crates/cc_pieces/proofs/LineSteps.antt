@@ -105,6 +105,9 @@ unrepinned-after u me bindings word through told old new newer left idle =
     held-after me (hold_named bindings word is_repin) (UnpinAnswered u me through) told old new newer (λ id one. unpinned-after u me through id told old new newer one idle) left idle
 
 served-before : (u : Setup) (me : ℕ) (bindings : List Binding) (asked : Action) (told : Answer) (older old new : List Entry) → IsIdle me older old → Served u me bindings asked told old new → Served u me bindings asked told older new
+served-before u me bindings (action.Initialise file sizes quota temporary) told older old new idle left =
+    answered-before u me (call.Initialise file sizes quota temporary) told older old new idle left
+served-before u me bindings (action.Uninitialise file truncate) told older old new idle left = answered-before u me (call.Uninitialise file truncate) told older old new idle left
 served-before u me bindings (action.CopyRead file at len wait) told older old new idle left = answered-before u me (call.CopyRead file at len wait) told older old new idle left
 served-before u me bindings (action.CopyWrite file at bytes) told older old new idle left = answered-before u me (call.CopyWrite file at bytes) told older old new idle left
 served-before u me bindings (action.Zero file span) told older old new idle left = answered-before u me (call.Zero file span) told older old new idle left
@@ -135,6 +138,7 @@ served-before u me bindings (action.MdlAbort word) told older old new idle left 
 served-before u me bindings (action.SetSizes file allocation size) told older old new idle left = answered-before u me (call.SetSizes file allocation size) told older old new idle left
 served-before u me bindings (action.State file) told older old new idle left = answered-before u me (call.State file) told older old new idle left
 served-before u me bindings (action.Flush file span) told older old new idle left = answered-before u me (call.Flush file span) told older old new idle left
+served-before u me bindings (action.Purge file span) told older old new idle left = answered-before u me (call.Purge file span) told older old new idle left
 served-before u me bindings action.IsDirtyData told older old new idle left = answered-before u me call.IsDirtyData told older old new idle left
 served-before u me bindings (action.DirtyPages handle) told older old new idle left = answered-before u me (call.DirtyPages handle) told older old new idle left
 served-before u me bindings (action.LsnForFile file) told older old new idle left = answered-before u me (call.LsnForFile file) told older old new idle left
@@ -143,6 +147,9 @@ served-before u me bindings (action.Append handle bytes) told older old new idle
 served-before u me bindings (action.LogFlush handle lsn) told older old new idle left = log_flushed-before u me handle lsn told older old new idle left
 
 served-after : (u : Setup) (me : ℕ) (bindings : List Binding) (asked : Action) (told : Answer) (old new newer : List Entry) → Served u me bindings asked told old new → IsIdle me new newer → Served u me bindings asked told old newer
+served-after u me bindings (action.Initialise file sizes quota temporary) told old new newer left idle =
+    answered-after u me (call.Initialise file sizes quota temporary) told old new newer left idle
+served-after u me bindings (action.Uninitialise file truncate) told old new newer left idle = answered-after u me (call.Uninitialise file truncate) told old new newer left idle
 served-after u me bindings (action.CopyRead file at len wait) told old new newer left idle = answered-after u me (call.CopyRead file at len wait) told old new newer left idle
 served-after u me bindings (action.CopyWrite file at bytes) told old new newer left idle = answered-after u me (call.CopyWrite file at bytes) told old new newer left idle
 served-after u me bindings (action.Zero file span) told old new newer left idle = answered-after u me (call.Zero file span) told old new newer left idle
@@ -173,6 +180,7 @@ served-after u me bindings (action.MdlAbort word) told old new newer left idle =
 served-after u me bindings (action.SetSizes file allocation size) told old new newer left idle = answered-after u me (call.SetSizes file allocation size) told old new newer left idle
 served-after u me bindings (action.State file) told old new newer left idle = answered-after u me (call.State file) told old new newer left idle
 served-after u me bindings (action.Flush file span) told old new newer left idle = answered-after u me (call.Flush file span) told old new newer left idle
+served-after u me bindings (action.Purge file span) told old new newer left idle = answered-after u me (call.Purge file span) told old new newer left idle
 served-after u me bindings action.IsDirtyData told old new newer left idle = answered-after u me call.IsDirtyData told old new newer left idle
 served-after u me bindings (action.DirtyPages handle) told old new newer left idle = answered-after u me (call.DirtyPages handle) told old new newer left idle
 served-after u me bindings (action.LsnForFile file) told old new newer left idle = answered-after u me (call.LsnForFile file) told old new newer left idle

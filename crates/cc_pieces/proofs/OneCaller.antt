@@ -51,6 +51,8 @@ alone-first (line ∷ lines) all = rw (all.0.1, all.0.0) (same-caller lines all.
 
 -- no line posts
 posts-none : (asked : Action) (told : Answer) → posted_by asked told ≡ []
+posts-none (action.Initialise file sizes quota temporary) told = refl
+posts-none (action.Uninitialise file truncate) told = refl
 posts-none (action.CopyRead file at len wait) told = refl
 posts-none (action.CopyWrite file at bytes) told = refl
 posts-none (action.Zero file span) told = refl
@@ -73,6 +75,7 @@ posts-none (action.MdlAbort word) told = refl
 posts-none (action.SetSizes file allocation size) told = refl
 posts-none (action.State file) told = refl
 posts-none (action.Flush file span) told = refl
+posts-none (action.Purge file span) told = refl
 posts-none action.IsDirtyData told = refl
 posts-none (action.DirtyPages handle) told = refl
 posts-none (action.LsnForFile file) told = refl

@@ -15,6 +15,9 @@ use Rattle.cc_pieces.specs.Answered.{CallAnswered, AppendAnswered, LogFlushAnswe
 
 -- from one moment to another, the caller's line left what explains its answer
 abbrev pub Served : Setup → ℕ → List Binding → Action → Answer → Between
+Served u me bindings (action.Initialise file sizes quota temporary) told old new =
+    CallAnswered u me (call.Initialise file sizes quota temporary) told old new
+Served u me bindings (action.Uninitialise file truncate) told old new = CallAnswered u me (call.Uninitialise file truncate) told old new
 Served u me bindings (action.CopyRead file at len wait) told old new = CallAnswered u me (call.CopyRead file at len wait) told old new
 Served u me bindings (action.CopyWrite file at bytes) told old new = CallAnswered u me (call.CopyWrite file at bytes) told old new
 Served u me bindings (action.Zero file span) told old new = CallAnswered u me (call.Zero file span) told old new
@@ -40,6 +43,7 @@ Served u me bindings (action.SetSizes file allocation size) told old new =
     CallAnswered u me (call.SetSizes file allocation size) told old new
 Served u me bindings (action.State file) told old new = CallAnswered u me (call.State file) told old new
 Served u me bindings (action.Flush file span) told old new = CallAnswered u me (call.Flush file span) told old new
+Served u me bindings (action.Purge file span) told old new = CallAnswered u me (call.Purge file span) told old new
 Served u me bindings action.IsDirtyData told old new = CallAnswered u me call.IsDirtyData told old new
 Served u me bindings (action.DirtyPages handle) told old new = CallAnswered u me (call.DirtyPages handle) told old new
 Served u me bindings (action.LsnForFile file) told old new = CallAnswered u me (call.LsnForFile file) told old new
@@ -49,6 +53,8 @@ Served u me bindings (action.LogFlush handle lsn) told old new = LogFlushAnswere
 
 -- the caller's bindings after the line
 abbrev pub bindings_after : Action → Answer → List Binding → List Binding
+bindings_after (action.Initialise file sizes quota temporary) told bindings = bindings
+bindings_after (action.Uninitialise file truncate) told bindings = bindings
 bindings_after (action.CopyRead file at len wait) told bindings = bindings
 bindings_after (action.CopyWrite file at bytes) told bindings = bindings
 bindings_after (action.Zero file span) told bindings = bindings
@@ -71,6 +77,7 @@ bindings_after (action.MdlAbort word) told bindings = bindings
 bindings_after (action.SetSizes file allocation size) told bindings = bindings
 bindings_after (action.State file) told bindings = bindings
 bindings_after (action.Flush file span) told bindings = bindings
+bindings_after (action.Purge file span) told bindings = bindings
 bindings_after action.IsDirtyData told bindings = bindings
 bindings_after (action.DirtyPages handle) told bindings = bindings
 bindings_after (action.LsnForFile file) told bindings = bindings
@@ -80,6 +87,8 @@ bindings_after (action.LogFlush handle lsn) told bindings = bindings
 
 -- the deferred writes that the line posted
 abbrev pub posted_by : Action → Answer → List ℕ
+posted_by (action.Initialise file sizes quota temporary) told = []
+posted_by (action.Uninitialise file truncate) told = []
 posted_by (action.CopyRead file at len wait) told = []
 posted_by (action.CopyWrite file at bytes) told = []
 posted_by (action.Zero file span) told = []
@@ -102,6 +111,7 @@ posted_by (action.MdlAbort word) told = []
 posted_by (action.SetSizes file allocation size) told = []
 posted_by (action.State file) told = []
 posted_by (action.Flush file span) told = []
+posted_by (action.Purge file span) told = []
 posted_by action.IsDirtyData told = []
 posted_by (action.DirtyPages handle) told = []
 posted_by (action.LsnForFile file) told = []

@@ -1,7 +1,8 @@
 //! How a caller's run grows, what a read in it answers, and which holds words name. Each function does
 //! nothing: its contract is the law.
 
-ghost use Rattle.std.specs.Prelude.{◌≡◌, ℕ, Bool, Some, None, List, [], ◌∷◌, ◌++◌};
+ghost use Rattle.std.specs.Prelude.{◌≡◌, ℕ, Bool, not, Some, None, List, [], ◌∷◌, ◌++◌};
+ghost use Rattle.std.specs.declared.option.Option.{Option};
 ghost use Rattle.cc_entry.specs.Kinds.{is_map, is_pin};
 ghost use Rattle.cc_entry.specs.declared.hold.HoldKind.TheVariants as kind;
 ghost use Rattle.cc_entry.specs.declared.error.CcError.{CcError};
@@ -16,7 +17,8 @@ ghost use Rattle.cc_entry.specs.declared.entry.Entry.TheVariants as entry;
 ghost use Rattle.cc_script.specs.declared.script.Action.{Action};
 ghost use Rattle.cc_script.specs.declared.script.Action.TheVariants as action;
 ghost use Rattle.cc_model.specs.Setup.{Setup};
-ghost use Rattle.cc_model.specs.History.{history};
+ghost use Rattle.cc_model.specs.History.{Did, history};
+ghost use Rattle.cc_model.specs.Touches.{is_mapped};
 ghost use Rattle.cc_model.specs.Replies.{Reads};
 ghost use Rattle.cc_model.specs.Good.{IsGood};
 ghost use Rattle.cc_effects.specs.Moments.{IsIdle};
@@ -61,6 +63,20 @@ pub fn reads_answer_the_plain_file()
         ++ (entry.Call me nth (Some file.stream) (call.CopyRead file at len wait) (outcome.Done (reply.Read bytes))
         ∷ (earlier ++ old)))
         × Reads (u.opening file.stream) (history (earlier ++ old) file.stream) at len (reply.Read bytes) }
+{}
+
+/// In a good journal, a line that an uninitialise answered (`CcUninitializeCacheMap`) has its entry in its piece, and was
+/// told that the shared map went exactly where there is none behind that entry.
+pub fn uninitialise_tells_whether_the_map_went()
+    ensures { (u : Setup) (limit me : ℕ) (bindings : List Binding) (file : File) (truncate : Option ℕ) (gone : Bool)
+        (old new newer : List Entry) →
+        IsGood u (newer ++ new) →
+        Explains u limit me bindings (action.Uninitialise file truncate) (answer.Given (reply.Flag gone)) old new →
+        (nth : ℕ) × (later : List Entry) × (earlier : List Entry)
+        × (new ≡ later
+        ++ (entry.Call me nth (Some file.stream) (call.Uninitialise file truncate) (outcome.Done (reply.Flag gone))
+        ∷ (earlier ++ old)))
+        × (gone ≡ not (is_mapped (Did me (call.Uninitialise file truncate) (reply.Flag gone) ∷ history (earlier ++ old) file.stream))) }
 {}
 
 /// A word names the hold that its line made, of the kind that the hold is now; a refused line binds nothing.

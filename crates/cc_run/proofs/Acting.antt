@@ -1,5 +1,5 @@
 -- What a line of a caller leaves on a desk.
-use Rattle.std.specs.Prelude.{◌≡◌, ◌≢◌, ℕ, ◌+◌, ◌<◌, ◌≤◌, false, List, ◌++◌, length, refl}
+use Rattle.std.specs.Prelude.{◌≡◌, ◌≢◌, ℕ, ◌+◌, ◌<◌, ◌≤◌, List, ◌++◌, length, refl}
 use Rattle.std.proofs.Common.{sym, subst, ap, ◌∙◌, arith}
 use Rattle.cc_entry.specs.declared.answer.Answer.{Answer}
 use Rattle.cc_entry.specs.declared.answer.Answer.TheVariants as answer
@@ -18,17 +18,16 @@ use Rattle.cc_pieces.specs.Answered.{CallAnswered}
 use Rattle.cc_pieces.specs.Bindings.{Binding}
 use Rattle.cc_pieces.specs.Rooms.{HadNoRoom, WasFull}
 use Rattle.cc_pieces.specs.Served.{Served}
-use Rattle.cc_step.specs.Step.{owes_store}
 use Rattle.cc_turns.specs.Standing.{Standing}
 use Rattle.cc_turns.specs.Takes.{HasActed}
-use Rattle.cc_visits.specs.Hands.{Went, IsSettled}
+use Rattle.cc_visits.specs.Hands.{Went}
 use Rattle.cc_visits.specs.Ways.{IsFullError}
 use Rattle.cc_calls.specs.Pages.{WentOn}
 use Rattle.cc_run.specs.Desks.{IsReady, IsSameRun, IsSamePass}
 use Rattle.cc_lines.specs.Holds.{NamesStand, NamesState}
 use Rattle.cc_lines.specs.Line.{CanServe, IsFullTold, IsServable, LineEnds}
 use Rattle.cc_run.specs.Lines.{LineEnd, LineLeft, MayServeLine}
-use Rattle.cc_run.proofs.Others.{idle-acted, settled-all}
+use Rattle.cc_run.proofs.Others.{idle-acted}
 
 -- a journal that is full, with nothing of the pass under way and not much of others, was so at the end of the line
 pub full-at : (w : Standing) (limit entries : ℕ) (during old : List Entry) → w.seen ≡ during ++ old → w.in_flight ≡ 0 → w.others + 3 ≤ limit → IsFullError 3 w (error.JournalFull entries) → WasFull w.setup limit entries old w.seen
@@ -89,7 +88,6 @@ can-serve-line w0 w1 line names acts ready servable good may =
       servable = rw streams servable;
       free = ap (λ w. w.held) acts ∙ ready.free;
       none = ap (λ w. w.in_flight) acts ∙ ready.at_rest;
-      settled = rw (seen, number) (ready.settled line.caller);
       good = good;
       bounds = may.bounds;
       bindings = may.bindings;
@@ -98,7 +96,7 @@ can-serve-line w0 w1 line names acts ready servable good may =
       room = may.room;
     }
 
-module _ (w0 w1 w2 : Standing) (caller : ℕ) (acts : w1 ≡ record w0 { number = caller; since = w0.seen }) (went : WentOn w1 w2) (settled : IsSettled w2) (own : HasActed w2.number w2.since w2.seen) (ready : IsReady w0) where
+module _ (w0 w1 w2 : Standing) (caller : ℕ) (acts : w1 ≡ record w0 { number = caller; since = w0.seen }) (went : WentOn w1 w2) (own : HasActed w2.number w2.since w2.seen) (ready : IsReady w0) where
   number-is : w2.number ≡ caller
   number-is = ap (λ w. w.number) went.same ∙ ap (λ w. w.number) acts
 
@@ -125,7 +123,6 @@ module _ (w0 w1 w2 : Standing) (caller : ℕ) (acts : w1 ≡ record w0 { number 
   ready-after = record {
     free = ap (λ w. w.held) went.same ∙ (ap (λ w. w.held) acts ∙ ready.free);
     at_rest = at_rest;
-    settled = settled-all caller w0.seen w2.seen acted (subst (λ n. owes_store w2.seen n ≡ false) number-is settled) ready.settled;
   }
 
   pub left-after : (bindings : List Binding) (line : ActionLine) (told : Answer) → line.caller ≡ caller → Served w1.setup w1.number bindings line.action told w1.seen w2.seen → IsFullTold w2 told → w2.others ≡ 0 → LineLeft w0.setup bindings line told w0.seen w2.seen

@@ -10,7 +10,6 @@ use Rattle.cc_pieces.specs.Bindings.{Binding}
 use Rattle.cc_pieces.specs.Rooms.{HadNoRoom}
 use Rattle.cc_pieces.specs.Runs.{Ran, bindings_of}
 use Rattle.cc_pieces.proofs.LineSteps.{ran-more}
-use Rattle.cc_step.specs.Step.{owes_store}
 use Rattle.cc_turns.specs.Desk.{Tells}
 use Rattle.cc_turns.specs.Slots.{setup_in}
 use Rattle.cc_turns.specs.Standing.{Standing, nothing}
@@ -101,7 +100,6 @@ pub record RanSoFar {D L Q : Type 0} (tells : Tells D L Q) (board : BoardState D
     (lines : List ActionLine) (answers : List Answer) (seated : SeatedState D L) (names : NamesState) : Type 0 where
   pub went : WentOn (seat_at tells (seat_of board caller)) (seat_at tells seated)
   pub free : held_of seated.knows ≡ nothing
-  pub settled : owes_store seated.knows.seen caller.pass.knows.number ≡ false
   pub whole : length answers ≡ count_of caller.pass.knows.number lines
   pub good : IsGood (setup_in tells board.begun) seated.knows.seen
   pub room : names.room ≡ caller.names.room
@@ -134,7 +132,6 @@ module _ {D L Q : Type 0} (tells : Tells D L Q) (board : BoardState D L) (all : 
       record {
         went = subst (λ s. WentOn (seat_at tells (seat_of board caller)) (seat_at tells s)) (sym same) (record { same = refl });
         free = free;
-        settled = rw seen may.settled;
         whole = refl;
         good = rw seen may.good;
         room = ap (λ n. n.room) names_are;
@@ -164,7 +161,6 @@ module _ {D L Q : Type 0} (tells : Tells D L Q) (board : BoardState D L) (all : 
           servable = subst (λ n. IsServable n line.action) (sym streams-are) servable;
           free = ran.free;
           none = ap (λ w. w.in_flight) ran.went.same ∙ may.none;
-          settled = rw number-is ran.settled;
           good = subst (λ u. IsGood u seated.knows.seen) (sym setup-is) ran.good;
           bounds = bound_so_far me may.bounds lines;
           bindings = bindings_of may.bindings (asked_own me lines answers);
@@ -197,7 +193,6 @@ module _ {D L Q : Type 0} (tells : Tells D L Q) (board : BoardState D L) (all : 
         record {
           went = went-then (seat_at tells (seat_of board caller)) (seat_at tells seated) (seat_at tells after) ran.went went;
           free = ap (λ w. w.held) went.same ∙ ran.free;
-          settled = subst (λ n. owes_store after.knows.seen n ≡ false) number_after ended.settled;
           whole = omega (arith, length-append answers (told ∷ []), ran.whole, count-append me lines (line ∷ []), count-more me line [] own);
           good = subst (λ u. IsGood u after.knows.seen) setup-is ended.good;
           room = ended.room ∙ ran.room;
@@ -223,7 +218,6 @@ module _ {D L Q : Type 0} (tells : Tells D L Q) (board : BoardState D L) (all : 
     ran-other line apart = record {
       went = ran.went;
       free = ran.free;
-      settled = ran.settled;
       whole = omega (arith, ran.whole, count-append me lines (line ∷ []), count-other me line [] apart);
       good = ran.good;
       room = ran.room;
@@ -239,7 +233,6 @@ module _ {D L Q : Type 0} (tells : Tells D L Q) (board : BoardState D L) (all : 
           here = ap (λ p. p.board) is ∙ same_board seated.board.id board.id (ap (λ w. w.shared) ran.went.same);
           number = number;
           none = ap (λ p. p.knows.in_flight) is ∙ (ap (λ w. w.in_flight) ran.went.same ∙ may.none);
-          settled = rw (seen, number) ran.settled;
           whole = ap length told ∙ (ran.whole ∙ ap (count_of me) whole);
           word_room = ap (λ n. n.room) names_are ∙ ran.room;
           ran = λ bounds bindings stand right.
@@ -262,7 +255,6 @@ ran-no_lines tells board all caller ended may zero same none names_are =
       here = ap (λ p. p.board) same ∙ may.here;
       number = number;
       none = ap (λ p. p.knows.in_flight) same ∙ may.none;
-      settled = subst (λ p. owes_store p.knows.seen p.knows.number ≡ false) (sym same) may.settled;
       whole = omega (arith, ap length empty, no_lines);
       word_room = ap (λ n. n.room) names_are;
       ran = λ bounds bindings stand right. record {

@@ -69,6 +69,8 @@ module _ (u : Setup) (me entries : ℕ) (old new : List Entry) where
   grew-log_flush handle lsn left = record { during = left.during; grew = left.grew }
 
   grew-served : (bindings : List Binding) (asked : Action) → Served u me bindings asked full old new → Grew old new
+  grew-served bindings (action.Initialise file sizes quota temporary) left = grew-call (call.Initialise file sizes quota temporary) left
+  grew-served bindings (action.Uninitialise file truncate) left = grew-call (call.Uninitialise file truncate) left
   grew-served bindings (action.CopyRead file at len wait) left = grew-call (call.CopyRead file at len wait) left
   grew-served bindings (action.CopyWrite file at bytes) left = grew-call (call.CopyWrite file at bytes) left
   grew-served bindings (action.Zero file span) left = grew-call (call.Zero file span) left
@@ -91,6 +93,7 @@ module _ (u : Setup) (me entries : ℕ) (old new : List Entry) where
   grew-served bindings (action.SetSizes file allocation size) left = grew-call (call.SetSizes file allocation size) left
   grew-served bindings (action.State file) left = grew-call (call.State file) left
   grew-served bindings (action.Flush file span) left = grew-call (call.Flush file span) left
+  grew-served bindings (action.Purge file span) left = grew-call (call.Purge file span) left
   grew-served bindings action.IsDirtyData left = grew-call call.IsDirtyData left
   grew-served bindings (action.DirtyPages handle) left = grew-call (call.DirtyPages handle) left
   grew-served bindings (action.LsnForFile file) left = grew-call (call.LsnForFile file) left

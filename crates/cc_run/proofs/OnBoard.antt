@@ -27,7 +27,6 @@ use Rattle.cc_pieces.specs.Rooms.{is_alone}
 use Rattle.cc_pieces.specs.Runs.{Ran, asked_of, bindings_of}
 use Rattle.cc_pieces.proofs.LineSteps.{ran-idle}
 use Rattle.cc_pieces.proofs.OneCaller.{asked-none}
-use Rattle.cc_step.specs.Step.{owes_store}
 use Rattle.cc_turns.specs.Desk.{DeskState, Tells, tells_of, standing_of}
 use Rattle.cc_turns.specs.Places.{IsRoomFor}
 use Rattle.cc_turns.specs.Slots.{setup_in}
@@ -44,7 +43,6 @@ use Rattle.cc_run.specs.declared.callers.Finished.{Finished}
 use Rattle.cc_run.proofs.CallersRan.{all-ran-long}
 use Rattle.cc_run.proofs.Lists.{mapped-at, there}
 use Rattle.cc_run.proofs.NamesKept.{names-keep}
-use Rattle.cc_run.proofs.Others.{settled-idle}
 use Rattle.cc_run.proofs.RowSteps.{reverse_twice}
 
 -- ---- rows
@@ -190,7 +188,6 @@ module _ {D L Q : Type 0} (told : D → Option Disk) (faults : D → ℕ) (log_t
               here = is.here;
               run = is.run ∙ opened.first_run;
               none = is.none;
-              settled = ap (λ past. owes_store past caller.pass.knows.number) (is.seen_is ∙ opened.seen_is) ∙ ready.settled caller.pass.knows.number;
               good = rw (run, is.seen_is ∙ opened.seen_is) good;
               few = omega (arith, is.before_is, is.passes_are, opened.before_is, opened.passes_are, ready.at_rest);
               servable = subst (λ k. AllByRecursion (λ line. IsServable k line.action) lines) (sym (ap (λ b. length b.disks) opened.run_is)) servable;
@@ -342,24 +339,12 @@ module _ {D L Q : Type 0} (told : D → Option Disk) (faults : D → ℕ) (log_t
                 logs = ap (λ b. (standing_of told faults log_told log_faults (record now { begun = b })).logs) begun;
               }
 
-          settled-now : (me : ℕ) → owes_store now.last.entries me ≡ false
-          settled-now zero = settled-idle 0 desk.last.entries now.last.entries idle-first (ready.settled 0)
-          settled-now (suc n) = by (below-or n 16)
-            where
-              by : (n < 16) ⊎ (16 ≤ n) → owes_store now.last.entries (suc n) ≡ false
-              by (inl within) =
-                  let e = ended-at n within in
-                  settled-idle (suc n) e.one.pass.knows.seen now.last.entries (idle-caller n e)
-                  (ap (λ k. owes_store e.one.pass.knows.seen k) (sym (e.ran_so.number ∙ e.number_is)) ∙ e.ran_so.settled)
-              by (inr above) = settled-idle (suc n) desk.last.entries now.last.entries (idle-unmade (suc n) (omega (arith, above))) (ready.settled (suc n))
-
           pub ready-now : IsReady (standing_of told faults log_told log_faults now)
           ready-now = record {
             free = closed.held_is;
             at_rest =
                 let none = none-left (tells_of told faults log_told log_faults posted) board lines callers ended ran in
                 omega (arith, closed.under_way_is, joined.under_way_is, split.none, opened.under_way_is, ready.at_rest, none);
-            settled = settled-now;
           }
 
           abbrev setup : Setup
@@ -433,7 +418,6 @@ module _ {D L Q : Type 0} (told : D → Option Disk) (faults : D → ℕ) (log_t
   back-ready ready = record {
     free = handed.held_is;
     at_rest = handed.under_way_is ∙ ready.at_rest;
-    settled = λ me. ap (λ past. owes_store past me) handed.entries_are ∙ ready.settled me;
   }
 
   pub back-run : IsSameRun (standing_of told faults log_told log_faults desk) (standing_of told faults log_told log_faults back)

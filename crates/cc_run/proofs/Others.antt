@@ -1,16 +1,14 @@
 -- What one pass acted is nothing of another, over a desk where nobody else goes on.
-use Rattle.std.specs.Prelude.{◌≡◌, ◌≢◌, ℕ, ◌==◌, Bool, true, false, List, [], ◌∷◌, ◌++◌, refl}
+use Rattle.std.specs.Prelude.{◌≡◌, ◌≢◌, ℕ, true, false, List, [], ◌∷◌, refl}
 use Rattle.std.specs.declared.option.Option.{Option}
 use Rattle.std.specs.declared.option.Option.TheVariants.{Some, None}
 use Rattle.std.specs.List.{AllByRecursion}
-use Rattle.std.proofs.Common.{sym, ap, ◌∙◌}
-use Rattle.std.proofs.lemmas.Bool.{eqb-true, eqb-false, ne_eqb}
+use Rattle.std.proofs.Common.{sym, ◌∙◌}
+use Rattle.std.proofs.lemmas.Bool.{eqb-true, ne_eqb}
 use Rattle.cc_entry.specs.declared.entry.Entry.{Entry}
 use Rattle.cc_entry.specs.declared.entry.Entry.TheVariants as entry
-use Rattle.cc_model.specs.Passes.{is_mine, is_pass, pass_of, up_to_call}
-use Rattle.cc_laws.proofs.PassSteps.{up_to_call-not_mine}
+use Rattle.cc_model.specs.Passes.{is_mine, is_pass, pass_of}
 use Rattle.cc_effects.specs.Moments.{Others, IsIdle}
-use Rattle.cc_step.specs.Step.{owes_store, ends_in_store}
 use Rattle.cc_turns.specs.Takes.{HasActed, may_be_of}
 
 not_mine : (me pass : ℕ) (o : Option ℕ) → me ≢ pass → is_pass pass o ≡ true → is_pass me o ≡ false
@@ -32,20 +30,3 @@ idle-acted me pass since seen apart acted = record {
   grew = acted.grew;
   others = others-own me pass acted.added apart acted.own;
 }
-
-up_to-others : (me : ℕ) (later past : List Entry) → Others me later → up_to_call (later ++ past) me ≡ up_to_call past me
-up_to-others me [] past others = refl
-up_to-others me (e ∷ later) past others = up_to_call-not_mine e (later ++ past) me others.0 ∙ up_to-others me later past others.1
-
--- a pass that was idle owes no more than before
-pub settled-idle : (me : ℕ) (old new : List Entry) → IsIdle me old new → owes_store old me ≡ false → owes_store new me ≡ false
-settled-idle me old new idle before =
-    ap (λ past. owes_store past me) idle.grew ∙ (ap ends_in_store (up_to-others me idle.during old idle.others) ∙ before)
-
--- no pass owes the end of a noncached write, where none did and the one that acted does not
-pub settled-all : (pass : ℕ) (old new : List Entry) → HasActed pass old new → owes_store new pass ≡ false → ((me : ℕ) → owes_store old me ≡ false) → (me : ℕ) → owes_store new me ≡ false
-settled-all pass old new acted own before me = by (me == pass) refl
-  where
-    by : (b : Bool) → (me == pass) ≡ b → owes_store new me ≡ false
-    by true is = rw (eqb-true me pass is) own
-    by false is = settled-idle me old new (idle-acted me pass old new (eqb-false me pass is) acted) (before me)

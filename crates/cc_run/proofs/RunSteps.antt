@@ -1,5 +1,5 @@
 -- A run on a desk: where it begins, what it may serve, and the disks at its end.
-use Rattle.std.specs.Prelude.{◌≡◌, ℕ, ◌+◌, ◌≤◌, nat_le, Bool, true, false, ◌&&◌, List, [], length, take, slice_get, refl}
+use Rattle.std.specs.Prelude.{◌≡◌, ℕ, ◌+◌, ◌≤◌, nat_le, Bool, true, false, ◌&&◌, List, length, take, slice_get, refl}
 use Rattle.std.specs.List.{AllByRecursion, list_all}
 use Rattle.std.proofs.Common.{sym, ap, subst, ◌∙◌, arith}
 use Rattle.std.proofs.lemmas.Bool.{leb-true}
@@ -15,9 +15,7 @@ use Rattle.cc_script.specs.declared.script.Action.TheVariants as action
 use Rattle.cc_script.specs.declared.script.ActionLine.{ActionLine}
 use Rattle.cc_script.specs.declared.script.StreamLine.{StreamLine}
 use Rattle.cc_script.specs.Within.{IsActionWithin, IsLineWithin}
-use Rattle.cc_model.specs.Passes.{up_to_call}
 use Rattle.cc_model.specs.Setup.{Setup}
-use Rattle.cc_step.specs.Step.{owes_store}
 use Rattle.cc_turns.specs.Disk.{DiskStands}
 use Rattle.cc_turns.specs.Log.{FileStands}
 use Rattle.cc_turns.specs.Standing.{DiskAtFirst, LogAtFirst}
@@ -30,13 +28,10 @@ use Rattle.cc_lines.specs.Line.{IsServable}
 use Rattle.cc_run.specs.Lines.{StreamsOpened}
 use Rattle.cc_run.proofs.Lists.{all-map}
 
--- no pass owes anything at first
-pub owes-none : (me : ℕ) → owes_store [] me ≡ false
-unfolding up_to_call
-owes-none me = refl
-
 -- an action on a stream of the script is served, and so is one on no stream
 servable : (streams : List StreamLine) (n : ℕ) (asked : Action) → length streams ≤ n → IsActionWithin streams asked → IsServable n asked
+servable streams n (action.Initialise file sizes quota temporary) few within = let there = within.stream in omega (arith, there, few)
+servable streams n (action.Uninitialise file truncate) few within = let there = within.stream in omega (arith, there, few)
 servable streams n (action.CopyRead file at len wait) few within = let there = within.stream in omega (arith, there, few)
 servable streams n (action.CopyWrite file at bytes) few within = let there = within.stream in omega (arith, there, few)
 servable streams n (action.Zero file span) few within = let there = within.stream in omega (arith, there, few)
@@ -48,6 +43,7 @@ servable streams n (action.MdlWrite file at len word) few within = let there = w
 servable streams n (action.SetSizes file allocation size) few within = let there = within.stream in omega (arith, there, few)
 servable streams n (action.State file) few within = let there = within.stream in omega (arith, there, few)
 servable streams n (action.Flush file span) few within = let there = within.stream in omega (arith, there, few)
+servable streams n (action.Purge file span) few within = let there = within.stream in omega (arith, there, few)
 servable streams n (action.LsnForFile file) few within = let there = within.stream in omega (arith, there, few)
 servable streams n (action.SetLog file handle) few within = let there = within.stream in omega (arith, there, few)
 servable streams n (action.PinMapped word exclusive) few within = tt

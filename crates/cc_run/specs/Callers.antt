@@ -1,5 +1,5 @@
 -- The callers of a phase on threads, over one board.
-use Rattle.std.specs.Prelude.{◌≡◌, ℕ, suc, ◌+◌, ◌-◌, ◌≤◌, ◌==◌, false, List, [], ◌∷◌, length, reverse, get_or, vec_capacity, if◌then◌else◌}
+use Rattle.std.specs.Prelude.{◌≡◌, ℕ, suc, ◌+◌, ◌-◌, ◌≤◌, ◌==◌, List, [], ◌∷◌, length, reverse, get_or, vec_capacity, if◌then◌else◌}
 use Rattle.std.specs.List.{AllByRecursion}
 use Rattle.cc_entry.specs.declared.answer.Answer.{Answer}
 use Rattle.cc_script.specs.declared.script.Action.{Action}
@@ -9,7 +9,6 @@ use Rattle.cc_pieces.specs.Runs.{Ran, bindings_of}
 use Rattle.cc_script.specs.HoldWords.{AreUsedRight, bound_so_far, words_bound}
 use Rattle.cc_script.specs.declared.bound.Bound.{Bound}
 use Rattle.cc_model.specs.Good.{IsGood}
-use Rattle.cc_step.specs.Step.{owes_store}
 use Rattle.cc_turns.specs.Desk.{Tells}
 use Rattle.cc_turns.specs.Places.{IsRoomFor}
 use Rattle.cc_turns.specs.Slots.{setup_in}
@@ -37,15 +36,14 @@ abbrev pub WordsStand : {D L : Type 0} → BoardState D L → PassState D L → 
 WordsStand board pass bounds bindings names =
     NamesStand (length board.begun.disks) pass.knows.number pass.knows.seen bounds bindings names.named
 
--- A caller may run its lines: its pass is of the board, with nothing under way, and owes no end of a noncached write;
--- what it has seen is good; others have few entries under way; each line is one that a run serves; the caller uses its
--- words right, as they are kept; and there is room for each answer and each word.
+-- A caller may run its lines: its pass is of the board, with nothing under way; what it has seen is good; others have few
+-- entries under way; each line is one that a run serves; the caller uses its words right, as they are kept; and there is
+-- room for each answer and each word.
 pub record MayRun {D L Q : Type 0} (tells : Tells D L Q) (board : BoardState D L) (lines : List ActionLine)
     (caller : Caller D L Q) : Type 0 where
   pub here : IsOf board caller.pass
   pub run : run_of caller.pass.knows ≡ board.begun
   pub none : caller.pass.knows.in_flight ≡ 0
-  pub settled : owes_store caller.pass.knows.seen caller.pass.knows.number ≡ false
   pub good : IsGood (setup_in tells board.begun) caller.pass.knows.seen
   pub few : caller.pass.knows.before + caller.pass.knows.passes ≤ 29
   pub servable : AllByRecursion (λ line. IsServable (length board.begun.disks) line.action) lines
@@ -67,14 +65,13 @@ pub record LinesRan {D L Q : Type 0} (tells : Tells D L Q) (board : BoardState D
       WordsStand board ended.pass (bound_so_far caller.pass.knows.number bounds lines)
       (bindings_of bindings (asked_own caller.pass.knows.number lines ended.answers.items)) ended.names
 
--- A caller ran its lines: its pass has nothing under way, and owes no end of a noncached write; each of its lines has an
--- answer; and they left what explains them.
+-- A caller ran its lines: its pass has nothing under way; each of its lines has an answer; and they left what explains
+-- them.
 pub record CallerRan {D L Q : Type 0} (tells : Tells D L Q) (board : BoardState D L) (lines : List ActionLine)
     (caller : Caller D L Q) (ended : Finished D L Q) : Type 0 where
   pub here : IsOf board ended.pass
   pub number : ended.pass.knows.number ≡ caller.pass.knows.number
   pub none : ended.pass.knows.in_flight ≡ 0
-  pub settled : owes_store ended.pass.knows.seen ended.pass.knows.number ≡ false
   pub whole : length ended.answers.items ≡ count_of caller.pass.knows.number lines
   pub word_room : ended.names.room ≡ caller.names.room
   pub ran : (bounds : List Bound) (bindings : List Binding) → WordsStand board caller.pass bounds bindings caller.names →

@@ -1,13 +1,11 @@
 -- What a run on a desk keeps from one line to the next.
-use Rattle.std.specs.Prelude.{◌≡◌, ℕ, false}
-use Rattle.cc_step.specs.Step.{owes_store}
+use Rattle.std.specs.Prelude.{◌≡◌}
 use Rattle.cc_turns.specs.Standing.{Standing, nothing}
 
--- Any pass may act next: no turn is held, nothing is under way, and no pass owes the end of a noncached write.
+-- Any pass may act next: no turn is held, and nothing is under way.
 pub record IsReady (w : Standing) : Type 0 where
   pub free : w.held ≡ nothing
   pub at_rest : w.in_flight ≡ 0
-  pub settled : (me : ℕ) → owes_store w.seen me ≡ false
 
 -- It is the same run: made from the same, whoever acts.
 pub record IsSameRun (old new : Standing) : Type 0 where

@@ -4,7 +4,7 @@ ghost use Rattle.std.specs.Prelude.{◌≡◌, ◌≢◌, ℕ, ◌+◌, ◌<◌,
 ghost use Rattle.cc_effects.specs.Moments.{IsIdle};
 ghost use Rattle.cc_pieces.specs.Openings.{LoggedOpening};
 ghost use Rattle.cc_calls.specs.Answers.{CanCall};
-ghost use Rattle.cc_visits.specs.Hands.{Went, IsSettled};
+ghost use Rattle.cc_visits.specs.Hands.{Went};
 ghost use Rattle.cc_turns.specs.Desk.{standing_of};
 ghost use Rattle.cc_run.specs.Desks.{IsReady, IsSameRun};
 ghost use Rattle.cc_lines.specs.Line.{IsFullTold};
@@ -61,7 +61,6 @@ fn open_stream<T: Turns>(alloc: Global, turns: &mut T, number: u8, stream: &Stre
         (T.standing turns.old).seen (T.standing turns.new).seen }
     ensures full { IsFullTold (T.standing turns.new) result }
     ensures goes_on { Went (T.standing turns.old) (T.standing turns.new) }
-    ensures settled { IsSettled (T.standing turns.new) }
 {
     let file = FileId::new(number, 0).unwrap();
     let sizes = FileSizes {

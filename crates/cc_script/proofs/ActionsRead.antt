@@ -1,5 +1,5 @@
 -- What an action that is read names and moves.
-use Rattle.std.proofs.Common.{◌≡◌, ℕ, suc, ◌+◌, ◌≤◌, Bool, true, false, Some, None, Option, is_some, List, [], ◌∷◌, ◌++◌, length, if◌then◌else◌, refl, ap, subst, length-append, arith}
+use Rattle.std.proofs.Common.{◌≡◌, ℕ, suc, ◌+◌, ◌≤◌, Bool, true, false, Some, None, Option, is_some, List, [], ◌∷◌, ◌++◌, length, if◌then◌else◌, refl, ap, sym, ◌∙◌, subst, length-append, arith}
 use Rattle.cc_script.specs.declared.script.Mode.{Mode}
 use Rattle.cc_script.specs.declared.script.Mode.TheVariants as mode
 use Rattle.cc_script.specs.declared.stretch.Stretch.{Stretch}
@@ -10,7 +10,7 @@ use Rattle.cc_script.specs.declared.verb.Verb.{Verb}
 use Rattle.cc_script.specs.declared.verb.Verb.TheVariants as verb
 use Rattle.cc_script.specs.Words.{number_of, number_between, name_of, bytes_of}
 use Rattle.cc_script.specs.HoldNames.{word_of, new_word}
-use Rattle.cc_script.specs.Actions.{next, ended, file_of, span_of, copy_read_of, copy_write_of, zero_of, set_sizes_of, state_of, flush_span_of, flush_of, set_log_of, append_of, log_flush_of, dirty_pages_of, lsn_for_file_of}
+use Rattle.cc_script.specs.Actions.{next, ended, file_of, span_of, optional_span_of, optional_number_of, quota_of, sizes_of, initialise_of, uninitialise_of, copy_read_of, copy_write_of, zero_of, set_sizes_of, state_of, flush_of, purge_of, set_log_of, append_of, log_flush_of, dirty_pages_of, lsn_for_file_of}
 use Rattle.cc_script.specs.HoldActions.{stretch_of, map_of, pin_read_of, pin_mapped_of, prepare_pin_of, held_read_of, pinned_write_of, stamp_of, set_dirty_of, unpin_of, repin_of, unpin_repinned_of, mdl_read_of, mdl_write_of, mdl_bytes_of, mdl_store_of, mdl_done_of, mdl_abort_of}
 use Rattle.cc_script.specs.ActionTable.{binds_none, action_of, bytes_moved}
 use Rattle.cc_script.specs.Within.{IsFileWithin, IsActionWithin}
@@ -57,16 +57,50 @@ new-gives names name found e = either (is_some (word_of names name)) e
         let len : length (names ++ name ∷ []) ≡ length names + 1 = length-append names (name ∷ []) in
         subst (λ (found : ℕ × List (List ℕ)). (found.0 ≡ length names) × (length found.1 ≡ suc (length names))) same (refl, omega (arith, len))
 
-stretch-gives : (streams : List StreamLine) (ws : List (List ℕ)) (on : Stretch) (more : List (List ℕ)) → stretch_of streams ws ≡ Some (on, more) → IsFileWithin streams on.file
+-- the hold that a line makes is on a file of the script, and its word has the next number
+record IsMade (streams : List StreamLine) (names : List (List ℕ)) (on : Stretch) (bound : List (List ℕ)) : Type 0 where
+  file : IsFileWithin streams on.file
+  word : (on.word ≡ length names) × (length bound ≡ suc (length names))
+
+stretch-gives : (streams : List StreamLine) (names ws : List (List ℕ)) (on : Stretch) (bound more : List (List ℕ)) → stretch_of streams names ws ≡ Some (on, bound, more) → IsMade streams names on bound
 unfolding stretch_of
-stretch-gives streams ws on more e =
-    let file = then-gives (next (file_of streams) ws) _ (on, more) e in
-    let at = then-gives (next number_of file.0.1) _ (on, more) file.2 in
-    let len = then-gives (next number_of at.0.1) _ (on, more) at.2 in
+stretch-gives streams names ws on bound more e =
+    let file = then-gives (next (file_of streams) ws) _ (on, bound, more) e in
+    let at = then-gives (next number_of file.0.1) _ (on, bound, more) file.2 in
+    let len = then-gives (next number_of at.0.1) _ (on, bound, more) at.2 in
+    let name = then-gives (next name_of len.0.1) _ (on, bound, more) len.2 in
+    let made = then-gives (new_word names name.0.0) _ (on, bound, more) name.2 in
     let f = next-gives (file_of streams) ws file.0.0 file.0.1 file.1 in
-    let pair : (let it : Stretch × List (List ℕ) = (record { file = file.0.0; at = at.0.0; len = len.0.0 }, len.0.1) in it) ≡ (on, more) = cc in
-    let same : file.0.0 ≡ on.file = ap (λ (it : Stretch × List (List ℕ)). it.0.file) pair in
-    subst (IsFileWithin streams) same (file-gives streams f.word file.0.0 f.reads)
+    let number = new-gives names name.0.0 made.0 made.1 in
+    let pair : (let it : Stretch × List (List ℕ) × List (List ℕ) = (record { file = file.0.0; at = at.0.0; len = len.0.0; word = made.0.0 }, made.0.1, name.0.1) in it) ≡ (on, bound, more) = cc in
+    let same_file : file.0.0 ≡ on.file = ap (λ (it : Stretch × List (List ℕ) × List (List ℕ)). it.0.file) pair in
+    let same_word : made.0.0 ≡ on.word = ap (λ (it : Stretch × List (List ℕ) × List (List ℕ)). it.0.word) pair in
+    let same_bound : made.0.1 ≡ bound = ap (λ (it : Stretch × List (List ℕ) × List (List ℕ)). it.1) pair in
+    record {
+      file = subst (IsFileWithin streams) same_file (file-gives streams f.word file.0.0 f.reads);
+      word = (sym same_word ∙ number.0, ap length (sym same_bound) ∙ number.1);
+    }
+
+initialise-gives : (streams : List StreamLine) (ws : List (List ℕ)) (a : Action) → initialise_of streams ws ≡ Some a → IsPlain streams a
+unfolding initialise_of
+initialise-gives streams ws a e =
+    let file = then-gives (next (file_of streams) ws) _ a e in
+    let sizes = then-gives (sizes_of file.0.1) _ a file.2 in
+    let quota = then-gives (quota_of sizes.0.1) _ a sizes.2 in
+    let end = ended-gives _ _ a quota.2 in
+    let f = next-gives (file_of streams) ws file.0.0 file.0.1 file.1 in
+    subst (IsPlain streams) end.1
+    (record { file = file-gives streams f.word file.0.0 f.reads; moved = omega arith; numbered = λ n. refl })
+
+uninitialise-gives : (streams : List StreamLine) (ws : List (List ℕ)) (a : Action) → uninitialise_of streams ws ≡ Some a → IsPlain streams a
+unfolding uninitialise_of
+uninitialise-gives streams ws a e =
+    let file = then-gives (next (file_of streams) ws) _ a e in
+    let truncate = then-gives (optional_number_of file.0.1) _ a file.2 in
+    let f = next-gives (file_of streams) ws file.0.0 file.0.1 file.1 in
+    let same : action.Uninitialise file.0.0 truncate.0 ≡ a = cc in
+    subst (IsPlain streams) same
+    (record { file = file-gives streams f.word file.0.0 f.reads; moved = omega arith; numbered = λ n. refl })
 
 copy_read-gives : (streams : List StreamLine) (ws : List (List ℕ)) (a : Action) → copy_read_of streams ws ≡ Some a → IsPlain streams a
 unfolding copy_read_of
@@ -127,9 +161,19 @@ flush-gives : (streams : List StreamLine) (ws : List (List ℕ)) (a : Action) �
 unfolding flush_of
 flush-gives streams ws a e =
     let file = then-gives (next (file_of streams) ws) _ a e in
-    let span = then-gives (flush_span_of file.0.1) _ a file.2 in
+    let span = then-gives (optional_span_of file.0.1) _ a file.2 in
     let f = next-gives (file_of streams) ws file.0.0 file.0.1 file.1 in
     let same : action.Flush file.0.0 span.0 ≡ a = cc in
+    subst (IsPlain streams) same
+    (record { file = file-gives streams f.word file.0.0 f.reads; moved = omega arith; numbered = λ n. refl })
+
+purge-gives : (streams : List StreamLine) (ws : List (List ℕ)) (a : Action) → purge_of streams ws ≡ Some a → IsPlain streams a
+unfolding purge_of
+purge-gives streams ws a e =
+    let file = then-gives (next (file_of streams) ws) _ a e in
+    let span = then-gives (optional_span_of file.0.1) _ a file.2 in
+    let f = next-gives (file_of streams) ws file.0.0 file.0.1 file.1 in
+    let same : action.Purge file.0.0 span.0 ≡ a = cc in
     subst (IsPlain streams) same
     (record { file = file-gives streams f.word file.0.0 f.reads; moved = omega arith; numbered = λ n. refl })
 
@@ -169,22 +213,18 @@ log_flush-gives streams ws a e =
 map-gives : (streams : List StreamLine) (names ws : List (List ℕ)) (found : Action × List (List ℕ)) → map_of streams names ws ≡ Some found → IsRead streams (length names) found
 unfolding map_of
 map-gives streams names ws found e =
-    let on = then-gives (stretch_of streams ws) _ found e in
-    let name = then-gives (next name_of on.0.1) _ found on.2 in
-    let bound = then-gives (new_word names name.0.0) _ found name.2 in
-    let end = ended-gives _ _ found bound.2 in
-    subst (IsRead streams (length names)) end.1
-    (record { file = stretch-gives streams ws on.0.0 on.0.1 on.1; moved = omega arith; numbered = new-gives names name.0.0 bound.0 bound.1 })
+    let on = then-gives (stretch_of streams names ws) _ found e in
+    let end = ended-gives _ _ found on.2 in
+    let made = stretch-gives streams names ws on.0.0 on.0.1 on.0.2 on.1 in
+    subst (IsRead streams (length names)) end.1 (record { file = made.file; moved = omega arith; numbered = made.word })
 
 pin_read-gives : (streams : List StreamLine) (names ws : List (List ℕ)) (found : Action × List (List ℕ)) → pin_read_of streams names ws ≡ Some found → IsRead streams (length names) found
 unfolding pin_read_of
 pin_read-gives streams names ws found e =
-    let on = then-gives (stretch_of streams ws) _ found e in
-    let name = then-gives (next name_of on.0.1) _ found on.2 in
-    let bound = then-gives (new_word names name.0.0) _ found name.2 in
-    let end = ended-gives _ _ found bound.2 in
-    subst (IsRead streams (length names)) end.1
-    (record { file = stretch-gives streams ws on.0.0 on.0.1 on.1; moved = omega arith; numbered = new-gives names name.0.0 bound.0 bound.1 })
+    let on = then-gives (stretch_of streams names ws) _ found e in
+    let end = ended-gives _ _ found on.2 in
+    let made = stretch-gives streams names ws on.0.0 on.0.1 on.0.2 on.1 in
+    subst (IsRead streams (length names)) end.1 (record { file = made.file; moved = omega arith; numbered = made.word })
 
 pin_mapped-gives : (streams : List StreamLine) (names ws : List (List ℕ)) (a : Action) → pin_mapped_of names ws ≡ Some a → IsPlain streams a
 unfolding pin_mapped_of
@@ -196,12 +236,10 @@ pin_mapped-gives streams names ws a e =
 prepare_pin-gives : (streams : List StreamLine) (names ws : List (List ℕ)) (found : Action × List (List ℕ)) → prepare_pin_of streams names ws ≡ Some found → IsRead streams (length names) found
 unfolding prepare_pin_of
 prepare_pin-gives streams names ws found e =
-    let on = then-gives (stretch_of streams ws) _ found e in
-    let name = then-gives (next name_of on.0.1) _ found on.2 in
-    let bound = then-gives (new_word names name.0.0) _ found name.2 in
-    let end = ended-gives _ _ found bound.2 in
-    subst (IsRead streams (length names)) end.1
-    (record { file = stretch-gives streams ws on.0.0 on.0.1 on.1; moved = omega arith; numbered = new-gives names name.0.0 bound.0 bound.1 })
+    let on = then-gives (stretch_of streams names ws) _ found e in
+    let end = ended-gives _ _ found on.2 in
+    let made = stretch-gives streams names ws on.0.0 on.0.1 on.0.2 on.1 in
+    subst (IsRead streams (length names)) end.1 (record { file = made.file; moved = omega arith; numbered = made.word })
 
 held_read-gives : (streams : List StreamLine) (names ws : List (List ℕ)) (a : Action) → held_read_of names ws ≡ Some a → IsPlain streams a
 unfolding held_read_of
@@ -263,22 +301,18 @@ unpin_repinned-gives streams mode.Steps names ws a e =
 mdl_read-gives : (streams : List StreamLine) (names ws : List (List ℕ)) (found : Action × List (List ℕ)) → mdl_read_of streams names ws ≡ Some found → IsRead streams (length names) found
 unfolding mdl_read_of
 mdl_read-gives streams names ws found e =
-    let on = then-gives (stretch_of streams ws) _ found e in
-    let name = then-gives (next name_of on.0.1) _ found on.2 in
-    let bound = then-gives (new_word names name.0.0) _ found name.2 in
-    let end = ended-gives _ _ found bound.2 in
-    subst (IsRead streams (length names)) end.1
-    (record { file = stretch-gives streams ws on.0.0 on.0.1 on.1; moved = omega arith; numbered = new-gives names name.0.0 bound.0 bound.1 })
+    let on = then-gives (stretch_of streams names ws) _ found e in
+    let end = ended-gives _ _ found on.2 in
+    let made = stretch-gives streams names ws on.0.0 on.0.1 on.0.2 on.1 in
+    subst (IsRead streams (length names)) end.1 (record { file = made.file; moved = omega arith; numbered = made.word })
 
 mdl_write-gives : (streams : List StreamLine) (names ws : List (List ℕ)) (found : Action × List (List ℕ)) → mdl_write_of streams names ws ≡ Some found → IsRead streams (length names) found
 unfolding mdl_write_of
 mdl_write-gives streams names ws found e =
-    let on = then-gives (stretch_of streams ws) _ found e in
-    let name = then-gives (next name_of on.0.1) _ found on.2 in
-    let bound = then-gives (new_word names name.0.0) _ found name.2 in
-    let end = ended-gives _ _ found bound.2 in
-    subst (IsRead streams (length names)) end.1
-    (record { file = stretch-gives streams ws on.0.0 on.0.1 on.1; moved = omega arith; numbered = new-gives names name.0.0 bound.0 bound.1 })
+    let on = then-gives (stretch_of streams names ws) _ found e in
+    let end = ended-gives _ _ found on.2 in
+    let made = stretch-gives streams names ws on.0.0 on.0.1 on.0.2 on.1 in
+    subst (IsRead streams (length names)) end.1 (record { file = made.file; moved = omega arith; numbered = made.word })
 
 mdl_bytes-gives : (streams : List StreamLine) (names ws : List (List ℕ)) (a : Action) → mdl_bytes_of names ws ≡ Some a → IsPlain streams a
 unfolding mdl_bytes_of
@@ -334,12 +368,15 @@ lsn_for_file-gives streams ws a e =
 -- an action keeps within what a line may name and move, and binds a word of the next number, or none
 pub action-gives : (m : Mode) (streams : List StreamLine) (names : List (List ℕ)) (v : Verb) (ws : List (List ℕ)) (found : Action × List (List ℕ)) → action_of m streams names v ws ≡ Some found → IsRead streams (length names) found
 unfolding action_of
+action-gives m streams names verb.Initialise ws found e = none-bound streams names (initialise_of streams ws) found (initialise-gives streams ws) e
+action-gives m streams names verb.Uninitialise ws found e = none-bound streams names (uninitialise_of streams ws) found (uninitialise-gives streams ws) e
 action-gives m streams names verb.CopyRead ws found e = none-bound streams names (copy_read_of streams ws) found (copy_read-gives streams ws) e
 action-gives m streams names verb.CopyWrite ws found e = none-bound streams names (copy_write_of streams ws) found (copy_write-gives streams ws) e
 action-gives m streams names verb.Zero ws found e = none-bound streams names (zero_of streams ws) found (zero-gives streams ws) e
 action-gives m streams names verb.SetSizes ws found e = none-bound streams names (set_sizes_of streams ws) found (set_sizes-gives streams ws) e
 action-gives m streams names verb.State ws found e = none-bound streams names (state_of streams ws) found (state-gives streams ws) e
 action-gives m streams names verb.Flush ws found e = none-bound streams names (flush_of streams ws) found (flush-gives streams ws) e
+action-gives m streams names verb.Purge ws found e = none-bound streams names (purge_of streams ws) found (purge-gives streams ws) e
 action-gives m streams names verb.IsDirtyData ws found e = none-bound streams names (ended ws action.IsDirtyData) found (is_dirty-gives streams ws) e
 action-gives m streams names verb.SetLog ws found e = none-bound streams names (set_log_of streams ws) found (set_log-gives streams ws) e
 action-gives m streams names verb.Append ws found e = none-bound streams names (append_of ws) found (append-gives streams ws) e

@@ -9,14 +9,14 @@ use Rattle.cc_script.specs.declared.script.StreamLine.{StreamLine}
 use Rattle.cc_script.specs.declared.script.Action.{Action}
 use Rattle.cc_script.specs.declared.script.Action.TheVariants as action
 use Rattle.cc_script.specs.Words.{number_of, number_between, is_name, name_of}
-use Rattle.cc_script.specs.Actions.{next, flag, ended, file_of, copy_read_of}
-use Rattle.cc_script.specs.Grammar.{quota_of, log_of, stream_of, setting_of}
+use Rattle.cc_script.specs.Actions.{next, flag, ended, file_of, quota_of, copy_read_of}
+use Rattle.cc_script.specs.Grammar.{log_of, stream_of, setting_of}
 use Rattle.cc_script.specs.Laws.{SpellsQuota, SpellsLog, flag_words, IsStreamSpelling, IsReadSpelling, SpellsSetting}
 use Rattle.cc_script.proofs.Numbers.{decimal-number_of, number_of-decimal}
 use Rattle.cc_script.proofs.Steps.{then-gives, if-gives, next-gives, ended-gives, between-gives}
 
 -- a number of a range is read from its decimal text
-between-decimal : (low high n : ℕ) → low ≤ n → n ≤ high → high < 2 ^ 64 → number_between low high (decimal n) ≡ Some n
+pub between-decimal : (low high n : ℕ) → low ≤ n → n ≤ high → high < 2 ^ 64 → number_between low high (decimal n) ≡ Some n
 unfolding number_between
 between-decimal low high n least most fits =
     let read : number_of (decimal n) ≡ Some n = number_of-decimal n (omega arith) in

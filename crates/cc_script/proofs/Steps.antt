@@ -1,5 +1,5 @@
 -- What a step of the grammar says of the words that it takes, where it gives something.
-use Rattle.std.proofs.Common.{◌≡◌, ℕ, ◌<◌, ◌≤◌, ◌==◌, Bool, true, false, ◌&&◌, cond, Some, None, Option, option_map, List, [], ◌∷◌, length, nat_lt, nat_le, if◌then◌else◌, inl, inr, refl, ap, sym, ◌∙◌, arith}
+use Rattle.std.proofs.Common.{◌≡◌, ℕ, ◌+◌, ◌<◌, ◌≤◌, ◌==◌, Bool, true, false, ◌&&◌, cond, Some, None, Option, option_map, List, [], ◌∷◌, length, take, drop, nat_lt, nat_le, if◌then◌else◌, inl, inr, refl, ap, ◌∙◌, arith}
 use Rattle.std.specs.List.{position, position_or_len}
 use Rattle.std.specs.Str.{bytes_eq}
 use Rattle.std.proofs.lemmas.Bool.Decides.{nat_tests}
@@ -8,7 +8,7 @@ use Rattle.cc_script.specs.declared.script.StreamLine.{StreamLine}
 use Rattle.cc_script.specs.Outcome.{◌>>=◌}
 use Rattle.cc_script.specs.Words.{number_of, number_between, bytes_of, caller_of}
 use Rattle.cc_script.specs.Laws.{Spells}
-use Rattle.cc_script.specs.Actions.{next, ended, stream_named, file_of}
+use Rattle.cc_script.specs.Actions.{next, ended, stream_named, object_named, file_at, file_of}
 use Rattle.cc_script.specs.Within.{IsFileWithin}
 use Rattle.cc_script.proofs.Spelled.{words_spell}
 
@@ -88,17 +88,33 @@ position-below p xs i e = either (nat_lt (position_or_len p xs) (length xs)) ref
         let same : position_or_len p xs ≡ i = cc in grind (arith, nat_tests, same)
     either false f g = absurd (cc)
 
--- a file that is read is the first object of one of the streams
+-- an object that is named is one of a stream of the script
+object-gives : (streams : List StreamLine) (name : List ℕ) (number : ℕ) (file : File) → number < 16 → object_named streams name number ≡ Some file → IsFileWithin streams file
+object-gives streams name number file few e = either (stream_named streams name) refl e
+  where
+    either : (o : Option ℕ) → stream_named streams name ≡ o → option_map (λ (s : ℕ). let f : File = record { stream = s; object = number } in f) o ≡ Some file → IsFileWithin streams file
+    either (Some s) f g =
+        let same : (let made : File = record { stream = s; object = number } in made) ≡ file = cc in
+        let low : s < length streams = position-below (λ stream. bytes_eq stream.name name) streams s f in
+        record {
+          stream = omega (arith, ap (λ (made : File). made.stream) same, low);
+          object = omega (arith, ap (λ (made : File). made.object) same, few);
+        }
+    either None f g = absurd (cc)
+
+at-gives : (streams : List StreamLine) (word : List ℕ) (cut : Option ℕ) (file : File) → file_at streams word cut ≡ Some file → IsFileWithin streams file
+unfolding file_at
+at-gives streams word None file e = object-gives streams word 0 file (omega arith) e
+at-gives streams word (Some colon) file e =
+    let number = then-gives (number_between 0 15 (drop (colon + 1) word)) _ file e in
+    let b = between-gives 0 15 (drop (colon + 1) word) number.0 number.1 in
+    let most = b.most in
+    object-gives streams (take colon word) number.0 file (omega (arith, most)) number.2
+
+-- so a file that is read is within
 pub file-gives : (streams : List StreamLine) (word : List ℕ) (file : File) → file_of streams word ≡ Some file → IsFileWithin streams file
 unfolding file_of
-file-gives streams word file e = either (stream_named streams word) refl e
-  where
-    either : (o : Option ℕ) → stream_named streams word ≡ o → option_map (λ (s : ℕ). let f : File = record { stream = s; object = 0 } in f) o ≡ Some file → IsFileWithin streams file
-    either (Some s) f g =
-        let same : (let made : File = record { stream = s; object = 0 } in made) ≡ file = cc in
-        let low : s < length streams = position-below (λ stream. bytes_eq stream.name word) streams s f in
-        record { stream = omega (arith, ap (λ (made : File). made.stream) same, low); first = sym (ap (λ (made : File). made.object) same) }
-    either None f g = absurd (cc)
+file-gives streams word file e = at-gives streams word (position (λ b. b == 58) word) file e
 
 -- a word spells no more bytes than one may
 pub bytes-give : (word bytes : List ℕ) → bytes_of word ≡ Some bytes → length bytes ≤ 2097152

@@ -19,10 +19,10 @@ use Rattle.cc_script.specs.Words.{number_of, number_between, name_of, caller_of}
 use Rattle.cc_script.specs.Verbs.{verb_in}
 use Rattle.cc_script.specs.declared.bound.Bound.{Bound}
 use Rattle.cc_script.specs.declared.caller_words.CallerWords.{CallerWords}
-use Rattle.cc_script.specs.Actions.{next, flag}
+use Rattle.cc_script.specs.Actions.{next, flag, quota_of}
 use Rattle.cc_script.specs.ActionTable.{action_of, bytes_counted, dirty_lines}
 use Rattle.cc_script.specs.HoldWords.{may_use, bound_after, IsRightIf, bound_so_far, UsesRight}
-use Rattle.cc_script.specs.Grammar.{nothing_read, may_add, with_stream, quota_of, log_of, stream_of, setting_of, with_journal, with_threshold, with_phase, placed, no_words, words_by, keeps_totals, with_action, action_line, verb_line, called_line, uncalled_line, line_by, words_line, is_printable, text_line, line_of, or_wrong, lines_of, script_of}
+use Rattle.cc_script.specs.Grammar.{nothing_read, may_add, with_stream, log_of, stream_of, setting_of, with_journal, with_threshold, with_phase, placed, no_words, words_by, keeps_totals, with_action, action_line, verb_line, called_line, uncalled_line, line_by, words_line, is_printable, text_line, line_of, or_wrong, lines_of, script_of}
 use Rattle.cc_script.specs.declared.script.ScriptFault.{ScriptFault}
 use Rattle.cc_script.specs.Answers.{Reads}
 use Rattle.cc_script.specs.Within.{IsStreamWithin, IsLineWithin, PhasesAscend, IsWithin}
@@ -400,6 +400,8 @@ verb-so_far m n line verb.Threshold ws r new room is e =
     let found = then-gives (setting_of 1 16384 ws) _ new e in
     later n new (threshold-so_far n found.0 r new (setting-gives 1 16384 ws found.0 found.1) is found.2)
 verb-so_far m n line verb.Phase ws r new room is e = later n new (phase-so_far n ws r new is e)
+verb-so_far m n line verb.Initialise ws r new room is e = action-so_far m n line 1 verb.Initialise ws r new room (lit≤ tt, lit≤ tt) is e
+verb-so_far m n line verb.Uninitialise ws r new room is e = action-so_far m n line 1 verb.Uninitialise ws r new room (lit≤ tt, lit≤ tt) is e
 verb-so_far m n line verb.CopyRead ws r new room is e = action-so_far m n line 1 verb.CopyRead ws r new room (lit≤ tt, lit≤ tt) is e
 verb-so_far m n line verb.CopyWrite ws r new room is e = action-so_far m n line 1 verb.CopyWrite ws r new room (lit≤ tt, lit≤ tt) is e
 verb-so_far m n line verb.Zero ws r new room is e = action-so_far m n line 1 verb.Zero ws r new room (lit≤ tt, lit≤ tt) is e
@@ -422,6 +424,7 @@ verb-so_far m n line verb.MdlAbort ws r new room is e = action-so_far m n line 1
 verb-so_far m n line verb.SetSizes ws r new room is e = action-so_far m n line 1 verb.SetSizes ws r new room (lit≤ tt, lit≤ tt) is e
 verb-so_far m n line verb.State ws r new room is e = action-so_far m n line 1 verb.State ws r new room (lit≤ tt, lit≤ tt) is e
 verb-so_far m n line verb.Flush ws r new room is e = action-so_far m n line 1 verb.Flush ws r new room (lit≤ tt, lit≤ tt) is e
+verb-so_far m n line verb.Purge ws r new room is e = action-so_far m n line 1 verb.Purge ws r new room (lit≤ tt, lit≤ tt) is e
 verb-so_far m n line verb.IsDirtyData ws r new room is e = action-so_far m n line 1 verb.IsDirtyData ws r new room (lit≤ tt, lit≤ tt) is e
 verb-so_far m n line verb.DirtyPages ws r new room is e = action-so_far m n line 1 verb.DirtyPages ws r new room (lit≤ tt, lit≤ tt) is e
 verb-so_far m n line verb.LsnForFile ws r new room is e = action-so_far m n line 1 verb.LsnForFile ws r new room (lit≤ tt, lit≤ tt) is e

@@ -6,7 +6,7 @@ use Rattle.cc_script.specs.declared.script.Action.{Action}
 use Rattle.cc_script.specs.declared.script.Action.TheVariants as action
 use Rattle.cc_script.specs.declared.verb.Verb.{Verb}
 use Rattle.cc_script.specs.declared.verb.Verb.TheVariants as verb
-use Rattle.cc_script.specs.Actions.{ended, copy_read_of, copy_write_of, zero_of, set_sizes_of, state_of, flush_of, set_log_of, append_of, log_flush_of, dirty_pages_of, lsn_for_file_of}
+use Rattle.cc_script.specs.Actions.{ended, initialise_of, uninitialise_of, copy_read_of, copy_write_of, zero_of, set_sizes_of, state_of, flush_of, purge_of, set_log_of, append_of, log_flush_of, dirty_pages_of, lsn_for_file_of}
 use Rattle.cc_script.specs.HoldActions.{map_of, pin_read_of, pin_mapped_of, prepare_pin_of, held_read_of, pinned_write_of, set_dirty_of, unpin_of, repin_of, unpin_repinned_of, mdl_read_of, mdl_write_of, mdl_bytes_of, mdl_store_of, mdl_done_of, mdl_abort_of}
 
 -- an action that binds no word
@@ -15,6 +15,8 @@ binds_none names action = option_map (λ a. (a, names)) action
 
 -- the action of a verb, where its caller bound these words, and the words that are bound behind it
 unfoldable pub action_of : Mode → List StreamLine → List (List ℕ) → Verb → List (List ℕ) → Option (Action × List (List ℕ))
+action_of mode streams names verb.Initialise ws = binds_none names (initialise_of streams ws)
+action_of mode streams names verb.Uninitialise ws = binds_none names (uninitialise_of streams ws)
 action_of mode streams names verb.CopyRead ws = binds_none names (copy_read_of streams ws)
 action_of mode streams names verb.CopyWrite ws = binds_none names (copy_write_of streams ws)
 action_of mode streams names verb.Zero ws = binds_none names (zero_of streams ws)
@@ -37,6 +39,7 @@ action_of mode streams names verb.MdlAbort ws = binds_none names (mdl_abort_of n
 action_of mode streams names verb.SetSizes ws = binds_none names (set_sizes_of streams ws)
 action_of mode streams names verb.State ws = binds_none names (state_of streams ws)
 action_of mode streams names verb.Flush ws = binds_none names (flush_of streams ws)
+action_of mode streams names verb.Purge ws = binds_none names (purge_of streams ws)
 action_of mode streams names verb.IsDirtyData ws = binds_none names (ended ws action.IsDirtyData)
 action_of mode streams names verb.DirtyPages ws = binds_none names (dirty_pages_of ws)
 action_of mode streams names verb.LsnForFile ws = binds_none names (lsn_for_file_of streams ws)

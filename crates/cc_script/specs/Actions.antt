@@ -1,8 +1,9 @@
 -- The actions that name no hold: the words behind the verb, in their order.
-use Rattle.std.specs.Prelude.{ℕ, Bool, true, false, not, ◌==◌, Option, Some, None, option_map, List, [], ◌∷◌, length, nat_le, if◌then◌else◌, codes}
+use Rattle.std.specs.Prelude.{ℕ, Bool, true, false, not, ◌==◌, Option, Some, None, option_map, List, [], ◌∷◌, length, take, drop, ◌+◌, nat_le, if◌then◌else◌, codes}
 use Rattle.std.specs.List.{position}
 use Rattle.std.specs.Str.{bytes_eq}
 use Rattle.cc_entry.specs.Place.{File, Range}
+use Rattle.cc_entry.specs.declared.place.FileSizes.{FileSizes}
 use Rattle.cc_script.specs.declared.script.StreamLine.{StreamLine}
 use Rattle.cc_script.specs.declared.script.Action.{Action}
 use Rattle.cc_script.specs.declared.script.Action.TheVariants as action
@@ -27,9 +28,20 @@ ended left a = if length left == 0 then Some a else None
 abbrev pub stream_named : List StreamLine → List ℕ → Option ℕ
 stream_named streams name = position (λ s. bytes_eq s.name name) streams
 
--- a file: the name of a stream, whose object 0 it is
+-- the file object of a number, of the stream of a name
+abbrev pub object_named : List StreamLine → List ℕ → ℕ → Option File
+object_named streams name number = option_map (λ s. record { stream = s; object = number }) (stream_named streams name)
+
+-- a word that is cut at its first colon, if it has one: the name of a stream, and the number of an object behind the colon
+unfoldable pub file_at : List StreamLine → List ℕ → Option ℕ → Option File
+file_at streams word None = object_named streams word 0
+file_at streams word (Some colon) = do
+  number ← number_between 0 15 (drop (colon + 1) word)
+  object_named streams (take colon word) number
+
+-- a file: NAME of a stream, whose object 0 it is, or NAME:N with the number of an object, 0 to 15
 unfoldable pub file_of : List StreamLine → List ℕ → Option File
-file_of streams word = option_map (λ s. record { stream = s; object = 0 }) (stream_named streams word)
+file_of streams word = file_at streams word (position (λ b. b == 58) word)
 
 -- two numbers, of which the first is at most the second
 unfoldable pub span_of : List (List ℕ) → Option (Range × List (List ℕ))
@@ -37,6 +49,46 @@ span_of ws = do
   from ← next number_of ws
   to ← next number_of from.1
   if nat_le from.0 to.0 then Some (record { from = from.0; to = to.0 }, to.1) else None
+
+-- [FROM TO] at the end of a line: none is the whole stream
+unfoldable pub optional_span_of : List (List ℕ) → Option (Option Range)
+optional_span_of ws = if length ws == 0 then Some None else (do
+  span ← span_of ws
+  ended span.1 (Some span.0))
+
+-- [N] at the end of a line
+unfoldable pub optional_number_of : List (List ℕ) → Option (Option ℕ)
+optional_number_of ws = if length ws == 0 then Some None else (do
+  number ← next number_of ws
+  ended number.1 (Some number.0))
+
+-- [quota Q]: a stream's quota in view blocks, 16 where it is not said
+unfoldable pub quota_of : List (List ℕ) → Option (ℕ × List (List ℕ))
+quota_of ws = if (flag (codes "quota") ws).0 then next (number_between 8 64) (flag (codes "quota") ws).1 else Some (16, ws)
+
+-- ALLOC SIZE VALID: any three numbers
+unfoldable pub sizes_of : List (List ℕ) → Option (FileSizes × List (List ℕ))
+sizes_of ws = do
+  allocation ← next number_of ws
+  size ← next number_of allocation.1
+  valid ← next number_of size.1
+  Some (record { allocation = allocation.0; size = size.0; valid = valid.0 }, valid.1)
+
+-- init FILE ALLOC SIZE VALID [quota Q] [temporary]
+unfoldable pub initialise_of : List StreamLine → List (List ℕ) → Option Action
+initialise_of streams ws = do
+  file ← next (file_of streams) ws
+  sizes ← sizes_of file.1
+  quota ← quota_of sizes.1
+  ended (flag (codes "temporary") quota.1).1
+      (action.Initialise file.0 sizes.0 quota.0 (flag (codes "temporary") quota.1).0)
+
+-- uninit FILE [N]
+unfoldable pub uninitialise_of : List StreamLine → List (List ℕ) → Option Action
+uninitialise_of streams ws = do
+  file ← next (file_of streams) ws
+  truncate ← optional_number_of file.1
+  Some (action.Uninitialise file.0 truncate)
 
 -- cread FILE AT LEN [nowait]
 unfoldable pub copy_read_of : List StreamLine → List (List ℕ) → Option Action
@@ -76,16 +128,18 @@ state_of streams ws = do
   ended file.1 (action.State file.0)
 
 -- flush FILE [FROM TO]
-unfoldable pub flush_span_of : List (List ℕ) → Option (Option Range)
-flush_span_of ws = if length ws == 0 then Some None else (do
-  span ← span_of ws
-  ended span.1 (Some span.0))
-
 unfoldable pub flush_of : List StreamLine → List (List ℕ) → Option Action
 flush_of streams ws = do
   file ← next (file_of streams) ws
-  span ← flush_span_of file.1
+  span ← optional_span_of file.1
   Some (action.Flush file.0 span)
+
+-- purge FILE [FROM TO]
+unfoldable pub purge_of : List StreamLine → List (List ℕ) → Option Action
+purge_of streams ws = do
+  file ← next (file_of streams) ws
+  span ← optional_span_of file.1
+  Some (action.Purge file.0 span)
 
 -- setlog FILE LOG
 unfoldable pub set_log_of : List StreamLine → List (List ℕ) → Option Action

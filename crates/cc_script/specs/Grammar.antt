@@ -15,7 +15,7 @@ use Rattle.cc_script.specs.Outcome.{◌>>=◌}
 use Rattle.cc_script.specs.Text.{lines, words}
 use Rattle.cc_script.specs.Words.{number_of, number_between, name_of, caller_of}
 use Rattle.cc_script.specs.Verbs.{verb_in}
-use Rattle.cc_script.specs.Actions.{next, flag, ended, stream_named}
+use Rattle.cc_script.specs.Actions.{next, flag, ended, stream_named, quota_of}
 use Rattle.cc_script.specs.ActionTable.{action_of, bytes_counted, dirty_lines}
 use Rattle.cc_script.specs.HoldWords.{may_use, bound_after}
 
@@ -49,10 +49,6 @@ with_stream stream r =
     if may_add stream r
     then Some (record r { script = record r.script { streams = r.script.streams ++ stream ∷ [] } })
     else None
-
--- [quota Q]: a stream's quota in view blocks, 16 where it is not said
-unfoldable pub quota_of : List (List ℕ) → Option (ℕ × List (List ℕ))
-quota_of ws = if (flag (codes "quota") ws).0 then next (number_between 8 64) (flag (codes "quota") ws).1 else Some (16, ws)
 
 -- [log LOG]: the log of a stream, none where it is not said
 unfoldable pub log_of : List (List ℕ) → Option (Option ℕ × List (List ℕ))
@@ -148,6 +144,8 @@ verb_line mode n verb.Threshold ws r = do
   pages ← setting_of 1 16384 ws
   with_threshold pages r
 verb_line mode n verb.Phase ws r = with_phase ws r
+verb_line mode n verb.Initialise ws r = action_line mode n 1 verb.Initialise ws r
+verb_line mode n verb.Uninitialise ws r = action_line mode n 1 verb.Uninitialise ws r
 verb_line mode n verb.CopyRead ws r = action_line mode n 1 verb.CopyRead ws r
 verb_line mode n verb.CopyWrite ws r = action_line mode n 1 verb.CopyWrite ws r
 verb_line mode n verb.Zero ws r = action_line mode n 1 verb.Zero ws r
@@ -170,6 +168,7 @@ verb_line mode n verb.MdlAbort ws r = action_line mode n 1 verb.MdlAbort ws r
 verb_line mode n verb.SetSizes ws r = action_line mode n 1 verb.SetSizes ws r
 verb_line mode n verb.State ws r = action_line mode n 1 verb.State ws r
 verb_line mode n verb.Flush ws r = action_line mode n 1 verb.Flush ws r
+verb_line mode n verb.Purge ws r = action_line mode n 1 verb.Purge ws r
 verb_line mode n verb.IsDirtyData ws r = action_line mode n 1 verb.IsDirtyData ws r
 verb_line mode n verb.DirtyPages ws r = action_line mode n 1 verb.DirtyPages ws r
 verb_line mode n verb.LsnForFile ws r = action_line mode n 1 verb.LsnForFile ws r

@@ -12,30 +12,29 @@ use Rattle.cc_script.specs.Words.{number_of, number_between, name_of, bytes_of}
 use Rattle.cc_script.specs.HoldNames.{word_of, new_word}
 use Rattle.cc_script.specs.Actions.{next, flag, ended, file_of}
 
--- FILE AT LEN: the bytes of a hold that a line makes
-unfoldable pub stretch_of : List StreamLine → List (List ℕ) → Option (Stretch × List (List ℕ))
-stretch_of streams ws = do
+-- FILE AT LEN HOLD: the hold that a line makes, whose word is bound, then the words that are bound behind it, and those
+-- that are left of the line
+unfoldable pub stretch_of : List StreamLine → List (List ℕ) → List (List ℕ) → Option (Stretch × List (List ℕ) × List (List ℕ))
+stretch_of streams names ws = do
   file ← next (file_of streams) ws
   at ← next number_of file.1
   len ← next number_of at.1
-  Some (record { file = file.0; at = at.0; len = len.0 }, len.1)
+  name ← next name_of len.1
+  bound ← new_word names name.0
+  Some (record { file = file.0; at = at.0; len = len.0; word = bound.0 }, bound.1, name.1)
 
 -- map FILE AT LEN HOLD
 unfoldable pub map_of : List StreamLine → List (List ℕ) → List (List ℕ) → Option (Action × List (List ℕ))
 map_of streams names ws = do
-  on ← stretch_of streams ws
-  name ← next name_of on.1
-  bound ← new_word names name.0
-  ended name.1 (action.Map on.0.file on.0.at on.0.len bound.0, bound.1)
+  on ← stretch_of streams names ws
+  ended on.2 (action.Map on.0.file on.0.at on.0.len on.0.word, on.1)
 
 -- pin FILE AT LEN HOLD [excl]
 unfoldable pub pin_read_of : List StreamLine → List (List ℕ) → List (List ℕ) → Option (Action × List (List ℕ))
 pin_read_of streams names ws = do
-  on ← stretch_of streams ws
-  name ← next name_of on.1
-  bound ← new_word names name.0
-  ended (flag (codes "excl") name.1).1
-      (action.PinRead on.0.file on.0.at on.0.len bound.0 (flag (codes "excl") name.1).0, bound.1)
+  on ← stretch_of streams names ws
+  ended (flag (codes "excl") on.2).1
+      (action.PinRead on.0.file on.0.at on.0.len on.0.word (flag (codes "excl") on.2).0, on.1)
 
 -- pinmapped HOLD [excl]
 unfoldable pub pin_mapped_of : List (List ℕ) → List (List ℕ) → Option Action
@@ -46,13 +45,11 @@ pin_mapped_of names ws = do
 -- prepare FILE AT LEN HOLD [zero] [excl]
 unfoldable pub prepare_pin_of : List StreamLine → List (List ℕ) → List (List ℕ) → Option (Action × List (List ℕ))
 prepare_pin_of streams names ws = do
-  on ← stretch_of streams ws
-  name ← next name_of on.1
-  bound ← new_word names name.0
-  ended (flag (codes "excl") (flag (codes "zero") name.1).1).1 (
-    action.PreparePin on.0.file on.0.at on.0.len bound.0 (flag (codes "zero") name.1).0
-        (flag (codes "excl") (flag (codes "zero") name.1).1).0,
-    bound.1,
+  on ← stretch_of streams names ws
+  ended (flag (codes "excl") (flag (codes "zero") on.2).1).1 (
+    action.PreparePin on.0.file on.0.at on.0.len on.0.word (flag (codes "zero") on.2).0
+        (flag (codes "excl") (flag (codes "zero") on.2).1).0,
+    on.1,
   )
 
 -- hread HOLD AT LEN
@@ -109,18 +106,14 @@ unpin_repinned_of mode.Steps names ws = do
 -- mdlread FILE AT LEN HOLD
 unfoldable pub mdl_read_of : List StreamLine → List (List ℕ) → List (List ℕ) → Option (Action × List (List ℕ))
 mdl_read_of streams names ws = do
-  on ← stretch_of streams ws
-  name ← next name_of on.1
-  bound ← new_word names name.0
-  ended name.1 (action.MdlRead on.0.file on.0.at on.0.len bound.0, bound.1)
+  on ← stretch_of streams names ws
+  ended on.2 (action.MdlRead on.0.file on.0.at on.0.len on.0.word, on.1)
 
 -- mdlwrite FILE AT LEN HOLD
 unfoldable pub mdl_write_of : List StreamLine → List (List ℕ) → List (List ℕ) → Option (Action × List (List ℕ))
 mdl_write_of streams names ws = do
-  on ← stretch_of streams ws
-  name ← next name_of on.1
-  bound ← new_word names name.0
-  ended name.1 (action.MdlWrite on.0.file on.0.at on.0.len bound.0, bound.1)
+  on ← stretch_of streams names ws
+  ended on.2 (action.MdlWrite on.0.file on.0.at on.0.len on.0.word, on.1)
 
 -- mdlget HOLD AT LEN
 unfoldable pub mdl_bytes_of : List (List ℕ) → List (List ℕ) → Option Action

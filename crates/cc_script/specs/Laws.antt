@@ -10,7 +10,7 @@ use Rattle.cc_script.specs.declared.script.Action.TheVariants as action
 use Rattle.cc_script.specs.declared.script.ActionLine.{ActionLine}
 use Rattle.cc_script.specs.Text.{lines}
 use Rattle.cc_script.specs.Words.{number_of, is_name, caller_of, bytes_of}
-use Rattle.cc_script.specs.Actions.{file_of, copy_read_of}
+use Rattle.cc_script.specs.Actions.{stream_named, file_of, copy_read_of}
 use Rattle.cc_script.specs.Verbs.{verb_text, verb_of}
 use Rattle.cc_script.specs.declared.script.Mode.{Mode}
 use Rattle.cc_script.specs.declared.script.Script.{Script}
@@ -119,6 +119,26 @@ pub record IsStreamSpelling (n : ℕ) (ws : List (List ℕ)) (stream : StreamLin
 abbrev pub StreamsSpell : Type 0
 StreamsSpell =
     (n : ℕ) (ws : List (List ℕ)) (stream : StreamLine) → (stream_of n ws ≡ Some stream) ↔ IsStreamSpelling n ws stream
+
+-- no byte of a name is a colon
+abbrev pub has_no_colon : List ℕ → Bool
+has_no_colon name = list_all (λ b. not (b == 58)) name
+
+-- a word is the name of a stream for its object 0, or the name, `:` and the number of one of 16 objects
+abbrev pub SpellsObject : List ℕ → ℕ → List ℕ → Type 0
+SpellsObject name object word = ((object ≡ 0) × (word ≡ name)) ⊎ ((object < 16) × (word ≡ name ++ 58 ∷ decimal object))
+
+-- a word names this file object of a stream
+pub record IsFileSpelling (streams : List StreamLine) (word : List ℕ) (file : File) : Type 0 where
+  pub name : List ℕ
+  pub plain : has_no_colon name ≡ true
+  pub named : stream_named streams name ≡ Some file.stream
+  pub text : SpellsObject name file.object word
+
+-- the words that are read as a file are those that name one
+abbrev pub FilesSpell : Type 0
+FilesSpell =
+    (streams : List StreamLine) (word : List ℕ) (file : File) → (file_of streams word ≡ Some file) ↔ IsFileSpelling streams word file
 
 -- the words behind `cread` for this read
 pub record IsReadSpelling (streams : List StreamLine) (ws : List (List ℕ)) (asked : Action) : Type 0 where

@@ -30,3 +30,9 @@ abbrev pub TakesIf : {A B : Type 0} → Option (A × B) → Result A LineFault �
 TakesIf given (Ok value) rest = given ≡ Some (value, rest)
 TakesIf given (Err fault.Syntax) rest = given ≡ None
 TakesIf given (Err fault.NoMemory) rest = Unit {0}
+
+-- the same of a reader that binds a word too: the words that are bound then, before those that are left
+abbrev pub TakesBound : {A B C : Type 0} → Option (A × B × C) → Result A LineFault → B → C → Type 0
+TakesBound given (Ok value) bound rest = given ≡ Some (value, bound, rest)
+TakesBound given (Err fault.Syntax) bound rest = given ≡ None
+TakesBound given (Err fault.NoMemory) bound rest = Unit {0}

@@ -10,13 +10,15 @@ use Rattle.cc_script.specs.declared.script.ActionLine.{ActionLine}
 use Rattle.cc_script.specs.ActionTable.{bytes_moved}
 use Rattle.cc_script.specs.HoldWords.{AreUsedRight}
 
--- a file that a line may name: the first object of a stream of the script
+-- a file that a line may name: one of 16 objects of a stream of the script
 pub record IsFileWithin (streams : List StreamLine) (file : File) : Type 0 where
   pub stream : file.stream < length streams
-  pub first : file.object ≡ 0
+  pub object : file.object < 16
 
 -- an action names such a file, or none
 abbrev pub IsActionWithin : List StreamLine → Action → Type 0
+IsActionWithin streams (action.Initialise file _ _ _) = IsFileWithin streams file
+IsActionWithin streams (action.Uninitialise file _) = IsFileWithin streams file
 IsActionWithin streams (action.CopyRead file _ _ _) = IsFileWithin streams file
 IsActionWithin streams (action.CopyWrite file _ _) = IsFileWithin streams file
 IsActionWithin streams (action.Zero file _) = IsFileWithin streams file
@@ -39,6 +41,7 @@ IsActionWithin streams (action.MdlAbort _) = Unit {0}
 IsActionWithin streams (action.SetSizes file _ _) = IsFileWithin streams file
 IsActionWithin streams (action.State file) = IsFileWithin streams file
 IsActionWithin streams (action.Flush file _) = IsFileWithin streams file
+IsActionWithin streams (action.Purge file _) = IsFileWithin streams file
 IsActionWithin streams action.IsDirtyData = Unit {0}
 IsActionWithin streams (action.DirtyPages _) = Unit {0}
 IsActionWithin streams (action.LsnForFile file) = IsFileWithin streams file

@@ -2,11 +2,10 @@
 
 ghost use Rattle.std.specs.Prelude.{◌≡◌};
 ghost use Rattle.cc_script.specs.Outcome.{Gives, TakesIf};
-ghost use Rattle.cc_script.specs.Actions.{copy_read_of, copy_write_of, zero_of, set_sizes_of, state_of, flush_span_of, flush_of, set_log_of, append_of, log_flush_of, dirty_pages_of, lsn_for_file_of, ended};
+ghost use Rattle.cc_script.specs.Actions.{initialise_of, uninitialise_of, copy_read_of, copy_write_of, zero_of, set_sizes_of, state_of, flush_of, purge_of, set_log_of, append_of, log_flush_of, dirty_pages_of, lsn_for_file_of, ended};
 ghost use Rattle.cc_script.specs.ActionTable.{action_of, bytes_counted, dirty_lines};
 ghost use Rattle.cc_script.specs.declared.script.Action.TheVariants as action;
 
-use crate::byte_word::LONGEST;
 use crate::fault::LineFault;
 use crate::hold_action::{
     held_read, map, mdl_abort, mdl_bytes, mdl_done, mdl_read, mdl_store, mdl_write, pin_mapped,
@@ -16,8 +15,36 @@ use crate::hold_word::HoldNames;
 use crate::part::Words;
 use crate::script::{Action, Mode, StreamLines};
 use crate::verb::Verb;
-use cc_entry::Span;
 use std::alloc::Global;
+
+#[tactic(auto, unfolding(crate::specs::Actions::initialise_of))]
+fn initialise(streams: &StreamLines, words: &mut Words) -> Option<Action>
+    ensures { result ≡ initialise_of streams.now words.old }
+{
+    let file = words.file(streams)?;
+    let sizes = words.sizes()?;
+    let quota = words.quota()?;
+    let temporary = words.flag(b"temporary");
+    if words.is_empty() {
+        Some(Action::Initialise {
+            file,
+            sizes,
+            quota,
+            temporary,
+        })
+    } else {
+        None
+    }
+}
+
+#[tactic(auto, unfolding(crate::specs::Actions::uninitialise_of))]
+fn uninitialise(streams: &StreamLines, words: &mut Words) -> Option<Action>
+    ensures { result ≡ uninitialise_of streams.now words.old }
+{
+    let file = words.file(streams)?;
+    let truncate = words.optional_number()?;
+    Some(Action::Uninitialise { file, truncate })
+}
 
 #[tactic(auto, unfolding(crate::specs::Actions::copy_read_of))]
 fn copy_read(streams: &StreamLines, words: &mut Words) -> Option<Action>
@@ -25,7 +52,7 @@ fn copy_read(streams: &StreamLines, words: &mut Words) -> Option<Action>
 {
     let file = words.file(streams)?;
     let at = words.number()?;
-    let len = words.number_between(0, LONGEST)?;
+    let len = words.read_length()?;
     let wait = !words.flag(b"nowait");
     if words.is_empty() {
         Some(Action::CopyRead {
@@ -96,28 +123,22 @@ fn state(streams: &StreamLines, words: &mut Words) -> Option<Action>
     }
 }
 
-#[tactic(auto, unfolding(crate::specs::Actions::flush_span_of))]
-fn flush_span(words: &mut Words) -> Option<Option<Span>>
-    ensures { result ≡ flush_span_of words.old }
-{
-    if words.is_empty() {
-        return Some(None);
-    }
-    let span = words.span()?;
-    if words.is_empty() {
-        Some(Some(span))
-    } else {
-        None
-    }
-}
-
 #[tactic(auto, unfolding(crate::specs::Actions::flush_of))]
 fn flush(streams: &StreamLines, words: &mut Words) -> Option<Action>
     ensures { result ≡ flush_of streams.now words.old }
 {
     let file = words.file(streams)?;
-    let span = flush_span(words)?;
+    let span = words.optional_span()?;
     Some(Action::Flush { file, span })
+}
+
+#[tactic(auto, unfolding(crate::specs::Actions::purge_of))]
+fn purge(streams: &StreamLines, words: &mut Words) -> Option<Action>
+    ensures { result ≡ purge_of streams.now words.old }
+{
+    let file = words.file(streams)?;
+    let span = words.optional_span()?;
+    Some(Action::Purge { file, span })
 }
 
 fn is_dirty_data(words: &mut Words) -> Option<Action>
@@ -206,6 +227,8 @@ pub(crate) fn action(
     ensures { TakesIf (action_of mode streams.now names.old verb words.old) result names.new }
 {
     match verb {
+        Verb::Initialise => initialise(streams, words).ok_or(LineFault::Syntax),
+        Verb::Uninitialise => uninitialise(streams, words).ok_or(LineFault::Syntax),
         Verb::CopyRead => copy_read(streams, words).ok_or(LineFault::Syntax),
         Verb::CopyWrite => copy_write(alloc, streams, words),
         Verb::Zero => zero(streams, words).ok_or(LineFault::Syntax),
@@ -228,6 +251,7 @@ pub(crate) fn action(
         Verb::SetSizes => set_sizes(streams, words).ok_or(LineFault::Syntax),
         Verb::State => state(streams, words).ok_or(LineFault::Syntax),
         Verb::Flush => flush(streams, words).ok_or(LineFault::Syntax),
+        Verb::Purge => purge(streams, words).ok_or(LineFault::Syntax),
         Verb::IsDirtyData => is_dirty_data(words).ok_or(LineFault::Syntax),
         Verb::DirtyPages => dirty_pages(words).ok_or(LineFault::Syntax),
         Verb::LsnForFile => lsn_for_file(streams, words).ok_or(LineFault::Syntax),

@@ -4,7 +4,6 @@ ghost use Rattle.std.specs.Prelude.{◌≡◌};
 ghost use Rattle.cc_script.specs.Outcome.{Gives, TakesIf};
 ghost use Rattle.cc_script.specs.HoldActions.{map_of, pin_read_of, pin_mapped_of, prepare_pin_of, held_read_of, pinned_write_of, stamp_of, set_dirty_of, unpin_of, repin_of, unpin_repinned_of, mdl_read_of, mdl_write_of, mdl_bytes_of, mdl_store_of, mdl_done_of, mdl_abort_of};
 
-use crate::byte_word::LONGEST;
 use crate::fault::LineFault;
 use crate::hold_word::HoldNames;
 use crate::part::Words;
@@ -21,15 +20,13 @@ pub(crate) fn map(
 ) -> Result<Action, LineFault>
     ensures { TakesIf (map_of streams.now names.old words.old) result names.new }
 {
-    let on = words.stretch(streams).ok_or(LineFault::Syntax)?;
-    let name = words.name(alloc)?;
-    let word = names.bind(name)?;
+    let on = words.stretch(alloc, streams, names)?;
     if words.is_empty() {
         Ok(Action::Map {
             file: on.file,
             at: on.at,
             len: on.len,
-            word,
+            word: on.word,
         })
     } else {
         Err(LineFault::Syntax)
@@ -45,16 +42,14 @@ pub(crate) fn pin_read(
 ) -> Result<Action, LineFault>
     ensures { TakesIf (pin_read_of streams.now names.old words.old) result names.new }
 {
-    let on = words.stretch(streams).ok_or(LineFault::Syntax)?;
-    let name = words.name(alloc)?;
-    let word = names.bind(name)?;
+    let on = words.stretch(alloc, streams, names)?;
     let exclusive = words.flag(b"excl");
     if words.is_empty() {
         Ok(Action::PinRead {
             file: on.file,
             at: on.at,
             len: on.len,
-            word,
+            word: on.word,
             exclusive,
         })
     } else {
@@ -84,9 +79,7 @@ pub(crate) fn prepare_pin(
 ) -> Result<Action, LineFault>
     ensures { TakesIf (prepare_pin_of streams.now names.old words.old) result names.new }
 {
-    let on = words.stretch(streams).ok_or(LineFault::Syntax)?;
-    let name = words.name(alloc)?;
-    let word = names.bind(name)?;
+    let on = words.stretch(alloc, streams, names)?;
     let zero = words.flag(b"zero");
     let exclusive = words.flag(b"excl");
     if words.is_empty() {
@@ -94,7 +87,7 @@ pub(crate) fn prepare_pin(
             file: on.file,
             at: on.at,
             len: on.len,
-            word,
+            word: on.word,
             zero,
             exclusive,
         })
@@ -109,7 +102,7 @@ pub(crate) fn held_read(names: &HoldNames, words: &mut Words) -> Option<Action>
 {
     let word = words.word(names)?;
     let at = words.number()?;
-    let len = words.number_between(0, LONGEST)?;
+    let len = words.read_length()?;
     if words.is_empty() {
         Some(Action::HeldRead { word, at, len })
     } else {
@@ -215,15 +208,13 @@ pub(crate) fn mdl_read(
 ) -> Result<Action, LineFault>
     ensures { TakesIf (mdl_read_of streams.now names.old words.old) result names.new }
 {
-    let on = words.stretch(streams).ok_or(LineFault::Syntax)?;
-    let name = words.name(alloc)?;
-    let word = names.bind(name)?;
+    let on = words.stretch(alloc, streams, names)?;
     if words.is_empty() {
         Ok(Action::MdlRead {
             file: on.file,
             at: on.at,
             len: on.len,
-            word,
+            word: on.word,
         })
     } else {
         Err(LineFault::Syntax)
@@ -239,15 +230,13 @@ pub(crate) fn mdl_write(
 ) -> Result<Action, LineFault>
     ensures { TakesIf (mdl_write_of streams.now names.old words.old) result names.new }
 {
-    let on = words.stretch(streams).ok_or(LineFault::Syntax)?;
-    let name = words.name(alloc)?;
-    let word = names.bind(name)?;
+    let on = words.stretch(alloc, streams, names)?;
     if words.is_empty() {
         Ok(Action::MdlWrite {
             file: on.file,
             at: on.at,
             len: on.len,
-            word,
+            word: on.word,
         })
     } else {
         Err(LineFault::Syntax)
@@ -260,7 +249,7 @@ pub(crate) fn mdl_bytes(names: &HoldNames, words: &mut Words) -> Option<Action>
 {
     let word = words.word(names)?;
     let at = words.number()?;
-    let len = words.number_between(0, LONGEST)?;
+    let len = words.read_length()?;
     if words.is_empty() {
         Some(Action::MdlBytes { word, at, len })
     } else {

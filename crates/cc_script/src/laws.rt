@@ -1,6 +1,6 @@
 //! Laws of the grammar: functions without a body, whose clauses are proved.
 
-ghost use Rattle.cc_script.specs.Laws.{NumbersAreDecimal, VerbsDiffer, VerbsAreFound, VerbsAreNoCallers, LinesJoin, LinesAreWhole, WordsSpell, StreamsSpell, ReadsSpell, SettingsSpell, ScriptsAreWithin, PhasesRise, WordsGoOn, WordsAddUp, WordsAreCounted};
+ghost use Rattle.cc_script.specs.Laws.{NumbersAreDecimal, VerbsDiffer, VerbsAreFound, VerbsAreNoCallers, LinesJoin, LinesAreWhole, WordsSpell, FilesSpell, StreamsSpell, ReadsSpell, SettingsSpell, ScriptsAreWithin, PhasesRise, WordsGoOn, WordsAddUp, WordsAreCounted};
 
 /// A number's word is exactly its decimal text, and stands for a number below 2^64.
 
@@ -21,9 +21,11 @@ pub fn lines_join()
     ensures whole { LinesAreWhole }
 {}
 
-/// A word is read as bytes exactly where it spells them: `-` spells none, items spell theirs.
+/// A word is read as bytes exactly where it spells them: `-` spells none, items spell theirs. It is read as a file
+/// exactly where it names an object of a stream: the name alone its object 0, the name, `:` and a number that one.
 pub fn words_spell()
-    ensures { WordsSpell }
+    ensures bytes { WordsSpell }
+    ensures files { FilesSpell }
 {}
 
 /// The words of a stream, of a read and of a line that sets a number are exactly those that spell them.

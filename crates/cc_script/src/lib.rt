@@ -16,6 +16,7 @@ mod bound;
 mod byte_word;
 mod caller_words;
 mod fault;
+mod file_word;
 mod hold_action;
 mod hold_word;
 mod laws;

@@ -16,7 +16,8 @@ pub(crate) fn first_byte(bytes: &[u8]) -> Option<(u8, &[u8])>
     }
 }
 
-fn place_of(bytes: &[u8], byte: u8) -> Option<usize>
+/// The place of the first byte of this value.
+pub(crate) fn place_of(bytes: &[u8], byte: u8) -> Option<usize>
     ensures { result ≡ position (λ b. b == byte) bytes.now }
 {
     bytes.iter().position(|b| *b == byte)

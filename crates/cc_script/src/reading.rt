@@ -216,7 +216,9 @@ impl Reading {
                 self.set_threshold(pages)
             }
             Verb::Phase => self.begin_phase(words),
-            Verb::CopyRead
+            Verb::Initialise
+            | Verb::Uninitialise
+            | Verb::CopyRead
             | Verb::CopyWrite
             | Verb::Zero
             | Verb::Map
@@ -238,6 +240,7 @@ impl Reading {
             | Verb::SetSizes
             | Verb::State
             | Verb::Flush
+            | Verb::Purge
             | Verb::IsDirtyData
             | Verb::DirtyPages
             | Verb::LsnForFile

@@ -7,7 +7,7 @@ ghost use Rattle.cc_script.specs.HoldWords.{binds, words_bound};
 
 use crate::hold_word::HoldWord;
 use crate::name::Name;
-use cc_entry::{Bytes, FileId, Lsn, NoMemory, Quota, Span, StreamId};
+use cc_entry::{Bytes, FileId, FileSizes, Lsn, NoMemory, Quota, Span, StreamId};
 use std::alloc::Global;
 use std::marker::Model;
 
@@ -118,6 +118,18 @@ fn place_of(streams: &[StreamLine], name: &[u8]) -> Option<usize>
 /// What a line asks for, with the values of its words.
 #[derive(Debug, Drop)]
 pub enum Action {
+    /// An open of a file object, with any three sizes: where they are out of order, the call is refused.
+    Initialise {
+        file: FileId,
+        sizes: FileSizes,
+        quota: Quota,
+        temporary: bool,
+    },
+    /// The close of a file object, with the size to which the stream is cut where one is said.
+    Uninitialise {
+        file: FileId,
+        truncate: Option<u64>,
+    },
     CopyRead {
         file: FileId,
         at: u64,
@@ -224,6 +236,10 @@ pub enum Action {
         file: FileId,
     },
     Flush {
+        file: FileId,
+        span: Option<Span>,
+    },
+    Purge {
         file: FileId,
         span: Option<Span>,
     },

@@ -1,14 +1,15 @@
 //! The words behind a verb, taken one after another in the form that the verb asks.
 
 ghost use Rattle.std.specs.Prelude.{◌≡◌, ◌≤◌, IfSome};
-ghost use Rattle.cc_script.specs.Outcome.{Takes, TakesIf};
+ghost use Rattle.cc_script.specs.Outcome.{Takes, TakesIf, TakesBound};
 ghost use Rattle.cc_script.specs.Words.{number_of, number_between, name_of, bytes_of};
 ghost use Rattle.cc_script.specs.Verbs.{verb_in};
-ghost use Rattle.cc_script.specs.Actions.{next, flag, file_of, span_of};
+ghost use Rattle.cc_script.specs.Actions.{next, flag, file_of, span_of, optional_span_of, optional_number_of, quota_of, sizes_of};
 ghost use Rattle.cc_script.specs.HoldNames.{word_of};
 ghost use Rattle.cc_script.specs.HoldActions.{stretch_of};
-ghost use Rattle.cc_script.specs.Grammar.{quota_of, log_of};
+ghost use Rattle.cc_script.specs.Grammar.{log_of};
 
+use crate::byte_word::LONGEST;
 use crate::fault::LineFault;
 use crate::hold_word::{HoldNames, HoldWord};
 use crate::name::Name;
@@ -16,8 +17,8 @@ use crate::part::Words;
 use crate::script::{Mode, StreamLines};
 use crate::stretch::Stretch;
 use crate::verb::Verb;
-use crate::{byte_word, word};
-use cc_entry::{Bytes, FileId, Lsn, Quota, Span};
+use crate::{byte_word, file_word, word};
+use cc_entry::{Bytes, FileId, FileSizes, Lsn, Quota, Span};
 use std::alloc::Global;
 
 /// The greatest number of a log.
@@ -38,6 +39,29 @@ impl Words<'_> {
         ensures in_range { IfSome result (λ n. (low ≤ n) × (n ≤ high)) }
     {
         word::number_between(low, high, self.next()?)
+    }
+
+    /// How many bytes are read.
+    pub(crate) fn read_length(&mut self) -> Option<u64>
+        ensures { Takes (next (number_between 0 2097152) self.old) result self.new }
+    {
+        self.number_between(0, LONGEST)
+    }
+
+    /// The number at the end of a line, if one stands there.
+    #[tactic(auto, unfolding(crate::specs::Actions::optional_number_of))]
+    pub(crate) fn optional_number(&mut self) -> Option<Option<u64>>
+        ensures { result ≡ optional_number_of self.old }
+    {
+        if self.is_empty() {
+            return Some(None);
+        }
+        let number = self.number()?;
+        if self.is_empty() {
+            Some(Some(number))
+        } else {
+            None
+        }
     }
 
     pub(crate) fn verb(&mut self, mode: Mode) -> Option<Verb>
@@ -61,7 +85,7 @@ impl Words<'_> {
     }
 
     /// The quota of a stream, 16 view blocks where the words don't say it.
-    #[tactic(auto, unfolding(crate::specs::Grammar::quota_of))]
+    #[tactic(auto, unfolding(crate::specs::Actions::quota_of))]
     pub(crate) fn quota(&mut self) -> Option<Quota>
         ensures { Takes (quota_of self.old) result self.new }
     {
@@ -110,23 +134,64 @@ impl Words<'_> {
         Span::new(from, to)
     }
 
-    #[tactic(auto, unfolding(crate::specs::Actions::file_of))]
+    /// The range at the end of a line, none where the line is of a whole stream.
+    #[tactic(auto, unfolding(crate::specs::Actions::optional_span_of))]
+    pub(crate) fn optional_span(&mut self) -> Option<Option<Span>>
+        ensures { result ≡ optional_span_of self.old }
+    {
+        if self.is_empty() {
+            return Some(None);
+        }
+        let span = self.span()?;
+        if self.is_empty() {
+            Some(Some(span))
+        } else {
+            None
+        }
+    }
+
+    /// The sizes of a file that is opened, any three numbers.
+    #[tactic(auto, unfolding(crate::specs::Actions::sizes_of))]
+    pub(crate) fn sizes(&mut self) -> Option<FileSizes>
+        ensures { Takes (sizes_of self.old) result self.new }
+    {
+        let allocation = self.number()?;
+        let size = self.number()?;
+        let valid = self.number()?;
+        Some(FileSizes {
+            allocation,
+            size,
+            valid,
+        })
+    }
+
     pub(crate) fn file(&mut self, streams: &StreamLines) -> Option<FileId>
         ensures { Takes (next (file_of streams.now) self.old) result self.new }
     {
-        let stream = streams.find(self.next()?)?;
-        FileId::new(stream.number(), 0)
+        file_word::file(streams, self.next()?)
     }
 
-    /// A file, and so many bytes of it from a place on.
+    /// A file, so many bytes of it from a place on, and a word that is bound to a hold on them.
     #[tactic(auto, unfolding(crate::specs::HoldActions::stretch_of))]
-    pub(crate) fn stretch(&mut self, streams: &StreamLines) -> Option<Stretch>
-        ensures { Takes (stretch_of streams.now self.old) result self.new }
+    pub(crate) fn stretch(
+        &mut self,
+        alloc: Global,
+        streams: &StreamLines,
+        names: &mut HoldNames,
+    ) -> Result<Stretch, LineFault>
+        ensures { TakesBound (stretch_of streams.now names.old self.old) result names.new self.new }
     {
-        let file = self.file(streams)?;
-        let at = self.number()?;
-        let len = self.number()?;
-        Some(Stretch { file, at, len })
+        let file = self.file(streams).ok_or(LineFault::Syntax)?;
+        let at = self.number().ok_or(LineFault::Syntax)?;
+        let len = self.number().ok_or(LineFault::Syntax)?;
+        let name = self.name(alloc)?;
+        let word = names.bind(name)?;
+        Ok(Stretch {
+            file,
+            at,
+            len,
+            word,
+        })
     }
 
     /// A word that was bound.

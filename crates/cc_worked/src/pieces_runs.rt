@@ -15,7 +15,7 @@ ghost use Rattle.cc_pieces.specs.Phases.{is_before_phase, limit_in, lines_before
 ghost use Rattle.cc_pieces.specs.Explained.{IsExplained};
 ghost use Rattle.cc_pieces.specs.Table.{table_of};
 ghost use Rattle.cc_effects.specs.Failures.{failures};
-ghost use Rattle.cc_worked.specs.Values.{setup, a, second, opened, done, answers, dirty_is, synced};
+ghost use Rattle.cc_worked.specs.Values.{setup, a, second, sized, opened, done, answers, dirty_is, synced};
 ghost use Rattle.cc_worked.specs.PiecesReads.{two_pages, first_resident, a_byte, page_comes_in, page_alone};
 ghost use Rattle.cc_worked.specs.PiecesRuns.{stream_with, opens, opens_with, caller_opens, opening_is_refused, log_all_the_same};
 ghost use Rattle.cc_worked.specs.PiecesRuns.{opens_both, opens_first_twice, unit_at, of_capacity, full_at};
@@ -72,6 +72,12 @@ pub fn each_verb_is_served()
     ensures log_set { Served setup 1 [] (action.SetLog a 3) (answer.Given reply.Unit) first_resident (done 1 1 (call.SetLog a 3) ∷ first_resident) }
     ensures appended { Served setup 1 [] (action.Append 0 (1 ∷ [])) (answer.NewLsn 4) flushed_to_three (appended ++ flushed_to_three) }
     ensures log_flushed { Served setup 1 [] (action.LogFlush 0 4) (answer.Given reply.Unit) flushed_to_three (flushed_to_four ++ flushed_to_three) }
+    ensures opened_again { Served setup 1 [] (action.Initialise second (sized 8192 8192) 16 false) (answer.Given reply.Unit)
+        first_resident (done 1 1 (call.Initialise second (sized 8192 8192) 16 false) ∷ first_resident) }
+    ensures closed { Served setup 1 [] (action.Uninitialise a (Some 0)) (answer.Given (reply.Flag false))
+        first_resident (answers 1 1 (call.Uninitialise a (Some 0)) (reply.Flag false) ∷ first_resident) }
+    ensures purged { Served setup 1 [] (action.Purge a None) (answer.Given reply.Unit)
+        first_resident (done 1 1 (call.Purge a None) ∷ first_resident) }
     ensures not_zeroed { Served setup 1 [] (action.Zero a first_bytes) (answer.Given reply.Unit) first_resident (done 1 1 (call.CopyWrite a 0 (0 ∷ [])) ∷ first_resident) → ⊥ }
     ensures no_other_sizes { Served setup 1 [] (action.SetSizes a 8192 4096) (answer.Given reply.Unit) first_resident (done 1 1 (call.SetSizes a 4096 8192) ∷ first_resident) → ⊥ }
     ensures no_other_log { Served setup 1 [] (action.SetLog a 3) (answer.Given reply.Unit) first_resident (done 1 1 (call.SetLog a 2) ∷ first_resident) → ⊥ }
@@ -79,6 +85,10 @@ pub fn each_verb_is_served()
     ensures flush_has_no_lsn { Served setup 1 [] (action.LogFlush 0 4) (answer.NewLsn 4) flushed_to_three (flushed_to_four ++ flushed_to_three) → ⊥ }
     ensures no_other_span { Served setup 1 [] (action.Flush a None) (answer.Given reply.Unit) first_resident (done 1 1 (call.Flush a (Some first_bytes)) ∷ synced 1 ∷ first_resident) → ⊥ }
     ensures no_other_file { Served setup 1 [] asks (answer.Given (reply.State two_full)) first_resident (answers 1 1 (call.State second) (reply.State two_full) ∷ first_resident) → ⊥ }
+    ensures no_other_truncate { Served setup 1 [] (action.Uninitialise a None) (answer.Given (reply.Flag false))
+        first_resident (answers 1 1 (call.Uninitialise a (Some 0)) (reply.Flag false) ∷ first_resident) → ⊥ }
+    ensures purge_is_no_flush { Served setup 1 [] (action.Purge a None) (answer.Given reply.Unit)
+        first_resident (done 1 1 (call.Flush a None) ∷ synced 1 ∷ first_resident) → ⊥ }
 {}
 
 /// The lines of a caller leave pieces one after the other, each of its line, and the caller places nothing else.

@@ -10,4 +10,4 @@ returns-in-Ok g c =
     use-answered _ _ _ _ _ _ _ _ (ap (λ (b : List ℕ). call.PinnedWrite c.args.hold.now.id c.args.at b) (search rules)) c.answered.ensures (omega arith) c.pinned_write.ensures.ends
 
 pub returns-in-Err : goal.returns-in-Err
-returns-in-Err g c = no-memory _ _ _ _ refl refl c.requires.can.settled c.requires.holding
+returns-in-Err g c = no-memory _ _ _ _ refl refl c.requires.holding

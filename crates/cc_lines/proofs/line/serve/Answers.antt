@@ -1,29 +1,50 @@
 use Rattle.std.proofs.Common.{ap, arith}
 use Rattle.cc_entry.specs.declared.call.Call.TheVariants as call
 use Rattle.cc_lines.proofs.PlainLines.{append-line, plain-line, plain_call}
-use Rattle.cc_lines.proofs.ServeLines.{asked-as, can-as, change-line, flag-line, flush-line, flushed-line, lsns-line, may-free, may-on, next-chain, next-map, next-pin, next-prepare, next-repin, next-write_chain, rows-line, set-line, state-line}
+use Rattle.cc_lines.proofs.ServeLines.{asked-as, can-as, change-line, flag-line, flush-line, flushed-line, lsns-line, may-free, may-on, next-chain, next-map, next-pin, next-prepare, next-repin, next-write_chain, purge-line, rows-line, set-line, state-line}
 use Rattle.cc_lines.proofs.line.serve.Goals as goal
+
+pub initialize-requires-after_bounds : goal.initialize-requires-after_bounds
+initialize-requires-after_bounds g c κs within = may-on (g.T.Turns.standing c.args.turns.now) _ c.args.names.now c.in-Initialise.file.stream c.requires (can-as (g.T.Turns.standing c.args.turns.now) _ _ c.args.names.now c.in-Initialise.is c.requires).servable
+
+pub returns-in-Initialise : goal.returns-in-Initialise
+returns-in-Initialise g c =
+    set-line _ _ c.args.names.now _ _ c.requires.good (call.Initialise c.in-Initialise.file c.in-Initialise.sizes c.in-Initialise.quota c.in-Initialise.temporary) c.initialize.result (ap plain_call c.in-Initialise.is) (omega arith) c.answered.ensures c.initialize.ensures
+
+pub uninitialize-requires-clause-can : goal.uninitialize-requires-clause-can
+uninitialize-requires-clause-can g c κs within = may-on (g.T.Turns.standing c.args.turns.now) _ c.args.names.now c.in-Uninitialise.file.stream c.requires (can-as (g.T.Turns.standing c.args.turns.now) _ _ c.args.names.now c.in-Uninitialise.is c.requires).servable
+
+pub returns-in-Uninitialise : goal.returns-in-Uninitialise
+returns-in-Uninitialise g c =
+    flag-line _ _ c.args.names.now _ _ c.requires.good (call.Uninitialise c.in-Uninitialise.file c.in-Uninitialise.truncate) c.uninitialize.result (ap plain_call c.in-Uninitialise.is) (omega arith) c.flag.ensures c.uninitialize.ensures.ends.ends
+
+pub purge-requires-clause-can : goal.purge-requires-clause-can
+purge-requires-clause-can g c κs within = may-on (g.T.Turns.standing c.args.turns.now) _ c.args.names.now c.in-Purge.file.stream c.requires (can-as (g.T.Turns.standing c.args.turns.now) _ _ c.args.names.now c.in-Purge.is c.requires).servable
+
+pub returns-in-Purge : goal.returns-in-Purge
+returns-in-Purge g c =
+    purge-line _ _ c.args.names.now _ _ c.requires.good c.in-Purge.file c.in-Purge.span c.purge.result (ap plain_call c.in-Purge.is) c.answered-in-Purge.ensures c.purge.ensures.ends
 
 pub read-requires-after_bounds : goal.read-requires-after_bounds
 read-requires-after_bounds g c κs within = may-on (g.T.Turns.standing c.args.turns.now) _ c.args.names.now c.in-CopyRead.file.stream c.requires (can-as (g.T.Turns.standing c.args.turns.now) _ _ c.args.names.now c.in-CopyRead.is c.requires).servable
 
 pub returns-in-CopyRead : goal.returns-in-CopyRead
 returns-in-CopyRead g c =
-    plain-line _ _ _ _ c.read.ensures.full c.read.ensures.goes_on c.read.ensures.settled (c.read.ensures.good c.requires.good) _ (call.CopyRead c.in-CopyRead.file c.in-CopyRead.at c.in-CopyRead.len c.in-CopyRead.wait) (ap plain_call c.in-CopyRead.is) c.read.ensures.answered
+    plain-line _ _ _ _ c.read.ensures.full c.read.ensures.goes_on (c.read.ensures.good c.requires.good) _ (call.CopyRead c.in-CopyRead.file c.in-CopyRead.at c.in-CopyRead.len c.in-CopyRead.wait) (ap plain_call c.in-CopyRead.is) c.read.ensures.answered
 
 pub write-requires-after_bounds : goal.write-requires-after_bounds
 write-requires-after_bounds g c κs within = may-on (g.T.Turns.standing c.args.turns.now) _ c.args.names.now c.in-CopyWrite.file.stream c.requires (can-as (g.T.Turns.standing c.args.turns.now) _ _ c.args.names.now c.in-CopyWrite.is c.requires).servable
 
 pub returns-in-CopyWrite : goal.returns-in-CopyWrite
 returns-in-CopyWrite g c =
-    plain-line _ _ _ _ c.write.ensures.full c.write.ensures.goes_on c.write.ensures.settled (c.write.ensures.good c.requires.good) _ (call.CopyWrite c.in-CopyWrite.file c.in-CopyWrite.at c.in-CopyWrite.bytes) (ap plain_call c.in-CopyWrite.is) c.write.ensures.answered
+    plain-line _ _ _ _ c.write.ensures.full c.write.ensures.goes_on (c.write.ensures.good c.requires.good) _ (call.CopyWrite c.in-CopyWrite.file c.in-CopyWrite.at c.in-CopyWrite.bytes) (ap plain_call c.in-CopyWrite.is) c.write.ensures.answered
 
 pub zero_data-requires-clause-can : goal.zero_data-requires-clause-can
 zero_data-requires-clause-can g c κs within = may-on (g.T.Turns.standing c.args.turns.now) _ c.args.names.now c.in-Zero.file.stream c.requires (can-as (g.T.Turns.standing c.args.turns.now) _ _ c.args.names.now c.in-Zero.is c.requires).servable
 
 pub returns-in-Zero : goal.returns-in-Zero
 returns-in-Zero g c =
-    change-line _ _ c.args.names.now _ _ c.requires.good (call.Zero c.in-Zero.file c.in-Zero.span) c.zero_data.result (ap plain_call c.in-Zero.is) c.answered.ensures c.zero_data.ensures.ends
+    change-line _ _ c.args.names.now _ _ c.requires.good (call.Zero c.in-Zero.file c.in-Zero.span) c.zero_data.result (ap plain_call c.in-Zero.is) c.answered-in-Zero.ensures c.zero_data.ensures.ends
 
 pub map-requires-after_bounds : goal.map-requires-after_bounds
 map-requires-after_bounds g c κs within = can-as _ _ _ _ (next-map (g.T.Turns.standing c.args.turns.now) _ c.args.names.now c.requires _ _ _ _ c.in-Map.is) c.requires
@@ -147,7 +168,7 @@ is_dirty_data-requires-clause-can g c κs within = may-free _ _ c.args.names.now
 
 pub returns-in-IsDirtyData : goal.returns-in-IsDirtyData
 returns-in-IsDirtyData g c =
-    flag-line _ _ c.args.names.now _ _ c.requires.good call.IsDirtyData c.is_dirty_data.result (ap plain_call c.in-IsDirtyData.is) (omega arith) c.flag.ensures c.is_dirty_data.ensures.ends
+    flag-line _ _ c.args.names.now _ _ c.requires.good call.IsDirtyData c.is_dirty_data.result (ap plain_call c.in-IsDirtyData.is) (omega arith) c.flag-in-IsDirtyData.ensures c.is_dirty_data.ensures.ends
 
 pub dirty_pages-requires-clause-can : goal.dirty_pages-requires-clause-can
 dirty_pages-requires-clause-can g c κs within = may-free _ _ c.args.names.now c.requires
@@ -176,7 +197,7 @@ append-requires-after_bounds g c κs within = may-free _ _ c.args.names.now c.re
 pub returns-in-Append : goal.returns-in-Append
 returns-in-Append g c =
     asked-as _ _ _ _ _ _ _ c.in-Append.is
-    (append-line _ _ _ c.args.names.now c.append.ensures.full c.append.ensures.goes_on c.append.ensures.settled (c.append.ensures.good c.requires.good) c.in-Append.handle c.in-Append.bytes c.append.ensures.answered)
+    (append-line _ _ _ c.args.names.now c.append.ensures.full c.append.ensures.goes_on (c.append.ensures.good c.requires.good) c.in-Append.handle c.in-Append.bytes c.append.ensures.answered)
 
 pub log_flush-requires-clause-can : goal.log_flush-requires-clause-can
 log_flush-requires-clause-can g c κs within = may-free _ _ c.args.names.now c.requires

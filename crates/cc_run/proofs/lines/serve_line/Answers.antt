@@ -9,7 +9,7 @@ pub returns-clause-left : goal.returns-clause-left
 returns-clause-left g c = λ bounds bindings stand right.
     line-end (standing_of g.D.Told.told g.D.Told.faults g.L.LogFile.told g.L.LogFile.faults c.args.desk.now) _ _ c.args.line.now.caller
     (ap (λ d. standing_of g.D.Told.told g.D.Told.faults g.L.LogFile.told g.L.LogFile.faults d) c.act_as.ensures)
-    c.serve_at-answer.ensures.goes_on c.serve_at-answer.ensures.settled c.own.ensures c.requires.ready bounds bindings c.args.line.now c.serve_at-answer.result _ _ refl
+    c.serve_at-answer.ensures.goes_on c.own.ensures c.requires.ready bounds bindings c.args.line.now c.serve_at-answer.result _ _ refl
     c.serve_at-answer.ensures refl stand right
 
 pub serve_at-answer-requires : goal.serve_at-answer-requires
@@ -31,10 +31,10 @@ pub returns-clause-run : goal.returns-clause-run
 returns-clause-run g c =
     run-after (standing_of g.D.Told.told g.D.Told.faults g.L.LogFile.told g.L.LogFile.faults c.args.desk.now) _ _ c.args.line.now.caller
     (ap (λ d. standing_of g.D.Told.told g.D.Told.faults g.L.LogFile.told g.L.LogFile.faults d) c.act_as.ensures)
-    c.serve_at-answer.ensures.goes_on c.serve_at-answer.ensures.settled c.own.ensures c.requires.ready
+    c.serve_at-answer.ensures.goes_on c.own.ensures c.requires.ready
 
 pub returns-clause-ready : goal.returns-clause-ready
 returns-clause-ready g c =
     ready-after (standing_of g.D.Told.told g.D.Told.faults g.L.LogFile.told g.L.LogFile.faults c.args.desk.now) _ _ c.args.line.now.caller
     (ap (λ d. standing_of g.D.Told.told g.D.Told.faults g.L.LogFile.told g.L.LogFile.faults d) c.act_as.ensures)
-    c.serve_at-answer.ensures.goes_on c.serve_at-answer.ensures.settled c.own.ensures c.requires.ready
+    c.serve_at-answer.ensures.goes_on c.own.ensures c.requires.ready

@@ -1,12 +1,11 @@
-use Rattle.std.proofs.Common.{◌≡◌, ◌+◌, ◌++◌, ◌∷◌, [], take, false, refl, sym, subst, ◌∙◌, arith, ap}
+use Rattle.std.proofs.Common.{◌≡◌, ◌+◌, ◌++◌, ◌∷◌, [], take, refl, sym, subst, ◌∙◌, arith, ap}
 use Rattle.std.proofs.lemmas.List.{take_more, length-take}
 use Rattle.cc_pieces.specs.Openings.{Opens}
 use Rattle.cc_turns.specs.Desk.{standing_of}
 use Rattle.cc_turns.specs.Takes.{HasActed}
-use Rattle.cc_step.specs.Step.{owes_store}
 use Rattle.cc_run.proofs.Acting.{goes-pass, pass-then}
 use Rattle.cc_run.proofs.Opening.{opens-one, stream-more}
-use Rattle.cc_run.proofs.Others.{idle-acted, settled-all}
+use Rattle.cc_run.proofs.Others.{idle-acted}
 use Rattle.cc_run.proofs.RowSteps.{longer}
 use Rattle.cc_run.proofs.openings.open_streams.Goals as goal
 
@@ -23,7 +22,6 @@ loop-stream-preserved g c =
       pass = pass-then _ _ _ before.pass (goes-pass _ _ went);
       free = ap (λ w. w.held) went.same ∙ before.free;
       rest = rest;
-      settled = c.open_stream-answer.ensures.settled;
       number = ap (λ n. n + 1) before.number;
       long = omega (arith, longer _ _ _ c.push_reserved.ensures.items, before.long);
       room = c.push_reserved.ensures.capacity ∙ before.room;
@@ -39,11 +37,4 @@ returns-clause-alone g c = λ me other.
     idle-acted me 0 _ _ other acted
 
 pub returns-clause-ready : goal.returns-clause-ready
-returns-clause-ready g c =
-    let pass = c.loop-stream.invariant.pass in
-    let acted : HasActed 0 c.args.desk.now.last.entries c.loop-stream.desk.last.entries = rw (pass.number ∙ c.requires.first, pass.since ∙ c.requires.begins) at c.own.ensures in
-    record {
-      free = c.loop-stream.invariant.free;
-      at_rest = c.loop-stream.invariant.rest;
-      settled = settled-all 0 _ _ acted (subst (λ n. owes_store c.loop-stream.desk.last.entries n ≡ false) (pass.number ∙ c.requires.first) c.loop-stream.invariant.settled) c.requires.ready.settled;
-    }
+returns-clause-ready g c = record { free = c.loop-stream.invariant.free; at_rest = c.loop-stream.invariant.rest }

@@ -2,7 +2,6 @@ use Rattle.std.proofs.Common.{◌≡◌, ◌+◌, length, take}
 use Rattle.std.specs.Prelude.{vec_capacity}
 use Rattle.cc_turns.specs.Standing.{nothing}
 use Rattle.cc_turns.specs.Desk.{standing_of}
-use Rattle.cc_visits.specs.Hands.{IsSettled}
 use Rattle.cc_run.specs.Desks.{IsSamePass}
 use Rattle.cc_run.specs.Lines.{StreamsOpened}
 use Rattle.cc_run.proofs.openings.open_streams.Given as goal
@@ -14,7 +13,6 @@ invariant-loop-stream g l =
       pass : IsSamePass (at l.initial.desk) (at l.desk);
       free : l.desk.held ≡ nothing;
       rest : (at l.desk).in_flight ≡ 0;
-      settled : IsSettled (at l.desk);
       number : l.number ≡ l.stream-index;
       long : length l.replies.items ≡ length l.initial.replies.items + l.stream-index;
       room : vec_capacity l.replies ≡ vec_capacity l.initial.replies;

@@ -9,14 +9,13 @@ use Rattle.cc_run.specs.Rows.{printed_row}
 use Rattle.cc_run.proofs.DirtyRows.{rows-table}
 use Rattle.cc_run.proofs.Lists.{all-map, if_some-ok}
 use Rattle.cc_run.proofs.PhasesRan.{run-explained}
-use Rattle.cc_run.proofs.RunSteps.{owes-none, servable-all, opened-long, disks-stand, logs-stand}
+use Rattle.cc_run.proofs.RunSteps.{servable-all, opened-long, disks-stand, logs-stand}
 use Rattle.cc_run.proofs.run.run_on.Goals as goal
 
 pub open_streams-requires-clause-ready : goal.open_streams-requires-clause-ready
 open_streams-requires-clause-ready g c κs within = record {
   free = c.requires.fresh.held_is;
   at_rest = omega (arith, c.requires.fresh.journal_is.empty.1);
-  settled = λ me. rw c.requires.fresh.journal_is.empty.0 (owes-none me);
 }
 
 pub serve_phases-desk-requires-clause-servable : goal.serve_phases-desk-requires-clause-servable

@@ -12,7 +12,7 @@ use Rattle.cc_entry.specs.declared.entry.Entry.TheVariants as entry
 use Rattle.cc_effects.specs.Calls.{CallLeft}
 use Rattle.cc_effects.proofs.Starts.{begins, done_by, ends_done}
 use Rattle.cc_effects.proofs.Licences.{only-own}
-use Rattle.cc_worked.specs.Values.{setup, a, second, done, answers, synced}
+use Rattle.cc_worked.specs.Values.{setup, a, second, sized, done, answers, synced}
 use Rattle.cc_worked.specs.PiecesReads.{first_resident}
 use Rattle.cc_worked.specs.PiecesRuns.{first_bytes, two_full}
 use Rattle.cc_worked.specs.PiecesWithoutEntry.{flushed_to_three, appended}
@@ -55,6 +55,18 @@ returns-clause-appended c = (omega arith, record { later = []; earlier = []; gre
 pub returns-clause-log_flushed : goal.returns-clause-log_flushed
 returns-clause-log_flushed c =
     (omega arith, inl (record { later = []; earlier = []; grew = refl; is_own = refl; quiet_after = tt; quiet_before = tt }))
+
+pub returns-clause-opened_again : goal.returns-clause-opened_again
+returns-clause-opened_again c =
+    ends_done 1 1 (Some 0) (call.Initialise second (sized 8192 8192) 16 false) reply.Unit first_resident first_resident (begins 1 (call.Initialise second (sized 8192 8192) 16 false) first_resident) refl (λ during. tt)
+
+pub returns-clause-closed : goal.returns-clause-closed
+returns-clause-closed c =
+    ends_done 1 1 (Some 0) (call.Uninitialise a (Some 0)) (reply.Flag false) first_resident first_resident (begins 1 (call.Uninitialise a (Some 0)) first_resident) refl (λ during. tt)
+
+pub returns-clause-purged : goal.returns-clause-purged
+returns-clause-purged c =
+    ends_done 1 1 (Some 0) (call.Purge a None) reply.Unit first_resident first_resident (begins 1 (call.Purge a None) first_resident) refl (λ during. tt)
 
 -- a stretch that a done call left has its end alone
 one_call : (it : Call) (r : Reply) (piece : List Entry) → CallLeft setup 1 it (outcome.Done r) first_resident (piece ++ first_resident) → marks 1 piece ≡ Ended it (outcome.Done r) ∷ []
@@ -99,3 +111,15 @@ returns-clause-no_other_file c left = other (one_call (call.State a) (reply.Stat
   where
     other : Ended (call.State second) (outcome.Done (reply.State two_full)) ∷ [] ≡ Ended (call.State a) (outcome.Done (reply.State two_full)) ∷ [] → ⊥
     other same = let file : second ≡ a = cc in let object : ◌≡◌ {A = ℕ} 1 0 = ap (λ f. f.object) file in omega (arith, object)
+
+pub returns-clause-no_other_truncate : goal.returns-clause-no_other_truncate
+returns-clause-no_other_truncate c left = other (one_call (call.Uninitialise a None) (reply.Flag false) (answers 1 1 (call.Uninitialise a (Some 0)) (reply.Flag false) ∷ []) left)
+  where
+    other : Ended (call.Uninitialise a (Some 0)) (outcome.Done (reply.Flag false)) ∷ [] ≡ Ended (call.Uninitialise a None) (outcome.Done (reply.Flag false)) ∷ [] → ⊥
+    other same = absurd (cc)
+
+pub returns-clause-purge_is_no_flush : goal.returns-clause-purge_is_no_flush
+returns-clause-purge_is_no_flush c left = other (one_call (call.Purge a None) reply.Unit (done 1 1 (call.Flush a None) ∷ synced 1 ∷ []) left)
+  where
+    other : Ended (call.Flush a None) (outcome.Done reply.Unit) ∷ [] ≡ Ended (call.Purge a None) (outcome.Done reply.Unit) ∷ [] → ⊥
+    other same = absurd (cc)
