@@ -1,52 +1,8 @@
 //! Holds on threads: what every schedule answers, and that a read through a hold goes on while its page is transferred.
 
-use cc_rows::{Moment, Seen, WaitingDisk, WaitsIn, disk, run, run_with};
-use cc_traits::Gate;
+use cc_rows::{WaitsIn, run, run_during};
 use std::alloc::{AllocError, Global};
-use std::sync::Wait;
 use std::test::Fail;
-use std::thread::Threads;
-
-/// Holds the second call of the second caller back until the disk is inside a call, and says when that call was
-/// answered.
-#[derive(Drop)]
-struct SecondDuring<'a> {
-    inside: &'a Moment,
-    answered: &'a Moment,
-}
-
-impl<'a> Gate for SecondDuring<'a> {
-    fn before(&self, caller: u32, call: u32) {
-        if caller == 2 && call == 2 {
-            self.inside.wait();
-        }
-    }
-
-    fn after(&self, caller: u32, call: u32) {
-        if caller == 2 && call == 2 {
-            self.answered.come();
-        }
-    }
-}
-
-/// Runs a script whose second caller makes its second call while the disk waits inside one. Answers whether a moment
-/// was missed, too.
-fn during<R: Threads + Wait + Sync>(
-    rt: &R,
-    alloc: Global,
-    script: &str,
-    waits: WaitsIn,
-) -> Result<(Seen, bool), AllocError> {
-    let inside = Moment::new();
-    let answered = Moment::new();
-    let disk = WaitingDisk::new(disk(alloc, &[])?, waits, &inside, &answered);
-    let gate = SecondDuring {
-        inside: &inside,
-        answered: &answered,
-    };
-    let seen = run_with(rt, alloc, script, disk, &gate)?;
-    Ok((seen, inside.was_missed() || answered.was_missed()))
-}
 
 const DURING_A_WRITE: &str = "stream a 8192 8192
 t1 cwrite a 0 AB
@@ -59,7 +15,7 @@ t2 hread h 0 1
 /// A mapped read of the very page that a flush transfers is answered meanwhile.
 #[test]
 fn a_held_read_during_a_write(rt: HostRuntime) -> Result<(), Fail> {
-    let (seen, missed) = during(&rt, rt.alloc(), DURING_A_WRITE, WaitsIn::Write(1))?;
+    let (seen, missed) = run_during(&rt, rt.alloc(), DURING_A_WRITE, WaitsIn::Write(1), 2, 2)?;
     assert!(rt; !missed);
     assert_eq!(rt; seen.status, 0);
     let answers = "setup\n1 ok\ncaller t1\n2 ok\n5 ok\ncaller t2\n3 ok hold 1\n6 ok AB\njournal\n";
@@ -77,7 +33,7 @@ t2 hread h 0 1
 /// So is one of another page that comes in.
 #[test]
 fn a_held_read_during_a_fill(rt: HostRuntime) -> Result<(), Fail> {
-    let (seen, missed) = during(&rt, rt.alloc(), DURING_A_FILL, WaitsIn::Read(2))?;
+    let (seen, missed) = run_during(&rt, rt.alloc(), DURING_A_FILL, WaitsIn::Read(2), 2, 2)?;
     assert!(rt; !missed);
     assert_eq!(rt; seen.status, 0);
     let answers = "setup\n1 ok\ncaller t1\n4 ok 5A\ncaller t2\n2 ok hold 1\n5 ok 5A\njournal\n";

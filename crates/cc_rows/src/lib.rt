@@ -4,14 +4,18 @@
 //! `cc_filedev`, a sink that takes a few bytes a call, a source of line feeds, a disk that tells nothing, and one that
 //! waits. Each test runs a script by the words of the command line and compares the exit status and the text with what the script
 //! language and the format of the text say (docs/SCRIPTS.md). No expected text is taken from the program.
-//! The tests of lines on holds stand on it (`cc_hold_rows`).
+//! The tests of lines on holds stand on it (`cc_hold_rows`), and those on cache maps and purges (`cc_map_rows`).
 #![tactic(auto)]
 
 mod devices;
+mod during;
 mod program;
 
 pub use devices::{LineFeeds, Moment, NarrowSink, UntoldDisk, WaitingDisk, WaitsIn};
-pub use program::{Row, Seen, disk, log_failing, run, run_logged, run_with};
+pub use during::run_during;
+pub use program::{
+    Row, Seen, disk, disk_failing, log_failing, run, run_logged, run_over, run_over_five, run_with,
+};
 
 #[cfg(test)]
 mod ample;

@@ -1,20 +1,15 @@
 -- A desk of which nothing happened yet may be called on, whoever acts.
-use Rattle.std.specs.Prelude.{◌≡◌, ℕ, false, List, length, refl}
+use Rattle.std.specs.Prelude.{◌≡◌, ℕ, length}
 use Rattle.std.specs.declared.option.Option.{Option}
-use Rattle.std.proofs.Common.{sym, subst, arith}
-use Rattle.cc_entry.specs.declared.entry.Entry.{Entry}
+use Rattle.std.proofs.Common.{arith}
 use Rattle.cc_traits.specs.Disk.{Disk}
 use Rattle.cc_traits.specs.Log.{Log}
-use Rattle.cc_model.specs.Passes.{up_to_call}
-use Rattle.cc_step.specs.Step.{owes_store}
 use Rattle.cc_turns.specs.Desk.{DeskState, IsFresh, standing_of}
 use Rattle.cc_calls.specs.Answers.{CanCall}
 
 pub can_at_first : {D L Q : Type 0} (told : D → Option Disk) (faults : D → ℕ) (log_told : L → Option Log) (log_faults : L → ℕ) (d e : DeskState D L Q) (pass s : ℕ) → IsFresh d.begun d × (length d.begun.disks ≡ 1) → e ≡ record d { pass = pass; since = d.last.entries } → s ≡ 0 → CanCall (standing_of told faults log_told log_faults e) s
-unfolding up_to_call
 can_at_first told faults log_told log_faults d e pass s fresh is at = rw is (rw at (record {
   known = omega (arith, fresh.1);
   free = fresh.0.held_is;
   none = omega (arith, fresh.0.journal_is.empty.1);
-  settled = subst (λ (past : List Entry). owes_store past pass ≡ false) (sym fresh.0.journal_is.empty.0) refl;
 }))

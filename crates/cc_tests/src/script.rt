@@ -16,7 +16,7 @@ fn wrong_line(answer: Result<Script, ScriptFault>) -> Option<u32> {
 }
 
 /// Scripts, each with its first wrong line.
-const SCRIPTS: [(&str, u32); 77] = [
+const SCRIPTS: [(&str, u32); 80] = [
     ("", 0),
     ("# a comment\n\n  \n\r\n  stream   a  8192 8192  \r", 0),
     (" # no comment", 1),
@@ -80,7 +80,11 @@ const SCRIPTS: [(&str, u32); 77] = [
     ),
     ("stream a 1 1\ncread a 0", 2),
     ("stream a 1 1\ncread b 0 1", 2),
-    ("stream a 1 1\ncread a:0 0 1", 2),
+    (
+        "stream a 1 1\ncread a:0 0 1\ncread a:15 0 1\ncread a:01 0 1",
+        4,
+    ),
+    ("stream a:0 1 1", 1),
     ("stream a 1 1\ncread a 0 2097152\ncread a 0 2097153", 3),
     (
         "stream a 1 1\ncwrite a 0 AB\ncwrite a 0 ABCD,00x2\ncwrite a 0 -\ncwrite a 0 AB,",
@@ -104,6 +108,11 @@ const SCRIPTS: [(&str, u32); 77] = [
         0,
     ),
     ("isdirty 0", 1),
+    (
+        "stream a 1 1\ninit a 1 2 3\nuninit a:1\npurge a\npurge a 1 1\ninit a 1 2",
+        6,
+    ),
+    ("stream a 1 1\ninit a 1 1 1 temporary quota 8", 2),
     ("stream a 1 1\nsetlog a 0\nt2 setlog a 3\nsetlog a 4", 4),
     ("stream a 1 1\nsetlog a", 2),
     ("stream a 1 1\nsetlog b 0", 2),
@@ -235,6 +244,51 @@ fn keeps_options(rt: HostRuntime) {
         options_of(rt.alloc(), unsaid),
         Some((16, false, true, 1024))
     );
+}
+
+/// Of a line that opens, closes or purges: the object of its file, and up to three numbers.
+fn numbers_of(action: &Action) -> Option<(u8, u64, u64, u64)> {
+    match action {
+        Action::Initialise { file, sizes, .. } => {
+            Some((file.object(), sizes.allocation, sizes.size, sizes.valid))
+        }
+        Action::Uninitialise {
+            file,
+            truncate: Some(size),
+        } => Some((file.object(), *size, 0, 0)),
+        Action::Purge {
+            file,
+            span: Some(span),
+        } => Some((file.object(), span.from(), span.to(), 0)),
+        _ => None,
+    }
+}
+
+fn numbers_at(script: &Script, place: usize) -> Option<(u8, u64, u64, u64)> {
+    numbers_of(&script.lines.as_slice().get(place)?.action)
+}
+
+/// The quota of a script's first action, where it opens a file, and whether it is temporary.
+fn opened(script: &Script) -> Option<(u8, bool)> {
+    match &script.lines.as_slice().first()?.action {
+        Action::Initialise {
+            quota,
+            temporary,
+            ..
+        } => Some((quota.blocks(), *temporary)),
+        _ => None,
+    }
+}
+
+#[test]
+fn keeps_files_and_their_numbers(rt: HostRuntime) -> Result<(), Fail> {
+    let text = b"stream a 9 7\ninit a:15 3 2 1 quota 8 temporary\nuninit a:15 6\npurge a 1 4";
+    let script = read_script(rt.alloc(), text, Mode::Run).ok().ok_or("read")?;
+    assert_eq!(rt; opened(&script), Some((8, true)));
+    assert_eq!(rt; numbers_at(&script, 0), Some((15, 3, 2, 1)));
+    assert_eq!(rt; numbers_at(&script, 1), Some((15, 6, 0, 0)));
+    assert_eq!(rt; numbers_at(&script, 2), Some((0, 1, 4, 0)));
+    Ok(())
 }
 
 /// A script of one text, and another so many times.

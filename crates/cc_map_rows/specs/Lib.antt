@@ -1,0 +1,1 @@
+-- The tests cite no definitions of their own.

@@ -1,0 +1,98 @@
+//! Each disk call of a script on a prepare, a repin and purges fails once.
+
+use cc_rows::{disk_failing, run_over};
+use std::alloc::AllocError;
+use std::sync::Wait;
+use std::test::Fail;
+use std::thread::Threads;
+
+/// A call of the disk that fails: the number of its read, write or sync, and 0 for the other two. What is answered
+/// then, up to the journal, and the table at the end.
+#[derive(Clone, Copy)]
+struct Fault {
+    read: u64,
+    write: u64,
+    sync: u64,
+    answers: &'static str,
+    table: &'static str,
+}
+
+/// Whether a script over a disk whose call fails answers so.
+fn is_answered<R: Threads + Wait + Sync>(
+    rt: &R,
+    alloc: std::alloc::Global,
+    script: &str,
+    fault: &Fault,
+) -> Result<bool, AllocError> {
+    let disk = disk_failing(alloc, &[fault.read], &[fault.write], &[fault.sync])?;
+    let seen = run_over(rt, alloc, script, disk)?;
+    Ok(seen.status == 0 && seen.text.starts_with(fault.answers) && seen.text.contains(fault.table))
+}
+
+const PURGED: &str = "stream a 8192 8192
+prepare a 0 4096 h zero excl
+pin a 0 16 k
+stamp h
+repin h r
+unpin h
+unrepin r through
+cwrite a 4096 AB
+purge a
+purge a
+cread a 0 2
+";
+
+// A prepare whose read fails makes no hold, so the pin of its first bytes is the first, and bars the purges.
+const PURGED_FAULTS: [Fault; 6] = [
+    Fault {
+        read: 1,
+        write: 0,
+        sync: 0,
+        answers: "setup\n1 ok\ncaller t1\n2 error 14 ReadFault 0\n3 ok hold 1\n4 no hold\n5 no hold\n6 no hold\n7 no hold\n8 ok\n9 error 8 Held 1\n10 error 8 Held 1\n11 ok 5Ax2\njournal\n",
+        table: "table\na 1 - -\ntrace\n",
+    },
+    Fault {
+        read: 2,
+        write: 0,
+        sync: 0,
+        answers: "setup\n1 ok\ncaller t1\n2 ok hold 1\n3 error 9 Busy 1\n4 ok\n5 ok hold 2\n6 ok\n7 ok\n8 error 14 ReadFault 1\n9 ok\n10 ok\n11 ok 00x2\njournal\n",
+        table: "cread a:0 0 2 = ok 00x2\ntrace\n",
+    },
+    Fault {
+        read: 3,
+        write: 0,
+        sync: 0,
+        answers: "setup\n1 ok\ncaller t1\n2 ok hold 1\n3 error 9 Busy 1\n4 ok\n5 ok hold 2\n6 ok\n7 ok\n8 ok\n9 ok\n10 ok\n11 error 14 ReadFault 0\njournal\n",
+        table: "cread a:0 0 2 = error 14 ReadFault 0\ntrace\n",
+    },
+    Fault {
+        read: 0,
+        write: 1,
+        sync: 0,
+        answers: "setup\n1 ok\ncaller t1\n2 ok hold 1\n3 error 9 Busy 1\n4 ok\n5 ok hold 2\n6 ok\n7 error 15 WriteFault 0\n8 ok\n9 ok\n10 ok\n11 ok 00x2\njournal\n",
+        table: "cread a:0 0 2 = ok 00x2\ntrace\n",
+    },
+    Fault {
+        read: 0,
+        write: 2,
+        sync: 0,
+        answers: "setup\n1 ok\ncaller t1\n2 ok hold 1\n3 error 9 Busy 1\n4 ok\n5 ok hold 2\n6 ok\n7 ok\n8 ok\n9 error 15 WriteFault 1\n10 ok\n11 ok 00x2\njournal\n",
+        table: "cread a:0 0 2 = ok 00x2\ntrace\n",
+    },
+    Fault {
+        read: 0,
+        write: 0,
+        sync: 1,
+        answers: "setup\n1 ok\ncaller t1\n2 ok hold 1\n3 error 9 Busy 1\n4 ok\n5 ok hold 2\n6 ok\n7 error 15 WriteFault 0\n8 ok\n9 ok\n10 ok\n11 ok 00x2\njournal\n",
+        table: "cread a:0 0 2 = ok 00x2\ntrace\n",
+    },
+];
+
+/// A purge whose page is not written leaves it, and the next one writes it.
+#[test]
+fn a_disk_fails_under_purges(rt: HostRuntime) -> Result<(), Fail> {
+    for fault in &PURGED_FAULTS {
+        assert!(rt; is_answered(&rt, rt.alloc(), PURGED, fault)?);
+    }
+    Ok(())
+}
