@@ -3,6 +3,7 @@ pub mod BookSteps
 pub mod BlocksToGo
 pub mod DoneSteps
 pub mod OwnedSteps
+mod StoreSteps
 pub mod ReadSteps
 pub mod ImageSteps
 pub mod DirtyRows

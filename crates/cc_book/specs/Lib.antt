@@ -1,3 +1,4 @@
 -- What the contracts cite.
 pub mod Book
 pub mod Read
+pub mod Stored

@@ -19,6 +19,7 @@ ghost use Rattle.cc_model.specs.Settings.{allocation_of, log_of, quota_of};
 ghost use Rattle.cc_model.specs.Touches.{is_mapped, size_of, valid_of};
 ghost use Rattle.cc_model.specs.Refusals.{refusal};
 ghost use Rattle.cc_model.specs.Setup.{Setup};
+ghost use Rattle.cc_model.specs.Stamps.{is_unstamped};
 ghost use Rattle.cc_effects.specs.Asked.{block_to_go};
 ghost use Rattle.cc_holds.specs.Stands.{owes_set_dirty, shown, shown_row};
 ghost use Rattle.cc_refusal.specs.Known.{IsLeastAbsent};
@@ -174,6 +175,14 @@ impl Book {
             result ≡ is_held (holds_of (history past self.now.stream)) page }
     {
         self.holds.is_held(page)
+    }
+
+    /// Whether an open pin changed the page and was not set dirty since (Unstamped).
+    pub fn is_unstamped(&self, page: u64) -> bool
+        ensures { (opening : Option (ℕ → List ℕ)) (past : List Entry) → BookStands opening past self.now →
+            result ≡ is_unstamped (history past self.now.stream) page }
+    {
+        self.holds.is_unstamped(page)
     }
 
     /// How many view blocks are mapped.

@@ -10,13 +10,15 @@ ghost use Rattle.cc_model.specs.Setup.{Setup};
 ghost use Rattle.cc_laws.proofs.HoldSteps.{changes_holds};
 ghost use Rattle.cc_content.specs.Contents.{ContentsStand};
 ghost use Rattle.cc_content.specs.Following.{truncated_by, takes_memory as contents_take};
+ghost use Rattle.cc_images.specs.Begins.{HasRoomToBegin};
 ghost use Rattle.cc_images.specs.Images.{ImagesStand};
 ghost use Rattle.cc_stream.specs.Stream.{StreamStands};
 ghost use Rattle.cc_ahead.specs.Kept.{PrivateStands};
 ghost use Rattle.cc_book.specs.Book.{BookStands, Gains, Stays, StandsAsBefore, done, MayDo, IsDoing, GoesOnBy, OwnsFor, IsRoomFor, ImagesMayFollow, ImagesFollow, takes_memory};
+ghost use Rattle.cc_book.specs.Stored.{MayStoreAndBegin, GainsStore};
 
 use crate::book::Book;
-use cc_entry::{Bytes, Call, Entry, NoMemory, Outcome, Reply};
+use cc_entry::{Bytes, Call, Entry, FileId, NoMemory, Outcome, PageId, Reply};
 use cc_events::id_in;
 use cc_images::Room;
 use cc_journal::Journal;
@@ -44,6 +46,7 @@ impl Book {
         ensures stream { self.new.stream ≡ self.old.stream }
         ensures err { OnErr result (Stays journal.old journal.new self.old self.new) }
         ensures sure { takes_memory call ≡ false → IsOk result }
+        ensures room { HasRoomToBegin self.old.images → OnOk result (HasRoomToBegin self.new.images) }
     {
         self.own(&call)?;
         let mapped = self.is_mapped_after(journal, &call);
@@ -61,11 +64,45 @@ impl Book {
         Ok(())
     }
 
+    /// A noncached store of these bytes of a page is done, and the page's transfer begins. What its end may need is taken
+    /// first, so where no memory is found no byte has changed.
+    pub fn store<Q>(
+        &mut self,
+        alloc: Global,
+        journal: &mut Journal<Q>,
+        pass: u32,
+        file: FileId,
+        page: PageId,
+        bytes: Bytes,
+    ) -> Result<(), NoMemory>
+        requires stream { page.stream ≡ self.old.stream }
+        requires reserved { 1 < journal.old.reserved }
+        requires may { (u : Setup) × MayStoreAndBegin u journal.old.entries pass file page bytes self.old }
+        ensures placed { OnOk result (GainsStore pass file page bytes journal.old journal.new) }
+        ensures stands { OnOk result ((u : Setup) →
+            MayStoreAndBegin u journal.old.entries pass file page bytes self.old →
+            BookStands (u.opening self.old.stream) journal.new.entries self.new) }
+        ensures stream { self.new.stream ≡ self.old.stream }
+        ensures err { OnErr result (Stays journal.old journal.new self.old self.new) }
+    {
+        self.images.reserve()?;
+        let call = Call::NcStore {
+            file,
+            page: page.page(),
+            bytes,
+        };
+        self.done(alloc, journal, pass, call, Reply::Unit)?;
+        self.images.began_reserved(self.contents.valid());
+        journal.push(Entry::WriteBegin { pass, page });
+        Ok(())
+    }
+
     // Makes the pages owned that a done call changes in place.
     fn own(&mut self, call: &Call) -> Result<(), NoMemory>
         requires may { (reply : Reply) × ((mapped : Bool) × IsDoing call.now reply mapped self.old) }
         ensures owned { OnOk result (OwnsFor self.new call.now) }
         ensures stands { StandsAsBefore self.old self.new }
+        ensures images { self.new.images ≡ self.old.images }
         ensures sure { takes_memory call.now ≡ false → IsOk result }
     {
         let truncation = truncation_by(&self.state, call);
@@ -106,6 +143,7 @@ impl Book {
             ImagesMayFollow u past pass call reply room was self.old →
             ImagesStand (Did pass call reply ∷ history past self.old.stream) self.new.images }
         ensures same { self.new ≡ record self.old { images = self.new.images } }
+        ensures room { HasRoomToBegin self.old.images → HasRoomToBegin self.new.images }
     {
         let valid = self.contents.valid();
         match room {

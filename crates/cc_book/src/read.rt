@@ -1,4 +1,4 @@
-//! What a read answers.
+//! The bytes that a read of resident pages answers, gathered page by page.
 
 ghost use Rattle.std.specs.Prelude.{◌≡◌, ℕ, ◌-◌, ◌/◌, ◌%◌, ◌<◌, true, List, Option, length, min, IfOk};
 ghost use Rattle.cc_entry.specs.declared.entry.Entry.{Entry};

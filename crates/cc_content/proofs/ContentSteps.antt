@@ -211,7 +211,7 @@ stands-went_out_unmapped opening pass page h c stands is =
     }
 
 -- a byte of a page that came in
-IsByteOf-filled : (opening : Option (ℕ → List ℕ)) (h : List Effect) (page j : ℕ) (raw bytes : List ℕ) → j < 4096 → IsReadFrom opening h page raw → IsClearedFrom (valid_of h - 4096 * page) raw bytes → IsByteOf opening h (4096 * page + j) (slice_index bytes j)
+pub IsByteOf-filled : (opening : Option (ℕ → List ℕ)) (h : List Effect) (page j : ℕ) (raw bytes : List ℕ) → j < 4096 → IsReadFrom opening h page raw → IsClearedFrom (valid_of h - 4096 * page) raw bytes → IsByteOf opening h (4096 * page + j) (slice_index bytes j)
 IsByteOf-filled None h page j raw bytes inside read cleared = λ past. cleared.above j (omega arith)
 IsByteOf-filled (Some pages) h page j raw bytes inside read cleared = go (nat_lt (4096 * page + j) (valid_of h)) refl
   where

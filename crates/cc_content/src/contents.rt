@@ -1,4 +1,4 @@
-//! The contents of one stream.
+//! The contents of one stream: its valid data length, and the bytes of its resident pages.
 
 ghost use Rattle.std.specs.Prelude.{◌≡◌, ℕ, ◌+◌, ◌-◌, ◌*◌, ◌<◌, ◌≤◌, not, List, [], ◌∷◌, length, IfSome, IfOk, OnOk, OnErr, Option, None, Some, Bool, is_some, false, slice_index};
 ghost use Rattle.std.specs.List.{find};
@@ -242,8 +242,8 @@ fn fill(pages: &mut ResidentPages, valid: u64, page: u64, raw: &[u8; 4096]) -> R
     Ok(())
 }
 
-// The bytes of a page, with 0 from a place on.
-fn cleared(raw: &[u8; 4096], from: u64) -> [u8; 4096]
+/// The bytes of a page, with 0 from a place on.
+pub fn cleared(raw: &[u8; 4096], from: u64) -> [u8; 4096]
     ensures { IsClearedFrom from raw.now result }
 {
     let mut bytes = *raw;

@@ -16,4 +16,4 @@ mod changes;
 mod contents;
 mod done;
 
-pub use contents::Contents;
+pub use contents::{Contents, cleared};

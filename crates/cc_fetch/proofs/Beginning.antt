@@ -34,14 +34,14 @@ module _ (w v x : Standing) (s : ℕ) (can : CanCall w s) (first : Takes (with_d
   number_first : v.number ≡ w.number
   number_first = ap (λ (y : Standing). y.number) first.same
 
-  number_both : x.number ≡ w.number
+  pub number_both : x.number ≡ w.number
   number_both = ap (λ (y : Standing). y.number) second.same ∙ number_first
 
-  setup_both : x.setup ≡ w.setup
+  pub setup_both : x.setup ≡ w.setup
   setup_both = ap (λ (y : Standing). y.setup) second.same ∙ ap (λ (y : Standing). y.setup) first.same
 
   -- the pass placed nothing
-  idle : IsIdle w.number w.seen x.seen
+  pub idle : IsIdle w.number w.seen x.seen
   idle = idle-then w.number w.seen v.seen x.seen
       (record { during = first.grows.later; grew = first.grows.grew; others = first.grows.others })
       (record { during = second.grows.later; grew = second.grows.grew; others = subst (λ (n : ℕ). Others n second.grows.later) number_first second.grows.others })

@@ -12,7 +12,7 @@ use Rattle.cc_visits.specs.Ways.{IsFull, IsFullError}
 use Rattle.cc_fetch.specs.Fetch.{most_room}
 use Rattle.cc_fetch.specs.Rounds.{IsFullCourse, course_of}
 
-full-more : (asked more : ℕ) (w : Standing) (e : CcError) → asked ≤ more → IsFullError asked w e → IsFullError more w e
+pub full-more : (asked more : ℕ) (w : Standing) (e : CcError) → asked ≤ more → IsFullError asked w e → IsFullError more w e
 full-more asked more w (error.JournalFull entries) most full =
     (full.0, less w.setup.capacity (length w.seen) (reserved_in w.seen + w.in_flight + w.others) full.1)
   where
@@ -20,7 +20,7 @@ full-more asked more w (error.JournalFull entries) most full =
     less capacity long owed short = omega (arith, short, most)
 full-more asked more w other most full = tt
 
-full-answer : {A : Type 0} (asked more : ℕ) (w : Standing) (r : Result A CcError) → asked ≤ more → IsFull asked w r → IsFull more w r
+pub full-answer : {A : Type 0} (asked more : ℕ) (w : Standing) (r : Result A CcError) → asked ≤ more → IsFull asked w r → IsFull more w r
 full-answer asked more w (Ok a) most full = tt
 full-answer asked more w (Err e) most full = full-more asked more w e most full
 

@@ -8,7 +8,7 @@ ghost use Rattle.cc_fetch.specs.Rounds.{is_next};
 /// went meanwhile is read with the book kept. The dirty pages of the block to give up are written so in one ascending
 /// round. Where one of them is dirty again, or another block is to go, the rest is written with the book kept.
 #[derive(Drop)]
-pub(crate) struct Rounds {
+pub struct Rounds {
     // Pages below it were read with the book free, or passed over.
     read_to: u64,
     // The block that is given up, where one is since a page was last read.
@@ -19,7 +19,7 @@ pub(crate) struct Rounds {
 
 impl Rounds {
     /// Nothing was read and nothing was written.
-    pub(crate) fn new() -> Rounds {
+    pub fn new() -> Rounds {
         Rounds {
             read_to: 0,
             block: None,
@@ -28,7 +28,7 @@ impl Rounds {
     }
 
     /// Whether the book is kept while this page is read, as the next transfer.
-    pub(crate) fn keeps_for_read(&mut self, page: u64) -> bool
+    pub fn keeps_for_read(&mut self, page: u64) -> bool
         ensures kept { result ≡ nat_lt page self.old.read_to }
         ensures passed { self.new.read_to ≡ max self.old.read_to (min (suc page) (2 ^ 64 - 1)) }
         ensures anew { self.new.block ≡ None }
@@ -41,7 +41,7 @@ impl Rounds {
     }
 
     /// Whether the book is kept while this page is written, as the next transfer.
-    pub(crate) fn keeps_for_write(&mut self, page: u64) -> bool
+    pub fn keeps_for_write(&mut self, page: u64) -> bool
         ensures kept { result ≡ not (is_next self.old.block self.old.written_to page) }
         ensures block { self.new.block ≡ Some (block_of page) }
         ensures passed { self.new.written_to ≡ (if result then 2 ^ 64 - 1 else min (suc page) (2 ^ 64 - 1)) }

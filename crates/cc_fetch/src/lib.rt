@@ -15,4 +15,6 @@ mod keeping;
 mod pages;
 mod rounds;
 
+pub use keeping::Rounds;
+pub use pages::read_free;
 pub use rounds::fetch;

@@ -116,8 +116,8 @@ fn read_page<T: Turns>(
     }
 }
 
-// Reads a page with the book given.
-fn read_free<T: Turns>(
+/// Reads a page with the book given.
+pub fn read_free<T: Turns>(
     turns: &mut T,
     disk: &mut T::Disk,
     book: Book,

@@ -5,7 +5,7 @@ use Rattle.cc_entry.specs.Pages.{block_of}
 use Rattle.cc_entry.specs.declared.call.Call.{Call}
 use Rattle.cc_entry.specs.declared.entry.Entry.TheVariants as entry
 use Rattle.cc_book.specs.Book.{BookState, Gains, GoesOn}
-use Rattle.cc_effects.specs.Asked.{brings_in, is_in_the_way}
+use Rattle.cc_effects.specs.Asked.{makes_room, is_in_the_way}
 use Rattle.cc_journal.specs.Journal.{JournalState}
 use Rattle.cc_model.specs.Good.{IsGood}
 use Rattle.cc_model.specs.History.{history}
@@ -14,7 +14,7 @@ use Rattle.cc_model.specs.Setup.{Setup}
 use Rattle.cc_model.specs.Touches.{size_of}
 use Rattle.cc_step.proofs.Attempts.{reserving, adds-reserving}
 use Rattle.cc_step.proofs.Placed.{so-far}
-use Rattle.cc_step.specs.Step.{is_stepped}
+use Rattle.cc_step.specs.Step.{is_answered}
 use Rattle.cc_fill.specs.Fill.{MayFill, page_of, MadeWay, HasToWrite}
 use Rattle.cc_fill.specs.Room.{IsCrowded, IsToGo, IsDirtyIn, IsLeastIn}
 use Rattle.cc_fill.proofs.Below.{resident-numbered}
@@ -23,13 +23,13 @@ use Rattle.cc_fill.proofs.Placed.{good-out, stand-onto}
 use Rattle.cc_fill.proofs.Rooms.{full}
 use Rattle.cc_fill.proofs.Waiting.{needs, filed-of}
 
-module _ {Q : Type 0} (u : Setup) (pass : ℕ) (it : Call) (waited block : ℕ) (b : BookState) (j : JournalState Q) (stepped : is_stepped it ≡ true) (brings : brings_in it ≡ true) (may : MayFill u pass it b j) (crowded : IsCrowded u j.entries it waited b) (to_go : IsToGo (history j.entries b.stream) (range_of (size_of (history j.entries b.stream)) it) block) where
+module _ {Q : Type 0} (u : Setup) (pass : ℕ) (it : Call) (waited block : ℕ) (b : BookState) (j : JournalState Q) (answered : is_answered it ≡ true) (room : makes_room it ≡ true) (may : MayFill u pass it b j) (crowded : IsCrowded u j.entries it waited b) (to_go : IsToGo (history j.entries b.stream) (range_of (size_of (history j.entries b.stream)) it) block) where
   pub going : Goes (history j.entries b.stream) block
   going = goes (history j.entries b.stream) it waited block (needs u j.entries b.stream it waited crowded.waits) to_go
 
   way : (p : ℕ) → block_of p ≡ block → is_in_the_way it (page_of b p) j.entries ≡ true
   way p here =
-      in-the-way j.entries b.stream it waited block p brings (filed-of _ pass b.stream p it stepped brings may.may.filed)
+      in-the-way j.entries b.stream it waited block p room (filed-of _ pass b.stream p it answered room may.may.filed)
       (full u j.entries b.stream waited (so-far u j.entries crowded.good) crowded.full) (needs u j.entries b.stream it waited crowded.waits) to_go here
 
   pub block-numbered : block < 2 ^ 45

@@ -10,7 +10,7 @@ use Rattle.cc_entry.specs.declared.call.Call.{Call}
 use Rattle.cc_entry.specs.declared.entry.Entry.{Entry}
 use Rattle.cc_content.proofs.Found.{Found-any, among-within}
 use Rattle.cc_content.proofs.Orders.{order_of_use-mapped}
-use Rattle.cc_effects.specs.Asked.{is_of, is_number, block_to_go, brings_in, makes_room, goes_for, is_in_the_way, goes_next, makes_way}
+use Rattle.cc_effects.specs.Asked.{is_of, is_number, block_to_go, makes_room, goes_for, is_in_the_way, goes_next, makes_way}
 use Rattle.cc_images.proofs.Found.{found-passes}
 use Rattle.cc_laws.proofs.BlockLists.{is_among-filter}
 use Rattle.cc_laws.proofs.Lists1.{among-any}
@@ -31,7 +31,7 @@ use Rattle.cc_fill.proofs.Below.{resident-numbered}
 use Rattle.cc_fill.proofs.Found.{not-true, found-among, block-among}
 use Rattle.cc_fill.proofs.Owed.{unheld-stamped}
 use Rattle.cc_fill.proofs.Rooms.{IsFull}
-use Rattle.cc_fill.proofs.Waiting.{Needs, brings-room}
+use Rattle.cc_fill.proofs.Waiting.{Needs}
 
 -- the block to give up is mapped, and no open hold has it
 pub record Goes (h : List Effect) (block : ℕ) : Type 0 where
@@ -50,9 +50,9 @@ goes h it page block n to_go = by (rw n.range_is at to_go)
         }
 
 -- so each of its pages is in the way of the call
-pub in-the-way : (past : List Entry) (s : ℕ) (it : Call) (page block p : ℕ) → brings_in it ≡ true → is_of (file_of it) (record { stream = s; page = p }) ≡ true → IsFull (history past s) page → (n : Needs (history past s) it page) → IsToGo (history past s) (range_of (size_of (history past s)) it) block → block_of p ≡ block → is_in_the_way it (record { stream = s; page = p }) past ≡ true
-in-the-way past s it page block p brings of is_full n to_go here =
-    and_from (makes_room it) _ (brings-room it brings) (and_from (is_of (file_of it) (record { stream = s; page = p })) _ of (rw n.range_is by))
+pub in-the-way : (past : List Entry) (s : ℕ) (it : Call) (page block p : ℕ) → makes_room it ≡ true → is_of (file_of it) (record { stream = s; page = p }) ≡ true → IsFull (history past s) page → (n : Needs (history past s) it page) → IsToGo (history past s) (range_of (size_of (history past s)) it) block → block_of p ≡ block → is_in_the_way it (record { stream = s; page = p }) past ≡ true
+in-the-way past s it page block p room of is_full n to_go here =
+    and_from (makes_room it) _ room (and_from (is_of (file_of it) (record { stream = s; page = p })) _ of (rw n.range_is by))
   where
     h : List Effect
     h = history past s

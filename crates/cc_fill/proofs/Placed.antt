@@ -17,13 +17,14 @@ use Rattle.cc_model.specs.History.{history}
 use Rattle.cc_model.specs.Legal.{IsLegal, IsLegalEntry}
 use Rattle.cc_model.specs.Setup.{Setup}
 use Rattle.cc_model.specs.Touches.{size_of}
+use Rattle.cc_step.proofs.Failing.{stepped-answered}
 use Rattle.cc_step.proofs.Placed.{so-far}
 use Rattle.cc_step.specs.Step.{StandUnder}
 use Rattle.cc_fill.specs.Fill.{page_of}
 use Rattle.cc_fill.specs.Landing.{MayBring}
 use Rattle.cc_fill.proofs.Found.{page-before}
 use Rattle.cc_fill.proofs.Rooms.{room-within}
-use Rattle.cc_fill.proofs.Waiting.{needs, waiting-mapped, waiting-within, filed-of}
+use Rattle.cc_fill.proofs.Waiting.{needs, waiting-mapped, waiting-within, filed-of, brings-room}
 
 -- where nothing is owed, any entry may follow
 nothing-owed : (e : Entry) (past : List Entry) → owed_begin past ≡ None → IsOwed (owed_begin past) e
@@ -71,9 +72,9 @@ comes-in u pass it page b j may =
     let n = needs u past b.stream it page may.wanted.waits in
     let admitted = may.wanted.waits.admitted in
     record {
-      mapped = waiting-mapped u past h it may.stepped may.brings admitted;
+      mapped = waiting-mapped u past h it (stepped-answered it may.stepped) (brings-room it may.brings) admitted;
       absent = n.absent;
-      below_size = below n.range.to (size_of h) (page-before n.range page n.has) (waiting-within u past h it n.range may.stepped may.brings admitted n.range_is);
+      below_size = below n.range.to (size_of h) (page-before n.range page n.has) (waiting-within u past h it n.range (stepped-answered it may.stepped) (brings-room it may.brings) admitted n.range_is);
       no_transfer = may.may.no_transfer;
       in_quota = room-within u past b.stream page (so-far u past stand.good) may.wanted.room;
       source = ap (nat_lt (4096 * page)) stand.stands.contents_are.valid_is;
@@ -87,5 +88,5 @@ pub is-reached : {Q : Type 0} (u : Setup) (pass : ℕ) (it : Call) (page : ℕ) 
 is-reached u pass it page b j may =
     let n = needs u j.entries b.stream it page may.wanted.waits in
     and_from (is_of (file_of it) (page_of b page)) _
-    (filed-of _ pass b.stream page it may.stepped may.brings may.may.may.filed)
+    (filed-of _ pass b.stream page it (stepped-answered it may.stepped) (brings-room it may.brings) may.may.may.filed)
     (rw n.range_is n.has)

@@ -14,7 +14,7 @@ use Rattle.cc_entry.specs.declared.call.Call.{Call}
 use Rattle.cc_entry.specs.declared.entry.Entry.{Entry}
 use Rattle.cc_content.proofs.Found.{IsDistinct-front}
 use Rattle.cc_content.proofs.Orders.{order_of_use-distinct, order_of_use-mapped, length-mapped}
-use Rattle.cc_effects.specs.Asked.{block_to_go, brings_in}
+use Rattle.cc_effects.specs.Asked.{block_to_go, makes_room}
 use Rattle.cc_laws.proofs.BlockPages.{is_member-among}
 use Rattle.cc_laws.proofs.Lists1.{count-le}
 use Rattle.cc_laws.proofs.OrderedPasts.{IsOrderOfMapped-legal}
@@ -31,10 +31,10 @@ use Rattle.cc_model.specs.Settings.{quota_of}
 use Rattle.cc_model.specs.Setup.{Setup}
 use Rattle.cc_model.specs.Touches.{size_of}
 use Rattle.cc_model.specs.Views.{needed_blocks, no_views}
-use Rattle.cc_step.specs.Step.{is_stepped}
+use Rattle.cc_step.specs.Step.{is_answered}
 use Rattle.cc_fill.specs.Room.{has_room, IsWaiting}
 use Rattle.cc_fill.proofs.Found.{none-passes, block-among}
-use Rattle.cc_fill.proofs.Waiting.{Needs, brings-viewed}
+use Rattle.cc_fill.proofs.Waiting.{Needs, room-viewed}
 
 -- one block more is at most one more
 counted-more : (b : ℕ) (bs : List ℕ) → distinct_count nat_eq (b ∷ bs) ≤ suc (distinct_count nat_eq bs)
@@ -89,16 +89,16 @@ full u past s page good none =
     even a b x y = omega arith
 
 -- nothing refuses the call, so the blocks of open holds and of its range are within the quota
-needed-within : (u : Setup) (past : List Entry) (s : ℕ) (it : Call) (r : Range) → is_stepped it ≡ true → brings_in it ≡ true → refusal u past (history past s) it ≡ None → range_of (size_of (history past s)) it ≡ Some r → needed_blocks (holds_of (history past s)) r ≤ quota_of (history past s)
-needed-within u past s it r stepped brings admitted is =
+needed-within : (u : Setup) (past : List Entry) (s : ℕ) (it : Call) (r : Range) → is_answered it ≡ true → makes_room it ≡ true → refusal u past (history past s) it ≡ None → range_of (size_of (history past s)) it ≡ Some r → needed_blocks (holds_of (history past s)) r ≤ quota_of (history past s)
+needed-within u past s it r answered room admitted is =
     let h = history past s in
     let views = (unrefused u past h it admitted).within_quota in
-    let seen : no_views h (Some r) ≡ None = ap (no_views h) (sym (brings-viewed h it (range_of (size_of h) it) stepped brings ∙ is)) ∙ views in
+    let seen : no_views h (Some r) ≡ None = ap (no_views h) (sym (room-viewed h it (range_of (size_of h) it) answered room ∙ is)) ∙ views in
     ltb-false (quota_of h) (needed_blocks (holds_of h) r) (refuse_if-none (nat_lt (quota_of h) (needed_blocks (holds_of h) r)) _ seen)
 
 -- so one of the mapped blocks is none of these
-pub some-to-go : (u : Setup) (past : List Entry) (s : ℕ) (it : Call) (page : ℕ) → is_stepped it ≡ true → brings_in it ≡ true → IsGood u past → IsGoodSoFar u past → IsWaiting u past s it page → has_room (history past s) page ≡ false → (n : Needs (history past s) it page) → block_to_go (history past s) n.range ≡ None → ⊥
-some-to-go u past s it page stepped brings good so_far waits none n none_to_go = over (length order) (mapped_blocks h) (quota_of h) _ _ counted is_full.all_taken whole few (needed-within u past s it n.range stepped brings waits.admitted n.range_is)
+pub some-to-go : (u : Setup) (past : List Entry) (s : ℕ) (it : Call) (page : ℕ) → is_answered it ≡ true → makes_room it ≡ true → IsGood u past → IsGoodSoFar u past → IsWaiting u past s it page → has_room (history past s) page ≡ false → (n : Needs (history past s) it page) → block_to_go (history past s) n.range ≡ None → ⊥
+some-to-go u past s it page answered room good so_far waits none n none_to_go = over (length order) (mapped_blocks h) (quota_of h) _ _ counted is_full.all_taken whole few (needed-within u past s it n.range answered room waits.admitted n.range_is)
   where
     h : List Effect
     h = history past s

@@ -76,6 +76,15 @@ NextLeft u pass it (next.Writes page again) b c j k = HasToWrite u page it again
 NextLeft u pass it (next.Reads page again) b c j k = HasToRead u page it again b c j k
 NextLeft u pass it (next.Stopped e) b c j k = IsStop (most_asked it) e j × FoundNone u b c j k
 
+-- Room is made: a page went out, or one is to be written before, or the journal's room or memory was wanting.
+abbrev pub MakesWay : Next → Type 0
+MakesWay next.Done = ⊥
+MakesWay (next.Refused e) = ⊥
+MakesWay (next.WentOut again) = Unit {0}
+MakesWay (next.Writes page again) = Unit {0}
+MakesWay (next.Reads page again) = ⊥
+MakesWay (next.Stopped e) = Unit {0}
+
 -- What was read of a page, where it was read, is what its stream's disk has of it, if the page is not resident.
 abbrev pub IsRead : Setup → List Entry → ℕ → ℕ → Option (List ℕ) → Type 0
 IsRead u past s page None = Unit {0}

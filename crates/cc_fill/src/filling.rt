@@ -1,14 +1,13 @@
 //! What a call that may bring pages in does next on its book.
 
 ghost use Rattle.std.specs.Prelude.{◌≡◌, ℕ, true, None};
-ghost use Rattle.cc_effects.specs.Asked.{brings_in, makes_way};
-ghost use Rattle.cc_model.specs.Conditions.{MayGoOut};
+ghost use Rattle.cc_effects.specs.Asked.{brings_in, makes_room};
 ghost use Rattle.cc_model.specs.History.{history};
 ghost use Rattle.cc_model.specs.Ranges.{range_of};
 ghost use Rattle.cc_model.specs.Setup.{Setup};
 ghost use Rattle.cc_model.specs.Touches.{size_of};
-ghost use Rattle.cc_step.specs.Step.{is_stepped};
-ghost use Rattle.cc_fill.specs.Fill.{page_of, MayFill, NextLeft};
+ghost use Rattle.cc_step.specs.Step.{is_answered, is_stepped};
+ghost use Rattle.cc_fill.specs.Fill.{MayFill, NextLeft, MakesWay};
 ghost use Rattle.cc_fill.specs.Room.{IsWaiting, IsCrowded, IsToGo, IsDirtyIn};
 
 use crate::room::{block_to_go, dirty_in, has_room, least_in, page_id};
@@ -68,21 +67,23 @@ fn bring<Q>(
     }
 }
 
-// Makes room for the block of the page that a call waits for.
-fn make_room<Q>(
+/// Makes room for the block of the page that a call waits for: a dirty page of the block to give up is to be written, or
+/// its least page goes out.
+pub fn make_room<Q>(
     alloc: Global,
     book: &mut Book,
     journal: &mut Journal<Q>,
     pass: u32,
     call: Call,
 ) -> Next
-    requires stepped { is_stepped call ≡ true }
-    requires brings { brings_in call ≡ true }
+    requires answered { is_answered call ≡ true }
+    requires room { makes_room call ≡ true }
     requires may { (u : Setup) × (page : ℕ) × MayFill u pass call book.old journal.old
         × IsCrowded u journal.old.entries call page book.old }
-    ensures { (u : Setup) (page : ℕ) → MayFill u pass call book.old journal.old →
+    ensures left { (u : Setup) (page : ℕ) → MayFill u pass call book.old journal.old →
         IsCrowded u journal.old.entries call page book.old →
         NextLeft u pass call result book.old book.new journal.old journal.new }
+    ensures way { MakesWay result }
 {
     match block_to_go(alloc, book, &call) {
         Ok(block) => give_up(book, journal, pass, block, call),
@@ -92,17 +93,18 @@ fn make_room<Q>(
 
 // Goes on with the block to give up: a dirty page of it is to be written, or its least page goes out.
 fn give_up<Q>(book: &mut Book, journal: &mut Journal<Q>, pass: u32, block: u64, call: Call) -> Next
-    requires stepped { is_stepped call ≡ true }
-    requires brings { brings_in call ≡ true }
+    requires answered { is_answered call ≡ true }
+    requires room { makes_room call ≡ true }
     requires may { (u : Setup) × (page : ℕ) × MayFill u pass call book.old journal.old
         × IsCrowded u journal.old.entries call page book.old
         × IsToGo (history journal.old.entries book.old.stream)
         (range_of (size_of (history journal.old.entries book.old.stream)) call) block }
-    ensures { (u : Setup) (page : ℕ) → MayFill u pass call book.old journal.old →
+    ensures left { (u : Setup) (page : ℕ) → MayFill u pass call book.old journal.old →
         IsCrowded u journal.old.entries call page book.old →
         IsToGo (history journal.old.entries book.old.stream)
         (range_of (size_of (history journal.old.entries book.old.stream)) call) block →
         NextLeft u pass call result book.old book.new journal.old journal.new }
+    ensures way { MakesWay result }
 {
     match dirty_in(book, journal, block) {
         Some(page) => Next::Writes(page, call),
@@ -112,19 +114,20 @@ fn give_up<Q>(book: &mut Book, journal: &mut Journal<Q>, pass: u32, block: u64, 
 
 // Takes the least page out of the block to give up, of which no page is dirty.
 fn empty<Q>(book: &mut Book, journal: &mut Journal<Q>, pass: u32, block: u64, call: Call) -> Next
-    requires stepped { is_stepped call ≡ true }
-    requires brings { brings_in call ≡ true }
+    requires answered { is_answered call ≡ true }
+    requires room { makes_room call ≡ true }
     requires may { (u : Setup) × (page : ℕ) × MayFill u pass call book.old journal.old
         × IsCrowded u journal.old.entries call page book.old
         × IsToGo (history journal.old.entries book.old.stream)
         (range_of (size_of (history journal.old.entries book.old.stream)) call) block
         × IsDirtyIn (history journal.old.entries book.old.stream) block None }
-    ensures { (u : Setup) (page : ℕ) → MayFill u pass call book.old journal.old →
+    ensures left { (u : Setup) (page : ℕ) → MayFill u pass call book.old journal.old →
         IsCrowded u journal.old.entries call page book.old →
         IsToGo (history journal.old.entries book.old.stream)
         (range_of (size_of (history journal.old.entries book.old.stream)) call) block →
         IsDirtyIn (history journal.old.entries book.old.stream) block None →
         NextLeft u pass call result book.old book.new journal.old journal.new }
+    ensures way { MakesWay result }
 {
     let page = least_in(book, block).unwrap();
     match journal.reserve(1) {

@@ -17,6 +17,7 @@ mod landing;
 mod room;
 mod ways;
 
-pub use filling::next;
+pub use filling::{make_room, next};
 pub use landing::{land, unread};
+pub use room::has_room;
 pub use ways::Next;

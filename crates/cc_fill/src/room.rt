@@ -6,12 +6,13 @@ ghost use Rattle.std.specs.Option.{option_map};
 ghost use Rattle.cc_entry.specs.declared.entry.Entry.{Entry};
 ghost use Rattle.cc_book.specs.Book.{BookStands};
 ghost use Rattle.cc_dirty.specs.declared.row.Row.{Row};
-ghost use Rattle.cc_effects.specs.Asked.{brings_in};
+ghost use Rattle.cc_effects.specs.Asked.{makes_room};
 ghost use Rattle.cc_model.specs.History.{history};
 ghost use Rattle.cc_model.specs.Ranges.{range_of, cut_range};
 ghost use Rattle.cc_model.specs.Setup.{Setup};
+ghost use Rattle.cc_model.specs.Sizes.{stored_range};
 ghost use Rattle.cc_model.specs.Touches.{size_of, valid_of};
-ghost use Rattle.cc_step.specs.Step.{is_stepped};
+ghost use Rattle.cc_step.specs.Step.{is_answered};
 ghost use Rattle.cc_fill.specs.Fill.{page_of};
 ghost use Rattle.cc_fill.specs.Room.{has_room, IsWaiting, IsCrowded, IsToGo, is_in, IsDirtyIn, IsLeastIn};
 
@@ -38,7 +39,7 @@ pub(crate) fn has_valid_byte(book: &Book, page: u64) -> bool
 }
 
 /// Whether the block of a page is mapped, or fewer blocks than the quota are.
-pub(crate) fn has_room(book: &Book, page: u64) -> bool
+pub fn has_room(book: &Book, page: u64) -> bool
     ensures { (opening : Option (ℕ → List ℕ)) (past : List Entry) → BookStands opening past book.now →
         result ≡ has_room (history past book.now.stream) page }
 {
@@ -47,8 +48,8 @@ pub(crate) fn has_room(book: &Book, page: u64) -> bool
 
 /// The block to give up for a call that waits for a page for whose block there is no room.
 pub(crate) fn block_to_go(alloc: Global, book: &Book, call: &Call) -> Result<u64, NoMemory>
-    requires stepped { is_stepped call.now ≡ true }
-    requires brings { brings_in call.now ≡ true }
+    requires answered { is_answered call.now ≡ true }
+    requires room { makes_room call.now ≡ true }
     requires crowded { (u : Setup) × (past : List Entry) × (page : ℕ) × IsCrowded u past call.now page book.now }
     ensures { IfOk result (λ block. (u : Setup) (past : List Entry) (page : ℕ) →
         IsCrowded u past call.now page book.now →
@@ -61,8 +62,8 @@ pub(crate) fn block_to_go(alloc: Global, book: &Book, call: &Call) -> Result<u64
 
 // The range of a call that waits for a page.
 fn span_of(book: &Book, call: &Call) -> Option<Span>
-    requires stepped { is_stepped call.now ≡ true }
-    requires brings { brings_in call.now ≡ true }
+    requires answered { is_answered call.now ≡ true }
+    requires room { makes_room call.now ≡ true }
     ensures { (u : Setup) (opening : Option (ℕ → List ℕ)) (past : List Entry) (page : ℕ) →
         BookStands opening past book.now → IsWaiting u past book.now.stream call.now page →
         result ≡ range_of (size_of (history past book.now.stream)) call.now }
@@ -76,8 +77,21 @@ fn span_of(book: &Book, call: &Call) -> Option<Span>
         Call::PreparePin { at, len, .. } => span_below(book, *at, *len),
         Call::MdlRead { at, len, .. } => span_below(book, *at, *len),
         Call::MdlWrite { at, len, .. } => span_below(book, *at, *len),
+        Call::NcWrite { page, .. } => stored_span(book, *page),
         _ => None,
     }
+}
+
+// The bytes of a page as far as the size, where it has any.
+fn stored_span(book: &Book, page: u64) -> Option<Span>
+    ensures { (opening : Option (ℕ → List ℕ)) (past : List Entry) → BookStands opening past book.now →
+        let size = size_of (history past book.now.stream) in
+        4096 * page < size → result ≡ Some (stored_range page size) }
+{
+    if page < book.size().div_ceil(4096) {
+        return span_below(book, 4096 * page, 4096);
+    }
+    None
 }
 
 // So many bytes from a place on, as far as the size, where there is one.

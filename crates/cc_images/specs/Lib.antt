@@ -3,3 +3,4 @@ pub mod Images
 pub mod Changes
 pub mod Following
 pub mod Dirty
+pub mod Begins

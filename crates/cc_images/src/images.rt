@@ -13,6 +13,7 @@ ghost use Rattle.cc_model.specs.History.{Effect, Did, Began, Ended, history};
 ghost use Rattle.cc_model.specs.Ranges.{span_has};
 ghost use Rattle.cc_model.specs.Setup.{Setup};
 ghost use Rattle.cc_model.specs.Touches.{valid_of, dirty_pages};
+ghost use Rattle.cc_images.specs.Begins.{HasRoomToBegin};
 ghost use Rattle.cc_images.specs.Images.{ImagesStand};
 ghost use Rattle.cc_images.specs.Following.{MayFollow, IsFollowing, MayOpen, MayEnd, IsEnding};
 ghost use Rattle.cc_images.specs.Dirty.{AreDirty};
@@ -66,7 +67,8 @@ impl Images {
     /// Follows an initialise that makes the shared map (`CcInitializeCacheMap`), with this valid data length, given
     /// room for its quota. It takes no memory.
     pub fn opened(&mut self, room: Room, valid: u64)
-        ensures { (u : Setup) (past : List Entry) (pass nth s : ℕ) (file : File) (sizes : FileSizes) (quota : ℕ)
+        ensures room { HasRoomToBegin self.old → HasRoomToBegin self.new }
+        ensures stands { (u : Setup) (past : List Entry) (pass nth s : ℕ) (file : File) (sizes : FileSizes) (quota : ℕ)
             (temporary : Bool) (reply : Reply) →
             MayOpen u past pass nth s file sizes quota temporary reply self.old →
             sizes.valid ≡ valid → 64 * quota ≤ room →
@@ -79,7 +81,8 @@ impl Images {
     /// Follows any other call that was done, given the valid data lengths before and after it. It takes no memory.
     pub fn done(&mut self, was: u64, now: u64)
         requires may { IsFollowing self.old was now }
-        ensures { (u : Setup) (past : List Entry) (pass nth s : ℕ) (call : Call) (reply : Reply) →
+        ensures room { HasRoomToBegin self.old → HasRoomToBegin self.new }
+        ensures stands { (u : Setup) (past : List Entry) (pass nth s : ℕ) (call : Call) (reply : Reply) →
             MayFollow u past pass nth s call reply self.old was now →
             ImagesStand (Did pass call reply ∷ history past s) self.new }
     {
@@ -91,14 +94,33 @@ impl Images {
         }
     }
 
+    /// Takes the memory that the end of a page's transfer may need.
+    pub fn reserve(&mut self) -> Result<(), NoMemory>
+        ensures room { OnOk result (HasRoomToBegin self.new) }
+        ensures stands { (h : List Effect) → ImagesStand h self.old → ImagesStand h self.new }
+        ensures err { OnErr result (self.new ≡ self.old) }
+    {
+        self.unknown.reserve(1)?;
+        Ok(())
+    }
+
+    /// Follows the begin of a page's transfer, at this valid data length, for whose end the memory is taken.
+    pub fn began_reserved(&mut self, valid: u64)
+        requires room { HasRoomToBegin self.old }
+        ensures { (h : List Effect) (pass page : ℕ) → ImagesStand h self.old →
+            valid ≡ valid_of h → ImagesStand (Began pass page ∷ h) self.new }
+    {
+        self.begun = valid;
+    }
+
     /// Follows the begin of a page's transfer, at this valid data length. Its end takes no memory.
     pub fn began(&mut self, valid: u64) -> Result<(), NoMemory>
         ensures stands { OnOk result ((h : List Effect) (pass page : ℕ) → ImagesStand h self.old →
             valid ≡ valid_of h → ImagesStand (Began pass page ∷ h) self.new) }
         ensures err { OnErr result (self.new ≡ self.old) }
     {
-        self.unknown.reserve(1)?;
-        self.begun = valid;
+        self.reserve()?;
+        self.began_reserved(valid);
         Ok(())
     }
 

@@ -1,4 +1,4 @@
-//! A push where there is room.
+//! Puts a number at the end of a vector that has room for it, so it takes no memory.
 
 ghost use Rattle.std.specs.Prelude.{◌≡◌, ◌+◌, ◌<◌, ◌≤◌, [], ◌∷◌, ◌++◌, vec_len, vec_capacity};
 

@@ -1,6 +1,6 @@
 -- What the past owes after the entry of a call that changes no hold: as before, but for the end of a noncached write of
 -- its pass.
-use Rattle.std.specs.Prelude.{◌≡◌, ℕ, ◌+◌, ◌≤◌, Bool, true, false, ◌||◌, ◌==◌, List, [], ◌∷◌, Option, Some, refl, if◌then◌else◌}
+use Rattle.std.specs.Prelude.{◌≡◌, ℕ, suc, ◌+◌, ◌≤◌, Bool, true, false, ◌||◌, ◌==◌, List, [], ◌∷◌, Option, Some, refl, if◌then◌else◌}
 use Rattle.std.proofs.Common.{ap, sym, ◌∙◌, subst, arith}
 use Rattle.std.proofs.lemmas.Bool.{eqb-true, eq-eqb}
 use Rattle.std.specs.List.{sum_by}
@@ -188,3 +188,20 @@ owed-least past pass = within _ _ _ _ (skip past pass [] (pass ∷ []) (λ n. re
   where
     within : (sums stores owed rest : ℕ) → stores ≡ owed + rest → owed ≤ sums + stores
     within sums stores owed rest is = omega (arith, is)
+
+-- The entry of a noncached store that is done reserves that of the write's end.
+stores-stored : (past : List Entry) (pass nth : ℕ) (stream : Option ℕ) (it : Call) (ended : Outcome) → is_store it ended ≡ true → owed_end past pass + stores_unfinished [] (entry.Call pass nth stream it ended ∷ past) ≡ suc (stores_unfinished [] past)
+stores-stored past pass nth stream it ended store =
+    more _ _ _ _ (stores-new pass nth stream it ended past [] refl ∙ rw store refl) (skip past pass [] (pass ∷ []) (λ n. refl) refl)
+  where
+    more : (owed now rest before : ℕ) → now ≡ 1 + rest → before ≡ owed + rest → owed + now ≡ suc before
+    more owed now rest before is was = omega (arith, is, was)
+
+pub reserved-stored : (past : List Entry) (pass nth stream : ℕ) (it : Call) (r : Reply) → is_store it (outcome.Done r) ≡ true → changes_holds it ≡ false → owed_end past pass + reserved_in (entry.Call pass nth (Some stream) it (outcome.Done r) ∷ past) ≡ suc (reserved_in past)
+unfolding reserved_in
+reserved-stored past pass nth stream it r store kept =
+    rw (sum-same (λ s. owed_by_stream (history (entry.Call pass nth (Some stream) it (outcome.Done r) ∷ past) s)) (λ s. owed_by_stream (history past s)) all_streams (λ s. owed-done past pass nth stream s it r kept))
+    (with-store _ _ _ _ (stores-stored past pass nth (Some stream) it (outcome.Done r) store))
+  where
+    with-store : (owed sums now before : ℕ) → owed + now ≡ suc before → owed + (sums + now) ≡ suc (sums + before)
+    with-store owed sums now before is = omega (arith, is)

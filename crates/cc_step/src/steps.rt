@@ -1,4 +1,4 @@
-//! The step of a call.
+//! The step of a call: refused, done with its entry, waiting for a page, or stopped for want of room or memory.
 
 ghost use Rattle.std.specs.Prelude.{◌≡◌, ℕ, suc, ◌<◌, true, List, Option, None, Some, IfOk};
 ghost use Rattle.cc_entry.specs.declared.entry.Entry.{Entry};

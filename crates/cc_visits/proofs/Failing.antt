@@ -1,5 +1,5 @@
 -- A call that was halted by a fault ends in a visit: with the fault, or with a refusal that others brought about.
-use Rattle.std.specs.Prelude.{◌≡◌, ℕ, suc, Bool, true, List, [], ◌∷◌, Some, Err}
+use Rattle.std.specs.Prelude.{◌≡◌, ℕ, suc, Bool, true, List, [], ◌∷◌, Some, Err, refl}
 use Rattle.std.proofs.Common.{ap, sym, subst, inl, inr}
 use Rattle.cc_entry.specs.declared.call.Call.{Call}
 use Rattle.cc_entry.specs.declared.entry.Entry.{Entry}
@@ -26,7 +26,7 @@ use Rattle.cc_turns.specs.Takes.{without_journal}
 use Rattle.cc_visits.specs.Hands.{HasBook, SameDisk}
 use Rattle.cc_visits.specs.Told.{answer_of}
 use Rattle.cc_visits.specs.Visits.{IsFiledNow}
-use Rattle.cc_visits.specs.Ways.{IsFull, IsHalted}
+use Rattle.cc_visits.specs.Ways.{IsFull, IsHalted, IsReason, is_met}
 use Rattle.cc_visits.proofs.Attempting.{filed-front, may-step, number-is, visited-refused, visited-same, full-refused, full-stop}
 use Rattle.cc_visits.proofs.Disks.{disk-call, disk-then}
 use Rattle.cc_visits.proofs.Ending.{fault-is, told-left, overtaken-left, full-halted, memoryless-halted}
@@ -36,6 +36,13 @@ use Rattle.cc_visits.proofs.Placing.{stepping-failed}
 use Rattle.cc_visits.proofs.Refusals.{MayStop, stops-free, tells-free}
 use Rattle.cc_visits.proofs.Resting.{disk-held}
 use Rattle.cc_visits.proofs.Visiting.{Visiting, Visited, visited}
+
+-- a fault is an error that was met
+met-fault : (e : CcError) → is_fault e ≡ true → is_met e ≡ true
+met-fault (error.ReadFault page) fault = refl
+met-fault (error.WriteFault page) fault = refl
+met-fault (error.LogFault handle) fault = refl
+met-fault other fault = absurd (cc)
 
 -- a fault says nothing of a full journal
 full-fault : (A : Type 0) (w : Standing) (e : CcError) → is_fault e ≡ true → IsFull {A = A} 1 w (Err e)
@@ -113,3 +120,13 @@ module _ {Q : Type 0} (posted : Q → Bool) (w v : Standing) (it : Call) (b c : 
   full-fail (ended.Refused e) left = full-refused posted w v it b c j k has vis here filed (Unit {0}) 1 e left
   full-fail ended.Told left = full-fault (Unit {0}) (without_journal k v) fault is-fault
   full-fail (ended.Stopped e) left = full-stop posted w v it b c j k has vis here filed (Unit {0}) 1 e left.0 left.1.same_journal (visited-fail (ended.Stopped e) left)
+
+  -- why it is answered so
+  pub reason-fail : (end : Failed) → FailLeft w.setup w.number it fault end b c j k → IsReason w.setup b.stream it (answer_of end fault)
+  reason-fail (ended.Refused e) left = inr (j.entries, left.reason)
+  reason-fail ended.Told left = inl (met-fault fault is-fault)
+  reason-fail (ended.Stopped e) left = inl (met-stop e left.0)
+    where
+      met-stop : (x : CcError) → IsStop 1 x j → is_met x ≡ true
+      met-stop x (inl full) = ap is_met full.0
+      met-stop x (inr none) = ap is_met none.0

@@ -43,8 +43,8 @@ reads it page past may alone = go (reads_noncached it)
     go false = rw (may, alone) refl
 
 -- the disk fails to read a page that was wanted for the call
-pub halts : (u : Setup) (me s page : ℕ) (it : Call) (begun front : List Entry) → IsUnderWay me it begun front → brings_in it ≡ true → is_on_disk_alone (record { stream = s; page = page }) front ≡ true → WasWanted u it (record { stream = s; page = page }) begun front → IsHalted u me s it (error.ReadFault page) begun (entry.FillFailed me (record { stream = s; page = page }) ∷ front)
-halts u me s page it begun front way may alone wanted = record {
+pub halts-read : (u : Setup) (me s page : ℕ) (it : Call) (begun front : List Entry) → IsUnderWay me it begun front → may_read it (record { stream = s; page = page }) front ≡ true → WasWanted u it (record { stream = s; page = page }) begun front → IsHalted u me s it (error.ReadFault page) begun (entry.FillFailed me (record { stream = s; page = page }) ∷ front)
+halts-read u me s page it begun front way may wanted = record {
   fault = ReadFailed page;
   is = eq-eqb page page refl;
   failed = record {
@@ -53,7 +53,7 @@ halts u me s page it begun front way may alone wanted = record {
       during = stop ∷ way.during;
       grew = ap (λ l. stop ∷ l) way.grew;
       works = record {
-        each = ((λ is. (subst (λ (past : List Entry). may_read it place past ≡ true) way.grew (reads it place front may alone), reached)), way.works.each);
+        each = ((λ is. (subst (λ (past : List Entry). may_read it place past ≡ true) way.grew may, reached)), way.works.each);
         one_sync = rw (eq-eqb me me refl) way.works.one_sync;
         whole = rw (eq-eqb me me refl) way.works.whole;
       };
@@ -77,6 +77,11 @@ halts u me s page it begun front way may alone wanted = record {
     reached : AtSome (λ moment. reaches it place moment ≡ true) begun (way.during ++ begun)
     reached = subst (λ (past : List Entry). AtSome (λ moment. reaches it place moment ≡ true) begun past) way.grew
         (some-implies (λ moment. (refusal u moment (history moment s) it ≡ None) × (reaches it place moment ≡ true)) (λ moment. reaches it place moment ≡ true) begun front (λ past both. both.1) wanted)
+
+-- so where it was to come in
+pub halts : (u : Setup) (me s page : ℕ) (it : Call) (begun front : List Entry) → IsUnderWay me it begun front → brings_in it ≡ true → is_on_disk_alone (record { stream = s; page = page }) front ≡ true → WasWanted u it (record { stream = s; page = page }) begun front → IsHalted u me s it (error.ReadFault page) begun (entry.FillFailed me (record { stream = s; page = page }) ∷ front)
+halts u me s page it begun front way may alone wanted =
+    halts-read u me s page it begun front way (reads it (record { stream = s; page = page }) front may alone) wanted
 
 at-end : (b : Bool) → (b || true) ≡ true
 at-end true = refl

@@ -34,7 +34,7 @@ read-short : (h : List Effect) (at len : ℕ) → answer_length h at len ≤ len
 read-short h at len = omega arith
 
 -- a read answers at most as many bytes as it asks for
-reads-fit : (told : Option (ℕ → List ℕ)) (h : List Effect) (at len : ℕ) (r : Reply) (out : List ℕ) → Reads told h at len r → len ≤ length out → FitsReply r out
+pub reads-fit : (told : Option (ℕ → List ℕ)) (h : List Effect) (at len : ℕ) (r : Reply) (out : List ℕ) → Reads told h at len r → len ≤ length out → FitsReply r out
 unfolding answer
 reads-fit None h at len r out reads fits =
     let short = read-short h at len in

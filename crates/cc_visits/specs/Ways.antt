@@ -1,5 +1,5 @@
 -- How far a call came, or another work of a pass: it is under way, or was stopped, or ended.
-use Rattle.std.specs.Prelude.{◌≡◌, ℕ, ◌+◌, ◌<◌, ◌≤◌, true, Result, Ok, Err, List, [], ◌∷◌, ◌++◌, length, take, drop}
+use Rattle.std.specs.Prelude.{◌≡◌, ℕ, ◌+◌, ◌<◌, ◌≤◌, ◌⊎◌, Bool, true, false, Result, Ok, Err, List, [], ◌∷◌, ◌++◌, length, take, drop}
 use Rattle.std.specs.declared.option.Option.TheVariants.{Some, None}
 use Rattle.cc_entry.specs.Place.{Page}
 use Rattle.cc_entry.specs.declared.call.Call.{Call}
@@ -64,6 +64,19 @@ pub record IsHalted (u : Setup) (me s : ℕ) (it : Call) (e : CcError) (old new 
   pub is : tells it e fault ≡ true
   pub failed : HasFailed me (Calls it) fault old new
   pub admitted : WasAdmitted u it s old (failed.stopped.stopped.before ++ old)
+
+-- whether an error tells a fault, or want of room or of memory
+abbrev pub is_met : CcError → Bool
+is_met (error.ReadFault page) = true
+is_met (error.WriteFault page) = true
+is_met (error.LogFault handle) = true
+is_met (error.JournalFull entries) = true
+is_met error.NoMemory = true
+is_met other = false
+
+-- A call on the stream is answered such an error, or what refuses it at a moment.
+abbrev pub IsReason : Setup → ℕ → Call → CcError → Type 0
+IsReason u s it e = (is_met e ≡ true) ⊎ ((past : List Entry) × (refusal u past (history past s) it ≡ Some e))
 
 -- what a caller is told of a reply: the bytes of a read, in the front of what it handed in, the id of a hold, a flag,
 -- the LSNs of a stream, or its state

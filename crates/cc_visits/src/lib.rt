@@ -14,5 +14,5 @@ mod tell;
 mod visits;
 
 pub use release::release_at;
-pub use tell::Returned;
+pub use tell::{Returned, tell_last};
 pub use visits::{Step, Tried, attempt_at, fail_at, land_at, next_at, unread_at};

@@ -26,7 +26,7 @@ pub enum Returned {
 }
 
 /// Tells the journal's last reply: its bytes are copied into the front of `out`.
-pub(crate) fn tell<Q>(journal: &Journal<Q>, out: &mut [u8]) -> Returned
+pub fn tell_last<Q>(journal: &Journal<Q>, out: &mut [u8]) -> Returned
     requires fits { FitsLast journal.now.entries out.old }
     ensures { ToldLast journal.now.entries result out.old out.new }
 {

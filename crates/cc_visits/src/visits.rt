@@ -12,10 +12,10 @@ ghost use Rattle.cc_model.specs.Setup.{Setup};
 ghost use Rattle.cc_step.specs.Step.{StandUnder, is_answered, is_stepped};
 ghost use Rattle.cc_visits.specs.Hands.{HasBook, IsAtRest, SameDisk, Went, WentWith};
 ghost use Rattle.cc_visits.specs.Told.{FitsNext, FitsStepped, StepAs, TriedAs, UnreadTold, answer_of};
-ghost use Rattle.cc_visits.specs.Ways.{FitsIn, IsFull, IsHalted, WasWanted};
+ghost use Rattle.cc_visits.specs.Ways.{FitsIn, IsFull, IsHalted, IsReason, WasWanted};
 ghost use Rattle.cc_visits.specs.Visits.{IsFiledNow, IsOf, TriedLeft, StepLeft, StepWent, IsFullTried, IsFullStep, WasReadFor, UnreadPlaced, UnreadLeft};
 
-use crate::tell::{Returned, tell};
+use crate::tell::{Returned, tell_last};
 use cc_book::Book;
 use cc_entry::{Call, CcError, NoMemory};
 use cc_fill::{Next, land, next, unread};
@@ -190,6 +190,7 @@ pub fn fail_at<T: Turns>(
         book.old.stream call fault begun (T.standing turns.old).seen →
         CallLeft (T.standing turns.old).setup (T.standing turns.old).number call (outcome.Failed result)
         begun (T.standing turns.new).seen }
+    ensures reason { IsReason (T.standing turns.old).setup book.old.stream call result }
     ensures full { IsFull {A = Unit {0}} 1 (T.standing turns.new) (Err result) }
 {
     let mut journal = turns.take_journal();
@@ -205,7 +206,7 @@ fn tried_of<Q>(ended: Stepped, journal: &Journal<Q>, out: &mut [u8]) -> Tried
     ensures { TriedAs ended result journal.now.entries out.old out.new }
 {
     match ended {
-        Stepped::Done => Tried::Ended(Ok(tell(journal, out))),
+        Stepped::Done => Tried::Ended(Ok(tell_last(journal, out))),
         Stepped::Refused(error) => Tried::Ended(Err(error)),
         Stepped::Waits(page, call) => Tried::Waits(page, call),
         Stepped::Stopped(error) => Tried::Ended(Err(error)),
@@ -218,7 +219,7 @@ fn step_of<Q>(ended: Next, journal: &Journal<Q>, out: &mut [u8]) -> Step
     ensures { StepAs ended result journal.now.entries out.old out.new }
 {
     match ended {
-        Next::Done => Step::Ended(Ok(tell(journal, out))),
+        Next::Done => Step::Ended(Ok(tell_last(journal, out))),
         Next::Refused(error) => Step::Ended(Err(error)),
         Next::WentOut(call) => Step::WentOut(call),
         Next::Writes(page, call) => Step::Writes(page, call),

@@ -1,8 +1,9 @@
 -- A page was written for a call, or was not: what the call is then, and what it leaves.
-use Rattle.std.specs.Prelude.{◌≡◌, ℕ, Bool, true, false, Result, Ok, Err, List, refl}
+use Rattle.std.specs.Prelude.{◌≡◌, ℕ, Bool, true, false, Result, Ok, Err, IfErr, List, refl}
 use Rattle.std.specs.declared.option.Option.TheVariants.{None}
-use Rattle.std.proofs.Common.{sym, ap, subst}
+use Rattle.std.proofs.Common.{sym, ap, subst, inl}
 use Rattle.std.proofs.lemmas.Bool.{eq-eqb}
+use Rattle.cc_entry.specs.Place.{Page}
 use Rattle.cc_entry.specs.declared.call.Call.{Call}
 use Rattle.cc_entry.specs.declared.error.CcError.{CcError}
 use Rattle.cc_entry.specs.declared.error.CcError.TheVariants as error
@@ -18,7 +19,7 @@ use Rattle.cc_model.specs.Setup.{Setup}
 use Rattle.cc_step.specs.Step.{is_answered}
 use Rattle.cc_turns.specs.Standing.{Standing}
 use Rattle.cc_visits.specs.Hands.{WentWith}
-use Rattle.cc_visits.specs.Ways.{IsAtWork, HasFailed, IsHalted}
+use Rattle.cc_visits.specs.Ways.{IsAtWork, HasFailed, IsHalted, IsReason, is_met}
 use Rattle.cc_visits.proofs.Refusals.{may_be_reserved, tells-free}
 use Rattle.cc_writes.specs.Calls.{MayFaultInWriting, PageLeft}
 use Rattle.cc_writes.specs.Writes.{WriteLeft, WriteShown}
@@ -52,6 +53,18 @@ tells-log it told handle same = rw same (eq-eqb handle handle refl)
 -- a call that may fault in writing has no reserved entry
 faults-free : (it : Call) → MayFaultInWriting it → may_be_reserved it ≡ false
 faults-free it faults = tells-free it (error.WriteFault 0) (faults.disk 0) refl
+
+-- an error of the writing itself is for want of room or of memory
+pub gave_up-met : (w : Standing) (page : Page) (keeps : Bool) (e : CcError) (seen : List Entry) → WriteShown w page keeps (Err e) seen → is_met e ≡ true
+gave_up-met w page keeps (error.JournalFull entries) seen shown = refl
+gave_up-met w page keeps error.NoMemory seen shown = refl
+gave_up-met w page keeps other seen shown = absurd shown
+
+-- why the call is answered so, said of what it was before the fault
+pub reason-since : (flight n s : ℕ) (w v : Standing) (it : Call) (r : Result Call CcError) → WentWith flight w v → n ≡ s → IfErr r (IsReason v.setup n it) → IfErr r (IsReason w.setup s it)
+reason-since flight n s w v it r went same reason =
+    subst (λ (t : ℕ). IfErr r (IsReason w.setup t it)) same
+    (subst (λ (u : Setup). IfErr r (IsReason u n it)) (ap (λ (x : Standing). x.setup) went.same) reason)
 
 module _ (w v : Standing) (s page : ℕ) (it : Call)
     (admitted : refusal w.setup w.seen (history w.seen s) it ≡ None) (asked : may_write (Calls it) (record { stream = s; page = page }) w.seen ≡ true) where

@@ -26,7 +26,7 @@ use Rattle.cc_writes.specs.declared.writes.PageWrite.{PageWrite}
 use Rattle.cc_writes.specs.declared.writes.PageWrite.TheVariants as write
 use Rattle.cc_writes.proofs.Visits.{went-number}
 use Rattle.cc_writes.proofs.Quiet.{holds_both, history-both, rest-kept}
-use Rattle.cc_writes.proofs.Works.{may_write-same, work-grown, work-written, work-not_written, work-wanted}
+use Rattle.cc_writes.proofs.Works.{either, may_write-same, work-grown, work-written, work-not_written, work-wanted}
 use Rattle.cc_writes.proofs.Flushing.{flush-history, flush-disk, work-grows, work-reached, work-unlogged}
 use Rattle.cc_writes.proofs.Writing.{opening-kept, disks-kept}
 
@@ -64,7 +64,7 @@ module _ (x : Standing) (page : Page) (both : HoldsBoth x page.stream) (work : W
 
 -- after the flush of the log
 module _ {D : Type 0} (told : D → Option Disk) (faults : D → ℕ) (n : ℕ) (w x : Standing) (page : Page) (b : BookState) (disk : D)
-    (both : HasBoth told faults w page.stream b disk) (write_it : IsToWrite page w.seen) (went : WentWith n w x) (has : HasBook x page.stream b)
+    (both : HasBoth told faults w page.stream b disk) (went : WentWith n w x) (has : HasBook x page.stream b)
     (flushed : Result LogFlush CcError) (left : FlushLeft w page flushed x.seen) where
   held : HoldsBoth w page.stream
   held = holds_both w page.stream b both.book both.rest.device
@@ -81,23 +81,23 @@ module _ {D : Type 0} (told : D → Option Disk) (faults : D → ℕ) (n : ℕ) 
     opening = opening-kept n w x page.stream went both.opening;
   }
 
-  pub dirty-flushed : is_dirty (history x.seen page.stream) page.page ≡ true
-  dirty-flushed = ap (λ h. is_dirty h page.page) same ∙ write_it.dirty
+  pub dirty-flushed : IsToWrite page w.seen → is_dirty (history x.seen page.stream) page.page ≡ true
+  dirty-flushed write_it = ap (λ h. is_dirty h page.page) same ∙ write_it.dirty
 
-  module _ (work : Work) (begun : List Entry) (may : may_write work page w.seen ≡ true) (is : IsAtWork w.number work begun w.seen) where
+  module _ (write_it : IsToWrite page w.seen) (work : Work) (begun : List Entry) (may : may_write work page w.seen ≡ true) (is : IsAtWork w.number work begun w.seen) where
     pub written-left : (keeps : Bool) (result : Result PageWrite CcError) (seen : List Entry) → flushed ≡ Ok flush.Reached → PutLeft x page keeps result seen → WriteLeft w.number work page result begun seen
     written-left keeps result seen reached put =
         let there = subst (λ (r : Result LogFlush CcError). FlushLeft w page r x.seen) reached left in
         subst (λ (m : ℕ). WriteLeft m work page result begun seen) (went-number n w x went)
         (put-work x page (holds_both x page.stream b has both-flushed.rest.device) work begun (may_write-same work page w.seen x.seen same may)
-        (subst (λ (m : ℕ). IsAtWork m work begun x.seen) (sym (went-number n w x went)) (work-reached w page held write_it.stamped work begun may is x.seen there.0)) keeps result seen put)
+        (subst (λ (m : ℕ). IsAtWork m work begun x.seen) (sym (went-number n w x went)) (work-reached w page held write_it.stamped work begun (either _ _ may) is x.seen there.0)) keeps result seen put)
 
     pub unlogged-left : (handle : ℕ) → flushed ≡ Ok (flush.Failed handle) → HasFailed w.number work (LogFailed handle) begun x.seen
     unlogged-left handle failed =
         let there = subst (λ (r : Result LogFlush CcError). FlushLeft w page r x.seen) failed left in
-        work-unlogged w page held write_it.stamped work begun may is handle there.0 x.seen there.1
+        work-unlogged w page held write_it.stamped work begun (either _ _ may) is handle there.0 x.seen there.1
 
     pub unflushed-left : (e : CcError) → flushed ≡ Err e → WriteLeft w.number work page (Err e) begun x.seen
     unflushed-left e err =
         let there = subst (λ (r : Result LogFlush CcError). FlushLeft w page r x.seen) err left in
-        want-left w.number work page e begun x.seen there.1 (work-grows w page held write_it.stamped work begun may is x.seen there.0)
+        want-left w.number work page e begun x.seen there.1 (work-grows w page held write_it.stamped work begun (either _ _ may) is x.seen there.0)

@@ -1,5 +1,5 @@
 -- The flush of a page's log: what it leaves of the page, of its stream and of the work under way.
-use Rattle.std.specs.Prelude.{◌≡◌, ℕ, ◌<◌, ◌≤◌, true, false, List, Result, Ok, Err, max, refl}
+use Rattle.std.specs.Prelude.{◌≡◌, ℕ, ◌<◌, ◌≤◌, true, false, ◌||◌, List, Result, Ok, Err, max, refl}
 use Rattle.std.specs.declared.option.Option.{Option}
 use Rattle.std.specs.declared.option.Option.TheVariants.{Some, None}
 use Rattle.std.proofs.Common.{ap, sym, ◌∙◌, subst, arith, inl, inr, ⊎_elim}
@@ -10,7 +10,7 @@ use Rattle.cc_entry.specs.declared.entry.Entry.TheVariants as entry
 use Rattle.cc_entry.specs.declared.error.CcError.{CcError}
 use Rattle.cc_traits.specs.Disk.{Disk}
 use Rattle.cc_book.specs.Book.{BookState}
-use Rattle.cc_effects.specs.Asked.{Work, may_write}
+use Rattle.cc_effects.specs.Asked.{Work, may_write, stores}
 use Rattle.cc_laws.proofs.HistorySteps.{history-log_flushed, history-log_failed}
 use Rattle.cc_laws.proofs.LogSteps.{flushed_to-flushed}
 use Rattle.cc_model.specs.Covered.{FlushedUpTo, IsLogged}
@@ -34,7 +34,7 @@ use Rattle.cc_writes.specs.declared.log.LogFlush.{LogFlush}
 use Rattle.cc_writes.specs.declared.log.LogFlush.TheVariants as flush
 use Rattle.cc_writes.proofs.Visits.{went-number, went-holds}
 use Rattle.cc_writes.proofs.Quiet.{is_held, history-both, book-kept}
-use Rattle.cc_writes.proofs.Works.{may_write-same, asks_log, work-grown, work-flushed, work-log_failed}
+use Rattle.cc_writes.proofs.Works.{asks-log-same, asks_log, work-grown, work-flushed, work-log_failed}
 use Rattle.cc_writes.proofs.Logging.{left-turn}
 
 -- a page whose log is flushed to its newest LSN
@@ -135,12 +135,12 @@ module _ {D : Type 0} (told : D → Option Disk) (faults : D → ℕ) (first : D
 
 -- The work of the pass goes on, or was stopped.
 module _ (w : Standing) (page : Page) (both : HoldsBoth w page.stream) (stamped : is_unstamped (history w.seen page.stream) page.page ≡ false)
-    (work : Work) (begun : List Entry) (may : may_write work page w.seen ≡ true) (is : IsAtWork w.number work begun w.seen) where
+    (work : Work) (begun : List Entry) (may : (may_write work page w.seen || stores work page w.seen) ≡ true) (is : IsAtWork w.number work begun w.seen) where
   pub work-grows : (seen : List Entry) → Grows w seen → IsAtWork w.number work begun seen
   work-grows seen grows = subst (λ (past : List Entry). IsAtWork w.number work begun past) (sym grows.grew) (work-grown w.number work begun w.seen grows.later grows.others is)
 
-  asks-there : (front : List Entry) (handle to : ℕ) → Grows w front → IsDue page handle to front → may_write work page front ≡ true
-  asks-there front handle to grows due = may_write-same work page w.seen front (history-both w page.stream front both grows) may
+  asks-there : (front : List Entry) (handle to : ℕ) → Grows w front → IsDue page handle to front → (may_write work page front || stores work page front) ≡ true
+  asks-there front handle to grows due = asks-log-same work page w.seen front (history-both w page.stream front both grows) may
 
   pub work-reached : (seen : List Entry) → ReachedBy w page seen → IsAtWork w.number work begun seen
   work-reached seen reached =

@@ -2,7 +2,7 @@
 use Rattle.std.specs.Prelude.{◌≡◌, ℕ, Bool, true, false, ◌||◌, List, [], ◌∷◌, ◌++◌, refl}
 use Rattle.std.specs.declared.option.Option.TheVariants.{Some}
 use Rattle.std.proofs.Common.{ap, sym, ◌∙◌, subst, append_assoc}
-use Rattle.std.proofs.lemmas.Bool.{eq-eqb}
+use Rattle.std.proofs.lemmas.Bool.{eq-eqb, or_right}
 use Rattle.cc_entry.specs.Place.{Page}
 use Rattle.cc_entry.specs.declared.call.Call.{Call}
 use Rattle.cc_entry.specs.declared.call.Call.TheVariants as call
@@ -45,15 +45,29 @@ pub may_write-same : (work : Work) (page : Page) (past now : List Entry) → his
 may_write-same (Calls it) page past now same is = rw (way-same it page past now same, asks-same it page past now same) is
 may_write-same (Writes pages) page past now same is = is
 
-either : (a b : Bool) → a ≡ true → (a || b) ≡ true
+pub either : (a b : Bool) → a ≡ true → (a || b) ≡ true
 either true b is = refl
 either false b is = absurd (cc)
 
--- a page that may be written asks for its log
-pub asks_log : (work : Work) (page : Page) (handle to : ℕ) (past : List Entry) → may_write work page past ≡ true → is_unstamped (history past page.stream) page.page ≡ false → IsDue page handle to past → AsksLog work handle to past
+-- and so does whether it is stored
+stores-same : (work : Work) (page : Page) (past now : List Entry) → history now page.stream ≡ history past page.stream → stores work page now ≡ stores work page past
+stores-same (Calls (call.NcStore file number bytes)) page past now same = rw same refl
+stores-same (Calls (call.NcWrite file number)) page past now same = rw same refl
+stores-same (Calls other) page past now same = refl
+stores-same (Writes pages) page past now same = refl
+
+pub asks-log-same : (work : Work) (page : Page) (past now : List Entry) → history now page.stream ≡ history past page.stream → (may_write work page past || stores work page past) ≡ true → (may_write work page now || stores work page now) ≡ true
+asks-log-same work page past now same is = go (may_write work page past) refl is
+  where
+    go : (b : Bool) → may_write work page past ≡ b → (b || stores work page past) ≡ true → (may_write work page now || stores work page now) ≡ true
+    go true may is = either (may_write work page now) (stores work page now) (may_write-same work page past now same may)
+    go false not is = or_right (may_write work page now) (stores work page now) (stores-same work page past now same ∙ is)
+
+-- a page that may be written, or stored, asks for its log
+pub asks_log : (work : Work) (page : Page) (handle to : ℕ) (past : List Entry) → (may_write work page past || stores work page past) ≡ true → is_unstamped (history past page.stream) page.page ≡ false → IsDue page handle to past → AsksLog work handle to past
 asks_log work page handle to past may stamped due = record {
   page = page;
-  writes = either (may_write work page past) (stores work page past) may;
+  writes = may;
   log = due.log;
   stamped = stamped;
   newest = due.newest;

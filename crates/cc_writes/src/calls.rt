@@ -1,6 +1,6 @@
 //! A page is written for a call, which goes on, or fails.
 
-ghost use Rattle.std.specs.Prelude.{◌≡◌, ◌<◌, true, List, None, Err, IfOk, IsErr};
+ghost use Rattle.std.specs.Prelude.{◌≡◌, ◌<◌, true, List, None, Err, IfErr, IfOk, IsErr};
 ghost use Rattle.cc_entry.specs.declared.entry.End.TheVariants as how;
 ghost use Rattle.cc_entry.specs.declared.entry.Entry.{Entry};
 ghost use Rattle.cc_effects.specs.Asked.{Calls, may_write};
@@ -10,9 +10,9 @@ ghost use Rattle.cc_model.specs.History.{history};
 ghost use Rattle.cc_model.specs.Refusals.{refusal};
 ghost use Rattle.cc_step.specs.Step.{is_answered};
 ghost use Rattle.cc_visits.specs.Hands.{HasBook, IsAtRest, SameDisk, Went};
-ghost use Rattle.cc_visits.specs.Ways.{IsFull, IsHalted};
+ghost use Rattle.cc_visits.specs.Ways.{IsFull, IsHalted, IsReason};
 ghost use Rattle.cc_visits.specs.Visits.{IsOf};
-ghost use Rattle.cc_writes.specs.Calls.{MayFaultInWriting, PageLeft};
+ghost use Rattle.cc_writes.specs.Calls.{KeepsWork, MayFaultInWriting, PageLeft};
 ghost use Rattle.cc_writes.specs.Writes.{HasBoth, HasTransferred, IsToWrite};
 
 use crate::writes::{PageWrite, write_page};
@@ -49,8 +49,11 @@ pub fn write_for<T: Turns>(
         IsUnderWay (T.standing turns.old).number call begun (T.standing turns.old).seen →
         PageLeft (T.standing turns.old).setup (T.standing turns.old).number call result.1
         begun (T.standing turns.new).seen }
+    ensures reason { IfErr result.1 (IsReason (T.standing turns.old).setup book.stream call) }
     ensures written { IfOk result.1 (λ again. HasTransferred (T.standing turns.old)
         (record { stream = book.stream; page = page }) how.Good keeps (T.standing turns.new).seen) }
+    ensures works { IfOk result.1 (λ again. KeepsWork (T.standing turns.old)
+        (record { stream = book.stream; page = page }) (T.standing turns.new).seen) }
     ensures full { IsFull 2 (T.standing turns.new) result.1 }
 {
     let (book, written) = write_page(turns, disk, book, page, keeps);
@@ -89,6 +92,7 @@ pub fn fail<T: Turns>(
         book.stream call fault begun (T.standing turns.old).seen →
         PageLeft (T.standing turns.old).setup (T.standing turns.old).number call result.1
         begun (T.standing turns.new).seen }
+    ensures reason { IfErr result.1 (IsReason (T.standing turns.old).setup book.stream call) }
     ensures failed { IsErr result.1 }
     ensures full { IsFull 2 (T.standing turns.new) result.1 }
 {

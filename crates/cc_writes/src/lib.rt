@@ -16,5 +16,5 @@ mod transfers;
 mod writes;
 
 pub use calls::{fail, given_up, write_for};
-pub use log::{LogFlush, flush_to, give_back, place};
-pub use writes::{PageWrite, write_page};
+pub use log::{LogFlush, flush_log, flush_to, give_back, place};
+pub use writes::{PageWrite, finish_transfer, write_page};

@@ -13,7 +13,6 @@ ghost use Rattle.cc_turns.specs.Takes.{Grows};
 ghost use Rattle.cc_visits.specs.Hands.{HasBook, IsAtRest, Went, WentWith};
 ghost use Rattle.cc_visits.specs.Visits.{HasPlaced};
 ghost use Rattle.cc_visits.specs.Ways.{IsFull};
-ghost use Rattle.cc_writes.specs.Writes.{IsToWrite};
 ghost use Rattle.cc_writes.specs.Logs.{FlushLeft, LogLeft, NewestLeft, ReservedLeft, MayLog, HoldsBoth, newest_later};
 
 use cc_book::Book;
@@ -36,15 +35,11 @@ pub enum LogFlush {
 /// are such a log and such an LSN, and the log was not flushed so far.
 ///
 /// `JournalFull`, `NoMemory`.
-pub(crate) fn flush_log<T: Turns>(
-    turns: &mut T,
-    book: &Book,
-    page: PageId,
-) -> Result<LogFlush, CcError>
+pub fn flush_log<T: Turns>(turns: &mut T, book: &Book, page: PageId) -> Result<LogFlush, CcError>
     requires book { HasBook (T.standing turns.old) page.stream book.now }
     requires rest { IsAtRest (T.standing turns.old) page.stream }
     requires none { (T.standing turns.old).in_flight ≡ 0 }
-    requires to_write { IsToWrite page (T.standing turns.old).seen }
+    requires stamped { is_unstamped (history (T.standing turns.old).seen page.stream) page.page ≡ false }
     ensures book { HasBook (T.standing turns.new) page.stream book.now }
     ensures went { Went (T.standing turns.old) (T.standing turns.new) }
     ensures left { FlushLeft (T.standing turns.old) page result (T.standing turns.new).seen }

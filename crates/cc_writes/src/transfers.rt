@@ -77,7 +77,7 @@ pub(crate) fn carry<T: Turns>(
     disk: &mut T::Disk,
     book: Book,
     page: PageId,
-    frame: Frame,
+    bytes: &[u8; 4096],
     keeps: bool,
 ) -> (Book, End)
     requires known { page.stream < (T.standing turns.old).streams }
@@ -86,15 +86,15 @@ pub(crate) fn carry<T: Turns>(
     ensures book { HasBook (T.standing turns.new) page.stream result.0 }
     ensures went { Went (T.standing turns.old) (T.standing turns.new) }
     ensures grows { GrowsBeside (T.standing turns.old) page.stream keeps (T.standing turns.new).seen }
-    ensures carried { IsCarried T.Disk.told T.Disk.faults page frame result.1 disk.old disk.new }
+    ensures carried { IsCarried T.Disk.told T.Disk.faults page bytes.now result.1 disk.old disk.new }
 {
     if keeps {
-        let how = transfer(disk, page.page(), frame.bytes());
+        let how = transfer(disk, page.page(), bytes);
         return (book, how);
     }
     let stream = page.stream();
     turns.give_book(stream, book);
-    let ended = transfer(disk, page.page(), frame.bytes());
+    let ended = transfer(disk, page.page(), bytes);
     (turns.take_book(stream), ended)
 }
 

@@ -1,4 +1,4 @@
-//! The writing of a page.
+//! The writing of a page: its log is flushed, then its transfer begins, goes to the disk, and ends.
 
 ghost use Rattle.std.specs.Prelude.{◌≡◌, ◌<◌, true, List};
 ghost use Rattle.cc_entry.specs.declared.entry.Entry.{Entry};
@@ -9,7 +9,7 @@ ghost use Rattle.cc_model.specs.Touches.{is_dirty};
 ghost use Rattle.cc_visits.specs.Hands.{Went};
 ghost use Rattle.cc_visits.specs.Ways.{IsAtWork, IsFull};
 ghost use Rattle.cc_writes.specs.Writes.{HasBoth, IsToWrite, WriteLeft, WriteShown};
-ghost use Rattle.cc_writes.specs.Transfers.{IsUnderWay, PutLeft, FinishLeft, answer_of};
+ghost use Rattle.cc_writes.specs.Transfers.{IsUnderWay, IsFinished, PutLeft, FinishLeft, answer_of};
 
 use crate::log::{LogFlush, flush_log};
 use crate::transfers::{begin_at, carry, end_at};
@@ -102,9 +102,30 @@ fn finish<T: Turns>(
     ensures went { Went (T.standing turns.old) (T.standing turns.new) }
     ensures left { FinishLeft (T.standing turns.old) page keeps result.1 (T.standing turns.new).seen }
 {
-    let (mut book, how) = carry(turns, disk, book, page, frame, keeps);
-    end_at(turns, &mut book, page, how);
+    let (book, how) = finish_transfer(turns, disk, book, page, frame.bytes(), keeps);
     (book, answer_of(how))
+}
+
+/// Carries these bytes of a page to the disk, with which the pass began the page's transfer, and ends the transfer. Says
+/// how it ended. The book is given meanwhile, unless it is to be kept.
+pub fn finish_transfer<T: Turns>(
+    turns: &mut T,
+    disk: &mut T::Disk,
+    book: Book,
+    page: PageId,
+    bytes: &[u8; 4096],
+    keeps: bool,
+) -> (Book, End)
+    requires known { page.stream < (T.standing turns.old).streams }
+    requires begun { IsUnderWay T.Disk.told T.Disk.faults (T.standing turns.old) page bytes.now book disk.old }
+    requires none { (T.standing turns.old).in_flight ≡ 0 }
+    ensures both { HasBoth T.Disk.told T.Disk.faults (T.standing turns.new) page.stream result.0 disk.new }
+    ensures went { Went (T.standing turns.old) (T.standing turns.new) }
+    ensures left { IsFinished (T.standing turns.old) page result.1 keeps (T.standing turns.new).seen }
+{
+    let (mut book, how) = carry(turns, disk, book, page, bytes, keeps);
+    end_at(turns, &mut book, page, how);
+    (book, how)
 }
 
 // What the writing of a page answers whose transfer ended so.

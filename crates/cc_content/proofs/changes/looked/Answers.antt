@@ -1,3 +1,4 @@
+-- The blocks of the span are used, or with none the pages stay as they are; a look changes nothing else.
 use Rattle.std.proofs.Common.{◌≡◌, ℕ, Option, None, Some, refl, sym, ap, ◌∙◌}
 use Rattle.cc_entry.specs.Pages.{blocks_of}
 use Rattle.cc_entry.specs.Place.{Range}

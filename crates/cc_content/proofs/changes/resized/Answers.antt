@@ -1,3 +1,4 @@
+-- Where the cut finds memory, the pages that stay are those of the new size, and the rest of the last one is zeros.
 use Rattle.std.proofs.Common.{◌≡◌, ℕ, true, List, ◌∷◌, Option, Result, Ok, Err, OnOk}
 use Rattle.std.specs.List.{filter}
 use Rattle.cc_entry.specs.declared.call.Call.{Call}

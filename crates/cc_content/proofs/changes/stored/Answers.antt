@@ -1,3 +1,4 @@
+-- Where the page comes in, its bytes below the size are those stored, and the other pages stay.
 use Rattle.std.proofs.Common.{◌≡◌, ℕ, ◌-◌, ◌*◌, ◌<◌, ◌≤◌, true, nat_lt, if◌then◌else◌, List, [], ◌∷◌, get_or, Option, Some, Result, Ok, Err, OnOk, ap, ◌∙◌}
 use Rattle.cc_entry.specs.Pages.{block_of}
 use Rattle.cc_entry.specs.declared.call.Call.{Call}

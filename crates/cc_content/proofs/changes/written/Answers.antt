@@ -1,3 +1,4 @@
+-- The write leaves the blocks mapped, so the range may be used after it; the pages stand for the written bytes.
 use Rattle.std.proofs.Common.{◌-◌, length, get_or, None, Some, ap, subst, ◌∙◌}
 use Rattle.std.specs.List.{list_all}
 use Rattle.cc_entry.specs.Pages.{whole_range, blocks_of}

@@ -1,3 +1,4 @@
+-- A page that was read lands; after a failed read the call is still the one that waited; want of memory ends it.
 use Rattle.std.specs.Prelude.{ℕ, List}
 use Rattle.std.proofs.Common.{subst, sym}
 use Rattle.cc_entry.specs.declared.entry.Entry.{Entry}

@@ -1,3 +1,4 @@
+-- With the disk held no page comes in or goes to it meanwhile; so what was read is what the page holds at the take.
 use Rattle.std.specs.Prelude.{ℕ}
 use Rattle.std.proofs.Common.{subst, ◌∙◌}
 use Rattle.std.proofs.lemmas.Result.{on_ok_weaker}

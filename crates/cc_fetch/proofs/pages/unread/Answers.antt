@@ -1,3 +1,4 @@
+-- A failed read is a fault that the call may tell, behind the entry of the fill that failed.
 use Rattle.std.specs.Prelude.{ℕ, Bool, refl}
 use Rattle.std.proofs.Common.{ap, sym, subst}
 use Rattle.cc_entry.specs.declared.error.CcError.TheVariants as error

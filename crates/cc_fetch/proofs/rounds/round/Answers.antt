@@ -1,3 +1,4 @@
+-- By what the step asks: each turn of a page finds what it needs, and what it left is what a round may leave.
 use Rattle.std.specs.Prelude.{ℕ, suc, ◌≡◌, true, refl}
 use Rattle.std.proofs.Common.{subst, sym}
 use Rattle.cc_entry.specs.declared.call.Call.{Call}

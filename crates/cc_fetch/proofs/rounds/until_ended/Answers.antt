@@ -1,3 +1,4 @@
+-- A round goes on from what the rounds before left; where it ends the call, or they are used up, that is the end.
 use Rattle.std.specs.Prelude.{ℕ}
 use Rattle.std.proofs.Common.{subst}
 use Rattle.cc_step.proofs.Failing.{stepped-answered}

@@ -1,8 +1,17 @@
+-- Without room for the block of the page a block has to go; with room the place for the page is reserved.
 use Rattle.std.specs.Prelude.{refl}
 use Rattle.std.proofs.Common.{sym, ◌∙◌}
 use Rattle.cc_step.proofs.Placed.{so-far}
+use Rattle.cc_step.proofs.Failing.{stepped-answered}
 use Rattle.cc_fill.proofs.Rooms.{room-within}
+use Rattle.cc_fill.proofs.Waiting.{brings-room}
 use Rattle.cc_fill.proofs.filling.bring.Goals as goal
+
+pub make_room-requires-clause-answered : goal.make_room-requires-clause-answered
+make_room-requires-clause-answered g c = stepped-answered c.args.call c.requires.stepped
+
+pub make_room-requires-clause-room : goal.make_room-requires-clause-room
+make_room-requires-clause-room g c = brings-room c.args.call c.requires.brings
 
 pub make_room-requires-clause-may : goal.make_room-requires-clause-may
 make_room-requires-clause-may g c =
@@ -37,7 +46,7 @@ returns-in-Ok g c u may waits =
 pub returns-else-has_room : goal.returns-else-has_room
 returns-else-has_room g c u may waits =
     let stand = may.may.stand in
-    c.make_room.ensures u c.args.page may
+    c.make_room.ensures.left u c.args.page may
     (record {
       good = stand.good;
       stands = stand.stands;

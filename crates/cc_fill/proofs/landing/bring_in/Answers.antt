@@ -1,3 +1,4 @@
+-- The page is one that the call waits for, so its entry keeps the journal good, and the book stands with it.
 use Rattle.std.proofs.Common.{ap, sym, subst, inl}
 use Rattle.cc_entry.specs.declared.entry.Entry.{Entry}
 use Rattle.cc_entry.specs.Place.{Page}

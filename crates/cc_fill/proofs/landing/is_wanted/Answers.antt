@@ -1,3 +1,4 @@
+-- The least absent page of a call that waits is the page itself, and its block has room.
 use Rattle.std.specs.Prelude.{◌≡◌, ℕ, true, List, Option, Some, None, nat_eq}
 use Rattle.std.specs.Option.{option_eq}
 use Rattle.std.proofs.Common.{ap, sym, ◌∙◌}

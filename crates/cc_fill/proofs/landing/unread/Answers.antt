@@ -1,3 +1,4 @@
+-- A page that is on the disk alone has a failed fill for an entry, which is good; else the place is given back.
 use Rattle.std.specs.Prelude.{refl}
 use Rattle.std.proofs.Common.{ap, sym, ◌∙◌, subst}
 use Rattle.cc_entry.specs.declared.entry.Entry.{Entry}

@@ -1,16 +1,17 @@
+-- A waiting call has a range, which is the span of the search; with the blocks used up one of them may go.
 use Rattle.std.specs.Prelude.{◌≡◌, ℕ, true, List, Option, Some, None, IsSome, refl}
 use Rattle.std.proofs.Common.{sym, ◌∙◌, subst}
 use Rattle.cc_entry.specs.Place.{Range}
 use Rattle.cc_entry.specs.declared.call.Call.{Call}
 use Rattle.cc_entry.specs.declared.entry.Entry.{Entry}
 use Rattle.cc_book.specs.Book.{BookState}
-use Rattle.cc_effects.specs.Asked.{block_to_go, brings_in}
+use Rattle.cc_effects.specs.Asked.{block_to_go, makes_room}
 use Rattle.cc_model.specs.History.{history}
 use Rattle.cc_model.specs.Ranges.{range_of}
 use Rattle.cc_model.specs.Setup.{Setup}
 use Rattle.cc_model.specs.Touches.{size_of}
 use Rattle.cc_step.proofs.Placed.{so-far}
-use Rattle.cc_step.specs.Step.{is_stepped}
+use Rattle.cc_step.specs.Step.{is_answered}
 use Rattle.cc_fill.specs.Room.{IsCrowded}
 use Rattle.cc_fill.proofs.Rooms.{some-to-go}
 use Rattle.cc_fill.proofs.Waiting.{Needs, needs}
@@ -20,13 +21,13 @@ use Rattle.cc_fill.proofs.room.block_to_go.Goals as goal
 same-range : (u : Setup) (past : List Entry) (it : Call) (page : ℕ) (b : BookState) (span : Range) → (n : Needs (history past b.stream) it page) → Some span ≡ range_of (size_of (history past b.stream)) it → span ≡ n.range
 same-range u past it page b span n is = let both : Some span ≡ Some n.range = is ∙ n.range_is in cc
 
-found-block : (u : Setup) (past : List Entry) (it : Call) (page : ℕ) (b : BookState) (span : Range) (o : Option ℕ) → is_stepped it ≡ true → brings_in it ≡ true → IsCrowded u past it page b → Some span ≡ range_of (size_of (history past b.stream)) it → o ≡ block_to_go (history past b.stream) span → IsSome o
-found-block u past it page b span None stepped brings crowded is found =
+found-block : (u : Setup) (past : List Entry) (it : Call) (page : ℕ) (b : BookState) (span : Range) (o : Option ℕ) → is_answered it ≡ true → makes_room it ≡ true → IsCrowded u past it page b → Some span ≡ range_of (size_of (history past b.stream)) it → o ≡ block_to_go (history past b.stream) span → IsSome o
+found-block u past it page b span None answered room crowded is found =
     let n = needs u past b.stream it page crowded.waits in
     let same = same-range u past it page b span n is in
-    absurd (some-to-go u past b.stream it page stepped brings crowded.good (so-far u past crowded.good) crowded.waits crowded.full n
+    absurd (some-to-go u past b.stream it page answered room crowded.good (so-far u past crowded.good) crowded.waits crowded.full n
     (subst (λ (r : Range). block_to_go (history past b.stream) r ≡ None) same (sym found)))
-found-block u past it page b span (Some block) stepped brings crowded is found = refl
+found-block u past it page b span (Some block) answered room crowded is found = refl
 
 pub unwrap-span-requires : goal.unwrap-span-requires
 unwrap-span-requires c =
@@ -44,7 +45,7 @@ unwrap-requires c =
     let page = c.requires.crowded.2 in
     let crowded = c.requires.crowded.3 in
     let opening = u.opening c.args.book.now.stream in
-    found-block u past c.args.call.now page c.args.book.now c.unwrap-span.result c.in_ok-block.block c.requires.stepped c.requires.brings crowded
+    found-block u past c.args.call.now page c.args.book.now c.unwrap-span.result c.in_ok-block.block c.requires.answered c.requires.room crowded
     (sym c.unwrap-span.ensures ∙ c.span_of.ensures u opening past page crowded.stands crowded.waits)
     (c.in_ok-block.ensures opening past crowded.stands)
 

@@ -1,5 +1,6 @@
-use Rattle.std.specs.Prelude.{◌≡◌, ℕ, ◌+◌, ◌<◌, nat_lt, Bool, true, List, length, min, Option, None, Some, refl}
-use Rattle.std.proofs.Common.{ap, sym, ◌∙◌, subst}
+-- By kinds of call: one that nothing refuses has a range with its ends in order, cut by the size where it is cut.
+use Rattle.std.specs.Prelude.{◌≡◌, ℕ, ◌+◌, ◌*◌, ◌<◌, nat_lt, Bool, true, false, if◌then◌else◌, List, length, min, Option, None, Some, refl}
+use Rattle.std.proofs.Common.{ap, sym, ◌∙◌, subst, arith}
 use Rattle.std.proofs.lemmas.Bool.{and_parts, ltb-true}
 use Rattle.cc_entry.specs.Pages.{has_page, whole_range}
 use Rattle.cc_entry.specs.Place.{File, Range}
@@ -11,6 +12,7 @@ use Rattle.cc_model.specs.History.{history}
 use Rattle.cc_model.specs.Ranges.{cut_range, range_of}
 use Rattle.cc_model.specs.Reasons.{past_size}
 use Rattle.cc_model.specs.Setup.{Setup}
+use Rattle.cc_model.specs.Sizes.{stored_range}
 use Rattle.cc_model.specs.Touches.{size_of}
 use Rattle.cc_step.proofs.Within.{whole-cut}
 use Rattle.cc_fill.specs.Room.{IsWaiting}
@@ -105,3 +107,20 @@ returns-in-MdlWrite c u opening past page stands waits =
     rw c.in-MdlWrite.is
     (whole u past s it c.in-MdlWrite.at c.in-MdlWrite.len page c.span_below-in-MdlWrite.result refl (unrefused u past (history past s) it waiting.admitted).within_size waiting
     (c.span_below-in-MdlWrite.ensures opening past stands))
+
+-- a page of a noncached write that is waited for starts below the size
+starts-below : (page size other : ℕ) → has_page (stored_range page size) other ≡ true → 4096 * page < size
+starts-below page size other has = go (nat_lt (4096 * page) size) refl (ltb-true _ _ (and_parts (nat_lt (4096 * page) (stored_range page size).to) _ has).0)
+  where
+    go : (b : Bool) → nat_lt (4096 * page) size ≡ b → 4096 * page < (if b then min (4096 * page + 4096) size else 0) → 4096 * page < size
+    go true is less = ltb-true _ _ is
+    go false is less = absurd (omega (arith, less))
+
+pub returns-in-NcWrite : goal.returns-in-NcWrite
+returns-in-NcWrite c u opening past page stands waits =
+    let size = size_of (history past c.args.book.now.stream) in
+    let it = call.NcWrite c.in-NcWrite.file c.in-NcWrite.page in
+    let n = needs u past c.args.book.now.stream it page (rw c.in-NcWrite.is at waits) in
+    let same : n.range ≡ stored_range c.in-NcWrite.page size = cc (n.range_is) in
+    let has = subst (λ (r : Range). has_page r page ≡ true) same n.has in
+    rw c.in-NcWrite.is (c.stored_span.ensures opening past stands (starts-below c.in-NcWrite.page size page has))

@@ -1,3 +1,4 @@
+-- The entry of the refusal, or of the fault where nothing refuses, is good; an end that is owed is given up with it.
 use Rattle.std.specs.Prelude.{◌≡◌, ℕ, ◌+◌, ◌-◌, ◌≤◌}
 use Rattle.std.proofs.Common.{ap, sym, ◌∙◌, subst, arith}
 use Rattle.cc_book.specs.Book.{Gains, GoesOn, failed}

@@ -1,3 +1,4 @@
+-- By kinds of call: the bytes are there, since a ready call has its pages resident, and so has an open hold.
 use Rattle.std.proofs.Common.{ap, inl, inr}
 use Rattle.cc_entry.specs.Kinds.{is_map, is_pin, is_read_chain}
 use Rattle.cc_entry.specs.declared.reply.Reply.TheVariants as reply

@@ -1,3 +1,4 @@
+-- By kinds of call: one that nothing refuses ends below the size, so the book looks for its whole range.
 use Rattle.std.specs.Prelude.{◌≡◌, ℕ, ◌+◌, List, Option, None, Some, refl, length}
 use Rattle.std.proofs.Common.{ap, sym, ◌∙◌}
 use Rattle.cc_entry.specs.Pages.{whole_range}

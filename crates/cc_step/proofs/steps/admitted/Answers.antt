@@ -1,3 +1,4 @@
+-- Without an absent page the range is filled, so the call is ready and may be finished; with one it waits for that.
 use Rattle.std.specs.Prelude.{refl}
 use Rattle.std.proofs.Common.{sym, ◌∙◌}
 use Rattle.cc_model.specs.History.{history}

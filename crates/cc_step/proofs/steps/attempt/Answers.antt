@@ -1,3 +1,4 @@
+-- By what the call asks: a reserved place, or a new one and those that it needs where it is done.
 use Rattle.std.specs.Prelude.{◌≡◌, ℕ, suc, ◌-◌}
 use Rattle.std.proofs.Common.{sym, ◌∙◌, arith}
 use Rattle.cc_step.proofs.steps.attempt.Goals as goal

@@ -1,3 +1,4 @@
+-- The reply is the right one, and the places asked more are reserved before; then the call may be placed.
 use Rattle.std.proofs.Common.{sym, subst}
 use Rattle.cc_journal.specs.Journal.{JournalState}
 use Rattle.cc_step.specs.Step.{MayStep, IsReadyFor, IsReplyOf, PlaceLeft}

@@ -1,3 +1,4 @@
+-- A call that is ready, with its reply, keeps the journal good; without memory book and journal mean what they did.
 use Rattle.std.specs.Prelude.{ℕ, ◌-◌, refl}
 use Rattle.std.proofs.Common.{ap, sym, ◌∙◌, subst}
 use Rattle.cc_book.specs.Book.{BookStands}

@@ -1,3 +1,4 @@
+-- The place reserved first serves the entry, and the end owed is given up with it; a call that waits gives it back.
 use Rattle.std.specs.Prelude.{◌≡◌, ℕ, ◌+◌, ◌-◌, ◌<◌, ◌≤◌, false}
 use Rattle.std.proofs.Common.{ap, sym, ◌∙◌, subst, arith}
 use Rattle.cc_journal.specs.Calls.{owed_end}

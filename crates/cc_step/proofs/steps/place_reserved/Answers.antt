@@ -1,3 +1,4 @@
+-- Nothing refuses such a call, so it may be done on its own place; the places that it spares are given back.
 use Rattle.std.specs.Prelude.{◌≡◌, ℕ, ◌+◌, ◌-◌, ◌<◌, ◌≤◌}
 use Rattle.std.proofs.Common.{ap, sym, ◌∙◌, subst, arith}
 use Rattle.cc_entry.specs.declared.reply.Reply.TheVariants as reply

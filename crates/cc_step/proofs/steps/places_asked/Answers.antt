@@ -1,3 +1,4 @@
+-- By kinds of call: a write or a set-dirty asks by whether its pin owes a set-dirty, which is kept with the hold.
 use Rattle.std.specs.Prelude.{ℕ, Bool, if◌then◌else◌}
 use Rattle.std.proofs.Common.{ap, sym, ◌∙◌}
 use Rattle.cc_step.proofs.steps.places_asked.Goals as goal

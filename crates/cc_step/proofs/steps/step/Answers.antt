@@ -1,3 +1,4 @@
+-- What refuses is the definitions' refusal: without one the call is admitted, with one its failed entry is good.
 use Rattle.std.proofs.Common.{ap, sym, ◌∙◌}
 use Rattle.cc_step.proofs.Failing.{stepped-answered}
 use Rattle.cc_step.proofs.Placed.{good-failed, so-far}

@@ -1,3 +1,4 @@
+-- A call that nothing refuses waits for its least absent page, if there is one; a refused one waits for none.
 use Rattle.std.specs.Prelude.{◌≡◌, ℕ, List, Option, None, Some}
 use Rattle.std.proofs.Common.{sym, ◌∙◌}
 use Rattle.cc_entry.specs.declared.call.Call.{Call}

@@ -1,3 +1,4 @@
+-- One visit that places nothing: it adds none, so all that stood, and a call under way, stand behind it.
 use Rattle.cc_visits.proofs.Releasing.{adds_none, book_released, rest_released, disk_released, way_released}
 use Rattle.cc_visits.proofs.release.release_at.Goals as goal
 

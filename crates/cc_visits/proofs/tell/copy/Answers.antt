@@ -1,3 +1,4 @@
+-- The loop's invariant: the front of the slice is what the runs so far spell, and those left spell the rest.
 use Rattle.std.specs.Prelude.{◌≡◌, ◌+◌, ◌-◌, ◌≤◌, ◌++◌, length, take, refl, replicate}
 use Rattle.std.proofs.Common.{ap, sym, ◌∙◌, append-nil, arith}
 use Rattle.std.proofs.lemmas.List.Edits.{length-between}

@@ -1,3 +1,4 @@
+-- One visit: the call may step on the journal that was taken, and what it left is what the visit tries.
 use Rattle.std.specs.Prelude.{ℕ, ◌<◌}
 use Rattle.std.proofs.Common.{sym, ◌∙◌, subst, arith}
 use Rattle.cc_step.proofs.Failing.{stepped-answered}

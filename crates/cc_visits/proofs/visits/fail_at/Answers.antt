@@ -1,3 +1,4 @@
+-- One visit: the fault may end the call on the journal that was taken; the entry tells it, or what refuses meanwhile.
 use Rattle.std.specs.Prelude.{Err}
 use Rattle.std.proofs.Common.{sym, subst, arith}
 use Rattle.cc_entry.specs.declared.error.CcError.{CcError}
@@ -6,8 +7,8 @@ use Rattle.cc_effects.specs.Calls.{CallLeft}
 use Rattle.cc_turns.specs.Standing.{Standing}
 use Rattle.cc_visits.specs.Hands.{HasBook, SameDisk, WentWith}
 use Rattle.cc_visits.specs.Told.{answer_of}
-use Rattle.cc_visits.specs.Ways.{IsFull}
-use Rattle.cc_visits.proofs.Failing.{is-fault, fail-as, has-failed, visited-fail, disk-fail, left-fail, full-fail}
+use Rattle.cc_visits.specs.Ways.{IsFull, IsReason}
+use Rattle.cc_visits.proofs.Failing.{is-fault, fail-as, has-failed, visited-fail, disk-fail, left-fail, reason-fail, full-fail}
 use Rattle.cc_visits.proofs.Resting.{filed-now}
 use Rattle.cc_visits.proofs.Visiting.{few-left, visiting}
 use Rattle.cc_visits.proofs.visits.fail_at.Goals as goal
@@ -144,3 +145,17 @@ returns-clause-full g c =
     let full = full-fail posted w v c.args.call b n j k c.requires.book vis c.requires.answered (filed-now w b.stream c.args.call c.requires.filed) c.args.fault c.requires.listed c.requires.halted.0 c.requires.halted.1 c.fail-ended.result left in
     subst (λ (e : CcError). IsFull {A = Unit {0}} 1 (g.T.Turns.standing c.give_journal.new.self) (Err e)) (sym c.answer_of.ensures)
     (subst (λ (x : Standing). IsFull {A = Unit {0}} 1 x (Err (answer_of c.fail-ended.result c.args.fault))) (sym c.give_journal.ensures) full)
+
+pub returns-clause-reason : goal.returns-clause-reason
+returns-clause-reason g c =
+    let w = g.T.Turns.standing c.args.turns.now in
+    let v = g.T.Turns.standing c.take_journal-journal.new.self in
+    let posted = g.T.Post.PostRoutine.posted in
+    let b = c.args.book.now in
+    let j = c.take_journal-journal.result in
+    let vis = visiting posted w v b.stream b j c.requires.book c.take_journal-journal.ensures.took c.take_journal-journal.ensures.stands in
+    let n = c.fail-ended.new.book in
+    let k = c.fail-ended.new.journal in
+    let left = has-failed posted w v c.args.call b n j k c.requires.book vis c.requires.answered (filed-now w b.stream c.args.call c.requires.filed) c.args.fault c.requires.listed c.requires.halted.0 c.requires.halted.1 c.me-pass.result c.fail-ended.result c.me-pass.ensures c.fail-ended.ensures in
+    subst (λ (e : CcError). IsReason w.setup b.stream c.args.call e) (sym c.answer_of.ensures)
+    (reason-fail posted w v c.args.call b n j k c.requires.book vis c.requires.answered (filed-now w b.stream c.args.call c.requires.filed) c.args.fault c.requires.listed c.requires.halted.0 c.requires.halted.1 c.fail-ended.result left)

@@ -1,3 +1,4 @@
+-- One visit: the page lands on the journal that was taken, if the call waits for it still; the call stays under way.
 use Rattle.std.specs.Option.{option_copied}
 use Rattle.std.proofs.Common.{sym, subst, arith}
 use Rattle.cc_effects.specs.Calls.{IsUnderWay}

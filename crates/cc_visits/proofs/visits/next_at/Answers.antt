@@ -1,3 +1,4 @@
+-- One visit: the call may go on from the journal that was taken; the page that it asks for has its place reserved.
 use Rattle.std.proofs.Common.{sym, subst}
 use Rattle.cc_step.proofs.Failing.{stepped-answered}
 use Rattle.cc_turns.specs.Standing.{Standing}

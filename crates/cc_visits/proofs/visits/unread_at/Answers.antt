@@ -1,3 +1,4 @@
+-- One visit: the failed fill is placed on the journal that was taken, and halts the call; or its place is given back.
 use Rattle.std.proofs.Common.{sym, subst, arith}
 use Rattle.cc_turns.specs.Standing.{Standing}
 use Rattle.cc_visits.specs.Hands.{HasBook, IsAtRest, WentWith}

@@ -1,13 +1,15 @@
-use Rattle.std.specs.Prelude.{Result, refl}
-use Rattle.std.proofs.Common.{subst, sym}
+-- A page well written lets the call go on; a failed transfer or log is a fault that the call may tell.
+use Rattle.std.specs.Prelude.{Result, IfErr, refl}
+use Rattle.std.proofs.Common.{subst, sym, inl}
 use Rattle.cc_entry.specs.declared.call.Call.{Call}
 use Rattle.cc_entry.specs.declared.error.CcError.{CcError}
 use Rattle.cc_entry.specs.declared.error.CcError.TheVariants as error
 use Rattle.cc_model.specs.Faults.{WriteFailed, LogFailed}
+use Rattle.cc_visits.specs.Ways.{IsReason}
 use Rattle.cc_writes.specs.declared.writes.PageWrite.TheVariants as write
 use Rattle.cc_writes.specs.Calls.{PageLeft}
 use Rattle.cc_writes.proofs.Disks.{still_of}
-use Rattle.cc_writes.proofs.Calling.{tells-disk, tells-log, where_ok, shown_ok, written, not_written, not_logged, gave_up, is_halted, fault_left}
+use Rattle.cc_writes.proofs.Calling.{tells-disk, tells-log, where_ok, shown_ok, written, not_written, not_logged, gave_up, is_halted, fault_left, gave_up-met, reason-since}
 use Rattle.cc_writes.proofs.calls.write_for.Goals as goal
 
 pub returns-in-Ok-Written-clause-left : goal.returns-in-Ok-Written-clause-left
@@ -21,6 +23,12 @@ returns-in-Ok-Written-clause-written g c =
     let w = g.T.Turns.standing c.args.turns.now in
     let v = g.T.Turns.standing c.write_page-book.new.turns in
     shown_ok w v c.args.book.stream c.args.page c.args.keeps c.write_page-book.result.1 c.in-Ok-Written.field-0 write.Written c.in-Ok-Written.is (rw c.in-Ok-Written.is at c.in-Ok-Written.field-0-is) c.write_page-book.ensures.shown
+
+pub returns-in-Ok-Written-clause-works : goal.returns-in-Ok-Written-clause-works
+returns-in-Ok-Written-clause-works g c =
+    let w = g.T.Turns.standing c.args.turns.now in
+    let v = g.T.Turns.standing c.write_page-book.new.turns in
+    where_ok w v c.args.book.stream c.args.page c.write_page-book.result.1 c.in-Ok-Written.field-0 write.Written c.in-Ok-Written.is (rw c.in-Ok-Written.is at c.in-Ok-Written.field-0-is) c.write_page-book.ensures.left
 
 pub fail-requires-clause-listed : goal.fail-requires-clause-listed
 fail-requires-clause-listed g c κs within = c.requires.faults.disk c.args.page
@@ -83,3 +91,20 @@ returns-in-Err-clause-left g c begun way =
     let v = g.T.Turns.standing c.write_page-book.new.turns in
     subst (λ (r : Result Call CcError). PageLeft w.setup w.number c.args.call r begun v.seen) (sym c.given_up.ensures)
     (gave_up w v c.args.book.stream c.args.page c.args.call c.requires.admitted c.requires.asked c.in-Err.error c.requires.answered c.requires.faults (rw c.in-Err.is at c.write_page-book.ensures.left) begun way)
+
+pub returns-in-Ok-NotWritten-clause-reason : goal.returns-in-Ok-NotWritten-clause-reason
+returns-in-Ok-NotWritten-clause-reason g c =
+    reason-since (g.T.Turns.standing c.args.turns.now).in_flight c.write_page-book.result.0.stream c.args.book.stream (g.T.Turns.standing c.args.turns.now) (g.T.Turns.standing c.write_page-book.new.turns)
+    c.args.call c.fail.result.1 c.write_page-book.ensures.went c.write_page-book.ensures.both.book.stream c.fail.ensures.reason
+
+pub returns-in-Ok-NotLogged-clause-reason : goal.returns-in-Ok-NotLogged-clause-reason
+returns-in-Ok-NotLogged-clause-reason g c =
+    reason-since (g.T.Turns.standing c.args.turns.now).in_flight c.write_page-book.result.0.stream c.args.book.stream (g.T.Turns.standing c.args.turns.now) (g.T.Turns.standing c.write_page-book.new.turns)
+    c.args.call c.fail-in-Ok-NotLogged.result.1 c.write_page-book.ensures.went c.write_page-book.ensures.both.book.stream c.fail-in-Ok-NotLogged.ensures.reason
+
+pub returns-in-Err-clause-reason : goal.returns-in-Err-clause-reason
+returns-in-Err-clause-reason g c =
+    let w = g.T.Turns.standing c.args.turns.now in
+    let v = g.T.Turns.standing c.write_page-book.new.turns in
+    subst (λ (r : Result Call CcError). IfErr r (IsReason w.setup c.args.book.stream c.args.call)) (sym c.given_up.ensures)
+    (inl (gave_up-met w (record { stream = c.args.book.stream; page = c.args.page }) c.args.keeps c.in-Err.error v.seen (rw c.in-Err.is at c.write_page-book.ensures.shown)))

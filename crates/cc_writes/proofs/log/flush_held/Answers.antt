@@ -1,3 +1,4 @@
+-- By the floor and the file's answer: reached before, flushed with an entry, failed with an entry, or no memory.
 use Rattle.std.proofs.Common.{ℕ, refl, ap, ◌∙◌, subst, arith, inl, inr, ⊎_elim}
 use Rattle.std.specs.Prelude.{Err}
 use Rattle.cc_entry.specs.declared.entry.Entry.TheVariants as entry

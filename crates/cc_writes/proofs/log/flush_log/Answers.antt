@@ -1,3 +1,4 @@
+-- The log of the book is the stream's, and one of the run; without a log the page is logged as it is.
 use Rattle.std.proofs.Common.{◌≡◌, Some, None, ℕ, sym, ◌∙◌, subst, inl}
 use Rattle.cc_model.specs.History.{history}
 use Rattle.cc_model.specs.Settings.{log_of}
@@ -31,7 +32,7 @@ pub returns-in-None-clause-left : goal.returns-in-None-clause-left
 returns-in-None-clause-left g c =
     let w = g.T.Turns.standing c.args.turns.now in (
       inl (grows-none w),
-      logged-logless w.seen c.args.page.stream c.args.page.page c.requires.to_write.stamped
+      logged-logless w.seen c.args.page.stream c.args.page.page c.requires.stamped
           (subst (λ (n : ℕ). log_of (history w.seen n) ≡ None) c.requires.book.stream
           (sym (c.log.ensures (w.setup.opening c.args.page.stream) w.seen c.requires.book.stands) ∙ c.in-None.is)),
     )

@@ -1,3 +1,4 @@
+-- Flushed to the newest stamp the page is logged; without a stamp it is as it is.
 use Rattle.std.proofs.Common.{Option, Ok, ℕ, ap, ◌∙◌, subst, suc}
 use Rattle.std.specs.Prelude.{Result}
 use Rattle.cc_entry.specs.declared.error.CcError.{CcError}

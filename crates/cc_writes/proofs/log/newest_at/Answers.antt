@@ -1,3 +1,4 @@
+-- One visit that may reserve a place and places nothing: what it finds is the newest stamp of a disk at rest.
 use Rattle.std.proofs.Common.{ap, ◌∙◌}
 use Rattle.cc_model.specs.History.{history}
 use Rattle.cc_model.specs.Images.{open_of}

@@ -1,3 +1,4 @@
+-- One visit: an entry of a log in hand keeps the journal good, on the reserved place, and is given with the turn.
 use Rattle.std.proofs.Common.{sym, subst, arith}
 use Rattle.cc_model.specs.Good.{IsGood}
 use Rattle.cc_turns.specs.Standing.{Standing}

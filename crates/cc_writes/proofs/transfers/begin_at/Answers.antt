@@ -1,3 +1,4 @@
+-- One visit: a dirty page whose log is flushed may begin, and what is owed for its end stays reserved.
 use Rattle.std.proofs.Common.{◌≡◌, ◌<◌, ℕ, ap, sym, ◌∙◌, subst, arith}
 use Rattle.cc_turns.specs.Standing.{Standing}
 use Rattle.cc_visits.specs.Hands.{HasBook, WentWith}

@@ -1,3 +1,5 @@
+-- With the book kept nothing came between; with it given, the book that is taken again stands still for its stream.
+use Rattle.std.specs.Prelude.{refl}
 use Rattle.cc_writes.proofs.Carrying.{beside-none, carried-so, taken-again}
 use Rattle.cc_writes.proofs.transfers.carry.Goals as goal
 
@@ -6,8 +8,8 @@ returns-then-keeps-clause-grows g c = beside-none (g.T.Turns.standing c.args.tur
 
 pub returns-then-keeps-clause-carried : goal.returns-then-keeps-clause-carried
 returns-then-keeps-clause-carried g c =
-    carried-so g.T.Disk.Told.told g.T.Disk.Told.faults c.args.page c.page.result c.args.frame c.bytes.result.now c.transfer-how.result c.args.disk.now c.transfer-how.new.disk
-    c.page.ensures.same c.bytes.ensures c.transfer-how.ensures.ended
+    carried-so g.T.Disk.Told.told g.T.Disk.Told.faults c.args.page c.page.result c.args.bytes.now c.args.bytes.now c.transfer-how.result c.args.disk.now c.transfer-how.new.disk
+    c.page.ensures.same refl c.transfer-how.ensures.ended
 
 pub returns-clause-book : goal.returns-clause-book
 returns-clause-book g c =
@@ -16,5 +18,5 @@ returns-clause-book g c =
 
 pub returns-clause-carried : goal.returns-clause-carried
 returns-clause-carried g c =
-    carried-so g.T.Disk.Told.told g.T.Disk.Told.faults c.args.page c.page-2.result c.args.frame c.bytes-2.result.now c.transfer-ended.result c.args.disk.now c.transfer-ended.new.disk
-    c.page-2.ensures.same c.bytes-2.ensures c.transfer-ended.ensures.ended
+    carried-so g.T.Disk.Told.told g.T.Disk.Told.faults c.args.page c.page-2.result c.args.bytes.now c.args.bytes.now c.transfer-ended.result c.args.disk.now c.transfer-ended.new.disk
+    c.page-2.ensures.same refl c.transfer-ended.ensures.ended

@@ -1,3 +1,4 @@
+-- One visit: the transfer that the pass began may end on its own place, and the book stands with the end.
 use Rattle.std.proofs.Common.{◌≡◌, ◌<◌, ℕ, ap, sym, ◌∙◌, subst, arith}
 use Rattle.cc_turns.specs.Standing.{Standing}
 use Rattle.cc_visits.specs.Hands.{HasBook, WentWith}

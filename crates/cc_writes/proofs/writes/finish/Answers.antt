@@ -1,37 +1,18 @@
-use Rattle.std.proofs.Common.{ap, sym, ◌∙◌, subst, Result}
+use Rattle.std.proofs.Common.{sym, subst, Result, List, ℕ}
 use Rattle.cc_entry.specs.declared.error.CcError.{CcError}
-use Rattle.cc_writes.specs.Transfers.{FinishLeft}
+use Rattle.cc_writes.specs.Transfers.{FinishLeft, IsUnderWay}
 use Rattle.cc_writes.specs.declared.writes.PageWrite.{PageWrite}
-use Rattle.cc_writes.proofs.Visits.{went-held, went-then}
-use Rattle.cc_writes.proofs.Quiet.{holds_the_book}
-use Rattle.cc_writes.proofs.Writing.{still_begun, finished, finish-left, both-finished}
+use Rattle.cc_writes.proofs.Writing.{finish-left}
 use Rattle.cc_writes.proofs.writes.finish.Goals as goal
 
-pub end_at-requires-clause-begun : goal.end_at-requires-clause-begun
-end_at-requires-clause-begun g c κs within =
+pub finish_transfer-book-requires-clause-begun : goal.finish_transfer-book-requires-clause-begun
+finish_transfer-book-requires-clause-begun g c κs within =
     let w = g.T.Turns.standing c.args.turns.now in
-    still_begun w.in_flight w (g.T.Turns.standing c.carry-book.new.turns) c.args.page c.args.keeps c.requires.begun.before c.carry-book.ensures.went c.requires.begun.placed c.carry-book.ensures.grows
-
-pub returns-clause-both : goal.returns-clause-both
-returns-clause-both g c =
-    let w = g.T.Turns.standing c.args.turns.now in
-    let x = g.T.Turns.standing c.carry-book.new.turns in
-    let y = g.T.Turns.standing c.end_at.new.turns in
-    let device = ap (λ h. h.device) (went-held w.in_flight w x c.carry-book.ensures.went) ∙ c.requires.begun.device in
-    let book = holds_the_book x c.args.page.stream c.carry-book.result.0 c.carry-book.ensures.book in
-    let went = went-then w.in_flight x.in_flight w x y c.carry-book.ensures.went c.end_at.ensures.went in
-    both-finished g.T.Disk.Told.told g.T.Disk.Told.faults x.in_flight w y c.args.page c.args.frame c.carry-book.result.1 c.args.keeps c.args.book c.end_at.new.book c.args.disk.now c.carry-book.new.disk
-    c.requires.begun c.carry-book.ensures.carried went
-    (finished w.in_flight w x c.args.page c.carry-book.result.1 c.args.keeps y.seen c.carry-book.ensures.went device book c.carry-book.ensures.grows c.end_at.ensures.placed)
-    c.end_at.ensures.book
+    subst (λ (bytes : List ℕ). IsUnderWay g.T.Disk.Told.told g.T.Disk.Told.faults w c.args.page bytes c.args.book c.args.disk.now) (sym c.bytes.ensures) c.requires.begun
 
 pub returns-clause-left : goal.returns-clause-left
 returns-clause-left g c =
     let w = g.T.Turns.standing c.args.turns.now in
-    let x = g.T.Turns.standing c.carry-book.new.turns in
-    let y = g.T.Turns.standing c.end_at.new.turns in
-    let device = ap (λ h. h.device) (went-held w.in_flight w x c.carry-book.ensures.went) ∙ c.requires.begun.device in
-    let book = holds_the_book x c.args.page.stream c.carry-book.result.0 c.carry-book.ensures.book in
+    let y = g.T.Turns.standing c.finish_transfer-book.new.turns in
     subst (λ (r : Result PageWrite CcError). FinishLeft w c.args.page c.args.keeps r y.seen) (sym c.answer_of.ensures)
-    (finish-left w c.args.page c.carry-book.result.1 c.args.keeps y.seen
-    (finished w.in_flight w x c.args.page c.carry-book.result.1 c.args.keeps y.seen c.carry-book.ensures.went device book c.carry-book.ensures.grows c.end_at.ensures.placed))
+    (finish-left w c.args.page c.finish_transfer-book.result.1 c.args.keeps y.seen c.finish_transfer-book.ensures.left)

@@ -1,3 +1,4 @@
+-- A log that was flushed leaves the page dirty and logged, so it may be put; a log that failed stops it.
 use Rattle.std.proofs.Common.{◌≡◌, ap, sym, ◌∙◌, subst, Ok, Err, true}
 use Rattle.cc_entry.specs.Place.{Page}
 use Rattle.cc_effects.specs.Asked.{may_write}
@@ -22,7 +23,7 @@ put-requires-clause-both g c κs within =
     let both : HasBoth g.T.Disk.Told.told g.T.Disk.Told.faults w page.stream c.args.book c.args.disk.now =
     subst (λ (q : Page). HasBoth g.T.Disk.Told.told g.T.Disk.Told.faults w q.stream c.args.book c.args.disk.now) (sym same) c.requires.both in
     let write_it : IsToWrite page w.seen = subst (λ (q : Page). IsToWrite q w.seen) (sym same) c.requires.to_write in
-    both-flushed g.T.Disk.Told.told g.T.Disk.Told.faults w.in_flight w x page c.args.book c.args.disk.now both write_it c.flush_log.ensures.went c.flush_log.ensures.book c.flush_log.result c.flush_log.ensures.left
+    both-flushed g.T.Disk.Told.told g.T.Disk.Told.faults w.in_flight w x page c.args.book c.args.disk.now both c.flush_log.ensures.went c.flush_log.ensures.book c.flush_log.result c.flush_log.ensures.left
 
 pub put-requires-clause-dirty : goal.put-requires-clause-dirty
 put-requires-clause-dirty g c κs within =
@@ -33,7 +34,7 @@ put-requires-clause-dirty g c κs within =
     let both : HasBoth g.T.Disk.Told.told g.T.Disk.Told.faults w page.stream c.args.book c.args.disk.now =
     subst (λ (q : Page). HasBoth g.T.Disk.Told.told g.T.Disk.Told.faults w q.stream c.args.book c.args.disk.now) (sym same) c.requires.both in
     let write_it : IsToWrite page w.seen = subst (λ (q : Page). IsToWrite q w.seen) (sym same) c.requires.to_write in
-    dirty-flushed g.T.Disk.Told.told g.T.Disk.Told.faults w.in_flight w x page c.args.book c.args.disk.now both write_it c.flush_log.ensures.went c.flush_log.ensures.book c.flush_log.result c.flush_log.ensures.left
+    dirty-flushed g.T.Disk.Told.told g.T.Disk.Told.faults w.in_flight w x page c.args.book c.args.disk.now both c.flush_log.ensures.went c.flush_log.ensures.book c.flush_log.result c.flush_log.ensures.left write_it
 
 pub returns-in-Ok-Reached-clause-left : goal.returns-in-Ok-Reached-clause-left
 returns-in-Ok-Reached-clause-left g c work begun may is =
@@ -45,7 +46,7 @@ returns-in-Ok-Reached-clause-left g c work begun may is =
     subst (λ (q : Page). HasBoth g.T.Disk.Told.told g.T.Disk.Told.faults w q.stream c.args.book c.args.disk.now) (sym same) c.requires.both in
     let write_it : IsToWrite page w.seen = subst (λ (q : Page). IsToWrite q w.seen) (sym same) c.requires.to_write in
     subst (λ (q : Page). WriteLeft w.number work q c.put.result.1 begun (g.T.Turns.standing c.put.new.turns).seen) same
-    (written-left g.T.Disk.Told.told g.T.Disk.Told.faults w.in_flight w x page c.args.book c.args.disk.now both write_it c.flush_log.ensures.went c.flush_log.ensures.book c.flush_log.result c.flush_log.ensures.left
+    (written-left g.T.Disk.Told.told g.T.Disk.Told.faults w.in_flight w x page c.args.book c.args.disk.now both c.flush_log.ensures.went c.flush_log.ensures.book c.flush_log.result c.flush_log.ensures.left write_it
     work begun (subst (λ (q : Page). may_write work q w.seen ≡ true) (sym same) may) is c.args.keeps c.put.result.1 (g.T.Turns.standing c.put.new.turns).seen
     (c.in-Ok-Reached.is ∙ ap (λ (f : LogFlush). Ok f) c.in-Ok-Reached.field-0-is) c.put.ensures.left)
 
@@ -59,7 +60,7 @@ returns-in-Ok-Failed-clause-both g c =
     subst (λ (q : Page). HasBoth g.T.Disk.Told.told g.T.Disk.Told.faults w q.stream c.args.book c.args.disk.now) (sym same) c.requires.both in
     let write_it : IsToWrite page w.seen = subst (λ (q : Page). IsToWrite q w.seen) (sym same) c.requires.to_write in
     subst (λ (q : Page). HasBoth g.T.Disk.Told.told g.T.Disk.Told.faults x q.stream c.args.book c.args.disk.now) same
-    (both-flushed g.T.Disk.Told.told g.T.Disk.Told.faults w.in_flight w x page c.args.book c.args.disk.now both write_it c.flush_log.ensures.went c.flush_log.ensures.book c.flush_log.result c.flush_log.ensures.left)
+    (both-flushed g.T.Disk.Told.told g.T.Disk.Told.faults w.in_flight w x page c.args.book c.args.disk.now both c.flush_log.ensures.went c.flush_log.ensures.book c.flush_log.result c.flush_log.ensures.left)
 
 pub returns-in-Ok-Failed-clause-left : goal.returns-in-Ok-Failed-clause-left
 returns-in-Ok-Failed-clause-left g c work begun may is =
@@ -70,7 +71,7 @@ returns-in-Ok-Failed-clause-left g c work begun may is =
     let both : HasBoth g.T.Disk.Told.told g.T.Disk.Told.faults w page.stream c.args.book c.args.disk.now =
     subst (λ (q : Page). HasBoth g.T.Disk.Told.told g.T.Disk.Told.faults w q.stream c.args.book c.args.disk.now) (sym same) c.requires.both in
     let write_it : IsToWrite page w.seen = subst (λ (q : Page). IsToWrite q w.seen) (sym same) c.requires.to_write in
-    unlogged-left g.T.Disk.Told.told g.T.Disk.Told.faults w.in_flight w x page c.args.book c.args.disk.now both write_it c.flush_log.ensures.went c.flush_log.ensures.book c.flush_log.result c.flush_log.ensures.left
+    unlogged-left g.T.Disk.Told.told g.T.Disk.Told.faults w.in_flight w x page c.args.book c.args.disk.now both c.flush_log.ensures.went c.flush_log.ensures.book c.flush_log.result c.flush_log.ensures.left write_it
     work begun (subst (λ (q : Page). may_write work q w.seen ≡ true) (sym same) may) is c.in-Ok-Failed.handle
     (c.in-Ok-Failed.is ∙ ap (λ (f : LogFlush). Ok f) c.in-Ok-Failed.field-0-is)
 
@@ -84,7 +85,7 @@ returns-in-Err-clause-both g c =
     subst (λ (q : Page). HasBoth g.T.Disk.Told.told g.T.Disk.Told.faults w q.stream c.args.book c.args.disk.now) (sym same) c.requires.both in
     let write_it : IsToWrite page w.seen = subst (λ (q : Page). IsToWrite q w.seen) (sym same) c.requires.to_write in
     subst (λ (q : Page). HasBoth g.T.Disk.Told.told g.T.Disk.Told.faults x q.stream c.args.book c.args.disk.now) same
-    (both-flushed g.T.Disk.Told.told g.T.Disk.Told.faults w.in_flight w x page c.args.book c.args.disk.now both write_it c.flush_log.ensures.went c.flush_log.ensures.book c.flush_log.result c.flush_log.ensures.left)
+    (both-flushed g.T.Disk.Told.told g.T.Disk.Told.faults w.in_flight w x page c.args.book c.args.disk.now both c.flush_log.ensures.went c.flush_log.ensures.book c.flush_log.result c.flush_log.ensures.left)
 
 pub returns-in-Err-clause-left : goal.returns-in-Err-clause-left
 returns-in-Err-clause-left g c work begun may is =
@@ -96,7 +97,7 @@ returns-in-Err-clause-left g c work begun may is =
     subst (λ (q : Page). HasBoth g.T.Disk.Told.told g.T.Disk.Told.faults w q.stream c.args.book c.args.disk.now) (sym same) c.requires.both in
     let write_it : IsToWrite page w.seen = subst (λ (q : Page). IsToWrite q w.seen) (sym same) c.requires.to_write in
     subst (λ (q : Page). WriteLeft w.number work q (Err c.in-Err.error) begun x.seen) same
-    (unflushed-left g.T.Disk.Told.told g.T.Disk.Told.faults w.in_flight w x page c.args.book c.args.disk.now both write_it c.flush_log.ensures.went c.flush_log.ensures.book c.flush_log.result c.flush_log.ensures.left
+    (unflushed-left g.T.Disk.Told.told g.T.Disk.Told.faults w.in_flight w x page c.args.book c.args.disk.now both c.flush_log.ensures.went c.flush_log.ensures.book c.flush_log.result c.flush_log.ensures.left write_it
     work begun (subst (λ (q : Page). may_write work q w.seen ≡ true) (sym same) may) is c.in-Err.error c.in-Err.is)
 
 pub returns-in-Ok-Reached-clause-shown : goal.returns-in-Ok-Reached-clause-shown

@@ -1,3 +1,4 @@
+-- The contents find the least page up to the end as the size cuts it; that is the first of the cut range's pages.
 use Rattle.std.specs.Prelude.{◌≡◌, ◌+◌, not, min, refl}
 use Rattle.std.specs.List.{find}
 use Rattle.std.proofs.Common.{ap, sym, ◌∙◌, subst}

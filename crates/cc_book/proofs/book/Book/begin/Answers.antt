@@ -1,3 +1,4 @@
+-- A good begin asks that the page is resident, so there is a snapshot; the sharing leaves what the book means.
 use Rattle.std.specs.Prelude.{◌≡◌, ℕ, true, List, is_some, refl}
 use Rattle.std.proofs.Common.{ap, sym, subst, ◌∙◌, true≢false}
 use Rattle.cc_entry.specs.declared.entry.Entry.{Entry}

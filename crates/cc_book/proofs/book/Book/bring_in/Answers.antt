@@ -1,3 +1,4 @@
+-- A page that may come in has room for its block, and its entry may be pushed; what is kept then follows the page in.
 use Rattle.std.specs.Prelude.{◌≡◌, ◌*◌, nat_lt, List}
 use Rattle.std.proofs.Common.{ap, sym, ◌∙◌, subst}
 use Rattle.cc_entry.specs.declared.entry.Entry.{Entry}

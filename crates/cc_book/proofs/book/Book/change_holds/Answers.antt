@@ -1,3 +1,4 @@
+-- The two ends that a call may write lie below 2^64, and its pages are owned; holds and contents follow it together.
 use Rattle.std.proofs.Common.{sym}
 use Rattle.cc_model.specs.History.{history}
 use Rattle.cc_book.specs.Book.{BookState}

@@ -1,3 +1,4 @@
+-- What may be done may still be done over owned pages; the images may follow last, and all that is kept stands after.
 use Rattle.std.proofs.Common.{◌∷◌, ap, subst, ◌∙◌, refl}
 use Rattle.cc_journal.proofs.GoodEntries.{MayBePushed-good}
 use Rattle.cc_model.specs.History.{Did, history}

@@ -1,3 +1,4 @@
+-- A good end may be pushed; the journal says whether the map stays, and the contents keep or drop the pages by that.
 use Rattle.std.specs.Prelude.{◌≡◌, List}
 use Rattle.std.proofs.Common.{ap, sym, ◌∙◌, subst}
 use Rattle.cc_entry.specs.declared.entry.Entry.{Entry}

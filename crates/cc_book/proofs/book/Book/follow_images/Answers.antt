@@ -11,4 +11,4 @@ returns-in-Some-clause-stands c u past pass call reply given =
     let b : BookState = record { stream = c.self.inside.stream; state = c.self.inside.state; maps = c.self.inside.maps; holds = c.self.inside.holds; contents = c.self.inside.contents; images = c.self.inside.images } in
     let may : ImagesMayFollow u past pass call reply c.args.room c.args.was b = subst (λ (x : BookState). ImagesMayFollow u past pass call reply c.args.room c.args.was x) (sym c.self.view_is) given in
     subst (λ s. ImagesStand (Did pass call reply ∷ history past s) c.opened.new.self) (ap (λ x. x.stream) c.self.view_is)
-    (images-opened u past pass call reply c.args.room c.in-Some.room c.args.was b c.opened.new.self c.in-Some.is may (rw c.valid-valid.ensures.same at c.opened.ensures))
+    (images-opened u past pass call reply c.args.room c.in-Some.room c.args.was b c.opened.new.self c.in-Some.is may (rw c.valid-valid.ensures.same at c.opened.ensures.stands))

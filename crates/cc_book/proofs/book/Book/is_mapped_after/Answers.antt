@@ -1,3 +1,4 @@
+-- By kinds of call: an initialise makes a map, an uninitialise lets it go as the journal says, no other changes it.
 use Rattle.std.specs.Prelude.{ℕ, ◌≡◌, ◌∷◌, true, refl}
 use Rattle.std.proofs.Common.{ap, sym, subst, ◌∙◌}
 use Rattle.cc_entry.specs.declared.call.Call.{Call}

@@ -1,3 +1,4 @@
+-- What the call may do and owns is handed to the contents; the holds stand as they are, since it changes none.
 use Rattle.cc_model.specs.History.{Did, history}
 use Rattle.cc_holds.proofs.HoldsStanding.{stands-other as holds-other}
 use Rattle.cc_book.specs.Book.{BookState}

@@ -1,3 +1,4 @@
+-- The loop's invariant goes over one part of a page; at the end the parts are the bytes that the read answers.
 use Rattle.std.specs.Prelude.{◌≡◌, ◌+◌, length, min}
 use Rattle.std.proofs.Common.{ap, sym, ◌∙◌, subst, arith}
 use Rattle.std.proofs.lemmas.List.{length-append}

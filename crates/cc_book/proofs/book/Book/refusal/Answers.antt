@@ -1,3 +1,4 @@
+-- What is kept stands for what the refusal is decided from, one by one; the dirty rows are those of the stream.
 use Rattle.std.specs.Prelude.{List}
 use Rattle.std.proofs.Common.{ap, sym, ◌∙◌, subst}
 use Rattle.std.proofs.lemmas.Result.{IfOk-weaker}

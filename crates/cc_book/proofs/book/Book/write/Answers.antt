@@ -1,3 +1,4 @@
+-- The bytes as a list make the same call; it may write and owns its pages, and what is kept stands after it.
 use Rattle.std.specs.Prelude.{◌≡◌, List, ◌∷◌, None}
 use Rattle.std.proofs.Common.{ap, sym, subst, ◌∙◌}
 use Rattle.cc_entry.specs.declared.call.Call.{Call}

@@ -1,3 +1,4 @@
+-- By whether the size falls: the valid data length is cut with it or kept; with no map left the pages are gone.
 use Rattle.std.proofs.Common.{ap, min, sym, subst, ◌∙◌}
 use Rattle.cc_laws.proofs.SizeSteps.{sizes-closes_cut, sizes-closes_kept}
 use Rattle.cc_content.specs.Following.{FindsOpen}

@@ -1,3 +1,4 @@
+-- By kinds of call: each asks what its own step needs, from what the call may do, and its contents stand after it.
 use Rattle.std.proofs.Common.{◌≡◌, ◌∷◌, Some, refl, ap, sym, subst, ◌∙◌, arith}
 use Rattle.cc_model.specs.Acts.{act_of, Zeroes}
 use Rattle.cc_model.specs.History.{Did, history}

@@ -1,3 +1,4 @@
+-- A discard keeps the valid data length and takes pages out; without a map there is none to take.
 use Rattle.std.proofs.Common.{ap, sym, subst, ◌∙◌}
 use Rattle.cc_laws.proofs.SizeSteps.{sizes-discards}
 use Rattle.cc_content.specs.Following.{Finds}

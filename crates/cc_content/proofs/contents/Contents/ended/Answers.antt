@@ -1,3 +1,4 @@
+-- An end changes no byte and no size: with the map the pages stand as they are, without it none is resident.
 use Rattle.std.proofs.Common.{◌∷◌, sym, ◌∙◌}
 use Rattle.cc_model.specs.History.{Ended}
 use Rattle.cc_content.proofs.ContentSteps.{leaves-ended, stands-left, stands-gone, mapped-before}

@@ -1,3 +1,4 @@
+-- A look keeps the valid data length, and uses blocks of the pages; a stream with a use has a map.
 use Rattle.std.proofs.Common.{sym, subst, ◌∙◌}
 use Rattle.cc_content.specs.Following.{Finds}
 use Rattle.cc_content.proofs.DoneStands.{found, found-mapped, done-mapped, done-unmapped, valid-looks}

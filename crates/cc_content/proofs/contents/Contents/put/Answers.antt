@@ -1,3 +1,4 @@
+-- The valid data length rises to the end of the write as the definitions say; the pages stand with the written bytes.
 use Rattle.std.proofs.Common.{◌+◌, length, ap, max, sym, subst, ◌∙◌}
 use Rattle.cc_laws.proofs.SizeSteps.{sizes-writes}
 use Rattle.cc_content.specs.Following.{Finds}

@@ -1,3 +1,4 @@
+-- There is a map, since the page has room; the valid data length rises to the end of the stored page within the size.
 use Rattle.std.proofs.Common.{ap, max, sym, subst, ◌∙◌}
 use Rattle.cc_laws.proofs.SizeSteps.{sizes-stores}
 use Rattle.cc_model.specs.Sizes.{stored_range}

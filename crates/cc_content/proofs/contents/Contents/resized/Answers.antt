@@ -1,3 +1,4 @@
+-- The valid data length is cut to the new size; the pages follow the cut, where there is a map.
 use Rattle.std.proofs.Common.{ap, min, sym, subst, ◌∙◌}
 use Rattle.cc_laws.proofs.SizeSteps.{sizes-resizes}
 use Rattle.cc_content.specs.Following.{Finds}

@@ -1,3 +1,4 @@
+-- By whether there is a map: the snapshot is there exactly for a resident page, with its bytes, and nothing changed.
 use Rattle.std.proofs.Common.{refl, sym}
 use Rattle.cc_content.proofs.Kept.{no_map}
 use Rattle.cc_content.proofs.Orders.{is_resident-unmapped}

@@ -1,3 +1,4 @@
+-- The valid data length is cut to the new size, the pages too; the map stays open, so there are pages.
 use Rattle.std.proofs.Common.{Some, ap, min, sym, subst, ◌∙◌, true≢false}
 use Rattle.cc_laws.proofs.SizeSteps.{sizes-closes_cut}
 use Rattle.cc_content.specs.Following.{FindsOpen}

@@ -1,3 +1,4 @@
+-- The valid data length rises to the end of the range; the pages stand with its zeros.
 use Rattle.std.proofs.Common.{ap, max, sym, subst, ◌∙◌}
 use Rattle.cc_laws.proofs.SizeSteps.{sizes-zeroes}
 use Rattle.cc_content.specs.Following.{Finds}

@@ -1,3 +1,4 @@
+-- A good end makes the image known from what began; any other forgets it, for which a place was made at the begin.
 use Rattle.std.proofs.Common.{◌≡◌, inl, inr, vec_capacity, false, ap, sym, subst}
 use Rattle.cc_images.specs.Images.{Images}
 use Rattle.cc_images.specs.Following.{MayEnd}

@@ -1,6 +1,7 @@
+-- The last entry of the journal is the reply's, so what is told is told of it; without a reply nothing is.
 use Rattle.std.proofs.Common.{sym}
 use Rattle.cc_visits.proofs.Telling.{replied-last, told-last, told-nothing, told-empty}
-use Rattle.cc_visits.proofs.tell.tell.Goals as goal
+use Rattle.cc_visits.proofs.tell.tell_last.Goals as goal
 
 pub told-requires : goal.told-requires
 told-requires g c = record {

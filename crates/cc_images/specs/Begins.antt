@@ -1,0 +1,7 @@
+-- What the begin of a transfer asks of what is kept of the images.
+use Rattle.std.specs.Prelude.{◌<◌, length}
+use Rattle.cc_images.specs.Images.{Images}
+
+-- an end that fails will find its place
+abbrev pub HasRoomToBegin : Images → Type 0
+HasRoomToBegin i = length i.unknown < i.unknown_room
