@@ -1,0 +1,20 @@
+use Rattle.std.specs.Prelude.{◌≡◌, ℕ}
+use Rattle.std.proofs.Common.{sym, ◌∙◌, subst, ap}
+use Rattle.cc_model.specs.History.{history}
+use Rattle.cc_model.specs.Holds.{holds_of, is_held}
+use Rattle.cc_model.specs.Residency.{is_resident}
+use Rattle.cc_nocache.specs.Ends.{IsIdlePage}
+use Rattle.cc_nocache.proofs.Idle.{never, some-there}
+use Rattle.cc_nocache.proofs.ends.may_go.Goals as goal
+
+pub returns-in-Some : goal.returns-in-Some
+returns-in-Some g c clean u stand here =
+    let past = c.args.journal.now.entries in
+    let b = c.args.book.now in
+    let resident = sym (c.page.ensures.resident (u.opening b.stream) past stand.stands) ∙ some-there c.page.result _ c.in-Some.is in
+    let free = sym (c.is_held.ensures (u.opening b.stream) past stand.stands) ∙ c.if-is_held.false in
+    record {
+      resident = rw (here, sym c.page-number.ensures.same) resident;
+      not_held = rw (here, sym c.page-number.ensures.same) free;
+      clean = sym c.is_dirty.ensures ∙ never c.is_dirty.result clean;
+    }

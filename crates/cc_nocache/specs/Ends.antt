@@ -1,0 +1,102 @@
+-- How a noncached write ends whose page was stored: what its end asks, and what it leaves.
+use Rattle.std.specs.Prelude.{◌≡◌, ℕ, suc, ◌-◌, ◌<◌, Bool, true, false, List, [], ◌∷◌, ◌++◌}
+use Rattle.std.specs.List.{list_any}
+use Rattle.std.specs.declared.option.Option.TheVariants.{Some, None}
+use Rattle.cc_entry.specs.Place.{File, Page}
+use Rattle.cc_entry.specs.declared.call.Call.TheVariants as call
+use Rattle.cc_entry.specs.declared.entry.Entry.{Entry}
+use Rattle.cc_entry.specs.declared.entry.Entry.TheVariants as entry
+use Rattle.cc_entry.specs.declared.error.CcError.TheVariants as error
+use Rattle.cc_entry.specs.declared.reply.Outcome.TheVariants as outcome
+use Rattle.cc_entry.specs.declared.reply.Reply.TheVariants as reply
+use Rattle.cc_book.specs.Book.{BookState, done, failed}
+use Rattle.cc_journal.specs.Journal.{JournalState}
+use Rattle.cc_model.specs.Conditions.{MayFinish}
+use Rattle.cc_model.specs.Faults.{faults_since, is_failed_write}
+use Rattle.cc_model.specs.History.{Effect, history}
+use Rattle.cc_model.specs.Holds.{holds_of, is_held}
+use Rattle.cc_model.specs.Images.{open_of}
+use Rattle.cc_model.specs.Passes.{store_of, is_the_page}
+use Rattle.cc_model.specs.Residency.{is_resident}
+use Rattle.cc_model.specs.Setup.{Setup}
+use Rattle.cc_model.specs.Touches.{is_dirty}
+use Rattle.cc_step.specs.Step.{StandUnder}
+use Rattle.cc_turns.specs.Standing.{Standing}
+use Rattle.cc_turns.specs.Takes.{Grows}
+
+-- What a pass asks of a book and a journal in hand for the end of a write: the two stand under the setup, no transfer of
+-- the stream is under way, the pass's last call stored the page, which is on the disk, and the end has its place.
+pub record MayFinishHere {Q : Type 0} (u : Setup) (pass : ℕ) (file : File) (page : Page) (b : BookState) (j : JournalState Q)
+    : Type 0 where
+  pub stand : StandUnder u b j
+  pub here : file.stream ≡ page.stream
+  pub rest : open_of (history j.entries page.stream) ≡ None
+  pub finishes : MayFinish j.entries pass page.stream page.page
+  pub reserved : 0 < j.reserved
+
+-- a stretch in which at most the page went out
+abbrev pub IsOut : ℕ → Page → List Entry → Type 0
+IsOut pass page [] = Unit {0}
+IsOut pass page (e ∷ []) = e ≡ entry.PageOut pass page
+IsOut pass page (e ∷ (other ∷ more)) = ⊥
+
+-- The page went out where it could.
+pub record IsTidied {Q : Type 0} (u : Setup) (pass : ℕ) (file : File) (page : Page) (c : BookState) (j k : JournalState Q)
+    : Type 0 where
+  pub tidied : List Entry
+  pub only : IsOut pass page tidied
+  pub placed : k ≡ record j { entries = tidied ++ j.entries; rows = k.rows }
+  pub may : MayFinishHere u pass file page c k
+
+-- the entry of a noncached write of a page that was done
+abbrev pub write_done : ℕ → File → Page → List Entry → Entry
+write_done pass file page past = done pass past page.stream (call.NcWrite file page.page) reply.Unit
+
+-- The page went out where it could, and then the write was done.
+pub record IsEnded {Q : Type 0} (u : Setup) (pass : ℕ) (file : File) (page : Page) (c : BookState) (j k : JournalState Q)
+    : Type 0 where
+  pub tidied : List Entry
+  pub only : IsOut pass page tidied
+  pub placed : k ≡ record j {
+    entries = write_done pass file page (tidied ++ j.entries) ∷ (tidied ++ j.entries);
+    reserved = j.reserved - 1;
+    rows = k.rows;
+  }
+  pub stand : StandUnder u c k
+
+-- Others went on, and then the pass took the page out where it could, and placed the entry of the write.
+pub record HasFinished (w : Standing) (file : File) (page : Page) (seen : List Entry) : Type 0 where
+  pub front : List Entry
+  pub grows : Grows w front
+  pub tidied : List Entry
+  pub only : IsOut w.number page tidied
+  pub placed : seen ≡ write_done w.number file page (tidied ++ front) ∷ (tidied ++ front)
+
+-- the entry of a noncached write of a page whose transfer failed
+abbrev pub write_failed : ℕ → File → Page → List Entry → Entry
+write_failed pass file page past = failed pass past page.stream (call.NcWrite file page.page) (error.WriteFault page.page)
+
+-- A transfer of the page failed since the pass's last call, which stored it.
+pub record HasFailedSince (past : List Entry) (pass : ℕ) (page : Page) : Type 0 where
+  pub stored : is_the_page page (store_of past pass) ≡ true
+  pub failed : list_any (is_failed_write page.page) (faults_since past pass) ≡ true
+
+-- What the end of a write asks that failed so.
+pub record MayFailHere {Q : Type 0} (u : Setup) (pass : ℕ) (file : File) (page : Page) (b : BookState) (j : JournalState Q)
+    : Type 0 where
+  pub stand : StandUnder u b j
+  pub here : file.stream ≡ page.stream
+  pub fails : HasFailedSince j.entries pass page
+  pub reserved : 0 < j.reserved
+
+-- Others went on, and then the pass placed the entry of the write that failed.
+pub record HasFailedWrite (w : Standing) (file : File) (page : Page) (seen : List Entry) : Type 0 where
+  pub front : List Entry
+  pub grows : Grows w front
+  pub placed : seen ≡ write_failed w.number file page front ∷ front
+
+-- A page is resident and clean, and no hold has it.
+pub record IsIdlePage (h : List Effect) (page : ℕ) : Type 0 where
+  pub resident : is_resident h page ≡ true
+  pub not_held : is_held (holds_of h) page ≡ false
+  pub clean : is_dirty h page ≡ false

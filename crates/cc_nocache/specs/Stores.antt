@@ -1,0 +1,83 @@
+-- What the store of a page asks of a book and a journal, and what it leaves with the begin of its transfer.
+use Rattle.std.specs.Prelude.{◌≡◌, ℕ, ◌+◌, ◌≤◌, nat_lt, List, ◌∷◌, length, slice_index, if◌then◌else◌, Result, Ok, Err, ◌-◌, ◌*◌}
+use Rattle.std.specs.declared.option.Option.TheVariants.{Some, None}
+use Rattle.cc_entry.specs.Place.{File, Page}
+use Rattle.cc_entry.specs.declared.call.Call.TheVariants as call
+use Rattle.cc_entry.specs.declared.entry.Entry.{Entry}
+use Rattle.cc_entry.specs.declared.entry.Entry.TheVariants as entry
+use Rattle.cc_entry.specs.declared.error.CcError.{CcError}
+use Rattle.cc_book.specs.Book.{BookState}
+use Rattle.cc_book.specs.Stored.{store_done}
+use Rattle.cc_journal.specs.Calls.{owed_end}
+use Rattle.cc_journal.specs.Journal.{JournalState}
+use Rattle.cc_model.specs.Conditions.{MayStore}
+use Rattle.cc_model.specs.Good.{IsGood}
+use Rattle.cc_model.specs.History.{history}
+use Rattle.cc_model.specs.Refusals.{refusal}
+use Rattle.cc_model.specs.Residency.{mapped_blocks_with}
+use Rattle.cc_model.specs.Room.{reserved_in}
+use Rattle.cc_model.specs.Settings.{quota_of}
+use Rattle.cc_model.specs.Setup.{Setup}
+use Rattle.cc_model.specs.Touches.{size_of}
+use Rattle.cc_step.specs.Step.{StandUnder}
+use Rattle.cc_turns.specs.Standing.{Standing}
+use Rattle.cc_turns.specs.Takes.{Grows}
+use Rattle.cc_writes.specs.Logs.{IsStopAt, IsWant}
+
+-- A page is ready to be stored by a noncached write through a file object: nothing refuses the write, and there is room
+-- for the page's block.
+pub record IsReadyToStore (u : Setup) (past : List Entry) (file : File) (page : Page) : Type 0 where
+  pub here : file.stream ≡ page.stream
+  pub admitted : refusal u past (history past page.stream) (call.NcWrite file page.page) ≡ None
+  pub in_quota : mapped_blocks_with (history past page.stream) page.page ≤ quota_of (history past page.stream)
+
+-- What a pass asks of a book and a journal in hand for the store of these bytes: the two stand under the setup, the page
+-- is ready and may be stored.
+pub record MayStoreHere {Q : Type 0} (u : Setup) (pass : ℕ) (file : File) (page : Page) (bytes : List ℕ) (b : BookState)
+    (j : JournalState Q) : Type 0 where
+  pub stand : StandUnder u b j
+  pub ready : IsReadyToStore u j.entries file page
+  pub may : MayStore j.entries page.stream page.page bytes
+  pub owed : reserved_in j.entries ≤ j.reserved
+
+-- the store and the begin of its transfer, after a past
+abbrev pub with_store : ℕ → File → Page → List ℕ → List Entry → List Entry
+with_store pass file page bytes past = entry.WriteBegin pass page ∷ store_done pass past file page bytes ∷ past
+
+-- The store is done and the transfer begun, and two places are reserved for their ends; that of the end of another write
+-- which the pass owed is given back.
+pub record IsStored {Q : Type 0} (u : Setup) (pass : ℕ) (file : File) (page : Page) (bytes : List ℕ) (c : BookState)
+    (j k : JournalState Q) : Type 0 where
+  pub placed : k ≡ record j {
+    entries = with_store pass file page bytes j.entries;
+    reserved = (j.reserved + 2) - owed_end j.entries pass;
+    rows = k.rows;
+  }
+  pub stand : StandUnder u c k
+
+-- or there was no room for the four entries, or no memory
+pub record IsUnstored {Q : Type 0} (u : Setup) (e : CcError) (c : BookState) (j k : JournalState Q) : Type 0 where
+  pub cause : IsStopAt 4 j e
+  pub same : k ≡ j
+  pub stand : StandUnder u c k
+
+abbrev pub StoredLeft : {Q : Type 0} → Setup → ℕ → File → Page → List ℕ → Result (Unit {0}) CcError → BookState
+    → JournalState Q → JournalState Q → Type 0
+StoredLeft u pass file page bytes (Ok done) c j k = IsStored u pass file page bytes c j k
+StoredLeft u pass file page bytes (Err e) c j k = IsUnstored u e c j k
+
+-- A byte of a page that is stored, as it goes to the disk: 0 from the size on.
+abbrev pub stored_byte : ℕ → ℕ → List ℕ → ℕ → ℕ
+stored_byte size page bytes i = if nat_lt i (size - 4096 * page) then slice_index bytes i else 0
+
+-- Others went on, and then the pass stored these bytes, and began the transfer of the page.
+pub record HasStored (w : Standing) (file : File) (page : Page) (bytes : List ℕ) (seen : List Entry) : Type 0 where
+  pub front : List Entry
+  pub grows : Grows w front
+  pub good : IsGood w.setup front
+  pub placed : seen ≡ with_store w.number file page bytes front
+
+-- What the visit leaves in which a page is stored, by cases over how it ended.
+abbrev pub StoreLeft : Standing → File → Page → List ℕ → Result (Unit {0}) CcError → List Entry → Type 0
+StoreLeft w file page bytes (Ok done) seen = HasStored w file page bytes seen
+StoreLeft w file page bytes (Err e) seen = Grows w seen × IsWant e
