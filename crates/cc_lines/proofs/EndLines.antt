@@ -30,8 +30,8 @@ use Rattle.cc_pieces.specs.Served.{Served, bindings_after}
 use Rattle.cc_calls.specs.Answers.{outcome_of}
 use Rattle.cc_calls.specs.Pages.{WentOn}
 use Rattle.cc_turns.specs.Standing.{Standing}
-use Rattle.cc_pin.specs.Ends.{HoldEnded, UnpinEnds}
-use Rattle.cc_pin.specs.declared.held.Held.{Held}
+use Rattle.cc_calls.specs.Ends.{HoldEnded, UnpinEnds}
+use Rattle.cc_calls.specs.declared.held.Held.{Held}
 use Rattle.cc_lines.specs.Holds.{NamesState, held_of, kind_of, named_at}
 use Rattle.cc_lines.specs.Line.{CanServe, IsFullTold, LineEnds, StandFor, told_of}
 use Rattle.cc_lines.specs.declared.holds.Named.{Named}

@@ -11,9 +11,9 @@ use Rattle.cc_entry.specs.declared.reply.Reply.TheVariants as reply
 use Rattle.cc_effects.specs.Calls.{CallLeft}
 use Rattle.cc_effects.specs.Refusals.{may_refuse, may_want}
 use Rattle.cc_turns.specs.Standing.{Standing}
-use Rattle.cc_pin.specs.Held.{IsHolding}
-use Rattle.cc_pin.specs.Ends.{HeldReadEnds}
-use Rattle.cc_pin.specs.declared.held.Held.{Held}
+use Rattle.cc_calls.specs.Held.{IsHolding}
+use Rattle.cc_calls.specs.Ends.{HeldReadEnds}
+use Rattle.cc_calls.specs.declared.held.Held.{Held}
 use Rattle.cc_lines.specs.Line.{HeldReadTold}
 use Rattle.cc_lines.proofs.Calls.{unplaced}
 use Rattle.cc_lines.proofs.WordLines.{full-told, went-none, went-on}

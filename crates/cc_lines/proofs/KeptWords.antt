@@ -15,8 +15,8 @@ use Rattle.cc_model.specs.Setup.{Setup}
 use Rattle.cc_own.specs.Own.{IsUnchanged}
 use Rattle.cc_own.proofs.Unchanged.{unchanged-keeps}
 use Rattle.cc_pieces.specs.Bindings.{Binding}
-use Rattle.cc_pin.specs.Held.{HoldsAfter}
-use Rattle.cc_pin.specs.declared.held.Held.{Held}
+use Rattle.cc_calls.specs.Held.{HoldsAfter}
+use Rattle.cc_calls.specs.declared.held.Held.{Held}
 use Rattle.cc_lines.specs.Holds.{IsNamed, NamesStand, binding_of, held_of, named_at, or_nothing}
 use Rattle.cc_lines.specs.declared.holds.Named.{Named}
 

@@ -1,5 +1,6 @@
 -- Lemmas, each before those that cite it.
 pub mod Calls
+pub mod NoncachedCalls
 pub mod KeptWords
 pub mod WordLines
 pub mod WordChanges

@@ -24,9 +24,9 @@ use Rattle.cc_pieces.specs.Bindings.{Binding, bound, hold_named}
 use Rattle.cc_calls.specs.Answers.{CallEnds}
 use Rattle.cc_calls.specs.Pages.{WentOn}
 use Rattle.cc_turns.specs.Standing.{Standing}
-use Rattle.cc_pin.specs.Held.{IsHolding}
-use Rattle.cc_pin.specs.Ends.{RepinEnds, held_at, hold_outcome}
-use Rattle.cc_pin.specs.declared.held.Held.{Held}
+use Rattle.cc_calls.specs.Held.{IsHolding}
+use Rattle.cc_calls.specs.Ends.{RepinEnds, held_at, hold_outcome}
+use Rattle.cc_calls.specs.declared.held.Held.{Held}
 use Rattle.cc_lines.specs.Holds.{HasNamed, NamesState, bound_named, kind_of, made_told, named_at, test_of}
 use Rattle.cc_lines.specs.Line.{CanServe, LineEnds, StandFor}
 use Rattle.cc_lines.specs.declared.holds.Named.{Named}

@@ -3,8 +3,10 @@ use Rattle.std.specs.Prelude.{◌≡◌, ℕ, Result, Ok, Err, List, refl}
 use Rattle.std.specs.declared.option.Option.{Option}
 use Rattle.std.specs.declared.option.Option.TheVariants.{Some, None}
 use Rattle.std.proofs.Common.{sym, subst}
+use Rattle.cc_entry.specs.Place.{File}
 use Rattle.cc_entry.specs.declared.answer.Answer.{Answer}
 use Rattle.cc_entry.specs.declared.answer.Answer.TheVariants as answer
+use Rattle.cc_entry.specs.declared.reply.Reply.TheVariants as reply
 use Rattle.cc_entry.specs.declared.call.Call.{Call}
 use Rattle.cc_entry.specs.declared.call.Call.TheVariants as call
 use Rattle.cc_entry.specs.declared.entry.Entry.{Entry}
@@ -17,8 +19,8 @@ use Rattle.cc_model.specs.Good.{IsGood}
 use Rattle.cc_model.specs.Setup.{Setup}
 use Rattle.cc_effects.specs.LogCalls.{LogFlushLeft}
 use Rattle.cc_own.specs.Own.{IsUnchanged}
-use Rattle.cc_own.proofs.VerbsKeep.{append-unchanged, log_flush-unchanged}
-use Rattle.cc_pieces.specs.Answered.{AppendAnswered, CallAnswered, LogFlushAnswered}
+use Rattle.cc_own.proofs.VerbsKeep.{append-unchanged, log_flush-unchanged, nc_read-unchanged, nc_write-unchanged}
+use Rattle.cc_pieces.specs.Answered.{AppendAnswered, CallAnswered, LogFlushAnswered, NcReadAnswered, NcWriteAnswered}
 use Rattle.cc_pieces.specs.Bindings.{Binding}
 use Rattle.cc_pieces.specs.Served.{Served, bindings_after}
 use Rattle.cc_calls.specs.Pages.{WentOn}
@@ -83,7 +85,7 @@ module _ (u : Setup) (me : ℕ) (it : Call) (told : Answer) (old new : List Entr
   plain-served bindings (action.SetLog file handle) is = is-call _ is
   plain-served bindings other is = absurd (cc is)
 
--- such a line, a log append and a log flush leave the words as they were
+-- such a line leaves the words as they were
 plain-stand : (new : Standing) (asked : Action) (it : Call) (told : Answer) (bounds : List Bound) (bindings : List Binding) (names : NamesState) → plain_call asked ≡ Some it → StandFor new bounds bindings names → StandFor new (bound_after asked bounds) (bindings_after asked told bindings) names
 plain-stand new (action.Initialise file sizes quota temporary) it told bounds bindings names is stand = stand
 plain-stand new (action.Uninitialise file truncate) it told bounds bindings names is stand = stand
@@ -130,6 +132,34 @@ module _ (old new : Standing) (told : Answer) (names : NamesState) (full : IsFul
 
       unchanged : AppendAnswered old.setup old.number handle bytes told old.seen new.seen → (id : ℕ) → IsUnchanged old.number id old.seen new.seen
       unchanged left = by told left
+
+  pub nc_read-line : (file : File) (at len : ℕ) → NcReadAnswered old.setup old.number file at len told old.seen new.seen → LineEnds old new (action.NcRead file at len) told names names
+  nc_read-line file at len left = record {
+    served = λ bounds bindings stand right. (left, stand-on old new went good bounds bindings names (by told left) stand);
+    full = full;
+    goes_on = went;
+    good = good;
+    room = refl;
+  }
+    where
+      by : (told : Answer) → NcReadAnswered old.setup old.number file at len told old.seen new.seen → (id : ℕ) → IsUnchanged old.number id old.seen new.seen
+      by (answer.Given (reply.Read bytes)) left id = nc_read-unchanged old.setup old.number id file at len (Ok bytes) old.seen new.seen left
+      by (answer.NcRefused done cause) left id = nc_read-unchanged old.setup old.number id file at len (Err (done, cause)) old.seen new.seen left
+      by other left id = absurd left
+
+  pub nc_write-line : (file : File) (at : ℕ) (bytes : List ℕ) → NcWriteAnswered old.setup old.number file at bytes told old.seen new.seen → LineEnds old new (action.NcWrite file at bytes) told names names
+  nc_write-line file at bytes left = record {
+    served = λ bounds bindings stand right. (left, stand-on old new went good bounds bindings names (by told left) stand);
+    full = full;
+    goes_on = went;
+    good = good;
+    room = refl;
+  }
+    where
+      by : (told : Answer) → NcWriteAnswered old.setup old.number file at bytes told old.seen new.seen → (id : ℕ) → IsUnchanged old.number id old.seen new.seen
+      by (answer.Count n) left id = nc_write-unchanged old.setup old.number id file at bytes (Ok n) old.seen new.seen left
+      by (answer.NcRefused done cause) left id = nc_write-unchanged old.setup old.number id file at bytes (Err (done, cause)) old.seen new.seen left
+      by other left id = absurd left
 
   pub log_flush-line : (handle lsn : ℕ) (ended : Result (Unit {0}) CcError) → told ≡ told_of ended → LogFlushLeft {T = Unit {0}} old.setup old.number handle lsn ended old.seen new.seen → LineEnds old new (action.LogFlush handle lsn) told names names
   log_flush-line handle lsn ended is left = record {

@@ -28,9 +28,9 @@ use Rattle.cc_step.specs.Step.{most_asked}
 use Rattle.cc_calls.specs.Answers.{CanCall, outcome_of}
 use Rattle.cc_turns.specs.Standing.{Standing}
 use Rattle.cc_visits.specs.Ways.{IsFull}
-use Rattle.cc_pin.specs.Held.{HoldsAfter, IsHolding, covers}
-use Rattle.cc_pin.specs.Ends.{UseEnds}
-use Rattle.cc_pin.specs.declared.held.Held.{Held}
+use Rattle.cc_calls.specs.Held.{HoldsAfter, IsHolding, covers}
+use Rattle.cc_calls.specs.Ends.{UseEnds}
+use Rattle.cc_calls.specs.declared.held.Held.{Held}
 use Rattle.cc_lines.specs.Holds.{HasNamed, NamesState, held_of, kind_of, named_at, test_of}
 use Rattle.cc_lines.specs.Line.{CanServe, HeldReadTold, IsFullTold, LineEnds, StandFor, told_of}
 use Rattle.cc_lines.specs.declared.holds.Named.{Named}

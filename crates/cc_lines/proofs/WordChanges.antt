@@ -35,9 +35,9 @@ use Rattle.cc_pieces.specs.Answered.{CallAnswered}
 use Rattle.cc_pieces.specs.Bindings.{Binding, bound, pinned_if}
 use Rattle.cc_calls.specs.Pages.{WentOn}
 use Rattle.cc_turns.specs.Standing.{Standing}
-use Rattle.cc_pin.specs.Held.{HoldsAfter, IsHolding}
-use Rattle.cc_pin.specs.Ends.{held_at, hold_outcome}
-use Rattle.cc_pin.specs.declared.held.Held.{Held}
+use Rattle.cc_calls.specs.Held.{HoldsAfter, IsHolding}
+use Rattle.cc_calls.specs.Ends.{held_at, hold_outcome}
+use Rattle.cc_calls.specs.declared.held.Held.{Held}
 use Rattle.cc_lines.specs.Holds.{HasNamed, IsNamed, NamesStand, NamesState, binding_of, bound_named, held_of, kind_of, made_told, named_at, or_nothing, test_of}
 use Rattle.cc_lines.specs.Line.{StandFor}
 use Rattle.cc_lines.specs.declared.holds.Named.{Named}

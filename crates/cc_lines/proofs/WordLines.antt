@@ -30,8 +30,8 @@ use Rattle.cc_calls.specs.Pages.{WentOn}
 use Rattle.cc_turns.specs.Standing.{Standing}
 use Rattle.cc_visits.specs.Hands.{Went}
 use Rattle.cc_visits.specs.Ways.{IsFullError}
-use Rattle.cc_pin.specs.Held.{HoldsAfter}
-use Rattle.cc_pin.specs.declared.held.Held.{Held}
+use Rattle.cc_calls.specs.Held.{HoldsAfter}
+use Rattle.cc_calls.specs.declared.held.Held.{Held}
 use Rattle.cc_lines.specs.Holds.{HasNamed, IsNamed, NamesStand, NamesState, held_of, kind_of, named_at, test_of}
 use Rattle.cc_lines.specs.Line.{IsFullTold, StandFor}
 use Rattle.cc_lines.specs.declared.holds.Named.{Named}

@@ -15,8 +15,8 @@ use Rattle.cc_script.specs.HoldWords.{binds}
 use Rattle.cc_script.specs.declared.bound.Bound.{Bound}
 use Rattle.cc_script.specs.declared.script.Action.{Action}
 use Rattle.cc_pieces.specs.Bindings.{Binding}
-use Rattle.cc_pin.specs.Held.{HoldsAfter}
-use Rattle.cc_pin.specs.declared.held.Held.{Held}
+use Rattle.cc_calls.specs.Held.{HoldsAfter}
+use Rattle.cc_calls.specs.declared.held.Held.{Held}
 use Rattle.cc_lines.specs.declared.holds.Named.{Named}
 use Rattle.cc_lines.specs.declared.holds.Named.TheVariants as named
 

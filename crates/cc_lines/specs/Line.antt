@@ -20,8 +20,9 @@ use Rattle.cc_pieces.specs.Served.{Served, bindings_after}
 use Rattle.cc_turns.specs.Standing.{Standing, nothing}
 use Rattle.cc_visits.specs.Ways.{IsFullError}
 use Rattle.cc_calls.specs.Pages.{StaysGood, WentOn}
-use Rattle.cc_pin.specs.Held.{IsHolding}
-use Rattle.cc_pin.specs.declared.held.Held.{Held}
+use Rattle.cc_nocache.specs.declared.error.NcError.{NcError}
+use Rattle.cc_calls.specs.Held.{IsHolding}
+use Rattle.cc_calls.specs.declared.held.Held.{Held}
 use Rattle.cc_lines.specs.Holds.{NamesState, NamesStand, HasRoom}
 
 -- an action on one of so many streams, or on none; one on a hold names no stream
@@ -51,6 +52,8 @@ IsServable streams (action.SetSizes file allocation size) = file.stream < stream
 IsServable streams (action.State file) = file.stream < streams
 IsServable streams (action.Flush file span) = file.stream < streams
 IsServable streams (action.Purge file span) = file.stream < streams
+IsServable streams (action.NcRead file at len) = file.stream < streams
+IsServable streams (action.NcWrite file at bytes) = file.stream < streams
 IsServable streams action.IsDirtyData = Unit {0}
 IsServable streams (action.DirtyPages handle) = Unit {0}
 IsServable streams (action.LsnForFile file) = file.stream < streams
@@ -75,10 +78,11 @@ pub record CanServe (w : Standing) (asked : Action) (names : NamesState) : Type 
   pub right : UsesRight bounds asked
   pub room : HasRoom asked names
 
--- an answer, which is none of a noncached call, says that the journal is full only where it is
+-- An answer says that the journal is full only where it is: with no room for so many places as a call asks at once, 3 at
+-- most, or 4 where it is a noncached one.
 abbrev pub IsFullTold : Standing → Answer → Type 0
 IsFullTold w (answer.Refused e) = IsFullError 3 w e
-IsFullTold w (answer.NcRefused done cause) = ⊥
+IsFullTold w (answer.NcRefused done cause) = IsFullError 4 w cause
 IsFullTold w other = Unit {0}
 
 -- A line was served: it left what explains its answer, over what the caller's words name, and what is kept of them
@@ -122,6 +126,10 @@ rows_told (Err e) = answer.Refused e
 abbrev pub lsns_told : Result (Option (ℕ × ℕ)) CcError → Answer
 lsns_told (Ok lsns) = answer.Given (reply.Lsns lsns)
 lsns_told (Err e) = answer.Refused e
+
+-- the answer of a noncached line that was refused
+abbrev pub nc_refused : NcError → Answer
+nc_refused e = answer.NcRefused e.done e.cause
 
 -- A read through a hold was answered so, and the pass has the hold still.
 pub record HeldReadTold (old new : Standing) (of_kind : HoldKind → Bool) (held : Held) (it : Call) (told : Answer) : Type 0 where

@@ -4,22 +4,20 @@ ghost use Rattle.std.specs.Prelude.{◌≡◌, ◌<◌, ◌++◌, ◌∷◌, [],
 ghost use Rattle.cc_entry.specs.Kinds.{is_map, is_pin, is_read_chain, is_write_chain};
 ghost use Rattle.cc_entry.specs.declared.call.Call.TheVariants as call;
 ghost use Rattle.cc_calls.specs.Answers.{CanCall};
-ghost use Rattle.cc_pin.specs.Held.{IsHolding, covers};
+ghost use Rattle.cc_calls.specs.Held.{IsHolding, covers};
 ghost use Rattle.cc_script.specs.declared.script.Action.TheVariants as action;
 ghost use Rattle.cc_lines.specs.Holds.{bound_named, made_told};
 ghost use Rattle.cc_lines.specs.Line.{CanServe, CanServeNext, HeldReadTold, LineEnds, NextEnds};
 
 use crate::holds::{Named, Names};
 use crate::line::answered;
+use cc_calls::{
+    Hold, Mapped, Pinned, ReadChain, WriteChain, map_data, mapped_read, mdl_bytes, mdl_read,
+    mdl_read_complete, mdl_store, mdl_write_abort, mdl_write_complete, pin_mapped, pin_read,
+    pinned_read, pinned_write, prepare_mdl_write, prepare_pin_write, repin, set_dirty, unmap,
+    unpin, unpin_repinned,
+};
 use cc_entry::{Answer, Bytes, BytesRoom, CcError, FileId, Lsn, Reply};
-use cc_mdl::{
-    ReadChain, WriteChain, mdl_bytes, mdl_read, mdl_read_complete, mdl_store, mdl_write_abort,
-    mdl_write_complete, prepare_mdl_write,
-};
-use cc_pin::{
-    Hold, Mapped, Pinned, map_data, mapped_read, pin_mapped, pin_read, pinned_read, pinned_write,
-    prepare_pin_write, repin, set_dirty, unmap, unpin, unpin_repinned,
-};
 use cc_script::HoldWord;
 use cc_turns::Turns;
 use std::alloc::Global;

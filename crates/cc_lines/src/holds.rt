@@ -4,9 +4,8 @@ ghost use Rattle.std.specs.Prelude.{◌≡◌, ◌<◌, ◌≤◌, ◌++◌, ◌
 ghost use Rattle.std.specs.Option.{option_copied};
 ghost use Rattle.cc_lines.specs.Holds.{named_at};
 
+use cc_calls::{Hold, Mapped, Pinned, ReadChain, Repinned, WriteChain};
 use cc_entry::NoMemory;
-use cc_mdl::{ReadChain, WriteChain};
-use cc_pin::{Hold, Mapped, Pinned, Repinned};
 use cc_script::HoldWord;
 use std::alloc::Global;
 use std::marker::Model;

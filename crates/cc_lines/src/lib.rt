@@ -5,14 +5,15 @@
 //! on standing for what the caller was answered: each word names the hold that its line made, which the caller has still,
 //! or nothing where none was made.
 //!
-//! `line` serves an action, `held_lines` one on a hold, `holds` keeps what the words of a caller name. The phases of a run
-//! stand above (`cc_run`); below are the calls (`cc_calls`, `cc_pin`, `cc_mdl`) and how the journal explains answers
-//! (`cc_pieces`).
+//! `line` serves an action, `held_lines` one on a hold, `noncached_lines` one past the cache, and `holds` keeps what the
+//! words of a caller name. The phases of a run stand above (`cc_run`); below are the calls (`cc_calls`, `cc_nocache`)
+//! and how the journal explains answers (`cc_pieces`).
 #![tactic(auto)]
 
 mod held_lines;
 mod holds;
 mod line;
+mod noncached_lines;
 
 pub use holds::{Named, Names};
 pub use line::{answered, serve_at};

@@ -13,6 +13,7 @@ use crate::held_lines::{
     map, pin, pin_map, prepare, release, release_repinned, stamp, write_chain,
 };
 use crate::holds::Names;
+use crate::noncached_lines::{read_noncached, write_noncached};
 use cc_calls::{
     copy_read, copy_write, dirty_pages, file_state, flush, initialize, is_dirty_data, log_append,
     log_flush, lsn_for_file, purge, set_file_sizes, set_log_handle, uninitialize, zero_data,
@@ -109,6 +110,8 @@ fn serve<T: Turns>(alloc: Global, turns: &mut T, action: &Action, names: &mut Na
         Action::State { file } => state(file_state(alloc, turns, *file)),
         Action::Flush { file, span } => answered(flush(alloc, turns, *file, *span)),
         Action::Purge { file, span } => answered(purge(alloc, turns, *file, *span)),
+        Action::NcRead { file, at, len } => read_noncached(alloc, turns, *file, *at, *len),
+        Action::NcWrite { file, at, bytes } => write_noncached(alloc, turns, *file, *at, bytes),
         Action::IsDirtyData => flag(is_dirty_data(turns)),
         Action::DirtyPages { handle } => rows(dirty_pages(alloc, turns, *handle)),
         Action::LsnForFile { file } => lsns(lsn_for_file(alloc, turns, *file)),

@@ -1,5 +1,6 @@
 pub mod LineSteps
 pub mod PlainReads
+pub mod PlainPages
 pub mod ClosedMaps
 pub mod OneCaller
 pub mod Words

@@ -3,6 +3,7 @@ use Rattle.std.specs.Prelude.{◌≡◌, ℕ, ◌<◌, Bool, true, false, List, 
 use Rattle.std.specs.declared.option.Option.{Option}
 use Rattle.std.specs.declared.option.Option.TheVariants.{Some, None}
 use Rattle.std.proofs.Common.{ap, arith}
+use Rattle.cc_entry.specs.Place.{File}
 use Rattle.cc_entry.specs.Kinds.{is_map, is_pin, is_repin, is_read_chain, is_write_chain}
 use Rattle.cc_entry.specs.declared.hold.HoldKind.{HoldKind}
 use Rattle.cc_entry.specs.declared.call.Call.{Call}
@@ -22,10 +23,10 @@ use Rattle.cc_model.specs.Room.{room_in}
 use Rattle.cc_effects.specs.Moments.{IsIdle, Between}
 use Rattle.cc_effects.proofs.Stretches.{idle-then, idle-none, some-after, some-before}
 use Rattle.cc_effects.proofs.CallSteps.{left-after, left-before}
-use Rattle.cc_effects.proofs.NoncachedSteps.{unpin-after, unpin-before}
+use Rattle.cc_effects.proofs.NoncachedSteps.{nc-read-after, nc-read-before, nc-write-after, nc-write-before, unpin-after, unpin-before}
 use Rattle.cc_effects.proofs.OtherSteps.{append-after, append-before, log-flush-after, log-flush-before}
 use Rattle.cc_pieces.specs.Bindings.{Binding, hold_named, OnHold}
-use Rattle.cc_pieces.specs.Answered.{CallAnswered, AppendAnswered, LogFlushAnswered}
+use Rattle.cc_pieces.specs.Answered.{CallAnswered, AppendAnswered, LogFlushAnswered, NcReadAnswered, NcWriteAnswered}
 use Rattle.cc_pieces.specs.HoldLines.{HoldLine, HeldReadBy, UnpinAnswered, UnrepinLine}
 use Rattle.cc_pieces.specs.Served.{Served, bindings_after}
 use Rattle.cc_pieces.specs.Rooms.{WasFull, HadNoRoom}
@@ -60,6 +61,26 @@ log_flushed-after : (u : Setup) (me handle lsn : ℕ) (told : Answer) (old new n
 log_flushed-after u me handle lsn (answer.Given reply.Unit) old new newer left idle = log-flush-after {T = Unit {0}} u me handle lsn (Ok tt) old new newer left idle
 log_flushed-after u me handle lsn (answer.Refused e) old new newer left idle = log-flush-after {T = Unit {0}} u me handle lsn (Err e) old new newer left idle
 log_flushed-after u me handle lsn other old new newer left idle = absurd left
+
+nc_read-before : (u : Setup) (me : ℕ) (file : File) (at len : ℕ) (told : Answer) (older old new : List Entry) → IsIdle me older old → NcReadAnswered u me file at len told old new → NcReadAnswered u me file at len told older new
+nc_read-before u me file at len (answer.Given (reply.Read bytes)) older old new idle left = nc-read-before u me file at len (Ok bytes) older old new idle left
+nc_read-before u me file at len (answer.NcRefused done cause) older old new idle left = nc-read-before u me file at len (Err (done, cause)) older old new idle left
+nc_read-before u me file at len other older old new idle left = absurd left
+
+nc_read-after : (u : Setup) (me : ℕ) (file : File) (at len : ℕ) (told : Answer) (old new newer : List Entry) → NcReadAnswered u me file at len told old new → IsIdle me new newer → NcReadAnswered u me file at len told old newer
+nc_read-after u me file at len (answer.Given (reply.Read bytes)) old new newer left idle = nc-read-after u me file at len (Ok bytes) old new newer left idle
+nc_read-after u me file at len (answer.NcRefused done cause) old new newer left idle = nc-read-after u me file at len (Err (done, cause)) old new newer left idle
+nc_read-after u me file at len other old new newer left idle = absurd left
+
+nc_write-before : (u : Setup) (me : ℕ) (file : File) (at : ℕ) (bytes : List ℕ) (told : Answer) (older old new : List Entry) → IsIdle me older old → NcWriteAnswered u me file at bytes told old new → NcWriteAnswered u me file at bytes told older new
+nc_write-before u me file at bytes (answer.Count n) older old new idle left = nc-write-before u me file at bytes (Ok n) older old new idle left
+nc_write-before u me file at bytes (answer.NcRefused done cause) older old new idle left = nc-write-before u me file at bytes (Err (done, cause)) older old new idle left
+nc_write-before u me file at bytes other older old new idle left = absurd left
+
+nc_write-after : (u : Setup) (me : ℕ) (file : File) (at : ℕ) (bytes : List ℕ) (told : Answer) (old new newer : List Entry) → NcWriteAnswered u me file at bytes told old new → IsIdle me new newer → NcWriteAnswered u me file at bytes told old newer
+nc_write-after u me file at bytes (answer.Count n) old new newer left idle = nc-write-after u me file at bytes (Ok n) old new newer left idle
+nc_write-after u me file at bytes (answer.NcRefused done cause) old new newer left idle = nc-write-after u me file at bytes (Err (done, cause)) old new newer left idle
+nc_write-after u me file at bytes other old new newer left idle = absurd left
 
 -- a line on a hold, whatever it leaves there
 held-before : (me : ℕ) (hold : Option ℕ) (Left : ℕ → Answer → Between) (told : Answer) (older old new : List Entry) → ((id : ℕ) → Left id told old new → Left id told older new) → IsIdle me older old → OnHold me hold Left told old new → OnHold me hold Left told older new
@@ -139,6 +160,8 @@ served-before u me bindings (action.SetSizes file allocation size) told older ol
 served-before u me bindings (action.State file) told older old new idle left = answered-before u me (call.State file) told older old new idle left
 served-before u me bindings (action.Flush file span) told older old new idle left = answered-before u me (call.Flush file span) told older old new idle left
 served-before u me bindings (action.Purge file span) told older old new idle left = answered-before u me (call.Purge file span) told older old new idle left
+served-before u me bindings (action.NcRead file at len) told older old new idle left = nc_read-before u me file at len told older old new idle left
+served-before u me bindings (action.NcWrite file at bytes) told older old new idle left = nc_write-before u me file at bytes told older old new idle left
 served-before u me bindings action.IsDirtyData told older old new idle left = answered-before u me call.IsDirtyData told older old new idle left
 served-before u me bindings (action.DirtyPages handle) told older old new idle left = answered-before u me (call.DirtyPages handle) told older old new idle left
 served-before u me bindings (action.LsnForFile file) told older old new idle left = answered-before u me (call.LsnForFile file) told older old new idle left
@@ -181,6 +204,8 @@ served-after u me bindings (action.SetSizes file allocation size) told old new n
 served-after u me bindings (action.State file) told old new newer left idle = answered-after u me (call.State file) told old new newer left idle
 served-after u me bindings (action.Flush file span) told old new newer left idle = answered-after u me (call.Flush file span) told old new newer left idle
 served-after u me bindings (action.Purge file span) told old new newer left idle = answered-after u me (call.Purge file span) told old new newer left idle
+served-after u me bindings (action.NcRead file at len) told old new newer left idle = nc_read-after u me file at len told old new newer left idle
+served-after u me bindings (action.NcWrite file at bytes) told old new newer left idle = nc_write-after u me file at bytes told old new newer left idle
 served-after u me bindings action.IsDirtyData told old new newer left idle = answered-after u me call.IsDirtyData told old new newer left idle
 served-after u me bindings (action.DirtyPages handle) told old new newer left idle = answered-after u me (call.DirtyPages handle) told old new newer left idle
 served-after u me bindings (action.LsnForFile file) told old new newer left idle = answered-after u me (call.LsnForFile file) told old new newer left idle

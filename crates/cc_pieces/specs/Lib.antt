@@ -5,6 +5,7 @@ pub mod HoldLines
 pub mod Shim
 pub mod Served
 pub mod Rooms
+pub mod PlainPages
 pub mod Runs
 pub mod Openings
 pub mod Phases

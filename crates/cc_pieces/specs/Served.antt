@@ -11,7 +11,7 @@ use Rattle.cc_entry.specs.declared.hold.HoldKind.TheVariants as kind
 use Rattle.cc_pieces.specs.Bindings.{Binding, bound, pinned}
 use Rattle.cc_pieces.specs.HoldLines.{PinMappedLine, HeldReadLine, PinnedWriteLine, StampLine, UnpinLine, RepinLine, UnrepinLine}
 use Rattle.cc_pieces.specs.HoldLines.{ChainReadLine, ChainStoreLine, ChainDoneLine, ChainAbortLine}
-use Rattle.cc_pieces.specs.Answered.{CallAnswered, AppendAnswered, LogFlushAnswered}
+use Rattle.cc_pieces.specs.Answered.{CallAnswered, AppendAnswered, LogFlushAnswered, NcReadAnswered, NcWriteAnswered}
 
 -- from one moment to another, the caller's line left what explains its answer
 abbrev pub Served : Setup → ℕ → List Binding → Action → Answer → Between
@@ -44,6 +44,8 @@ Served u me bindings (action.SetSizes file allocation size) told old new =
 Served u me bindings (action.State file) told old new = CallAnswered u me (call.State file) told old new
 Served u me bindings (action.Flush file span) told old new = CallAnswered u me (call.Flush file span) told old new
 Served u me bindings (action.Purge file span) told old new = CallAnswered u me (call.Purge file span) told old new
+Served u me bindings (action.NcRead file at len) told old new = NcReadAnswered u me file at len told old new
+Served u me bindings (action.NcWrite file at bytes) told old new = NcWriteAnswered u me file at bytes told old new
 Served u me bindings action.IsDirtyData told old new = CallAnswered u me call.IsDirtyData told old new
 Served u me bindings (action.DirtyPages handle) told old new = CallAnswered u me (call.DirtyPages handle) told old new
 Served u me bindings (action.LsnForFile file) told old new = CallAnswered u me (call.LsnForFile file) told old new
@@ -78,6 +80,8 @@ bindings_after (action.SetSizes file allocation size) told bindings = bindings
 bindings_after (action.State file) told bindings = bindings
 bindings_after (action.Flush file span) told bindings = bindings
 bindings_after (action.Purge file span) told bindings = bindings
+bindings_after (action.NcRead file at len) told bindings = bindings
+bindings_after (action.NcWrite file at bytes) told bindings = bindings
 bindings_after action.IsDirtyData told bindings = bindings
 bindings_after (action.DirtyPages handle) told bindings = bindings
 bindings_after (action.LsnForFile file) told bindings = bindings
@@ -112,6 +116,8 @@ posted_by (action.SetSizes file allocation size) told = []
 posted_by (action.State file) told = []
 posted_by (action.Flush file span) told = []
 posted_by (action.Purge file span) told = []
+posted_by (action.NcRead file at len) told = []
+posted_by (action.NcWrite file at bytes) told = []
 posted_by action.IsDirtyData told = []
 posted_by (action.DirtyPages handle) told = []
 posted_by (action.LsnForFile file) told = []

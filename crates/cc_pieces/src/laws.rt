@@ -22,8 +22,10 @@ ghost use Rattle.cc_model.specs.Touches.{is_mapped};
 ghost use Rattle.cc_model.specs.Replies.{Reads};
 ghost use Rattle.cc_model.specs.Good.{IsGood};
 ghost use Rattle.cc_effects.specs.Moments.{IsIdle};
+ghost use Rattle.cc_effects.specs.Noncached.{pages_from};
 ghost use Rattle.cc_pieces.specs.Bindings.{Binding, bound, pinned, hold_named, OnHold};
 ghost use Rattle.cc_pieces.specs.HoldLines.{HeldReadLine, PinnedWriteLine};
+ghost use Rattle.cc_pieces.specs.PlainPages.{ArePlainPages};
 ghost use Rattle.cc_pieces.specs.Runs.{Explains, Ran, bindings_of};
 
 /// What explains a line explains it in every longer stretch in which the caller placed nothing else.
@@ -63,6 +65,16 @@ pub fn reads_answer_the_plain_file()
         ++ (entry.Call me nth (Some file.stream) (call.CopyRead file at len wait) (outcome.Done (reply.Read bytes))
         ∷ (earlier ++ old)))
         × Reads (u.opening file.stream) (history (earlier ++ old) file.stream) at len (reply.Read bytes) }
+{}
+
+/// In a good journal, each page that a noncached read answered has its entry in the piece of the line, and the bytes are
+/// the plain file's at that place.
+pub fn noncached_reads_answer_the_plain_file()
+    ensures { (u : Setup) (limit me : ℕ) (bindings : List Binding) (file : File) (at len : ℕ) (bytes : List ℕ)
+        (old new newer : List Entry) →
+        IsGood u (newer ++ new) →
+        Explains u limit me bindings (action.NcRead file at len) (answer.Given (reply.Read bytes)) old new →
+        ArePlainPages u me file (pages_from at len) bytes old new }
 {}
 
 /// In a good journal, a line that an uninitialise answered (`CcUninitializeCacheMap`) has its entry in its piece, and was

@@ -1,4 +1,4 @@
-//! Answers as they are printed.
+//! What a line was answered, as it is printed.
 
 ghost use Rattle.std.specs.Prelude.{◌≡◌, ◌++◌, OnOk, string_bytes};
 ghost use Rattle.cc_print.specs.Answers.{error_numbers, error_text, row_text, rows_text, counted_rows, lsns_text, number_or_dash, state_text, request_text, ahead_text, whole_word, stepped_text, reply_text, ids_text, more_ids, tick_text, answer_text};

@@ -30,21 +30,23 @@ use Rattle.cc_run.specs.Lines.{LineEnd, LineLeft, MayServeLine}
 use Rattle.cc_run.proofs.Others.{idle-acted}
 
 -- a journal that is full, with nothing of the pass under way and not much of others, was so at the end of the line
-pub full-at : (w : Standing) (limit entries : ℕ) (during old : List Entry) → w.seen ≡ during ++ old → w.in_flight ≡ 0 → w.others + 3 ≤ limit → IsFullError 3 w (error.JournalFull entries) → WasFull w.setup limit entries old w.seen
+pub full-at : (w : Standing) (limit entries asked : ℕ) → 0 < asked → (during old : List Entry) → w.seen ≡ during ++ old → w.in_flight ≡ 0 → w.others + asked ≤ limit → IsFullError asked w (error.JournalFull entries) → WasFull w.setup limit entries old w.seen
 unfolding room_in
-full-at w limit entries during old grew rest few full =
+full-at w limit entries asked above during old grew rest few full =
     rw grew (some-end (λ moment. (entries ≡ length moment) × (room_in w.setup moment 0 < limit)) during old
-    (rw (← grew) (full.0, omega (arith, full.1, rest, few))))
+    (rw (← grew) (full.0, omega (arith, full.1, rest, few, above))))
 
-room-at : (w : Standing) (limit : ℕ) (told : Answer) (during old : List Entry) → w.seen ≡ during ++ old → w.in_flight ≡ 0 → w.others + 3 ≤ limit → IsFullTold w told → HadNoRoom w.setup limit told old w.seen
-room-at w limit (answer.Refused (error.JournalFull entries)) during old grew rest few full = full-at w limit entries during old grew rest few full
-room-at w limit (answer.NcRefused done cause) during old grew rest few full = absurd full
+room-at : (w : Standing) (limit : ℕ) (told : Answer) (during old : List Entry) → w.seen ≡ during ++ old → w.in_flight ≡ 0 → w.others + 4 ≤ limit → IsFullTold w told → HadNoRoom w.setup limit told old w.seen
+room-at w limit (answer.Refused (error.JournalFull entries)) during old grew rest few full =
+    full-at w limit entries 3 (omega arith) during old grew rest (omega (arith, few)) full
+room-at w limit (answer.NcRefused done (error.JournalFull entries)) during old grew rest few full =
+    full-at w limit entries 4 (omega arith) during old grew rest few full
 room-at w limit other during old grew rest few full = tt
 
 -- on a desk others have nothing under way
 pub room-left : (w : Standing) (u : Setup) (me : ℕ) (it : Call) (told : Answer) (old : List Entry) → CallAnswered u me it told old w.seen → w.in_flight ≡ 0 → w.others ≡ 0 → IsFullTold w told → HadNoRoom w.setup 4 told old w.seen
-room-left w u me it (answer.Refused (error.JournalFull entries)) old left rest alone full = full-at w 4 entries left.during old left.grew rest (omega (arith, alone)) full
-room-left w u me it (answer.NcRefused done cause) old left rest alone full = absurd full
+room-left w u me it (answer.Refused (error.JournalFull entries)) old left rest alone full = full-at w 4 entries 3 (omega arith) left.during old left.grew rest (omega (arith, alone)) full
+room-left w u me it (answer.NcRefused done cause) old left rest alone full = absurd left
 room-left w u me it other old left rest alone full = tt
 
 -- the same pass in the same run, where a call went on

@@ -17,7 +17,7 @@ use Rattle.cc_model.specs.Setup.{Setup}
 use Rattle.cc_effects.specs.Failures.{failures}
 use Rattle.cc_turns.specs.Disk.{DiskStands, HasGone}
 use Rattle.cc_turns.specs.Desk.{disk_at_first}
-use Rattle.cc_run.specs.Disks.{Pairwise, DisksAre, DisksStand, HaveRisen, AreCounted}
+use Rattle.cc_run.specs.Disks.{Pairwise, DisksAre, DisksLeft, DisksStand, HaveRisen, AreCounted}
 use Rattle.cc_run.proofs.Returned.{some-same, pairwise-same, as-many, firsts, others, of-all}
 
 -- Disks of a run that stand for a past, before those that the run did not take.
@@ -31,20 +31,23 @@ module _ {D : Type 0} (told : D → Option Disk) (faults : D → ℕ) (past : Li
   stood-back : Pairwise Stood (take 16 old) (take 16 new)
   stood-back = firsts 16 Stood old front new stand.counted stood back
 
-  pub disks-are : DisksAre told past old new
+  disks-are : DisksAre told past old new
   disks-are = record {
     count = as-many 16 Stood old front new stand.counted stood back;
     went = λ s before after was is. (stood-back s before after was is).has_gone;
     rest = others 16 Stood old front new stand.counted stood back;
   }
 
-  pub are-counted : AreCounted faults past old new
+  are-counted : AreCounted faults past old new
   are-counted s before after was is = (stood-back s before after was is).counted
 
-  pub have-risen : HaveRisen faults old new
+  have-risen : HaveRisen faults old new
   have-risen =
       of-all 16 Stood old front new stand.counted stood back (λ before after. faults before ≤ faults after) (λ d. omega arith)
       (λ s before after stands. omega (arith, stands.counted))
+
+  pub disks-left : DisksLeft told faults past old new
+  disks-left = record { are = disks-are; counted = are-counted; risen = have-risen }
 
 -- a disk that was not used has gone nowhere
 gone-none : (now : Option Disk) → Both now now (HasGone (history [] 0))
@@ -66,19 +69,26 @@ unfolding history
 history-none s = refl
 
 -- the disks as they were
-pub disks-same : {D : Type 0} (told : D → Option Disk) (disks : List D) → DisksAre told [] disks disks
+disks-same : {D : Type 0} (told : D → Option Disk) (disks : List D) → DisksAre told [] disks disks
 disks-same told disks = record {
   count = refl;
   went = pairwise-same (λ s before after. Both (told before) (told after) (HasGone (history [] s))) (take 16 disks) (λ s d. rw (history-none s) (gone-none (told d)));
   rest = refl;
 }
 
-pub risen-same : {D : Type 0} (faults : D → ℕ) (disks : List D) → HaveRisen faults disks disks
+risen-same : {D : Type 0} (faults : D → ℕ) (disks : List D) → HaveRisen faults disks disks
 risen-same faults disks = pairwise-same (λ s before after. faults before ≤ faults after) disks (λ s d. omega arith)
 
-pub counted-same : {D : Type 0} (faults : D → ℕ) (disks : List D) → AreCounted faults [] disks disks
+counted-same : {D : Type 0} (faults : D → ℕ) (disks : List D) → AreCounted faults [] disks disks
 counted-same faults disks =
     pairwise-same (λ s before after. faults before + failures s [] ≤ faults after) (take 16 disks) (λ s d. omega (arith, failures-none s))
+
+pub disks-kept : {D : Type 0} (told : D → Option Disk) (faults : D → ℕ) (disks : List D) → DisksLeft told faults [] disks disks
+disks-kept told faults disks = record {
+  are = disks-same told disks;
+  counted = counted-same faults disks;
+  risen = risen-same faults disks;
+}
 
 -- the empty journal is good
 pub good-none : (u : Setup) (journal : List Entry) → journal ≡ [] → IsGood u (reverse journal)

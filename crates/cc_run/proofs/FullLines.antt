@@ -1,8 +1,8 @@
 -- A line that found the journal full left what was there before it, and the journal had little room.
-use Rattle.std.specs.Prelude.{◌≡◌, ℕ, ◌+◌, ◌≤◌, Bool, true, false, List, ◌∷◌, ◌++◌}
+use Rattle.std.specs.Prelude.{◌≡◌, ℕ, ◌+◌, ◌≤◌, Bool, true, false, ◌||◌, Err, List, ◌∷◌, ◌++◌}
 use Rattle.std.specs.declared.option.Option.{Option}
 use Rattle.std.specs.declared.option.Option.TheVariants.{Some, None}
-use Rattle.std.proofs.Common.{sym, ◌∙◌, append_assoc}
+use Rattle.std.proofs.Common.{sym, ◌∙◌, append_assoc, arith}
 use Rattle.cc_entry.specs.Kinds.{is_map, is_pin, is_repin, is_read_chain, is_write_chain}
 use Rattle.cc_entry.specs.declared.answer.Answer.{Answer}
 use Rattle.cc_entry.specs.declared.answer.Answer.TheVariants as answer
@@ -12,14 +12,18 @@ use Rattle.cc_entry.specs.declared.entry.Entry.{Entry}
 use Rattle.cc_entry.specs.declared.entry.Entry.TheVariants as entry
 use Rattle.cc_entry.specs.declared.reply.Outcome.TheVariants as outcome
 use Rattle.cc_entry.specs.declared.reply.Reply.TheVariants as reply
+use Rattle.cc_entry.specs.declared.error.CcError.{CcError}
 use Rattle.cc_entry.specs.declared.error.CcError.TheVariants as error
+use Rattle.cc_entry.specs.declared.hold.HoldKind.{HoldKind}
 use Rattle.cc_script.specs.declared.script.Action.{Action}
 use Rattle.cc_script.specs.declared.script.Action.TheVariants as action
 use Rattle.cc_model.specs.Setup.{Setup}
+use Rattle.cc_effects.specs.Moments.{Between}
 use Rattle.cc_effects.proofs.Stretches.{grew-after}
+use Rattle.cc_own.proofs.VerbsKeep.{nc_read-unchanged, nc_write-unchanged}
 use Rattle.cc_pieces.specs.Answered.{AppendAnswered, CallAnswered, LogFlushAnswered}
 use Rattle.cc_pieces.specs.Bindings.{Binding, OnHold, hold_named}
-use Rattle.cc_pieces.specs.HoldLines.{HeldReadBy, UnpinAnswered}
+use Rattle.cc_pieces.specs.HoldLines.{HeldReadBy, HoldLine, UnpinAnswered}
 use Rattle.cc_pieces.specs.Rooms.{HadNoRoom}
 use Rattle.cc_pieces.specs.Served.{Served}
 use Rattle.cc_turns.specs.Standing.{Standing}
@@ -94,6 +98,8 @@ module _ (u : Setup) (me entries : ℕ) (old new : List Entry) where
   grew-served bindings (action.State file) left = grew-call (call.State file) left
   grew-served bindings (action.Flush file span) left = grew-call (call.Flush file span) left
   grew-served bindings (action.Purge file span) left = grew-call (call.Purge file span) left
+  grew-served bindings (action.NcRead file at len) left = absurd left
+  grew-served bindings (action.NcWrite file at bytes) left = absurd left
   grew-served bindings action.IsDirtyData left = grew-call call.IsDirtyData left
   grew-served bindings (action.DirtyPages handle) left = grew-call (call.DirtyPages handle) left
   grew-served bindings (action.LsnForFile file) left = grew-call (call.LsnForFile file) left
@@ -101,10 +107,68 @@ module _ (u : Setup) (me entries : ℕ) (old new : List Entry) where
   grew-served bindings (action.Append handle bytes) left = grew-append handle bytes left
   grew-served bindings (action.LogFlush handle lsn) left = grew-log_flush handle lsn left
 
+-- the same where a noncached line tells it, which is the only one that is answered so
+module _ (u : Setup) (me done : ℕ) (cause : CcError) (old new : List Entry) where
+  abbrev cut_off : Answer
+  cut_off = answer.NcRefused done cause
+
+  never-hold : (o : Option ℕ) (Left : ℕ → Answer → Between) → ((id : ℕ) → Left id cut_off old new → ⊥) → OnHold me o Left cut_off old new → ⊥
+  never-hold None Left never left = absurd (cc (left.0))
+  never-hold (Some id) Left never left = never id left
+
+  never-call : (bindings : List Binding) (word : ℕ) (of_kind : HoldKind → Bool) (call_on : ℕ → Call) → HoldLine u me bindings word of_kind call_on cut_off old new → ⊥
+  never-call bindings word of_kind call_on left = never-hold (hold_named bindings word of_kind) (λ id. CallAnswered u me (call_on id)) (λ id is. is) left
+
+  never-read : (bindings : List Binding) (word at len : ℕ) (o : Option ℕ) → HeldReadBy u me bindings word at len o cut_off old new → ⊥
+  never-read bindings word at len (Some id) left = left
+  never-read bindings word at len None left = never-call bindings word is_pin (λ id. call.PinnedRead id at len) left
+
+  grew-cut_off : (bindings : List Binding) (asked : Action) → Served u me bindings asked cut_off old new → Grew old new
+  grew-cut_off bindings (action.NcRead file at len) left =
+      let kept = nc_read-unchanged u me 0 file at len (Err (done, cause)) old new left in record { during = kept.during; grew = kept.grew }
+  grew-cut_off bindings (action.NcWrite file at bytes) left =
+      let kept = nc_write-unchanged u me 0 file at bytes (Err (done, cause)) old new left in record { during = kept.during; grew = kept.grew }
+  grew-cut_off bindings (action.Initialise file sizes quota temporary) left = absurd left
+  grew-cut_off bindings (action.Uninitialise file truncate) left = absurd left
+  grew-cut_off bindings (action.CopyRead file at len wait) left = absurd left
+  grew-cut_off bindings (action.CopyWrite file at bytes) left = absurd left
+  grew-cut_off bindings (action.Zero file span) left = absurd left
+  grew-cut_off bindings (action.Map file at len word) left = absurd left
+  grew-cut_off bindings (action.PinRead file at len word exclusive) left = absurd left
+  grew-cut_off bindings (action.PinMapped word exclusive) left = absurd (never-call bindings word is_map (λ id. call.PinMapped id exclusive) left)
+  grew-cut_off bindings (action.PreparePin file at len word zero exclusive) left = absurd left
+  grew-cut_off bindings (action.HeldRead word at len) left = absurd (never-read bindings word at len (hold_named bindings word is_map) left)
+  grew-cut_off bindings (action.PinnedWrite word at bytes) left = absurd (never-call bindings word is_pin (λ id. call.PinnedWrite id at bytes) left)
+  grew-cut_off bindings (action.SetDirty word lsn) left = absurd (never-call bindings word is_pin (λ id. call.SetDirty id lsn) left)
+  grew-cut_off bindings (action.Unpin word) left =
+      absurd (never-call bindings word (λ its_kind. is_map its_kind || is_pin its_kind) (λ id. call.EndHold id) left)
+  grew-cut_off bindings (action.Repin word made) left = absurd (never-call bindings word is_pin (λ id. call.Repin id) left)
+  grew-cut_off bindings (action.UnpinRepinned word through) left =
+      absurd (never-hold (hold_named bindings word is_repin) (UnpinAnswered u me through) (λ id is. is) left)
+  grew-cut_off bindings (action.MdlRead file at len word) left = absurd left
+  grew-cut_off bindings (action.MdlWrite file at len word) left = absurd left
+  grew-cut_off bindings (action.MdlBytes word at len) left = absurd (never-call bindings word is_read_chain (λ id. call.MdlBytes id at len) left)
+  grew-cut_off bindings (action.MdlStore word at bytes) left = absurd (never-call bindings word is_write_chain (λ id. call.MdlStore id at bytes) left)
+  grew-cut_off bindings (action.MdlDone word) left =
+      absurd (never-call bindings word (λ its_kind. is_read_chain its_kind || is_write_chain its_kind) (λ id. call.EndHold id) left)
+  grew-cut_off bindings (action.MdlAbort word) left = absurd (never-call bindings word is_write_chain (λ id. call.EndHold id) left)
+  grew-cut_off bindings (action.SetSizes file allocation size) left = absurd left
+  grew-cut_off bindings (action.State file) left = absurd left
+  grew-cut_off bindings (action.Flush file span) left = absurd left
+  grew-cut_off bindings (action.Purge file span) left = absurd left
+  grew-cut_off bindings action.IsDirtyData left = absurd left
+  grew-cut_off bindings (action.DirtyPages handle) left = absurd left
+  grew-cut_off bindings (action.LsnForFile file) left = absurd left
+  grew-cut_off bindings (action.SetLog file handle) left = absurd left
+  grew-cut_off bindings (action.Append handle bytes) left = absurd left
+  grew-cut_off bindings (action.LogFlush handle lsn) left = absurd left
+
 -- a line that found the journal full was so with little room, where others have little under way
-pub room-served : (w : Standing) (limit : ℕ) (u : Setup) (me : ℕ) (bindings : List Binding) (asked : Action) (told : Answer) (old : List Entry) → Served u me bindings asked told old w.seen → w.in_flight ≡ 0 → w.others + 3 ≤ limit → IsFullTold w told → HadNoRoom w.setup limit told old w.seen
+pub room-served : (w : Standing) (limit : ℕ) (u : Setup) (me : ℕ) (bindings : List Binding) (asked : Action) (told : Answer) (old : List Entry) → Served u me bindings asked told old w.seen → w.in_flight ≡ 0 → w.others + 4 ≤ limit → IsFullTold w told → HadNoRoom w.setup limit told old w.seen
 room-served w limit u me bindings asked (answer.Refused (error.JournalFull entries)) old left rest few full =
     let more = grew-served u me entries old w.seen bindings asked left in
-    full-at w limit entries more.during old more.grew rest few full
-room-served w limit u me bindings asked (answer.NcRefused done cause) old left rest few full = absurd full
+    full-at w limit entries 3 (omega arith) more.during old more.grew rest (omega (arith, few)) full
+room-served w limit u me bindings asked (answer.NcRefused done (error.JournalFull entries)) old left rest few full =
+    let more = grew-cut_off u me done (error.JournalFull entries) old w.seen bindings asked left in
+    full-at w limit entries 4 (omega arith) more.during old more.grew rest few full
 room-served w limit u me bindings asked other old left rest few _ = tt

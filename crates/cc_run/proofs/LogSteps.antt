@@ -11,7 +11,7 @@ use Rattle.cc_log.specs.Turn.{Holds, appended}
 use Rattle.cc_turns.specs.Log.{FileStands, log_failures}
 use Rattle.cc_turns.specs.Desk.{log_at_first}
 use Rattle.cc_run.specs.Disks.{Pairwise, HaveRisen}
-use Rattle.cc_run.specs.Logs.{LogWent, LogsAre, LogsCounted, LogsStand}
+use Rattle.cc_run.specs.Logs.{LogWent, LogsAre, LogsCounted, LogsLeft, LogsStand}
 use Rattle.cc_run.proofs.Returned.{pairwise-same, as-many, firsts, others, of-all}
 
 -- what a log's file that stands for a past tells, and its count of faults
@@ -38,20 +38,23 @@ module _ {L : Type 0} (told : L → Option Log) (faults : L → ℕ) (past : Lis
   stood-back : Pairwise Stood (take 4 old) (take 4 new)
   stood-back = firsts 4 Stood old front new stand.counted stood back
 
-  pub logs-are : LogsAre told past old new
+  logs-are : LogsAre told past old new
   logs-are = record {
     count = as-many 4 Stood old front new stand.counted stood back;
     went = λ handle before after was is. file-went told faults past handle before after (stood-back handle before after was is);
     rest = others 4 Stood old front new stand.counted stood back;
   }
 
-  pub logs-counted : LogsCounted faults past old new
+  logs-counted : LogsCounted faults past old new
   logs-counted handle before after was is = file-counted told faults past handle before after (stood-back handle before after was is)
 
-  pub logs-risen : HaveRisen faults old new
+  logs-risen : HaveRisen faults old new
   logs-risen =
       of-all 4 Stood old front new stand.counted stood back (λ before after. faults before ≤ faults after) (λ l. omega arith)
       (λ handle before after stands. omega (arith, file-counted told faults past handle before after stands))
+
+  pub logs-left : LogsLeft told faults past old new
+  logs-left = record { are = logs-are; counted = logs-counted; risen = logs-risen }
 
 -- a log that was not used has gone nowhere
 went-none : (now : Option Log) (handle : ℕ) → Both now now (Holds (appended [] handle) (flushed_to [] handle))
@@ -64,13 +67,23 @@ unfolding log_failures
 failures-none handle = refl
 
 -- the logs as they were
-pub logs-same : {L : Type 0} (told : L → Option Log) (logs : List L) → LogsAre told [] logs logs
+logs-same : {L : Type 0} (told : L → Option Log) (logs : List L) → LogsAre told [] logs logs
 logs-same told logs = record {
   count = refl;
   went = pairwise-same (LogWent told []) (take 4 logs) (λ handle l. went-none (told l) handle);
   rest = refl;
 }
 
-pub logs-counted-same : {L : Type 0} (faults : L → ℕ) (logs : List L) → LogsCounted faults [] logs logs
+logs-counted-same : {L : Type 0} (faults : L → ℕ) (logs : List L) → LogsCounted faults [] logs logs
 logs-counted-same faults logs =
     pairwise-same (λ handle before after. faults before + log_failures handle [] ≤ faults after) (take 4 logs) (λ handle l. omega (arith, failures-none handle))
+
+logs-risen-same : {L : Type 0} (faults : L → ℕ) (logs : List L) → HaveRisen faults logs logs
+logs-risen-same faults logs = pairwise-same (λ handle before after. faults before ≤ faults after) logs (λ handle l. omega arith)
+
+pub logs-kept : {L : Type 0} (told : L → Option Log) (faults : L → ℕ) (logs : List L) → LogsLeft told faults [] logs logs
+logs-kept told faults logs = record {
+  are = logs-same told logs;
+  counted = logs-counted-same faults logs;
+  risen = logs-risen-same faults logs;
+}

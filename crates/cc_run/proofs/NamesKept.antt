@@ -12,8 +12,8 @@ use Rattle.cc_model.specs.Setup.{Setup}
 use Rattle.cc_effects.specs.Moments.{IsIdle}
 use Rattle.cc_own.proofs.OwnHolds.{others-keep}
 use Rattle.cc_pieces.specs.Bindings.{Binding}
-use Rattle.cc_pin.specs.Held.{HoldsAfter}
-use Rattle.cc_pin.specs.declared.held.Held.{Held}
+use Rattle.cc_calls.specs.Held.{HoldsAfter}
+use Rattle.cc_calls.specs.declared.held.Held.{Held}
 use Rattle.cc_lines.specs.Holds.{IsNamed, NamesStand, named_at}
 use Rattle.cc_lines.specs.declared.holds.Named.{Named}
 

@@ -44,6 +44,8 @@ servable streams n (action.SetSizes file allocation size) few within = let there
 servable streams n (action.State file) few within = let there = within.stream in omega (arith, there, few)
 servable streams n (action.Flush file span) few within = let there = within.stream in omega (arith, there, few)
 servable streams n (action.Purge file span) few within = let there = within.stream in omega (arith, there, few)
+servable streams n (action.NcRead file at len) few within = let there = within.stream in omega (arith, there, few)
+servable streams n (action.NcWrite file at bytes) few within = let there = within.stream in omega (arith, there, few)
 servable streams n (action.LsnForFile file) few within = let there = within.stream in omega (arith, there, few)
 servable streams n (action.SetLog file handle) few within = let there = within.stream in omega (arith, there, few)
 servable streams n (action.PinMapped word exclusive) few within = tt

@@ -45,7 +45,7 @@ pub record MayRun {D L Q : Type 0} (tells : Tells D L Q) (board : BoardState D L
   pub run : run_of caller.pass.knows ≡ board.begun
   pub none : caller.pass.knows.in_flight ≡ 0
   pub good : IsGood (setup_in tells board.begun) caller.pass.knows.seen
-  pub few : caller.pass.knows.before + caller.pass.knows.passes ≤ 29
+  pub few : caller.pass.knows.before + caller.pass.knows.passes ≤ 28
   pub servable : AllByRecursion (λ line. IsServable (length board.begun.disks) line.action) lines
   pub bounds : List Bound
   pub bindings : List Binding

@@ -41,3 +41,10 @@ pub record DisksStand {D : Type 0} (told : D → Option Disk) (faults : D → �
     (past : List Entry) (disks : List D) : Type 0 where
   pub counted : length disks ≡ count
   pub each : (s : ℕ) (disk : D) → slice_get disks s ≡ Some disk → DiskStands told faults (first s) past s disk
+
+-- What a run left of the disks that it was handed in, by a past: each of the run has gone with its stream, its count of
+-- faults rose at least by the failures that the past shows, and no count fell.
+pub record DisksLeft {D : Type 0} (told : D → Option Disk) (faults : D → ℕ) (past : List Entry) (old new : List D) : Type 0 where
+  pub are : DisksAre told past old new
+  pub counted : AreCounted faults past old new
+  pub risen : HaveRisen faults old new

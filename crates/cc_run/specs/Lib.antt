@@ -7,6 +7,7 @@ pub mod Disks
 pub mod Logs
 pub mod Ends
 pub mod Complete
+pub mod Main
 pub mod Phases
 pub mod Callers
 pub mod Threads

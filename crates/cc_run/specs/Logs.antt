@@ -9,7 +9,7 @@ use Rattle.cc_model.specs.Logs.{flushed_to}
 use Rattle.cc_log.specs.Turn.{Holds, appended}
 use Rattle.cc_turns.specs.Log.{FileStands, log_failures}
 use Rattle.cc_turns.specs.Standing.{LogAtFirst}
-use Rattle.cc_run.specs.Disks.{Pairwise}
+use Rattle.cc_run.specs.Disks.{Pairwise, HaveRisen}
 use Rattle.cc_run.specs.Setups.{run_logs}
 
 -- A log that tells its entries has, behind those that it was handed in with, what the run appended to it, in order, and
@@ -34,3 +34,10 @@ pub record LogsStand {L : Type 0} (told : L → Option Log) (faults : L → ℕ)
     (past : List Entry) (logs : List L) : Type 0 where
   pub counted : length logs ≡ count
   pub each : (handle : ℕ) (log : L) → slice_get logs handle ≡ Some log → FileStands told faults (first handle) past handle log
+
+-- What a run left of the logs that it was handed in, by a past: each of the run has gone so with its handle, its count of
+-- faults rose at least by the failures that the past shows, and no count fell.
+pub record LogsLeft {L : Type 0} (told : L → Option Log) (faults : L → ℕ) (past : List Entry) (old new : List L) : Type 0 where
+  pub are : LogsAre told past old new
+  pub counted : LogsCounted faults past old new
+  pub risen : HaveRisen faults old new

@@ -8,7 +8,8 @@
 //! after a run began loses nothing of what happened.
 //!
 //! `top` has the call, `run` the run, `openings` and `phases` its two parts, `lines` a phase on the desk, `threads` one
-//! on a board, `callers` what each thread does, `call_numbers` what the gate is told.
+//! on a board, `callers` what each thread does, `call_numbers` what the gate is told. `laws` has what follows of how the
+//! program ended.
 //!
 //! It stands on the script, on the text, on the calls, on the turns of one thread and on those that threads share, on
 //! the traits of the outside, on what a journal means and on how it explains answers. The program stands on it.
@@ -18,6 +19,7 @@ mod call_numbers;
 mod callers;
 mod devices;
 mod intake;
+mod laws;
 mod lines;
 mod no_run;
 mod openings;
@@ -30,5 +32,6 @@ mod threads;
 mod top;
 mod words;
 
+pub use laws::{runs_are_of_the_script, statuses_have_causes};
 pub use no_run::NoRun;
 pub use top::{Ended, cache_main};

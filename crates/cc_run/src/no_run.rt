@@ -18,7 +18,7 @@ pub enum NoRun {
     TooLong,
     /// No memory was found.
     NoMemory,
-    /// The script has more streams than there are disks.
+    /// The script has more streams than there are disks, or a stream names a log that there is not.
     TooFewDevices,
 }
 
@@ -37,7 +37,8 @@ impl NoRun {
         }
     }
 
-    /// What the program prints, but for the number of a line.
+    /// What the program prints, but for the number of a line. The usage is fixed by the format of the text: it names a
+    /// directory, `steps` and `gen` too, which are not there yet, so words that ask for them are none of the commands.
     pub(crate) fn fixed_text(self) -> &'static str
         requires { is_syntax self ≡ false }
         ensures { result.now ≡ fault_text self }

@@ -1,4 +1,4 @@
-//! The text, to the sink.
+//! The text goes to the sink, piece by piece, until all of it is taken or the sink fails.
 
 ghost use Rattle.std.specs.Prelude.{◌≡◌, ◌<◌, ◌⊎◌, OnOk, IsErrOf};
 ghost use Rattle.cc_traits.specs.Told.{Both, Took};

@@ -8,9 +8,9 @@ ghost use Rattle.cc_script.specs.Within.{IsWithin};
 ghost use Rattle.cc_turns.specs.Standing.{nothing};
 ghost use Rattle.cc_turns.specs.Desk.{IsFresh, standing_of};
 ghost use Rattle.cc_run.specs.Ends.{has_devices};
-ghost use Rattle.cc_run.specs.Disks.{DisksAre, DisksStand, AreCounted, HaveRisen};
+ghost use Rattle.cc_run.specs.Disks.{DisksLeft, DisksStand};
 ghost use Rattle.cc_run.specs.Lines.{HaveNoWords, given_of, lines_answered};
-ghost use Rattle.cc_run.specs.Logs.{LogsAre, LogsStand, LogsCounted};
+ghost use Rattle.cc_run.specs.Logs.{LogsLeft, LogsStand};
 ghost use Rattle.cc_pieces.specs.Explained.{IsExplained};
 ghost use Rattle.cc_run.specs.Setups.{setup_of};
 
@@ -70,12 +70,8 @@ pub(crate) fn run_script<
     ensures explained { IfOk result (λ ran. IsExplained (setup_of D.told D.faults script.now disks.items logs.items)
         (given_of script.now) (lines_answered ran.replies.items) (reverse ran.journal.items)) }
     ensures table { IfOk result (λ ran. IfSome ran.table (λ rows. rows.items ≡ table_of (reverse ran.journal.items))) }
-    ensures disks { IfOk result (λ ran. DisksAre D.told (reverse ran.journal.items) disks.items ran.disks.items) }
-    ensures counted { IfOk result (λ ran. AreCounted D.faults (reverse ran.journal.items) disks.items ran.disks.items) }
-    ensures risen { IfOk result (λ ran. HaveRisen D.faults disks.items ran.disks.items) }
-    ensures logs { IfOk result (λ ran. LogsAre L.told (reverse ran.journal.items) logs.items ran.logs.items) }
-    ensures logs_counted { IfOk result (λ ran. LogsCounted L.faults (reverse ran.journal.items) logs.items ran.logs.items) }
-    ensures logs_risen { IfOk result (λ ran. HaveRisen L.faults logs.items ran.logs.items) }
+    ensures disks { IfOk result (λ ran. DisksLeft D.told D.faults (reverse ran.journal.items) disks.items ran.disks.items) }
+    ensures logs { IfOk result (λ ran. LogsLeft L.told L.faults (reverse ran.journal.items) logs.items ran.logs.items) }
     ensures kept { IfErr result (λ back. back.0.items ≡ disks.items) }
     ensures logs_kept { IfErr result (λ back. back.1.items ≡ logs.items) }
 {

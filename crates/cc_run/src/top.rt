@@ -1,21 +1,20 @@
 //! The top call: words, script, run, text, status, in this order.
 
-ghost use Rattle.std.specs.Prelude.{◌≡◌, ◌⊎◌, ◌<◌, List, ◌≤◌, ◌+◌, ℕ, [], Some, None, true, false, is_some, reverse, map, length, string_bytes, vec_len, IfSome, IfOk, IfErr, OnOk, OnErr};
+ghost use Rattle.std.specs.Prelude.{◌≡◌, ◌⊎◌, ◌≤◌, ◌+◌, [], Some, None, true, false, is_some, reverse, map, length, string_bytes, IfSome, IfOk, IfErr, OnOk};
 ghost use Rattle.cc_model.specs.Setup.{Setup};
 ghost use Rattle.cc_model.specs.Good.{IsGood};
 ghost use Rattle.cc_script.specs.Within.{IsWithin};
+ghost use Rattle.cc_pieces.specs.Explained.{IsExplained};
 ghost use Rattle.cc_pieces.specs.Table.{table_of};
 ghost use Rattle.cc_print.specs.Text.{text_of as the_text_of};
-ghost use Rattle.cc_traits.specs.Told.{Both, Took};
 ghost use Rattle.cc_run.specs.Setups.{IsSetupOf, setup_of};
-ghost use Rattle.cc_run.specs.Ends.{Input, input, output, IsCause, IsRefused, IsEnded, IsRead, Spells, IsWrong, WasTaken, HasTooFewDevices, IsFaultPut, IsPrinted, has_devices};
-ghost use Rattle.cc_run.specs.Complete.{EndsWith, SyntaxAlways, TooLongAlways, TooLongTold, TooFewAlways, Completes};
+ghost use Rattle.cc_run.specs.Ends.{Input, input, output, IsCause, IsRefused, IsEnded, IsRead, Spells, WasTaken, IsFaultPut, IsPrinted, has_devices};
+ghost use Rattle.cc_run.specs.Main.{HasMain};
 ghost use Rattle.cc_run.specs.declared.no_run.NoRun.TheVariants as no_run;
-ghost use Rattle.cc_run.specs.Disks.{DisksAre, AreCounted, HaveRisen};
-ghost use Rattle.cc_run.specs.Logs.{LogsAre, LogsCounted};
+ghost use Rattle.cc_run.specs.Disks.{DisksLeft};
+ghost use Rattle.cc_run.specs.Logs.{LogsLeft};
 ghost use Rattle.cc_run.specs.Words.{is_run};
 ghost use Rattle.cc_run.specs.Lines.{given_of, lines_answered};
-ghost use Rattle.cc_pieces.specs.Explained.{IsExplained};
 
 use crate::devices::has_devices;
 use crate::intake::{IntakeError, take_all};
@@ -190,12 +189,8 @@ fn conduct<R: Threads + Wait + Sync, S: Source, K: Sink, D: PageDisk, L: LogFile
     ensures untouched { is_run (map string_bytes words.now) ≡ false → source.new ≡ source.old }
     ensures given { WasTaken (S.told source.old) (S.told source.new) (S.taken source.old) (S.taken source.new) }
     ensures bounded { S.taken source.new ≤ S.taken source.old + 16777217 }
-    ensures disks { DisksAre D.told (reverse result.journal.items) disks.items result.disks.items }
-    ensures counted { AreCounted D.faults (reverse result.journal.items) disks.items result.disks.items }
-    ensures risen { HaveRisen D.faults disks.items result.disks.items }
-    ensures logs { LogsAre L.told (reverse result.journal.items) logs.items result.logs.items }
-    ensures logs_counted { LogsCounted L.faults (reverse result.journal.items) logs.items result.logs.items }
-    ensures logs_risen { HaveRisen L.faults logs.items result.logs.items }
+    ensures disks { DisksLeft D.told D.faults (reverse result.journal.items) disks.items result.disks.items }
+    ensures logs { LogsLeft L.told L.faults (reverse result.journal.items) logs.items result.logs.items }
 {
     let script = match prepare(alloc, words, source, disks.len(), logs.len()) {
         Ok(prepared) => prepared,
@@ -248,64 +243,26 @@ pub fn cache_main<
     posts: Vec<Box<dyn PostRoutine + Send>>,
     gate: &P,
 ) -> Ended<D, L>
+    // What happened: the journal is good over the pages that the disks told, and it explains every answer.
     ensures good { (u : Setup) → IsSetupOf D.told D.faults result.script disks.items logs.items u →
         IsGood u (reverse result.journal.items) }
-    ensures ended { IsEnded
-        (input S.told S.faults S.taken (map string_bytes words.now) script.old script.new
-        (length disks.items) (length logs.items))
-        (output K.told K.faults K.stalls out.old out.new)
-        result.script result.replies.items result.journal.items result.status }
-    ensures usage { result.status ≡ 1 → is_run (map string_bytes words.now) ≡ false }
-    ensures usage_always { is_run (map string_bytes words.now) ≡ false → EndsWith result.status 1 }
-    ensures untouched { is_run (map string_bytes words.now) ≡ false → script.new ≡ script.old }
-    ensures syntax { result.status ≡ 2 → (line : ℕ) × IsWrong (S.told script.old) line }
-    ensures syntax_always { SyntaxAlways
-        (input S.told S.faults S.taken (map string_bytes words.now) script.old script.new
-        (length disks.items) (length logs.items))
-        result.status }
-    ensures read_fault { result.status ≡ 3 → S.faults script.old < S.faults script.new }
-    ensures write_fault { result.status ≡ 4 →
-        (K.faults out.old < K.faults out.new) ⊎ (K.stalls out.old < K.stalls out.new) }
-    ensures too_long { result.status ≡ 5 → S.taken script.old + 16777216 < S.taken script.new }
-    ensures too_long_always { TooLongAlways
-        (input S.told S.faults S.taken (map string_bytes words.now) script.old script.new
-        (length disks.items) (length logs.items))
-        result.status }
-    ensures too_long_told { TooLongTold
-        (input S.told S.faults S.taken (map string_bytes words.now) script.old script.new
-        (length disks.items) (length logs.items))
-        result.status }
-    ensures too_few { result.status ≡ 7 → HasTooFewDevices
-        (input S.told S.faults S.taken (map string_bytes words.now) script.old script.new
-        (length disks.items) (length logs.items)) }
-    ensures too_few_always { TooFewAlways
-        (input S.told S.faults S.taken (map string_bytes words.now) script.old script.new
-        (length disks.items) (length logs.items))
-        result.status }
-    ensures complete { Completes
-        (input S.told S.faults S.taken (map string_bytes words.now) script.old script.new
-        (length disks.items) (length logs.items))
-        (output K.told K.faults K.stalls out.old out.new)
-        result.status }
-    ensures given { WasTaken (S.told script.old) (S.told script.new) (S.taken script.old) (S.taken script.new) }
-    ensures bounded { S.taken script.new ≤ S.taken script.old + 16777217 }
-    ensures made { (result.status ≡ 0) ⊎ (result.status ≡ 4) → is_some result.script ≡ true }
-    ensures spelled { IfSome result.script (Spells (S.told script.old)) }
     ensures explained { IfSome result.script (λ made. IsExplained (setup_of D.told D.faults made disks.items logs.items)
         (given_of made)
         (record { replies = result.replies.items; ticked = result.ticks.items; stepped = result.aheads.items })
         (reverse result.journal.items)) }
-    ensures empty { result.script ≡ None → result.journal.items ≡ [] }
-    ensures printed { result.status ≡ 0 → IfSome result.script (λ made. Both (K.told out.old) (K.told out.new)
-        (Took (the_text_of made result.replies.items result.journal.items (table_of (reverse result.journal.items))))) }
+    // How the program ended, with a run and without: the script, what was printed, the status and its cause, which
+    // statuses are sure to come, and how much of the source was taken.
+    ensures ended { HasMain
+        (input S.told S.faults S.taken (map string_bytes words.now) script.old script.new
+        (length disks.items) (length logs.items))
+        (output K.told K.faults K.stalls out.old out.new)
+        result.script result.replies.items result.journal.items result.status }
+    ensures untouched { is_run (map string_bytes words.now) ≡ false → script.new ≡ script.old }
+    // What comes back: the disks and the logs as the journal says, the posts as they were, and no answer of a worker.
+    ensures disks { DisksLeft D.told D.faults (reverse result.journal.items) disks.items result.disks.items }
+    ensures logs { LogsLeft L.told L.faults (reverse result.journal.items) logs.items result.logs.items }
     ensures ticks { result.ticks.items ≡ [] }
     ensures aheads { result.aheads.items ≡ [] }
-    ensures disks { DisksAre D.told (reverse result.journal.items) disks.items result.disks.items }
-    ensures counted { AreCounted D.faults (reverse result.journal.items) disks.items result.disks.items }
-    ensures risen { HaveRisen D.faults disks.items result.disks.items }
-    ensures logs { LogsAre L.told (reverse result.journal.items) logs.items result.logs.items }
-    ensures logs_counted { LogsCounted L.faults (reverse result.journal.items) logs.items result.logs.items }
-    ensures logs_risen { HaveRisen L.faults logs.items result.logs.items }
     ensures posts { result.posts ≡ posts }
 {
     let Report {

@@ -1,4 +1,4 @@
-//! The words of the command line.
+//! The words of the command line: whether they ask for a run.
 
 ghost use Rattle.std.specs.Prelude.{◌≡◌, is_some, map, string_bytes};
 ghost use Rattle.cc_run.specs.Words.{is_run, is_argument as is_an_argument};

@@ -10,7 +10,7 @@ use Rattle.cc_script.specs.declared.verb.Verb.{Verb}
 use Rattle.cc_script.specs.declared.verb.Verb.TheVariants as verb
 use Rattle.cc_script.specs.Words.{number_of, number_between, name_of, bytes_of}
 use Rattle.cc_script.specs.HoldNames.{word_of, new_word}
-use Rattle.cc_script.specs.Actions.{next, ended, file_of, span_of, optional_span_of, optional_number_of, quota_of, sizes_of, initialise_of, uninitialise_of, copy_read_of, copy_write_of, zero_of, set_sizes_of, state_of, flush_of, purge_of, set_log_of, append_of, log_flush_of, dirty_pages_of, lsn_for_file_of}
+use Rattle.cc_script.specs.Actions.{next, ended, file_of, span_of, optional_span_of, optional_number_of, quota_of, sizes_of, initialise_of, uninitialise_of, copy_read_of, copy_write_of, zero_of, nc_read_of, nc_write_of, set_sizes_of, state_of, flush_of, purge_of, set_log_of, append_of, log_flush_of, dirty_pages_of, lsn_for_file_of}
 use Rattle.cc_script.specs.HoldActions.{stretch_of, map_of, pin_read_of, pin_mapped_of, prepare_pin_of, held_read_of, pinned_write_of, stamp_of, set_dirty_of, unpin_of, repin_of, unpin_repinned_of, mdl_read_of, mdl_write_of, mdl_bytes_of, mdl_store_of, mdl_done_of, mdl_abort_of}
 use Rattle.cc_script.specs.ActionTable.{binds_none, action_of, bytes_moved}
 use Rattle.cc_script.specs.Within.{IsFileWithin, IsActionWithin}
@@ -136,6 +136,31 @@ zero-gives streams ws a e =
     let f = next-gives (file_of streams) ws file.0.0 file.0.1 file.1 in
     subst (IsPlain streams) end.1
     (record { file = file-gives streams f.word file.0.0 f.reads; moved = omega arith; numbered = λ n. refl })
+
+nc_read-gives : (streams : List StreamLine) (ws : List (List ℕ)) (a : Action) → nc_read_of streams ws ≡ Some a → IsPlain streams a
+unfolding nc_read_of
+nc_read-gives streams ws a e =
+    let file = then-gives (next (file_of streams) ws) _ a e in
+    let at = then-gives (next number_of file.0.1) _ a file.2 in
+    let len = then-gives (next (number_between 0 2097152) at.0.1) _ a at.2 in
+    let end = ended-gives _ _ a len.2 in
+    let f = next-gives (file_of streams) ws file.0.0 file.0.1 file.1 in
+    let l = next-gives (number_between 0 2097152) at.0.1 len.0.0 len.0.1 len.1 in
+    let b = between-gives 0 2097152 l.word len.0.0 l.reads in
+    subst (IsPlain streams) end.1
+    (record { file = file-gives streams f.word file.0.0 f.reads; moved = b.most; numbered = λ n. refl })
+
+nc_write-gives : (streams : List StreamLine) (ws : List (List ℕ)) (a : Action) → nc_write_of streams ws ≡ Some a → IsPlain streams a
+unfolding nc_write_of
+nc_write-gives streams ws a e =
+    let file = then-gives (next (file_of streams) ws) _ a e in
+    let at = then-gives (next number_of file.0.1) _ a file.2 in
+    let bytes = then-gives (next bytes_of at.0.1) _ a at.2 in
+    let end = ended-gives _ _ a bytes.2 in
+    let f = next-gives (file_of streams) ws file.0.0 file.0.1 file.1 in
+    let b = next-gives bytes_of at.0.1 bytes.0.0 bytes.0.1 bytes.1 in
+    subst (IsPlain streams) end.1
+    (record { file = file-gives streams f.word file.0.0 f.reads; moved = bytes-give b.word bytes.0.0 b.reads; numbered = λ n. refl })
 
 set_sizes-gives : (streams : List StreamLine) (ws : List (List ℕ)) (a : Action) → set_sizes_of streams ws ≡ Some a → IsPlain streams a
 unfolding set_sizes_of
@@ -373,6 +398,8 @@ action-gives m streams names verb.Uninitialise ws found e = none-bound streams n
 action-gives m streams names verb.CopyRead ws found e = none-bound streams names (copy_read_of streams ws) found (copy_read-gives streams ws) e
 action-gives m streams names verb.CopyWrite ws found e = none-bound streams names (copy_write_of streams ws) found (copy_write-gives streams ws) e
 action-gives m streams names verb.Zero ws found e = none-bound streams names (zero_of streams ws) found (zero-gives streams ws) e
+action-gives m streams names verb.NcRead ws found e = none-bound streams names (nc_read_of streams ws) found (nc_read-gives streams ws) e
+action-gives m streams names verb.NcWrite ws found e = none-bound streams names (nc_write_of streams ws) found (nc_write-gives streams ws) e
 action-gives m streams names verb.SetSizes ws found e = none-bound streams names (set_sizes_of streams ws) found (set_sizes-gives streams ws) e
 action-gives m streams names verb.State ws found e = none-bound streams names (state_of streams ws) found (state-gives streams ws) e
 action-gives m streams names verb.Flush ws found e = none-bound streams names (flush_of streams ws) found (flush-gives streams ws) e

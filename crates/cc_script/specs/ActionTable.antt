@@ -6,7 +6,7 @@ use Rattle.cc_script.specs.declared.script.Action.{Action}
 use Rattle.cc_script.specs.declared.script.Action.TheVariants as action
 use Rattle.cc_script.specs.declared.verb.Verb.{Verb}
 use Rattle.cc_script.specs.declared.verb.Verb.TheVariants as verb
-use Rattle.cc_script.specs.Actions.{ended, initialise_of, uninitialise_of, copy_read_of, copy_write_of, zero_of, set_sizes_of, state_of, flush_of, purge_of, set_log_of, append_of, log_flush_of, dirty_pages_of, lsn_for_file_of}
+use Rattle.cc_script.specs.Actions.{ended, initialise_of, uninitialise_of, copy_read_of, copy_write_of, zero_of, nc_read_of, nc_write_of, set_sizes_of, state_of, flush_of, purge_of, set_log_of, append_of, log_flush_of, dirty_pages_of, lsn_for_file_of}
 use Rattle.cc_script.specs.HoldActions.{map_of, pin_read_of, pin_mapped_of, prepare_pin_of, held_read_of, pinned_write_of, set_dirty_of, unpin_of, repin_of, unpin_repinned_of, mdl_read_of, mdl_write_of, mdl_bytes_of, mdl_store_of, mdl_done_of, mdl_abort_of}
 
 -- an action that binds no word
@@ -36,6 +36,8 @@ action_of mode streams names verb.MdlBytes ws = binds_none names (mdl_bytes_of n
 action_of mode streams names verb.MdlStore ws = binds_none names (mdl_store_of names ws)
 action_of mode streams names verb.MdlDone ws = binds_none names (mdl_done_of names ws)
 action_of mode streams names verb.MdlAbort ws = binds_none names (mdl_abort_of names ws)
+action_of mode streams names verb.NcRead ws = binds_none names (nc_read_of streams ws)
+action_of mode streams names verb.NcWrite ws = binds_none names (nc_write_of streams ws)
 action_of mode streams names verb.SetSizes ws = binds_none names (set_sizes_of streams ws)
 action_of mode streams names verb.State ws = binds_none names (state_of streams ws)
 action_of mode streams names verb.Flush ws = binds_none names (flush_of streams ws)
@@ -59,6 +61,8 @@ bytes_moved (action.HeldRead _ _ len) = len
 bytes_moved (action.PinnedWrite _ _ bytes) = length bytes
 bytes_moved (action.MdlBytes _ _ len) = len
 bytes_moved (action.MdlStore _ _ bytes) = length bytes
+bytes_moved (action.NcRead _ _ len) = len
+bytes_moved (action.NcWrite _ _ bytes) = length bytes
 bytes_moved (action.Append _ bytes) = length bytes
 bytes_moved other = 0
 

@@ -141,6 +141,22 @@ purge_of streams ws = do
   span ← optional_span_of file.1
   Some (action.Purge file.0 span)
 
+-- ncread FILE AT LEN
+unfoldable pub nc_read_of : List StreamLine → List (List ℕ) → Option Action
+nc_read_of streams ws = do
+  file ← next (file_of streams) ws
+  at ← next number_of file.1
+  len ← next (number_between 0 2097152) at.1
+  ended len.1 (action.NcRead file.0 at.0 len.0)
+
+-- ncwrite FILE AT BYTES
+unfoldable pub nc_write_of : List StreamLine → List (List ℕ) → Option Action
+nc_write_of streams ws = do
+  file ← next (file_of streams) ws
+  at ← next number_of file.1
+  bytes ← next bytes_of at.1
+  ended bytes.1 (action.NcWrite file.0 at.0 bytes.0)
+
 -- setlog FILE LOG
 unfoldable pub set_log_of : List StreamLine → List (List ℕ) → Option Action
 set_log_of streams ws = do

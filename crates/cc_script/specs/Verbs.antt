@@ -35,6 +35,8 @@ verb_text verb.MdlBytes = codes "mdlget"
 verb_text verb.MdlStore = codes "mdlput"
 verb_text verb.MdlDone = codes "mdldone"
 verb_text verb.MdlAbort = codes "mdlabort"
+verb_text verb.NcRead = codes "ncread"
+verb_text verb.NcWrite = codes "ncwrite"
 verb_text verb.SetSizes = codes "sizes"
 verb_text verb.State = codes "state"
 verb_text verb.Flush = codes "flush"
@@ -46,10 +48,12 @@ verb_text verb.SetLog = codes "setlog"
 verb_text verb.Append = codes "append"
 verb_text verb.LogFlush = codes "logflush"
 
--- the modes that a verb stands in
+-- the modes that a verb stands in: in steps, a noncached line of a run has another form, which is not read yet
 abbrev pub is_in_mode : Mode → Verb → Bool
 is_in_mode mode.Run _ = true
 is_in_mode mode.Steps verb.Phase = false
+is_in_mode mode.Steps verb.NcRead = false
+is_in_mode mode.Steps verb.NcWrite = false
 is_in_mode mode.Steps verb.Stream = true
 is_in_mode mode.Steps verb.Journal = true
 is_in_mode mode.Steps verb.Threshold = true

@@ -2,7 +2,7 @@
 
 ghost use Rattle.std.specs.Prelude.{◌≡◌};
 ghost use Rattle.cc_script.specs.Outcome.{Gives, TakesIf};
-ghost use Rattle.cc_script.specs.Actions.{initialise_of, uninitialise_of, copy_read_of, copy_write_of, zero_of, set_sizes_of, state_of, flush_of, purge_of, set_log_of, append_of, log_flush_of, dirty_pages_of, lsn_for_file_of, ended};
+ghost use Rattle.cc_script.specs.Actions.{initialise_of, uninitialise_of, copy_read_of, copy_write_of, zero_of, nc_read_of, nc_write_of, set_sizes_of, state_of, flush_of, purge_of, set_log_of, append_of, log_flush_of, dirty_pages_of, lsn_for_file_of, ended};
 ghost use Rattle.cc_script.specs.ActionTable.{action_of, bytes_counted, dirty_lines};
 ghost use Rattle.cc_script.specs.declared.script.Action.TheVariants as action;
 
@@ -90,6 +90,34 @@ fn zero(streams: &StreamLines, words: &mut Words) -> Option<Action>
         Some(Action::Zero { file, span })
     } else {
         None
+    }
+}
+
+#[tactic(auto, unfolding(crate::specs::Actions::nc_read_of))]
+fn nc_read(streams: &StreamLines, words: &mut Words) -> Option<Action>
+    ensures { result ≡ nc_read_of streams.now words.old }
+{
+    let file = words.file(streams)?;
+    let at = words.number()?;
+    let len = words.read_length()?;
+    if words.is_empty() {
+        Some(Action::NcRead { file, at, len })
+    } else {
+        None
+    }
+}
+
+#[tactic(auto, unfolding(crate::specs::Actions::nc_write_of))]
+fn nc_write(alloc: Global, streams: &StreamLines, words: &mut Words) -> Result<Action, LineFault>
+    ensures { Gives (nc_write_of streams.now words.old) result }
+{
+    let file = words.file(streams).ok_or(LineFault::Syntax)?;
+    let at = words.number().ok_or(LineFault::Syntax)?;
+    let bytes = words.bytes(alloc)?;
+    if words.is_empty() {
+        Ok(Action::NcWrite { file, at, bytes })
+    } else {
+        Err(LineFault::Syntax)
     }
 }
 
@@ -248,6 +276,8 @@ pub(crate) fn action(
         Verb::MdlStore => mdl_store(alloc, names, words),
         Verb::MdlDone => mdl_done(names, words).ok_or(LineFault::Syntax),
         Verb::MdlAbort => mdl_abort(names, words).ok_or(LineFault::Syntax),
+        Verb::NcRead => nc_read(streams, words).ok_or(LineFault::Syntax),
+        Verb::NcWrite => nc_write(alloc, streams, words),
         Verb::SetSizes => set_sizes(streams, words).ok_or(LineFault::Syntax),
         Verb::State => state(streams, words).ok_or(LineFault::Syntax),
         Verb::Flush => flush(streams, words).ok_or(LineFault::Syntax),
@@ -271,12 +301,15 @@ pub(crate) fn bytes_counted(action: &Action) -> u64
         Action::CopyRead { len, .. }
         | Action::HeldRead { len, .. }
         | Action::MdlBytes { len, .. }
+        | Action::NcRead { len, .. }
         | Action::Map { len, .. }
         | Action::PinRead { len, .. }
         | Action::PreparePin { len, .. }
         | Action::MdlRead { len, .. }
         | Action::MdlWrite { len, .. } => *len,
-        Action::PinnedWrite { bytes, .. } | Action::MdlStore { bytes, .. } => bytes.len(),
+        Action::PinnedWrite { bytes, .. }
+        | Action::MdlStore { bytes, .. }
+        | Action::NcWrite { bytes, .. } => bytes.len(),
         Action::CopyWrite { bytes, .. } | Action::Append { bytes, .. } => bytes.len(),
         _ => 0,
     }

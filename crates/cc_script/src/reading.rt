@@ -237,6 +237,8 @@ impl Reading {
             | Verb::MdlStore
             | Verb::MdlDone
             | Verb::MdlAbort
+            | Verb::NcRead
+            | Verb::NcWrite
             | Verb::SetSizes
             | Verb::State
             | Verb::Flush

@@ -227,6 +227,18 @@ pub enum Action {
     MdlAbort {
         word: HoldWord,
     },
+    /// A noncached read of a run, page after page.
+    NcRead {
+        file: FileId,
+        at: u64,
+        len: u64,
+    },
+    /// A noncached write of a run, page after page.
+    NcWrite {
+        file: FileId,
+        at: u64,
+        bytes: Bytes,
+    },
     SetSizes {
         file: FileId,
         allocation: u64,

@@ -33,6 +33,8 @@ pub(crate) enum Verb {
     MdlStore,
     MdlDone,
     MdlAbort,
+    NcRead,
+    NcWrite,
     SetSizes,
     State,
     Flush,
@@ -45,7 +47,7 @@ pub(crate) enum Verb {
     LogFlush,
 }
 
-pub(crate) const VERBS: [Verb; 35] = [
+pub(crate) const VERBS: [Verb; 37] = [
     Verb::Stream,
     Verb::Journal,
     Verb::Threshold,
@@ -71,6 +73,8 @@ pub(crate) const VERBS: [Verb; 35] = [
     Verb::MdlStore,
     Verb::MdlDone,
     Verb::MdlAbort,
+    Verb::NcRead,
+    Verb::NcWrite,
     Verb::SetSizes,
     Verb::State,
     Verb::Flush,
@@ -113,6 +117,8 @@ impl Verb {
             Verb::MdlStore => b"mdlput",
             Verb::MdlDone => b"mdldone",
             Verb::MdlAbort => b"mdlabort",
+            Verb::NcRead => b"ncread",
+            Verb::NcWrite => b"ncwrite",
             Verb::SetSizes => b"sizes",
             Verb::State => b"state",
             Verb::Flush => b"flush",
@@ -139,7 +145,7 @@ impl Verb {
     {
         match mode {
             Mode::Run => true,
-            Mode::Steps => !matches!(self, Verb::Phase),
+            Mode::Steps => !matches!(self, Verb::Phase | Verb::NcRead | Verb::NcWrite),
         }
     }
 

@@ -16,7 +16,7 @@ fn wrong_line(answer: Result<Script, ScriptFault>) -> Option<u32> {
 }
 
 /// Scripts, each with its first wrong line.
-const SCRIPTS: [(&str, u32); 80] = [
+const SCRIPTS: [(&str, u32); 81] = [
     ("", 0),
     ("# a comment\n\n  \n\r\n  stream   a  8192 8192  \r", 0),
     (" # no comment", 1),
@@ -113,6 +113,7 @@ const SCRIPTS: [(&str, u32); 80] = [
         6,
     ),
     ("stream a 1 1\ninit a 1 1 1 temporary quota 8", 2),
+    ("stream a 1 1\nncread a 0 2097152\nncread a 0 2097153", 3),
     ("stream a 1 1\nsetlog a 0\nt2 setlog a 3\nsetlog a 4", 4),
     ("stream a 1 1\nsetlog a", 2),
     ("stream a 1 1\nsetlog b 0", 2),
@@ -162,6 +163,7 @@ fn takes_the_lines_of_the_grammar(rt: HostRuntime) {
     let actions =
         "stream a 1 1 log 0\nsetlog a 1\nappend 1 AB\nlogflush 1 1\nstate a\nflush a\nisdirty";
     assert!(rt; reads(rt.alloc(), Mode::Steps, actions, 0));
+    assert!(rt; reads(rt.alloc(), Mode::Steps, "stream a 1 1\nncread a 0 1", 2));
 }
 
 /// Of a script whose first action is a write: its line, phase, caller, place and length.
@@ -246,7 +248,7 @@ fn keeps_options(rt: HostRuntime) {
     );
 }
 
-/// Of a line that opens, closes or purges: the object of its file, and up to three numbers.
+/// Of a line that opens, closes, purges or goes around the cache: the object of its file, and up to three numbers.
 fn numbers_of(action: &Action) -> Option<(u8, u64, u64, u64)> {
     match action {
         Action::Initialise { file, sizes, .. } => {
@@ -260,6 +262,8 @@ fn numbers_of(action: &Action) -> Option<(u8, u64, u64, u64)> {
             file,
             span: Some(span),
         } => Some((file.object(), span.from(), span.to(), 0)),
+        Action::NcRead { file, at, len } => Some((file.object(), *at, *len, 0)),
+        Action::NcWrite { file, at, bytes } => Some((file.object(), *at, bytes.len(), 0)),
         _ => None,
     }
 }
@@ -282,12 +286,15 @@ fn opened(script: &Script) -> Option<(u8, bool)> {
 
 #[test]
 fn keeps_files_and_their_numbers(rt: HostRuntime) -> Result<(), Fail> {
-    let text = b"stream a 9 7\ninit a:15 3 2 1 quota 8 temporary\nuninit a:15 6\npurge a 1 4";
+    let text = b"stream a 9 7\ninit a:15 3 2 1 quota 8 temporary\nuninit a:15 6\npurge a 1 4
+ncread a:0 4096 8192\nncwrite a:1 4096 AB,00x2";
     let script = read_script(rt.alloc(), text, Mode::Run).ok().ok_or("read")?;
     assert_eq!(rt; opened(&script), Some((8, true)));
     assert_eq!(rt; numbers_at(&script, 0), Some((15, 3, 2, 1)));
     assert_eq!(rt; numbers_at(&script, 1), Some((15, 6, 0, 0)));
     assert_eq!(rt; numbers_at(&script, 2), Some((0, 1, 4, 0)));
+    assert_eq!(rt; numbers_at(&script, 3), Some((0, 4096, 8192, 0)));
+    assert_eq!(rt; numbers_at(&script, 4), Some((1, 4096, 3, 0)));
     Ok(())
 }
 

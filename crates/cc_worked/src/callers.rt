@@ -1,4 +1,4 @@
-//! Callers and streams.
+//! Worked journals on callers: a call stands under its stream, and a hold is used by who made it.
 
 ghost use Rattle.cc_model.specs.Legal.{IsLegal};
 ghost use Rattle.cc_model.specs.Allowed.{IsAllowed};

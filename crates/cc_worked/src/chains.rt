@@ -1,4 +1,4 @@
-//! Descriptor chains.
+//! Worked journals on descriptor chains: a store is visible at once, and a chain serves its caller alone.
 
 ghost use Rattle.std.specs.Prelude.{◌≡◌, [], ◌∷◌};
 ghost use Rattle.cc_model.specs.History.{history};

@@ -1,4 +1,4 @@
-//! Copied reads and writes.
+//! Worked journals on copied reads and writes, and on zeroing: what they read, and where they may begin and end.
 
 ghost use Rattle.cc_model.specs.Legal.{IsLegal};
 ghost use Rattle.cc_model.specs.Allowed.{IsAllowed};

@@ -1,4 +1,4 @@
-//! Refused discards.
+//! Worked journals on discards that are refused: of pages that have grown, are unsettled, or are held.
 
 ghost use Rattle.cc_model.specs.Legal.{IsLegal};
 ghost use Rattle.cc_model.specs.Allowed.{IsAllowed};

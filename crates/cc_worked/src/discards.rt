@@ -1,4 +1,4 @@
-//! Discards.
+//! Worked journals on discards: what is dropped, what the disk gives back, and what other pages keep.
 
 ghost use Rattle.cc_model.specs.Legal.{IsLegal};
 ghost use Rattle.cc_model.specs.Allowed.{IsAllowed};

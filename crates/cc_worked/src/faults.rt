@@ -1,4 +1,4 @@
-//! Faults of the disk.
+//! Worked journals on faults of the disk: who is told, and what stays dirty.
 
 ghost use Rattle.cc_model.specs.Legal.{IsLegal};
 ghost use Rattle.cc_model.specs.Allowed.{IsAllowed};

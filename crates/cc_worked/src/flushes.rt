@@ -1,4 +1,4 @@
-//! Flushes beside changes, pins and other spans.
+//! Worked journals on flushes beside changes, pins and other spans.
 
 ghost use Rattle.cc_model.specs.Legal.{IsLegal};
 ghost use Rattle.cc_model.specs.Allowed.{IsAllowed};

@@ -1,4 +1,4 @@
-//! Maps, pins and repins.
+//! Worked journals on maps, pins and repins: what a hold keeps in the cache, and what its end writes.
 
 ghost use Rattle.cc_model.specs.Legal.{IsLegal};
 ghost use Rattle.cc_model.specs.Allowed.{IsAllowed};

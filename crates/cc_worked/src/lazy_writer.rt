@@ -1,4 +1,4 @@
-//! The lazy writer.
+//! Worked journals on the lazy writer: which pages a scan picks, and where it goes on.
 
 ghost use Rattle.cc_model.specs.Legal.{IsLegal};
 ghost use Rattle.cc_model.specs.Allowed.{IsAllowed};

@@ -1,4 +1,4 @@
-//! Stamped pages and their log.
+//! Worked journals on stamped pages: their log is flushed first, as far as their newest stamp.
 
 ghost use Rattle.cc_model.specs.Legal.{IsLegal};
 ghost use Rattle.cc_model.specs.Allowed.{IsAllowed};

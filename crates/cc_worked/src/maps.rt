@@ -1,4 +1,4 @@
-//! Maps that outlive their objects.
+//! Worked journals on a map that outlives its objects while a page is dirty.
 
 ghost use Rattle.cc_model.specs.Legal.{IsLegal};
 ghost use Rattle.cc_model.specs.Allowed.{IsAllowed};

@@ -1,4 +1,4 @@
-//! Noncached pages.
+//! Worked journals on noncached pages beside what the cache has of the same bytes.
 
 ghost use Rattle.cc_model.specs.Legal.{IsLegal};
 ghost use Rattle.cc_model.specs.Allowed.{IsAllowed};

@@ -1,4 +1,4 @@
-//! Pages that come and go.
+//! Worked journals on pages that come in and go out, and on transfers, of which each ends once.
 
 ghost use Rattle.cc_model.specs.Legal.{IsLegal};
 ghost use Rattle.cc_model.specs.Allowed.{IsAllowed};

@@ -23,7 +23,8 @@ ghost use Rattle.cc_worked.specs.PiecesRuns.{first_bytes, reads, asks, two_full,
 ghost use Rattle.cc_worked.specs.PiecesRuns.{line_of, of_one, of_two, of_one_answered, plan_with, one_step, stranger_beside};
 ghost use Rattle.cc_worked.specs.PiecesLines.{no_request, one_map};
 ghost use Rattle.cc_worked.specs.PiecesWithoutEntry.{flushed_to_three, appended};
-ghost use Rattle.cc_worked.specs.PiecesAnswered.{flushed_to_four};
+ghost use Rattle.cc_worked.specs.PiecesAnswered.{flushed_to_four, one_byte_is_refused};
+ghost use Rattle.cc_worked.specs.PiecesNoncached.{misaligned};
 ghost use Rattle.cc_worked.specs.PiecesRuns.{given, told_by, all_replies, stream_last, one_unanswered};
 ghost use Rattle.cc_worked.specs.PiecesRuns.{two_dirty, one_dirty, stamped_row, unstamped_row, three_fail};
 
@@ -78,6 +79,11 @@ pub fn each_verb_is_served()
         first_resident (answers 1 1 (call.Uninitialise a (Some 0)) (reply.Flag false) ∷ first_resident) }
     ensures purged { Served setup 1 [] (action.Purge a None) (answer.Given reply.Unit)
         first_resident (done 1 1 (call.Purge a None) ∷ first_resident) }
+    ensures no_page_read { Served setup 1 [] (action.NcRead a 0 0) (answer.Given (reply.Read [])) two_pages two_pages }
+    ensures page_read_refused { Served setup 1 [] (action.NcRead a 1 4096) (answer.NcRefused 0 error.Unaligned)
+        two_pages (misaligned ++ two_pages) }
+    ensures page_write_refused { Served setup 1 [] (action.NcWrite a 0 (171 ∷ [])) (answer.NcRefused 0 error.Unaligned)
+        two_pages (one_byte_is_refused ++ two_pages) }
     ensures not_zeroed { Served setup 1 [] (action.Zero a first_bytes) (answer.Given reply.Unit) first_resident (done 1 1 (call.CopyWrite a 0 (0 ∷ [])) ∷ first_resident) → ⊥ }
     ensures no_other_sizes { Served setup 1 [] (action.SetSizes a 8192 4096) (answer.Given reply.Unit) first_resident (done 1 1 (call.SetSizes a 4096 8192) ∷ first_resident) → ⊥ }
     ensures no_other_log { Served setup 1 [] (action.SetLog a 3) (answer.Given reply.Unit) first_resident (done 1 1 (call.SetLog a 2) ∷ first_resident) → ⊥ }
@@ -89,6 +95,8 @@ pub fn each_verb_is_served()
         first_resident (answers 1 1 (call.Uninitialise a (Some 0)) (reply.Flag false) ∷ first_resident) → ⊥ }
     ensures purge_is_no_flush { Served setup 1 [] (action.Purge a None) (answer.Given reply.Unit)
         first_resident (done 1 1 (call.Flush a None) ∷ synced 1 ∷ first_resident) → ⊥ }
+    ensures told_with_its_pages { Served setup 1 [] (action.NcRead a 1 4096) (answer.Refused error.Unaligned)
+        two_pages (misaligned ++ two_pages) → ⊥ }
 {}
 
 /// The lines of a caller leave pieces one after the other, each of its line, and the caller places nothing else.

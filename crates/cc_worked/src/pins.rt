@@ -1,4 +1,4 @@
-//! Pins, and holds of no byte.
+//! Worked journals on pins: which bar each other, what is written through them, and holds of no byte.
 
 ghost use Rattle.cc_model.specs.Legal.{IsLegal};
 ghost use Rattle.cc_model.specs.Allowed.{IsAllowed};

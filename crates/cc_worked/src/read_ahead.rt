@@ -1,4 +1,4 @@
-//! Read-ahead.
+//! Worked journals on read-ahead: two reads that follow each other lead ahead, a jump doesn't.
 
 ghost use Rattle.cc_model.specs.Legal.{IsLegal};
 ghost use Rattle.cc_model.specs.Allowed.{IsAllowed};

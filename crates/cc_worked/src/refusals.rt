@@ -1,4 +1,4 @@
-//! Refusals.
+//! Worked journals on refusals: the first reason in their order is told, and want of room is none.
 
 ghost use Rattle.cc_model.specs.Legal.{IsLegal};
 ghost use Rattle.cc_model.specs.Allowed.{IsAllowed};

@@ -1,4 +1,4 @@
-//! Truncation at the last uninitialise, and maps that are opened again.
+//! Worked journals on truncation at the last uninitialise, and on maps that are opened again.
 
 ghost use Rattle.cc_model.specs.Legal.{IsLegal};
 ghost use Rattle.cc_model.specs.Allowed.{IsAllowed};

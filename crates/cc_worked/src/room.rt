@@ -1,4 +1,4 @@
-//! Room in the journal.
+//! Worked journals on room: what each entry asks of a journal, and when it is full.
 
 ghost use Rattle.std.specs.Prelude.{◌≡◌, [], ◌∷◌, true, false};
 ghost use Rattle.cc_model.specs.Legal.{IsLegal};

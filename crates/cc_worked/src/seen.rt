@@ -1,4 +1,4 @@
-//! What a caller has seen.
+//! Worked journals on what a caller has seen before its call, and what stands after it.
 
 ghost use Rattle.cc_model.specs.Passes.{HasSeen, WasPlaced};
 ghost use Rattle.cc_model.specs.Legal.{IsLegal};

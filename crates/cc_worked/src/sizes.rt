@@ -1,4 +1,4 @@
-//! Changes of the size.
+//! Worked journals on a size that falls, also while a page is transferred.
 
 ghost use Rattle.cc_model.specs.Legal.{IsLegal};
 ghost use Rattle.cc_model.specs.Allowed.{IsAllowed};

@@ -1,4 +1,4 @@
-//! Noncached stores.
+//! Worked journals on noncached stores: their begin at once behind them, their log, and the size that cuts them.
 
 ghost use Rattle.cc_model.specs.Legal.{IsLegal};
 ghost use Rattle.cc_model.specs.Allowed.{IsAllowed};

@@ -1,4 +1,4 @@
-//! Deferred writes.
+//! Worked journals on deferred writes: when a write is held back, and in which order they are posted.
 
 ghost use Rattle.cc_model.specs.Legal.{IsLegal};
 ghost use Rattle.cc_model.specs.Allowed.{IsAllowed};

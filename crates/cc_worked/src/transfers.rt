@@ -1,4 +1,4 @@
-//! Changes during a transfer.
+//! Worked journals on changes during a transfer: it cleans what it took, and nothing later.
 
 ghost use Rattle.std.specs.Prelude.{◌≡◌, [], ◌∷◌};
 ghost use Rattle.cc_model.specs.Stamps.{dirty_table};

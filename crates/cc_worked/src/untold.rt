@@ -1,4 +1,4 @@
-//! Reads over a disk that does not tell what it holds.
+//! Worked journals on reads over a disk that does not tell what it holds.
 
 ghost use Rattle.std.specs.Prelude.{[], ◌∷◌};
 ghost use Rattle.cc_model.specs.Legal.{IsLegal};

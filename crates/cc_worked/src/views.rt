@@ -1,4 +1,4 @@
-//! View blocks.
+//! Worked journals on view blocks: the quota of a stream, the pool of all, and which block is given up.
 
 ghost use Rattle.cc_model.specs.Legal.{IsLegal};
 ghost use Rattle.cc_model.specs.Allowed.{IsAllowed};

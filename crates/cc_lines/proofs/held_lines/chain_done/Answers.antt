@@ -1,3 +1,4 @@
+-- A word that names either chain names one that is the caller's; another word or none answers that there is no hold.
 use Rattle.std.proofs.Common.{◌∙◌, ap, refl, sym}
 use Rattle.std.specs.declared.option.Option.TheVariants.{Some}
 use Rattle.cc_entry.specs.Kinds.{is_read_chain, is_write_chain}

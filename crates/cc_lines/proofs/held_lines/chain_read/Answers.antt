@@ -1,3 +1,4 @@
+-- A word that names a read chain names one that covers the place; another word or none answers that there is no hold.
 use Rattle.std.proofs.Common.{◌∙◌, ap, sym}
 use Rattle.std.specs.declared.option.Option.TheVariants.{Some}
 use Rattle.cc_entry.specs.Kinds.{is_read_chain}

@@ -1,3 +1,4 @@
+-- A word that names a write chain names one that covers the place; another or none answers that there is no hold.
 use Rattle.std.proofs.Common.{◌∙◌, ap, sym}
 use Rattle.std.specs.declared.option.Option.TheVariants.{Some}
 use Rattle.cc_entry.specs.Kinds.{is_write_chain}

@@ -1,3 +1,4 @@
+-- A word that names a pin lets it be held once more under the next word; else the next word is bound to nothing.
 use Rattle.std.proofs.Common.{◌∙◌, ap, refl, sym}
 use Rattle.std.specs.Prelude.{Ok, Err}
 use Rattle.std.specs.declared.option.Option.TheVariants.{Some}

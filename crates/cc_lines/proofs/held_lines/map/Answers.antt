@@ -1,3 +1,4 @@
+-- By the end of the call: the map is bound to the next word, or the refusal is answered and nothing bound.
 use Rattle.std.specs.Prelude.{Ok, Err, refl}
 use Rattle.cc_lines.specs.declared.holds.Named.TheVariants as named
 use Rattle.cc_lines.proofs.HoldLines.{map-ends}

@@ -1,3 +1,4 @@
+-- The word's row holds the pin afterwards, or the map again where the pin is refused; other rows stay as they are.
 use Rattle.std.proofs.Common.{◌∙◌, ap, sym}
 use Rattle.std.specs.declared.option.Option.TheVariants.{Some}
 use Rattle.cc_entry.specs.Kinds.{is_map}

@@ -1,3 +1,4 @@
+-- A word of a map or a pin ends that hold, and its row is empty then; another or none answers that there is no hold.
 use Rattle.std.proofs.Common.{◌∙◌, ap, refl, sym}
 use Rattle.std.specs.declared.option.Option.TheVariants.{Some}
 use Rattle.cc_entry.specs.Kinds.{is_map, is_pin}

@@ -1,3 +1,4 @@
+-- A word of a repin ends it, flushed or not, and its row is empty then; another or none answers that there is none.
 use Rattle.std.proofs.Common.{◌∙◌, ap, sym}
 use Rattle.std.specs.declared.option.Option.TheVariants.{Some}
 use Rattle.cc_entry.specs.Kinds.{is_repin}

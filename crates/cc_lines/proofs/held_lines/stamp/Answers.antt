@@ -1,3 +1,4 @@
+-- A word that names a pin names one that is the caller's; another word or none answers that there is no hold.
 use Rattle.std.proofs.Common.{◌∙◌, ap, sym}
 use Rattle.std.specs.declared.option.Option.TheVariants.{Some}
 use Rattle.cc_entry.specs.Kinds.{is_pin}

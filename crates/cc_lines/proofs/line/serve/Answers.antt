@@ -1,6 +1,7 @@
+-- Verb by verb: the action may make its call, and what the call left ends the line.
 use Rattle.std.proofs.Common.{ap, arith}
 use Rattle.cc_entry.specs.declared.call.Call.TheVariants as call
-use Rattle.cc_lines.proofs.PlainLines.{append-line, plain-line, plain_call}
+use Rattle.cc_lines.proofs.PlainLines.{append-line, nc_read-line, nc_write-line, plain-line, plain_call}
 use Rattle.cc_lines.proofs.ServeLines.{asked-as, can-as, change-line, flag-line, flush-line, flushed-line, lsns-line, may-free, may-on, next-chain, next-map, next-pin, next-prepare, next-repin, next-write_chain, purge-line, rows-line, set-line, state-line}
 use Rattle.cc_lines.proofs.line.serve.Goals as goal
 
@@ -24,6 +25,22 @@ purge-requires-clause-can g c κs within = may-on (g.T.Turns.standing c.args.tur
 pub returns-in-Purge : goal.returns-in-Purge
 returns-in-Purge g c =
     purge-line _ _ c.args.names.now _ _ c.requires.good c.in-Purge.file c.in-Purge.span c.purge.result (ap plain_call c.in-Purge.is) c.answered-in-Purge.ensures c.purge.ensures.ends
+
+pub read_noncached-requires-after_bounds : goal.read_noncached-requires-after_bounds
+read_noncached-requires-after_bounds g c κs within = may-on (g.T.Turns.standing c.args.turns.now) _ c.args.names.now c.in-NcRead.file.stream c.requires (can-as (g.T.Turns.standing c.args.turns.now) _ _ c.args.names.now c.in-NcRead.is c.requires).servable
+
+pub returns-in-NcRead : goal.returns-in-NcRead
+returns-in-NcRead g c =
+    asked-as _ _ _ _ _ _ _ c.in-NcRead.is
+    (nc_read-line _ _ _ c.args.names.now c.read_noncached.ensures.full c.read_noncached.ensures.goes_on (c.read_noncached.ensures.good c.requires.good) c.in-NcRead.file c.in-NcRead.at c.in-NcRead.len c.read_noncached.ensures.answered)
+
+pub write_noncached-requires-after_bounds : goal.write_noncached-requires-after_bounds
+write_noncached-requires-after_bounds g c κs within = may-on (g.T.Turns.standing c.args.turns.now) _ c.args.names.now c.in-NcWrite.file.stream c.requires (can-as (g.T.Turns.standing c.args.turns.now) _ _ c.args.names.now c.in-NcWrite.is c.requires).servable
+
+pub returns-in-NcWrite : goal.returns-in-NcWrite
+returns-in-NcWrite g c =
+    asked-as _ _ _ _ _ _ _ c.in-NcWrite.is
+    (nc_write-line _ _ _ c.args.names.now c.write_noncached.ensures.full c.write_noncached.ensures.goes_on (c.write_noncached.ensures.good c.requires.good) c.in-NcWrite.file c.in-NcWrite.at c.in-NcWrite.bytes c.write_noncached.ensures.answered)
 
 pub read-requires-after_bounds : goal.read-requires-after_bounds
 read-requires-after_bounds g c κs within = may-on (g.T.Turns.standing c.args.turns.now) _ c.args.names.now c.in-CopyRead.file.stream c.requires (can-as (g.T.Turns.standing c.args.turns.now) _ _ c.args.names.now c.in-CopyRead.is c.requires).servable

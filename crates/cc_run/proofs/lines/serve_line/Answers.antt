@@ -1,3 +1,4 @@
+-- The desk acts as the caller, so the line is served as that caller's pass; what it left is the line's piece.
 use mir.Syntax.{of_param}
 use Rattle.std.proofs.Common.{rules, refl, ap, subst}
 use Rattle.cc_model.specs.Good.{IsGood}

@@ -1,3 +1,4 @@
+-- One line more is the front of the lines served: its words stand at the moment at hand, and its answer comes behind.
 use Rattle.std.proofs.Common.{◌≡◌, ◌+◌, ◌-◌, ◌<◌, ◌++◌, ◌∷◌, [], ℕ, List, suc, length, take, drop, get_or, refl, sym, subst, ◌∙◌, arith, ap}
 use Rattle.std.proofs.lemmas.List.{append-nil, take_all, take_more}
 use Rattle.cc_script.specs.declared.script.ActionLine.{ActionLine}

@@ -1,3 +1,4 @@
+-- The lines so far have answers and pieces, all words stand still, and there is room for the answers of the rest.
 use Rattle.std.proofs.Common.{◌≡◌, ◌+◌, ℕ, List, length, take}
 use Rattle.std.specs.Prelude.{vec_capacity}
 use Rattle.cc_script.specs.HoldWords.{AreUsedRight}

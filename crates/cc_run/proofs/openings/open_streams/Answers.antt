@@ -1,3 +1,4 @@
+-- One stream more is the front of the streams opened; the desk acts as pass 0 all the while, so no other pass acts.
 use Rattle.std.proofs.Common.{◌≡◌, ◌+◌, ◌++◌, ◌∷◌, [], take, refl, sym, subst, ◌∙◌, arith, ap}
 use Rattle.std.proofs.lemmas.List.{take_more, length-take}
 use Rattle.cc_pieces.specs.Openings.{Opens}

@@ -1,3 +1,4 @@
+-- By the way that was gone: on threads, or by the desk, whose lines find it as it was where no thread could be made.
 use Rattle.std.proofs.Common.{rules, ◌≡◌, ◌∙◌, ◌++◌, ℕ, List, false, drop, length, map, take, sym, ap, arith}
 use Rattle.std.specs.Prelude.{vec_capacity}
 use Rattle.std.proofs.lemmas.List.{length-map, take_at}

@@ -1,3 +1,4 @@
+-- The lines of each phase are the front of the rest; what was served so far and a phase make what is served so far.
 use Rattle.std.proofs.Common.{◌≡◌, suc, ◌+◌, ◌++◌, length, refl, sym, ap, ◌∙◌, arith}
 use Rattle.std.proofs.lemmas.List.{length-append, length-take, take-append-drop}
 use Rattle.cc_turns.specs.Desk.{standing_of}

@@ -1,3 +1,4 @@
+-- What was served of the phases before this one, the words kept, and room for the answers of the lines that are left.
 use Rattle.std.proofs.Common.{◌≡◌, ◌+◌, ◌≤◌, length}
 use Rattle.std.specs.Prelude.{vec_capacity}
 use Rattle.cc_script.specs.Within.{PhasesAscend}

@@ -1,3 +1,4 @@
+-- The streams opened, and behind them the phases, explain the run; disks, logs and table stand for its journal.
 use Rattle.std.proofs.Common.{◌≡◌, ◌≤◌, ◌∙◌, length, map, sym, ap, subst, arith}
 use Rattle.std.specs.List.{AllByRecursion}
 use Rattle.cc_script.specs.Within.{IsLineWithin}

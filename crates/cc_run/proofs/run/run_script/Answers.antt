@@ -1,3 +1,4 @@
+-- The first disks and logs are the run's; behind the run they go back in front of the others, where there is room.
 use Rattle.std.proofs.Common.{◌++◌, ◌∙◌, length, take, drop, reverse, refl, ap, subst, arith}
 use Rattle.std.proofs.lemmas.List.{length-take, length-append, length-reverse, take-append-drop}
 use Rattle.std.specs.Prelude.{slice_get}
@@ -8,8 +9,8 @@ use Rattle.cc_run.specs.Lines.{given_of, lines_answered}
 use Rattle.cc_run.specs.Logs.{LogsStand}
 use Rattle.cc_run.proofs.RowSteps.{reverse_twice}
 use Rattle.cc_run.proofs.RunSteps.{setup-is, enough-disks}
-use Rattle.cc_run.proofs.DiskSteps.{disks-are, are-counted, have-risen}
-use Rattle.cc_run.proofs.LogSteps.{logs-are, logs-counted, logs-risen}
+use Rattle.cc_run.proofs.DiskSteps.{disks-left}
+use Rattle.cc_run.proofs.LogSteps.{logs-left}
 use Rattle.cc_run.proofs.run.run_script.Goals as goal
 
 pub invariant_of-setup-clause-few_disks : goal.invariant_of-setup-clause-few_disks
@@ -66,41 +67,13 @@ returns-in-Ok-new-clause-explained g c =
 pub returns-in-Ok-new-clause-disks : goal.returns-in-Ok-new-clause-disks
 returns-in-Ok-new-clause-disks g c =
     let begun = ap (λ b. b.disks) c.in-Ok-new.ensures.fresh.begun_is ∙ c.in-Ok-first_of.ensures.first in
-    disks-are g.D.Told.told g.D.Told.faults (reverse c.run_on-replies.result.journal.items) c.args.disks.items c.run_on-replies.result.disks.items _
-    (subst (λ ds. DisksStand g.D.Told.told g.D.Told.faults (λ s. disk_at_first g.D.Told.told g.D.Told.faults (slice_get ds s)) (length ds) (reverse c.run_on-replies.result.journal.items) c.run_on-replies.result.disks.items) begun c.run_on-replies.ensures.disks)
-    (c.put_back-in-Ok-new.ensures ∙ ap (λ l. c.run_on-replies.result.disks.items ++ l) (ap reverse c.in-Ok-first_of.ensures.left ∙ reverse_twice (drop 16 c.args.disks.items)))
-
-pub returns-in-Ok-new-clause-counted : goal.returns-in-Ok-new-clause-counted
-returns-in-Ok-new-clause-counted g c =
-    let begun = ap (λ b. b.disks) c.in-Ok-new.ensures.fresh.begun_is ∙ c.in-Ok-first_of.ensures.first in
-    are-counted g.D.Told.told g.D.Told.faults (reverse c.run_on-replies.result.journal.items) c.args.disks.items c.run_on-replies.result.disks.items _
-    (subst (λ ds. DisksStand g.D.Told.told g.D.Told.faults (λ s. disk_at_first g.D.Told.told g.D.Told.faults (slice_get ds s)) (length ds) (reverse c.run_on-replies.result.journal.items) c.run_on-replies.result.disks.items) begun c.run_on-replies.ensures.disks)
-    (c.put_back-in-Ok-new.ensures ∙ ap (λ l. c.run_on-replies.result.disks.items ++ l) (ap reverse c.in-Ok-first_of.ensures.left ∙ reverse_twice (drop 16 c.args.disks.items)))
-
-pub returns-in-Ok-new-clause-risen : goal.returns-in-Ok-new-clause-risen
-returns-in-Ok-new-clause-risen g c =
-    let begun = ap (λ b. b.disks) c.in-Ok-new.ensures.fresh.begun_is ∙ c.in-Ok-first_of.ensures.first in
-    have-risen g.D.Told.told g.D.Told.faults (reverse c.run_on-replies.result.journal.items) c.args.disks.items c.run_on-replies.result.disks.items _
+    disks-left g.D.Told.told g.D.Told.faults (reverse c.run_on-replies.result.journal.items) c.args.disks.items c.run_on-replies.result.disks.items _
     (subst (λ ds. DisksStand g.D.Told.told g.D.Told.faults (λ s. disk_at_first g.D.Told.told g.D.Told.faults (slice_get ds s)) (length ds) (reverse c.run_on-replies.result.journal.items) c.run_on-replies.result.disks.items) begun c.run_on-replies.ensures.disks)
     (c.put_back-in-Ok-new.ensures ∙ ap (λ l. c.run_on-replies.result.disks.items ++ l) (ap reverse c.in-Ok-first_of.ensures.left ∙ reverse_twice (drop 16 c.args.disks.items)))
 
 pub returns-in-Ok-new-clause-logs : goal.returns-in-Ok-new-clause-logs
 returns-in-Ok-new-clause-logs g c =
     let begun = ap (λ b. b.logs) c.in-Ok-new.ensures.fresh.begun_is ∙ c.in-Ok-first_of-2.ensures.first in
-    logs-are g.L.LogFile.told g.L.LogFile.faults (reverse c.run_on-replies.result.journal.items) c.args.logs.items c.run_on-replies.result.logs.items _
-    (subst (λ ls. LogsStand g.L.LogFile.told g.L.LogFile.faults (λ handle. log_at_first g.L.LogFile.told g.L.LogFile.faults (slice_get ls handle)) (length ls) (reverse c.run_on-replies.result.journal.items) c.run_on-replies.result.logs.items) begun c.run_on-replies.ensures.logs)
-    (c.put_back-in-Ok-new-2.ensures ∙ ap (λ l. c.run_on-replies.result.logs.items ++ l) (ap reverse c.in-Ok-first_of-2.ensures.left ∙ reverse_twice (drop 4 c.args.logs.items)))
-
-pub returns-in-Ok-new-clause-logs_counted : goal.returns-in-Ok-new-clause-logs_counted
-returns-in-Ok-new-clause-logs_counted g c =
-    let begun = ap (λ b. b.logs) c.in-Ok-new.ensures.fresh.begun_is ∙ c.in-Ok-first_of-2.ensures.first in
-    logs-counted g.L.LogFile.told g.L.LogFile.faults (reverse c.run_on-replies.result.journal.items) c.args.logs.items c.run_on-replies.result.logs.items _
-    (subst (λ ls. LogsStand g.L.LogFile.told g.L.LogFile.faults (λ handle. log_at_first g.L.LogFile.told g.L.LogFile.faults (slice_get ls handle)) (length ls) (reverse c.run_on-replies.result.journal.items) c.run_on-replies.result.logs.items) begun c.run_on-replies.ensures.logs)
-    (c.put_back-in-Ok-new-2.ensures ∙ ap (λ l. c.run_on-replies.result.logs.items ++ l) (ap reverse c.in-Ok-first_of-2.ensures.left ∙ reverse_twice (drop 4 c.args.logs.items)))
-
-pub returns-in-Ok-new-clause-logs_risen : goal.returns-in-Ok-new-clause-logs_risen
-returns-in-Ok-new-clause-logs_risen g c =
-    let begun = ap (λ b. b.logs) c.in-Ok-new.ensures.fresh.begun_is ∙ c.in-Ok-first_of-2.ensures.first in
-    logs-risen g.L.LogFile.told g.L.LogFile.faults (reverse c.run_on-replies.result.journal.items) c.args.logs.items c.run_on-replies.result.logs.items _
+    logs-left g.L.LogFile.told g.L.LogFile.faults (reverse c.run_on-replies.result.journal.items) c.args.logs.items c.run_on-replies.result.logs.items _
     (subst (λ ls. LogsStand g.L.LogFile.told g.L.LogFile.faults (λ handle. log_at_first g.L.LogFile.told g.L.LogFile.faults (slice_get ls handle)) (length ls) (reverse c.run_on-replies.result.journal.items) c.run_on-replies.result.logs.items) begun c.run_on-replies.ensures.logs)
     (c.put_back-in-Ok-new-2.ensures ∙ ap (λ l. c.run_on-replies.result.logs.items ++ l) (ap reverse c.in-Ok-first_of-2.ensures.left ∙ reverse_twice (drop 4 c.args.logs.items)))

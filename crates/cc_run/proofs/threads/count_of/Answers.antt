@@ -1,3 +1,4 @@
+-- One line more counts where it is the caller's.
 use Rattle.std.proofs.Common.{◌≡◌, ◌+◌, ◌==◌, true, false, ◌∷◌, ◌++◌, [], take, sym, ap, ◌∙◌, arith, if◌then◌else◌}
 use Rattle.std.proofs.lemmas.Bool.{eq-eqb, ne_eqb}
 use Rattle.std.proofs.lemmas.List.{take_more}

@@ -1,3 +1,4 @@
+-- The pass taken off is the last of those left, and its number goes with it; its answers stand turned round in a row.
 use Rattle.std.proofs.Common.{◌≡◌, ◌+◌, ◌++◌, ◌∷◌, [], ℕ, List, length, map, reverse, sym, ap, ◌∙◌, arith}
 use Rattle.std.proofs.lemmas.List.{append-nil, reverse-append, map_push}
 use Rattle.std.specs.Global.{Global}

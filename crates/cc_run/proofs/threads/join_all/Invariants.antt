@@ -1,3 +1,4 @@
+-- The passes joined so far are ended ones of pass 0, and rows and names are theirs, the last caller's first.
 use Rattle.std.proofs.Common.{◌≡◌, ◌≤◌, ◌+◌, ◌++◌, List, length, map, reverse, vec_capacity}
 use Rattle.cc_run.specs.Threads.{under_way_of}
 use Rattle.cc_run.specs.declared.callers.Finished.{Finished}

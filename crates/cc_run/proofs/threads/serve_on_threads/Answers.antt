@@ -1,3 +1,4 @@
+-- What the callers left beside one another is the phase; behind the joins no pass is out, so the board closes.
 use Rattle.std.proofs.Common.{◌∙◌, arith, ap, length, refl}
 use Rattle.std.proofs.lemmas.List.{length-reverse}
 use Rattle.cc_run.proofs.OnBoard.{are-rows, back-ready, back-run, keep-room, may-all-run, may-join, none-out, phase-on-board, ready-now, same-run}

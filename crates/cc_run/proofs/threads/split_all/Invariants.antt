@@ -1,3 +1,4 @@
+-- The callers split so far have a number, a room and names each, taken from the last on; pass 0 knows how many.
 use Rattle.std.proofs.Common.{◌≡◌, ◌≤◌, ◌+◌, ◌-◌, ◌++◌, ℕ, suc, Bool, List, length, vec_capacity}
 use Rattle.std.specs.Prelude.{slice_get}
 use Rattle.std.specs.Global.{Global}

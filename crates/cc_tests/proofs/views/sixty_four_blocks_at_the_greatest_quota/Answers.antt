@@ -1,3 +1,4 @@
+-- Each block is one view more, or mapped already; so the views are no more than the blocks tried, and there is room.
 use Rattle.std.proofs.Common.{ℕ, List, [], ◌∷◌, length, ap, ◌∙◌, arith}
 use Rattle.std.proofs.lemmas.List.{length-append}
 use Rattle.cc_views.specs.Views.{Mapped, Pages, MapsLast}

@@ -11,9 +11,10 @@ use Rattle.cc_entry.specs.declared.entry.Entry.{Entry}
 use Rattle.cc_entry.specs.declared.entry.Entry.TheVariants as entry
 use Rattle.cc_effects.specs.Calls.{CallLeft}
 use Rattle.cc_effects.proofs.Starts.{begins, done_by, ends_done}
+use Rattle.cc_effects.proofs.Stretches.{idle-none}
 use Rattle.cc_effects.proofs.Licences.{only-own}
 use Rattle.cc_worked.specs.Values.{setup, a, second, sized, done, answers, synced}
-use Rattle.cc_worked.specs.PiecesReads.{first_resident}
+use Rattle.cc_worked.specs.PiecesReads.{first_resident, two_pages}
 use Rattle.cc_worked.specs.PiecesRuns.{first_bytes, two_full}
 use Rattle.cc_worked.specs.PiecesWithoutEntry.{flushed_to_three, appended}
 use Rattle.cc_worked.proofs.PiecesOpened.{computed}
@@ -67,6 +68,17 @@ returns-clause-closed c =
 pub returns-clause-purged : goal.returns-clause-purged
 returns-clause-purged c =
     ends_done 1 1 (Some 0) (call.Purge a None) reply.Unit first_resident first_resident (begins 1 (call.Purge a None) first_resident) refl (λ during. tt)
+
+pub returns-clause-no_page_read : goal.returns-clause-no_page_read
+returns-clause-no_page_read c = (refl, idle-none 1 two_pages)
+
+pub returns-clause-page_read_refused : goal.returns-clause-page_read_refused
+returns-clause-page_read_refused c =
+    (refl, (1, refl, record { later = []; earlier = []; grew = refl; is_own = refl; quiet_after = tt; quiet_before = tt }))
+
+pub returns-clause-page_write_refused : goal.returns-clause-page_write_refused
+returns-clause-page_write_refused c =
+    (refl, (1, refl, record { later = []; earlier = []; grew = refl; is_own = refl; quiet_after = tt; quiet_before = tt }))
 
 -- a stretch that a done call left has its end alone
 one_call : (it : Call) (r : Reply) (piece : List Entry) → CallLeft setup 1 it (outcome.Done r) first_resident (piece ++ first_resident) → marks 1 piece ≡ Ended it (outcome.Done r) ∷ []
@@ -123,3 +135,6 @@ returns-clause-purge_is_no_flush c left = other (one_call (call.Purge a None) re
   where
     other : Ended (call.Flush a None) (outcome.Done reply.Unit) ∷ [] ≡ Ended (call.Purge a None) (outcome.Done reply.Unit) ∷ [] → ⊥
     other same = absurd (cc)
+
+pub returns-clause-told_with_its_pages : goal.returns-clause-told_with_its_pages
+returns-clause-told_with_its_pages c left = left

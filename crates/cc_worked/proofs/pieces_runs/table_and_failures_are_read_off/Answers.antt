@@ -1,4 +1,4 @@
--- By computation.
+-- The rows of the table, and the count of failures, are computed from the entries.
 use Rattle.std.specs.Prelude.{◌≡◌, ℕ, [], ◌∷◌, refl}
 use Rattle.std.proofs.Common.{arith}
 use Rattle.cc_pieces.specs.Table.{table_of}

@@ -1,4 +1,4 @@
--- By computation.
+-- The calls of each write, and the zeroings of each gap, are computed from its place and length.
 use Rattle.std.specs.Prelude.{◌≡◌, ℕ, [], ◌∷◌, refl}
 use Rattle.std.proofs.Common.{arith}
 use Rattle.cc_entry.specs.declared.call.Call.TheVariants as call

@@ -1,0 +1,36 @@
+-- The pages of a noncached read as they stand in its piece, each with the plain file's bytes.
+use Rattle.std.specs.Prelude.{◌≡◌, ℕ, ◌*◌, List, [], ◌∷◌, ◌++◌}
+use Rattle.std.specs.declared.option.Option.TheVariants.{Some}
+use Rattle.cc_entry.specs.Place.{File}
+use Rattle.cc_entry.specs.declared.call.Call.TheVariants as call
+use Rattle.cc_entry.specs.declared.reply.Reply.TheVariants as reply
+use Rattle.cc_entry.specs.declared.reply.Outcome.TheVariants as outcome
+use Rattle.cc_entry.specs.declared.entry.Entry.{Entry}
+use Rattle.cc_entry.specs.declared.entry.Entry.TheVariants as entry
+use Rattle.cc_model.specs.Setup.{Setup}
+use Rattle.cc_model.specs.History.{history}
+use Rattle.cc_model.specs.Replies.{Reads}
+use Rattle.cc_effects.specs.Moments.{Between}
+
+-- A page was read past the cache: it has its entry, and the bytes that this answers are the plain file's at that place.
+pub record IsPlainPage (u : Setup) (me : ℕ) (file : File) (page : ℕ) (bytes : List ℕ) (old new : List Entry) : Type 0 where
+  pub nth : ℕ
+  pub later : List Entry
+  pub earlier : List Entry
+  pub grew :
+      new
+      ≡ later
+      ++ (entry.Call me nth (Some file.stream) (call.NcRead file page) (outcome.Done (reply.Read bytes)) ∷ (earlier ++ old))
+  pub plain : Reads (u.opening file.stream) (history (earlier ++ old) file.stream) (4096 * page) 4096 (reply.Read bytes)
+
+-- so were these pages, one behind the other, up to the first that answers no byte; together they answer these bytes
+abbrev pub ArePlainPages : Setup → ℕ → File → List ℕ → List ℕ → Between
+ArePlainPages u me file [] bytes old new = bytes ≡ []
+ArePlainPages u me file (page ∷ pages) [] old new = IsPlainPage u me file page [] old new
+ArePlainPages u me file (page ∷ pages) (byte ∷ bytes) old new =
+    (between : List Entry)
+    × (first : List ℕ)
+    × (rest : List ℕ)
+    × (byte ∷ bytes ≡ first ++ rest)
+    × IsPlainPage u me file page first old between
+    × ArePlainPages u me file pages rest between new

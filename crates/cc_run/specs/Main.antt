@@ -1,0 +1,25 @@
+-- How the program ends: what a run left, or why none was made, and which statuses are sure to come.
+use Rattle.std.specs.Prelude.{◌≡◌, ℕ, false, List}
+use Rattle.std.specs.declared.option.Option.{Option}
+use Rattle.cc_entry.specs.declared.answer.LineReply.{LineReply}
+use Rattle.cc_entry.specs.declared.entry.Entry.{Entry}
+use Rattle.cc_script.specs.declared.script.Script.{Script}
+use Rattle.cc_run.specs.Words.{is_run}
+use Rattle.cc_run.specs.Ends.{Input, Output, IsEnded, WasTaken, TookNoMore}
+use Rattle.cc_run.specs.Complete.{EndsWith, SyntaxAlways, TooLongAlways, TooLongTold, TooFewAlways, Completes}
+
+-- The program came to its end, with this status, over what went into it and came out of it.
+pub record HasMain (i : Input) (o : Output) (script : Option Script) (replies : List LineReply) (journal : List Entry)
+    (status : ℕ) : Type 0 where
+  -- with a run, or without one: what is given back, what was printed, and the cause of the status
+  pub ended : IsEnded i o script replies journal status
+  -- the statuses that are sure to come, but for want of memory
+  pub usage : is_run i.words ≡ false → EndsWith status 1
+  pub syntax : SyntaxAlways i status
+  pub too_long : TooLongAlways i status
+  pub too_long_told : TooLongTold i status
+  pub too_few : TooFewAlways i status
+  pub complete : Completes i o status
+  -- how much of the source was taken: the front of what it told, and at most one byte more than a script may have
+  pub given : WasTaken i.left i.left_after i.taken i.taken_after
+  pub bounded : TookNoMore i
