@@ -14,3 +14,9 @@ pub mod FlushCalls
 pub mod Fronts
 pub mod PurgeCalls
 pub mod Closing
+pub mod Holding
+pub mod Answered
+pub mod Making
+pub mod Using
+pub mod Sure
+pub mod Through

@@ -7,3 +7,5 @@ pub mod Streamless
 pub mod Flushes
 pub mod Purges
 pub mod Maps
+pub mod Held
+pub mod Ends

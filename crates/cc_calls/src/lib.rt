@@ -2,31 +2,50 @@
 //!
 //! What the layer keeps true: a call leaves in the journal what `cc_effects` says of its answer, after all that its
 //! pass had seen, and its answer is the one that the definitions give at its entry's front. At its end the pass holds
-//! the turns that it held, and has no more entries reserved.
+//! the turns that it held, and has no more entries reserved. What a call hands to its caller is a hold of the caller's
+//! own, open and with the range that was asked, until the caller ends it: others change neither it nor that it is open.
+//! An end is refused by nothing, and takes no room and no memory; a set-dirty that a write through the pin, or a zeroing
+//! prepare, reserved can't fail.
 //!
-//! `turned` makes a call on a stream, in one turn of the stream's book or with the turn of its disk too; the calls on
-//! holds, which stand above, are made by it too. `maps` has the calls that make cache maps and end them, `settings`
-//! those that need no page and set something of their stream, `queries` those that tell something and change nothing,
-//! `copies` those that copy bytes out of a stream's pages and into them, `flushes` those that write the dirty pages of a
-//! span, and then sync its disk or take its pages out, `logs` the two calls on a log, an append and a flush. Below are
-//! the turns (`cc_turns`), the visits of a pass to the journal (`cc_visits`), the writing of a page with the flush of
-//! its log (`cc_writes`), the fetch of pages (`cc_fetch`), the flush of a span (`cc_flush`) and the purge of one
-//! (`cc_purge`).
+//! `turned` makes a call on a stream, in one turn of the stream's book or with the turn of its disk too. `maps` has the
+//! calls that make cache maps and end them, `settings` those that need no page and set something of their stream,
+//! `queries` those that tell something and change nothing, `copies` those that copy bytes out of a stream's pages and
+//! into them, `flushes` those that write the dirty pages of a span, and then sync its disk or take its pages out, `logs`
+//! the two calls on a log, an append and a flush. `held` has what every hold tells of itself, `held_calls` how a hold is
+//! made, used and ended; `data_maps`, `pins`, `repins` and `chains` have the routines on holds. Below are the turns
+//! (`cc_turns`), the visits of a pass to the journal (`cc_visits`), the writing of a page with the flush of its log
+//! (`cc_writes`), the fetch of pages (`cc_fetch`), the flush of a span (`cc_flush`), the purge of one (`cc_purge`), and
+//! what others leave of a pass's holds (`cc_own`).
 #![tactic(auto)]
 
+mod chains;
 mod copies;
+mod data_maps;
 mod flushes;
+mod held;
+mod held_calls;
 mod logs;
 mod maps;
+mod pins;
 mod queries;
+mod repins;
 mod settings;
 mod turned;
 
+pub use chains::{
+    ReadChain, WriteChain, mdl_bytes, mdl_read, mdl_read_complete, mdl_store, mdl_write_abort,
+    mdl_write_complete, prepare_mdl_write,
+};
 pub use copies::{copy_read, copy_write, zero_data};
+pub use data_maps::{Mapped, map_data, mapped_read, pin_mapped, unmap};
 pub use flushes::{flush, purge};
+pub use held::{Held, Hold};
+pub use held_calls::{end_hold, hold_range, read_hold, write_hold};
 pub use logs::{log_append, log_flush};
 pub use maps::{initialize, uninitialize};
+pub use pins::{Pinned, pin_read, pinned_read, pinned_write, prepare_pin_write, set_dirty, unpin};
 pub use queries::{dirty_pages, file_state, is_dirty_data, lsn_for_file};
+pub use repins::{Repinned, repin, unpin_repinned};
 pub use settings::{
     set_attributes, set_file_sizes, set_granularity, set_log_handle, set_threshold,
 };

@@ -1,3 +1,4 @@
+-- What the paged call told is a count of bytes, by its reply, so no other answer is reached; or it failed.
 use Rattle.cc_calls.proofs.Copying.{read-done, read-failed, read-told}
 use Rattle.cc_calls.proofs.copies.copy_read.Goals as goal
 

@@ -1,3 +1,4 @@
+-- The flush begins with disk and book of a stream at rest; what it left holds still after both turns are given.
 use Rattle.std.specs.Prelude.{ℕ, List}
 use Rattle.std.proofs.Common.{ap, sym, ◌∙◌, subst}
 use Rattle.cc_entry.specs.declared.call.Call.TheVariants as call

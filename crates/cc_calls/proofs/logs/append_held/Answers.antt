@@ -1,3 +1,4 @@
+-- The entry that is placed is the append with the log's LSN, or its fault; a refusal places none, and the log stands.
 use Rattle.std.proofs.Common.{ap, ◌∙◌, Err}
 use Rattle.cc_entry.specs.declared.entry.Entry.TheVariants as entry
 use Rattle.cc_entry.specs.declared.error.CcError.{CcError}

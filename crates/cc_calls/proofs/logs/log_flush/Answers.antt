@@ -1,3 +1,4 @@
+-- By what came: no place or no log, reached, failed, or refused; each is an end of a flush of a log.
 use Rattle.cc_calls.proofs.LogCalls.{flush-no-place, flush-ends}
 use Rattle.cc_calls.proofs.logs.log_flush.Goals as goal
 

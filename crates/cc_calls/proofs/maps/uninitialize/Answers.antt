@@ -1,3 +1,4 @@
+-- What the call told is whether the map went, by its reply, so no other answer is reached; or it failed.
 use Rattle.std.specs.Prelude.{refl}
 use Rattle.cc_entry.specs.declared.call.Call.TheVariants as call
 use Rattle.cc_calls.specs.Answers.{flag_outcome}

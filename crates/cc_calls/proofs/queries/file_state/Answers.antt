@@ -1,3 +1,4 @@
+-- What the call told is the state that its reply says, so no other answer is reached; or it failed.
 use Rattle.std.specs.Prelude.{refl}
 use Rattle.cc_entry.specs.declared.call.Call.TheVariants as call
 use Rattle.cc_calls.specs.Answers.{state_outcome}

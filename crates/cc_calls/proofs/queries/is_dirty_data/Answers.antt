@@ -1,3 +1,4 @@
+-- The journal with the entry of the question may be given: the call names no stream, so it needs no other turn.
 use Rattle.std.specs.Prelude.{refl}
 use Rattle.std.proofs.Common.{arith}
 use Rattle.cc_entry.specs.declared.call.Call.TheVariants as call

@@ -1,3 +1,4 @@
+-- What the call told is the pair of LSNs of its reply, or none, so no other answer is reached; or it failed.
 use Rattle.std.specs.Prelude.{refl}
 use Rattle.cc_entry.specs.declared.call.Call.TheVariants as call
 use Rattle.cc_calls.specs.Answers.{lsns_outcome}

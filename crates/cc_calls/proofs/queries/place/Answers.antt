@@ -1,3 +1,4 @@
+-- There are places for the entry and for the owed end; the entry may be pushed, and the owed place comes back.
 use Rattle.std.specs.Prelude.{ℕ, ◌-◌, ◌<◌, ◌≤◌, ◌≡◌}
 use Rattle.std.proofs.Common.{ap, arith}
 use Rattle.cc_entry.specs.declared.call.Call.TheVariants as call

@@ -1,3 +1,4 @@
+-- There are rows exactly where a page is dirty, since they follow the past; so the reply is right and may be pushed.
 use Rattle.std.specs.Prelude.{◌≡◌, ℕ, ◌-◌, ◌<◌, ◌≤◌, not, List, refl}
 use Rattle.std.proofs.Common.{ap, sym, ◌∙◌, subst, arith}
 use Rattle.cc_dirty.specs.declared.row.Row.{Row}

@@ -1,3 +1,4 @@
+-- The reserved place serves the entry of the table or of the missing log; where memory is wanting it is given back.
 use Rattle.cc_calls.proofs.Streamless.{owed-there}
 use Rattle.cc_calls.proofs.Tables.{table-refused, table-stopped, table-told}
 use Rattle.cc_calls.proofs.queries.tell_rows.Goals as goal

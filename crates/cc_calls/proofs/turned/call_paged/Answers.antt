@@ -1,3 +1,4 @@
+-- A call that waits is handed on as it was; what one turn left, or both with the disk's, is the end of a paged call.
 use Rattle.cc_effects.proofs.Starts.{begins}
 use Rattle.cc_calls.proofs.Paging.{has-waited, in-turn, with-disk}
 use Rattle.cc_calls.proofs.Waiting.{brings, stepped}
