@@ -9,16 +9,16 @@ use std::thread::Threads;
 /// A call of the disk that fails: the number of its read, write or sync, and 0 for the other two. What is answered
 /// then, up to the journal, and the table at the end.
 #[derive(Clone, Copy)]
-struct Fault {
-    read: u64,
-    write: u64,
-    sync: u64,
-    answers: &'static str,
-    table: &'static str,
+pub(crate) struct Fault {
+    pub(crate) read: u64,
+    pub(crate) write: u64,
+    pub(crate) sync: u64,
+    pub(crate) answers: &'static str,
+    pub(crate) table: &'static str,
 }
 
 /// Whether a script over a disk whose call fails answers so.
-fn is_answered<R: Threads + Wait + Sync>(
+pub(crate) fn is_answered<R: Threads + Wait + Sync>(
     rt: &R,
     alloc: std::alloc::Global,
     script: &str,

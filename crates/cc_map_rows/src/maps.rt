@@ -43,8 +43,8 @@ fn a_map_that_closes(rt: HostRuntime) -> Result<(), Fail> {
     Ok(())
 }
 
-// The four first streams take all 256 views. Sizes, quota and mark of an initialise that joins a map are ignored, also
-// of one that joins a closing map; the last object's truncation cuts, and the views come back as the map goes.
+// The four first streams take all 256 views. Sizes, quota and mark of an initialise that joins a map are ignored,
+// also of one that joins a closing map; the last object's truncation cuts, and the views come back as the map goes.
 const JOINED: Row = Row {
     script: "stream a 8192 8192 quota 64
 stream b 8192 8192 quota 64

@@ -1,4 +1,4 @@
-//! Maps and purges on threads: a map that goes during a transfer, and what every schedule answers.
+//! Maps, purges and noncached pages on threads: a map that goes during a transfer, and what every schedule answers.
 
 use cc_rows::{WaitsIn, run, run_during};
 use std::alloc::{AllocError, Global};
@@ -17,8 +17,8 @@ t1 cread a 0 1 nowait
 t1 cread a 0 1
 ";
 
-/// A map that closes while its last dirty page is being written goes as the transfer ends: the flush finds no map, and
-/// the next initialise makes a new one.
+/// A map that closes while its last dirty page is being written goes as the transfer ends: the flush finds no map,
+/// and the next initialise makes a new one.
 #[test]
 fn a_map_closes_during_a_transfer(rt: HostRuntime) -> Result<(), Fail> {
     let (seen, missed) = run_during(&rt, rt.alloc(), CLOSES, WaitsIn::Write(1), 2, 2)?;

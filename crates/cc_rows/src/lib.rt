@@ -4,7 +4,7 @@
 //! `cc_filedev`, a sink that takes a few bytes a call, a source of line feeds, a disk that tells nothing, and one that
 //! waits. Each test runs a script by the words of the command line and compares the exit status and the text with what the script
 //! language and the format of the text say (docs/SCRIPTS.md). No expected text is taken from the program.
-//! The tests of lines on holds stand on it (`cc_hold_rows`), and those on cache maps and purges (`cc_map_rows`).
+//! The tests of lines on holds, cache maps and noncached pages stand on it (`cc_map_rows`).
 #![tactic(auto)]
 
 mod devices;

@@ -41,6 +41,32 @@ fn a_held_read_during_a_fill(rt: HostRuntime) -> Result<(), Fail> {
     Ok(())
 }
 
+const DURING_A_NONCACHED_WRITE: &str = "stream a 8192 8192
+t2 map a 0 16 h
+phase
+t1 ncwrite a 4096 CDx4096
+t2 hread h 0 1
+";
+
+/// So is one while a noncached write puts its page on the disk.
+#[test]
+fn a_held_read_during_a_noncached_write(rt: HostRuntime) -> Result<(), Fail> {
+    let (seen, missed) = run_during(
+        &rt,
+        rt.alloc(),
+        DURING_A_NONCACHED_WRITE,
+        WaitsIn::Write(1),
+        2,
+        2,
+    )?;
+    assert!(rt; !missed);
+    assert_eq!(rt; seen.status, 0);
+    let answers =
+        "setup\n1 ok\ncaller t1\n4 ok count 4096\ncaller t2\n2 ok hold 1\n5 ok 5A\njournal\n";
+    assert!(rt; seen.text.starts_with(answers));
+    Ok(())
+}
+
 /// One caller flushes a stream twenty times while another pins, writes and stamps its bytes; then the first reads them.
 fn flushes_beside_stamps(alloc: Global) -> Result<String, AllocError> {
     let mut script = String::from_str(alloc, "stream a 8192 8192\n")?;
