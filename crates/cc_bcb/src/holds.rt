@@ -1,4 +1,4 @@
-//! The holds.
+//! The open holds of a stream by id, each with the pages that were written through it and not set dirty since.
 
 ghost use Rattle.std.specs.Prelude.{◌≡◌, ◌+◌, ◌<◌, [], ◌∷◌, ◌++◌, All, OnOk, OnErr, IsSome, IsTrue, true, min};
 ghost use Rattle.std.specs.Option.{option_copied, option_map};

@@ -4,7 +4,7 @@
 //! stand the pages that were written through it since its last set-dirty. No look-up takes memory, and
 //! a call that finds none leaves the holds as they were.
 //!
-//! The book of a stream stands above; below are the values of `cc_entry`.
+//! What follows a stream's history with them stands above (`cc_holds`); below are the values of `cc_entry`.
 #![tactic(auto)]
 
 mod blocks;

@@ -1,4 +1,4 @@
-//! The board and its passes.
+//! The board: made of a desk, split into passes, joined again, and closed into a desk.
 
 ghost use Rattle.std.specs.Prelude.{◌≡◌, ◌≢◌, ◌↔◌, ◌≤◌, ◌<◌, ◌+◌, suc, length, IfOk, IfErr, IfSome, IfNone, IsErr, IsNone, OnErr, ◌∷◌, replicate, vec_capacity};
 ghost use Rattle.std.specs.Mem.Slots.{slots_items, slots_len, IsFull};

@@ -1,4 +1,4 @@
-//! The turns of a pass of a board.
+//! A pass of a board as it takes turns, for which it may wait, and gives them back.
 
 ghost use Rattle.std.specs.Prelude.{◌≡◌, ℕ, ◌+◌, ◌≤◌, true, false, None, Some};
 ghost use Rattle.cc_book.specs.Book.{BookStands};

@@ -1,4 +1,4 @@
-//! What goes to another thread.
+//! A function that takes only what may go to another thread: a test by the type alone.
 
 ghost use Rattle.std.specs.Prelude.{◌≡◌};
 

@@ -1,4 +1,4 @@
-//! A row of the table.
+//! A row of the dirty page table: what a page has unwritten, before its transfer began and since.
 
 ghost use Rattle.std.specs.Prelude.{◌≡◌, min, max};
 ghost use Rattle.cc_entry.specs.Lsns.{joined as joined_lsns};

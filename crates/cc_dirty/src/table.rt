@@ -1,4 +1,4 @@
-//! The table.
+//! The dirty page table: its rows by stream and page, and how touches, transfers and cuts change them.
 
 ghost use Rattle.std.specs.Prelude.{◌≡◌, ◌+◌, ◌<◌, ◌≤◌, ◌⊎◌, [], All, true, length, Some, IsSome, OnOk, OnErr, count_by};
 ghost use Rattle.std.specs.Option.{option_map, option_and_then};

@@ -1,4 +1,4 @@
-//! Standard output.
+//! Standard output as a sink of text.
 
 ghost use Rattle.std.specs.Prelude.{◌≡◌, None};
 

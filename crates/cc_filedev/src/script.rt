@@ -1,4 +1,4 @@
-//! The file of the script.
+//! The file of the script as a source of bytes, opened as its first bytes are taken.
 
 ghost use Rattle.std.specs.Prelude.{◌≡◌, ◌+◌, None};
 ghost use Rattle.cc_traits.specs.Stop.{faults_in, taken_in};

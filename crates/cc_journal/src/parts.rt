@@ -1,4 +1,4 @@
-//! What a run gives back.
+//! What a run gives back: the disks, the logs, the entries, and the routines of writes that still wait.
 
 use cc_entry::Entry;
 use cc_traits::{LogFile, PostRoutine};

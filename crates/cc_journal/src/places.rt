@@ -1,4 +1,4 @@
-//! The ranges of open holds.
+//! The ranges of open holds, by stream and id: a set-dirty names its hold alone, and touches the pages of its range.
 
 ghost use Rattle.std.specs.Prelude.{◌≡◌, ◌+◌, ◌<◌, ◌≤◌, [], ◌∷◌, List, Option, None, Some, OnOk};
 ghost use Rattle.indexmap.specs.IndexMap.{spare};

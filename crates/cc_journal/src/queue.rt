@@ -1,4 +1,4 @@
-//! The deferred writes that wait.
+//! The queue of deferred writes that wait, each with its routine.
 
 ghost use Rattle.std.specs.Prelude.{◌≡◌, ℕ, suc, ◌+◌, ◌-◌, ◌^◌, ◌<◌, ◌≤◌, true, false, [], ◌∷◌, ◌++◌, List, Some, IfOk, length, drop, insert, slice_get, if◌then◌else◌, vec_len, vec_capacity};
 ghost use Rattle.std.specs.Option.{option_map, ForSome};

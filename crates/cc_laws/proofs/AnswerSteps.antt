@@ -1,6 +1,4 @@
 -- What keeps each byte keeps every page and every answer.
---
--- It waits for `cc_book`, the book of a stream, which answers reads from its frames.
 use Rattle.std.specs.Prelude.{◌≡◌, ℕ, ◌+◌, ◌-◌, ◌*◌, Bool, List, ◌∷◌, map, min}
 use Rattle.std.proofs.Common.{ap, ◌∙◌}
 use Rattle.std.specs.List.{range_with_len}

@@ -1,6 +1,4 @@
--- How it steps whether a page is dirty.
---
--- It waits for `cc_book`, the book of a stream, which keeps a row for each dirty page.
+-- Whether a page is dirty, behind each kind of entry: what touches it, what cuts it, and what leaves it as it was.
 use Rattle.std.specs.Prelude.{◌≡◌, ℕ, ◌+◌, ◌*◌, Bool, true, false, ◌==◌, nat_le, List, ◌∷◌, length, refl}
 use Rattle.std.specs.declared.option.Option.{Option}
 use Rattle.std.specs.declared.option.Option.TheVariants.{Some, None}

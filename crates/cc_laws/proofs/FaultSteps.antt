@@ -1,7 +1,7 @@
 -- How the faults of a pass since its last call step at each kind of entry, and what its last call
 -- stored.
 --
--- It waits for `cc_journal`, which keeps the faults of each pass.
+-- The visits of a pass that met a fault cite it.
 use Rattle.std.specs.Prelude.{◌≡◌, ℕ, Bool, true, false, ◌&&◌, ◌==◌, List, [], ◌∷◌, refl, if◌then◌else◌}
 use Rattle.std.specs.declared.option.Option.{Option}
 use Rattle.std.specs.declared.option.Option.TheVariants.{Some, None}

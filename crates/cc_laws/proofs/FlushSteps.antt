@@ -1,6 +1,4 @@
--- How it steps whether a flush is done.
---
--- It waits for `cc_flush`, whose last step places the entry of a flush.
+-- Whether a flush is done, behind each kind of entry: a call of the pass, a good sync of its own, and any other.
 use Rattle.std.specs.Prelude.{◌≡◌, ℕ, true, false, ◌==◌, List, ◌∷◌, length, refl}
 use Rattle.std.specs.declared.option.Option.{Option}
 use Rattle.cc_entry.specs.Place.{Range}

@@ -1,6 +1,4 @@
 -- A change keeps the map of its stream, and a change of bytes keeps its resident pages.
---
--- It waits for `cc_book`, the book of a stream, which keeps the views of a map while a page is dirty.
 use Rattle.std.specs.Prelude.{◌≡◌, ℕ, ◌+◌, Bool, true, false, not, ◌||◌, List, [], ◌∷◌, ◌++◌, length, refl}
 use Rattle.std.specs.declared.option.Option.{Option}
 use Rattle.std.proofs.Common.{sym, ◌∙◌}

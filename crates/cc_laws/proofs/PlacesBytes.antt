@@ -1,4 +1,4 @@
--- The bytes of a stream by places.
+-- A byte of a stream, said of places: the last effect that gave it, or the disk's opening byte.
 use Rattle.std.specs.Prelude.{◌≡◌, ℕ, ◌-◌, ◌*◌, ◌/◌, ◌%◌, ◌<◌, ◌≤◌, true, false, List, [], ◌∷◌, ◌++◌, slice_index, refl}
 use Rattle.std.specs.declared.option.Option.TheVariants.{Some}
 use Rattle.std.proofs.Common.{ap, sym, ◌∙◌}

@@ -1,4 +1,4 @@
--- Dirty by places.
+-- Dirty, said of places in a history: a touch of the page that no later transfer wrote and nothing cut.
 use Rattle.std.specs.Prelude.{◌≡◌, ℕ, suc, ◌<◌, ◌≤◌, Bool, true, false, not, ◌&&◌, ◌||◌, ◌↔◌, cond, nat_lt, List, [], ◌∷◌, ◌++◌, length, refl}
 use Rattle.std.specs.List.{list_all}
 use Rattle.std.specs.declared.option.Option.{Option}

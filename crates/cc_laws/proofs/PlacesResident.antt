@@ -1,4 +1,4 @@
--- Resident pages by places.
+-- Resident, said of places: the page came in, and nothing since took it out, cut it, or let the map go.
 use Rattle.std.specs.Prelude.{◌≡◌, ℕ, ◌*◌, Bool, true, false, not, ◌==◌, ◌&&◌, ◌||◌, ◌↔◌, nat_lt, nat_le, List, ◌∷◌, refl}
 use Rattle.std.specs.declared.option.Option.{Option}
 use Rattle.std.specs.declared.option.Option.TheVariants.{Some, None}

@@ -1,6 +1,6 @@
 -- How the queue of deferred writes and what the lazy writer's scans left step.
 --
--- It waits for `cc_journal`, which keeps both.
+-- `cc_journal` keeps both, and cites it.
 use Rattle.std.specs.Prelude.{◌≡◌, ℕ, suc, Bool, true, false, List, [], ◌∷◌, ◌++◌, length, drop, refl}
 use Rattle.std.specs.declared.option.Option.TheVariants.{Some, None}
 use Rattle.cc_entry.specs.Place.{Page, File}

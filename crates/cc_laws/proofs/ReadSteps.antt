@@ -1,6 +1,4 @@
 -- How the reads that an object's private map keeps step at each call.
---
--- It waits for `cc_book`, the book of a stream, which keeps the last two reads of each object.
 use Rattle.std.specs.Prelude.{◌≡◌, ℕ, ◌+◌, Bool, true, false, ◌==◌, List, [], ◌∷◌, length, refl}
 use Rattle.std.specs.declared.option.Option.{Option}
 use Rattle.std.specs.declared.option.Option.TheVariants.{None}

@@ -1,6 +1,4 @@
 -- How settings that calls make step.
---
--- It waits for `cc_book`, the book of a stream, which keeps them.
 use Rattle.std.specs.Prelude.{◌≡◌, ℕ, Bool, true, false, ◌==◌, List, ◌∷◌, refl}
 use Rattle.std.specs.declared.option.Option.{Option}
 use Rattle.std.specs.declared.option.Option.TheVariants.{Some}

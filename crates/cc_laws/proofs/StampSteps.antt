@@ -1,7 +1,5 @@
 -- How the least and the greatest LSN of a page that are not yet written step. A change of bytes gives no
 -- stamp.
---
--- It waits for `cc_book`, the book of a stream, which keeps both LSNs in the rows of its dirty pages.
 use Rattle.std.specs.Prelude.{◌≡◌, ℕ, ◌*◌, Bool, true, false, ◌==◌, nat_le, List, ◌∷◌, refl}
 use Rattle.std.specs.declared.option.Option.{Option}
 use Rattle.std.specs.declared.option.Option.TheVariants.{Some, None}

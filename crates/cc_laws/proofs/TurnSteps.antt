@@ -1,6 +1,6 @@
 -- Entries that do not need a turn, one by one and in a row.
 --
--- It waits for `cc_turns`, whose contract says what others may place while a turn is held.
+-- Whatever says what others may place while a turn is held cites it.
 use Rattle.std.specs.Prelude.{◌≡◌, Bool, true, false, not, ◌&&◌, List, [], ◌∷◌, ◌++◌, refl}
 use Rattle.std.specs.List.{list_all}
 use Rattle.cc_entry.specs.declared.entry.Entry.{Entry}

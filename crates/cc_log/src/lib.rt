@@ -1,4 +1,4 @@
-//! A log under its turn.
+//! A log under its turn: appends, flushes, and the floor that both raise.
 //!
 //! What the layer keeps true: a log's floor and the LSN that it is flushed to are what the journal says, its
 //! file has the journal's appends in their order behind the entries that it began with, and it is durable

@@ -1,4 +1,4 @@
-//! A disk in memory.
+//! A disk in memory, of which chosen calls fail.
 
 ghost use Rattle.std.specs.Prelude.{◌≡◌, ◌+◌, ◌-◌, ◌^◌, ◌↔◌, true, false, [], Some, None, IsOk, IfOk, OnOk, OnErr};
 ghost use Rattle.cc_traits.specs.Stop.{faults_in, OnFailed, OnNoMemory};

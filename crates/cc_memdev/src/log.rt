@@ -1,4 +1,4 @@
-//! A log in memory.
+//! A log in memory, of which chosen calls fail.
 
 ghost use Rattle.std.specs.Prelude.{◌≡◌, ◌+◌, ◌-◌, ◌^◌, ◌↔◌, true, false, max, map, [], ◌∷◌, ◌++◌, Some, None, IsOk, OnOk, OnErr};
 ghost use Rattle.cc_traits.specs.Stop.{faults_in, OnFailed, OnNoMemory};

@@ -1,4 +1,4 @@
-//! What a refusal is decided from.
+//! What a refusal is decided from: numbers and rows that the book and the journal keep.
 
 use cc_dirty::Row;
 use cc_entry::StreamId;

@@ -1,4 +1,4 @@
-//! The resident pages of a stream.
+//! The resident pages of a stream by number, with the order in which their blocks were last used.
 
 ghost use Rattle.std.specs.Prelude.{◌≡◌, ◌≢◌, ℕ, ◌+◌, ◌-◌, ◌*◌, ◌/◌, ◌%◌, ◌^◌, ◌<◌, ◌≤◌, ◌==◌, ◌&&◌, ◌⊎◌, [], ◌∷◌, length, IsSome, IfSome, IfOk, IsOk, OnOk, OnErr, None, Some, true, false, is_some, not, slice_index};
 ghost use Rattle.std.specs.List.{list_all, filter, find};

@@ -1,4 +1,4 @@
-//! The state of one stream.
+//! The state of one stream: its objects, its sizes, its log, and its other settings.
 
 ghost use Rattle.std.specs.Prelude.{◌≡◌, ℕ, not, List, [], ◌∷◌, length, slice_set};
 ghost use Rattle.cc_entry.specs.declared.reply.Reply.{Reply};

@@ -1,4 +1,4 @@
-//! The turns of a pass.
+//! The trait of turns: what a pass is promised as it takes a disk, book, log or journal, and owes as it gives one.
 
 ghost use Rattle.std.specs.Prelude.{◌≡◌, ℕ, ◌<◌, ◌≤◌, true, false, None, Some};
 ghost use Rattle.cc_book.specs.Book.{BookStands};

@@ -1,4 +1,4 @@
-//! An index block.
+//! An index block of the tree of views: up to 128 slots, its height, and its place in the tree.
 
 ghost use Rattle.std.specs.Prelude.{◌≡◌, ℕ, ◌==◌, ◌<◌, ◌-◌, ◌++◌, IfOk, OnOk, OnErr, length, take, replicate, slice_index_or, slice_set};
 ghost use Rattle.cc_vacb.specs.declared.slots.Slot.TheVariants.{Empty};

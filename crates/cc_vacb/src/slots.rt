@@ -1,4 +1,4 @@
-//! A slot of an index block.
+//! A slot of an index block: empty, a block one level below, or a view.
 
 ghost use Rattle.std.specs.Prelude.{◌≡◌};
 

@@ -1,4 +1,4 @@
-//! The views.
+//! The mapped blocks of a stream from the least to the most recently used, found by the view index.
 
 ghost use Rattle.std.specs.Prelude.{◌≡◌, ℕ, ◌+◌, ◌<◌, ◌≤◌, [], length, IsSome, IsTrue, position, slice_get, nat_eq, IfOk, IsOk, OnOk, OnErr, None, Some, is_some};
 ghost use Rattle.std.specs.Option.{option_copied, option_copied_mut};

@@ -1,3 +1,4 @@
+-- Each step of the test finds the stream as the step before left it.
 use Rattle.cc_book_tests.proofs.book.a_stream_lives.Goals as goal
 
 pub open-requires-clause-file : goal.open-requires-clause-file

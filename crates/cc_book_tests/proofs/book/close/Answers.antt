@@ -1,3 +1,4 @@
+-- The journal with the page out, and with the close, is good by computation; so both may be placed.
 use Rattle.std.specs.Prelude.{◌≡◌, true, not, refl}
 use Rattle.std.specs.declared.option.Option.TheVariants.{None}
 use Rattle.cc_entry.specs.declared.call.Call.TheVariants as call

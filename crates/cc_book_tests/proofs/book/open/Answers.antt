@@ -1,3 +1,4 @@
+-- The journal with the open, and with the refused read, is good by computation; so both may be placed.
 use Rattle.std.specs.Prelude.{◌≡◌, [], false, refl}
 use Rattle.std.specs.declared.option.Option.TheVariants.{None}
 use Rattle.std.proofs.Common.{ap}

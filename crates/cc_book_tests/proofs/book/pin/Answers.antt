@@ -1,3 +1,4 @@
+-- Each of the four calls on the pin may be done, since the journal with it is good by computation.
 use Rattle.std.specs.Prelude.{[], ◌∷◌, false, refl}
 use Rattle.std.specs.declared.option.Option.TheVariants.{None}
 use Rattle.cc_entry.specs.declared.call.Call.TheVariants as call

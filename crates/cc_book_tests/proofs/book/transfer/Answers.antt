@@ -1,3 +1,4 @@
+-- The journal with the begin, and with its good end, is good by computation; so both may be placed.
 use Rattle.std.specs.Prelude.{refl}
 use Rattle.std.specs.declared.option.Option.TheVariants.{None}
 use Rattle.cc_entry.specs.declared.entry.End.TheVariants.{Good}

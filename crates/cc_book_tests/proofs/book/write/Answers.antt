@@ -1,3 +1,4 @@
+-- The write and the read may be done, since the journal with each is good, and the bytes are those that it means.
 use Rattle.std.specs.Prelude.{[], ◌∷◌, true, refl}
 use Rattle.cc_entry.specs.declared.call.Call.TheVariants as call
 use Rattle.cc_entry.specs.declared.reply.Reply.TheVariants as reply

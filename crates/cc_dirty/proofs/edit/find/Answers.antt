@@ -1,3 +1,4 @@
+-- By the place of the split: past the last row, at a row of the page, or at the row of a greater one.
 use Rattle.std.proofs.Common.{◌≡◌, ◌<◌, ◌∙◌, true, subst, length, refl, sym, arith}
 use Rattle.std.proofs.lemmas.Option.{slice_get_read}
 use Rattle.cc_dirty.specs.Unwritten.{is_touched}

@@ -1,3 +1,4 @@
+-- A last part with room grows at its end, else a part of one run comes behind; either way the bytes follow.
 use Rattle.std.proofs.Common.{◌≡◌, ◌-◌, ◌++◌, length, get_or, replicate, arith, ap, ◌∙◌}
 use Rattle.std.specs.List.{concat}
 use Rattle.cc_entry.proofs.Kept.{length_within, last_longer, one_behind}

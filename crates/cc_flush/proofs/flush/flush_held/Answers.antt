@@ -1,3 +1,4 @@
+-- The page that the flush came to rises; each round leaves a flush under way, its sync or its end.
 use Rattle.std.specs.Prelude.{List}
 use Rattle.std.proofs.Common.{subst}
 use Rattle.cc_entry.specs.declared.entry.Entry.{Entry}

@@ -1,3 +1,4 @@
+-- The book is given and taken round the sync with the disk in hand, so it stands still for its stream.
 use Rattle.std.specs.Prelude.{ℕ}
 use Rattle.std.proofs.Common.{◌∙◌, subst}
 use Rattle.cc_entry.specs.declared.entry.Entry.TheVariants as entry

@@ -1,3 +1,4 @@
+-- The entry of the sync brings the flush to its end; what the end leaves is what the flush leaves.
 use Rattle.std.specs.Prelude.{ℕ}
 use Rattle.std.proofs.Common.{sym, subst}
 use Rattle.cc_writes.proofs.Disks.{still_of}

@@ -1,3 +1,4 @@
+-- The page that the step names is dirty, and the flush admitted; so it may be written, and the round is what it left.
 use Rattle.std.specs.Prelude.{◌≡◌, ℕ, None}
 use Rattle.std.proofs.Common.{ap, sym, ◌∙◌, subst}
 use Rattle.cc_entry.specs.declared.call.Call.TheVariants as call

@@ -1,3 +1,4 @@
+-- The refusal is the definitions' own, or the flush may be done by its sync; without memory the place comes back.
 use Rattle.std.specs.Prelude.{◌≡◌, ℕ, ◌-◌, ◌≤◌}
 use Rattle.std.proofs.Common.{ap, sym, ◌∙◌, subst}
 use Rattle.cc_entry.specs.declared.call.Call.TheVariants as call

@@ -1,3 +1,4 @@
+-- With a place reserved the flush may finish as before; what the end leaves is what finishing leaves.
 use Rattle.std.proofs.Common.{sym, subst}
 use Rattle.cc_journal.specs.Journal.{JournalState}
 use Rattle.cc_flush.specs.Steps.{MayFinish, HasEnded, without_one}

@@ -1,3 +1,4 @@
+-- By the refusal and the next dirty page: the entry of the failed call is good, a page is to write, or none is left.
 use Rattle.std.specs.Prelude.{◌≡◌, ℕ, ◌-◌, ◌≤◌}
 use Rattle.std.proofs.Common.{ap, sym, ◌∙◌, subst}
 use Rattle.cc_entry.specs.declared.call.Call.TheVariants as call

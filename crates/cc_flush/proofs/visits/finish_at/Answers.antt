@@ -1,3 +1,4 @@
+-- One visit: the flush may finish on the journal that was taken, and what it placed is good and is given with it.
 use Rattle.std.specs.Prelude.{ℕ, Result}
 use Rattle.std.proofs.Common.{sym, subst, arith}
 use Rattle.cc_entry.specs.declared.call.Call.TheVariants as call

@@ -1,3 +1,4 @@
+-- One visit: the entry of the sync uses the reserved place and keeps the journal good, which is given with it.
 use Rattle.std.proofs.Common.{ap, sym, ◌∙◌, subst, arith}
 use Rattle.cc_entry.specs.declared.entry.Entry.TheVariants as entry
 use Rattle.cc_model.specs.Good.{IsGood}

@@ -1,3 +1,4 @@
+-- Each clause is one lemma of `DiscardLaws`, or the step of the sizes by a discard.
 use Rattle.cc_laws.proofs.SizeSteps.{sizes-discards}
 use Rattle.cc_laws.proofs.DiscardLaws.{is_dirty-discarded, is_resident-discarded, unwritten-discard_apart, is_resident-discard_apart, byte_of-discard_apart}
 use Rattle.cc_laws.proofs.discards.discards_drop_their_pages.Goals as goal

@@ -1,3 +1,4 @@
+-- By what the step asks: the page is dirty and the purge admitted, so it may be written; the round is what that left.
 use Rattle.std.specs.Prelude.{◌≡◌, ℕ, None}
 use Rattle.std.proofs.Common.{ap, sym, ◌∙◌, subst}
 use Rattle.cc_entry.specs.declared.call.Call.TheVariants as call

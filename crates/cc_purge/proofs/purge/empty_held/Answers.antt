@@ -1,3 +1,4 @@
+-- Each round goes on with a purge under way, and one that ends is the answer; rounds that are used up find no memory.
 use Rattle.std.specs.Prelude.{List}
 use Rattle.std.proofs.Common.{sym, ◌∙◌}
 use Rattle.cc_entry.specs.declared.call.Call.TheVariants as call

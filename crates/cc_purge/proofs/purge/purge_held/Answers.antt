@@ -1,3 +1,4 @@
+-- The page that the purge came to rises; each round leaves it under way, at the end of its span, or ended.
 use Rattle.std.specs.Prelude.{List}
 use Rattle.std.proofs.Common.{subst}
 use Rattle.cc_entry.specs.declared.call.Call.TheVariants as call

@@ -1,3 +1,4 @@
+-- The least resident page of the span is clean, so it may go out; with none left the purge may be done.
 use Rattle.std.proofs.Common.{subst}
 use Rattle.cc_entry.specs.Place.{Page}
 use Rattle.cc_entry.specs.declared.entry.Entry.TheVariants as entry

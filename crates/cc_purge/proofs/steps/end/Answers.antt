@@ -1,3 +1,4 @@
+-- A purge that nothing refuses, and of whose span no page is resident, may be done; else the place comes back.
 use Rattle.std.specs.Prelude.{◌≡◌, ℕ, ◌-◌, ◌≤◌}
 use Rattle.std.proofs.Common.{ap, sym, ◌∙◌, subst}
 use Rattle.cc_entry.specs.declared.call.Call.TheVariants as call

@@ -1,3 +1,4 @@
+-- By refusal and dirty pages: the entry of the failed call is good, a dirty page is to write, or the span is emptied.
 use Rattle.std.specs.Prelude.{◌≡◌, ℕ, ◌-◌, ◌≤◌}
 use Rattle.std.proofs.Common.{ap, sym, ◌∙◌, subst}
 use Rattle.cc_entry.specs.declared.call.Call.TheVariants as call

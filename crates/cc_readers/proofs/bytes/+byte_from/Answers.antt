@@ -1,3 +1,4 @@
+-- By the last entry: it gives the byte, or says where the byte was before it, which the recursion finds.
 use Rattle.std.proofs.Common.{◌≡◌, ℕ, IfOk, subst, sym, ◌∙◌}
 use Rattle.std.proofs.lemmas.List.{nil_from_length}
 use Rattle.cc_readers.specs.declared.bytes.Found.TheVariants as found

@@ -1,3 +1,4 @@
+-- By kinds of call: the hold found in the way is the least of the definitions; other calls are barred by none.
 use Rattle.std.proofs.Common.{List, map, ap, sym, ◌∙◌}
 use Rattle.cc_entry.specs.declared.call.Call.{Call}
 use Rattle.cc_readers.specs.declared.holds.OpenHold.{OpenHold}

@@ -1,3 +1,4 @@
+-- By what the last entry does to the page: a begin whose transfer ended well, or a cut, leaves no touch before it.
 use Rattle.std.proofs.Common.{◌≡◌, not, List, IfOk, sym, ◌∙◌, ap, subst}
 use Rattle.std.proofs.lemmas.List.{nil_from_length}
 use Rattle.cc_events.specs.declared.touching.Touching.TheVariants as touching

@@ -1,3 +1,4 @@
+-- By whether the last entry is the good end of the page: the least is that of now and of the journal before.
 use Rattle.std.proofs.Common.{◌≡◌, ℕ, Bool, Some, None, IfOk, ap, subst, sym, ◌∙◌}
 use Rattle.std.proofs.lemmas.List.{nil_from_length}
 use Rattle.cc_events.specs.declared.event.Event.{Event}

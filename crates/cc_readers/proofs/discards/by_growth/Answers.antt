@@ -1,3 +1,4 @@
+-- The first grown page among the dirty ones of the span is the least of the definitions.
 use Rattle.std.proofs.Common.{ℕ, Bool, ◌&&◌, ap, sym, ◌∙◌}
 use Rattle.std.specs.declared.option.Option.{Option}
 use Rattle.std.specs.List.{find}

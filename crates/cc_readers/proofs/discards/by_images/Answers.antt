@@ -1,3 +1,4 @@
+-- The first page of the span without a known image among the dirty ones is the least of the definitions.
 use Rattle.std.proofs.Common.{ℕ, Bool, ◌&&◌, not, ap, sym, ◌∙◌}
 use Rattle.std.specs.declared.option.Option.{Option}
 use Rattle.std.specs.List.{find}

@@ -1,3 +1,4 @@
+-- By what the last entry does to holds: it makes the one that is looked for, ends it, or leaves the place as it was.
 use Rattle.std.proofs.Common.{sym, ◌∙◌}
 use Rattle.std.proofs.lemmas.List.{nil_from_length}
 use Rattle.cc_model.specs.Holds.{holds_of}

@@ -1,3 +1,4 @@
+-- Where a page of the cut range is not resident the range is the one that is absent; else none is.
 use Rattle.std.proofs.Common.{ℕ, not, ap, sym, ◌∙◌}
 use Rattle.std.specs.List.{find}
 use Rattle.cc_entry.specs.Pages.{pages_of}

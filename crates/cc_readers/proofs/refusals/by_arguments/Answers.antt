@@ -1,3 +1,4 @@
+-- Each reason that the array has is the definition's at its place, once the sizes are those of the journal.
 use Rattle.std.proofs.Common.{ℕ, ◌<◌, ◌^◌, refl, ap, subst, sym, ◌∙◌}
 use Rattle.cc_model.specs.Reasons.{beyond_size, beyond_valid}
 use Rattle.cc_model.specs.Refusals.{first_of}

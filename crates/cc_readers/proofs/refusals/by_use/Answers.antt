@@ -1,3 +1,4 @@
+-- Each reason that the array has is the definition's at its place, once the holds are those of the journal.
 use Rattle.std.proofs.Common.{List, map, refl, ap, ◌∙◌}
 use Rattle.cc_readers.specs.declared.holds.OpenHold.{OpenHold}
 use Rattle.cc_model.specs.Holds.{Hold}

@@ -1,3 +1,4 @@
+-- A reason in the arguments comes before one in use, as in the order of the definitions.
 use Rattle.std.proofs.Common.{◌≡◌, ◌<◌, ◌^◌, Option, reverse, sym, ◌∙◌}
 use Rattle.std.proofs.lemmas.Result.{IfOk-weaker}
 use Rattle.cc_entry.specs.declared.error.CcError.{CcError}

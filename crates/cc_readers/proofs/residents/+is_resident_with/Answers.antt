@@ -1,3 +1,4 @@
+-- By the last entry: without a map no page is resident, else it makes of what was resident before what there is now.
 use Rattle.std.proofs.Common.{◌≡◌, Bool, IfOk, sym, ◌∙◌, ap, subst}
 use Rattle.std.proofs.lemmas.List.{nil_from_length}
 use Rattle.cc_model.specs.History.{effect_of}

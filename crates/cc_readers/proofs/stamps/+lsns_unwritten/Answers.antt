@@ -1,3 +1,4 @@
+-- By what the last entry does to the page: a touch joins its LSN; behind a good transfer or a cut there is none.
 use Rattle.std.proofs.Common.{◌≡◌, ℕ, List, IfOk, sym, ◌∙◌, ap, subst}
 use Rattle.std.specs.declared.option.Option.{Option}
 use Rattle.std.proofs.lemmas.List.{nil_from_length}

@@ -1,3 +1,4 @@
+-- By the last entry: a begin of the page is one; any other leaves the question to the journal before it.
 use Rattle.std.proofs.Common.{ap, sym, ◌∙◌}
 use Rattle.std.proofs.lemmas.List.{nil_from_length}
 use Rattle.cc_events.specs.declared.event.Event.{Event}

@@ -1,3 +1,4 @@
+-- By the last entry: an end of a transfer that began says whether the image is known; any other leaves it as it was.
 use Rattle.std.proofs.Common.{Some, None, ap, sym, ◌∙◌}
 use Rattle.std.proofs.lemmas.List.{nil_from_length}
 use Rattle.cc_events.specs.declared.event.Event.{Event}

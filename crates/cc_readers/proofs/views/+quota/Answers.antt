@@ -1,3 +1,4 @@
+-- By the last entry: an initialise without a map before it gives the quota, any other leaves it as it was.
 use Rattle.std.proofs.Common.{◌≡◌, ℕ, IfOk, sym, ◌∙◌, subst}
 use Rattle.std.specs.declared.option.Option.TheVariants.{Some, None}
 use Rattle.std.proofs.lemmas.List.{nil_from_length}

@@ -1,3 +1,4 @@
+-- A reason of an earlier group comes before one of a later group, as in the order of the definitions.
 use Rattle.std.proofs.Common.{sym, ◌∙◌}
 use Rattle.cc_refusal.proofs.FirstReasons.{within_size, refusal-argument, refusal-hold, refusal-use, refusal-disk}
 use Rattle.cc_refusal.proofs.refusals.refusal.Goals as goal

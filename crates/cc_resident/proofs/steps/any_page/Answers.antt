@@ -1,3 +1,4 @@
+-- The loop's invariant: no frame so far is there; the first that is ends it.
 use Rattle.std.proofs.Common.{◌≡◌, ◌-◌, true, false, ap, sym, ◌∙◌, is_some, arith}
 use Rattle.std.specs.List.{list_any, range_with_len}
 use Rattle.cc_pages.specs.Pages.{bytes_at}

@@ -1,3 +1,4 @@
+-- The loop's invariant: the pages of the span are out of the blocks so far; what is resident is in some block.
 use Rattle.std.proofs.Common.{◌≡◌, ◌≤◌, ◌+◌, ◌&&◌, ◌==◌, Some, length, slice_get, ap, sym, ◌∙◌, arith}
 use Rattle.std.proofs.lemmas.Map.Entries.{length-keys_of}
 use Rattle.cc_entry.specs.Pages.{block_of}

@@ -1,3 +1,4 @@
+-- The frame of the page in its block is shared, so its bytes stay; a block that is not mapped has none to share.
 use Rattle.std.proofs.Common.{◌%◌, None, ap, sym}
 use Rattle.cc_pages.specs.Pages.{bytes_at, page_at as page_in}
 use Rattle.cc_resident.proofs.Kept.{page_from}

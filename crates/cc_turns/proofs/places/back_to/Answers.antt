@@ -1,3 +1,4 @@
+-- What is moved so far, and what is left, make the places; turned round, the row has them in their order.
 use Rattle.std.proofs.Common.{◌≡◌, [], ◌∷◌, ◌++◌, length, ap, ◌∙◌, arith, rules}
 use Rattle.cc_turns.proofs.RowSteps.{back_begun, back_next, back_ended, at_last, at_rest, longer, no_items}
 use Rattle.cc_turns.proofs.places.back_to.Goals as goal

@@ -1,3 +1,4 @@
+-- The files moved so far, and the logs left, make the places; turned round, the row has them in their order.
 use Rattle.std.proofs.Common.{◌≡◌, Some, length, map, sym, ap, ◌∙◌, arith, rules}
 use Rattle.std.specs.Option.{option_map}
 use Rattle.cc_log.specs.Turn.{LogState}

@@ -1,3 +1,4 @@
+-- One book more is home at its number, of an empty history.
 use Rattle.std.proofs.Common.{◌≡◌, ◌+◌, None, [], refl, subst, ◌∙◌, arith}
 use Rattle.std.specs.Prelude.{IfSome}
 use Rattle.cc_turns.specs.Places.{AreHome}

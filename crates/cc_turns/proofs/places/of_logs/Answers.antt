@@ -1,3 +1,4 @@
+-- The log taken is the next of the row, since it was turned round; it is fresh, and home at its number.
 use Rattle.std.proofs.Common.{◌≡◌, ◌+◌, ◌<◌, None, Some, [], length, reverse, drop, refl, sym, subst, ap, ◌∙◌, arith, rules}
 use Rattle.std.proofs.Common.{suc}
 use Rattle.std.specs.Prelude.{slice_get}

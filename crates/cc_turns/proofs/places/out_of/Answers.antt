@@ -1,3 +1,4 @@
+-- The item taken is the next of the row, since it was turned round; so the places have it in its order.
 use Rattle.std.proofs.Common.{◌≡◌, Some, [], length, ap, ◌∙◌, arith, rules}
 use Rattle.std.proofs.lemmas.List.{length-reverse}
 use Rattle.cc_turns.proofs.RowSteps.{out_begun, out_next, out_ended, longer, no_items}

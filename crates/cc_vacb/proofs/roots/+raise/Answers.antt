@@ -1,3 +1,4 @@
+-- At the height asked for the root is widened; else a new root leads to the old one by its first slot.
 use Rattle.std.proofs.Common.{◌≡◌, ◌<◌, ◌+◌, ◌-◌, sym, subst, ap, arith, ◌∙◌, List, length, set}
 use Rattle.std.proofs.lemmas.List.{get_or_read}
 use Rattle.cc_vacb.specs.Block.{Block, no_block, blank_block}

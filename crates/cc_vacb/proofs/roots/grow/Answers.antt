@@ -1,3 +1,4 @@
+-- An empty root takes the height that is asked for, and all of its slots; there is no entry to move.
 use Rattle.std.proofs.Common.{◌≡◌, sym, ap, arith, ◌∙◌, set, eqb-true}
 use Rattle.std.proofs.lemmas.List.{get_or_read, length-set}
 use Rattle.cc_vacb.specs.Block.{no_block, used_slots}

@@ -1,3 +1,4 @@
+-- The one child of the root becomes the root, as all entries lie below its first slot; without one the height falls.
 use Rattle.std.proofs.lemmas.List.{get_or_read}
 use Rattle.cc_vacb.specs.Block.{no_block}
 use Rattle.cc_vacb.proofs.Lower.{first_child, no_child_first, lower_step, root_unused_at}

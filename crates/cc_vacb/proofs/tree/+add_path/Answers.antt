@@ -1,3 +1,4 @@
+-- A path that is there is found; else the path above it is, and the new index block goes into the slot for it.
 use Rattle.std.proofs.Common.{◌≡◌, ℕ, sym, ap, ◌∙◌, arith, List, Option}
 use Rattle.cc_vacb.specs.Block.{Block}
 use Rattle.cc_vacb.specs.Index.{reach}

@@ -1,3 +1,4 @@
+-- By what the look-up finds: no path, no view, or a view; with its slot cleared the tree is one still, and is pruned.
 use Rattle.std.proofs.Common.{sym}
 use Rattle.cc_vacb.proofs.Views.{cleared, take_none, take_some, look_none, look_some, look_slot, look_entry}
 use Rattle.cc_vacb.proofs.tree.take_view.Goals as goal

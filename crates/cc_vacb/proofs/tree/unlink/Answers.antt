@@ -1,3 +1,4 @@
+-- By whether the block is the last one: its slot is cleared, or the slot of the last one leads to its place.
 use Rattle.std.proofs.Common.{◌<◌, ◌-◌, length, ap, ◌∙◌, arith}
 use Rattle.std.proofs.lemmas.List.{get_or_read}
 use Rattle.cc_vacb.specs.Block.{Block, no_block}

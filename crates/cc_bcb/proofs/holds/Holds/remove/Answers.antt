@@ -1,3 +1,4 @@
+-- The row is the one at the place that was found; where that lies past the last row, no hold has the id.
 use Rattle.std.proofs.Common.{◌≡◌, ◌≤◌, ◌<◌, Some, length, ap, ◌∙◌, sym, arith}
 use Rattle.std.specs.List.{position_or_len}
 use Rattle.std.specs.Option.{option_map}

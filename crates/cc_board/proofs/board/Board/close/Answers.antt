@@ -1,3 +1,4 @@
+-- The word that is read counts the passes; where all were joined, what the slots hold is what the desk gets back.
 use Rattle.std.proofs.Common.{rules, arith, ◌≡◌, suc, length, ap, sym, ◌∙◌}
 use Rattle.cc_board.specs.View.{run_in}
 use Rattle.cc_board.proofs.Passes.{counts_passes}

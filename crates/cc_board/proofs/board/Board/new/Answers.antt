@@ -1,3 +1,4 @@
+-- The words and slots are those with which a run of the board begins, so they keep its rule; or the desk comes back.
 use Rattle.std.proofs.Common.{arith, ◌≡◌, ◌+◌, ◌*◌, ℕ, suc, length, refl, ap, sym, ◌∙◌}
 use Rattle.cc_turns.specs.Desk.{made_from}
 use Rattle.cc_turns.specs.Slots.{slots_of}

@@ -1,3 +1,4 @@
+-- The rule allows the give, since a book that stands fits the slot of its stream; the seat then holds no book's turn.
 use Rattle.std.proofs.Common.{rules, Some, refl, ap, ◌∙◌, ◌≡◌, ◌+◌, arith}
 use Rattle.atomic_table.specs.Table.{rest}
 use Rattle.cc_model.specs.Turns.{Book}

@@ -1,3 +1,4 @@
+-- The rule allows the give, since what was added stands and at most one place is in flight; the seat then holds none.
 use Rattle.std.proofs.Common.{rules, ap, ◌∙◌}
 use Rattle.atomic_table.specs.Table.{Me}
 use Rattle.cc_turns.specs.Desk.{tells_of}

@@ -1,3 +1,4 @@
+-- The rule allows the give, since a log that stands for what was seen fits its slot; the seat then holds no log.
 use Rattle.std.proofs.Common.{rules, Some, refl, ap, ◌∙◌, ◌≡◌, ◌+◌, ◌*◌, arith}
 use Rattle.atomic_table.specs.Table.{rest}
 use Rattle.cc_model.specs.Turns.{Log}

@@ -1,3 +1,4 @@
+-- The rule allows the take, as the seat holds no book's turn; with it the seat knows the book of that one stream.
 use Rattle.std.proofs.Common.{rules, sym, ap, ◌∙◌, subst, length, ◌<◌, ◌+◌, ◌≡◌, ◌∷◌, arith}
 use Rattle.cc_model.specs.Turns.{Book}
 use Rattle.cc_turns.specs.Desk.{tells_of}

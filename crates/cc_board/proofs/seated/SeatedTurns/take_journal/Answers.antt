@@ -1,3 +1,4 @@
+-- The rule allows the take; what the pass knows grows to the journal that it took, which its standing then says.
 use Rattle.std.proofs.Common.{rules, refl, ap, ◌∙◌, subst, ◌+◌, ◌*◌, ◌≡◌, ◌∷◌, arith}
 use Rattle.cc_model.specs.Turns.{Journal}
 use Rattle.cc_turns.specs.Desk.{tells_of}

@@ -1,3 +1,4 @@
+-- The rule allows the take, as the seat holds no log's turn and the log is one of the board; the seat then holds it.
 use Rattle.std.proofs.Common.{rules, sym, ap, ◌∙◌, subst, length, ◌<◌, ◌+◌, ◌*◌, ◌≡◌, ◌∷◌, arith}
 use Rattle.cc_model.specs.Turns.{Log}
 use Rattle.cc_turns.specs.Desk.{tells_of}

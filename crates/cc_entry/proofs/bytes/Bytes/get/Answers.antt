@@ -1,3 +1,4 @@
+-- The place lies in the part at hand, or past it; the parts in front and the rest of the way make the place.
 use Rattle.std.proofs.Common.{◌≡◌, ◌<◌, ◌≤◌, ◌+◌, ◌-◌, ◌++◌, length, drop, get_or, slice_get, arith, ap, sym, ◌∙◌}
 use Rattle.std.specs.List.{concat}
 use Rattle.cc_entry.proofs.Kept.{within_first, past_first, parts_more}

@@ -1,3 +1,4 @@
+-- Runs are equal one by one exactly where the bytes are, since the longest runs of bytes are a function of them.
 use Rattle.std.proofs.Common.{◌≡◌, ◌∷◌, [], Bool, true, false, ◌&&◌, List, Option, Some, None, ap, ◌∙◌, sym, refl}
 use Rattle.std.specs.Prelude.{is_some, not}
 use Rattle.std.proofs.lemmas.Bool.{false≢true}

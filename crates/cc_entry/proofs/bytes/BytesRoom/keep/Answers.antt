@@ -1,3 +1,4 @@
+-- One part more is the front of what is left of the slice, so the parts kept so far are its front.
 use Rattle.std.proofs.Common.{[], ◌∷◌, ◌++◌, ◌+◌, take, arith, ap, sym, ◌∙◌, length, inl, inr}
 use Rattle.std.proofs.lemmas.List.{length-append}
 use Rattle.std.specs.List.{concat}

@@ -1,3 +1,4 @@
+-- A byte of a few lies within its array, and is the one of those taken; that of a run is the repeated one.
 use Rattle.std.proofs.Common.{◌≡◌, ◌<◌, length, slice_get, take, arith, ap, sym, ◌∙◌}
 use Rattle.cc_entry.specs.Parts.{bytes_in, most_in}
 use Rattle.cc_entry.proofs.Kept.{taken_at, replicated_at}

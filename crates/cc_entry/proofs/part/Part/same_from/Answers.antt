@@ -1,3 +1,4 @@
+-- Of a few bytes the scan ends at another byte or the end; a run of that byte goes to its end, another has none.
 use Rattle.std.proofs.Common.{◌≡◌, ◌<◌, ◌+◌, ◌-◌, length, slice_get, take, arith, ap, sym, ◌∙◌}
 use Rattle.cc_entry.proofs.Kept.{replicated_is, replicated_from, same_next, none_follows}
 use Rattle.cc_entry.proofs.part.Part.same_from.Goals as goal

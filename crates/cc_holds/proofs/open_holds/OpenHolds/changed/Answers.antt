@@ -1,3 +1,4 @@
+-- By kinds of call: a pin of a map, a write, a stamp and an end change the row of their hold; others leave the rows.
 use Rattle.std.proofs.Common.{refl, sym}
 use Rattle.std.proofs.lemmas.Result.{on_ok_weaker}
 use Rattle.cc_holds.proofs.RowsMade.{changes-none, stands-unmade}

@@ -1,3 +1,4 @@
+-- The row that the definitions make is the one that is kept, and no other call makes one; only making takes memory.
 use Rattle.std.specs.Prelude.{◌≡◌}
 use Rattle.std.specs.declared.option.Option.TheVariants.{Some, None}
 use Rattle.std.proofs.Common.{sym, subst, ◌∙◌}

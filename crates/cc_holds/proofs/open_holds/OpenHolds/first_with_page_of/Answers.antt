@@ -1,3 +1,4 @@
+-- The holds with a byte of the span are found by their ranges; without a span, by their having a byte.
 use Rattle.std.proofs.Common.{Option}
 use Rattle.cc_entry.specs.Place.{Range}
 use Rattle.cc_model.specs.Holds.{holds_of, least_id}

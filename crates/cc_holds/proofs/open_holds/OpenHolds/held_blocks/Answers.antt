@@ -1,3 +1,4 @@
+-- The blocks that were added are those of the holds, each once, so they are as many as the active blocks.
 use Rattle.std.proofs.Common.{◌∙◌, ap, sym, subst, length, arith, nat_eq}
 use Rattle.std.specs.List.{IsDistinct}
 use Rattle.cc_model.specs.Numbers.{is_among}

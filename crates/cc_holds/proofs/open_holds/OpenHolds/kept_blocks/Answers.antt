@@ -1,3 +1,4 @@
+-- The blocks of the holds, and behind them those of the span, are those needed, and as many.
 use Rattle.std.proofs.Common.{◌∙◌, ap, sym, subst, length, arith, List, ℕ}
 use Rattle.cc_entry.specs.Place.{Range}
 use Rattle.cc_entry.specs.Pages.{blocks_of}

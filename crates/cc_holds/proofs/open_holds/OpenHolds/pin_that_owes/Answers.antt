@@ -1,3 +1,4 @@
+-- The least owed page of the rows is that of the definitions; the least pin that owes at it is found by its id.
 use Rattle.std.proofs.Common.{◌∙◌, ap, sym, subst, fold, ℕ, Option, None}
 use Rattle.std.specs.Option.{option_and_then}
 use Rattle.cc_model.specs.Holds.{holds_of, least_id}

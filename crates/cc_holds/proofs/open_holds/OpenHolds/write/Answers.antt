@@ -1,3 +1,4 @@
+-- A hold that is open is touched; a write through one that is not there changes no row.
 use Rattle.std.proofs.Common.{sym, subst}
 use Rattle.std.proofs.lemmas.Result.{on_ok_weaker}
 use Rattle.cc_holds.specs.Stands.{HoldsStand}

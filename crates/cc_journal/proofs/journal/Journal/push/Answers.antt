@@ -1,3 +1,4 @@
+-- There is room among the rows and the holds; all that is kept follows the entry, so it stands for the longer list.
 use Rattle.std.specs.Prelude.{◌≡◌, ◌∷◌, List, reverse}
 use Rattle.std.proofs.Common.{ap, sym, arith, refl}
 use Rattle.std.proofs.lemmas.List.{length-reverse, reverse-append}

@@ -1,3 +1,4 @@
+-- The deferrals that were made are fewer than the entries, so their count has room; the queue follows the deferral.
 use Rattle.std.specs.Prelude.{◌≡◌, ◌≤◌, ◌∷◌, List, length, reverse}
 use Rattle.std.proofs.Common.{ap, sym, arith, refl}
 use Rattle.std.proofs.lemmas.List.{length-reverse, reverse-append}

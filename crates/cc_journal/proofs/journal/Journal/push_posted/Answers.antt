@@ -1,3 +1,4 @@
+-- The queue without its head is that of the past with the post; all else that is kept follows as for any entry.
 use Rattle.std.specs.Prelude.{◌≡◌, ◌≤◌, ◌∷◌, List, length, reverse}
 use Rattle.std.proofs.Common.{ap, arith, refl}
 use Rattle.std.proofs.lemmas.List.{reverse-append, length-drop}

@@ -1,3 +1,4 @@
+-- Deferrals and routines are as many, with room for one more; by `retrying` both grow at the head or at the tail.
 use Rattle.std.specs.Prelude.{◌+◌, length}
 use Rattle.std.proofs.Common.{ap, arith}
 use Rattle.cc_journal.proofs.DeferredSteps.{stands_defer, unposted_defer, writes_defer, same_length, length_with_routines}

@@ -1,3 +1,4 @@
+-- The head's routine is not posted yet; what is left of deferrals and routines is the queue behind the head.
 use Rattle.std.proofs.Common.{ap}
 use Rattle.cc_journal.proofs.DeferredSteps.{writes_post, stands_post, unposted_post, head_unposted}
 use Rattle.cc_journal.proofs.queue.Deferred.post.Goals as goal

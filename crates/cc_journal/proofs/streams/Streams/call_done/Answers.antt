@@ -1,3 +1,4 @@
+-- The rows change as the act of the call says, and the holds and the state follow it; so all streams stand after.
 use Rattle.std.specs.Prelude.{ℕ, ◌≡◌, ◌<◌, true, slice_index_or}
 use Rattle.std.proofs.Common.{ap, ◌∙◌}
 use Rattle.cc_events.specs.Holdings.{holding_of_call}

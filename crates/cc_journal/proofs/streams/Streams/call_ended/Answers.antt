@@ -1,3 +1,4 @@
+-- Only a call that was done on a stream changes what is kept; any other end leaves the streams as they stand.
 use Rattle.std.specs.Prelude.{ℕ, ◌≡◌, Some, None, true, Option}
 use Rattle.std.proofs.Common.{refl}
 use Rattle.cc_entry.specs.declared.call.Call.{Call}

@@ -1,3 +1,4 @@
+-- By kinds of event: a change touches its pages, a stamp those of its hold, a truncation cuts, and others leave all.
 use Rattle.std.specs.Prelude.{ℕ, ◌≡◌, ◌+◌, ◌*◌, Option, Some, None}
 use Rattle.std.proofs.Common.{ap, sym, ◌∙◌, subst, refl}
 use Rattle.cc_entry.specs.Place.{Range}

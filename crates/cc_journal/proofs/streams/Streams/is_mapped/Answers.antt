@@ -1,3 +1,4 @@
+-- A stream is mapped by an open object or by a dirty page; the state knows the one, the total of the rows the other.
 use Rattle.std.specs.Prelude.{nat_lt, false}
 use Rattle.std.proofs.Common.{ap, sym, ◌∙◌, subst}
 use Rattle.cc_model.specs.History.{history}

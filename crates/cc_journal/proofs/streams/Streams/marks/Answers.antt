@@ -1,3 +1,4 @@
+-- The loop's invariant: the streams looked at so far are marked as the definitions mark them.
 use Rattle.std.specs.Prelude.{◌≡◌, ℕ}
 use Rattle.std.proofs.Common.{ap, ◌∙◌, arith, refl}
 use Rattle.std.proofs.lemmas.List.{length-set}

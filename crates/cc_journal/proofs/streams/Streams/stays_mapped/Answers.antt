@@ -1,3 +1,4 @@
+-- An object that stays open keeps the map; with none left a dirty row that is not cut keeps it, and nothing else.
 use Rattle.std.specs.Prelude.{ℕ, ◌≡◌, ◌∷◌, false}
 use Rattle.std.proofs.Common.{ap, sym, subst, ◌∙◌}
 use Rattle.cc_entry.specs.declared.call.Call.TheVariants as call

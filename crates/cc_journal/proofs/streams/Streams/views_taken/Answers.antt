@@ -1,3 +1,4 @@
+-- The loop's invariant: the sum so far is that of the streams looked at, each at most 255, so it never wraps.
 use Rattle.std.specs.Prelude.{ℕ, ◌+◌, ◌-◌}
 use Rattle.std.specs.List.{range_with_len, fold}
 use Rattle.std.proofs.Common.{ap, sym, ◌∙◌, arith, refl}

@@ -1,3 +1,4 @@
+-- The bytes handed over are the front of those that were left.
 use Rattle.std.proofs.Common.{◌≡◌, ◌≤◌, ◌∙◌, ℕ, ◌+◌, ◌-◌, List, ◌++◌, length, take, drop, sym, ap, arith}
 use Rattle.std.proofs.lemmas.List.{take-append-drop, take_at, drop-drop, length-take-le}
 use Rattle.cc_memdev.proofs.stream.MemSourceSource.take.Goals as goal

@@ -1,3 +1,4 @@
+-- The page renewed in its block, or added with it: the views hold sound frames, and only that page has changed.
 use Rattle.std.proofs.Common.{◌/◌, Some, ap, sym, ◌∙◌}
 use Rattle.cc_pages.specs.Pages.{owned}
 use Rattle.cc_views.specs.Views.{frames_at}

@@ -1,3 +1,4 @@
+-- The pages of the span are cleared, and empty blocks dropped behind; the frames of the others stay.
 use Rattle.std.proofs.Common.{None, inl, inr, ◌∙◌, arith}
 use Rattle.cc_resident.proofs.Kept.{page_from, page_alike}
 use Rattle.cc_resident.specs.Changes.{is_between}

@@ -1,3 +1,4 @@
+-- The pages past the new size are cleared first, so the view index shrinks and cannot fail.
 use Rattle.std.proofs.Common.{◌≡◌}
 use Rattle.std.specs.List.{filter}
 use Rattle.cc_resident.specs.Residents.{blocks, has_pages, AreResidents}

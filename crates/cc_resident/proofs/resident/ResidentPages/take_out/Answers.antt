@@ -1,3 +1,4 @@
+-- The frame is cleared, and its block dropped where it was the last; every other page stays.
 use Rattle.std.proofs.Common.{None, ◌∙◌}
 use Rattle.cc_resident.proofs.Kept.{blocks-left, AreResidents-left, frames-out, below-out, Puts-before, others_alike, page_from}
 use Rattle.cc_resident.proofs.resident.ResidentPages.take_out.Goals as goal

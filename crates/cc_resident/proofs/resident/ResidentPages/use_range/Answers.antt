@@ -1,3 +1,4 @@
+-- The loop's invariant: the blocks up to the one at hand were used in their order, and no page has changed.
 use Rattle.std.proofs.Common.{◌-◌, ◌/◌, ap, ◌∙◌, arith}
 use Rattle.std.specs.List.{range_with_len}
 use Rattle.cc_resident.specs.Residents.{shares, blocks, is_among}

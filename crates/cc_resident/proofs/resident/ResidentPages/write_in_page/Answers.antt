@@ -1,3 +1,4 @@
+-- The page is resident and owned, so its bytes are written over in place; bytes outside the range stay.
 use Rattle.std.proofs.Common.{ap, ◌∙◌}
 use Rattle.cc_resident.specs.Residents.{is_resident, is_shared}
 use Rattle.cc_resident.proofs.Frames.{owned_where}

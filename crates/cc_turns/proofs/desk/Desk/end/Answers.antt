@@ -1,3 +1,4 @@
+-- With nothing held every disk and log is at home, and stands for the journal that comes back.
 use Rattle.std.proofs.Common.{subst, ap, ◌∙◌}
 use Rattle.cc_turns.specs.Desk.{DisksEnded, LogsEnded}
 use Rattle.cc_turns.proofs.RowSteps.{all_home}

@@ -1,3 +1,4 @@
+-- With nothing held every row is full; disks, books, logs and the journal follow one another in the slots.
 use Rattle.std.proofs.Common.{◌≡◌, ◌+◌, Some, [], ◌∷◌, ◌++◌, length, map, subst, ap, ◌∙◌, arith}
 use Rattle.std.specs.Option.{option_map}
 use Rattle.cc_turns.specs.declared.slots.Place.TheVariants as place

@@ -1,3 +1,4 @@
+-- The place is the one that the held book came from; with it back the rows stand, and no book is held.
 use Rattle.std.proofs.Common.{◌<◌, length, refl, sym, subst, ap, ◌∙◌, arith}
 use Rattle.std.specs.declared.option.Option.TheVariants.{Some}
 use Rattle.cc_book.specs.Book.{BookStands}

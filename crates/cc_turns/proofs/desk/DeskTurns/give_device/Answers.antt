@@ -1,3 +1,4 @@
+-- The place is the one that the held disk came from, and empty; with it back the rows stand, and no disk is held.
 use Rattle.std.proofs.Common.{◌≡◌, ◌<◌, length, sym, subst, ap, ◌∙◌, arith}
 use Rattle.std.specs.Prelude.{slice_get, None}
 use Rattle.cc_model.specs.History.{history}

@@ -1,3 +1,4 @@
+-- The place is the one that the held log came from; with it back the rows stand, and no log is held.
 use Rattle.std.proofs.Common.{◌<◌, length, refl, sym, subst, ap, ◌∙◌, arith}
 use Rattle.std.specs.declared.option.Option.TheVariants.{Some}
 use Rattle.std.specs.Prelude.{slice_get}

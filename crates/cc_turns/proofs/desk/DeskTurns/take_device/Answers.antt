@@ -1,3 +1,4 @@
+-- What was at home stands for the last journal, and nobody else went on; no transfer of the stream is under way.
 use Rattle.std.proofs.Common.{◌≡◌, ◌<◌, ◌-◌, ◌^◌, suc, min, arith, length, refl, sym, subst, ap, ◌∙◌}
 use Rattle.cc_turns.specs.Takes.{with_device}
 use Rattle.cc_turns.specs.Desk.{standing_of}

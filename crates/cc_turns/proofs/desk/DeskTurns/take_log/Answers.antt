@@ -1,3 +1,4 @@
+-- What was at home stands for the last journal, and nobody else went on; so the log taken stands for what is seen.
 use Rattle.std.proofs.Common.{◌<◌, length, refl, sym, subst, ap, ◌∙◌}
 use Rattle.cc_turns.specs.Takes.{with_log}
 use Rattle.cc_turns.specs.Desk.{standing_of}

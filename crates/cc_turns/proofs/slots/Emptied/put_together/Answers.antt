@@ -1,3 +1,4 @@
+-- By the kind of the slot taken: it goes into its row, the others stay; turned round, the rows are those of a desk.
 use Rattle.std.proofs.Common.{◌≡◌, ◌<◌, false, None, Some, [], ◌∷◌, length, refl, sym, ap, ◌∙◌, arith, rules}
 use Rattle.std.specs.Prelude.{is_some, vec_capacity}
 use Rattle.cc_turns.specs.Desk.{state_of}

@@ -1,3 +1,4 @@
+-- By the new size: a root of few slots, fewer levels, or more of them; each entry stays at its block.
 use Rattle.std.proofs.Common.{◌<◌, sym, subst, ap, arith, ◌∙◌, ℕ}
 use Rattle.std.specs.Prelude.{IsSome}
 use Rattle.cc_vacb.specs.Index.{Index, entry_at, entry_count, StartsBelow}

@@ -1,3 +1,4 @@
+-- The frames at the position of the block may change in place, and the order keeps its index; another block has none.
 use Rattle.std.proofs.Common.{refl, sym, ◌∙◌, nat_eq}
 use Rattle.std.specs.Option.{ghost_name_of}
 use borrow.Follows.Closed.{read_of}
