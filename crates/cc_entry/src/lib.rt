@@ -5,8 +5,8 @@
 //! value are small types over `Vec` that contracts see as lists, and `Bytes` is kept in parts and seen as
 //! the list of the bytes. Units are bytes, pages of 4096 bytes and blocks of 64 pages.
 //!
-//! It stands on no crate. Whatever speaks of a value stands on it; `cc_traits`, the devices over it, `cc_pages` and
-//! `cc_vacb` speak of none.
+//! It stands on no crate of this repository. Whatever speaks of a value stands on it; `cc_traits`, the
+//! devices over it, `cc_pages` and `cc_vacb` speak of none.
 #![tactic(auto)]
 
 pub mod answer;

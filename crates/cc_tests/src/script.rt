@@ -16,7 +16,7 @@ fn wrong_line(answer: Result<Script, ScriptFault>) -> Option<u32> {
 }
 
 /// Scripts, each with its first wrong line.
-const SCRIPTS: [(&str, u32); 81] = [
+const SCRIPTS: [(&str, u32); 88] = [
     ("", 0),
     ("# a comment\n\n  \n\r\n  stream   a  8192 8192  \r", 0),
     (" # no comment", 1),
@@ -137,6 +137,64 @@ const SCRIPTS: [(&str, u32); 81] = [
     ("logflush 0", 1),
     ("logflush 0 1 1", 1),
     ("logflush 01 1", 1),
+    (
+        "stream a 1 1\ngranularity a:1 18446744073709551615\nt2 attributes a 1 0\nfthreshold a 0\nfthreshold a 4294967296",
+        5,
+    ),
+    ("stream a 1 1\nfill a 0", 2),
+    ("stream a 1 1\nncread a 0", 2),
+    ("stream a 1 1\ncanwrite a 1", 2),
+    ("scan", 1),
+    ("post", 1),
+    ("fail isdirty", 1),
+];
+
+/// Scripts of steps, each with its first wrong line.
+const STEPS: [(&str, u32); 29] = [
+    (
+        "stream a 8192 8192\nfill a 0\nt16 fill a 2251799813685247\nout a 0\nt2 begin a 1\nend a 1\nt3 sync a\nt2 scan\nscan",
+        0,
+    ),
+    ("stream a 1 1\nfill a 2251799813685248", 2),
+    ("stream a 1 1\nfill a:0 0", 2),
+    ("stream a 1 1\nfill b 0", 2),
+    ("stream a 1 1\nsync a 0", 2),
+    ("stream a 1 1\nt1 out a 0", 2),
+    ("stream a 1 1\nt1 end a 0", 2),
+    (
+        "stream a 1 1\nncread a:1 0\nncstore a 0 ABx4096\nncwrite a 0\nncstore a 0 ABx4095",
+        5,
+    ),
+    ("stream a 1 1\nncread a 0 1", 2),
+    ("stream a 1 1\nncwrite a 0 AB", 2),
+    (
+        "stream a 1 1\ncanwrite a 18446744073709551615\ndefer a 0\nt2 defer a 0 retry\npost\ndefer a 0 again",
+        6,
+    ),
+    (
+        "stream a 1 1\ngranularity a 4096\nattributes a 0 1\nfthreshold a 4294967295\nfthreshold a 4294967296",
+        5,
+    ),
+    ("stream a 1 1\nattributes a 0 2", 2),
+    (
+        "stream a 1 1\nt2 fail cread a 0 1\nfail pin a 0 1 h\nhread h 0 1\nfail unpin h\nunpin h",
+        6,
+    ),
+    ("fail dirty 0\nfail canwrite a 0", 2),
+    ("fail append 0 01", 1),
+    ("fail logflush 0 1", 1),
+    ("stream a 1 1\nfail fill a 0", 2),
+    ("stream a 1 1\nfail defer a 0", 2),
+    ("fail scan", 1),
+    ("fail post", 1),
+    ("fail fail isdirty", 1),
+    ("fail t1 isdirty", 1),
+    ("fail", 1),
+    ("journal 64\nthreshold 1\nfail isdirty\njournal 64", 4),
+    ("workers 0 0", 1),
+    ("tick", 1),
+    ("ahead", 1),
+    ("stream a 1 1\npin a 0 1 h\nrepin h k\nunrepin k through", 4),
 ];
 
 /// Whether a script is read up to this line.
@@ -145,9 +203,9 @@ fn reads(alloc: Global, mode: Mode, text: &str, line: u32) -> bool {
 }
 
 /// The first of these scripts that has another wrong line.
-fn mistaken<'a>(alloc: Global, rows: &[(&'a str, u32)]) -> Option<&'a str> {
+fn mistaken<'a>(alloc: Global, mode: Mode, rows: &[(&'a str, u32)]) -> Option<&'a str> {
     for &(text, line) in rows {
-        if !reads(alloc, Mode::Run, text, line) {
+        if !reads(alloc, mode, text, line) {
             return Some(text);
         }
     }
@@ -156,14 +214,14 @@ fn mistaken<'a>(alloc: Global, rows: &[(&'a str, u32)]) -> Option<&'a str> {
 
 #[test]
 fn takes_the_lines_of_the_grammar(rt: HostRuntime) {
-    assert_eq!(rt; mistaken(rt.alloc(), &SCRIPTS), None);
+    assert_eq!(rt; mistaken(rt.alloc(), Mode::Run, &SCRIPTS), None);
+    assert_eq!(rt; mistaken(rt.alloc(), Mode::Steps, &STEPS), None);
     let phases = "stream a 1 1\nphase\nstate a";
     assert!(rt; reads(rt.alloc(), Mode::Run, phases, 0));
     assert!(rt; reads(rt.alloc(), Mode::Steps, phases, 2));
     let actions =
         "stream a 1 1 log 0\nsetlog a 1\nappend 1 AB\nlogflush 1 1\nstate a\nflush a\nisdirty";
     assert!(rt; reads(rt.alloc(), Mode::Steps, actions, 0));
-    assert!(rt; reads(rt.alloc(), Mode::Steps, "stream a 1 1\nncread a 0 1", 2));
 }
 
 /// Of a script whose first action is a write: its line, phase, caller, place and length.
@@ -296,6 +354,38 @@ ncread a:0 4096 8192\nncwrite a:1 4096 AB,00x2";
     assert_eq!(rt; numbers_at(&script, 3), Some((0, 4096, 8192, 0)));
     assert_eq!(rt; numbers_at(&script, 4), Some((1, 4096, 3, 0)));
     Ok(())
+}
+
+/// Of the first action of a script of steps, where it stores a page: its caller, whether it fails, the object of its file,
+/// the page and how many bytes; and how many lines defer a write.
+fn stored_of(alloc: Global, text: &str) -> Option<(u32, bool, u8, u64, u64, usize)> {
+    let script = read_script(alloc, text.as_bytes(), Mode::Steps).ok()?;
+    let first = script.lines.as_slice().first()?;
+    match &first.action {
+        Action::NcStorePage { file, page, bytes } => Some((
+            first.caller,
+            first.fails,
+            file.object(),
+            *page,
+            bytes.len(),
+            script.defers(),
+        )),
+        _ => None,
+    }
+}
+
+#[test]
+fn keeps_pages_and_what_fails(rt: HostRuntime) {
+    let fails = "stream a 9 7\nt3 fail ncstore a:2 7 ABx4096\ndefer a 5 retry\nt2 defer a 6";
+    assert_eq!(rt;
+        stored_of(rt.alloc(), fails),
+        Some((3, true, 2, 7, 4096, 2))
+    );
+    let goes = "stream a 9 7\nncstore a 0 ABx4096";
+    assert_eq!(rt;
+        stored_of(rt.alloc(), goes),
+        Some((1, false, 0, 0, 4096, 0))
+    );
 }
 
 /// A script of one text, and another so many times.

@@ -1,6 +1,7 @@
 //! Tests of values, bytes and errors.
 
-use cc_entry::{Answer, Bytes, Entry, NoMemory};
+use cc_entry::{Answer, Bytes, CcError, Entry, NoMemory};
+use cc_script::ScriptFault;
 use std::test::Fail;
 
 #[test]
@@ -34,7 +35,19 @@ fn crosses<T: Send + Sync>(_value: &T) {}
 fn entries_and_answers_cross_threads(rt: HostRuntime) -> Result<(), Fail> {
     crosses(&Entry::Posted { id: 1 });
     crosses(&Answer::NoHold);
-    let text = format!(in rt.alloc(); "{}", NoMemory)?;
-    assert_eq!(rt; text.as_str(), "out of memory");
+    Ok(())
+}
+
+#[test]
+fn errors_have_texts_for_people(rt: HostRuntime) -> Result<(), Fail> {
+    let memory = format!(in rt.alloc(); "{}", NoMemory)?;
+    assert_eq!(rt; memory.as_str(), "out of memory");
+    let beyond = format!(in rt.alloc(); "{}", CcError::BeyondSize { size: 8192 })?;
+    assert_eq!(rt;
+        beyond.as_str(),
+        "the range ends past the stream's size of 8192 bytes"
+    );
+    let line = format!(in rt.alloc(); "{}", ScriptFault::Syntax { line: 7 })?;
+    assert_eq!(rt; line.as_str(), "line 7 is not in the grammar");
     Ok(())
 }

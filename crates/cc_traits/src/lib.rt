@@ -6,8 +6,8 @@
 //! count of faults, which rises by one exactly where a call answers [`Stop::Failed`], so that whoever
 //! is above can show that a fault it reports did happen.
 //!
-//! This crate stands on std alone. The devices implement these traits, and the cache is written
-//! over them.
+//! This crate stands on std and the kit's `thiserror` alone. The devices implement these traits, and the
+//! cache is written over them.
 #![tactic(auto)]
 
 mod disk;
