@@ -14,7 +14,7 @@ use Rattle.cc_turns.specs.Standing.{Standing}
 use Rattle.cc_visits.specs.declared.tell.Returned.{Returned}
 use Rattle.cc_visits.specs.declared.tell.Returned.TheVariants as returned
 use Rattle.cc_visits.specs.Ways.{IsTold}
-use Rattle.cc_fetch.specs.Fetch.{CanCall}
+use Rattle.cc_writes.specs.Fetch.{CanCall}
 use Rattle.cc_calls.specs.Paged.{Paged}
 use Rattle.cc_calls.specs.Pages.{ChangeEnds, ReadEnds}
 use Rattle.cc_calls.proofs.Replies.{IsRead, answers_nothing, read-reply, told-nothing}

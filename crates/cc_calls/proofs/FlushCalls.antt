@@ -31,7 +31,7 @@ use Rattle.cc_turns.specs.Standing.{Standing, Held, nothing}
 use Rattle.cc_turns.specs.Takes.{Takes, with_device, with_book, without_device, without_book}
 use Rattle.cc_visits.specs.Hands.{Went}
 use Rattle.cc_visits.specs.Ways.{IsFull}
-use Rattle.cc_fetch.specs.Fetch.{WentOn}
+use Rattle.cc_writes.specs.Fetch.{WentOn}
 use Rattle.cc_calls.specs.Answers.{outcome_of}
 use Rattle.cc_calls.specs.Flushes.{LeavesClean, IsDurable, FlushEnds}
 

@@ -21,7 +21,7 @@ use Rattle.cc_visits.specs.declared.visits.Tried.{Tried}
 use Rattle.cc_visits.specs.declared.visits.Tried.TheVariants as tried
 use Rattle.cc_visits.specs.declared.tell.Returned.{Returned}
 use Rattle.cc_visits.specs.Ways.{EndedSo, IsFull}
-use Rattle.cc_fetch.specs.Fetch.{WentOn, most_room}
+use Rattle.cc_writes.specs.Fetch.{WentOn, most_room}
 use Rattle.cc_calls.specs.Paged.{Paged, is_paged}
 use Rattle.cc_calls.proofs.Waiting.{IsMissed, brings, missed-page}
 

@@ -12,7 +12,6 @@ use Rattle.cc_effects.specs.Calls.{CallLeft, IsUnderWay}
 use Rattle.cc_effects.specs.Moments.{IsIdle}
 use Rattle.cc_effects.proofs.Stretches.{grew-after}
 use Rattle.cc_effects.proofs.WorkSteps.{works-after, unsynced-append, unsynced-others, unstopped-after}
-use Rattle.cc_fetch.specs.Fetch.{CanCall}
 use Rattle.cc_model.specs.Acts.{file_of}
 use Rattle.cc_model.specs.Filing.{IsFiled}
 use Rattle.cc_model.specs.Good.{IsGood, IsGoodSoFar}
@@ -27,6 +26,7 @@ use Rattle.cc_visits.specs.Visits.{IsFiledNow, IsFullTried, TriedLeft}
 use Rattle.cc_visits.specs.declared.tell.Returned.{Returned}
 use Rattle.cc_visits.specs.declared.visits.Tried.{Tried}
 use Rattle.cc_visits.specs.declared.visits.Tried.TheVariants as tried
+use Rattle.cc_writes.specs.Fetch.{CanCall}
 use Rattle.cc_calls.specs.Answers.{CallEnds}
 use Rattle.cc_calls.specs.Paged.{CalledAtOnce}
 

@@ -16,7 +16,7 @@ use Rattle.cc_step.specs.Step.{most_asked}
 use Rattle.cc_visits.specs.Ways.{IsFull}
 use Rattle.cc_calls.specs.Pages.{StaysGood}
 -- A pass may call on a stream.
-pub use Rattle.cc_fetch.specs.Fetch.{CanCall}
+pub use Rattle.cc_writes.specs.Fetch.{CanCall}
 -- how the entry of a call says that it ended, whose caller was answered no value, or failed
 pub use Rattle.cc_flush.specs.Flush.{outcome_of}
 

@@ -14,7 +14,6 @@ use Rattle.cc_entry.specs.declared.reply.Reply.TheVariants as reply
 use Rattle.cc_entry.specs.Kinds.{is_map, is_pin}
 use Rattle.cc_effects.specs.Calls.{CallLeft}
 use Rattle.cc_effects.specs.Repins.{UnpinLeft}
-use Rattle.cc_fetch.specs.Fetch.{most_room}
 use Rattle.cc_holds.specs.Stands.{owes_set_dirty}
 use Rattle.cc_model.specs.Good.{IsGood}
 use Rattle.cc_model.specs.History.{history}
@@ -22,6 +21,7 @@ use Rattle.cc_model.specs.Holds.{holds_of, hold_at}
 use Rattle.cc_turns.specs.Standing.{Standing}
 use Rattle.cc_visits.specs.Hands.{Went}
 use Rattle.cc_visits.specs.Ways.{IsFull}
+use Rattle.cc_writes.specs.Fetch.{most_room}
 use Rattle.cc_calls.specs.Answers.{CallEnds, outcome_of}
 use Rattle.cc_calls.specs.Flushes.{IsDurable}
 use Rattle.cc_calls.specs.Pages.{IsFullOf, PagesLeft, StaysGood, WentOn}

@@ -19,7 +19,7 @@ use Rattle.cc_visits.specs.Ways.{IsFull}
 use Rattle.cc_flush.specs.Flush.{outcome_of}
 -- A pass goes on as it stood: it has seen more, what others have reserved may be other, and it may have taken the
 -- turn of a disk.
-pub use Rattle.cc_fetch.specs.Fetch.{WentOn}
+pub use Rattle.cc_writes.specs.Fetch.{WentOn}
 
 -- Where a call finds the journal full, it has so many entries, and no room beside what is owed and under way: for one
 -- more, or for the two of a transfer.

@@ -3,19 +3,19 @@
 ghost use Rattle.std.specs.Prelude.{◌≡◌, ℕ, true, List, None};
 ghost use Rattle.cc_entry.specs.declared.entry.Entry.{Entry};
 ghost use Rattle.cc_effects.specs.Calls.{IsUnderWay};
-ghost use Rattle.cc_fetch.specs.Fetch.{CanCall};
 ghost use Rattle.cc_model.specs.Good.{IsGood};
 ghost use Rattle.cc_model.specs.Ranges.{range_of};
 ghost use Rattle.cc_step.specs.Step.{is_stepped};
 ghost use Rattle.cc_visits.specs.Hands.{Went};
 ghost use Rattle.cc_visits.specs.Ways.{FitsIn};
 ghost use Rattle.cc_visits.specs.Visits.{IsFiledNow, IsOf, IsFullTried, TriedLeft};
+ghost use Rattle.cc_writes.specs.Fetch.{CanCall};
 ghost use Rattle.cc_calls.specs.Paged.{CalledAtOnce, Paged, is_paged};
 
 use cc_entry::{Call, CcError, StreamId};
-use cc_fetch::fetch;
 use cc_turns::Turns;
 use cc_visits::{Returned, Tried, attempt_at};
+use cc_writes::fetch;
 use std::alloc::Global;
 
 /// Makes a call that needs no page, in one turn of its stream's book, and answers what it returns to its caller.

@@ -28,10 +28,10 @@ use Rattle.cc_visits.proofs.Disks.{disk-same, disk-call}
 use Rattle.cc_visits.proofs.Stepping.{disk-grew}
 use Rattle.cc_visits.proofs.Visiting.{Visiting, Visited}
 use Rattle.cc_flush.specs.Flush.{HasSynced, answer_of, outcome_of}
-use Rattle.cc_flush.specs.Steps.{MayFinish, FinishLeft}
-use Rattle.cc_flush.specs.declared.steps.Finished.{Finished}
-use Rattle.cc_flush.specs.declared.steps.Finished.TheVariants as finished
-use Rattle.cc_flush.proofs.Nexting.{flush-filed}
+use Rattle.cc_flush.specs.FlushSteps.{MayFinish, FinishLeft}
+use Rattle.cc_flush.specs.declared.flush_steps.Finished.{Finished}
+use Rattle.cc_flush.specs.declared.flush_steps.Finished.TheVariants as finished
+use Rattle.cc_flush.proofs.FlushNexting.{flush-filed}
 use Rattle.cc_flush.proofs.Synced.{synced-on, flushed-synced, left-done, left-refused, left-full, left-memoryless}
 
 module _ {Q : Type 0} (posted : Q → Bool) (w v : Standing) (file : File) (span : Option Range) (b c : BookState) (j k : JournalState Q)

@@ -1,4 +1,4 @@
--- Lemmas of flushes, each before those that cite it.
+-- Lemmas of flushes and of purges, each before those that cite it.
 pub mod LaterTouches
 pub mod Settling
 pub mod Flushed
@@ -6,10 +6,16 @@ pub mod FlushedAlone
 pub mod KeptSince
 pub mod DirtyRows
 pub mod Owing
-pub mod Stepping
+pub mod FlushStepping
 pub mod Going
 pub mod Synced
-pub mod Nexting
+pub mod FlushNexting
 pub mod Placing
 pub mod Finishing
-pub mod Holding
+pub mod FlushHolding
+pub mod Residing
+pub mod Unheld
+pub mod Emptying
+pub mod PurgeStepping
+pub mod PurgeNexting
+pub mod PurgeHolding

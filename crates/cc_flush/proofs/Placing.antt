@@ -29,7 +29,7 @@ use Rattle.cc_turns.specs.Standing.{Standing, Held, holds, nothing}
 use Rattle.cc_visits.specs.Visits.{HasPlaced}
 use Rattle.cc_visits.proofs.Resting.{disk-held, rest-same}
 use Rattle.cc_writes.proofs.Visits.{Visiting, Visited, visited}
-use Rattle.cc_flush.proofs.Stepping.{nothing_owed}
+use Rattle.cc_flush.proofs.FlushStepping.{nothing_owed}
 
 -- a good journal stays good with it, where no transfer is under way
 good-synced : (u : Setup) (past : List Entry) (pass s : ℕ) (how : End) → IsGood u past → open_of (history past s) ≡ None → IsGood u (entry.Sync pass s how ∷ past)

@@ -30,12 +30,12 @@ use Rattle.cc_writes.specs.Writes.{IsToWrite, WantedMemory}
 use Rattle.cc_flush.specs.Settled.{IsSettledTo, IsSettledAll}
 use Rattle.cc_flush.specs.declared.flush.Round.{Round}
 use Rattle.cc_flush.specs.declared.flush.Round.TheVariants as round
-use Rattle.cc_flush.specs.declared.steps.Finished.{Finished}
-use Rattle.cc_flush.specs.declared.steps.Finished.TheVariants as finished
-use Rattle.cc_flush.specs.declared.steps.Next.{Next}
-use Rattle.cc_flush.specs.declared.steps.Next.TheVariants as next
-use Rattle.cc_flush.specs.declared.visits.Step.{Step}
-use Rattle.cc_flush.specs.declared.visits.Step.TheVariants as step
+use Rattle.cc_flush.specs.declared.flush_steps.Finished.{Finished}
+use Rattle.cc_flush.specs.declared.flush_steps.Finished.TheVariants as finished
+use Rattle.cc_flush.specs.declared.flush_steps.Next.{Next}
+use Rattle.cc_flush.specs.declared.flush_steps.Next.TheVariants as next
+use Rattle.cc_flush.specs.declared.flush_visits.Step.{Step}
+use Rattle.cc_flush.specs.declared.flush_visits.Step.TheVariants as step
 
 -- how the entry of a flush says that it ended, whose caller was answered so
 abbrev pub outcome_of : Result (Unit {0}) CcError → Outcome

@@ -2,5 +2,8 @@
 pub mod Settled
 pub mod Crash
 pub mod Dirty
-pub mod Steps
+pub mod FlushSteps
 pub mod Flush
+pub mod Residents
+pub mod PurgeSteps
+pub mod Purge

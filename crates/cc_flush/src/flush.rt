@@ -10,7 +10,7 @@ ghost use Rattle.cc_visits.specs.Ways.{IsFull};
 ghost use Rattle.cc_writes.specs.Writes.{HasBoth};
 ghost use Rattle.cc_flush.specs.Flush.{IsFlushing, IsAtSync, IsAtEnd, IsSyncTold, RoundLeft, RoundWent, IsFullRound, IsRising, outcome_of, round_of};
 
-use crate::visits::{Step, finish_at, next_at, place_sync};
+use crate::flush_visits::{Step, finish_at, next_at, place_sync};
 use cc_book::Book;
 use cc_entry::{Call, CcError, End, FileId, Span};
 use cc_transfer::sync;

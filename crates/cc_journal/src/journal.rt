@@ -145,6 +145,7 @@ impl<Q: PostRoutine> Journal<Q> {
         requires may_go { head_may_go (limited self.old.threshold) self.old.entries (queue self.old.entries) ≡ true }
         requires unposted { AllUnposted Q.posted self.old.queue }
         ensures head { option_map (λ w. w.0.id) (slice_get self.old.queue 0) ≡ Some result.id }
+        ensures first { option_map (λ d. d.id) (slice_get (queue self.old.entries) 0) ≡ Some result.id }
         ensures posted { Q.posted result.routine ≡ true }
         ensures placed { self.new ≡ record self.old {
           entries = entry.Posted result.id ∷ self.old.entries;

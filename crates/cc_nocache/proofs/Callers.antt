@@ -6,11 +6,11 @@ use Rattle.std.proofs.lemmas.Bool.{ltb-false}
 use Rattle.cc_entry.specs.declared.error.CcError.{CcError}
 use Rattle.cc_entry.specs.declared.error.CcError.TheVariants as error
 use Rattle.cc_effects.specs.Noncached.{shape_refusal}
-use Rattle.cc_fetch.specs.Fetch.{CanCall, WentOn}
 use Rattle.cc_turns.specs.Standing.{Held, Standing, nothing}
 use Rattle.cc_turns.specs.Takes.{Takes, with_book, with_device, without_book, without_device}
 use Rattle.cc_visits.specs.Hands.{Went}
 use Rattle.cc_visits.specs.Ways.{IsFull}
+use Rattle.cc_writes.specs.Fetch.{CanCall, WentOn}
 use Rattle.cc_nocache.specs.Shapes.{IsShape}
 
 -- With the disk and the book given back the pass goes on as it stood, but has taken the turn of the disk.

@@ -44,7 +44,7 @@ use Rattle.cc_journal.specs.Calls.{owed_end}
 use Rattle.cc_step.proofs.Placed.{so-far}
 use Rattle.cc_step.proofs.Reserved.{reserved-stored}
 use Rattle.cc_writes.proofs.Quiet.{flushed_to-grown}
-use Rattle.cc_writes.proofs.Rooms.{reserved-begun}
+use Rattle.cc_transfer.proofs.Rooms.{reserved-begun}
 use Rattle.cc_nocache.specs.Stores.{IsReadyToStore, with_store, stored_byte}
 
 nothing_owed : (e : Entry) (past : List Entry) → owed_begin past ≡ None → IsOwed (owed_begin past) e

@@ -25,7 +25,7 @@ use Rattle.cc_model.specs.Legal.{IsFailure, IsLegal, IsLegalEntry}
 use Rattle.cc_model.specs.Reasons.{is_open, not_cached, refuse_if}
 use Rattle.cc_model.specs.Refusals.{first_of, refusal}
 use Rattle.cc_model.specs.Setup.{Setup}
-use Rattle.cc_flush.proofs.Stepping.{nothing_owed}
+use Rattle.cc_flush.proofs.FlushStepping.{nothing_owed}
 use Rattle.cc_step.specs.Step.{MayStep, Adds, IsStop, is_answered}
 use Rattle.cc_step.proofs.Attempts.{reserving, adds-reserving, forgoing, forgone-within, failed-owing, stand-forgoing}
 use Rattle.cc_step.proofs.Placed.{so-far}

@@ -17,13 +17,13 @@ use Rattle.cc_entry.specs.declared.reply.Reply.TheVariants as reply
 use Rattle.cc_effects.specs.Calls.{CallLeft}
 use Rattle.cc_effects.specs.Noncached.{AlignedReadLeft, MisshapenLeft, PagesRead, PageReadsRefused, ShapedReadLeft, shape_refusal}
 use Rattle.cc_effects.proofs.Stretches.{idle-none}
-use Rattle.cc_fetch.specs.Fetch.{CanCall, WentOn}
 use Rattle.cc_model.specs.Good.{IsGood}
 use Rattle.cc_model.specs.Setup.{Setup}
 use Rattle.cc_turns.specs.Standing.{Standing, Held, nothing}
 use Rattle.cc_turns.specs.Takes.{Takes, with_device, with_book, without_device, without_book}
 use Rattle.cc_visits.specs.Hands.{Went}
 use Rattle.cc_visits.specs.Ways.{IsFull, IsFullError}
+use Rattle.cc_writes.specs.Fetch.{CanCall, WentOn}
 use Rattle.cc_nocache.specs.Answers.{read_of}
 use Rattle.cc_nocache.specs.ReadVisits.{outcome_of}
 use Rattle.cc_nocache.specs.Reads.{NcReadEnds, PageReadEnds, PagesReadEnds, PagesLeft}

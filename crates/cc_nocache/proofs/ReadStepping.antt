@@ -11,7 +11,7 @@ use Rattle.cc_entry.specs.declared.reply.Reply.{Reply}
 use Rattle.cc_book.specs.Book.{BookState, BookStands, Gains, GoesOn, MayDo, MayPlace, done, failed}
 use Rattle.cc_effects.specs.Calls.{has_no_write}
 use Rattle.cc_fill.specs.Fill.{MayFill, page_of}
-use Rattle.cc_flush.proofs.Stepping.{nothing_owed}
+use Rattle.cc_flush.proofs.FlushStepping.{nothing_owed}
 use Rattle.cc_journal.specs.Calls.{owed_end}
 use Rattle.cc_journal.specs.Journal.{JournalState}
 use Rattle.cc_model.specs.Acts.{file_of}

@@ -13,7 +13,6 @@ use Rattle.cc_book.specs.Book.{BookState, BookStands, failed}
 use Rattle.cc_effects.specs.Moments.{IsIdle, PlacedOnly}
 use Rattle.cc_effects.specs.Noncached.{MisshapenLeft}
 use Rattle.cc_effects.proofs.Stretches.{idle-then, only-before}
-use Rattle.cc_fetch.specs.Fetch.{CanCall, WentOn}
 use Rattle.cc_journal.specs.Journal.{JournalState}
 use Rattle.cc_model.specs.History.{history}
 use Rattle.cc_model.specs.Holds.{holds_of}
@@ -28,6 +27,7 @@ use Rattle.cc_visits.specs.Ways.{IsFullError}
 use Rattle.cc_visits.proofs.Attempting.{number-is, may-as, visited-same, full-stop}
 use Rattle.cc_visits.proofs.Placing.{stepping-failed}
 use Rattle.cc_visits.proofs.Visiting.{Visiting, Visited, visited}
+use Rattle.cc_writes.specs.Fetch.{CanCall, WentOn}
 use Rattle.cc_nocache.specs.Shapes.{IsPageOf, IsShape, RefuseLeft}
 use Rattle.cc_nocache.proofs.Misshapen.{page-filed, page-answered}
 

@@ -11,15 +11,15 @@ use Rattle.cc_effects.specs.Moments.{IsIdle}
 use Rattle.cc_effects.specs.Noncached.{AlignedWriteLeft, IsPageWritten, MisshapenLeft, PageWritesRefused, PagesWritten, ShapedWriteLeft, shape_refusal}
 use Rattle.cc_effects.proofs.Starts.{begins}
 use Rattle.cc_effects.proofs.Stretches.{idle-none}
-use Rattle.cc_fetch.specs.Fetch.{CanCall, WentOn}
-use Rattle.cc_fetch.proofs.Beginning.{idle, number_both, setup_both}
-use Rattle.cc_fetch.proofs.Fullness.{full-more}
 use Rattle.cc_model.specs.Good.{IsGood}
 use Rattle.cc_model.specs.Setup.{Setup}
 use Rattle.cc_model.specs.Sizes.{stored_range}
 use Rattle.cc_turns.specs.Standing.{Standing}
 use Rattle.cc_turns.specs.Takes.{Takes, with_book, with_device, without_book, without_device}
 use Rattle.cc_visits.specs.Ways.{IsFullError}
+use Rattle.cc_writes.specs.Fetch.{CanCall, WentOn}
+use Rattle.cc_writes.proofs.TakingBoth.{idle, number_both, setup_both}
+use Rattle.cc_writes.proofs.Fullness.{full-more}
 use Rattle.cc_writes.proofs.Halting.{at-work}
 use Rattle.cc_nocache.specs.Answers.{write_of}
 use Rattle.cc_nocache.specs.WriteHeld.{PageLeft}

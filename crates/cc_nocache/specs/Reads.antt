@@ -5,11 +5,11 @@ use Rattle.cc_entry.specs.Place.{File}
 use Rattle.cc_entry.specs.declared.error.CcError.{CcError}
 use Rattle.cc_effects.specs.Moments.{Between}
 use Rattle.cc_effects.specs.Noncached.{NcReadLeft, PagesRead, PageReadsRefused}
-use Rattle.cc_fetch.specs.Fetch.{WentOn}
 use Rattle.cc_model.specs.Good.{IsGood}
 use Rattle.cc_model.specs.Setup.{Setup}
 use Rattle.cc_turns.specs.Standing.{Standing}
 use Rattle.cc_visits.specs.Ways.{IsFull}
+use Rattle.cc_writes.specs.Fetch.{WentOn}
 use Rattle.cc_nocache.specs.Answers.{IsFullAfter, KeepsRest, read_of}
 use Rattle.cc_nocache.specs.ReadVisits.{ReadEnded}
 use Rattle.cc_nocache.specs.declared.error.NcError.{NcError}

@@ -4,11 +4,11 @@ use Rattle.cc_entry.specs.Place.{File}
 use Rattle.cc_entry.specs.declared.error.CcError.{CcError}
 use Rattle.cc_effects.specs.Moments.{Between}
 use Rattle.cc_effects.specs.Noncached.{NcWriteLeft, PagesWritten, PageWritesRefused}
-use Rattle.cc_fetch.specs.Fetch.{WentOn}
 use Rattle.cc_model.specs.Good.{IsGood}
 use Rattle.cc_model.specs.Setup.{Setup}
 use Rattle.cc_turns.specs.Standing.{Standing}
 use Rattle.cc_visits.specs.Ways.{IsFull}
+use Rattle.cc_writes.specs.Fetch.{WentOn}
 use Rattle.cc_nocache.specs.Answers.{IsFullAfter, write_of}
 use Rattle.cc_nocache.specs.WriteHeld.{PageLeft}
 use Rattle.cc_nocache.specs.declared.error.NcError.{NcError}

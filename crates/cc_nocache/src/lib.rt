@@ -10,7 +10,7 @@
 //! them with the disk and the book of its stream in hand, `read_visits` its visits to the journal, and `read_steps` what
 //! it does there on the book. `writes`, `write_held`, `write_visits` and `write_steps` are the same of a write until its
 //! page is ready; `pages` puts it on the disk, `stores` stores it and `ends` ends the write. The calls stand on the
-//! visits of a pass (`cc_visits`), the writing of a page (`cc_writes`) and the rounds of a call (`cc_fetch`).
+//! visits of a pass (`cc_visits`), and the writing of a page and the rounds of a call (`cc_writes`).
 #![tactic(auto)]
 
 mod ends;

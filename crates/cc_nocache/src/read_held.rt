@@ -7,17 +7,16 @@ ghost use Rattle.cc_effects.specs.Calls.{IsUnderWay};
 ghost use Rattle.cc_visits.specs.Hands.{HasBook, IsAtRest, SameDisk, Went, WentWith};
 ghost use Rattle.cc_visits.specs.Ways.{IsFull, IsFullError};
 ghost use Rattle.cc_writes.specs.Writes.{HasBoth};
-ghost use Rattle.cc_fetch.specs.Rounds.{WasTold};
+ghost use Rattle.cc_writes.specs.Rounds.{WasTold};
 ghost use Rattle.cc_nocache.specs.ReadVisits.{IsAtRead, IsReading, IsToWriteFirst, ReadEnded};
 
 use crate::read_visits::{Look, land_at, look_at, unread_at};
 use cc_book::Book;
 use cc_entry::{Call, CcError, FileId};
-use cc_fetch::read_free;
 use cc_traits::Stop;
 use cc_turns::Turns;
 use cc_visits::{fail_at, release_at};
-use cc_writes::write_for;
+use cc_writes::{read_free, write_for};
 use std::alloc::Global;
 
 /// Reads a page of a stream past its cache, into the front of `out`, and answers how many bytes it has. The page is

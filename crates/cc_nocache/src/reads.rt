@@ -1,7 +1,7 @@
 //! Noncached reads.
 
 ghost use Rattle.std.specs.Prelude.{◌≡◌, ◌+◌, ◌*◌, ◌<◌, ◌≤◌, ◌^◌, length};
-ghost use Rattle.cc_fetch.specs.Fetch.{CanCall};
+ghost use Rattle.cc_writes.specs.Fetch.{CanCall};
 ghost use Rattle.cc_nocache.specs.Reads.{NcReadEnds, PageReadEnds, PagesReadEnds};
 
 use crate::error::NcError;

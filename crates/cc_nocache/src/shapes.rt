@@ -4,13 +4,13 @@ ghost use Rattle.std.specs.Prelude.{◌≡◌, ◌<◌, List};
 ghost use Rattle.cc_entry.specs.declared.entry.Entry.{Entry};
 ghost use Rattle.cc_book.specs.Book.{BookStands};
 ghost use Rattle.cc_effects.specs.Noncached.{MisshapenLeft, shape_refusal};
-ghost use Rattle.cc_fetch.specs.Fetch.{CanCall, WentOn};
 ghost use Rattle.cc_model.specs.Good.{IsGood};
 ghost use Rattle.cc_model.specs.History.{history};
 ghost use Rattle.cc_model.specs.Setup.{Setup};
 ghost use Rattle.cc_step.specs.Step.{MayStep};
 ghost use Rattle.cc_visits.specs.Hands.{HasBook, Went};
 ghost use Rattle.cc_visits.specs.Ways.{IsFullError};
+ghost use Rattle.cc_writes.specs.Fetch.{CanCall, WentOn};
 ghost use Rattle.cc_nocache.specs.Shapes.{IsPageOf, IsShape, RefuseLeft, refusal_first};
 
 use cc_book::Book;

@@ -13,10 +13,9 @@ use crate::pages::put_page;
 use crate::write_visits::{Step, next_at};
 use cc_book::Book;
 use cc_entry::{Call, CcError, FileId, PageId};
-use cc_fetch::Rounds;
 use cc_turns::Turns;
 use cc_visits::fail_at;
-use cc_writes::{LogFlush, flush_log, write_for};
+use cc_writes::{LogFlush, Rounds, flush_log, write_for};
 use std::alloc::Global;
 
 // More rounds than the write of a page takes that makes room: the 64 pages of the block to give up are written with the

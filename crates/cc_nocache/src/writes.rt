@@ -1,7 +1,7 @@
 //! Noncached writes.
 
 ghost use Rattle.std.specs.Prelude.{◌≡◌, ◌+◌, ◌*◌, ◌<◌, ◌≤◌, ◌^◌, length};
-ghost use Rattle.cc_fetch.specs.Fetch.{CanCall};
+ghost use Rattle.cc_writes.specs.Fetch.{CanCall};
 ghost use Rattle.cc_nocache.specs.Writes.{NcWriteEnds, PageWriteEnds, PagesWriteEnds};
 
 use crate::error::NcError;

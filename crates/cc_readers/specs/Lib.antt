@@ -9,3 +9,5 @@ pub mod RefusalReads
 pub mod Changes
 pub mod TransferReads
 pub mod ByteOrigins
+pub mod FaultReads
+pub mod FlushReads

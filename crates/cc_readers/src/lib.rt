@@ -1,13 +1,14 @@
 //! Readers: what the definitions say of a journal, computed.
 //!
 //! Each reader goes over the entries of a journal, oldest first, and answers what its definition of `cc_model`
-//! gives: sizes, bytes, holds, dirty and resident pages, LSNs, and the refusal of a call. That is its contract,
-//! wherever it has memory. The readers are slow and simple on purpose: a test makes a journal, asks the part of
-//! the cache that keeps the same fact, and compares.
+//! gives: sizes, bytes, holds, dirty and resident pages, LSNs, the refusal of a call, and of a pass whether a flush
+//! or a noncached write is finished and which fault it met. That is its contract, wherever it has memory. The
+//! readers are slow and simple on purpose: a test makes a journal, asks the part of the cache that keeps the same
+//! fact, and compares.
 //!
 //! The crate stands on `cc_entry`, for the values, on `cc_model`, for the definitions, and on `cc_events` and
-//! `cc_laws`, for the lemmas on how they step. No part of the cache stands on it: only tests do, those of
-//! `cc_tests`.
+//! `cc_laws`, for the lemmas on how they step. Above stand the World of `cc_world`, which keeps nothing of a pass, and
+//! tests, those of `cc_tests`. The calls over turns do not stand on it.
 #![tactic(auto)]
 
 pub mod blocks;
@@ -15,16 +16,20 @@ pub mod bytes;
 pub mod conflicts;
 pub mod dirty;
 pub mod discards;
+pub mod faults;
+pub mod flushed;
 pub mod holds;
 pub mod maps;
 pub mod needs;
 pub mod pages;
+pub mod passes;
 pub mod pins;
 pub mod reasons;
 pub mod refusals;
 pub mod residents;
 pub mod sizes;
 pub mod stamps;
+pub mod stores;
 pub mod touches;
 pub mod transfers;
 pub mod views;

@@ -14,4 +14,5 @@ mod replies;
 mod steps;
 
 pub use faults::{Failed, fail};
-pub use steps::{Stepped, attempt, waits_for};
+pub use replies::reply;
+pub use steps::{Stepped, absent, attempt, places_asked, places_spared, waits_for};

@@ -18,7 +18,7 @@ use cc_table::lsns;
 use std::alloc::Global;
 
 /// What a call answers that nothing refuses and whose pages are resident.
-pub(crate) fn reply<Q>(
+pub fn reply<Q>(
     alloc: Global,
     book: &Book,
     journal: &Journal<Q>,

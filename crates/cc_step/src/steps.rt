@@ -249,8 +249,8 @@ fn place<Q>(
     }
 }
 
-// The least page that a call needs which nothing refuses, and that is not resident.
-fn absent(book: &Book, call: &Call) -> Option<u64>
+/// The least page that a call needs which nothing refuses, and that is not resident.
+pub fn absent(book: &Book, call: &Call) -> Option<u64>
     requires stepped { is_stepped call.now ≡ true }
     ensures { (u : Setup) (opening : Option (ℕ → List ℕ)) (past : List Entry) → BookStands opening past book.now →
         refusal u past (history past book.now.stream) call.now ≡ None →
@@ -281,8 +281,8 @@ fn absent_below(book: &Book, at: u64, len: u64) -> Option<u64>
     book.first_absent(at, to)
 }
 
-// How many places a call asks that is done, with that of its entry.
-fn places_asked(book: &Book, call: &Call) -> u32
+/// How many places a call asks that is done, with that of its entry.
+pub fn places_asked(book: &Book, call: &Call) -> u32
     ensures { (opening : Option (ℕ → List ℕ)) (past : List Entry) → BookStands opening past book.now →
         result ≡ asked_now past book.now.stream call.now }
 {
@@ -300,8 +300,8 @@ fn places_asked(book: &Book, call: &Call) -> u32
     }
 }
 
-// How many reserved places a call gives back beside that of its entry.
-fn places_spared(book: &Book, call: &Call) -> u32
+/// How many reserved places a call gives back beside that of its entry.
+pub fn places_spared(book: &Book, call: &Call) -> u32
     ensures { (opening : Option (ℕ → List ℕ)) (past : List Entry) → BookStands opening past book.now →
         result ≡ places_spared (holds_of (history past book.now.stream)) call.now }
 {

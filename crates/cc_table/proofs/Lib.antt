@@ -2,3 +2,4 @@
 pub mod RowLsns
 pub mod StreamLsns
 pub mod LogRows
+pub mod AnyRows

@@ -5,10 +5,9 @@ use Rattle.std.specs.declared.option.Option.TheVariants.{Some, None}
 use Rattle.std.proofs.Common.{arith, sym, ap, subst, ◌∙◌, inl, inr}
 use Rattle.std.proofs.lemmas.Bool.{eq-eqb, eqb-true, and_parts}
 use Rattle.std.proofs.lemmas.List.FromFn.{length-map-range_with_len, get_or-map-range_with_len}
-use Rattle.std.specs.List.{range_with_len}
+use Rattle.std.specs.List.{list_all, range_with_len}
 use Rattle.std.proofs.lemmas.List.{ext_get_or}
 use Rattle.std.proofs.lemmas.List.Elements.{Contains-append_left, Contains-append_right, Contains-append_cases, Contains-push}
-use Rattle.cc_entry.specs.Place.{Page}
 use Rattle.cc_entry.specs.declared.entry.Entry.{Entry}
 use Rattle.cc_entry.specs.declared.entry.Entry.TheVariants as entry
 use Rattle.cc_entry.specs.declared.entry.End.{End}
@@ -22,20 +21,18 @@ use Rattle.cc_content.specs.Contents.{IsByteOf}
 use Rattle.cc_effects.specs.Failures.{failures}
 use Rattle.cc_laws.proofs.HistorySteps.{history-write_begin, history-write_end}
 use Rattle.cc_laws.proofs.ImageSteps.{begun-began_page, image-began, image-ended_good, image-ended_bad, image-ended_other, crash_pages-began_page, crash_pages-began_other, crash_pages-ended}
-use Rattle.cc_laws.proofs.KeptLaws.{SameImages-deviceless, SameCrash-deviceless}
 use Rattle.cc_model.specs.Bytes.{byte_of, page_bytes, page_size}
-use Rattle.cc_model.specs.History.{Effect, Began, Ended, history}
-use Rattle.cc_model.specs.Images.{Transfer, open_of, begun, image, crash_pages}
+use Rattle.cc_model.specs.History.{Effect, Ended, history}
+use Rattle.cc_model.specs.Images.{open_of, begun, image, crash_pages}
 use Rattle.cc_model.specs.Sizes.{ended_ok}
-use Rattle.cc_model.specs.Turns.{Device, is_quiet}
 use Rattle.cc_turns.specs.Standing.{DiskAtFirst}
-use Rattle.cc_turns.specs.Disk.{DiskStands, HasGone, all_ended_well, is_transferred, opening_of}
-use Rattle.cc_turns.proofs.DiskGrows.{failures-quiet, all_ended_well-quiet}
-use Rattle.cc_transfer.specs.Transfers.{CanTransfer, end_of, faults_by, transferred}
-use Rattle.cc_transfer.proofs.Keeping.{both_so}
+use Rattle.cc_turns.specs.Disk.{DiskStands, HasGone, all_ended_well, opening_of}
+use Rattle.cc_transfer.specs.Transfers.{IsUnderWay, end_of, faults_by, leaves_transfer}
+use Rattle.cc_transfer.proofs.Keeping.{both_so, kept_by_entries, image-left, crash_pages-left, all_ended_well-left, begun-left}
+use Rattle.cc_transfer.proofs.OpenTransfers.{all_ended_well-began, is_transferred-none}
 
--- A transfer of a page is under way, on a disk that stood for what was before its begin; what was placed since has
--- not touched the disk.
+-- A transfer of a page is under way, on a disk that stood for what was before its begin: h is the history then, g the
+-- one now.
 record UnderWay (h g : List Effect) (page : ℕ) (bytes : List ℕ) (opening old : Disk) : Type 0 where
   gone : HasGone h opening old
   at_rest : open_of h ≡ None
@@ -86,11 +83,6 @@ crash-added {h = h} {g = g} {page = page} {bytes = bytes} {opening = opening} {o
     go false other =
         rw (crash-other way pass p how other)
         (way.gone.crash p content alone (subst (λ contents. Contains contents content) (may-other page p bytes old new adds other) among))
-
--- nothing is under way at the begin
-is_transferred-none : (o : Option Transfer) (p : ℕ) → o ≡ None → is_transferred o p ≡ false
-is_transferred-none None p none = refl
-is_transferred-none (Some t) p none = absurd (cc)
 
 -- where with this end all transfers of a page ended well, those before did, and it did if it is of the page
 ended_before : (pass page : ℕ) (how : End) (g : List Effect) (p : ℕ) → all_ended_well (Ended pass page how ∷ g) p ≡ true → all_ended_well g p ≡ true
@@ -207,32 +199,31 @@ whole_page pages h page bytes whole at =
     at i (rw (sym whole) low)
     ∙ sym (get_or-map-range_with_len (byte_of pages h) (4096 * page) 4096 i (4096 * page + i) 0 (rw (sym whole) low) refl))
 
--- a begin ends no transfer
-all_ended_well-began : (pass page : ℕ) (h : List Effect) (p : ℕ) → all_ended_well (Began pass page ∷ h) p ≡ all_ended_well h p
-unfolding all_ended_well
-all_ended_well-began pass page h p = refl
-
--- a transfer is under way where what was placed since its begin does not need the disk
-under_way : (before later : List Entry) (s pass page : ℕ) (bytes : List ℕ) (opening old : Disk) → is_quiet (Device s) later ≡ true → HasGone (history before s) opening old → open_of (history before s) ≡ None → bytes ≡ page_bytes (page_of opening) (history before s) page → UnderWay (history before s) (history (later ++ entry.WriteBegin pass (record { stream = s; page = page }) ∷ before) s) page bytes opening old
-under_way before later s pass page bytes opening old quiet gone at_rest bytes_are =
-    let begin : Entry = entry.WriteBegin pass (record { stream = s; page = page }) in
+-- the facts of a transfer under way, where only entries came since its begin that leave it
+under_way : (before later : List Entry) (s pass page : ℕ) (bytes : List ℕ) (opening old : Disk) → list_all (leaves_transfer s) later ≡ true → HasGone (history before s) opening old → open_of (history before s) ≡ None → bytes ≡ page_bytes (page_of opening) (history before s) page → UnderWay (history before s) (history (later ++ entry.WriteBegin pass (record { stream = s; page = page }) ∷ before) s) page bytes opening old
+under_way before later s pass page bytes opening old left gone at_rest bytes_are =
+    let now = entry.WriteBegin pass (record { stream = s; page = page }) ∷ before in
     let began = history-write_begin pass (record { stream = s; page = page }) before s (eq-eqb s s refl) in
-    let images = SameImages-deviceless later (begin ∷ before) s quiet in
-    let crash = SameCrash-deviceless later (begin ∷ before) s quiet in
     let h = history before s in
     let pages = page_of opening in
     record {
       gone = gone;
       at_rest = at_rest;
       bytes_are = λ p same. bytes_are ∙ ap (page_bytes pages h) (eqb-true page p same);
-      begun_is = λ p same. images.same_front p ∙ (ap (λ k. begun k p) began ∙ begun-began_page pass page h p same);
-      images = λ p. images.same_image pages p ∙ (ap (λ k. image pages k p) began ∙ image-began pages pass page h p);
+      begun_is = λ p same.
+          kept_by_entries (λ k. begun k p) (begun-left p) later now s left
+          ∙ (ap (λ k. begun k p) began ∙ begun-began_page pass page h p same);
+      images = λ p.
+          kept_by_entries (λ k. image pages k p) (image-left pages p) later now s left
+          ∙ (ap (λ k. image pages k p) began ∙ image-began pages pass page h p);
       crash_page = λ p same.
-          crash.same_crash pages p ∙ (ap (λ k. crash_pages pages k p) began ∙ crash_pages-began_page pages pass page h p same);
+          kept_by_entries (λ k. crash_pages pages k p) (crash_pages-left pages p) later now s left
+          ∙ (ap (λ k. crash_pages pages k p) began ∙ crash_pages-began_page pages pass page h p same);
       crash_other = λ p other.
-          crash.same_crash pages p ∙ (ap (λ k. crash_pages pages k p) began ∙ crash_pages-began_other pages pass page h p other);
+          kept_by_entries (λ k. crash_pages pages k p) (crash_pages-left pages p) later now s left
+          ∙ (ap (λ k. crash_pages pages k p) began ∙ crash_pages-began_other pages pass page h p other);
       well = λ p.
-          all_ended_well-quiet later (begin ∷ before) s p quiet
+          kept_by_entries (λ k. all_ended_well k p) (all_ended_well-left p) later now s left
           ∙ (ap (λ k. all_ended_well k p) began ∙ all_ended_well-began pass page h p);
     }
 
@@ -256,37 +247,33 @@ both_ended h g pass page bytes (Err stop.NoMemory) first old new way wrote faile
     subst (λ now. Both first now (HasGone (Ended pass page end.NoMemory ∷ g))) (sym no_memory)
     (both_so (HasGone h) (HasGone (Ended pass page end.NoMemory ∷ g)) first old (λ x y is stood. gone_nowhere (way x y is stood) pass) gone)
 
--- a transfer shows a failure of its disk where its end says so
-failures-transferred : (pass s page : ℕ) (how : End) (later before : List Entry) → is_quiet (Device s) later ≡ true → failures s (transferred pass s page how later before) ≡ failures s before + faults_by how
+-- the end of a transfer shows a failure of its disk where it says so
+failures-ended : (pass s page : ℕ) (how : End) (past : List Entry) → failures s (entry.WriteEnd pass (record { stream = s; page = page }) how ∷ past) ≡ failures s past + faults_by how
 unfolding failures
-failures-transferred pass s page how later before quiet =
-    let begin : Entry = entry.WriteBegin pass (record { stream = s; page = page }) in
-    go how (failures-quiet later (begin ∷ before) s quiet)
-  where
-    go : (how : End) → failures s (later ++ entry.WriteBegin pass (record { stream = s; page = page }) ∷ before) ≡ failures s before → failures s (transferred pass s page how later before) ≡ failures s before + faults_by how
-    go end.Good same = rw (eq-eqb s s refl) (omega (arith, same))
-    go end.Failed same = rw (eq-eqb s s refl) (omega (arith, same))
-    go end.NoMemory same = rw (eq-eqb s s refl) (omega (arith, same))
+failures-ended pass s page end.Good past = rw (eq-eqb s s refl) (omega arith)
+failures-ended pass s page end.Failed past = rw (eq-eqb s s refl) (omega arith)
+failures-ended pass s page end.NoMemory past = rw (eq-eqb s s refl) (omega arith)
 
 pub faults_by-end : (written : Result (Unit {0}) Stop) → faults_in written ≡ faults_by (end_of written)
 faults_by-end (Ok done) = refl
 faults_by-end (Err stop.Failed) = refl
 faults_by-end (Err stop.NoMemory) = refl
 
--- After a transfer the disk stands for its begin and its end.
-pub DiskStands-transferred : {D : Type 0} (told : D → Option Disk) (faults : D → ℕ) (first : DiskAtFirst) (before later : List Entry) (s pass page : ℕ) (bytes : List ℕ) (written : Result (Unit {0}) Stop) (old new : D) → OnOk written (Both (told old) (told new) (Wrote page bytes)) → OnFailed written (Both (told old) (told new) (WriteFailed page bytes)) → OnNoMemory written (told new ≡ told old) → faults new ≡ faults old + faults_in written → CanTransfer told faults first before s page bytes old → is_quiet (Device s) later ≡ true → DiskStands told faults first (transferred pass s page (end_of written) later before) s new
-DiskStands-transferred told faults first before later s pass page bytes written old new wrote failed no_memory counted can quiet =
-    let at : Page = record { stream = s; page = page } in
-    let past = later ++ entry.WriteBegin pass at ∷ before in
+-- With the end of a transfer that was under way the disk stands for the past again.
+pub DiskStands-ended : {D : Type 0} (told : D → Option Disk) (faults : D → ℕ) (first : DiskAtFirst) (past : List Entry) (pass s page : ℕ) (bytes : List ℕ) (written : Result (Unit {0}) Stop) (old new : D) → OnOk written (Both (told old) (told new) (Wrote page bytes)) → OnFailed written (Both (told old) (told new) (WriteFailed page bytes)) → OnNoMemory written (told new ≡ told old) → faults new ≡ faults old + faults_in written → IsUnderWay told faults first past pass s page bytes old → DiskStands told faults first (entry.WriteEnd pass (record { stream = s; page = page }) (end_of written) ∷ past) s new
+DiskStands-ended told faults first past pass s page bytes written old new wrote failed no_memory counted way =
+    let h = history way.before s in
     record {
-      has_gone = rw (history-write_end pass at (end_of written) past s (eq-eqb s s refl))
-          (both_ended (history before s) (history past s) pass page bytes written first.told (told old) (told new)
-          (λ opening now is stood. under_way before later s pass page bytes opening now quiet stood can.at_rest
-          (whole_page (page_of opening) (history before s) page bytes can.whole
-          (λ i low. subst (λ o. IsByteOf (opening_of o) (history before s) (4096 * page + i) (slice_index bytes i)) is (can.bytes_are i low))))
-          wrote failed no_memory can.stands.has_gone);
+      has_gone = rw (history-write_end pass (record { stream = s; page = page }) (end_of written) past s (eq-eqb s s refl))
+          (both_ended h (history past s) pass page bytes written first.told (told old) (told new)
+          (λ opening now is stood.
+          subst (λ (entries : List Entry). UnderWay h (history entries s) page bytes opening now) (sym way.began)
+          (under_way way.before way.later s pass page bytes opening now way.left stood way.can.at_rest
+          (whole_page (page_of opening) h page bytes way.can.whole
+          (λ i low. subst (λ o. IsByteOf (opening_of o) h (4096 * page + i) (slice_index bytes i)) is (way.can.bytes_are i low)))))
+          wrote failed no_memory way.can.stands.has_gone);
       counted =
-          let was = can.stands.counted in
+          let was = way.stands.counted in
           let same = faults_by-end written in
-          rw (failures-transferred pass s page (end_of written) later before quiet, counted) (omega (arith, was, same));
+          rw (failures-ended pass s page (end_of written) past, counted) (omega (arith, was, same));
     }

@@ -1,7 +1,8 @@
 -- What a read of a page, a transfer of one and a sync may rest on, and what they leave in the journal.
-use Rattle.std.specs.Prelude.{◌≡◌, ℕ, ◌+◌, ◌*◌, ◌<◌, false, List, ◌∷◌, ◌++◌, length, slice_index, Result, Ok, Err}
+use Rattle.std.specs.Prelude.{◌≡◌, ℕ, ◌+◌, ◌*◌, ◌<◌, Bool, true, false, not, ◌||◌, ◌==◌, List, ◌∷◌, ◌++◌, length, slice_index, Result, Ok, Err}
 use Rattle.std.specs.declared.option.Option.{Option}
 use Rattle.std.specs.declared.option.Option.TheVariants.{None}
+use Rattle.std.specs.List.{list_all}
 use Rattle.cc_entry.specs.declared.entry.Entry.{Entry}
 use Rattle.cc_entry.specs.declared.entry.Entry.TheVariants as entry
 use Rattle.cc_entry.specs.declared.entry.End.{End}
@@ -15,6 +16,7 @@ use Rattle.cc_model.specs.History.{history}
 use Rattle.cc_model.specs.Images.{open_of}
 use Rattle.cc_model.specs.Residency.{is_resident}
 use Rattle.cc_model.specs.Setup.{Setup}
+use Rattle.cc_model.specs.Sizes.{ended_ok}
 use Rattle.cc_turns.specs.Standing.{DiskAtFirst}
 use Rattle.cc_turns.specs.Disk.{DiskStands, opening_of}
 
@@ -35,6 +37,25 @@ pub record CanTransfer {D : Type 0} (told : D → Option Disk) (faults : D → �
   pub whole : length bytes ≡ 4096
   pub bytes_are : (i : ℕ) → i < 4096 →
       IsByteOf (opening_of first.told) (history before s) (4096 * page + i) (slice_index bytes i)
+
+-- Whether an entry changes neither which transfer of the stream is open, nor an image of its pages, nor what a crash
+-- may leave of them: it begins and ends no transfer of the stream, and is no good sync of it.
+abbrev pub leaves_transfer : ℕ → Entry → Bool
+leaves_transfer s (entry.WriteBegin pass page) = not (page.stream == s)
+leaves_transfer s (entry.WriteEnd pass page how) = not (page.stream == s)
+leaves_transfer s (entry.Sync pass stream how) = not (stream == s) || not (ended_ok how)
+leaves_transfer s other = true
+
+-- A transfer of a page is under way: a pass began it, and the entries since leave it so. The disk stands for the past.
+-- It was not written since the begin, so the page may be transferred to it as before that.
+pub record IsUnderWay {D : Type 0} (told : D → Option Disk) (faults : D → ℕ) (first : DiskAtFirst)
+    (past : List Entry) (pass s page : ℕ) (bytes : List ℕ) (disk : D) : Type 0 where
+  pub stands : DiskStands told faults first past s disk
+  pub before : List Entry
+  pub later : List Entry
+  pub began : past ≡ later ++ entry.WriteBegin pass (record { stream = s; page = page }) ∷ before
+  pub left : list_all (leaves_transfer s) later ≡ true
+  pub can : CanTransfer told faults first before s page bytes disk
 
 -- the entry of a pass for a page that the disk failed to read
 abbrev pub fill_failed : ℕ → ℕ → ℕ → Entry

@@ -8,7 +8,9 @@
 //!
 //! It stands on the disks of `cc_traits` and the definitions. It knows no turn and no book: it says of any past what
 //! the disk then stands for. Whoever has the turns of the disk, the book and the journal chooses the page and places
-//! the entries; `cc_transfer.proofs.Keeping` has what they need for the other entries that they place meanwhile.
+//! the entries. `cc_transfer.proofs.Keeping` has what they need for the other entries that they place meanwhile,
+//! `OpenTransfers` the same for a transfer that is under way, `Rooms` what entries of transfers and logs reserve, and
+//! `Handles` that the log of a stream is one of the setup's.
 #![tactic(auto)]
 
 mod transfers;

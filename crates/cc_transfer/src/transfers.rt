@@ -3,6 +3,7 @@
 ghost use Rattle.std.specs.Prelude.{◌≡◌, ℕ, ◌+◌, true, List, ◌∷◌, OnOk};
 ghost use Rattle.std.specs.declared.option.Option.TheVariants.{None};
 ghost use Rattle.cc_entry.specs.declared.entry.Entry.{Entry};
+ghost use Rattle.cc_entry.specs.declared.entry.Entry.TheVariants as entry;
 ghost use Rattle.cc_traits.specs.Stop.{faults_in, OnFailed};
 ghost use Rattle.cc_content.specs.Filling.{IsReadFrom};
 ghost use Rattle.cc_model.specs.History.{history};
@@ -11,7 +12,7 @@ ghost use Rattle.cc_model.specs.Setup.{Setup};
 ghost use Rattle.cc_model.specs.Turns.{Device, is_quiet};
 ghost use Rattle.cc_turns.specs.Standing.{DiskAtFirst};
 ghost use Rattle.cc_turns.specs.Disk.{DiskStands, opening_of};
-ghost use Rattle.cc_transfer.specs.Transfers.{CanRead, CanTransfer, end_of, faults_by, fill_failed, synced, transferred};
+ghost use Rattle.cc_transfer.specs.Transfers.{CanRead, CanTransfer, IsUnderWay, end_of, faults_by, fill_failed, synced, transferred};
 
 use cc_entry::End;
 use cc_traits::{PageDisk, Stop};
@@ -33,6 +34,9 @@ pub fn read<D: PageDisk>(disk: &mut D, page: u64, raw: &mut [u8; 4096]) -> Resul
 
 /// Writes a page to the disk, and says how that ended. The bytes are those that the page had as its transfer began.
 pub fn transfer<D: PageDisk>(disk: &mut D, page: u64, bytes: &[u8; 4096]) -> End
+    ensures under_way { (first : DiskAtFirst) (past : List Entry) (pass s : ℕ) →
+        IsUnderWay D.told D.faults first past pass s page bytes.now disk.old →
+        DiskStands D.told D.faults first (entry.WriteEnd pass (record { stream = s; page = page }) result ∷ past) s disk.new }
     ensures ended { (first : DiskAtFirst) (before later : List Entry) (s pass : ℕ) →
         CanTransfer D.told D.faults first before s page bytes.now disk.old → is_quiet (Device s) later ≡ true →
         DiskStands D.told D.faults first (transferred pass s page result later before) s disk.new }

@@ -1,9 +1,7 @@
--- Lemmas of the writing of a page, each before those that cite it.
+-- Lemmas of the writing of a page, and of the rounds of a call, each before those that cite it.
 pub mod Visits
 pub mod Quiet
 pub mod Placed
-pub mod Rooms
-pub mod Handles
 pub mod Works
 pub mod Logging
 pub mod Flushing
@@ -17,3 +15,12 @@ pub mod Shown
 pub mod Disks
 pub mod Halting
 pub mod Calling
+pub mod ReadFailures
+pub mod Reading
+mod Reached
+mod Going
+mod Bringing
+mod Stepping
+mod Repeated
+pub mod Fullness
+pub mod TakingBoth

@@ -33,7 +33,7 @@ use Rattle.cc_writes.specs.declared.log.LogFlush.TheVariants as flush
 use Rattle.cc_writes.proofs.Visits.{Visiting, Visited, visited, stepping-none, grows-then, placed-then}
 use Rattle.cc_writes.proofs.Quiet.{is_held, floor_of-held, flushed_to-grows, flushed_to-held, next_lsn-held}
 use Rattle.cc_writes.proofs.Placed.{good-appended, good-flushed, good-log_failed, quiet-log}
-use Rattle.cc_writes.proofs.Rooms.{reserved-appended, reserved-flushed, reserved-log_failed}
+use Rattle.cc_transfer.proofs.Rooms.{reserved-appended, reserved-flushed, reserved-log_failed}
 
 -- the entry of a log whose turn is held may stand
 pub may_log-good : (w : Standing) (e : Entry) (past : List Entry) → MayLog w e → Grows w past → IsGood w.setup past → IsGood w.setup (e ∷ past)

@@ -3,3 +3,5 @@ pub mod Writes
 pub mod Logs
 pub mod Transfers
 pub mod Calls
+pub mod Fetch
+pub mod Rounds

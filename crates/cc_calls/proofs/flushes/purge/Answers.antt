@@ -5,13 +5,13 @@ use Rattle.cc_entry.specs.declared.call.Call.TheVariants as call
 use Rattle.cc_entry.specs.declared.entry.Entry.{Entry}
 use Rattle.cc_effects.specs.Calls.{CallLeft}
 use Rattle.cc_effects.proofs.Starts.{begins}
-use Rattle.cc_fetch.specs.Fetch.{CanCall}
-use Rattle.cc_fetch.proofs.Beginning.{both_begun, left_since}
 use Rattle.cc_model.specs.Good.{IsGood}
 use Rattle.cc_model.specs.Setup.{Setup}
 use Rattle.cc_turns.specs.Standing.{Standing}
 use Rattle.cc_turns.specs.Takes.{without_device}
 use Rattle.cc_visits.specs.Ways.{IsFull}
+use Rattle.cc_writes.specs.Fetch.{CanCall}
+use Rattle.cc_writes.proofs.TakingBoth.{both_begun, left_since}
 use Rattle.cc_calls.specs.Answers.{outcome_of}
 use Rattle.cc_calls.proofs.FlushCalls.{full-given, setup-both, went-both}
 use Rattle.cc_calls.proofs.PurgeCalls.{purge-ends}

@@ -1,7 +1,7 @@
 use Rattle.std.proofs.Common.{subst}
 use Rattle.cc_entry.specs.declared.entry.End.{End}
 use Rattle.cc_flush.specs.Flush.{IsAtEnd}
-use Rattle.cc_flush.proofs.Holding.{memoryless-left}
+use Rattle.cc_flush.proofs.FlushHolding.{memoryless-left}
 use Rattle.cc_flush.proofs.flush.end.Goals as goal
 
 pub returns-in-NoMemory-clause-left : goal.returns-in-NoMemory-clause-left

@@ -7,7 +7,7 @@ use Rattle.cc_entry.specs.declared.call.Call.TheVariants as call
 use Rattle.cc_flush.specs.Flush.{IsFlushing, IsRising, RoundLeft, RoundWent, outcome_of}
 use Rattle.cc_flush.specs.declared.flush.Round.{Round}
 use Rattle.cc_flush.specs.declared.flush.Round.TheVariants as round
-use Rattle.cc_flush.proofs.Holding.{some-flushing, round-on, comes-on, at-sync-on, ended-on}
+use Rattle.cc_flush.proofs.FlushHolding.{some-flushing, round-on, comes-on, at-sync-on, ended-on}
 use Rattle.cc_flush.proofs.flush.flush_held.Goals as goal
 
 pub write_next-now-requires-clause-flushing : goal.write_next-now-requires-clause-flushing

@@ -1,5 +1,5 @@
 use Rattle.std.specs.Prelude.{◌-◌, ◌^◌}
-use Rattle.cc_flush.proofs.Holding.{ComesOn}
+use Rattle.cc_flush.proofs.FlushHolding.{ComesOn}
 use Rattle.cc_flush.proofs.flush.flush_held.Given as goal
 
 abbrev pub invariant-pages : goal.invariant-pages

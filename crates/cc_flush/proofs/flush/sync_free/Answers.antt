@@ -7,7 +7,7 @@ use Rattle.cc_turns.specs.Standing.{Standing}
 use Rattle.cc_turns.specs.Takes.{Takes, with_book, without_book}
 use Rattle.cc_visits.specs.Hands.{WentWith}
 use Rattle.cc_visits.specs.Visits.{HasPlaced}
-use Rattle.cc_flush.proofs.Holding.{both-synced}
+use Rattle.cc_flush.proofs.FlushHolding.{both-synced}
 use Rattle.cc_flush.proofs.flush.sync_free.Goals as goal
 
 pub returns-clause-both : goal.returns-clause-both

@@ -3,7 +3,7 @@ use Rattle.std.specs.Prelude.{ℕ}
 use Rattle.std.proofs.Common.{sym, subst}
 use Rattle.cc_writes.proofs.Disks.{still_of}
 use Rattle.cc_flush.specs.Flush.{IsSyncTold, outcome_of}
-use Rattle.cc_flush.proofs.Holding.{at-end-of, ended-of}
+use Rattle.cc_flush.proofs.FlushHolding.{at-end-of, ended-of}
 use Rattle.cc_flush.proofs.flush.sync_held.Goals as goal
 
 pub end-answer-requires-clause-at : goal.end-answer-requires-clause-at

@@ -10,7 +10,7 @@ use Rattle.cc_writes.specs.Writes.{HasBoth, IsToWrite}
 use Rattle.cc_writes.proofs.Disks.{still_of}
 use Rattle.cc_flush.specs.Flush.{RoundLeft}
 use Rattle.cc_flush.specs.declared.flush.Round.{Round}
-use Rattle.cc_flush.proofs.Holding.{asks-page, round-wrote}
+use Rattle.cc_flush.proofs.FlushHolding.{asks-page, round-wrote}
 use Rattle.cc_flush.proofs.flush.write_next.Goals as goal
 
 pub write_for-book-requires-clause-both : goal.write_for-book-requires-clause-both

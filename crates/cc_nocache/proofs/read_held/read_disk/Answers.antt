@@ -5,8 +5,8 @@ use Rattle.cc_entry.specs.declared.error.CcError.TheVariants as error
 use Rattle.cc_traits.specs.declared.stop.Stop.{Stop}
 use Rattle.cc_visits.specs.Visits.{WasReadFor}
 use Rattle.cc_writes.proofs.Disks.{still_of}
-use Rattle.cc_fetch.proofs.Disks.{told_of}
-use Rattle.cc_fetch.proofs.Reading.{where_failed}
+use Rattle.cc_writes.proofs.ReadFailures.{told_of}
+use Rattle.cc_writes.proofs.Reading.{where_failed}
 use Rattle.cc_nocache.specs.ReadVisits.{IsAtRead, ReadEnded}
 use Rattle.cc_nocache.proofs.ReadCalls.{at_read-on}
 use Rattle.cc_nocache.proofs.ReadHolding.{said-before, said-after, no-room}

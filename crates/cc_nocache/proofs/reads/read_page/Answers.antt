@@ -3,13 +3,13 @@ use Rattle.std.proofs.Common.{ap, sym, ◌∙◌, subst}
 use Rattle.cc_entry.specs.declared.call.Call.TheVariants as call
 use Rattle.cc_entry.specs.declared.entry.Entry.{Entry}
 use Rattle.cc_effects.proofs.Starts.{begins}
-use Rattle.cc_fetch.specs.Fetch.{CanCall}
-use Rattle.cc_fetch.proofs.Beginning.{both_begun, left_since}
 use Rattle.cc_model.specs.Good.{IsGood}
 use Rattle.cc_model.specs.Setup.{Setup}
 use Rattle.cc_turns.specs.Standing.{Standing}
 use Rattle.cc_turns.specs.Takes.{without_device}
 use Rattle.cc_visits.specs.Ways.{IsFull}
+use Rattle.cc_writes.specs.Fetch.{CanCall}
+use Rattle.cc_writes.proofs.TakingBoth.{both_begun, left_since}
 use Rattle.cc_nocache.specs.ReadVisits.{ReadEnded}
 use Rattle.cc_nocache.proofs.ReadPages.{went-both, setup-both, full-both}
 use Rattle.cc_nocache.proofs.reads.read_page.Goals as goal

@@ -1,13 +1,13 @@
 use Rattle.std.specs.Prelude.{ℕ, List}
 use Rattle.std.proofs.Common.{ap, sym, ◌∙◌, subst}
 use Rattle.cc_entry.specs.declared.entry.Entry.{Entry}
-use Rattle.cc_fetch.specs.Fetch.{CanCall}
-use Rattle.cc_fetch.proofs.Beginning.{both_begun, setup_both}
 use Rattle.cc_model.specs.Good.{IsGood}
 use Rattle.cc_model.specs.Setup.{Setup}
 use Rattle.cc_turns.specs.Standing.{Standing}
 use Rattle.cc_turns.specs.Takes.{without_device}
 use Rattle.cc_visits.specs.Ways.{IsFull}
+use Rattle.cc_writes.specs.Fetch.{CanCall}
+use Rattle.cc_writes.proofs.TakingBoth.{both_begun, setup_both}
 use Rattle.cc_nocache.proofs.Callers.{went-both, full-both}
 use Rattle.cc_nocache.proofs.WritePages.{page-since}
 use Rattle.cc_nocache.proofs.writes.write_page.Goals as goal

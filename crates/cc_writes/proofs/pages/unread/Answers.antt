@@ -1,0 +1,30 @@
+-- A failed read is a fault that the call may tell, behind the entry of the fill that failed.
+use Rattle.std.specs.Prelude.{ℕ, Bool, refl}
+use Rattle.std.proofs.Common.{ap, sym, subst}
+use Rattle.cc_entry.specs.declared.error.CcError.TheVariants as error
+use Rattle.cc_model.specs.Setup.{Setup}
+use Rattle.cc_step.proofs.Failing.{stepped-answered}
+use Rattle.cc_turns.specs.Standing.{Standing}
+use Rattle.cc_visits.specs.Visits.{UnreadLeft}
+use Rattle.cc_visits.specs.Ways.{IsHalted}
+use Rattle.cc_visits.proofs.Refusals.{may-tell}
+use Rattle.cc_writes.proofs.pages.unread.Goals as goal
+
+pub fail-requires-clause-listed : goal.fail-requires-clause-listed
+fail-requires-clause-listed g c κs within = may-tell c.args.call (error.ReadFault c.args.page) (stepped-answered c.args.call c.requires.stepped) c.requires.brings refl
+
+pub fail-requires-clause-answered : goal.fail-requires-clause-answered
+fail-requires-clause-answered g c κs within = stepped-answered c.args.call c.requires.stepped
+
+pub fail-requires-clause-halted : goal.fail-requires-clause-halted
+fail-requires-clause-halted g c κs within =
+    let w = g.T.Turns.standing c.args.turns.now in
+    let v = g.T.Turns.standing c.unread_at.new.turns in
+    let wanted = c.requires.wanted in
+    let fault = error.ReadFault c.args.page in
+    let left = subst (λ (b : Bool). UnreadLeft w.setup w.number c.args.book.stream c.args.call c.args.page b wanted.0 v.seen) c.if-unread_at.true
+    (c.unread_at.ensures.left c.args.call wanted.0 c.requires.brings wanted.1 wanted.2) in (
+      wanted.0,
+      subst (λ (n : ℕ). IsHalted v.setup n c.args.book.stream c.args.call fault wanted.0 v.seen) (sym (ap (λ (x : Standing). x.number) c.unread_at.ensures.went.same))
+          (subst (λ (u : Setup). IsHalted u w.number c.args.book.stream c.args.call fault wanted.0 v.seen) (sym (ap (λ (x : Standing). x.setup) c.unread_at.ensures.went.same)) left),
+    )

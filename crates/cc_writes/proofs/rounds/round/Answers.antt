@@ -1,0 +1,181 @@
+-- By what the step asks: each turn of a page finds what it needs, and what it left is what a round may leave.
+use Rattle.std.specs.Prelude.{ℕ, suc, ◌≡◌, true, refl}
+use Rattle.std.proofs.Common.{subst, sym}
+use Rattle.cc_entry.specs.declared.call.Call.{Call}
+use Rattle.cc_effects.specs.Asked.{brings_in}
+use Rattle.cc_step.specs.Step.{is_answered, is_stepped}
+use Rattle.cc_step.proofs.Failing.{stepped-answered}
+use Rattle.cc_visits.specs.Visits.{IsOf}
+use Rattle.cc_writes.specs.Calls.{MayFaultInWriting}
+use Rattle.cc_writes.specs.Writes.{HasBoth}
+use Rattle.cc_writes.proofs.Disks.{still_of}
+use Rattle.cc_writes.specs.Fetch.{most_room}
+use Rattle.cc_writes.specs.Rounds.{RoundLeft, IsFullCourse}
+use Rattle.cc_writes.specs.declared.course.Course.{Course}
+use Rattle.cc_writes.proofs.Fullness.{full-ended, full-page}
+use Rattle.cc_writes.proofs.Going.{may-fault, may-write}
+use Rattle.cc_writes.proofs.Stepping.{to_write_call, to_read_call, to_write, to_read, round_wrote, round_read}
+use Rattle.cc_writes.proofs.rounds.round.Goals as goal
+
+pub returns-in-Ended-clause-both : goal.returns-in-Ended-clause-both
+returns-in-Ended-clause-both g c =
+    let w = g.T.Turns.standing c.args.turns.now in
+    let v = g.T.Turns.standing c.next_at.new.turns in
+    let s = c.args.book.stream in
+    still_of g.T.Disk.Told.told g.T.Disk.Told.faults w.in_flight w v s s c.args.book c.next_at.new.book c.args.disk.now refl c.requires.both
+    c.next_at.ensures.book c.next_at.ensures.rest c.in-Ended.ensures.went c.next_at.ensures.disk
+
+pub returns-in-WentOut-clause-both : goal.returns-in-WentOut-clause-both
+returns-in-WentOut-clause-both g c =
+    let w = g.T.Turns.standing c.args.turns.now in
+    let v = g.T.Turns.standing c.next_at.new.turns in
+    let s = c.args.book.stream in
+    still_of g.T.Disk.Told.told g.T.Disk.Told.faults w.in_flight w v s s c.args.book c.next_at.new.book c.args.disk.now refl c.requires.both
+    c.next_at.ensures.book c.next_at.ensures.rest c.in-WentOut.ensures.went c.next_at.ensures.disk
+
+pub write_for-book-requires-clause-both : goal.write_for-book-requires-clause-both
+write_for-book-requires-clause-both g c κs within =
+    let w = g.T.Turns.standing c.args.turns.now in
+    let v = g.T.Turns.standing c.next_at.new.turns in
+    let s = c.args.book.stream in
+    let told = g.T.Disk.Told.told in
+    let faults = g.T.Disk.Told.faults in
+    subst (λ (n : ℕ). HasBoth told faults v n c.next_at.new.book c.args.disk.now) (sym c.next_at.ensures.book.stream)
+    (still_of told faults w.in_flight w v s s c.args.book c.next_at.new.book c.args.disk.now refl c.requires.both
+    c.next_at.ensures.book c.next_at.ensures.rest c.in-Writes.ensures.went c.next_at.ensures.disk)
+
+pub write_for-book-requires-clause-answered : goal.write_for-book-requires-clause-answered
+write_for-book-requires-clause-answered g c κs within =
+    let w = g.T.Turns.standing c.args.turns.now in
+    let v = g.T.Turns.standing c.next_at.new.turns in
+    let s = c.args.book.stream in
+    subst (λ (it : Call). is_answered it ≡ true)
+    (sym (to_write_call w v s w.in_flight c.args.call c.in-Writes.call c.in-Writes.page c.args.out.now c.next_at.new.out c.in-Writes.ensures.went c.in-Writes.ensures.left))
+    (stepped-answered c.args.call c.requires.stepped)
+
+pub write_for-book-requires-clause-faults : goal.write_for-book-requires-clause-faults
+write_for-book-requires-clause-faults g c κs within =
+    let w = g.T.Turns.standing c.args.turns.now in
+    let v = g.T.Turns.standing c.next_at.new.turns in
+    let s = c.args.book.stream in
+    subst (λ (it : Call). MayFaultInWriting it)
+    (sym (to_write_call w v s w.in_flight c.args.call c.in-Writes.call c.in-Writes.page c.args.out.now c.next_at.new.out c.in-Writes.ensures.went c.in-Writes.ensures.left))
+    (may-fault c.args.call c.requires.stepped c.requires.brings)
+
+pub write_for-book-requires-clause-filed : goal.write_for-book-requires-clause-filed
+write_for-book-requires-clause-filed g c κs within =
+    let w = g.T.Turns.standing c.args.turns.now in
+    let v = g.T.Turns.standing c.next_at.new.turns in
+    let s = c.args.book.stream in
+    subst (λ (it : Call). IsOf it c.next_at.new.book.stream)
+    (sym (to_write_call w v s w.in_flight c.args.call c.in-Writes.call c.in-Writes.page c.args.out.now c.next_at.new.out c.in-Writes.ensures.went c.in-Writes.ensures.left))
+    (subst (λ (n : ℕ). IsOf c.args.call n) (sym c.next_at.ensures.book.stream) c.requires.filed)
+
+pub write_for-book-requires-clause-admitted : goal.write_for-book-requires-clause-admitted
+write_for-book-requires-clause-admitted g c κs within =
+    let w = g.T.Turns.standing c.args.turns.now in
+    let v = g.T.Turns.standing c.next_at.new.turns in
+    let s = c.args.book.stream in
+    let to = to_write w v s w.in_flight c.args.call c.in-Writes.call c.in-Writes.page c.args.out.now c.next_at.new.out c.in-Writes.ensures.went
+    c.next_at.new.book.stream c.next_at.ensures.book.stream c.in-Writes.ensures.left in
+    to.admitted
+
+pub write_for-book-requires-clause-asked : goal.write_for-book-requires-clause-asked
+write_for-book-requires-clause-asked g c κs within =
+    let w = g.T.Turns.standing c.args.turns.now in
+    let v = g.T.Turns.standing c.next_at.new.turns in
+    let s = c.args.book.stream in
+    let to = to_write w v s w.in_flight c.args.call c.in-Writes.call c.in-Writes.page c.args.out.now c.next_at.new.out c.in-Writes.ensures.went
+    c.next_at.new.book.stream c.next_at.ensures.book.stream c.in-Writes.ensures.left in
+    may-write c.in-Writes.call (record { stream = c.next_at.new.book.stream; page = c.in-Writes.page }) v.seen to.in_the_way
+
+pub write_for-book-requires-clause-to_write : goal.write_for-book-requires-clause-to_write
+write_for-book-requires-clause-to_write g c κs within =
+    let w = g.T.Turns.standing c.args.turns.now in
+    let v = g.T.Turns.standing c.next_at.new.turns in
+    let s = c.args.book.stream in
+    let to = to_write w v s w.in_flight c.args.call c.in-Writes.call c.in-Writes.page c.args.out.now c.next_at.new.out c.in-Writes.ensures.went
+    c.next_at.new.book.stream c.next_at.ensures.book.stream c.in-Writes.ensures.left in
+    record { dirty = to.dirty; stamped = to.stamped }
+
+pub returns-in-Writes-clause-left : goal.returns-in-Writes-clause-left
+returns-in-Writes-clause-left g c begun way =
+    let w = g.T.Turns.standing c.args.turns.now in
+    let v = g.T.Turns.standing c.next_at.new.turns in
+    let s = c.args.book.stream in
+    let new = (g.T.Turns.standing c.write_for-book.new.turns).seen in
+    subst (λ (o : Course). RoundLeft w.setup w.number c.args.call o begun new c.args.out.now c.next_at.new.out) (sym c.course_of.ensures)
+    (round_wrote w v s w.in_flight c.args.call c.in-Writes.call c.in-Writes.page c.args.out.now c.next_at.new.out c.in-Writes.ensures.went
+    c.write_for-book.result.1 new c.in-Writes.ensures.left c.write_for-book.ensures.left begun way)
+
+pub bring-book-requires-clause-both : goal.bring-book-requires-clause-both
+bring-book-requires-clause-both g c κs within =
+    let w = g.T.Turns.standing c.args.turns.now in
+    let v = g.T.Turns.standing c.next_at.new.turns in
+    let s = c.args.book.stream in
+    let told = g.T.Disk.Told.told in
+    let faults = g.T.Disk.Told.faults in
+    subst (λ (n : ℕ). HasBoth told faults v n c.next_at.new.book c.args.disk.now) (sym c.next_at.ensures.book.stream)
+    (still_of told faults (suc w.in_flight) w v s s c.args.book c.next_at.new.book c.args.disk.now refl c.requires.both
+    c.next_at.ensures.book c.next_at.ensures.rest c.in-Reads.ensures.went c.next_at.ensures.disk)
+
+pub bring-book-requires-clause-stepped : goal.bring-book-requires-clause-stepped
+bring-book-requires-clause-stepped g c κs within =
+    let w = g.T.Turns.standing c.args.turns.now in
+    let v = g.T.Turns.standing c.next_at.new.turns in
+    let s = c.args.book.stream in
+    subst (λ (it : Call). is_stepped it ≡ true)
+    (sym (to_read_call w v s (suc w.in_flight) c.args.call c.in-Reads.call c.in-Reads.page c.args.out.now c.next_at.new.out c.in-Reads.ensures.went c.in-Reads.ensures.left))
+    c.requires.stepped
+
+pub bring-book-requires-clause-brings : goal.bring-book-requires-clause-brings
+bring-book-requires-clause-brings g c κs within =
+    let w = g.T.Turns.standing c.args.turns.now in
+    let v = g.T.Turns.standing c.next_at.new.turns in
+    let s = c.args.book.stream in
+    subst (λ (it : Call). brings_in it ≡ true)
+    (sym (to_read_call w v s (suc w.in_flight) c.args.call c.in-Reads.call c.in-Reads.page c.args.out.now c.next_at.new.out c.in-Reads.ensures.went c.in-Reads.ensures.left))
+    c.requires.brings
+
+pub bring-book-requires-clause-filed : goal.bring-book-requires-clause-filed
+bring-book-requires-clause-filed g c κs within =
+    let w = g.T.Turns.standing c.args.turns.now in
+    let v = g.T.Turns.standing c.next_at.new.turns in
+    let s = c.args.book.stream in
+    subst (λ (it : Call). IsOf it c.next_at.new.book.stream)
+    (sym (to_read_call w v s (suc w.in_flight) c.args.call c.in-Reads.call c.in-Reads.page c.args.out.now c.next_at.new.out c.in-Reads.ensures.went c.in-Reads.ensures.left))
+    (subst (λ (n : ℕ). IsOf c.args.call n) (sym c.next_at.ensures.book.stream) c.requires.filed)
+
+pub bring-book-requires-clause-waited : goal.bring-book-requires-clause-waited
+bring-book-requires-clause-waited g c κs within =
+    let w = g.T.Turns.standing c.args.turns.now in
+    let v = g.T.Turns.standing c.next_at.new.turns in
+    let s = c.args.book.stream in
+    to_read w v s (suc w.in_flight) c.args.call c.in-Reads.call c.in-Reads.page c.args.out.now c.next_at.new.out c.in-Reads.ensures.went
+    c.next_at.new.book.stream c.next_at.ensures.book.stream c.in-Reads.ensures.left
+
+pub returns-in-Reads-clause-left : goal.returns-in-Reads-clause-left
+returns-in-Reads-clause-left g c begun way =
+    let w = g.T.Turns.standing c.args.turns.now in
+    let v = g.T.Turns.standing c.next_at.new.turns in
+    let s = c.args.book.stream in
+    let new = (g.T.Turns.standing c.bring-book.new.turns).seen in
+    subst (λ (o : Course). RoundLeft w.setup w.number c.args.call o begun new c.args.out.now c.next_at.new.out) (sym c.course_of-in-Reads.ensures)
+    (round_read w v s (suc w.in_flight) c.args.call c.in-Reads.call c.in-Reads.page c.args.out.now c.next_at.new.out c.in-Reads.ensures.went
+    c.bring-book.result.1 new c.in-Reads.ensures.left c.bring-book.ensures.left begun way)
+
+pub returns-in-Ended-clause-full : goal.returns-in-Ended-clause-full
+returns-in-Ended-clause-full g c =
+    full-ended c.args.call (g.T.Turns.standing c.next_at.new.turns) c.in-Ended.answer c.in-Ended.ensures.full
+
+pub returns-in-Writes-clause-full : goal.returns-in-Writes-clause-full
+returns-in-Writes-clause-full g c =
+    let x = g.T.Turns.standing c.write_for-book.new.turns in
+    subst (λ (o : Course). IsFullCourse (most_room c.args.call) x o) (sym c.course_of.ensures)
+    (full-page c.args.call x c.write_for-book.result.1 c.write_for-book.ensures.full)
+
+pub returns-in-Reads-clause-full : goal.returns-in-Reads-clause-full
+returns-in-Reads-clause-full g c =
+    let x = g.T.Turns.standing c.bring-book.new.turns in
+    subst (λ (o : Course). IsFullCourse (most_room c.args.call) x o) (sym c.course_of-in-Reads.ensures)
+    (full-page c.args.call x c.bring-book.result.1 c.bring-book.ensures.full)

@@ -1,0 +1,7 @@
+use Rattle.cc_writes.proofs.Repeated.{GoesOn}
+use Rattle.cc_writes.proofs.rounds.until_ended.Given as goal
+
+abbrev pub invariant-loop-round : goal.invariant-loop-round
+invariant-loop-round g l =
+    GoesOn g.T.Disk.Told.told g.T.Disk.Told.faults (g.T.Turns.standing l.fn.turns) (g.T.Turns.standing l.turns) l.fn.book.stream
+    l.fn.call l.call l.book l.disk l.fn.out l.out

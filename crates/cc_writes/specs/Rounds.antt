@@ -1,0 +1,59 @@
+-- What the rounds of a call leave of it, and what a page step of one asks and leaves.
+use Rattle.std.specs.Prelude.{◌≡◌, ℕ, ◌⊎◌, Bool, true, ◌&&◌, ◌==◌, nat_le, Result, Ok, Err, List, ◌∷◌, ◌++◌}
+use Rattle.std.specs.declared.option.Option.{Option}
+use Rattle.std.specs.declared.option.Option.TheVariants.{Some, None}
+use Rattle.cc_entry.specs.Pages.{block_of}
+use Rattle.cc_entry.specs.declared.call.Call.{Call}
+use Rattle.cc_entry.specs.declared.error.CcError.{CcError}
+use Rattle.cc_entry.specs.declared.entry.Entry.{Entry}
+use Rattle.cc_traits.specs.Disk.{Disk}
+use Rattle.cc_effects.specs.Calls.{IsUnderWay}
+use Rattle.cc_model.specs.Setup.{Setup}
+use Rattle.cc_model.specs.Turns.{Device, is_quiet}
+use Rattle.cc_transfer.specs.Transfers.{fill_failed}
+use Rattle.cc_turns.specs.Disk.{DiskStands}
+use Rattle.cc_turns.specs.Standing.{Standing}
+use Rattle.cc_visits.specs.Hands.{SameDisk}
+use Rattle.cc_visits.specs.Ways.{EndedSo, IsFull, WasWanted}
+use Rattle.cc_visits.specs.Visits.{HasPlaced}
+use Rattle.cc_writes.specs.declared.course.Course.{Course}
+use Rattle.cc_writes.specs.declared.course.Course.TheVariants as course
+
+-- What a round left of a call that was under way: it goes on, and its caller was told nothing, or it ended.
+abbrev pub RoundLeft : Setup → ℕ → Call → Course → List Entry → List Entry → List ℕ → List ℕ → Type 0
+RoundLeft u me it (course.Goes again) old new was now = (again ≡ it) × IsUnderWay me it old new × (now ≡ was)
+RoundLeft u me it (course.Ended answer) old new was now = EndedSo u me it answer old new was now
+
+-- the course of a call after a page step
+abbrev pub course_of : Result Call CcError → Course
+course_of (Ok again) = course.Goes again
+course_of (Err e) = course.Ended (Err e)
+
+-- a call that found no room, with so many places asked, or goes on, or ended otherwise
+abbrev pub IsFullCourse : ℕ → Standing → Course → Type 0
+IsFullCourse asked w (course.Goes again) = Unit {0}
+IsFullCourse asked w (course.Ended answer) = IsFull asked w answer
+
+-- The disk failed to read a page, and the pass may tell that: the disk stands for what the pass has seen with what
+-- others place meanwhile and the entry of the failure.
+abbrev pub MayTellFailure : {D : Type 0} → (D → Option Disk) → (D → ℕ) → Standing → ℕ → ℕ → D → Type 0
+MayTellFailure told faults w s page disk =
+    (later : List Entry) → is_quiet (Device s) later ≡ true →
+    DiskStands told faults (w.disks s) (fill_failed w.number s page ∷ (later ++ w.seen)) s disk
+
+-- The failure was told by its entry, or left untold, and nothing else was done that the disk stands for.
+abbrev pub WasTold : Standing → Standing → ℕ → ℕ → Type 0
+WasTold old new s page =
+    ((placed : List Entry) × HasPlaced old (fill_failed old.number s page) placed × SameDisk placed new.seen s)
+    ⊎ SameDisk old.seen new.seen s
+
+-- a call is under way since a moment, and wanted a page at one since then
+abbrev pub IsWanted : Standing → ℕ → Call → ℕ → Type 0
+IsWanted w s it page =
+    (begun : List Entry) × IsUnderWay w.number it begun w.seen
+    × WasWanted w.setup it (record { stream = s; page = page }) begun w.seen
+
+-- whether a page is the next of the block that is written first, or there is no such block
+abbrev pub is_next : Option ℕ → ℕ → ℕ → Bool
+is_next None to page = true
+is_next (Some block) to page = (block == block_of page) && nat_le to page

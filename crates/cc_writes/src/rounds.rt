@@ -1,0 +1,145 @@
+//! The rounds of a call that needs pages.
+
+ghost use Rattle.std.specs.Prelude.{◌≡◌, ◌<◌, true, List};
+ghost use Rattle.cc_entry.specs.declared.entry.Entry.{Entry};
+ghost use Rattle.cc_effects.specs.Asked.{brings_in};
+ghost use Rattle.cc_effects.specs.Calls.{IsUnderWay};
+ghost use Rattle.cc_model.specs.Good.{IsGood};
+ghost use Rattle.cc_step.specs.Step.{is_stepped};
+ghost use Rattle.cc_visits.specs.Hands.{Went};
+ghost use Rattle.cc_visits.specs.Ways.{EndedSo, FitsIn, IsFull};
+ghost use Rattle.cc_visits.specs.Visits.{IsOf};
+ghost use Rattle.cc_writes.specs.Writes.{HasBoth};
+ghost use Rattle.cc_writes.specs.Fetch.{CanCall, WentOn, most_room};
+ghost use Rattle.cc_writes.specs.Rounds.{RoundLeft, IsFullCourse, course_of};
+
+use crate::calls::write_for;
+use crate::course::Course;
+use crate::keeping::Rounds;
+use crate::pages::bring;
+use cc_book::Book;
+use cc_entry::{Call, CcError, StreamId};
+use cc_turns::Turns;
+use cc_visits::{Returned, Step, next_at};
+use std::alloc::Global;
+
+// More rounds than a call takes. It has at most 257 pages, each of which is read at most twice, and before each read a
+// block is given up at most once: its 64 pages are written with the book free, and with the book kept, and go out.
+const ROUNDS: u32 = 131_072;
+
+/// Brings the pages of a call in, with the turn of its stream's disk, until the call ends. Answers what the call
+/// returns to its caller.
+pub fn fetch<T: Turns>(
+    alloc: Global,
+    turns: &mut T,
+    stream: StreamId,
+    call: Call,
+    out: &mut [u8],
+) -> Result<Returned, CcError>
+    requires can { CanCall (T.standing turns.old) stream }
+    requires stepped { is_stepped call ≡ true }
+    requires brings { brings_in call ≡ true }
+    requires filed { IsOf call stream }
+    requires fits { FitsIn call out.old }
+    ensures goes_on { WentOn (T.standing turns.old) (T.standing turns.new) }
+    ensures good { IsGood (T.standing turns.new).setup (T.standing turns.new).seen }
+    ensures left { (begun : List Entry) →
+        IsUnderWay (T.standing turns.old).number call begun (T.standing turns.old).seen →
+        EndedSo (T.standing turns.old).setup (T.standing turns.old).number call result
+        begun (T.standing turns.new).seen out.old out.new }
+    ensures full { IsFull (most_room call) (T.standing turns.new) result }
+{
+    let mut disk = turns.take_device(stream);
+    let book = turns.take_book(stream);
+    let (book, answer) = until_ended(alloc, turns, &mut disk, book, call, out);
+    turns.give_book(stream, book);
+    turns.give_device(stream, disk);
+    answer
+}
+
+// Goes on in rounds, until the call ends.
+fn until_ended<T: Turns>(
+    alloc: Global,
+    turns: &mut T,
+    disk: &mut T::Disk,
+    mut book: Book,
+    mut call: Call,
+    out: &mut [u8],
+) -> (Book, Result<Returned, CcError>)
+    requires known { book.stream < (T.standing turns.old).streams }
+    requires both { HasBoth T.Disk.told T.Disk.faults (T.standing turns.old) book.stream book disk.old }
+    requires none { (T.standing turns.old).in_flight ≡ 0 }
+    requires stepped { is_stepped call ≡ true }
+    requires brings { brings_in call ≡ true }
+    requires filed { IsOf call book.stream }
+    requires fits { FitsIn call out.old }
+    ensures both { HasBoth T.Disk.told T.Disk.faults (T.standing turns.new) book.stream result.0 disk.new }
+    ensures went { Went (T.standing turns.old) (T.standing turns.new) }
+    ensures left { (begun : List Entry) →
+        IsUnderWay (T.standing turns.old).number call begun (T.standing turns.old).seen →
+        EndedSo (T.standing turns.old).setup (T.standing turns.old).number call result.1
+        begun (T.standing turns.new).seen out.old out.new }
+    ensures full { IsFull (most_room call) (T.standing turns.new) result.1 }
+{
+    let mut rounds = Rounds::new();
+    for _round in 0..ROUNDS {
+        let (now, course) = round(alloc, turns, disk, book, call, out, &mut rounds);
+        book = now;
+        match course {
+            Course::Goes(again) => call = again,
+            Course::Ended(answer) => return (book, answer),
+        }
+    }
+    (book, Err(CcError::NoMemory))
+}
+
+// One round of a call: its next step, with the transfer of the page that the step asks for.
+fn round<T: Turns>(
+    alloc: Global,
+    turns: &mut T,
+    disk: &mut T::Disk,
+    mut book: Book,
+    call: Call,
+    out: &mut [u8],
+    rounds: &mut Rounds,
+) -> (Book, Course)
+    requires known { book.stream < (T.standing turns.old).streams }
+    requires both { HasBoth T.Disk.told T.Disk.faults (T.standing turns.old) book.stream book disk.old }
+    requires none { (T.standing turns.old).in_flight ≡ 0 }
+    requires stepped { is_stepped call ≡ true }
+    requires brings { brings_in call ≡ true }
+    requires filed { IsOf call book.stream }
+    requires fits { FitsIn call out.old }
+    ensures both { HasBoth T.Disk.told T.Disk.faults (T.standing turns.new) book.stream result.0 disk.new }
+    ensures went { Went (T.standing turns.old) (T.standing turns.new) }
+    ensures left { (begun : List Entry) →
+        IsUnderWay (T.standing turns.old).number call begun (T.standing turns.old).seen →
+        RoundLeft (T.standing turns.old).setup (T.standing turns.old).number call result.1
+        begun (T.standing turns.new).seen out.old out.new }
+    ensures full { IsFullCourse (most_room call) (T.standing turns.new) result.1 }
+{
+    match next_at(alloc, turns, &mut book, call, out) {
+        Step::Ended(answer) => (book, Course::Ended(answer)),
+        Step::WentOut(call) => (book, Course::Goes(call)),
+        Step::Writes(page, call) => {
+            let keeps = rounds.keeps_for_write(page);
+            let (book, left) = write_for(alloc, turns, disk, book, call, page, keeps);
+            (book, course_of(left))
+        }
+        Step::Reads(page, call) => {
+            let keeps = rounds.keeps_for_read(page);
+            let (book, left) = bring(alloc, turns, disk, book, call, page, keeps);
+            (book, course_of(left))
+        }
+    }
+}
+
+// The course of a call after a page step.
+fn course_of(left: Result<Call, CcError>) -> Course
+    ensures { result ≡ course_of left }
+{
+    match left {
+        Ok(call) => Course::Goes(call),
+        Err(error) => Course::Ended(Err(error)),
+    }
+}
