@@ -1,0 +1,20 @@
+use Rattle.std.proofs.Common.{subst}
+use Rattle.cc_turns.specs.Desk.{tells_of}
+use Rattle.cc_world.specs.World.{DisksEnded, LogsEnded, setup_of}
+use Rattle.cc_model.specs.Good.{IsGood}
+use Rattle.cc_world.proofs.Fresh.{disks-end, logs-end}
+use Rattle.cc_world.proofs.world.World.end.Goals as goal
+
+pub returns-clause-disks : goal.returns-clause-disks
+returns-clause-disks g c =
+    subst (λ w. DisksEnded (tells_of g.D.Told.told g.D.Told.faults g.L.LogFile.told g.L.LogFile.faults g.Q.PostRoutine.posted) w c.disks_of.result.items) c.self.view_is
+    (disks-end _ _ c.disks_of.result.items c.self.invariant.0 c.disks_of.ensures)
+
+pub returns-clause-logs : goal.returns-clause-logs
+returns-clause-logs g c =
+    subst (λ w. LogsEnded (tells_of g.D.Told.told g.D.Told.faults g.L.LogFile.told g.L.LogFile.faults g.Q.PostRoutine.posted) w c.files_of.result.items) c.self.view_is
+    (logs-end _ _ c.files_of.result.items c.self.invariant.0 c.files_of.ensures)
+
+pub returns-clause-good : goal.returns-clause-good
+returns-clause-good g c =
+    subst (λ w. IsGood (setup_of (tells_of g.D.Told.told g.D.Told.faults g.L.LogFile.told g.L.LogFile.faults g.Q.PostRoutine.posted) w.begun) w.journal.entries) c.self.view_is c.self.invariant.0.journal.good

@@ -1,0 +1,34 @@
+-- What tells under which stream a call is filed.
+use Rattle.std.specs.Prelude.{◌≡◌, ℕ, ◌<◌, ◌≤◌, Bool, true, false, List, [], length, slice_get}
+use Rattle.std.specs.declared.option.Option.{Option}
+use Rattle.std.specs.declared.option.Option.TheVariants.{Some, None}
+use Rattle.cc_entry.specs.declared.call.Call.{Call}
+use Rattle.cc_entry.specs.declared.call.Call.TheVariants as call
+use Rattle.cc_entry.specs.declared.entry.Entry.{Entry}
+use Rattle.cc_book.specs.Book.{BookStands}
+use Rattle.cc_model.specs.Acts.{file_of}
+use Rattle.cc_model.specs.History.{history}
+use Rattle.cc_world.specs.Ways.{filed_under}
+use Rattle.cc_world.specs.declared.filing.Filing.{Filing}
+use Rattle.cc_world.specs.declared.filing.Filing.TheVariants as filing
+use Rattle.cc_world.specs.declared.rows.Row.{Row}
+
+-- a call is filed under no stream: it asks for the dirty page table of a log, or whether any page is dirty
+abbrev pub is_unfiled : Call → Bool
+is_unfiled (call.DirtyPages handle) = true
+is_unfiled call.IsDirtyData = true
+is_unfiled other = false
+
+-- There is a row for each stream to which something happened, at most 16, in their order, and its book stands.
+pub record AreBooks {D : Type 0} (past : List Entry) (rows : List (Row D)) : Type 0 where
+  pub few : length rows ≤ 16
+  pub stream : (s : ℕ) (row : Row D) → slice_get rows s ≡ Some row → row.book.stream ≡ s
+  pub stands : (s : ℕ) (row : Row D) → slice_get rows s ≡ Some row →
+      (opening : Option (ℕ → List ℕ)) × BookStands opening past row.book
+  pub beyond : (s : ℕ) → length rows ≤ s → history past s ≡ []
+
+-- Under which stream a call is filed. The stream of a hold is one of the rows'.
+abbrev pub FilesUnder : ℕ → List Entry → Call → Filing → Type 0
+FilesUnder rows past it (filing.Stream s) = (filed_under past it ≡ Some s) × (file_of it ≡ None → s < rows)
+FilesUnder rows past it filing.Journal = (filed_under past it ≡ None) × (is_unfiled it ≡ true)
+FilesUnder rows past it filing.NoHold = (filed_under past it ≡ None) × (is_unfiled it ≡ false)

@@ -1,0 +1,15 @@
+-- What the contracts cite.
+pub mod Pages
+pub mod Ways
+pub mod Journals
+pub mod Reserving
+pub mod Rows
+pub mod Logs
+pub mod Filing
+pub mod Naming
+pub mod World
+pub mod Calls
+pub mod Residents
+pub mod HoldUses
+pub mod Failing
+pub mod Uncached

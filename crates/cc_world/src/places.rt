@@ -1,0 +1,81 @@
+//! How the rows and the logs of the World are made of a setup, and given back.
+
+ghost use Rattle.std.specs.Prelude.{◌≡◌, ◌≤◌, [], length, map, vec_capacity};
+ghost use Rattle.cc_turns.specs.Desk.{LogIsHome};
+ghost use Rattle.cc_turns.specs.Places.{IsRoomFor};
+ghost use Rattle.cc_world.specs.World.{AreAt, IsNewRow};
+
+use crate::rows::Row;
+use cc_book::Book;
+use cc_entry::StreamId;
+use cc_log::LogTurn;
+use cc_traits::{LogFile, PageDisk};
+use std::alloc::Global;
+
+/// A row for each disk, of whose stream nothing happened yet.
+pub(crate) fn rows_of<D: PageDisk>(
+    alloc: Global,
+    disks: &mut Vec<D>,
+    mut rows: Vec<Row<D>>,
+) -> Vec<Row<D>>
+    requires few { length disks.old.items ≤ 16 }
+    requires room { IsRoomFor (length disks.old.items) rows.items (vec_capacity rows) }
+    ensures rows { AreAt (length disks.old.items) (IsNewRow disks.old.items) result.items }
+    ensures emptied { IsRoomFor (length disks.old.items) disks.new.items (vec_capacity disks.new) }
+{
+    disks.reverse();
+    while let Some(disk) = disks.pop() {
+        let stream = StreamId::new(rows.len() as u8).unwrap();
+        rows.push_reserved(Row {
+            disk,
+            book: Book::new(alloc, stream),
+            kept: None,
+        });
+    }
+    rows
+}
+
+/// Opens the logs of a setup, of which nothing was appended or flushed yet.
+pub(crate) fn logs_of<L: LogFile>(files: &mut Vec<L>, mut logs: Vec<LogTurn<L>>) -> Vec<LogTurn<L>>
+    requires few { length files.old.items ≤ 4 }
+    requires room { IsRoomFor (length files.old.items) logs.items (vec_capacity logs) }
+    ensures logs { AreAt (length files.old.items) (LogIsHome L.told L.faults files.old.items []) result.items }
+    ensures emptied { IsRoomFor (length files.old.items) files.new.items (vec_capacity files.new) }
+{
+    files.reverse();
+    while let Some(file) = files.pop() {
+        let handle = logs.len() as u8;
+        logs.push_reserved(LogTurn::new(handle, file));
+    }
+    logs
+}
+
+/// The disks of all rows, in their order.
+pub(crate) fn disks_of<D>(mut rows: Vec<Row<D>>, mut disks: Vec<D>) -> Vec<D>
+    requires { IsRoomFor (length rows.items) disks.items (vec_capacity disks) }
+    ensures { result.items ≡ map (λ row. row.disk) rows.items }
+{
+    while let Some(row) = rows.pop() {
+        let Row {
+            disk,
+            book: _book,
+            kept: _kept,
+        } = row;
+        disks.push_reserved(disk);
+    }
+    rows.destroy_empty();
+    disks.reverse();
+    disks
+}
+
+/// The files of all logs, in their order.
+pub(crate) fn files_of<L: LogFile>(mut logs: Vec<LogTurn<L>>, mut files: Vec<L>) -> Vec<L>
+    requires { IsRoomFor (length logs.items) files.items (vec_capacity files) }
+    ensures { result.items ≡ map (λ log. log.file) logs.items }
+{
+    while let Some(log) = logs.pop() {
+        files.push_reserved(log.end());
+    }
+    files.reverse();
+    files
+}

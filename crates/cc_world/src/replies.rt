@@ -1,0 +1,128 @@
+//! What a call answers that may end now on the book of its stream and the journal.
+
+ghost use Rattle.std.specs.Prelude.{◌≡◌, ℕ, List, Option, None, IfOk, true};
+ghost use Rattle.cc_entry.specs.declared.call.Call.TheVariants as call;
+ghost use Rattle.cc_book.specs.Book.{BookStands};
+ghost use Rattle.cc_model.specs.Conditions.{MayFinish};
+ghost use Rattle.cc_model.specs.History.{history};
+ghost use Rattle.cc_model.specs.Images.{open_of};
+ghost use Rattle.cc_model.specs.Replies.{is_whole};
+ghost use Rattle.cc_model.specs.Setup.{Setup};
+ghost use Rattle.cc_step.specs.Step.{is_stepped};
+ghost use Rattle.cc_world.specs.Calls.{IsAnswer, IsUnrefused, ends_on_book, unit_if};
+ghost use Rattle.cc_world.specs.Pages.{Says};
+
+use crate::residents::has_resident;
+use cc_book::Book;
+use cc_entry::{Call, NoMemory, Reply, Request, StreamId};
+use cc_journal::Journal;
+use cc_readers::blocks::by_quota;
+use cc_readers::flushed::is_flushed;
+use cc_readers::holds::{Reach, open_holds};
+use cc_readers::stores::{ends_own_store, is_written_since};
+use cc_readers::views::end_within;
+use cc_step::{absent, reply};
+use std::alloc::Global;
+
+/// What a call of a pass answers that nothing refuses; none where it may not end now. `resting` says whether no transfer
+/// of the stream is open.
+pub(crate) fn reply_now<Q>(
+    alloc: Global,
+    book: &Book,
+    journal: &Journal<Q>,
+    pass: u32,
+    call: &Call,
+    resting: bool,
+) -> Result<Option<Reply>, NoMemory>
+    requires on_book { ends_on_book call.now ≡ true }
+    requires resting { Says resting (open_of (history journal.now.entries book.now.stream) ≡ None) }
+    ensures { IfOk result (λ answer. (u : Setup) → IsUnrefused u 0 pass call.now book.now journal.now →
+        IsAnswer u journal.now.entries pass book.now.stream call.now answer) }
+{
+    match call {
+        Call::AheadStep { request } => reply_ahead(alloc, book, journal, request),
+        Call::Flush { span, .. } => {
+            let flushed = is_flushed(alloc, journal.entries(), pass, book.stream(), *span)?;
+            Ok(unit_if(flushed))
+        }
+        Call::Purge { span, .. } => Ok(unit_if(!has_resident(book, journal, span))),
+        Call::Discard { .. } => Ok(unit_if(resting)),
+        Call::NcWrite { page, .. } => {
+            Ok(unit_if(may_finish(journal, pass, book.stream(), *page)))
+        }
+        _ => reply_stepped(alloc, book, journal, call),
+    }
+}
+
+// What a call answers that is stepped: none where it waits for a page.
+fn reply_stepped<Q>(
+    alloc: Global,
+    book: &Book,
+    journal: &Journal<Q>,
+    call: &Call,
+) -> Result<Option<Reply>, NoMemory>
+    requires stepped { is_stepped call.now ≡ true }
+    ensures { IfOk result (λ answer. (u : Setup) (pass : ℕ) → IsUnrefused u 0 pass call.now book.now journal.now →
+        IsAnswer u journal.now.entries pass book.now.stream call.now answer) }
+{
+    match absent(book, call) {
+        Some(_) => Ok(None),
+        None => Ok(Some(reply(alloc, book, journal, call)?)),
+    }
+}
+
+// What a read-ahead step answers: whether its request is whole. Where it is, its pages have to be resident.
+fn reply_ahead<Q>(
+    alloc: Global,
+    book: &Book,
+    journal: &Journal<Q>,
+    request: &Request,
+) -> Result<Option<Reply>, NoMemory>
+    ensures { IfOk result (λ answer. (u : Setup) (pass : ℕ) →
+        IsUnrefused u 0 pass (call.AheadStep request.now) book.now journal.now →
+        IsAnswer u journal.now.entries pass book.now.stream (call.AheadStep request.now) answer) }
+{
+    let whole = is_whole(alloc, book, journal, request)?;
+    let end = end_within(book.size(), request.at, request.len);
+    if whole && book.first_absent(request.at, end).is_some() {
+        return Ok(None);
+    }
+    Ok(Some(Reply::Whole(whole)))
+}
+
+// Whether the object of a request is open, and the quota has room for the blocks of the request beside those of open holds.
+fn is_whole<Q>(
+    alloc: Global,
+    book: &Book,
+    journal: &Journal<Q>,
+    request: &Request,
+) -> Result<bool, NoMemory>
+    ensures { IfOk result (λ whole. (opening : Option (ℕ → List ℕ)) → BookStands opening journal.now.entries book.now →
+        whole ≡ is_whole (history journal.now.entries book.now.stream) request.now) }
+{
+    if !book.is_open(request.file.object()) {
+        return Ok(false);
+    }
+    let holds = open_holds(alloc, journal.entries(), book.stream())?;
+    let end = end_within(book.size(), request.at, request.len);
+    let range = Reach {
+        from: u128::from(request.at),
+        to: u128::from(end),
+    };
+    Ok(by_quota(alloc, &holds, book.quota(), range)?.is_none())
+}
+
+// Whether the noncached write of a page may end: its store is the pass's last call, and is on the disk.
+fn may_finish<Q>(journal: &Journal<Q>, pass: u32, stream: StreamId, page: u64) -> bool
+    ensures { Says result (MayFinish journal.now.entries pass stream page) }
+{
+    let entries = journal.entries();
+    ends_own_store(entries, pass, stream, page) && is_written_since(entries, pass, stream, page)
+}
+
+// No answer but that the call is done, where it may end.
+fn unit_if(ready: bool) -> Option<Reply>
+    ensures { result ≡ unit_if ready }
+{
+    if ready { Some(Reply::Unit) } else { None }
+}

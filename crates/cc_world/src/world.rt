@@ -1,0 +1,336 @@
+//! The machine: a row for each stream, the logs, and the journal.
+
+ghost use Rattle.std.specs.Prelude.{◌≡◌, ◌<◌, ◌≤◌, false, IfOk, IfErr, List, length, map, reverse};
+ghost use Rattle.cc_entry.specs.declared.error.CcError.TheVariants as error;
+ghost use Rattle.cc_journal.specs.Queue.{routines_of};
+ghost use Rattle.cc_model.specs.Acts.{file_of};
+ghost use Rattle.cc_model.specs.Good.{IsGood};
+ghost use Rattle.cc_model.specs.Throttle.{queue};
+ghost use Rattle.cc_turns.specs.Desk.{made_from, tells_of};
+ghost use Rattle.cc_world.specs.Ways.{IsKnown, IsUnposted, NamesOf};
+ghost use Rattle.cc_world.specs.World.{AreRowsFor, DisksEnded, IsFresh, IsNoLogReply, JournalRests, LogsEnded, Stepped, setup_of};
+ghost use Rattle.cc_world.specs.declared.events.Event.TheVariants as event;
+
+use crate::events::{Event, StepReply};
+use crate::filing::{Filing, filing_of};
+use crate::journal::{defer, do_unfiled, fail_unfiled, post, scan};
+use crate::logs::{append, flush};
+use crate::places::{disks_of, files_of, logs_of, rows_of};
+use crate::rows::Row;
+use cc_entry::{Bytes, Call, CcError, FileId, Lsn, NoMemory, PageId, StreamId};
+use cc_journal::{Journal, Parts};
+use cc_log::LogTurn;
+use cc_traits::{LogFile, PageDisk, PostRoutine, Setup};
+use std::alloc::Global;
+use std::marker::Model;
+use std::snapshot::Snapshot;
+
+/// The cache over the disks and the logs of a setup, to which one event happens after the other.
+pub struct World<D: PageDisk, L: LogFile, Q: PostRoutine> {
+    alloc: Global,
+    rows: Vec<Row<D>>,
+    logs: Vec<LogTurn<L>>,
+    journal: Journal<Q>,
+    /// Empty, with room for the disks as they are given back.
+    disk_room: Vec<D>,
+    /// The same for the logs.
+    log_room: Vec<L>,
+    /// What the run was made from.
+    begun: Snapshot<Setup<D, L>>,
+}
+
+// rows with room for all that a run is made from, and its journal
+struct Rows<D, L, Q> {
+    journal: Journal<Q>,
+    logs: Vec<LogTurn<L>>,
+    rows: Vec<Row<D>>,
+}
+
+impl<D: PageDisk, L: LogFile, Q: PostRoutine> Model for World<D, L, Q> {
+    ghost use Rattle.std.specs.Prelude.{length, vec_capacity};
+    ghost use Rattle.cc_turns.specs.Desk.{tells_of};
+    ghost use Rattle.cc_turns.specs.Places.{IsRoomFor};
+    ghost use Rattle.cc_world.specs.World.{WorldState, WorldStands, world_of};
+
+    ghost Value = { WorldState D L Q };
+
+    ghost view = { λ w. world_of w.begun.value w.rows.items w.logs.items w.journal };
+
+    ghost invariant = { λ w.
+        WorldStands (tells_of D.told D.faults L.told L.faults Q.posted)
+        (world_of w.begun.value w.rows.items w.logs.items w.journal)
+        × IsRoomFor (length w.begun.value.disks.items) w.disk_room.items (vec_capacity w.disk_room)
+        × IsRoomFor (length w.begun.value.logs.items) w.log_room.items (vec_capacity w.log_room) };
+}
+
+impl<D: PageDisk, L: LogFile, Q: PostRoutine> Rows<D, L, Q> {
+    fn new(alloc: Global, setup: &Setup<D, L>) -> Result<Rows<D, L, Q>, NoMemory>
+        ensures { IfOk result (λ rows. AreRowsFor (made_from setup.now) rows) }
+    {
+        let logs = setup.logs.len();
+        Ok(Rows {
+            journal: Journal::new(alloc, setup.journal, setup.threshold, logs as u8)?,
+            logs: Vec::with_capacity(alloc, logs)?,
+            rows: Vec::with_capacity(alloc, setup.disks.len())?,
+        })
+    }
+}
+
+impl<D: PageDisk, L: LogFile, Q: PostRoutine> World<D, L, Q> {
+    /// The World of a run of which nothing happened yet. Where memory is wanting the setup comes back.
+    pub fn new(alloc: Global, setup: Setup<D, L>) -> Result<World<D, L, Q>, (Setup<D, L>, CcError)>
+        ensures fresh { IfOk result (λ world. IsFresh (made_from setup) world) }
+        ensures err { IfErr result (λ back. (back.0 ≡ setup) × (back.1 ≡ error.NoMemory)) }
+    {
+        match Rows::new(alloc, &setup) {
+            Ok(rows) => Ok(World::over(alloc, setup, rows)),
+            Err(NoMemory) => Err((setup, CcError::NoMemory)),
+        }
+    }
+
+    // The World of a setup, over rows with room for it. It takes no memory.
+    fn over(alloc: Global, setup: Setup<D, L>, rows: Rows<D, L, Q>) -> World<D, L, Q>
+        requires { AreRowsFor (made_from setup) rows }
+        ensures { IsFresh (made_from setup) result }
+    {
+        let begun = Snapshot::of(&setup);
+        let Setup {
+            mut disks,
+            mut logs,
+            ..
+        } = setup;
+        let Rows {
+            journal,
+            logs: turns,
+            rows,
+        } = rows;
+        World {
+            alloc,
+            rows: rows_of(alloc, &mut disks, rows),
+            logs: logs_of(&mut logs, turns),
+            journal,
+            disk_room: disks,
+            log_room: logs,
+            begun,
+        }
+    }
+
+    /// Lets an event happen, where the law of entries allows it now.
+    pub fn step(&mut self, event: Event<Q>) -> StepReply<Q>
+        requires known { IsKnown (length self.old.begun.disks) event }
+        requires unposted { IsUnposted Q.posted event }
+        ensures { Stepped (tells_of D.told D.faults L.told L.faults Q.posted) event result self.old self.new }
+    {
+        match event {
+            Event::Fill { pass, page } => self.fill(pass, page),
+            Event::Drop { page } => self.drop_page(page),
+            Event::WriteBegin { pass, page } => self.begin(pass, page),
+            Event::WriteEnd { page } => self.end_transfer(page),
+            Event::Sync { pass, stream } => self.sync(pass, stream),
+            Event::Append {
+                pass,
+                handle,
+                bytes,
+            } => self.append(pass, handle, bytes),
+            Event::LogFlush { pass, handle, to } => self.flush_log(pass, handle, to),
+            Event::Do { pass, call } => self.do_call(pass, call),
+            Event::Fail { pass, call } => self.fail_call(pass, call),
+            Event::Scan { pass } => scan(&mut self.journal, pass),
+            Event::Defer {
+                pass,
+                file,
+                bytes,
+                retrying,
+                routine,
+            } => self.defer(pass, file, bytes, retrying, routine),
+            Event::Post { pass } => post(&mut self.journal, pass),
+        }
+    }
+
+    // A call of a pass ends.
+    fn do_call(&mut self, pass: u32, call: Call) -> StepReply<Q>
+        requires { NamesOf (length self.old.begun.disks) (file_of call) }
+        ensures { Stepped (tells_of D.told D.faults L.told L.faults Q.posted) (event.Do pass call) result
+            self.old self.new }
+    {
+        match filing_of(&self.rows, &call) {
+            Filing::Stream(stream) => {
+                let row = &mut self.rows[usize::from(stream.number())];
+                row.do_call(self.alloc, &self.logs, &mut self.journal, pass, call)
+            }
+            Filing::Journal => do_unfiled(self.alloc, &mut self.journal, pass, call),
+            Filing::NoHold => StepReply::NotNow,
+        }
+    }
+
+    // A call of a pass tells a fault.
+    fn fail_call(&mut self, pass: u32, call: Call) -> StepReply<Q>
+        requires { NamesOf (length self.old.begun.disks) (file_of call) }
+        ensures { Stepped (tells_of D.told D.faults L.told L.faults Q.posted) (event.Fail pass call) result
+            self.old self.new }
+    {
+        match filing_of(&self.rows, &call) {
+            Filing::Stream(stream) => {
+                let row = &mut self.rows[usize::from(stream.number())];
+                row.fail_call(self.alloc, &mut self.journal, pass, call)
+            }
+            Filing::Journal => fail_unfiled(&mut self.journal, pass, call),
+            Filing::NoHold => StepReply::NotNow,
+        }
+    }
+
+    // A write of a pass is deferred.
+    fn defer(
+        &mut self,
+        pass: u32,
+        file: FileId,
+        bytes: u64,
+        retrying: bool,
+        routine: Q,
+    ) -> StepReply<Q>
+        requires stream { file.stream < length self.old.begun.disks }
+        requires unposted { Q.posted routine ≡ false }
+        ensures { Stepped (tells_of D.told D.faults L.told L.faults Q.posted)
+            (event.Defer pass file bytes retrying routine) result self.old self.new }
+    {
+        let row = &self.rows[usize::from(file.stream().number())];
+        defer(
+            &row.book,
+            &mut self.journal,
+            pass,
+            file,
+            bytes,
+            retrying,
+            routine,
+        )
+    }
+
+    // A page comes in.
+    fn fill(&mut self, pass: u32, page: PageId) -> StepReply<Q>
+        requires { page.stream < length self.old.begun.disks }
+        ensures { Stepped (tells_of D.told D.faults L.told L.faults Q.posted) (event.Fill pass page) result
+            self.old self.new }
+    {
+        let row = &mut self.rows[usize::from(page.stream().number())];
+        row.fill(&mut self.journal, pass, page)
+    }
+
+    // A page goes out.
+    fn drop_page(&mut self, page: PageId) -> StepReply<Q>
+        requires { page.stream < length self.old.begun.disks }
+        ensures { Stepped (tells_of D.told D.faults L.told L.faults Q.posted) (event.Drop page) result
+            self.old self.new }
+    {
+        let row = &mut self.rows[usize::from(page.stream().number())];
+        row.drop_page(&mut self.journal, page)
+    }
+
+    // The transfer of a page begins.
+    fn begin(&mut self, pass: u32, page: PageId) -> StepReply<Q>
+        requires { page.stream < length self.old.begun.disks }
+        ensures { Stepped (tells_of D.told D.faults L.told L.faults Q.posted) (event.WriteBegin pass page) result
+            self.old self.new }
+    {
+        let row = &mut self.rows[usize::from(page.stream().number())];
+        row.begin(&self.logs, &mut self.journal, pass, page)
+    }
+
+    // The transfer of a page ends.
+    fn end_transfer(&mut self, page: PageId) -> StepReply<Q>
+        requires { page.stream < length self.old.begun.disks }
+        ensures { Stepped (tells_of D.told D.faults L.told L.faults Q.posted) (event.WriteEnd page) result
+            self.old self.new }
+    {
+        let row = &mut self.rows[usize::from(page.stream().number())];
+        row.end(&mut self.journal, page)
+    }
+
+    // The disk of a stream is synced.
+    fn sync(&mut self, pass: u32, stream: StreamId) -> StepReply<Q>
+        requires { stream < length self.old.begun.disks }
+        ensures { Stepped (tells_of D.told D.faults L.told L.faults Q.posted) (event.Sync pass stream) result
+            self.old self.new }
+    {
+        let row = &mut self.rows[usize::from(stream.number())];
+        row.sync(&mut self.journal, pass, stream)
+    }
+
+    // An entry is appended to a log.
+    fn append(&mut self, pass: u32, handle: u8, bytes: Bytes) -> StepReply<Q>
+        ensures { Stepped (tells_of D.told D.faults L.told L.faults Q.posted) (event.Append pass handle bytes) result
+            self.old self.new }
+    {
+        if self.logs.len() <= usize::from(handle) {
+            return self.no_log(handle);
+        }
+        let log = &mut self.logs[usize::from(handle)];
+        append(self.alloc, log, &mut self.journal, pass, handle, bytes)
+    }
+
+    // A log is flushed.
+    fn flush_log(&mut self, pass: u32, handle: u8, to: Lsn) -> StepReply<Q>
+        ensures { Stepped (tells_of D.told D.faults L.told L.faults Q.posted) (event.LogFlush pass handle to) result
+            self.old self.new }
+    {
+        if self.logs.len() <= usize::from(handle) {
+            // An LSN's number is what says that it is above 0, to which no log is flushed that there is not.
+            let _lsn = to.number();
+            return self.no_log(handle);
+        }
+        let log = &mut self.logs[usize::from(handle)];
+        flush(log, &mut self.journal, pass, handle, to)
+    }
+
+    // What is replied to an event on a log that there is not. Room for its entry is asked first.
+    fn no_log(&self, handle: u8) -> StepReply<Q>
+        requires { length self.now.begun.logs ≤ handle }
+        ensures { IsNoLogReply handle self.now result }
+    {
+        if self.journal.room() == 0 {
+            return StepReply::Refused(CcError::JournalFull {
+                entries: self.journal.entries().len() as u64,
+            });
+        }
+        StepReply::Refused(CcError::NoLog {
+            handle: u64::from(handle),
+        })
+    }
+
+    /// The journal, which is good, has the limits of the setup, and has reserved just what its entries owe.
+    pub fn journal(&self) -> &Journal<Q>
+        ensures same { result.now ≡ self.now.journal }
+        ensures rests { JournalRests (tells_of D.told D.faults L.told L.faults Q.posted) self.now.begun
+            self.now.journal }
+    {
+        &self.journal
+    }
+
+    /// Gives all back. It takes no memory.
+    pub fn end(self) -> Parts<D, L, Q>
+        ensures journal { reverse result.journal.items ≡ self.journal.entries }
+        ensures good { IsGood (setup_of (tells_of D.told D.faults L.told L.faults Q.posted) self.begun)
+            self.journal.entries }
+        ensures disks { DisksEnded (tells_of D.told D.faults L.told L.faults Q.posted) self result.disks.items }
+        ensures logs { LogsEnded (tells_of D.told D.faults L.told L.faults Q.posted) self result.logs.items }
+        ensures queued { map (λ waiting. waiting.0) result.queued.items
+            ≡ map (λ d. d.id) (queue self.journal.entries) }
+        ensures routines { result.queued.items ≡ routines_of self.journal.queue }
+    {
+        let World {
+            rows,
+            logs,
+            journal,
+            disk_room,
+            log_room,
+            begun: _,
+            alloc: _,
+        } = self;
+        let (journal, queued) = journal.end();
+        Parts {
+            disks: disks_of(rows, disk_room),
+            logs: files_of(logs, log_room),
+            journal,
+            queued,
+        }
+    }
+}
