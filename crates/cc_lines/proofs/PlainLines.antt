@@ -44,6 +44,9 @@ plain_call action.IsDirtyData = Some call.IsDirtyData
 plain_call (action.DirtyPages handle) = Some (call.DirtyPages handle)
 plain_call (action.LsnForFile file) = Some (call.LsnForFile file)
 plain_call (action.SetLog file handle) = Some (call.SetLog file handle)
+plain_call (action.SetGranularity file bytes) = Some (call.SetGranularity file bytes)
+plain_call (action.SetAttributes file no_read_ahead no_write_behind) = Some (call.SetAttributes file no_read_ahead no_write_behind)
+plain_call (action.SetThreshold file pages) = Some (call.SetThreshold file pages)
 plain_call other = None
 
 some-same : (a b : Call) → Some a ≡ Some b → a ≡ b
@@ -67,6 +70,9 @@ module _ (u : Setup) (me : ℕ) (it : Call) (told : Answer) (old new : List Entr
   plain-unchanged (action.DirtyPages handle) is id = answered-unchanged u me id (call.DirtyPages handle) told old new (is-call _ is) refl
   plain-unchanged (action.LsnForFile file) is id = answered-unchanged u me id (call.LsnForFile file) told old new (is-call _ is) refl
   plain-unchanged (action.SetLog file handle) is id = answered-unchanged u me id (call.SetLog file handle) told old new (is-call _ is) refl
+  plain-unchanged (action.SetGranularity file bytes) is id = answered-unchanged u me id (call.SetGranularity file bytes) told old new (is-call _ is) refl
+  plain-unchanged (action.SetAttributes file no_read_ahead no_write_behind) is id = answered-unchanged u me id (call.SetAttributes file no_read_ahead no_write_behind) told old new (is-call _ is) refl
+  plain-unchanged (action.SetThreshold file pages) is id = answered-unchanged u me id (call.SetThreshold file pages) told old new (is-call _ is) refl
   plain-unchanged other is id = absurd (cc is)
 
   pub plain-served : (bindings : List Binding) (asked : Action) → plain_call asked ≡ Some it → Served u me bindings asked told old new
@@ -83,6 +89,9 @@ module _ (u : Setup) (me : ℕ) (it : Call) (told : Answer) (old new : List Entr
   plain-served bindings (action.DirtyPages handle) is = is-call _ is
   plain-served bindings (action.LsnForFile file) is = is-call _ is
   plain-served bindings (action.SetLog file handle) is = is-call _ is
+  plain-served bindings (action.SetGranularity file bytes) is = is-call _ is
+  plain-served bindings (action.SetAttributes file no_read_ahead no_write_behind) is = is-call _ is
+  plain-served bindings (action.SetThreshold file pages) is = is-call _ is
   plain-served bindings other is = absurd (cc is)
 
 -- such a line leaves the words as they were
@@ -100,6 +109,9 @@ plain-stand new action.IsDirtyData it told bounds bindings names is stand = stan
 plain-stand new (action.DirtyPages handle) it told bounds bindings names is stand = stand
 plain-stand new (action.LsnForFile file) it told bounds bindings names is stand = stand
 plain-stand new (action.SetLog file handle) it told bounds bindings names is stand = stand
+plain-stand new (action.SetGranularity file bytes) it told bounds bindings names is stand = stand
+plain-stand new (action.SetAttributes file no_read_ahead no_write_behind) it told bounds bindings names is stand = stand
+plain-stand new (action.SetThreshold file pages) it told bounds bindings names is stand = stand
 plain-stand new other it told bounds bindings names is stand = absurd (cc is)
 
 module _ (old new : Standing) (told : Answer) (names : NamesState) (full : IsFullTold new told) (went : WentOn old new) (good : IsGood old.setup new.seen) where

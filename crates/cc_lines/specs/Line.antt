@@ -25,7 +25,8 @@ use Rattle.cc_calls.specs.Held.{IsHolding}
 use Rattle.cc_calls.specs.declared.held.Held.{Held}
 use Rattle.cc_lines.specs.Holds.{NamesState, NamesStand, HasRoom}
 
--- an action on one of so many streams, or on none; one on a hold names no stream
+-- An action of a run on one of so many streams, or on none; one on a hold names no stream. Those of `steps` alone are no
+-- actions of a run.
 abbrev pub IsServable : ℕ → Action → Type 0
 IsServable streams (action.Initialise file sizes quota temporary) = file.stream < streams
 IsServable streams (action.Uninitialise file truncate) = file.stream < streams
@@ -60,6 +61,21 @@ IsServable streams (action.LsnForFile file) = file.stream < streams
 IsServable streams (action.SetLog file handle) = file.stream < streams
 IsServable streams (action.Append handle bytes) = Unit {0}
 IsServable streams (action.LogFlush handle lsn) = Unit {0}
+IsServable streams (action.SetGranularity file bytes) = file.stream < streams
+IsServable streams (action.SetAttributes file no_read_ahead no_write_behind) = file.stream < streams
+IsServable streams (action.SetThreshold file pages) = file.stream < streams
+IsServable streams (action.NcReadPage file page) = ⊥
+IsServable streams (action.NcStorePage file page bytes) = ⊥
+IsServable streams (action.NcWritePage file page) = ⊥
+IsServable streams (action.Fill page) = ⊥
+IsServable streams (action.Drop page) = ⊥
+IsServable streams (action.WriteBegin page) = ⊥
+IsServable streams (action.WriteEnd page) = ⊥
+IsServable streams (action.Sync stream) = ⊥
+IsServable streams action.Scan = ⊥
+IsServable streams (action.CanWrite file bytes) = ⊥
+IsServable streams (action.Defer file bytes retrying) = ⊥
+IsServable streams action.Post = ⊥
 
 -- What is kept of the words of a pass stands for what it has seen.
 abbrev pub StandFor : Standing → List Bound → List Binding → NamesState → Type 0

@@ -16,7 +16,8 @@ use crate::holds::Names;
 use crate::noncached_lines::{read_noncached, write_noncached};
 use cc_calls::{
     copy_read, copy_write, dirty_pages, file_state, flush, initialize, is_dirty_data, log_append,
-    log_flush, lsn_for_file, purge, set_file_sizes, set_log_handle, uninitialize, zero_data,
+    log_flush, lsn_for_file, purge, set_attributes, set_file_sizes, set_granularity,
+    set_log_handle, set_threshold, uninitialize, zero_data,
 };
 use cc_entry::{Answer, Bytes, BytesRoom, CcError, FileId, FileState, Lsn, Reply, Rows};
 use cc_script::Action;
@@ -118,6 +119,30 @@ fn serve<T: Turns>(alloc: Global, turns: &mut T, action: &Action, names: &mut Na
         Action::SetLog { file, handle } => answered(set_log_handle(alloc, turns, *file, *handle)),
         Action::Append { handle, bytes } => append(alloc, turns, *handle, bytes),
         Action::LogFlush { handle, lsn } => answered(log_flush(turns, *handle, *lsn)),
+        Action::SetGranularity { file, bytes } => {
+            answered(set_granularity(alloc, turns, *file, *bytes))
+        }
+        Action::SetAttributes {
+            file,
+            no_read_ahead,
+            no_write_behind,
+        } => answered(set_attributes(alloc, turns, *file, *no_read_ahead, *no_write_behind)),
+        Action::SetThreshold { file, pages } => {
+            answered(set_threshold(alloc, turns, *file, *pages))
+        }
+        // The lines of `steps` alone, which are none of a run.
+        Action::NcReadPage { .. }
+        | Action::NcStorePage { .. }
+        | Action::NcWritePage { .. }
+        | Action::Fill { .. }
+        | Action::Drop { .. }
+        | Action::WriteBegin { .. }
+        | Action::WriteEnd { .. }
+        | Action::Sync { .. }
+        | Action::Scan
+        | Action::CanWrite { .. }
+        | Action::Defer { .. }
+        | Action::Post => unreachable!(),
     }
 }
 

@@ -168,6 +168,10 @@ served-before u me bindings (action.LsnForFile file) told older old new idle lef
 served-before u me bindings (action.SetLog file handle) told older old new idle left = answered-before u me (call.SetLog file handle) told older old new idle left
 served-before u me bindings (action.Append handle bytes) told older old new idle left = appended-before u me handle bytes told older old new idle left
 served-before u me bindings (action.LogFlush handle lsn) told older old new idle left = log_flushed-before u me handle lsn told older old new idle left
+served-before u me bindings (action.SetGranularity file bytes) told older old new idle left = answered-before u me (call.SetGranularity file bytes) told older old new idle left
+served-before u me bindings (action.SetAttributes file no_read_ahead no_write_behind) told older old new idle left = answered-before u me (call.SetAttributes file no_read_ahead no_write_behind) told older old new idle left
+served-before u me bindings (action.SetThreshold file pages) told older old new idle left = answered-before u me (call.SetThreshold file pages) told older old new idle left
+served-before u me bindings other told older old new idle left = absurd left
 
 served-after : (u : Setup) (me : ℕ) (bindings : List Binding) (asked : Action) (told : Answer) (old new newer : List Entry) → Served u me bindings asked told old new → IsIdle me new newer → Served u me bindings asked told old newer
 served-after u me bindings (action.Initialise file sizes quota temporary) told old new newer left idle =
@@ -212,6 +216,10 @@ served-after u me bindings (action.LsnForFile file) told old new newer left idle
 served-after u me bindings (action.SetLog file handle) told old new newer left idle = answered-after u me (call.SetLog file handle) told old new newer left idle
 served-after u me bindings (action.Append handle bytes) told old new newer left idle = appended-after u me handle bytes told old new newer left idle
 served-after u me bindings (action.LogFlush handle lsn) told old new newer left idle = log_flushed-after u me handle lsn told old new newer left idle
+served-after u me bindings (action.SetGranularity file bytes) told old new newer left idle = answered-after u me (call.SetGranularity file bytes) told old new newer left idle
+served-after u me bindings (action.SetAttributes file no_read_ahead no_write_behind) told old new newer left idle = answered-after u me (call.SetAttributes file no_read_ahead no_write_behind) told old new newer left idle
+served-after u me bindings (action.SetThreshold file pages) told old new newer left idle = answered-after u me (call.SetThreshold file pages) told old new newer left idle
+served-after u me bindings other told old new newer left idle = absurd left
 
 full-before : (u : Setup) (limit entries me : ℕ) (older old new : List Entry) → IsIdle me older old → WasFull u limit entries old new → WasFull u limit entries older new
 full-before u limit entries me older old new idle was =

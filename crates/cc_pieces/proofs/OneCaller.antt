@@ -84,6 +84,7 @@ posts-none (action.LsnForFile file) told = refl
 posts-none (action.SetLog file handle) told = refl
 posts-none (action.Append handle bytes) told = refl
 posts-none (action.LogFlush handle lsn) told = refl
+posts-none other told = refl
 
 pub posted-none : (lines : List (Action × Answer)) → flat_map (λ line. posted_by line.0 line.1) lines ≡ []
 posted-none [] = refl

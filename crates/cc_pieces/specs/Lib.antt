@@ -11,3 +11,6 @@ pub mod Openings
 pub mod Phases
 pub mod Explained
 pub mod Table
+pub mod Moments
+pub mod Events
+pub mod Steps

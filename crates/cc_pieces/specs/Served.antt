@@ -13,7 +13,8 @@ use Rattle.cc_pieces.specs.HoldLines.{PinMappedLine, HeldReadLine, PinnedWriteLi
 use Rattle.cc_pieces.specs.HoldLines.{ChainReadLine, ChainStoreLine, ChainDoneLine, ChainAbortLine}
 use Rattle.cc_pieces.specs.Answered.{CallAnswered, AppendAnswered, LogFlushAnswered, NcReadAnswered, NcWriteAnswered}
 
--- from one moment to another, the caller's line left what explains its answer
+-- From one moment to another, the caller's line left what explains its answer. The lines of `steps` alone are none of a
+-- run: their events stand in `Steps`.
 abbrev pub Served : Setup → ℕ → List Binding → Action → Answer → Between
 Served u me bindings (action.Initialise file sizes quota temporary) told old new =
     CallAnswered u me (call.Initialise file sizes quota temporary) told old new
@@ -52,6 +53,11 @@ Served u me bindings (action.LsnForFile file) told old new = CallAnswered u me (
 Served u me bindings (action.SetLog file handle) told old new = CallAnswered u me (call.SetLog file handle) told old new
 Served u me bindings (action.Append handle bytes) told old new = AppendAnswered u me handle bytes told old new
 Served u me bindings (action.LogFlush handle lsn) told old new = LogFlushAnswered u me handle lsn told old new
+Served u me bindings (action.SetGranularity file bytes) told old new = CallAnswered u me (call.SetGranularity file bytes) told old new
+Served u me bindings (action.SetAttributes file no_read_ahead no_write_behind) told old new =
+    CallAnswered u me (call.SetAttributes file no_read_ahead no_write_behind) told old new
+Served u me bindings (action.SetThreshold file pages) told old new = CallAnswered u me (call.SetThreshold file pages) told old new
+Served u me bindings other told old new = ⊥
 
 -- the caller's bindings after the line
 abbrev pub bindings_after : Action → Answer → List Binding → List Binding
@@ -88,6 +94,21 @@ bindings_after (action.LsnForFile file) told bindings = bindings
 bindings_after (action.SetLog file handle) told bindings = bindings
 bindings_after (action.Append handle bytes) told bindings = bindings
 bindings_after (action.LogFlush handle lsn) told bindings = bindings
+bindings_after (action.SetGranularity file bytes) told bindings = bindings
+bindings_after (action.SetAttributes file no_read_ahead no_write_behind) told bindings = bindings
+bindings_after (action.SetThreshold file pages) told bindings = bindings
+bindings_after (action.NcReadPage file page) told bindings = bindings
+bindings_after (action.NcStorePage file page bytes) told bindings = bindings
+bindings_after (action.NcWritePage file page) told bindings = bindings
+bindings_after (action.Fill page) told bindings = bindings
+bindings_after (action.Drop page) told bindings = bindings
+bindings_after (action.WriteBegin page) told bindings = bindings
+bindings_after (action.WriteEnd page) told bindings = bindings
+bindings_after (action.Sync stream) told bindings = bindings
+bindings_after action.Scan told bindings = bindings
+bindings_after (action.CanWrite file bytes) told bindings = bindings
+bindings_after (action.Defer file bytes retrying) told bindings = bindings
+bindings_after action.Post told bindings = bindings
 
 -- the deferred writes that the line posted
 abbrev pub posted_by : Action → Answer → List ℕ
@@ -124,3 +145,18 @@ posted_by (action.LsnForFile file) told = []
 posted_by (action.SetLog file handle) told = []
 posted_by (action.Append handle bytes) told = []
 posted_by (action.LogFlush handle lsn) told = []
+posted_by (action.SetGranularity file bytes) told = []
+posted_by (action.SetAttributes file no_read_ahead no_write_behind) told = []
+posted_by (action.SetThreshold file pages) told = []
+posted_by (action.NcReadPage file page) told = []
+posted_by (action.NcStorePage file page bytes) told = []
+posted_by (action.NcWritePage file page) told = []
+posted_by (action.Fill page) told = []
+posted_by (action.Drop page) told = []
+posted_by (action.WriteBegin page) told = []
+posted_by (action.WriteEnd page) told = []
+posted_by (action.Sync stream) told = []
+posted_by action.Scan told = []
+posted_by (action.CanWrite file bytes) told = []
+posted_by (action.Defer file bytes retrying) told = []
+posted_by action.Post told = []

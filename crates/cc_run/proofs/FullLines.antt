@@ -106,6 +106,10 @@ module _ (u : Setup) (me entries : ℕ) (old new : List Entry) where
   grew-served bindings (action.SetLog file handle) left = grew-call (call.SetLog file handle) left
   grew-served bindings (action.Append handle bytes) left = grew-append handle bytes left
   grew-served bindings (action.LogFlush handle lsn) left = grew-log_flush handle lsn left
+  grew-served bindings (action.SetGranularity file bytes) left = grew-call (call.SetGranularity file bytes) left
+  grew-served bindings (action.SetAttributes file no_read_ahead no_write_behind) left = grew-call (call.SetAttributes file no_read_ahead no_write_behind) left
+  grew-served bindings (action.SetThreshold file pages) left = grew-call (call.SetThreshold file pages) left
+  grew-served bindings other left = absurd left
 
 -- the same where a noncached line tells it, which is the only one that is answered so
 module _ (u : Setup) (me done : ℕ) (cause : CcError) (old new : List Entry) where
@@ -162,6 +166,10 @@ module _ (u : Setup) (me done : ℕ) (cause : CcError) (old new : List Entry) wh
   grew-cut_off bindings (action.SetLog file handle) left = absurd left
   grew-cut_off bindings (action.Append handle bytes) left = absurd left
   grew-cut_off bindings (action.LogFlush handle lsn) left = absurd left
+  grew-cut_off bindings (action.SetGranularity file bytes) left = absurd left
+  grew-cut_off bindings (action.SetAttributes file no_read_ahead no_write_behind) left = absurd left
+  grew-cut_off bindings (action.SetThreshold file pages) left = absurd left
+  grew-cut_off bindings other left = absurd left
 
 -- a line that found the journal full was so with little room, where others have little under way
 pub room-served : (w : Standing) (limit : ℕ) (u : Setup) (me : ℕ) (bindings : List Binding) (asked : Action) (told : Answer) (old : List Entry) → Served u me bindings asked told old w.seen → w.in_flight ≡ 0 → w.others + 4 ≤ limit → IsFullTold w told → HadNoRoom w.setup limit told old w.seen

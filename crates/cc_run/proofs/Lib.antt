@@ -16,6 +16,8 @@ mod DirtyRows
 mod Returned
 mod DiskSteps
 mod LogSteps
+mod PostSteps
+mod WorldEnds
 mod Told
 pub mod Merging
 pub mod CallersRan

@@ -14,6 +14,9 @@ use Rattle.cc_script.specs.declared.script.Action.{Action}
 use Rattle.cc_script.specs.declared.script.Action.TheVariants as action
 use Rattle.cc_script.specs.declared.script.ActionLine.{ActionLine}
 use Rattle.cc_script.specs.declared.script.StreamLine.{StreamLine}
+use Rattle.cc_script.specs.declared.script.Mode.TheVariants as mode
+use Rattle.cc_script.specs.EventActions.{defer_lines}
+use Rattle.cc_script.specs.Modes.{IsLineOf, action_modes, stands}
 use Rattle.cc_script.specs.Within.{IsActionWithin, IsLineWithin}
 use Rattle.cc_model.specs.Setup.{Setup}
 use Rattle.cc_turns.specs.Disk.{DiskStands}
@@ -26,55 +29,78 @@ use Rattle.cc_run.specs.Logs.{LogsStand}
 use Rattle.cc_run.specs.Setups.{setup_of}
 use Rattle.cc_lines.specs.Line.{IsServable}
 use Rattle.cc_run.specs.Lines.{StreamsOpened}
-use Rattle.cc_run.proofs.Lists.{all-map}
+use Rattle.cc_run.proofs.Lists.{all-both, all-map}
 
--- an action on a stream of the script is served, and so is one on no stream
-servable : (streams : List StreamLine) (n : ℕ) (asked : Action) → length streams ≤ n → IsActionWithin streams asked → IsServable n asked
-servable streams n (action.Initialise file sizes quota temporary) few within = let there = within.stream in omega (arith, there, few)
-servable streams n (action.Uninitialise file truncate) few within = let there = within.stream in omega (arith, there, few)
-servable streams n (action.CopyRead file at len wait) few within = let there = within.stream in omega (arith, there, few)
-servable streams n (action.CopyWrite file at bytes) few within = let there = within.stream in omega (arith, there, few)
-servable streams n (action.Zero file span) few within = let there = within.stream in omega (arith, there, few)
-servable streams n (action.Map file at len word) few within = let there = within.stream in omega (arith, there, few)
-servable streams n (action.PinRead file at len word exclusive) few within = let there = within.stream in omega (arith, there, few)
-servable streams n (action.PreparePin file at len word zero exclusive) few within = let there = within.stream in omega (arith, there, few)
-servable streams n (action.MdlRead file at len word) few within = let there = within.stream in omega (arith, there, few)
-servable streams n (action.MdlWrite file at len word) few within = let there = within.stream in omega (arith, there, few)
-servable streams n (action.SetSizes file allocation size) few within = let there = within.stream in omega (arith, there, few)
-servable streams n (action.State file) few within = let there = within.stream in omega (arith, there, few)
-servable streams n (action.Flush file span) few within = let there = within.stream in omega (arith, there, few)
-servable streams n (action.Purge file span) few within = let there = within.stream in omega (arith, there, few)
-servable streams n (action.NcRead file at len) few within = let there = within.stream in omega (arith, there, few)
-servable streams n (action.NcWrite file at bytes) few within = let there = within.stream in omega (arith, there, few)
-servable streams n (action.LsnForFile file) few within = let there = within.stream in omega (arith, there, few)
-servable streams n (action.SetLog file handle) few within = let there = within.stream in omega (arith, there, few)
-servable streams n (action.PinMapped word exclusive) few within = tt
-servable streams n (action.HeldRead word at len) few within = tt
-servable streams n (action.PinnedWrite word at bytes) few within = tt
-servable streams n (action.SetDirty word lsn) few within = tt
-servable streams n (action.Unpin word) few within = tt
-servable streams n (action.Repin word made) few within = tt
-servable streams n (action.UnpinRepinned word through) few within = tt
-servable streams n (action.MdlBytes word at len) few within = tt
-servable streams n (action.MdlStore word at bytes) few within = tt
-servable streams n (action.MdlDone word) few within = tt
-servable streams n (action.MdlAbort word) few within = tt
-servable streams n (action.DirtyPages handle) few within = tt
-servable streams n (action.Append handle bytes) few within = tt
-servable streams n (action.LogFlush handle lsn) few within = tt
-servable streams n action.IsDirtyData few within = tt
+-- an action of a run on a stream of the script is served, and so is one on no stream
+servable : (streams : List StreamLine) (n : ℕ) (asked : Action) → length streams ≤ n → stands (action_modes asked) mode.Run ≡ true → IsActionWithin streams asked → IsServable n asked
+servable streams n (action.Initialise file sizes quota temporary) few run within = let there = within.stream in omega (arith, there, few)
+servable streams n (action.Uninitialise file truncate) few run within = let there = within.stream in omega (arith, there, few)
+servable streams n (action.CopyRead file at len wait) few run within = let there = within.stream in omega (arith, there, few)
+servable streams n (action.CopyWrite file at bytes) few run within = let there = within.stream in omega (arith, there, few)
+servable streams n (action.Zero file span) few run within = let there = within.stream in omega (arith, there, few)
+servable streams n (action.Map file at len word) few run within = let there = within.stream in omega (arith, there, few)
+servable streams n (action.PinRead file at len word exclusive) few run within = let there = within.stream in omega (arith, there, few)
+servable streams n (action.PreparePin file at len word zero exclusive) few run within = let there = within.stream in omega (arith, there, few)
+servable streams n (action.MdlRead file at len word) few run within = let there = within.stream in omega (arith, there, few)
+servable streams n (action.MdlWrite file at len word) few run within = let there = within.stream in omega (arith, there, few)
+servable streams n (action.SetSizes file allocation size) few run within = let there = within.stream in omega (arith, there, few)
+servable streams n (action.State file) few run within = let there = within.stream in omega (arith, there, few)
+servable streams n (action.Flush file span) few run within = let there = within.stream in omega (arith, there, few)
+servable streams n (action.Purge file span) few run within = let there = within.stream in omega (arith, there, few)
+servable streams n (action.NcRead file at len) few run within = let there = within.stream in omega (arith, there, few)
+servable streams n (action.NcWrite file at bytes) few run within = let there = within.stream in omega (arith, there, few)
+servable streams n (action.LsnForFile file) few run within = let there = within.stream in omega (arith, there, few)
+servable streams n (action.SetLog file handle) few run within = let there = within.stream in omega (arith, there, few)
+servable streams n (action.PinMapped word exclusive) few run within = tt
+servable streams n (action.HeldRead word at len) few run within = tt
+servable streams n (action.PinnedWrite word at bytes) few run within = tt
+servable streams n (action.SetDirty word lsn) few run within = tt
+servable streams n (action.Unpin word) few run within = tt
+servable streams n (action.Repin word made) few run within = tt
+servable streams n (action.UnpinRepinned word through) few run within = tt
+servable streams n (action.MdlBytes word at len) few run within = tt
+servable streams n (action.MdlStore word at bytes) few run within = tt
+servable streams n (action.MdlDone word) few run within = tt
+servable streams n (action.MdlAbort word) few run within = tt
+servable streams n (action.DirtyPages handle) few run within = tt
+servable streams n (action.Append handle bytes) few run within = tt
+servable streams n (action.LogFlush handle lsn) few run within = tt
+servable streams n action.IsDirtyData few run within = tt
+servable streams n (action.SetGranularity file bytes) few run within = let there = within.stream in omega (arith, there, few)
+servable streams n (action.SetAttributes file no_read_ahead no_write_behind) few run within = let there = within.stream in omega (arith, there, few)
+servable streams n (action.SetThreshold file pages) few run within = let there = within.stream in omega (arith, there, few)
+servable streams n (action.NcReadPage file page) few run within = absurd (cc run)
+servable streams n (action.NcStorePage file page bytes) few run within = absurd (cc run)
+servable streams n (action.NcWritePage file page) few run within = absurd (cc run)
+servable streams n (action.Fill page) few run within = absurd (cc run)
+servable streams n (action.Drop page) few run within = absurd (cc run)
+servable streams n (action.WriteBegin page) few run within = absurd (cc run)
+servable streams n (action.WriteEnd page) few run within = absurd (cc run)
+servable streams n (action.Sync stream) few run within = absurd (cc run)
+servable streams n action.Scan few run within = absurd (cc run)
+servable streams n (action.CanWrite file bytes) few run within = absurd (cc run)
+servable streams n (action.Defer file bytes retrying) few run within = absurd (cc run)
+servable streams n action.Post few run within = absurd (cc run)
 
-pub servable-all : (streams : List StreamLine) (phases n : ℕ) (lines : List ActionLine) → length streams ≤ n → AllByRecursion (IsLineWithin streams phases) lines → AllByRecursion (λ line. IsServable n line.action) lines
-servable-all streams phases n lines few within =
-    all-map (IsLineWithin streams phases) (λ line. IsServable n line.action) lines (λ line is. servable streams n line.action few is.file) within
+pub servable-all : (streams : List StreamLine) (phases n : ℕ) (lines : List ActionLine) → length streams ≤ n → AllByRecursion (IsLineOf mode.Run) lines → AllByRecursion (IsLineWithin streams phases) lines → AllByRecursion (λ line. IsServable n line.action) lines
+servable-all streams phases n lines few run within =
+    all-map (λ line. IsLineOf mode.Run line × IsLineWithin streams phases line) (λ line. IsServable n line.action) lines (λ line is. servable streams n line.action few is.0.in_mode is.1.file)
+    (all-both (IsLineOf mode.Run) (IsLineWithin streams phases) lines run within)
 
--- where there are devices for a script, there is a disk for each stream
-pub enough-disks : (disks logs : ℕ) (script : Script) → has_devices disks logs script ≡ true → length script.streams ≤ disks
-enough-disks disks logs script enough = by (nat_le (length script.streams) disks) refl enough
-  where
-    by : (b : Bool) → nat_le (length script.streams) disks ≡ b → (b && list_all (λ stream. has_log logs stream.log) script.streams) ≡ true → length script.streams ≤ disks
-    by true is all = leb-true (length script.streams) disks is
-    by false is all = absurd (cc all)
+both-true : (a b : Bool) → (a && b) ≡ true → (a ≡ true) × (b ≡ true)
+both-true true b is = (refl, is)
+both-true false b is = absurd (cc is)
+
+-- where there are devices for a script, there is a disk for each stream, and a routine for each line that defers a write
+module _ (disks logs posts : ℕ) (script : Script) (enough : has_devices disks logs posts script ≡ true) where
+  rests : (nat_le (length script.streams) disks ≡ true) × ((list_all (λ stream. has_log logs stream.log) script.streams && nat_le (defer_lines script.lines) posts) ≡ true)
+  rests = both-true (nat_le (length script.streams) disks) (list_all (λ stream. has_log logs stream.log) script.streams && nat_le (defer_lines script.lines) posts) enough
+
+  pub enough-disks : length script.streams ≤ disks
+  enough-disks = leb-true (length script.streams) disks rests.0
+
+  pub enough-posts : defer_lines script.lines ≤ posts
+  enough-posts = leb-true (defer_lines script.lines) posts (both-true (list_all (λ stream. has_log logs stream.log) script.streams) (nat_le (defer_lines script.lines) posts) rests.1).1
 
 -- each stream has a reply
 pub opened-long : (u : Setup) (s : ℕ) (streams : List StreamLine) (before after : List LineReply) (old new : List Entry) → StreamsOpened u s streams before after old new → length after ≡ length before + length streams

@@ -4,11 +4,10 @@ use Rattle.cc_entry.specs.declared.answer.LineReply.{LineReply}
 use Rattle.cc_entry.specs.declared.entry.Entry.{Entry}
 use Rattle.cc_traits.specs.Told.{Both, IfTold, Gave}
 use Rattle.cc_script.specs.declared.script.Script.{Script}
-use Rattle.cc_script.specs.declared.script.Mode.TheVariants as mode
 use Rattle.cc_script.specs.Grammar.{script_of}
 use Rattle.cc_print.specs.Text.{text_of}
 use Rattle.cc_pieces.specs.Table.{table_of}
-use Rattle.cc_run.specs.Words.{is_run}
+use Rattle.cc_run.specs.Words.{is_command, mode_in}
 use Rattle.cc_run.specs.Ends.{Input, Output, status_of, IsCause, IsRead, IsWrong, WasTaken, TookMany, HasTooFewDevices, HasFailed, Spells, IsPut, IsRun, IsEnded, has_devices}
 use Rattle.cc_run.specs.Complete.{Comes}
 use Rattle.cc_run.specs.declared.no_run.NoRun.{NoRun}
@@ -43,11 +42,11 @@ read-few i told w is read = omega (arith, read-count i.left i.left_after told w.
 many-told : (i : Input) (told : List ℕ) → WasTaken i.left i.left_after i.taken i.taken_after → i.left ≡ Some told → TookMany i → 16777216 < length told
 many-told i told w is many = omega (arith, taken-count i.left i.left_after told w.bytes is w.front, w.count, many)
 
-wrong-is : (left : Option (List ℕ)) (told : List ℕ) (line : ℕ) → left ≡ Some told → IsWrong left line → script_of mode.Run told ≡ Err line
-wrong-is left told line is w = rw (told-same left told w.bytes is w.all) at w.wrong
+wrong-is : (words : List (List ℕ)) (left : Option (List ℕ)) (told : List ℕ) (line : ℕ) → left ≡ Some told → IsWrong words left line → script_of (mode_in words) told ≡ Err line
+wrong-is words left told line is w = rw (told-same left told w.bytes is w.all) at w.wrong
 
-spells-is : (left : Option (List ℕ)) (told : List ℕ) (script : Script) → left ≡ Some told → Spells left script → script_of mode.Run told ≡ Ok script
-spells-is left told script is w = rw (told-same left told w.bytes is w.all) at w.spelled
+spells-is : (words : List (List ℕ)) (left : Option (List ℕ)) (told : List ℕ) (script : Script) → left ≡ Some told → Spells words left script → script_of (mode_in words) told ≡ Ok script
+spells-is words left told script is w = rw (told-same left told w.bytes is w.all) at w.spelled
 
 not-both : (r : Result Script ℕ) (script : Script) (line : ℕ) → r ≡ Ok script → r ≡ Err line → ⊥
 not-both r script line ok err = absurd (cc (ok, err))
@@ -75,17 +74,17 @@ module _ (i : Input) (o : Output) (script : Option Script) (replies : List LineR
       go None e = by e.2.why (sym is ∙ e.2.status_is) e.2.cause
       go (Some one) e = run e.printed.status_is
 
-  pub usage-at : status ≡ 1 → is_run i.words ≡ false
-  usage-at = cause-at 1 (is_run i.words ≡ false) by (λ e. absurd (cc e)) (λ e. absurd (cc e)) (λ e. absurd (cc e))
+  pub usage-at : status ≡ 1 → is_command i.words ≡ false
+  usage-at = cause-at 1 (is_command i.words ≡ false) by (λ e. absurd (cc e)) (λ e. absurd (cc e)) (λ e. absurd (cc e))
     where
-      by : (why : NoRun) → 1 ≡ status_of why → IsCause i why → is_run i.words ≡ false
+      by : (why : NoRun) → 1 ≡ status_of why → IsCause i why → is_command i.words ≡ false
       by no_run.Usage is cause = cause
       by other is cause = absurd (cc is)
 
-  pub syntax-at : status ≡ 2 → (line : ℕ) × IsWrong i.left line
-  syntax-at = cause-at 2 ((line : ℕ) × IsWrong i.left line) by (λ e. absurd (cc e)) (λ e. absurd (cc e)) (λ e. absurd (cc e))
+  pub syntax-at : status ≡ 2 → (line : ℕ) × IsWrong i.words i.left line
+  syntax-at = cause-at 2 ((line : ℕ) × IsWrong i.words i.left line) by (λ e. absurd (cc e)) (λ e. absurd (cc e)) (λ e. absurd (cc e))
     where
-      by : (why : NoRun) → 2 ≡ status_of why → IsCause i why → (line : ℕ) × IsWrong i.left line
+      by : (why : NoRun) → 2 ≡ status_of why → IsCause i why → (line : ℕ) × IsWrong i.words i.left line
       by (no_run.Syntax line) is cause = (line, cause.1)
       by other is cause = absurd (cc is)
 
@@ -123,7 +122,7 @@ module _ (i : Input) (o : Output) (script : Option Script) (replies : List LineR
       go (Some one) e = e.printed.failed is
 
   -- wrong words are always status 1, or memory was wanting
-  pub words-always : is_run i.words ≡ false → (status ≡ 1) ⊎ (status ≡ 6)
+  pub words-always : is_command i.words ≡ false → (status ≡ 1) ⊎ (status ≡ 6)
   words-always wrong = go script ended
     where
       by : (why : NoRun) → IsCause i why → (status_of why ≡ 1) ⊎ (status_of why ≡ 6)
@@ -156,10 +155,10 @@ module _ (i : Input) (o : Output) (script : Option Script) (replies : List LineR
       go None e at' = none e.2.why e.2.status_is at'
       go (Some one) e at' = refl
 
-  pub spelled-at : IfSome script (Spells i.left)
+  pub spelled-at : IfSome script (Spells i.words i.left)
   spelled-at = go script ended
     where
-      go : (s : Option Script) → IsEnded i o s replies journal status → IfSome s (Spells i.left)
+      go : (s : Option Script) → IsEnded i o s replies journal status → IfSome s (Spells i.words i.left)
       go None e = tt
       go (Some one) e = e.spelled
 
@@ -189,7 +188,7 @@ module _ (i : Input) (o : Output) (script : Option Script) (replies : List LineR
       go None e = at e.2.why e.2.status_is (by e.2.why e.2.cause)
       go (Some one) e = run one e
 
-  pub syntax-always : WasTaken i.left i.left_after i.taken i.taken_after → (bytes : List ℕ) (line : ℕ) → Comes i bytes → script_of mode.Run bytes ≡ Err line → (status ≡ 2) ⊎ (status ≡ 6)
+  pub syntax-always : WasTaken i.left i.left_after i.taken i.taken_after → (bytes : List ℕ) (line : ℕ) → Comes i bytes → script_of (mode_in i.words) bytes ≡ Err line → (status ≡ 2) ⊎ (status ≡ 6)
   syntax-always w bytes line comes wrong = refused-at 2 by run
     where
       by : (why : NoRun) → IsCause i why → (status_of why ≡ 2) ⊎ (status_of why ≡ 6)
@@ -198,12 +197,12 @@ module _ (i : Input) (o : Output) (script : Option Script) (replies : List LineR
       by no_run.ReadFault cause = absurd (omega (arith, cause.1, comes.no_fault))
       by no_run.TooLong cause = absurd (omega (arith, many-told i bytes w comes.told cause.1, comes.short))
       by no_run.NoMemory cause = inr refl
-      by no_run.TooFewDevices cause = absurd (not-both _ cause.1.script line (spells-is i.left bytes cause.1.script comes.told cause.1.spelled) wrong)
+      by no_run.TooFewDevices cause = absurd (not-both _ cause.1.script line (spells-is i.words i.left bytes cause.1.script comes.told cause.1.spelled) wrong)
 
       run : (made : Script) → IsRun i o made replies journal status → (status ≡ 2) ⊎ (status ≡ 6)
-      run made e = absurd (not-both _ made line (spells-is i.left bytes made comes.told e.spelled) wrong)
+      run made e = absurd (not-both _ made line (spells-is i.words i.left bytes made comes.told e.spelled) wrong)
 
-  pub too_long-always : (is_run i.words ≡ false → i.taken_after ≡ i.taken) → TookMany i → (status ≡ 5) ⊎ (status ≡ 6)
+  pub too_long-always : (is_command i.words ≡ false → i.taken_after ≡ i.taken) → TookMany i → (status ≡ 5) ⊎ (status ≡ 6)
   too_long-always untouched many = refused-at 5 by run
     where
       by : (why : NoRun) → IsCause i why → (status_of why ≡ 5) ⊎ (status_of why ≡ 6)
@@ -217,7 +216,7 @@ module _ (i : Input) (o : Output) (script : Option Script) (replies : List LineR
       run : (made : Script) → IsRun i o made replies journal status → (status ≡ 5) ⊎ (status ≡ 6)
       run made e = absurd (omega (arith, e.read.few, many))
 
-  pub too_long-told : WasTaken i.left i.left_after i.taken i.taken_after → (bytes : List ℕ) → is_run i.words ≡ true → i.left ≡ Some bytes → i.faults_after ≡ i.faults → 16777216 < length bytes → (status ≡ 5) ⊎ (status ≡ 6)
+  pub too_long-told : WasTaken i.left i.left_after i.taken i.taken_after → (bytes : List ℕ) → is_command i.words ≡ true → i.left ≡ Some bytes → i.faults_after ≡ i.faults → 16777216 < length bytes → (status ≡ 5) ⊎ (status ≡ 6)
   too_long-told w bytes words told no_fault many = refused-at 5 by run
     where
       by : (why : NoRun) → IsCause i why → (status_of why ≡ 5) ⊎ (status_of why ≡ 6)
@@ -231,12 +230,12 @@ module _ (i : Input) (o : Output) (script : Option Script) (replies : List LineR
       run : (made : Script) → IsRun i o made replies journal status → (status ≡ 5) ⊎ (status ≡ 6)
       run made e = absurd (omega (arith, read-few i bytes w told e.read, many))
 
-  pub too_few-always : WasTaken i.left i.left_after i.taken i.taken_after → (bytes : List ℕ) (made : Script) → Comes i bytes → script_of mode.Run bytes ≡ Ok made → has_devices i.disks i.logs made ≡ false → (status ≡ 7) ⊎ (status ≡ 6)
+  pub too_few-always : WasTaken i.left i.left_after i.taken i.taken_after → (bytes : List ℕ) (made : Script) → Comes i bytes → script_of (mode_in i.words) bytes ≡ Ok made → has_devices i.disks i.logs i.posts made ≡ false → (status ≡ 7) ⊎ (status ≡ 6)
   too_few-always w bytes made comes spelled few = refused-at 7 by run
     where
       by : (why : NoRun) → IsCause i why → (status_of why ≡ 7) ⊎ (status_of why ≡ 6)
       by no_run.Usage cause = absurd (cc (cause, comes.words))
-      by (no_run.Syntax l) cause = absurd (not-both _ made l spelled (wrong-is i.left bytes l comes.told cause.1))
+      by (no_run.Syntax l) cause = absurd (not-both _ made l spelled (wrong-is i.words i.left bytes l comes.told cause.1))
       by no_run.ReadFault cause = absurd (omega (arith, cause.1, comes.no_fault))
       by no_run.TooLong cause = absurd (omega (arith, many-told i bytes w comes.told cause.1, comes.short))
       by no_run.NoMemory cause = inr refl
@@ -244,21 +243,21 @@ module _ (i : Input) (o : Output) (script : Option Script) (replies : List LineR
 
       run : (one : Script) → IsRun i o one replies journal status → (status ≡ 7) ⊎ (status ≡ 6)
       run one e =
-          let same : one ≡ made = one-script _ one made (spells-is i.left bytes one comes.told e.spelled) spelled in
-          absurd (cc (few, subst (λ s. has_devices i.disks i.logs s ≡ true) same e.enough))
+          let same : one ≡ made = one-script _ one made (spells-is i.words i.left bytes one comes.told e.spelled) spelled in
+          absurd (cc (few, subst (λ s. has_devices i.disks i.logs i.posts s ≡ true) same e.enough))
 
-  pub complete : WasTaken i.left i.left_after i.taken i.taken_after → (bytes : List ℕ) (made : Script) → Comes i bytes → script_of mode.Run bytes ≡ Ok made → has_devices i.disks i.logs made ≡ true → o.faults_after ≡ o.faults → o.stalls_after ≡ o.stalls → (status ≡ 0) ⊎ (status ≡ 6)
+  pub complete : WasTaken i.left i.left_after i.taken i.taken_after → (bytes : List ℕ) (made : Script) → Comes i bytes → script_of (mode_in i.words) bytes ≡ Ok made → has_devices i.disks i.logs i.posts made ≡ true → o.faults_after ≡ o.faults → o.stalls_after ≡ o.stalls → (status ≡ 0) ⊎ (status ≡ 6)
   complete w bytes made comes spelled enough calm steady = refused-at 0 by run
     where
       by : (why : NoRun) → IsCause i why → (status_of why ≡ 0) ⊎ (status_of why ≡ 6)
       by no_run.Usage cause = absurd (cc (cause, comes.words))
-      by (no_run.Syntax l) cause = absurd (not-both _ made l spelled (wrong-is i.left bytes l comes.told cause.1))
+      by (no_run.Syntax l) cause = absurd (not-both _ made l spelled (wrong-is i.words i.left bytes l comes.told cause.1))
       by no_run.ReadFault cause = absurd (omega (arith, cause.1, comes.no_fault))
       by no_run.TooLong cause = absurd (omega (arith, many-told i bytes w comes.told cause.1, comes.short))
       by no_run.NoMemory cause = inr refl
       by no_run.TooFewDevices cause =
-          let same : cause.1.script ≡ made = one-script _ cause.1.script made (spells-is i.left bytes cause.1.script comes.told cause.1.spelled) spelled in
-          absurd (cc (enough, subst (λ s. has_devices i.disks i.logs s ≡ false) same cause.1.few))
+          let same : cause.1.script ≡ made = one-script _ cause.1.script made (spells-is i.words i.left bytes cause.1.script comes.told cause.1.spelled) spelled in
+          absurd (cc (enough, subst (λ s. has_devices i.disks i.logs i.posts s ≡ false) same cause.1.few))
 
       at : (status ≡ 0) ⊎ ((status ≡ 4) ⊎ (status ≡ 6)) → (status ≡ 4 → HasFailed o) → (status ≡ 0) ⊎ (status ≡ 6)
       at (inl zero) failed = inl zero

@@ -2,21 +2,20 @@
 -- says so of the count of its bytes alone.
 use Rattle.std.specs.Prelude.{◌≡◌, ◌<◌, ◌≤◌, ◌⊎◌, true, false, List, ℕ, length, Some, Result, Ok, Err}
 use Rattle.cc_script.specs.declared.script.Script.{Script}
-use Rattle.cc_script.specs.declared.script.Mode.TheVariants as mode
 use Rattle.cc_script.specs.Grammar.{script_of}
-use Rattle.cc_run.specs.Words.{is_run}
+use Rattle.cc_run.specs.Words.{is_command, mode_in}
 use Rattle.cc_run.specs.Ends.{Input, Output, TookMany, has_devices}
 
 -- The words are right, and these bytes, no more than a script may have, come from a source without a fault.
 pub record Comes (i : Input) (bytes : List ℕ) : Type 0 where
-  pub words : is_run i.words ≡ true
+  pub words : is_command i.words ≡ true
   pub told : i.left ≡ Some bytes
   pub short : length bytes ≤ 16777216
   pub no_fault : i.faults_after ≡ i.faults
 
--- the script that bytes spell, or their first wrong line
-abbrev pub spelled_by : List ℕ → Result Script ℕ
-spelled_by bytes = script_of mode.Run bytes
+-- the script that bytes spell in the mode of the words, or their first wrong line
+abbrev pub spelled_by : Input → List ℕ → Result Script ℕ
+spelled_by i bytes = script_of (mode_in i.words) bytes
 
 -- this status, or want of memory
 abbrev pub EndsWith : ℕ → ℕ → Type 0
@@ -24,7 +23,7 @@ EndsWith status expected = (status ≡ expected) ⊎ (status ≡ 6)
 
 -- a wrong line is 2
 abbrev pub SyntaxAlways : Input → ℕ → Type 0
-SyntaxAlways i status = (bytes : List ℕ) (line : ℕ) → Comes i bytes → spelled_by bytes ≡ Err line → EndsWith status 2
+SyntaxAlways i status = (bytes : List ℕ) (line : ℕ) → Comes i bytes → spelled_by i bytes ≡ Err line → EndsWith status 2
 
 -- more bytes taken than a script may have are 5
 abbrev pub TooLongAlways : Input → ℕ → Type 0
@@ -33,18 +32,19 @@ TooLongAlways i status = TookMany i → EndsWith status 5
 -- where the source tells its bytes and does not fail, more of them than a script may have are 5
 abbrev pub TooLongTold : Input → ℕ → Type 0
 TooLongTold i status =
-    (bytes : List ℕ) → is_run i.words ≡ true → i.left ≡ Some bytes → i.faults_after ≡ i.faults → 16777216 < length bytes → EndsWith status 5
+    (bytes : List ℕ) → is_command i.words ≡ true → i.left ≡ Some bytes → i.faults_after ≡ i.faults →
+    16777216 < length bytes → EndsWith status 5
 
--- more streams than disks, or a log that there is not, are 7
+-- more streams than disks, a log that there is not, or more deferrals than routines are 7
 abbrev pub TooFewAlways : Input → ℕ → Type 0
 TooFewAlways i status =
-    (bytes : List ℕ) (script : Script) → Comes i bytes → spelled_by bytes ≡ Ok script →
-    has_devices i.disks i.logs script ≡ false → EndsWith status 7
+    (bytes : List ℕ) (script : Script) → Comes i bytes → spelled_by i bytes ≡ Ok script →
+    has_devices i.disks i.logs i.posts script ≡ false → EndsWith status 7
 
--- A script of the grammar, with a disk for each stream and each log that a stream names, over a sink that does not fail
--- and takes something wherever there are bytes, is 0.
+-- A script of the grammar, with a disk for each stream, each log that a stream names and a routine for each deferral, over
+-- a sink that does not fail and takes something wherever there are bytes, is 0.
 abbrev pub Completes : Input → Output → ℕ → Type 0
 Completes i o status =
-    (bytes : List ℕ) (script : Script) → Comes i bytes → spelled_by bytes ≡ Ok script →
-    has_devices i.disks i.logs script ≡ true →
+    (bytes : List ℕ) (script : Script) → Comes i bytes → spelled_by i bytes ≡ Ok script →
+    has_devices i.disks i.logs i.posts script ≡ true →
     o.faults_after ≡ o.faults → o.stalls_after ≡ o.stalls → EndsWith status 0

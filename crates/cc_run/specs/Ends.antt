@@ -5,11 +5,11 @@ use Rattle.cc_entry.specs.declared.answer.LineReply.{LineReply}
 use Rattle.cc_entry.specs.declared.entry.Entry.{Entry}
 use Rattle.cc_traits.specs.Told.{Both, IfTold, Gave, Took}
 use Rattle.cc_script.specs.declared.script.Script.{Script}
-use Rattle.cc_script.specs.declared.script.Mode.TheVariants as mode
+use Rattle.cc_script.specs.EventActions.{defer_lines}
 use Rattle.cc_script.specs.Grammar.{script_of}
 use Rattle.cc_print.specs.Text.{text_of}
 use Rattle.cc_pieces.specs.Table.{table_of}
-use Rattle.cc_run.specs.Words.{is_run}
+use Rattle.cc_run.specs.Words.{is_command, mode_in}
 use Rattle.cc_run.specs.declared.no_run.NoRun.{NoRun}
 use Rattle.cc_run.specs.declared.no_run.NoRun.TheVariants as no_run
 
@@ -43,7 +43,8 @@ fault_text no_run.NoMemory = []
 fault_text no_run.TooFewDevices = codes "too few devices" ++ line_feed
 
 -- What went into the program: its words; of the source, before and after, what it told of the bytes that
--- were left, its count of faults and how many bytes were taken from it; and the numbers of disks and of logs.
+-- were left, its count of faults and how many bytes were taken from it; and the numbers of disks, of logs and of post
+-- routines.
 pub record Input : Type 0 where
   pub words : List (List ℕ)
   pub left : Option (List ℕ)
@@ -54,10 +55,11 @@ pub record Input : Type 0 where
   pub taken_after : ℕ
   pub disks : ℕ
   pub logs : ℕ
+  pub posts : ℕ
 
 -- the input of a source that tells so
-abbrev pub input : {S : Type 0} → (S → Option (List ℕ)) → (S → ℕ) → (S → ℕ) → List (List ℕ) → S → S → ℕ → ℕ → Input
-input told faults taken words old new disks logs =
+abbrev pub input : {S : Type 0} → (S → Option (List ℕ)) → (S → ℕ) → (S → ℕ) → List (List ℕ) → S → S → ℕ → ℕ → ℕ → Input
+input told faults taken words old new disks logs posts =
     record {
       words = words;
       left = told old;
@@ -68,6 +70,7 @@ input told faults taken words old new disks logs =
       taken_after = taken new;
       disks = disks;
       logs = logs;
+      posts = posts;
     }
 
 -- What came out of it: what the sink told of the bytes that it took, before and after, and its counts of
@@ -98,17 +101,17 @@ pub record WasTaken (left left_after : Option (List ℕ)) (taken taken_after : �
   pub count : taken_after ≡ taken + length bytes
   pub front : Both left left_after (Gave bytes)
 
--- some bytes, all that were left where the source told them, spell the script
-pub record Spells (left : Option (List ℕ)) (script : Script) : Type 0 where
+-- some bytes, all that were left where the source told them, spell the script in the mode of the words
+pub record Spells (words : List (List ℕ)) (left : Option (List ℕ)) (script : Script) : Type 0 where
   pub bytes : List ℕ
   pub all : IfTold left (λ told. bytes ≡ told)
-  pub spelled : script_of mode.Run bytes ≡ Ok script
+  pub spelled : script_of (mode_in words) bytes ≡ Ok script
 
 -- some bytes, all that were left where the source told them, have this line as their first wrong one
-pub record IsWrong (left : Option (List ℕ)) (line : ℕ) : Type 0 where
+pub record IsWrong (words : List (List ℕ)) (left : Option (List ℕ)) (line : ℕ) : Type 0 where
   pub bytes : List ℕ
   pub all : IfTold left (λ told. bytes ≡ told)
-  pub wrong : script_of mode.Run bytes ≡ Err line
+  pub wrong : script_of (mode_in words) bytes ≡ Err line
 
 -- no more bytes were taken than a script may have
 abbrev pub TookFew : Input → Type 0
@@ -127,31 +130,33 @@ abbrev pub has_log : ℕ → Option ℕ → Bool
 has_log logs None = true
 has_log logs (Some handle) = nat_lt handle logs
 
--- whether so many disks and logs are enough for a script: there is a disk for each stream, and each log that a stream
--- names
-abbrev pub has_devices : ℕ → ℕ → Script → Bool
-has_devices disks logs script =
-    nat_le (length script.streams) disks && list_all (λ stream. has_log logs stream.log) script.streams
+-- whether so many disks, logs and post routines are enough for a script: there is a disk for each stream, each log that a
+-- stream names, and a routine for each line that defers a write
+abbrev pub has_devices : ℕ → ℕ → ℕ → Script → Bool
+has_devices disks logs posts script =
+    nat_le (length script.streams) disks
+    && (list_all (λ stream. has_log logs stream.log) script.streams && nat_le (defer_lines script.lines) posts)
 
--- a script of the bytes has more streams than there are disks, or names a log that there is not
+-- a script of the bytes has more streams than there are disks, names a log that there is not, or defers more writes than
+-- there are routines
 pub record HasTooFewDevices (i : Input) : Type 0 where
   pub script : Script
-  pub spelled : Spells i.left script
-  pub few : has_devices i.disks i.logs script ≡ false
+  pub spelled : Spells i.words i.left script
+  pub few : has_devices i.disks i.logs i.posts script ≡ false
 
 -- the words were right, and the source was taken to its end without a fault
 pub record IsRead (i : Input) : Type 0 where
-  pub words : is_run i.words ≡ true
+  pub words : is_command i.words ≡ true
   pub end : IfTold i.left_after (λ rest. rest ≡ [])
   pub few : TookFew i
   pub no_fault : i.faults_after ≡ i.faults
 
 -- why no run was made; want of memory may come at any point
 abbrev pub IsCause : Input → NoRun → Type 0
-IsCause i no_run.Usage = is_run i.words ≡ false
-IsCause i (no_run.Syntax line) = IsRead i × IsWrong i.left line
-IsCause i no_run.ReadFault = (is_run i.words ≡ true) × (i.faults < i.faults_after) × TookFew i
-IsCause i no_run.TooLong = (is_run i.words ≡ true) × TookMany i
+IsCause i no_run.Usage = is_command i.words ≡ false
+IsCause i (no_run.Syntax line) = IsRead i × IsWrong i.words i.left line
+IsCause i no_run.ReadFault = (is_command i.words ≡ true) × (i.faults < i.faults_after) × TookFew i
+IsCause i no_run.TooLong = (is_command i.words ≡ true) × TookMany i
 IsCause i no_run.NoMemory = Unit {0}
 IsCause i no_run.TooFewDevices = IsRead i × HasTooFewDevices i
 
@@ -198,8 +203,8 @@ pub record IsPrinted (o : Output) (text : List ℕ) (status : ℕ) : Type 0 wher
 -- a run was made of the script that the bytes spell
 pub record IsRun (i : Input) (o : Output) (script : Script) (replies : List LineReply) (journal : List Entry) (status : ℕ) : Type 0 where
   pub read : IsRead i
-  pub spelled : Spells i.left script
-  pub enough : has_devices i.disks i.logs script ≡ true
+  pub spelled : Spells i.words i.left script
+  pub enough : has_devices i.disks i.logs i.posts script ≡ true
   pub printed : IsPrinted o (text_of script replies journal (table_of (reverse journal))) status
 
 -- How the program ended: without a run it gives back no script, reply or entry; with one, the script.

@@ -1,6 +1,7 @@
 pub mod Desks
 pub mod Setups
 pub mod Lines
+pub mod Runs
 pub mod Rows
 pub mod Words
 pub mod Disks

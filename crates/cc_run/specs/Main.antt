@@ -4,7 +4,7 @@ use Rattle.std.specs.declared.option.Option.{Option}
 use Rattle.cc_entry.specs.declared.answer.LineReply.{LineReply}
 use Rattle.cc_entry.specs.declared.entry.Entry.{Entry}
 use Rattle.cc_script.specs.declared.script.Script.{Script}
-use Rattle.cc_run.specs.Words.{is_run}
+use Rattle.cc_run.specs.Words.{is_command}
 use Rattle.cc_run.specs.Ends.{Input, Output, IsEnded, WasTaken, TookNoMore}
 use Rattle.cc_run.specs.Complete.{EndsWith, SyntaxAlways, TooLongAlways, TooLongTold, TooFewAlways, Completes}
 
@@ -14,7 +14,7 @@ pub record HasMain (i : Input) (o : Output) (script : Option Script) (replies : 
   -- with a run, or without one: what is given back, what was printed, and the cause of the status
   pub ended : IsEnded i o script replies journal status
   -- the statuses that are sure to come, but for want of memory
-  pub usage : is_run i.words ≡ false → EndsWith status 1
+  pub usage : is_command i.words ≡ false → EndsWith status 1
   pub syntax : SyntaxAlways i status
   pub too_long : TooLongAlways i status
   pub too_long_told : TooLongTold i status

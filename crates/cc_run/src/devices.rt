@@ -6,11 +6,14 @@ ghost use Rattle.cc_run.specs.Ends.{has_devices, has_log};
 
 use cc_script::{Script, StreamLine};
 
-/// Whether there is a disk for each stream of a script, and each log that a stream names.
-pub(crate) fn has_devices(script: &Script, disks: usize, logs: usize) -> bool
-    ensures { result ≡ has_devices disks logs script.now }
+/// Whether there is a disk for each stream of a script, each log that a stream names, and a post routine for each line that
+/// defers a write.
+pub(crate) fn has_devices(script: &Script, disks: usize, logs: usize, posts: usize) -> bool
+    ensures { result ≡ has_devices disks logs posts script.now }
 {
-    script.streams.len() <= disks && has_logs(script.streams.as_slice(), logs)
+    script.streams.len() <= disks
+        && has_logs(script.streams.as_slice(), logs)
+        && script.defers() <= posts
 }
 
 /// Whether each stream that names a log names one of so many.

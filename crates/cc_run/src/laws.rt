@@ -8,14 +8,14 @@ ghost use Rattle.cc_pieces.specs.Table.{table_of};
 ghost use Rattle.cc_print.specs.Text.{text_of as the_text_of};
 ghost use Rattle.cc_script.specs.declared.script.Script.{Script};
 ghost use Rattle.cc_run.specs.Ends.{Input, Output, HasFailed, HasTooFewDevices, IsEnded, IsPut, IsWrong, Spells, TookMany};
-ghost use Rattle.cc_run.specs.Words.{is_run};
+ghost use Rattle.cc_run.specs.Words.{is_command};
 
 /// Each exit status that tells of no run, or of a text that was not written, has its cause.
 pub fn statuses_have_causes()
     ensures usage { (i : Input) (o : Output) (script : Option Script) (replies : List LineReply) (journal : List Entry)
-        (status : ℕ) → IsEnded i o script replies journal status → status ≡ 1 → is_run i.words ≡ false }
+        (status : ℕ) → IsEnded i o script replies journal status → status ≡ 1 → is_command i.words ≡ false }
     ensures syntax { (i : Input) (o : Output) (script : Option Script) (replies : List LineReply) (journal : List Entry)
-        (status : ℕ) → IsEnded i o script replies journal status → status ≡ 2 → (line : ℕ) × IsWrong i.left line }
+        (status : ℕ) → IsEnded i o script replies journal status → status ≡ 2 → (line : ℕ) × IsWrong i.words i.left line }
     ensures read_fault { (i : Input) (o : Output) (script : Option Script) (replies : List LineReply) (journal : List Entry)
         (status : ℕ) → IsEnded i o script replies journal status → status ≡ 3 → i.faults < i.faults_after }
     ensures write_fault { (i : Input) (o : Output) (script : Option Script) (replies : List LineReply) (journal : List Entry)
@@ -32,7 +32,7 @@ pub fn runs_are_of_the_script()
     ensures made { (i : Input) (o : Output) (script : Option Script) (replies : List LineReply) (journal : List Entry)
         (status : ℕ) → IsEnded i o script replies journal status → (status ≡ 0) ⊎ (status ≡ 4) → is_some script ≡ true }
     ensures spelled { (i : Input) (o : Output) (script : Option Script) (replies : List LineReply) (journal : List Entry)
-        (status : ℕ) → IsEnded i o script replies journal status → IfSome script (Spells i.left) }
+        (status : ℕ) → IsEnded i o script replies journal status → IfSome script (Spells i.words i.left) }
     ensures printed { (i : Input) (o : Output) (script : Option Script) (replies : List LineReply) (journal : List Entry)
         (status : ℕ) → IsEnded i o script replies journal status → status ≡ 0 →
         IfSome script (λ made. IsPut o (the_text_of made replies journal (table_of (reverse journal)))) }

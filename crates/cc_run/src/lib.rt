@@ -1,18 +1,20 @@
-//! The run of a script: the top call `cache_main`.
+//! The run of a script, in either mode: the top call `cache_main`.
 //!
-//! One direction: the words of the command line, the script's bytes from a source, the script, the run,
-//! the text, the exit status. On the desk of a run its streams are opened; then, phase after phase, the callers make
-//! the calls of their lines, on threads over a board that is made of the desk and closed into it. Whatever is handed
-//! in and in whatever order the turns are taken, the journal that comes back is good, it explains the answer of every
-//! line, each disk and each log holds what it says, and the text is that of both; each exit status has its cause. Want of memory
-//! after a run began loses nothing of what happened.
+//! One direction: the words of the command line, which say the mode, the script's bytes from a source, the script, the
+//! run, the text, the exit status. In `run` the streams are opened on the desk of a run; then, phase after phase, the
+//! callers make the calls of their lines, on threads over a board that is made of the desk and closed into it. In `steps`
+//! the lines are events of a World, one after the other. Whatever is handed in and in whatever order the turns are taken,
+//! the journal that comes back is good, it explains the answer of every line, each disk and each log holds what it says,
+//! each post routine was posted as it says, and the text is that of journal and answers; each exit status has its cause.
+//! Want of memory after a run began loses nothing of what happened.
 //!
-//! `top` has the call, `run` the run, `openings` and `phases` its two parts, `lines` a phase on the desk, `threads` one
-//! on a board, `callers` what each thread does, `call_numbers` what the gate is told. `laws` has what follows of how the
-//! program ended.
+//! `top` has the call, `modes` what a script leaves that is run, in either mode. `run` has a run, `openings` and `phases`
+//! its two parts, `lines` a phase on the desk, `threads` one on a board, `callers` what each thread does, `call_numbers`
+//! what the gate is told. `steps` has a script of steps. `laws` has what follows of how the program ended.
 //!
-//! It stands on the script, on the text, on the calls, on the turns of one thread and on those that threads share, on
-//! the traits of the outside, on what a journal means and on how it explains answers. The program stands on it.
+//! It stands on the script, on the text, on the calls, on the turns of one thread and on those that threads share, on the
+//! events of a script of steps, on the traits of the outside, on what a journal means and on how it explains answers. The
+//! program stands on it.
 #![tactic(auto)]
 
 mod call_numbers;
@@ -21,12 +23,14 @@ mod devices;
 mod intake;
 mod laws;
 mod lines;
+mod modes;
 mod no_run;
 mod openings;
 mod output;
 mod phases;
 mod row;
 mod run;
+mod steps;
 mod table;
 mod threads;
 mod top;

@@ -18,7 +18,8 @@ pub enum NoRun {
     TooLong,
     /// No memory was found.
     NoMemory,
-    /// The script has more streams than there are disks, or a stream names a log that there is not.
+    /// The script has more streams than there are disks, a stream names a log that there is not, or more writes are deferred
+    /// than there are post routines.
     TooFewDevices,
 }
 
@@ -38,7 +39,7 @@ impl NoRun {
     }
 
     /// What the program prints, but for the number of a line. The usage is fixed by the format of the text: it names a
-    /// directory, `steps` and `gen` too, which are not there yet, so words that ask for them are none of the commands.
+    /// directory and `gen` too, which are not there yet, so words that ask for them are none of the commands.
     pub(crate) fn fixed_text(self) -> &'static str
         requires { is_syntax self ≡ false }
         ensures { result.now ≡ fault_text self }

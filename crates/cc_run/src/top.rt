@@ -1,27 +1,29 @@
 //! The top call: words, script, run, text, status, in this order.
 
-ghost use Rattle.std.specs.Prelude.{◌≡◌, ◌⊎◌, ◌≤◌, ◌+◌, [], Some, None, true, false, is_some, reverse, map, length, string_bytes, IfSome, IfOk, IfErr, OnOk};
+ghost use Rattle.std.specs.Prelude.{◌≡◌, ◌⊎◌, ◌≤◌, ◌+◌, [], All, Some, None, true, false, is_some, reverse, map, length, string_bytes, IfSome, IfOk, IfErr, OnOk};
 ghost use Rattle.cc_model.specs.Setup.{Setup};
 ghost use Rattle.cc_model.specs.Good.{IsGood};
 ghost use Rattle.cc_script.specs.Within.{IsWithin};
-ghost use Rattle.cc_pieces.specs.Explained.{IsExplained};
-ghost use Rattle.cc_pieces.specs.Table.{table_of};
+ghost use Rattle.cc_script.specs.Modes.{IsOfMode};
 ghost use Rattle.cc_print.specs.Text.{text_of as the_text_of};
+ghost use Rattle.cc_pieces.specs.Steps.{PostsLeft};
+ghost use Rattle.cc_pieces.specs.Table.{table_of};
 ghost use Rattle.cc_run.specs.Setups.{IsSetupOf, setup_of};
 ghost use Rattle.cc_run.specs.Ends.{Input, input, output, IsCause, IsRefused, IsEnded, IsRead, Spells, WasTaken, IsFaultPut, IsPrinted, has_devices};
 ghost use Rattle.cc_run.specs.Main.{HasMain};
 ghost use Rattle.cc_run.specs.declared.no_run.NoRun.TheVariants as no_run;
 ghost use Rattle.cc_run.specs.Disks.{DisksLeft};
 ghost use Rattle.cc_run.specs.Logs.{LogsLeft};
-ghost use Rattle.cc_run.specs.Words.{is_run};
-ghost use Rattle.cc_run.specs.Lines.{given_of, lines_answered};
+ghost use Rattle.cc_run.specs.Words.{is_command, mode_in};
+ghost use Rattle.cc_run.specs.Lines.{lines_answered};
+ghost use Rattle.cc_run.specs.Runs.{IsExplainedBy, deferrals_in};
 
 use crate::devices::has_devices;
 use crate::intake::{IntakeError, take_all};
+use crate::modes::{RunResult, run_in_mode};
 use crate::no_run::{NoRun, syntax_text};
 use crate::output::{OutputError, put_all};
-use crate::run::{RunResult, run_script};
-use crate::words::command_of;
+use crate::words::mode_of;
 use cc_entry::{Entry, LineReply};
 use cc_print::text_of;
 use cc_script::{Mode, Script, ScriptFault, read_script};
@@ -32,9 +34,10 @@ use std::thread::Threads;
 
 /// What a run of the program leaves. Disks, logs and posts come back in the order handed in.
 pub struct Ended<D, L = Box<dyn LogFile + Send>, Q = Box<dyn PostRoutine + Send>> {
-    /// The exit status: 0 the text was written whole, 1 the words are no run, 2 a line is not in the
+    /// The exit status: 0 the text was written whole, 1 the words are no command, 2 a line is not in the
     /// grammar, 3 the source failed, 4 the sink failed, 5 the script is too long, 6 memory was wanting,
-    /// 7 the script has more streams than there are disks, or names a log that there is not.
+    /// 7 the script has more streams than there are disks, names a log that there is not, or defers more writes than there are
+    /// post routines.
     pub status: u8,
     /// The script that was run, where one was: at the statuses 0 and 4, and at 6 where memory was wanting
     /// after the run began.
@@ -52,14 +55,21 @@ pub struct Ended<D, L = Box<dyn LogFile + Send>, Q = Box<dyn PostRoutine + Send>
     pub posts: Vec<Q>,
 }
 
-/// What was made of the words, the script, the disks and the logs.
-struct Report<D, L> {
+/// A script, and the mode in which it was read.
+struct Prepared {
+    mode: Mode,
+    script: Script,
+}
+
+/// What was made of the words, the script, the disks, the logs and the post routines.
+struct Report<D, L, Q> {
     status: u8,
     script: Option<Script>,
     replies: Vec<LineReply>,
     journal: Vec<Entry>,
     disks: Vec<D>,
     logs: Vec<L>,
+    posts: Vec<Q>,
 }
 
 /// Puts out why no run was made, as far as the sink takes it. What ends the program is answered: where
@@ -82,18 +92,20 @@ fn put_fault<K: Sink>(alloc: Global, out: &mut K, why: NoRun) -> NoRun
 }
 
 /// A report without a run.
-fn refused<K: Sink, D, L>(
+fn refused<K: Sink, D, L, Q>(
     alloc: Global,
     out: &mut K,
     why: NoRun,
     disks: Vec<D>,
     logs: Vec<L>,
-) -> Report<D, L>
+    posts: Vec<Q>,
+) -> Report<D, L, Q>
     ensures script { result.script ≡ None }
     ensures replies { result.replies.items ≡ [] }
     ensures journal { result.journal.items ≡ [] }
     ensures disks { result.disks ≡ disks }
     ensures logs { result.logs ≡ logs }
+    ensures posts { result.posts ≡ posts }
     ensures refused { (i : Input) → IsCause i why → IsRefused i (output K.told K.faults K.stalls out.old out.new) result.status }
 {
     let why = put_fault(alloc, out, why);
@@ -104,49 +116,60 @@ fn refused<K: Sink, D, L>(
         journal: Vec::new(alloc),
         disks,
         logs,
+        posts,
     }
 }
 
-/// The script that the words ask for, from the source, or why it is not run.
+/// The script that the words ask for, from the source, and its mode, or why it is not run.
 fn prepare<S: Source>(
     alloc: Global,
     words: &[String],
     source: &mut S,
     disks: usize,
     logs: usize,
-) -> Result<Script, NoRun>
-    ensures read { OnOk result (IsRead (input S.told S.faults S.taken (map string_bytes words.now) source.old source.new disks logs)) }
-    ensures spelled { IfOk result (Spells (S.told source.old)) }
-    ensures untouched { is_run (map string_bytes words.now) ≡ false → source.new ≡ source.old }
+    posts: usize,
+) -> Result<Prepared, NoRun>
+    ensures read { OnOk result (IsRead (input S.told S.faults S.taken (map string_bytes words.now) source.old source.new
+        disks logs posts)) }
+    ensures mode { IfOk result (λ prepared. prepared.mode ≡ mode_in (map string_bytes words.now)) }
+    ensures spelled { IfOk result (λ prepared. Spells (map string_bytes words.now) (S.told source.old) prepared.script) }
+    ensures untouched { is_command (map string_bytes words.now) ≡ false → source.new ≡ source.old }
     ensures given { WasTaken (S.told source.old) (S.told source.new) (S.taken source.old) (S.taken source.new) }
     ensures bounded { S.taken source.new ≤ S.taken source.old + 16777217 }
-    ensures within { IfOk result IsWithin }
-    ensures enough { IfOk result (λ script. has_devices disks logs script ≡ true) }
-    ensures cause { IfErr result (IsCause (input S.told S.faults S.taken (map string_bytes words.now) source.old source.new disks logs)) }
+    ensures within { IfOk result (λ prepared. IsWithin prepared.script) }
+    ensures of_mode { IfOk result (λ prepared. IsOfMode prepared.mode prepared.script) }
+    ensures enough { IfOk result (λ prepared. has_devices disks logs posts prepared.script ≡ true) }
+    ensures cause { IfErr result (IsCause (input S.told S.faults S.taken (map string_bytes words.now) source.old source.new
+        disks logs posts)) }
 {
-    if command_of(words).is_none() {
+    let Some(mode) = mode_of(words) else {
         return Err(NoRun::Usage);
-    }
+    };
     let bytes = match take_all(alloc, source) {
         Ok(bytes) => bytes,
         Err(IntakeError::Failed) => return Err(NoRun::ReadFault),
         Err(IntakeError::TooLong) => return Err(NoRun::TooLong),
         Err(IntakeError::NoMemory) => return Err(NoRun::NoMemory),
     };
-    let script = match read_script(alloc, &bytes, Mode::Run) {
+    let script = match read_script(alloc, &bytes, mode) {
         Ok(script) => script,
         Err(ScriptFault::Syntax { line }) => return Err(NoRun::Syntax { line }),
         Err(ScriptFault::NoMemory) => return Err(NoRun::NoMemory),
     };
-    if !has_devices(&script, disks, logs) {
+    if !has_devices(&script, disks, logs, posts) {
         return Err(NoRun::TooFewDevices);
     }
-    Ok(script)
+    Ok(Prepared { mode, script })
 }
 
 /// Prints a run, and answers the status: 0 where all of the text went out, 4 where the sink failed, 6
 /// where memory was wanting.
-fn print<K: Sink, D, L>(alloc: Global, out: &mut K, script: &Script, ran: &RunResult<D, L>) -> u8
+fn print<K: Sink, D, L, Q>(
+    alloc: Global,
+    out: &mut K,
+    script: &Script,
+    ran: &RunResult<D, L, Q>,
+) -> u8
     requires { IfSome ran.now.table (λ rows. rows.items ≡ table_of (reverse ran.now.journal.items)) }
     ensures printed { IsPrinted (output K.told K.faults K.stalls out.old out.new)
         (the_text_of script.now ran.now.replies.items ran.now.journal.items (table_of (reverse ran.now.journal.items)))
@@ -166,8 +189,16 @@ fn print<K: Sink, D, L>(alloc: Global, out: &mut K, script: &Script, ran: &RunRe
     }
 }
 
-/// Reads the script and runs it.
-fn conduct<R: Threads + Wait + Sync, S: Source, K: Sink, D: PageDisk, L: LogFile + Send, P: Gate>(
+/// Reads the script and runs it, in the mode that the words ask for.
+fn conduct<
+    R: Threads + Wait + Sync,
+    S: Source,
+    K: Sink,
+    D: PageDisk,
+    L: LogFile + Send,
+    Q: PostRoutine + Send,
+    P: Gate,
+>(
     rt: &R,
     alloc: Global,
     words: &[String],
@@ -175,32 +206,45 @@ fn conduct<R: Threads + Wait + Sync, S: Source, K: Sink, D: PageDisk, L: LogFile
     out: &mut K,
     disks: Vec<D>,
     logs: Vec<L>,
+    posts: Vec<Q>,
     gate: &P,
-) -> Report<D, L>
+) -> Report<D, L, Q>
+    requires posts { All (λ routine. Q.posted routine ≡ false) posts.items }
     ensures good { (u : Setup) → IsSetupOf D.told D.faults result.script disks.items logs.items u →
         IsGood u (reverse result.journal.items) }
     ensures ended { IsEnded
         (input S.told S.faults S.taken (map string_bytes words.now) source.old source.new
-        (length disks.items) (length logs.items))
+        (length disks.items) (length logs.items) (length posts.items))
         (output K.told K.faults K.stalls out.old out.new)
         result.script result.replies.items result.journal.items result.status }
-    ensures explained { IfSome result.script (λ made. IsExplained (setup_of D.told D.faults made disks.items logs.items)
-        (given_of made) (lines_answered result.replies.items) (reverse result.journal.items)) }
-    ensures untouched { is_run (map string_bytes words.now) ≡ false → source.new ≡ source.old }
+    ensures explained { IfSome result.script (λ made. IsExplainedBy (mode_in (map string_bytes words.now))
+        (setup_of D.told D.faults made disks.items logs.items) made
+        (lines_answered result.replies.items) (reverse result.journal.items)) }
+    ensures untouched { is_command (map string_bytes words.now) ≡ false → source.new ≡ source.old }
     ensures given { WasTaken (S.told source.old) (S.told source.new) (S.taken source.old) (S.taken source.new) }
     ensures bounded { S.taken source.new ≤ S.taken source.old + 16777217 }
     ensures disks { DisksLeft D.told D.faults (reverse result.journal.items) disks.items result.disks.items }
     ensures logs { LogsLeft L.told L.faults (reverse result.journal.items) logs.items result.logs.items }
+    ensures posts { PostsLeft Q.posted (deferrals_in result.script result.replies.items) (reverse result.journal.items)
+        posts.items result.posts.items }
+    ensures unused { result.script ≡ None → result.posts.items ≡ posts.items }
 {
-    let script = match prepare(alloc, words, source, disks.len(), logs.len()) {
-        Ok(prepared) => prepared,
-        Err(why) => return refused(alloc, out, why, disks, logs),
-    };
-    let ran = match run_script::<R, D, L, Box<dyn PostRoutine + Send>, P>(
-        rt, alloc, &script, gate, disks, logs,
+    let Prepared { mode, script } = match prepare(
+        alloc,
+        words,
+        source,
+        disks.len(),
+        logs.len(),
+        posts.len(),
     ) {
+        Ok(prepared) => prepared,
+        Err(why) => return refused(alloc, out, why, disks, logs, posts),
+    };
+    let ran = match run_in_mode(rt, alloc, mode, &script, gate, disks, logs, posts) {
         Ok(ran) => ran,
-        Err((disks, logs)) => return refused(alloc, out, NoRun::NoMemory, disks, logs),
+        Err((disks, logs, posts)) => {
+            return refused(alloc, out, NoRun::NoMemory, disks, logs, posts);
+        }
     };
     let status = print(alloc, out, &script, &ran);
     let RunResult {
@@ -209,6 +253,7 @@ fn conduct<R: Threads + Wait + Sync, S: Source, K: Sink, D: PageDisk, L: LogFile
         table: _,
         disks,
         logs,
+        posts,
     } = ran;
     Report {
         status,
@@ -217,20 +262,23 @@ fn conduct<R: Threads + Wait + Sync, S: Source, K: Sink, D: PageDisk, L: LogFile
         journal,
         disks,
         logs,
+        posts,
     }
 }
 
-/// The run of the program: the words of the command line without its name, the script's bytes from a
-/// source, the text to a sink, a disk for each stream, the logs that streams may name, of which a run takes the first
-/// four, the post routines, which come back as they were, and the gate that callers pass. The callers of a phase run on
-/// threads, phase after phase. Whatever is handed in, the journal that is given back is good over the pages that the
-/// disks tell, and it is what happened, also where memory was wanting after the run began.
+/// The program: the words of the command line without its name, the script's bytes from a source, the text to a sink, a
+/// disk for each stream, the logs that streams may name, of which the first four are taken, the post routines, of which
+/// each line that defers a write has one, and the gate that callers pass. `run FILE`: the callers of a phase make the calls
+/// of their lines on threads, phase after phase. `steps FILE`: the lines are events, one after the other. Whatever is
+/// handed in, the journal that is given back is good over the pages that the disks tell, and it is what happened, also
+/// where memory was wanting after the run began.
 pub fn cache_main<
     R: Threads + Wait + Sync,
     S: Source,
     K: Sink,
     D: PageDisk,
     L: LogFile + Send,
+    Q: PostRoutine + Send,
     P: Gate,
 >(
     rt: &R,
@@ -240,30 +288,34 @@ pub fn cache_main<
     out: &mut K,
     disks: Vec<D>,
     logs: Vec<L>,
-    posts: Vec<Box<dyn PostRoutine + Send>>,
+    posts: Vec<Q>,
     gate: &P,
-) -> Ended<D, L>
+) -> Ended<D, L, Q>
+    requires posts { All (λ routine. Q.posted routine ≡ false) posts.items }
     // What happened: the journal is good over the pages that the disks told, and it explains every answer.
     ensures good { (u : Setup) → IsSetupOf D.told D.faults result.script disks.items logs.items u →
         IsGood u (reverse result.journal.items) }
-    ensures explained { IfSome result.script (λ made. IsExplained (setup_of D.told D.faults made disks.items logs.items)
-        (given_of made)
+    ensures explained { IfSome result.script (λ made. IsExplainedBy (mode_in (map string_bytes words.now))
+        (setup_of D.told D.faults made disks.items logs.items) made
         (record { replies = result.replies.items; ticked = result.ticks.items; stepped = result.aheads.items })
         (reverse result.journal.items)) }
     // How the program ended, with a run and without: the script, what was printed, the status and its cause, which
     // statuses are sure to come, and how much of the source was taken.
     ensures ended { HasMain
         (input S.told S.faults S.taken (map string_bytes words.now) script.old script.new
-        (length disks.items) (length logs.items))
+        (length disks.items) (length logs.items) (length posts.items))
         (output K.told K.faults K.stalls out.old out.new)
         result.script result.replies.items result.journal.items result.status }
-    ensures untouched { is_run (map string_bytes words.now) ≡ false → script.new ≡ script.old }
-    // What comes back: the disks and the logs as the journal says, the posts as they were, and no answer of a worker.
+    ensures untouched { is_command (map string_bytes words.now) ≡ false → script.new ≡ script.old }
+    // What comes back: the disks and the logs as the journal says; the routines, one posted exactly where the deferral of
+    // its line was; and no answer of a worker.
     ensures disks { DisksLeft D.told D.faults (reverse result.journal.items) disks.items result.disks.items }
     ensures logs { LogsLeft L.told L.faults (reverse result.journal.items) logs.items result.logs.items }
+    ensures posts { PostsLeft Q.posted (deferrals_in result.script result.replies.items) (reverse result.journal.items)
+        posts.items result.posts.items }
+    ensures unused { result.script ≡ None → result.posts.items ≡ posts.items }
     ensures ticks { result.ticks.items ≡ [] }
     ensures aheads { result.aheads.items ≡ [] }
-    ensures posts { result.posts ≡ posts }
 {
     let Report {
         status,
@@ -272,7 +324,8 @@ pub fn cache_main<
         journal,
         disks,
         logs,
-    } = conduct(rt, alloc, words, script, out, disks, logs, gate);
+        posts,
+    } = conduct(rt, alloc, words, script, out, disks, logs, posts, gate);
     Ended {
         status,
         script,

@@ -1,21 +1,28 @@
-//! The words of the command line: whether they ask for a run.
+//! The words of the command line: which mode they ask for.
 
-ghost use Rattle.std.specs.Prelude.{◌≡◌, is_some, map, string_bytes};
-ghost use Rattle.cc_run.specs.Words.{is_run, is_argument as is_an_argument};
+ghost use Rattle.std.specs.Prelude.{◌≡◌, map, string_bytes};
+ghost use Rattle.cc_run.specs.Words.{mode_of, mode_word as mode_by_word, is_argument as is_an_argument};
 
-/// What the words ask for.
-#[derive(Clone, Copy, Debug, PartialEq, Eq)]
-pub enum Command {
-    /// `run FILE`: the script of the file is run.
-    Run,
-}
+use cc_script::Mode;
 
-/// The command that the words spell, without the program's name; None where they spell none.
-pub fn command_of(words: &[String]) -> Option<Command>
-    ensures { is_some result ≡ is_run (map string_bytes words.now) }
+/// The mode that the words ask for, without the program's name: `run FILE` or `steps FILE`; None where they are no
+/// command.
+pub fn mode_of(words: &[String]) -> Option<Mode>
+    ensures { result ≡ mode_of (map string_bytes words.now) }
 {
     match words {
-        [mode, file] if mode.as_str() == "run" && is_argument(file.as_str()) => Some(Command::Run),
+        [word, file] if is_argument(file.as_str()) => mode_word(word.as_str()),
+        _ => None,
+    }
+}
+
+/// The mode that a word asks for.
+fn mode_word(word: &str) -> Option<Mode>
+    ensures { result ≡ mode_by_word word.now }
+{
+    match word {
+        "run" => Some(Mode::Run),
+        "steps" => Some(Mode::Steps),
         _ => None,
     }
 }

@@ -1,5 +1,5 @@
--- What an action that is read names and moves.
-use Rattle.std.proofs.Common.{◌≡◌, ℕ, suc, ◌+◌, ◌≤◌, Bool, true, false, Some, None, Option, is_some, List, [], ◌∷◌, ◌++◌, length, if◌then◌else◌, refl, ap, sym, ◌∙◌, subst, length-append, arith}
+-- What an action that is read names and moves, by cases on its verb.
+use Rattle.std.proofs.Common.{◌≡◌, ℕ, suc, ◌+◌, Bool, true, false, Some, None, is_some, List, [], ◌∷◌, ◌++◌, length, if◌then◌else◌, codes, refl, ap, sym, ◌∙◌, subst, length-append, arith}
 use Rattle.cc_script.specs.declared.script.Mode.{Mode}
 use Rattle.cc_script.specs.declared.script.Mode.TheVariants as mode
 use Rattle.cc_script.specs.declared.stretch.Stretch.{Stretch}
@@ -10,40 +10,15 @@ use Rattle.cc_script.specs.declared.verb.Verb.{Verb}
 use Rattle.cc_script.specs.declared.verb.Verb.TheVariants as verb
 use Rattle.cc_script.specs.Words.{number_of, number_between, name_of, bytes_of}
 use Rattle.cc_script.specs.HoldNames.{word_of, new_word}
-use Rattle.cc_script.specs.Actions.{next, ended, file_of, span_of, optional_span_of, optional_number_of, quota_of, sizes_of, initialise_of, uninitialise_of, copy_read_of, copy_write_of, zero_of, nc_read_of, nc_write_of, set_sizes_of, state_of, flush_of, purge_of, set_log_of, append_of, log_flush_of, dirty_pages_of, lsn_for_file_of}
+use Rattle.cc_script.specs.Actions.{next, flag, ended, file_of, span_of, optional_span_of, optional_number_of, quota_of, sizes_of, initialise_of, uninitialise_of, copy_read_of, copy_write_of, zero_of, nc_read_of, nc_write_of, set_sizes_of, state_of, flush_of, purge_of, set_log_of, append_of, log_flush_of, dirty_pages_of, lsn_for_file_of}
 use Rattle.cc_script.specs.HoldActions.{stretch_of, map_of, pin_read_of, pin_mapped_of, prepare_pin_of, held_read_of, pinned_write_of, stamp_of, set_dirty_of, unpin_of, repin_of, unpin_repinned_of, mdl_read_of, mdl_write_of, mdl_bytes_of, mdl_store_of, mdl_done_of, mdl_abort_of}
-use Rattle.cc_script.specs.ActionTable.{binds_none, action_of, bytes_moved}
-use Rattle.cc_script.specs.Within.{IsFileWithin, IsActionWithin}
+use Rattle.cc_script.specs.EventActions.{nc_read_in, nc_write_in, nc_store_page_of, set_granularity_of, set_attributes_of, set_threshold_of, fill_of, drop_of, write_begin_of, write_end_of, sync_of, can_write_of, defer_of}
+use Rattle.cc_script.specs.ActionTable.{action_of}
+use Rattle.cc_script.specs.Modes.{Both, RunAlone, stands, verb_modes}
+use Rattle.cc_script.specs.Within.{IsFileWithin}
 use Rattle.cc_script.proofs.Steps.{then-gives, next-gives, ended-gives, between-gives, file-gives, bytes-give}
-
--- an action binds a word of the next number, or none
-abbrev pub IsNumbered : Action → ℕ → ℕ → Type 0
-IsNumbered (action.Map _ _ _ word) old new = (word ≡ old) × (new ≡ suc old)
-IsNumbered (action.PinRead _ _ _ word _) old new = (word ≡ old) × (new ≡ suc old)
-IsNumbered (action.PreparePin _ _ _ word _ _) old new = (word ≡ old) × (new ≡ suc old)
-IsNumbered (action.Repin _ made) old new = (made ≡ old) × (new ≡ suc old)
-IsNumbered (action.MdlRead _ _ _ word) old new = (word ≡ old) × (new ≡ suc old)
-IsNumbered (action.MdlWrite _ _ _ word) old new = (word ≡ old) × (new ≡ suc old)
-IsNumbered other old new = new ≡ old
-
--- an action that is read
-pub record IsRead (streams : List StreamLine) (old : ℕ) (found : Action × List (List ℕ)) : Type 0 where
-  pub file : IsActionWithin streams found.0
-  pub moved : bytes_moved found.0 ≤ 2097152
-  pub numbered : IsNumbered found.0 old (length found.1)
-
--- one that binds no word
-record IsPlain (streams : List StreamLine) (a : Action) : Type 0 where
-  file : IsActionWithin streams a
-  moved : bytes_moved a ≤ 2097152
-  numbered : (n : ℕ) → IsNumbered a n n
-
-none-bound : (streams : List StreamLine) (names : List (List ℕ)) (o : Option Action) (found : Action × List (List ℕ)) → ((a : Action) → o ≡ Some a → IsPlain streams a) → binds_none names o ≡ Some found → IsRead streams (length names) found
-none-bound streams names (Some a) found plain e =
-    let is = plain a refl in
-    let same : (let it : Action × List (List ℕ) = (a, names) in it) ≡ found = cc in
-    subst (IsRead streams (length names)) same (record { file = is.file; moved = is.moved; numbered = is.numbered (length names) })
-none-bound streams names None found plain e = absurd (cc)
+use Rattle.cc_script.proofs.Plain.{IsRead, IsPlain, none-bound}
+use Rattle.cc_script.proofs.EventsRead.{nc_read_page-gives, nc_store_page-gives, nc_write_page-gives, set_granularity-gives, set_attributes-gives, set_threshold-gives, fill-gives, drop-gives, write_begin-gives, write_end-gives, sync-gives, scan-gives, can_write-gives, defer-gives, post-gives}
 
 -- a new word has the next number
 new-gives : (names : List (List ℕ)) (name : List ℕ) (found : ℕ × List (List ℕ)) → new_word names name ≡ Some found → (found.0 ≡ length names) × (length found.1 ≡ suc (length names))
@@ -81,30 +56,30 @@ stretch-gives streams names ws on bound more e =
       word = (sym same_word ∙ number.0, ap length (sym same_bound) ∙ number.1);
     }
 
-initialise-gives : (streams : List StreamLine) (ws : List (List ℕ)) (a : Action) → initialise_of streams ws ≡ Some a → IsPlain streams a
+initialise-gives : (m : Mode) (streams : List StreamLine) (ws : List (List ℕ)) (a : Action) → initialise_of streams ws ≡ Some a → IsPlain m streams a
 unfolding initialise_of
-initialise-gives streams ws a e =
+initialise-gives m streams ws a e =
     let file = then-gives (next (file_of streams) ws) _ a e in
     let sizes = then-gives (sizes_of file.0.1) _ a file.2 in
     let quota = then-gives (quota_of sizes.0.1) _ a sizes.2 in
     let end = ended-gives _ _ a quota.2 in
     let f = next-gives (file_of streams) ws file.0.0 file.0.1 file.1 in
-    subst (IsPlain streams) end.1
-    (record { file = file-gives streams f.word file.0.0 f.reads; moved = omega arith; numbered = λ n. refl })
+    subst (IsPlain m streams) end.1
+    (record { file = file-gives streams f.word file.0.0 f.reads; moved = omega arith; numbered = λ n. refl; in_mode = refl })
 
-uninitialise-gives : (streams : List StreamLine) (ws : List (List ℕ)) (a : Action) → uninitialise_of streams ws ≡ Some a → IsPlain streams a
+uninitialise-gives : (m : Mode) (streams : List StreamLine) (ws : List (List ℕ)) (a : Action) → uninitialise_of streams ws ≡ Some a → IsPlain m streams a
 unfolding uninitialise_of
-uninitialise-gives streams ws a e =
+uninitialise-gives m streams ws a e =
     let file = then-gives (next (file_of streams) ws) _ a e in
     let truncate = then-gives (optional_number_of file.0.1) _ a file.2 in
     let f = next-gives (file_of streams) ws file.0.0 file.0.1 file.1 in
     let same : action.Uninitialise file.0.0 truncate.0 ≡ a = cc in
-    subst (IsPlain streams) same
-    (record { file = file-gives streams f.word file.0.0 f.reads; moved = omega arith; numbered = λ n. refl })
+    subst (IsPlain m streams) same
+    (record { file = file-gives streams f.word file.0.0 f.reads; moved = omega arith; numbered = λ n. refl; in_mode = refl })
 
-copy_read-gives : (streams : List StreamLine) (ws : List (List ℕ)) (a : Action) → copy_read_of streams ws ≡ Some a → IsPlain streams a
+copy_read-gives : (m : Mode) (streams : List StreamLine) (ws : List (List ℕ)) (a : Action) → copy_read_of streams ws ≡ Some a → IsPlain m streams a
 unfolding copy_read_of
-copy_read-gives streams ws a e =
+copy_read-gives m streams ws a e =
     let file = then-gives (next (file_of streams) ws) _ a e in
     let at = then-gives (next number_of file.0.1) _ a file.2 in
     let len = then-gives (next (number_between 0 2097152) at.0.1) _ a at.2 in
@@ -112,32 +87,32 @@ copy_read-gives streams ws a e =
     let f = next-gives (file_of streams) ws file.0.0 file.0.1 file.1 in
     let l = next-gives (number_between 0 2097152) at.0.1 len.0.0 len.0.1 len.1 in
     let b = between-gives 0 2097152 l.word len.0.0 l.reads in
-    subst (IsPlain streams) end.1
-    (record { file = file-gives streams f.word file.0.0 f.reads; moved = b.most; numbered = λ n. refl })
+    subst (IsPlain m streams) end.1
+    (record { file = file-gives streams f.word file.0.0 f.reads; moved = b.most; numbered = λ n. refl; in_mode = refl })
 
-copy_write-gives : (streams : List StreamLine) (ws : List (List ℕ)) (a : Action) → copy_write_of streams ws ≡ Some a → IsPlain streams a
+copy_write-gives : (m : Mode) (streams : List StreamLine) (ws : List (List ℕ)) (a : Action) → copy_write_of streams ws ≡ Some a → IsPlain m streams a
 unfolding copy_write_of
-copy_write-gives streams ws a e =
+copy_write-gives m streams ws a e =
     let file = then-gives (next (file_of streams) ws) _ a e in
     let at = then-gives (next number_of file.0.1) _ a file.2 in
     let bytes = then-gives (next bytes_of at.0.1) _ a at.2 in
     let end = ended-gives _ _ a bytes.2 in
     let f = next-gives (file_of streams) ws file.0.0 file.0.1 file.1 in
     let b = next-gives bytes_of at.0.1 bytes.0.0 bytes.0.1 bytes.1 in
-    subst (IsPlain streams) end.1
-    (record { file = file-gives streams f.word file.0.0 f.reads; moved = bytes-give b.word bytes.0.0 b.reads; numbered = λ n. refl })
+    subst (IsPlain m streams) end.1
+    (record { file = file-gives streams f.word file.0.0 f.reads; moved = bytes-give b.word bytes.0.0 b.reads; numbered = λ n. refl; in_mode = refl })
 
-zero-gives : (streams : List StreamLine) (ws : List (List ℕ)) (a : Action) → zero_of streams ws ≡ Some a → IsPlain streams a
+zero-gives : (m : Mode) (streams : List StreamLine) (ws : List (List ℕ)) (a : Action) → zero_of streams ws ≡ Some a → IsPlain m streams a
 unfolding zero_of
-zero-gives streams ws a e =
+zero-gives m streams ws a e =
     let file = then-gives (next (file_of streams) ws) _ a e in
     let span = then-gives (span_of file.0.1) _ a file.2 in
     let end = ended-gives _ _ a span.2 in
     let f = next-gives (file_of streams) ws file.0.0 file.0.1 file.1 in
-    subst (IsPlain streams) end.1
-    (record { file = file-gives streams f.word file.0.0 f.reads; moved = omega arith; numbered = λ n. refl })
+    subst (IsPlain m streams) end.1
+    (record { file = file-gives streams f.word file.0.0 f.reads; moved = omega arith; numbered = λ n. refl; in_mode = refl })
 
-nc_read-gives : (streams : List StreamLine) (ws : List (List ℕ)) (a : Action) → nc_read_of streams ws ≡ Some a → IsPlain streams a
+nc_read-gives : (streams : List StreamLine) (ws : List (List ℕ)) (a : Action) → nc_read_of streams ws ≡ Some a → IsPlain mode.Run streams a
 unfolding nc_read_of
 nc_read-gives streams ws a e =
     let file = then-gives (next (file_of streams) ws) _ a e in
@@ -147,10 +122,10 @@ nc_read-gives streams ws a e =
     let f = next-gives (file_of streams) ws file.0.0 file.0.1 file.1 in
     let l = next-gives (number_between 0 2097152) at.0.1 len.0.0 len.0.1 len.1 in
     let b = between-gives 0 2097152 l.word len.0.0 l.reads in
-    subst (IsPlain streams) end.1
-    (record { file = file-gives streams f.word file.0.0 f.reads; moved = b.most; numbered = λ n. refl })
+    subst (IsPlain mode.Run streams) end.1
+    (record { file = file-gives streams f.word file.0.0 f.reads; moved = b.most; numbered = λ n. refl; in_mode = refl })
 
-nc_write-gives : (streams : List StreamLine) (ws : List (List ℕ)) (a : Action) → nc_write_of streams ws ≡ Some a → IsPlain streams a
+nc_write-gives : (streams : List StreamLine) (ws : List (List ℕ)) (a : Action) → nc_write_of streams ws ≡ Some a → IsPlain mode.Run streams a
 unfolding nc_write_of
 nc_write-gives streams ws a e =
     let file = then-gives (next (file_of streams) ws) _ a e in
@@ -159,274 +134,303 @@ nc_write-gives streams ws a e =
     let end = ended-gives _ _ a bytes.2 in
     let f = next-gives (file_of streams) ws file.0.0 file.0.1 file.1 in
     let b = next-gives bytes_of at.0.1 bytes.0.0 bytes.0.1 bytes.1 in
-    subst (IsPlain streams) end.1
-    (record { file = file-gives streams f.word file.0.0 f.reads; moved = bytes-give b.word bytes.0.0 b.reads; numbered = λ n. refl })
+    subst (IsPlain mode.Run streams) end.1
+    (record { file = file-gives streams f.word file.0.0 f.reads; moved = bytes-give b.word bytes.0.0 b.reads; numbered = λ n. refl; in_mode = refl })
 
-set_sizes-gives : (streams : List StreamLine) (ws : List (List ℕ)) (a : Action) → set_sizes_of streams ws ≡ Some a → IsPlain streams a
+set_sizes-gives : (m : Mode) (streams : List StreamLine) (ws : List (List ℕ)) (a : Action) → set_sizes_of streams ws ≡ Some a → IsPlain m streams a
 unfolding set_sizes_of
-set_sizes-gives streams ws a e =
+set_sizes-gives m streams ws a e =
     let file = then-gives (next (file_of streams) ws) _ a e in
     let allocation = then-gives (next number_of file.0.1) _ a file.2 in
     let size = then-gives (next number_of allocation.0.1) _ a allocation.2 in
     let end = ended-gives _ _ a size.2 in
     let f = next-gives (file_of streams) ws file.0.0 file.0.1 file.1 in
-    subst (IsPlain streams) end.1
-    (record { file = file-gives streams f.word file.0.0 f.reads; moved = omega arith; numbered = λ n. refl })
+    subst (IsPlain m streams) end.1
+    (record { file = file-gives streams f.word file.0.0 f.reads; moved = omega arith; numbered = λ n. refl; in_mode = refl })
 
-state-gives : (streams : List StreamLine) (ws : List (List ℕ)) (a : Action) → state_of streams ws ≡ Some a → IsPlain streams a
+state-gives : (m : Mode) (streams : List StreamLine) (ws : List (List ℕ)) (a : Action) → state_of streams ws ≡ Some a → IsPlain m streams a
 unfolding state_of
-state-gives streams ws a e =
+state-gives m streams ws a e =
     let file = then-gives (next (file_of streams) ws) _ a e in
     let end = ended-gives _ _ a file.2 in
     let f = next-gives (file_of streams) ws file.0.0 file.0.1 file.1 in
-    subst (IsPlain streams) end.1
-    (record { file = file-gives streams f.word file.0.0 f.reads; moved = omega arith; numbered = λ n. refl })
+    subst (IsPlain m streams) end.1
+    (record { file = file-gives streams f.word file.0.0 f.reads; moved = omega arith; numbered = λ n. refl; in_mode = refl })
 
-flush-gives : (streams : List StreamLine) (ws : List (List ℕ)) (a : Action) → flush_of streams ws ≡ Some a → IsPlain streams a
+flush-gives : (m : Mode) (streams : List StreamLine) (ws : List (List ℕ)) (a : Action) → flush_of streams ws ≡ Some a → IsPlain m streams a
 unfolding flush_of
-flush-gives streams ws a e =
+flush-gives m streams ws a e =
     let file = then-gives (next (file_of streams) ws) _ a e in
     let span = then-gives (optional_span_of file.0.1) _ a file.2 in
     let f = next-gives (file_of streams) ws file.0.0 file.0.1 file.1 in
     let same : action.Flush file.0.0 span.0 ≡ a = cc in
-    subst (IsPlain streams) same
-    (record { file = file-gives streams f.word file.0.0 f.reads; moved = omega arith; numbered = λ n. refl })
+    subst (IsPlain m streams) same
+    (record { file = file-gives streams f.word file.0.0 f.reads; moved = omega arith; numbered = λ n. refl; in_mode = refl })
 
-purge-gives : (streams : List StreamLine) (ws : List (List ℕ)) (a : Action) → purge_of streams ws ≡ Some a → IsPlain streams a
+purge-gives : (m : Mode) (streams : List StreamLine) (ws : List (List ℕ)) (a : Action) → purge_of streams ws ≡ Some a → IsPlain m streams a
 unfolding purge_of
-purge-gives streams ws a e =
+purge-gives m streams ws a e =
     let file = then-gives (next (file_of streams) ws) _ a e in
     let span = then-gives (optional_span_of file.0.1) _ a file.2 in
     let f = next-gives (file_of streams) ws file.0.0 file.0.1 file.1 in
     let same : action.Purge file.0.0 span.0 ≡ a = cc in
-    subst (IsPlain streams) same
-    (record { file = file-gives streams f.word file.0.0 f.reads; moved = omega arith; numbered = λ n. refl })
+    subst (IsPlain m streams) same
+    (record { file = file-gives streams f.word file.0.0 f.reads; moved = omega arith; numbered = λ n. refl; in_mode = refl })
 
-is_dirty-gives : (streams : List StreamLine) (ws : List (List ℕ)) (a : Action) → ended ws action.IsDirtyData ≡ Some a → IsPlain streams a
-is_dirty-gives streams ws a e =
-    subst (IsPlain streams) (ended-gives ws action.IsDirtyData a e).1
-    (record { file = tt; moved = omega arith; numbered = λ n. refl })
+is_dirty-gives : (m : Mode) (streams : List StreamLine) (ws : List (List ℕ)) (a : Action) → ended ws action.IsDirtyData ≡ Some a → IsPlain m streams a
+is_dirty-gives m streams ws a e =
+    subst (IsPlain m streams) (ended-gives ws action.IsDirtyData a e).1
+    (record { file = tt; moved = omega arith; numbered = λ n. refl; in_mode = refl })
 
-set_log-gives : (streams : List StreamLine) (ws : List (List ℕ)) (a : Action) → set_log_of streams ws ≡ Some a → IsPlain streams a
+set_log-gives : (m : Mode) (streams : List StreamLine) (ws : List (List ℕ)) (a : Action) → set_log_of streams ws ≡ Some a → IsPlain m streams a
 unfolding set_log_of
-set_log-gives streams ws a e =
+set_log-gives m streams ws a e =
     let file = then-gives (next (file_of streams) ws) _ a e in
     let log = then-gives (next (number_between 0 3) file.0.1) _ a file.2 in
     let end = ended-gives _ _ a log.2 in
     let f = next-gives (file_of streams) ws file.0.0 file.0.1 file.1 in
-    subst (IsPlain streams) end.1
-    (record { file = file-gives streams f.word file.0.0 f.reads; moved = omega arith; numbered = λ n. refl })
+    subst (IsPlain m streams) end.1
+    (record { file = file-gives streams f.word file.0.0 f.reads; moved = omega arith; numbered = λ n. refl; in_mode = refl })
 
-append-gives : (streams : List StreamLine) (ws : List (List ℕ)) (a : Action) → append_of ws ≡ Some a → IsPlain streams a
+append-gives : (m : Mode) (streams : List StreamLine) (ws : List (List ℕ)) (a : Action) → append_of ws ≡ Some a → IsPlain m streams a
 unfolding append_of
-append-gives streams ws a e =
+append-gives m streams ws a e =
     let log = then-gives (next (number_between 0 3) ws) _ a e in
     let bytes = then-gives (next bytes_of log.0.1) _ a log.2 in
     let end = ended-gives _ _ a bytes.2 in
     let b = next-gives bytes_of log.0.1 bytes.0.0 bytes.0.1 bytes.1 in
-    subst (IsPlain streams) end.1
-    (record { file = tt; moved = bytes-give b.word bytes.0.0 b.reads; numbered = λ n. refl })
+    subst (IsPlain m streams) end.1
+    (record { file = tt; moved = bytes-give b.word bytes.0.0 b.reads; numbered = λ n. refl; in_mode = refl })
 
-log_flush-gives : (streams : List StreamLine) (ws : List (List ℕ)) (a : Action) → log_flush_of ws ≡ Some a → IsPlain streams a
+log_flush-gives : (m : Mode) (streams : List StreamLine) (ws : List (List ℕ)) (a : Action) → log_flush_of ws ≡ Some a → IsPlain m streams a
 unfolding log_flush_of
-log_flush-gives streams ws a e =
+log_flush-gives m streams ws a e =
     let log = then-gives (next (number_between 0 3) ws) _ a e in
     let lsn = then-gives (next (number_between 1 4611686018427387904) log.0.1) _ a log.2 in
     let end = ended-gives _ _ a lsn.2 in
-    subst (IsPlain streams) end.1 (record { file = tt; moved = omega arith; numbered = λ n. refl })
+    subst (IsPlain m streams) end.1 (record { file = tt; moved = omega arith; numbered = λ n. refl; in_mode = refl })
 
-map-gives : (streams : List StreamLine) (names ws : List (List ℕ)) (found : Action × List (List ℕ)) → map_of streams names ws ≡ Some found → IsRead streams (length names) found
+map-gives : (m : Mode) (streams : List StreamLine) (names ws : List (List ℕ)) (found : Action × List (List ℕ)) → map_of streams names ws ≡ Some found → IsRead m streams (length names) found
 unfolding map_of
-map-gives streams names ws found e =
+map-gives m streams names ws found e =
     let on = then-gives (stretch_of streams names ws) _ found e in
     let end = ended-gives _ _ found on.2 in
     let made = stretch-gives streams names ws on.0.0 on.0.1 on.0.2 on.1 in
-    subst (IsRead streams (length names)) end.1 (record { file = made.file; moved = omega arith; numbered = made.word })
+    subst (IsRead m streams (length names)) end.1 (record { file = made.file; moved = omega arith; numbered = made.word; in_mode = refl })
 
-pin_read-gives : (streams : List StreamLine) (names ws : List (List ℕ)) (found : Action × List (List ℕ)) → pin_read_of streams names ws ≡ Some found → IsRead streams (length names) found
+pin_read-gives : (m : Mode) (streams : List StreamLine) (names ws : List (List ℕ)) (found : Action × List (List ℕ)) → pin_read_of streams names ws ≡ Some found → IsRead m streams (length names) found
 unfolding pin_read_of
-pin_read-gives streams names ws found e =
+pin_read-gives m streams names ws found e =
     let on = then-gives (stretch_of streams names ws) _ found e in
     let end = ended-gives _ _ found on.2 in
     let made = stretch-gives streams names ws on.0.0 on.0.1 on.0.2 on.1 in
-    subst (IsRead streams (length names)) end.1 (record { file = made.file; moved = omega arith; numbered = made.word })
+    subst (IsRead m streams (length names)) end.1 (record { file = made.file; moved = omega arith; numbered = made.word; in_mode = refl })
 
-pin_mapped-gives : (streams : List StreamLine) (names ws : List (List ℕ)) (a : Action) → pin_mapped_of names ws ≡ Some a → IsPlain streams a
+pin_mapped-gives : (m : Mode) (streams : List StreamLine) (names ws : List (List ℕ)) (a : Action) → pin_mapped_of names ws ≡ Some a → IsPlain m streams a
 unfolding pin_mapped_of
-pin_mapped-gives streams names ws a e =
+pin_mapped-gives m streams names ws a e =
     let word = then-gives (next (word_of names) ws) _ a e in
     let end = ended-gives _ _ a word.2 in
-    subst (IsPlain streams) end.1 (record { file = tt; moved = omega arith; numbered = λ n. refl })
+    subst (IsPlain m streams) end.1 (record { file = tt; moved = omega arith; numbered = λ n. refl; in_mode = refl })
 
-prepare_pin-gives : (streams : List StreamLine) (names ws : List (List ℕ)) (found : Action × List (List ℕ)) → prepare_pin_of streams names ws ≡ Some found → IsRead streams (length names) found
+prepare_pin-gives : (m : Mode) (streams : List StreamLine) (names ws : List (List ℕ)) (found : Action × List (List ℕ)) → prepare_pin_of streams names ws ≡ Some found → IsRead m streams (length names) found
 unfolding prepare_pin_of
-prepare_pin-gives streams names ws found e =
+prepare_pin-gives m streams names ws found e =
     let on = then-gives (stretch_of streams names ws) _ found e in
     let end = ended-gives _ _ found on.2 in
     let made = stretch-gives streams names ws on.0.0 on.0.1 on.0.2 on.1 in
-    subst (IsRead streams (length names)) end.1 (record { file = made.file; moved = omega arith; numbered = made.word })
+    subst (IsRead m streams (length names)) end.1 (record { file = made.file; moved = omega arith; numbered = made.word; in_mode = refl })
 
-held_read-gives : (streams : List StreamLine) (names ws : List (List ℕ)) (a : Action) → held_read_of names ws ≡ Some a → IsPlain streams a
+held_read-gives : (m : Mode) (streams : List StreamLine) (names ws : List (List ℕ)) (a : Action) → held_read_of names ws ≡ Some a → IsPlain m streams a
 unfolding held_read_of
-held_read-gives streams names ws a e =
+held_read-gives m streams names ws a e =
     let word = then-gives (next (word_of names) ws) _ a e in
     let at = then-gives (next number_of word.0.1) _ a word.2 in
     let len = then-gives (next (number_between 0 2097152) at.0.1) _ a at.2 in
     let end = ended-gives _ _ a len.2 in
     let l = next-gives (number_between 0 2097152) at.0.1 len.0.0 len.0.1 len.1 in
     let b = between-gives 0 2097152 l.word len.0.0 l.reads in
-    subst (IsPlain streams) end.1 (record { file = tt; moved = b.most; numbered = λ n. refl })
+    subst (IsPlain m streams) end.1 (record { file = tt; moved = b.most; numbered = λ n. refl; in_mode = refl })
 
-pinned_write-gives : (streams : List StreamLine) (names ws : List (List ℕ)) (a : Action) → pinned_write_of names ws ≡ Some a → IsPlain streams a
+pinned_write-gives : (m : Mode) (streams : List StreamLine) (names ws : List (List ℕ)) (a : Action) → pinned_write_of names ws ≡ Some a → IsPlain m streams a
 unfolding pinned_write_of
-pinned_write-gives streams names ws a e =
+pinned_write-gives m streams names ws a e =
     let word = then-gives (next (word_of names) ws) _ a e in
     let at = then-gives (next number_of word.0.1) _ a word.2 in
     let bytes = then-gives (next bytes_of at.0.1) _ a at.2 in
     let end = ended-gives _ _ a bytes.2 in
     let b = next-gives bytes_of at.0.1 bytes.0.0 bytes.0.1 bytes.1 in
-    subst (IsPlain streams) end.1 (record { file = tt; moved = bytes-give b.word bytes.0.0 b.reads; numbered = λ n. refl })
+    subst (IsPlain m streams) end.1 (record { file = tt; moved = bytes-give b.word bytes.0.0 b.reads; numbered = λ n. refl; in_mode = refl })
 
-set_dirty-gives : (streams : List StreamLine) (names ws : List (List ℕ)) (a : Action) → set_dirty_of names ws ≡ Some a → IsPlain streams a
+set_dirty-gives : (m : Mode) (streams : List StreamLine) (names ws : List (List ℕ)) (a : Action) → set_dirty_of names ws ≡ Some a → IsPlain m streams a
 unfolding set_dirty_of
-set_dirty-gives streams names ws a e =
+set_dirty-gives m streams names ws a e =
     let word = then-gives (next (word_of names) ws) _ a e in
     let lsn = then-gives (stamp_of word.0.1) _ a word.2 in
     let same : action.SetDirty word.0.0 lsn.0 ≡ a = cc in
-    subst (IsPlain streams) same (record { file = tt; moved = omega arith; numbered = λ n. refl })
+    subst (IsPlain m streams) same (record { file = tt; moved = omega arith; numbered = λ n. refl; in_mode = refl })
 
-unpin-gives : (streams : List StreamLine) (names ws : List (List ℕ)) (a : Action) → unpin_of names ws ≡ Some a → IsPlain streams a
+unpin-gives : (m : Mode) (streams : List StreamLine) (names ws : List (List ℕ)) (a : Action) → unpin_of names ws ≡ Some a → IsPlain m streams a
 unfolding unpin_of
-unpin-gives streams names ws a e =
+unpin-gives m streams names ws a e =
     let word = then-gives (next (word_of names) ws) _ a e in
     let end = ended-gives _ _ a word.2 in
-    subst (IsPlain streams) end.1 (record { file = tt; moved = omega arith; numbered = λ n. refl })
+    subst (IsPlain m streams) end.1 (record { file = tt; moved = omega arith; numbered = λ n. refl; in_mode = refl })
 
-repin-gives : (streams : List StreamLine) (names ws : List (List ℕ)) (found : Action × List (List ℕ)) → repin_of names ws ≡ Some found → IsRead streams (length names) found
+repin-gives : (m : Mode) (streams : List StreamLine) (names ws : List (List ℕ)) (found : Action × List (List ℕ)) → repin_of names ws ≡ Some found → IsRead m streams (length names) found
 unfolding repin_of
-repin-gives streams names ws found e =
+repin-gives m streams names ws found e =
     let word = then-gives (next (word_of names) ws) _ found e in
     let name = then-gives (next name_of word.0.1) _ found word.2 in
     let bound = then-gives (new_word names name.0.0) _ found name.2 in
     let end = ended-gives _ _ found bound.2 in
-    subst (IsRead streams (length names)) end.1
-    (record { file = tt; moved = omega arith; numbered = new-gives names name.0.0 bound.0 bound.1 })
+    subst (IsRead m streams (length names)) end.1
+    (record { file = tt; moved = omega arith; numbered = new-gives names name.0.0 bound.0 bound.1; in_mode = refl })
 
-unpin_repinned-gives : (streams : List StreamLine) (m : Mode) (names ws : List (List ℕ)) (a : Action) → unpin_repinned_of m names ws ≡ Some a → IsPlain streams a
+-- with `through` or without, an end of a repin stands in a run
+ends-in_run : (through : Bool) → stands (if through then RunAlone else Both) mode.Run ≡ true
+ends-in_run true = refl
+ends-in_run false = refl
+
+unpin_repinned-gives : (m : Mode) (streams : List StreamLine) (names ws : List (List ℕ)) (a : Action) → unpin_repinned_of m names ws ≡ Some a → IsPlain m streams a
 unfolding unpin_repinned_of
-unpin_repinned-gives streams mode.Run names ws a e =
+unpin_repinned-gives mode.Run streams names ws a e =
     let word = then-gives (next (word_of names) ws) _ a e in
     let end = ended-gives _ _ a word.2 in
-    subst (IsPlain streams) end.1 (record { file = tt; moved = omega arith; numbered = λ n. refl })
-unpin_repinned-gives streams mode.Steps names ws a e =
+    subst (IsPlain mode.Run streams) end.1
+    (record { file = tt; moved = omega arith; numbered = λ n. refl; in_mode = ends-in_run (flag (codes "through") word.0.1).0 })
+unpin_repinned-gives mode.Steps streams names ws a e =
     let word = then-gives (next (word_of names) ws) _ a e in
     let end = ended-gives _ _ a word.2 in
-    subst (IsPlain streams) end.1 (record { file = tt; moved = omega arith; numbered = λ n. refl })
+    subst (IsPlain mode.Steps streams) end.1 (record { file = tt; moved = omega arith; numbered = λ n. refl; in_mode = refl })
 
-mdl_read-gives : (streams : List StreamLine) (names ws : List (List ℕ)) (found : Action × List (List ℕ)) → mdl_read_of streams names ws ≡ Some found → IsRead streams (length names) found
+mdl_read-gives : (m : Mode) (streams : List StreamLine) (names ws : List (List ℕ)) (found : Action × List (List ℕ)) → mdl_read_of streams names ws ≡ Some found → IsRead m streams (length names) found
 unfolding mdl_read_of
-mdl_read-gives streams names ws found e =
+mdl_read-gives m streams names ws found e =
     let on = then-gives (stretch_of streams names ws) _ found e in
     let end = ended-gives _ _ found on.2 in
     let made = stretch-gives streams names ws on.0.0 on.0.1 on.0.2 on.1 in
-    subst (IsRead streams (length names)) end.1 (record { file = made.file; moved = omega arith; numbered = made.word })
+    subst (IsRead m streams (length names)) end.1 (record { file = made.file; moved = omega arith; numbered = made.word; in_mode = refl })
 
-mdl_write-gives : (streams : List StreamLine) (names ws : List (List ℕ)) (found : Action × List (List ℕ)) → mdl_write_of streams names ws ≡ Some found → IsRead streams (length names) found
+mdl_write-gives : (m : Mode) (streams : List StreamLine) (names ws : List (List ℕ)) (found : Action × List (List ℕ)) → mdl_write_of streams names ws ≡ Some found → IsRead m streams (length names) found
 unfolding mdl_write_of
-mdl_write-gives streams names ws found e =
+mdl_write-gives m streams names ws found e =
     let on = then-gives (stretch_of streams names ws) _ found e in
     let end = ended-gives _ _ found on.2 in
     let made = stretch-gives streams names ws on.0.0 on.0.1 on.0.2 on.1 in
-    subst (IsRead streams (length names)) end.1 (record { file = made.file; moved = omega arith; numbered = made.word })
+    subst (IsRead m streams (length names)) end.1 (record { file = made.file; moved = omega arith; numbered = made.word; in_mode = refl })
 
-mdl_bytes-gives : (streams : List StreamLine) (names ws : List (List ℕ)) (a : Action) → mdl_bytes_of names ws ≡ Some a → IsPlain streams a
+mdl_bytes-gives : (m : Mode) (streams : List StreamLine) (names ws : List (List ℕ)) (a : Action) → mdl_bytes_of names ws ≡ Some a → IsPlain m streams a
 unfolding mdl_bytes_of
-mdl_bytes-gives streams names ws a e =
+mdl_bytes-gives m streams names ws a e =
     let word = then-gives (next (word_of names) ws) _ a e in
     let at = then-gives (next number_of word.0.1) _ a word.2 in
     let len = then-gives (next (number_between 0 2097152) at.0.1) _ a at.2 in
     let end = ended-gives _ _ a len.2 in
     let l = next-gives (number_between 0 2097152) at.0.1 len.0.0 len.0.1 len.1 in
     let b = between-gives 0 2097152 l.word len.0.0 l.reads in
-    subst (IsPlain streams) end.1 (record { file = tt; moved = b.most; numbered = λ n. refl })
+    subst (IsPlain m streams) end.1 (record { file = tt; moved = b.most; numbered = λ n. refl; in_mode = refl })
 
-mdl_store-gives : (streams : List StreamLine) (names ws : List (List ℕ)) (a : Action) → mdl_store_of names ws ≡ Some a → IsPlain streams a
+mdl_store-gives : (m : Mode) (streams : List StreamLine) (names ws : List (List ℕ)) (a : Action) → mdl_store_of names ws ≡ Some a → IsPlain m streams a
 unfolding mdl_store_of
-mdl_store-gives streams names ws a e =
+mdl_store-gives m streams names ws a e =
     let word = then-gives (next (word_of names) ws) _ a e in
     let at = then-gives (next number_of word.0.1) _ a word.2 in
     let bytes = then-gives (next bytes_of at.0.1) _ a at.2 in
     let end = ended-gives _ _ a bytes.2 in
     let b = next-gives bytes_of at.0.1 bytes.0.0 bytes.0.1 bytes.1 in
-    subst (IsPlain streams) end.1 (record { file = tt; moved = bytes-give b.word bytes.0.0 b.reads; numbered = λ n. refl })
+    subst (IsPlain m streams) end.1 (record { file = tt; moved = bytes-give b.word bytes.0.0 b.reads; numbered = λ n. refl; in_mode = refl })
 
-mdl_done-gives : (streams : List StreamLine) (names ws : List (List ℕ)) (a : Action) → mdl_done_of names ws ≡ Some a → IsPlain streams a
+mdl_done-gives : (m : Mode) (streams : List StreamLine) (names ws : List (List ℕ)) (a : Action) → mdl_done_of names ws ≡ Some a → IsPlain m streams a
 unfolding mdl_done_of
-mdl_done-gives streams names ws a e =
+mdl_done-gives m streams names ws a e =
     let word = then-gives (next (word_of names) ws) _ a e in
     let end = ended-gives _ _ a word.2 in
-    subst (IsPlain streams) end.1 (record { file = tt; moved = omega arith; numbered = λ n. refl })
+    subst (IsPlain m streams) end.1 (record { file = tt; moved = omega arith; numbered = λ n. refl; in_mode = refl })
 
-mdl_abort-gives : (streams : List StreamLine) (names ws : List (List ℕ)) (a : Action) → mdl_abort_of names ws ≡ Some a → IsPlain streams a
+mdl_abort-gives : (m : Mode) (streams : List StreamLine) (names ws : List (List ℕ)) (a : Action) → mdl_abort_of names ws ≡ Some a → IsPlain m streams a
 unfolding mdl_abort_of
-mdl_abort-gives streams names ws a e =
+mdl_abort-gives m streams names ws a e =
     let word = then-gives (next (word_of names) ws) _ a e in
     let end = ended-gives _ _ a word.2 in
-    subst (IsPlain streams) end.1 (record { file = tt; moved = omega arith; numbered = λ n. refl })
+    subst (IsPlain m streams) end.1 (record { file = tt; moved = omega arith; numbered = λ n. refl; in_mode = refl })
 
-dirty_pages-gives : (streams : List StreamLine) (ws : List (List ℕ)) (a : Action) → dirty_pages_of ws ≡ Some a → IsPlain streams a
+dirty_pages-gives : (m : Mode) (streams : List StreamLine) (ws : List (List ℕ)) (a : Action) → dirty_pages_of ws ≡ Some a → IsPlain m streams a
 unfolding dirty_pages_of
-dirty_pages-gives streams ws a e =
+dirty_pages-gives m streams ws a e =
     let log = then-gives (next (number_between 0 3) ws) _ a e in
     let end = ended-gives _ _ a log.2 in
-    subst (IsPlain streams) end.1 (record { file = tt; moved = omega arith; numbered = λ n. refl })
+    subst (IsPlain m streams) end.1 (record { file = tt; moved = omega arith; numbered = λ n. refl; in_mode = refl })
 
-lsn_for_file-gives : (streams : List StreamLine) (ws : List (List ℕ)) (a : Action) → lsn_for_file_of streams ws ≡ Some a → IsPlain streams a
+lsn_for_file-gives : (m : Mode) (streams : List StreamLine) (ws : List (List ℕ)) (a : Action) → lsn_for_file_of streams ws ≡ Some a → IsPlain m streams a
 unfolding lsn_for_file_of
-lsn_for_file-gives streams ws a e =
+lsn_for_file-gives m streams ws a e =
     let file = then-gives (next (file_of streams) ws) _ a e in
     let end = ended-gives _ _ a file.2 in
     let f = next-gives (file_of streams) ws file.0.0 file.0.1 file.1 in
-    subst (IsPlain streams) end.1
-    (record { file = file-gives streams f.word file.0.0 f.reads; moved = omega arith; numbered = λ n. refl })
+    subst (IsPlain m streams) end.1
+    (record { file = file-gives streams f.word file.0.0 f.reads; moved = omega arith; numbered = λ n. refl; in_mode = refl })
 
--- an action keeps within what a line may name and move, and binds a word of the next number, or none
-pub action-gives : (m : Mode) (streams : List StreamLine) (names : List (List ℕ)) (v : Verb) (ws : List (List ℕ)) (found : Action × List (List ℕ)) → action_of m streams names v ws ≡ Some found → IsRead streams (length names) found
+-- a noncached line in either mode
+nc_read_in-gives : (m : Mode) (streams : List StreamLine) (ws : List (List ℕ)) (a : Action) → nc_read_in m streams ws ≡ Some a → IsPlain m streams a
+nc_read_in-gives mode.Run streams ws a e = nc_read-gives streams ws a e
+nc_read_in-gives mode.Steps streams ws a e = nc_read_page-gives streams ws a e
+
+nc_write_in-gives : (m : Mode) (streams : List StreamLine) (ws : List (List ℕ)) (a : Action) → nc_write_in m streams ws ≡ Some a → IsPlain m streams a
+nc_write_in-gives mode.Run streams ws a e = nc_write-gives streams ws a e
+nc_write_in-gives mode.Steps streams ws a e = nc_write_page-gives streams ws a e
+
+-- an action keeps within what a line may name and move, stands in its mode, and binds a word of the next number, or none
+pub action-gives : (m : Mode) (streams : List StreamLine) (names : List (List ℕ)) (v : Verb) (ws : List (List ℕ)) (found : Action × List (List ℕ)) → stands (verb_modes v) m ≡ true → action_of m streams names v ws ≡ Some found → IsRead m streams (length names) found
 unfolding action_of
-action-gives m streams names verb.Initialise ws found e = none-bound streams names (initialise_of streams ws) found (initialise-gives streams ws) e
-action-gives m streams names verb.Uninitialise ws found e = none-bound streams names (uninitialise_of streams ws) found (uninitialise-gives streams ws) e
-action-gives m streams names verb.CopyRead ws found e = none-bound streams names (copy_read_of streams ws) found (copy_read-gives streams ws) e
-action-gives m streams names verb.CopyWrite ws found e = none-bound streams names (copy_write_of streams ws) found (copy_write-gives streams ws) e
-action-gives m streams names verb.Zero ws found e = none-bound streams names (zero_of streams ws) found (zero-gives streams ws) e
-action-gives m streams names verb.NcRead ws found e = none-bound streams names (nc_read_of streams ws) found (nc_read-gives streams ws) e
-action-gives m streams names verb.NcWrite ws found e = none-bound streams names (nc_write_of streams ws) found (nc_write-gives streams ws) e
-action-gives m streams names verb.SetSizes ws found e = none-bound streams names (set_sizes_of streams ws) found (set_sizes-gives streams ws) e
-action-gives m streams names verb.State ws found e = none-bound streams names (state_of streams ws) found (state-gives streams ws) e
-action-gives m streams names verb.Flush ws found e = none-bound streams names (flush_of streams ws) found (flush-gives streams ws) e
-action-gives m streams names verb.Purge ws found e = none-bound streams names (purge_of streams ws) found (purge-gives streams ws) e
-action-gives m streams names verb.IsDirtyData ws found e = none-bound streams names (ended ws action.IsDirtyData) found (is_dirty-gives streams ws) e
-action-gives m streams names verb.SetLog ws found e = none-bound streams names (set_log_of streams ws) found (set_log-gives streams ws) e
-action-gives m streams names verb.Append ws found e = none-bound streams names (append_of ws) found (append-gives streams ws) e
-action-gives m streams names verb.LogFlush ws found e = none-bound streams names (log_flush_of ws) found (log_flush-gives streams ws) e
-action-gives m streams names verb.DirtyPages ws found e = none-bound streams names (dirty_pages_of ws) found (dirty_pages-gives streams ws) e
-action-gives m streams names verb.LsnForFile ws found e = none-bound streams names (lsn_for_file_of streams ws) found (lsn_for_file-gives streams ws) e
-action-gives m streams names verb.PinMapped ws found e = none-bound streams names (pin_mapped_of names ws) found (pin_mapped-gives streams names ws) e
-action-gives m streams names verb.HeldRead ws found e = none-bound streams names (held_read_of names ws) found (held_read-gives streams names ws) e
-action-gives m streams names verb.PinnedWrite ws found e = none-bound streams names (pinned_write_of names ws) found (pinned_write-gives streams names ws) e
-action-gives m streams names verb.SetDirty ws found e = none-bound streams names (set_dirty_of names ws) found (set_dirty-gives streams names ws) e
-action-gives m streams names verb.Unpin ws found e = none-bound streams names (unpin_of names ws) found (unpin-gives streams names ws) e
-action-gives m streams names verb.MdlBytes ws found e = none-bound streams names (mdl_bytes_of names ws) found (mdl_bytes-gives streams names ws) e
-action-gives m streams names verb.MdlStore ws found e = none-bound streams names (mdl_store_of names ws) found (mdl_store-gives streams names ws) e
-action-gives m streams names verb.MdlDone ws found e = none-bound streams names (mdl_done_of names ws) found (mdl_done-gives streams names ws) e
-action-gives m streams names verb.MdlAbort ws found e = none-bound streams names (mdl_abort_of names ws) found (mdl_abort-gives streams names ws) e
-action-gives m streams names verb.UnpinRepinned ws found e = none-bound streams names (unpin_repinned_of m names ws) found (unpin_repinned-gives streams m names ws) e
-action-gives m streams names verb.Map ws found e = map-gives streams names ws found e
-action-gives m streams names verb.PinRead ws found e = pin_read-gives streams names ws found e
-action-gives m streams names verb.PreparePin ws found e = prepare_pin-gives streams names ws found e
-action-gives m streams names verb.MdlRead ws found e = mdl_read-gives streams names ws found e
-action-gives m streams names verb.MdlWrite ws found e = mdl_write-gives streams names ws found e
-action-gives m streams names verb.Repin ws found e = repin-gives streams names ws found e
-action-gives m streams names verb.Stream ws found e = absurd (cc)
-action-gives m streams names verb.Journal ws found e = absurd (cc)
-action-gives m streams names verb.Threshold ws found e = absurd (cc)
-action-gives m streams names verb.Phase ws found e = absurd (cc)
+action-gives m streams names verb.Initialise ws found in_mode e = none-bound m streams names (initialise_of streams ws) found (initialise-gives m streams ws) e
+action-gives m streams names verb.Uninitialise ws found in_mode e = none-bound m streams names (uninitialise_of streams ws) found (uninitialise-gives m streams ws) e
+action-gives m streams names verb.CopyRead ws found in_mode e = none-bound m streams names (copy_read_of streams ws) found (copy_read-gives m streams ws) e
+action-gives m streams names verb.CopyWrite ws found in_mode e = none-bound m streams names (copy_write_of streams ws) found (copy_write-gives m streams ws) e
+action-gives m streams names verb.Zero ws found in_mode e = none-bound m streams names (zero_of streams ws) found (zero-gives m streams ws) e
+action-gives m streams names verb.NcRead ws found in_mode e = none-bound m streams names (nc_read_in m streams ws) found (nc_read_in-gives m streams ws) e
+action-gives m streams names verb.NcWrite ws found in_mode e = none-bound m streams names (nc_write_in m streams ws) found (nc_write_in-gives m streams ws) e
+action-gives m streams names verb.SetSizes ws found in_mode e = none-bound m streams names (set_sizes_of streams ws) found (set_sizes-gives m streams ws) e
+action-gives m streams names verb.State ws found in_mode e = none-bound m streams names (state_of streams ws) found (state-gives m streams ws) e
+action-gives m streams names verb.Flush ws found in_mode e = none-bound m streams names (flush_of streams ws) found (flush-gives m streams ws) e
+action-gives m streams names verb.Purge ws found in_mode e = none-bound m streams names (purge_of streams ws) found (purge-gives m streams ws) e
+action-gives m streams names verb.IsDirtyData ws found in_mode e = none-bound m streams names (ended ws action.IsDirtyData) found (is_dirty-gives m streams ws) e
+action-gives m streams names verb.SetLog ws found in_mode e = none-bound m streams names (set_log_of streams ws) found (set_log-gives m streams ws) e
+action-gives m streams names verb.Append ws found in_mode e = none-bound m streams names (append_of ws) found (append-gives m streams ws) e
+action-gives m streams names verb.LogFlush ws found in_mode e = none-bound m streams names (log_flush_of ws) found (log_flush-gives m streams ws) e
+action-gives m streams names verb.DirtyPages ws found in_mode e = none-bound m streams names (dirty_pages_of ws) found (dirty_pages-gives m streams ws) e
+action-gives m streams names verb.LsnForFile ws found in_mode e = none-bound m streams names (lsn_for_file_of streams ws) found (lsn_for_file-gives m streams ws) e
+action-gives m streams names verb.PinMapped ws found in_mode e = none-bound m streams names (pin_mapped_of names ws) found (pin_mapped-gives m streams names ws) e
+action-gives m streams names verb.HeldRead ws found in_mode e = none-bound m streams names (held_read_of names ws) found (held_read-gives m streams names ws) e
+action-gives m streams names verb.PinnedWrite ws found in_mode e = none-bound m streams names (pinned_write_of names ws) found (pinned_write-gives m streams names ws) e
+action-gives m streams names verb.SetDirty ws found in_mode e = none-bound m streams names (set_dirty_of names ws) found (set_dirty-gives m streams names ws) e
+action-gives m streams names verb.Unpin ws found in_mode e = none-bound m streams names (unpin_of names ws) found (unpin-gives m streams names ws) e
+action-gives m streams names verb.MdlBytes ws found in_mode e = none-bound m streams names (mdl_bytes_of names ws) found (mdl_bytes-gives m streams names ws) e
+action-gives m streams names verb.MdlStore ws found in_mode e = none-bound m streams names (mdl_store_of names ws) found (mdl_store-gives m streams names ws) e
+action-gives m streams names verb.MdlDone ws found in_mode e = none-bound m streams names (mdl_done_of names ws) found (mdl_done-gives m streams names ws) e
+action-gives m streams names verb.MdlAbort ws found in_mode e = none-bound m streams names (mdl_abort_of names ws) found (mdl_abort-gives m streams names ws) e
+action-gives m streams names verb.UnpinRepinned ws found in_mode e = none-bound m streams names (unpin_repinned_of m names ws) found (unpin_repinned-gives m streams names ws) e
+action-gives m streams names verb.Map ws found in_mode e = map-gives m streams names ws found e
+action-gives m streams names verb.PinRead ws found in_mode e = pin_read-gives m streams names ws found e
+action-gives m streams names verb.PreparePin ws found in_mode e = prepare_pin-gives m streams names ws found e
+action-gives m streams names verb.MdlRead ws found in_mode e = mdl_read-gives m streams names ws found e
+action-gives m streams names verb.MdlWrite ws found in_mode e = mdl_write-gives m streams names ws found e
+action-gives m streams names verb.Repin ws found in_mode e = repin-gives m streams names ws found e
+action-gives m streams names verb.SetGranularity ws found in_mode e = none-bound m streams names (set_granularity_of streams ws) found (set_granularity-gives m streams ws) e
+action-gives m streams names verb.SetAttributes ws found in_mode e = none-bound m streams names (set_attributes_of streams ws) found (set_attributes-gives m streams ws) e
+action-gives m streams names verb.SetThreshold ws found in_mode e = none-bound m streams names (set_threshold_of streams ws) found (set_threshold-gives m streams ws) e
+action-gives m streams names verb.NcStore ws found in_mode e = none-bound m streams names (nc_store_page_of streams ws) found (nc_store_page-gives m streams ws in_mode) e
+action-gives m streams names verb.Fill ws found in_mode e = none-bound m streams names (fill_of streams ws) found (fill-gives m streams ws in_mode) e
+action-gives m streams names verb.Drop ws found in_mode e = none-bound m streams names (drop_of streams ws) found (drop-gives m streams ws in_mode) e
+action-gives m streams names verb.WriteBegin ws found in_mode e = none-bound m streams names (write_begin_of streams ws) found (write_begin-gives m streams ws in_mode) e
+action-gives m streams names verb.WriteEnd ws found in_mode e = none-bound m streams names (write_end_of streams ws) found (write_end-gives m streams ws in_mode) e
+action-gives m streams names verb.Sync ws found in_mode e = none-bound m streams names (sync_of streams ws) found (sync-gives m streams ws in_mode) e
+action-gives m streams names verb.Scan ws found in_mode e = none-bound m streams names (ended ws action.Scan) found (scan-gives m streams ws in_mode) e
+action-gives m streams names verb.CanWrite ws found in_mode e = none-bound m streams names (can_write_of streams ws) found (can_write-gives m streams ws in_mode) e
+action-gives m streams names verb.Defer ws found in_mode e = none-bound m streams names (defer_of streams ws) found (defer-gives m streams ws in_mode) e
+action-gives m streams names verb.Post ws found in_mode e = none-bound m streams names (ended ws action.Post) found (post-gives m streams ws in_mode) e
+action-gives m streams names verb.Stream ws found in_mode e = absurd (cc)
+action-gives m streams names verb.Journal ws found in_mode e = absurd (cc)
+action-gives m streams names verb.Threshold ws found in_mode e = absurd (cc)
+action-gives m streams names verb.Phase ws found in_mode e = absurd (cc)
+action-gives m streams names verb.Fail ws found in_mode e = absurd (cc)

@@ -1,11 +1,15 @@
 -- What a step of the grammar says of the words that it takes, where it gives something.
-use Rattle.std.proofs.Common.{◌≡◌, ℕ, ◌+◌, ◌<◌, ◌≤◌, ◌==◌, Bool, true, false, ◌&&◌, cond, Some, None, Option, option_map, List, [], ◌∷◌, length, take, drop, nat_lt, nat_le, if◌then◌else◌, inl, inr, refl, ap, ◌∙◌, arith}
+use Rattle.std.proofs.Common.{◌≡◌, ℕ, ◌+◌, ◌<◌, ◌≤◌, ◌==◌, Bool, true, false, ◌&&◌, cond, Some, None, Option, option_map, List, [], ◌∷◌, length, take, drop, nat_lt, nat_le, if◌then◌else◌, inl, inr, refl, ap, ◌∙◌, subst, arith}
 use Rattle.std.specs.List.{position, position_or_len}
 use Rattle.std.specs.Str.{bytes_eq}
 use Rattle.std.proofs.lemmas.Bool.Decides.{nat_tests}
 use Rattle.cc_entry.specs.Place.{File}
 use Rattle.cc_script.specs.declared.script.StreamLine.{StreamLine}
+use Rattle.cc_script.specs.declared.script.Mode.{Mode}
+use Rattle.cc_script.specs.declared.verb.Verb.{Verb}
 use Rattle.cc_script.specs.Outcome.{◌>>=◌}
+use Rattle.cc_script.specs.Modes.{stands, verb_modes}
+use Rattle.cc_script.specs.Verbs.{verb_of, verb_in}
 use Rattle.cc_script.specs.Words.{number_of, number_between, bytes_of, caller_of}
 use Rattle.cc_script.specs.Laws.{Spells}
 use Rattle.cc_script.specs.Actions.{next, ended, stream_named, object_named, file_at, file_of}
@@ -72,6 +76,15 @@ between-gives low high word n e =
     let most : m.0 ≤ high = grind (arith, nat_tests, tests.1) in
     record { number = m.1 ∙ ap Some same; least = omega (arith, same, least); most = omega (arith, same, most) }
 
+-- a verb stands in the mode that it is read in
+pub verb-gives : (m : Mode) (word : List ℕ) (v : Verb) → verb_in m word ≡ Some v → stands (verb_modes v) m ≡ true
+unfolding verb_in
+verb-gives m word v e =
+    let found = then-gives (verb_of word) (λ w. if stands (verb_modes w) m then Some w else None) v e in
+    let t = if-gives (stands (verb_modes found.0) m) (Some found.0) v found.2 in
+    let same : found.0 ≡ v = cc in
+    subst (λ (v : Verb). stands (verb_modes v) m ≡ true) same t.0
+
 -- a caller is one of 16
 pub caller-gives : (word : List ℕ) (n : ℕ) → caller_of word ≡ Some n → (1 ≤ n) × (n ≤ 16)
 unfolding caller_of
@@ -80,7 +93,7 @@ caller-gives (c ∷ number) n e =
     let b = between-gives 1 16 number n (if-gives (c == 116) (number_between 1 16 number) n e).1 in (b.least, b.most)
 
 -- a place that is found is one of the list
-position-below : {X : Type 0} (p : X → Bool) (xs : List X) (i : ℕ) → position p xs ≡ Some i → i < length xs
+pub position-below : {X : Type 0} (p : X → Bool) (xs : List X) (i : ℕ) → position p xs ≡ Some i → i < length xs
 position-below p xs i e = either (nat_lt (position_or_len p xs) (length xs)) refl e
   where
     either : (t : Bool) → nat_lt (position_or_len p xs) (length xs) ≡ t → cond t (Some (position_or_len p xs)) None ≡ Some i → i < length xs

@@ -11,7 +11,7 @@ use Rattle.cc_script.specs.declared.script.Action.TheVariants as action
 use Rattle.cc_script.specs.declared.script.ActionLine.{ActionLine}
 use Rattle.cc_script.specs.HoldWords.{meets, covers, is_open, has_range, may_use, changed, as_pin, as_ended, repinned, bound_after, Uses, UsesBytes, UsesRight, bound_if, IsRightIf, bound_so_far, AreUsedRight, binds, words_bound}
 use Rattle.cc_script.proofs.Steps.{both}
-use Rattle.cc_script.proofs.ActionsRead.{IsNumbered}
+use Rattle.cc_script.proofs.Plain.{IsNumbered}
 
 no_no : (t : Bool) → not t ≡ true → t ≡ false
 no_no true e = absurd (cc)

@@ -1,5 +1,5 @@
--- Every script of the grammar keeps within what its run may rely on.
-use Rattle.std.proofs.Common.{◌≡◌, ℕ, zero, suc, ◌+◌, ◌<◌, ◌≤◌, ◌==◌, Bool, true, false, ◌&&◌, not, Some, None, Option, Result, Ok, Err, IfOk, IfSome, option_map, List, [], ◌∷◌, ◌++◌, length, nat_lt, nat_le, if◌then◌else◌, slice_index, codes, refl, ap, sym, ◌∙◌, subst, length-append, lit≤, arith, ◌≢◌, get_or, replicate}
+-- Every script of the grammar keeps within what its run may rely on, and has the actions of its mode alone.
+use Rattle.std.proofs.Common.{◌≡◌, ℕ, zero, suc, ◌+◌, ◌<◌, ◌≤◌, ◌==◌, Bool, true, false, ◌&&◌, ◌||◌, not, Some, None, Option, Result, Ok, Err, IfOk, IfSome, option_map, List, [], ◌∷◌, ◌++◌, length, nat_lt, nat_le, if◌then◌else◌, slice_index, codes, refl, ap, sym, ◌∙◌, subst, length-append, lit≤, arith, ◌≢◌, get_or, replicate}
 use Rattle.std.specs.List.{AllByRecursion, list_all, AllPairs, slice_index_or}
 use Rattle.std.specs.Str.Lines.{strip_carriage_return}
 use Rattle.std.specs.Prelude.{slice_set}
@@ -7,6 +7,7 @@ use Rattle.std.proofs.lemmas.List.{nil_from_length, length-set, get_or-set_same,
 use Rattle.std.proofs.lemmas.Bool.{eqb-true, eqb-false}
 use Rattle.std.proofs.lemmas.Bool.Decides.{nat_tests}
 use Rattle.cc_script.specs.declared.script.Mode.{Mode}
+use Rattle.cc_script.specs.declared.script.Mode.TheVariants as mode
 use Rattle.cc_script.specs.declared.script.Script.{Script}
 use Rattle.cc_script.specs.declared.script.StreamLine.{StreamLine}
 use Rattle.cc_script.specs.declared.script.Action.{Action}
@@ -16,18 +17,20 @@ use Rattle.cc_script.specs.declared.verb.Verb.TheVariants as verb
 use Rattle.cc_script.specs.declared.reading.Reading.{Reading}
 use Rattle.cc_script.specs.Text.{lines, words}
 use Rattle.cc_script.specs.Words.{number_of, number_between, name_of, caller_of}
-use Rattle.cc_script.specs.Verbs.{verb_in}
+use Rattle.cc_script.specs.Modes.{RunAlone, StepsAlone, stands, verb_modes, is_call, IsLineOf, HasPhases, IsOfMode}
+use Rattle.cc_script.specs.Verbs.{takes_caller, verb_in}
 use Rattle.cc_script.specs.declared.bound.Bound.{Bound}
 use Rattle.cc_script.specs.declared.caller_words.CallerWords.{CallerWords}
 use Rattle.cc_script.specs.Actions.{next, flag, quota_of}
 use Rattle.cc_script.specs.ActionTable.{action_of, bytes_counted, dirty_lines}
 use Rattle.cc_script.specs.HoldWords.{may_use, bound_after, IsRightIf, bound_so_far, UsesRight}
-use Rattle.cc_script.specs.Grammar.{nothing_read, may_add, with_stream, log_of, stream_of, setting_of, with_journal, with_threshold, with_phase, placed, no_words, words_by, keeps_totals, with_action, action_line, verb_line, called_line, uncalled_line, line_by, words_line, is_printable, text_line, line_of, or_wrong, lines_of, script_of}
+use Rattle.cc_script.specs.Grammar.{nothing_read, may_add, with_stream, log_of, stream_of, setting_of, with_journal, with_threshold, with_phase, placed, no_words, words_by, keeps_totals, with_action, action_line, caller_line, verb_line, called_line, uncalled_line, line_by, words_line, is_printable, text_line, line_of, or_wrong, lines_of, script_of}
 use Rattle.cc_script.specs.declared.script.ScriptFault.{ScriptFault}
 use Rattle.cc_script.specs.Answers.{Reads}
 use Rattle.cc_script.specs.Within.{IsStreamWithin, IsLineWithin, PhasesAscend, IsWithin}
-use Rattle.cc_script.proofs.Steps.{then-gives, if-gives, both, next-gives, ended-gives, between-gives, caller-gives}
-use Rattle.cc_script.proofs.ActionsRead.{IsNumbered, action-gives}
+use Rattle.cc_script.proofs.Steps.{then-gives, if-gives, both, next-gives, ended-gives, between-gives, verb-gives, caller-gives}
+use Rattle.cc_script.proofs.Plain.{IsNumbered}
+use Rattle.cc_script.proofs.ActionsRead.{action-gives}
 use Rattle.cc_script.proofs.UsedRight.{used-right, after-length, numbered-length, so_far-onto, right-onto}
 
 -- a quota is in its range
@@ -108,9 +111,30 @@ record IsKept (caller : ℕ) (own : CallerWords) (lines : List ActionLine) : Typ
   bounds : own.bounds ≡ bound_so_far caller [] lines
   names : length own.names ≡ length own.bounds
 
--- The script so far keeps within that, has no more lines than were read, and its words are kept.
-record IsSoFar (n : ℕ) (r : Reading) : Type 0 where
+-- one phase is as many as either mode may have
+one-phase : (m : Mode) → HasPhases m 1
+one-phase mode.Run = tt
+one-phase mode.Steps = refl
+
+-- and only a run has one more
+more-phases : (m : Mode) (phases : ℕ) → stands RunAlone m ≡ true → HasPhases m phases
+more-phases mode.Run phases e = tt
+more-phases mode.Steps phases e = absurd (cc)
+
+in-steps : (m : Mode) → stands StepsAlone m ≡ true → m ≡ mode.Steps
+in-steps mode.Run e = absurd (cc)
+in-steps mode.Steps e = refl
+
+-- an action that may fail is a call where it fails
+fails-call : (fails call : Bool) → (not fails || call) ≡ true → fails ≡ true → call ≡ true
+fails-call true call e f = e
+fails-call false call e f = absurd (cc)
+
+-- The script so far keeps within that and is of its mode, has no more lines than were read, and its words are kept.
+record IsSoFar (m : Mode) (n : ℕ) (r : Reading) : Type 0 where
   within : IsWithin r.script
+  lines : AllByRecursion (IsLineOf m) r.script.lines
+  phases : HasPhases m r.script.phases
   few : length r.script.lines ≤ n
   callers : length r.words ≡ 17
   kept : (caller : ℕ) → caller ≤ 16 → IsKept caller (words_by caller r) r.script.lines
@@ -121,8 +145,8 @@ none-kept zero (suc caller) = refl
 none-kept (suc n) zero = refl
 none-kept (suc n) (suc caller) = none-kept n caller
 
-nothing-so_far : IsSoFar 0 nothing_read
-nothing-so_far =
+nothing-so_far : (m : Mode) → IsSoFar m 0 nothing_read
+nothing-so_far m =
     record {
       within = record {
         header = record {
@@ -142,21 +166,23 @@ nothing-so_far =
         in_order = tt;
         words = λ caller. tt;
       };
+      lines = tt;
+      phases = one-phase m;
       few = lit≤ tt;
       callers = refl;
       kept = λ caller low. subst (λ (own : CallerWords). IsKept caller own []) (sym (none-kept 17 caller)) (record { bounds = refl; names = refl });
     }
 
 -- a line that adds no action leaves room for it
-later : (n : ℕ) (r : Reading) → IsSoFar n r → IsSoFar (n + 1) r
-later n r is = record { within = is.within; few = let few = is.few in omega (arith, few); callers = is.callers; kept = is.kept }
+later : (m : Mode) (n : ℕ) (r : Reading) → IsSoFar m n r → IsSoFar m (n + 1) r
+later m n r is = record { within = is.within; lines = is.lines; phases = is.phases; few = let few = is.few in omega (arith, few); callers = is.callers; kept = is.kept }
 
 no_lines : (xs : List ActionLine) → (length xs == 0) ≡ true → xs ≡ []
 no_lines xs e = let z : length xs ≡ 0 = grind (arith, nat_tests, e) in nil_from_length xs z
 
-stream-so_far : (n : ℕ) (stream : StreamLine) (r new : Reading) → IsStreamWithin stream → IsSoFar n r → with_stream stream r ≡ Some new → IsSoFar n new
+stream-so_far : (m : Mode) (n : ℕ) (stream : StreamLine) (r new : Reading) → IsStreamWithin stream → IsSoFar m n r → with_stream stream r ≡ Some new → IsSoFar m n new
 unfolding with_stream may_add
-stream-so_far n stream r new one is e =
+stream-so_far m n stream r new one is e =
     let t = if-gives (may_add stream r) _ new e in
     let none = both (length r.script.lines == 0) _ t.0 in
     let room = both (nat_lt (length r.script.streams) 16) _ none.1 in
@@ -165,7 +191,7 @@ stream-so_far n stream r new one is e =
     let len : length (r.script.streams ++ stream ∷ []) ≡ length r.script.streams + 1 = length-append r.script.streams (stream ∷ []) in
     let empty : r.script.lines ≡ [] = no_lines r.script.lines none.0 in
     let same : (let made : Reading = record r { script = record r.script { streams = r.script.streams ++ stream ∷ [] } } in made) ≡ new = cc in
-    subst (IsSoFar n) same
+    subst (IsSoFar m n) same
     (record {
       within = record {
         header = record {
@@ -185,19 +211,21 @@ stream-so_far n stream r new one is e =
         in_order = w.in_order;
         words = w.words;
       };
+      lines = is.lines;
+      phases = is.phases;
       few = is.few;
       callers = is.callers;
       kept = is.kept;
     })
 
-journal-so_far : (n capacity : ℕ) (r new : Reading) → (64 ≤ capacity) × (capacity ≤ 1048576) → IsSoFar n r → with_journal capacity r ≡ Some new → IsSoFar n new
+journal-so_far : (m : Mode) (n capacity : ℕ) (r new : Reading) → (64 ≤ capacity) × (capacity ≤ 1048576) → IsSoFar m n r → with_journal capacity r ≡ Some new → IsSoFar m n new
 unfolding with_journal
-journal-so_far n capacity r new range is e =
+journal-so_far m n capacity r new range is e =
     let w = is.within in
     let made : Reading = record r { script = record r.script { journal = capacity }; has_journal = true } in
     let t = if-gives ((length r.script.lines == 0) && not r.has_journal) (Some made) new e in
     let same : made ≡ new = cc in
-    subst (IsSoFar n) same
+    subst (IsSoFar m n) same
     (record {
       within = record {
         header = record {
@@ -217,19 +245,21 @@ journal-so_far n capacity r new range is e =
         in_order = w.in_order;
         words = w.words;
       };
+      lines = is.lines;
+      phases = is.phases;
       few = is.few;
       callers = is.callers;
       kept = is.kept;
     })
 
-threshold-so_far : (n pages : ℕ) (r new : Reading) → (1 ≤ pages) × (pages ≤ 16384) → IsSoFar n r → with_threshold pages r ≡ Some new → IsSoFar n new
+threshold-so_far : (m : Mode) (n pages : ℕ) (r new : Reading) → (1 ≤ pages) × (pages ≤ 16384) → IsSoFar m n r → with_threshold pages r ≡ Some new → IsSoFar m n new
 unfolding with_threshold
-threshold-so_far n pages r new range is e =
+threshold-so_far m n pages r new range is e =
     let w = is.within in
     let made : Reading = record r { script = record r.script { threshold = pages }; has_threshold = true } in
     let t = if-gives ((length r.script.lines == 0) && not r.has_threshold) (Some made) new e in
     let same : made ≡ new = cc in
-    subst (IsSoFar n) same
+    subst (IsSoFar m n) same
     (record {
       within = record {
         header = record {
@@ -249,6 +279,8 @@ threshold-so_far n pages r new range is e =
         in_order = w.in_order;
         words = w.words;
       };
+      lines = is.lines;
+      phases = is.phases;
       few = is.few;
       callers = is.callers;
       kept = is.kept;
@@ -267,15 +299,15 @@ one_phase-more streams phases line is =
       moved = is.moved;
     }
 
-phase-so_far : (n : ℕ) (ws : List (List ℕ)) (r new : Reading) → IsSoFar n r → with_phase ws r ≡ Some new → IsSoFar n new
+phase-so_far : (m : Mode) (n : ℕ) (ws : List (List ℕ)) (r new : Reading) → stands RunAlone m ≡ true → IsSoFar m n r → with_phase ws r ≡ Some new → IsSoFar m n new
 unfolding with_phase
-phase-so_far n ws r new is e =
+phase-so_far m n ws r new in_mode is e =
     let t = if-gives ((length ws == 0) && nat_le r.script.phases 1000) _ new e in
     let w = is.within in
     let first = w.first_phase in
     let below : r.script.phases ≤ 1000 = grind (arith, nat_tests, (both (length ws == 0) (nat_le r.script.phases 1000) t.0).1) in
     let same : (let made : Reading = record r { script = record r.script { phases = r.script.phases + 1 } } in made) ≡ new = cc in
-    subst (IsSoFar n) same
+    subst (IsSoFar m n) same
     (record {
       within = record {
         header = record {
@@ -295,6 +327,8 @@ phase-so_far n ws r new is e =
         in_order = w.in_order;
         words = w.words;
       };
+      lines = is.lines;
+      phases = more-phases m (r.script.phases + 1) in_mode;
       few = is.few;
       callers = is.callers;
       kept = is.kept;
@@ -328,22 +362,23 @@ same-caller c true e = refl
 same-caller c false e = absurd (eqb-false c c e refl)
 
 -- a line of a caller's action
-action-so_far : (m : Mode) (n line caller : ℕ) (v : Verb) (ws : List (List ℕ)) (r new : Reading) → n < 65536 → (1 ≤ caller) × (caller ≤ 16) → IsSoFar n r → action_line m line caller v ws r ≡ Some new → IsSoFar (n + 1) new
+action-so_far : (m : Mode) (n line caller : ℕ) (fails : Bool) (v : Verb) (ws : List (List ℕ)) (r new : Reading) → n < 65536 → (1 ≤ caller) × (caller ≤ 16) → (fails ≡ true → m ≡ mode.Steps) → stands (verb_modes v) m ≡ true → IsSoFar m n r → action_line m line caller fails v ws r ≡ Some new → IsSoFar m (n + 1) new
 unfolding action_line with_action
-action-so_far m n line caller v ws r new room range is e =
+action-so_far m n line caller fails v ws r new room range may_fail in_mode is e =
     let own = words_by caller r in
     let found = then-gives (action_of m r.script.streams own.names v ws) _ new e in
     let a = found.0.0 in
-    let read = action-gives m r.script.streams own.names v ws found.0 found.1 in
-    let t = if-gives (keeps_totals a r && may_use a own.bounds) _ new found.2 in
-    let tests = both (keeps_totals a r) (may_use a own.bounds) t.0 in
+    let read = action-gives m r.script.streams own.names v ws found.0 in_mode found.1 in
+    let t = if-gives (keeps_totals a r && (may_use a own.bounds && (not fails || is_call a))) _ new found.2 in
+    let all = both (keeps_totals a r) (may_use a own.bounds && (not fails || is_call a)) t.0 in
+    let tests = both (may_use a own.bounds) (not fails || is_call a) all.1 in
     let w = is.within in
     let few = is.few in
     let k = is.kept caller range.1 in
-    let last : ActionLine = placed line caller a r in
+    let last : ActionLine = placed line caller fails a r in
     let len : length (r.script.lines ++ last ∷ []) ≡ length r.script.lines + 1 = length-append r.script.lines (last ∷ []) in
     let numbered : IsNumbered a (length own.bounds) (length found.0.1) = subst (λ (old : ℕ). IsNumbered a old (length found.0.1)) k.names read.numbered in
-    let right : UsesRight own.bounds a = used-right a own.bounds (length found.0.1) numbered tests.1 in
+    let right : UsesRight own.bounds a = used-right a own.bounds (length found.0.1) numbered tests.0 in
     let so_far : UsesRight (bound_so_far caller [] r.script.lines) a = subst (λ (bounds : List Bound). UsesRight bounds a) k.bounds right in
     let after : CallerWords = record { names = found.0.1; bounds = bound_after a own.bounds } in
     let is_own : (caller == caller) ≡ true = same-caller caller (caller == caller) refl in
@@ -360,10 +395,11 @@ action-so_far m n line caller v ws r new room range is e =
       file = read.file;
       moved = read.moved;
     } in
-    let all = is.callers in
+    let of_mode : IsLineOf m last = record { in_mode = read.in_mode; fails = λ f. (may_fail f, fails-call fails (is_call a) tests.1 f) } in
+    let each = is.callers in
     let most = range.1 in
-    let low : caller < length r.words = omega (arith, all, most) in
-    subst (IsSoFar (n + 1)) same
+    let low : caller < length r.words = omega (arith, each, most) in
+    subst (IsSoFar m (n + 1)) same
     (record {
       within = record {
         header = record {
@@ -383,108 +419,101 @@ action-so_far m n line caller v ws r new room range is e =
         in_order = ascend-onto r.script.streams 1 r.script.lines last w.first_phase w.lines w.in_order;
         words = λ c. right-onto c [] r.script.lines last (w.words c) (right-if caller c a r.script.lines (caller == c) refl so_far);
       };
+      lines = all-onto (IsLineOf m) r.script.lines last is.lines of_mode;
+      phases = is.phases;
       few = omega (arith, len, few);
       callers = length-set r.words caller after ∙ is.callers;
       kept = kept-on caller after last r refl low kept is.kept;
     })
 
-verb-so_far : (m : Mode) (n line : ℕ) (v : Verb) (ws : List (List ℕ)) (r new : Reading) → n < 65536 → IsSoFar n r → verb_line m line v ws r ≡ Some new → IsSoFar (n + 1) new
+-- a line of a caller, with `fail` before its action or without
+caller-so_far : (m : Mode) (n line caller : ℕ) (v : Verb) (ws : List (List ℕ)) (r new : Reading) → n < 65536 → (1 ≤ caller) × (caller ≤ 16) → stands (verb_modes v) m ≡ true → IsSoFar m n r → caller_line m line caller v ws r ≡ Some new → IsSoFar m (n + 1) new
+unfolding caller_line
+caller-so_far m n line caller verb.Fail ws r new room range in_mode is e =
+    let found = then-gives (next (verb_in m) ws) _ new e in
+    let w = next-gives (verb_in m) ws found.0.0 found.0.1 found.1 in
+    action-so_far m n line caller true found.0.0 found.0.1 r new room range (λ _. in-steps m in_mode) (verb-gives m w.word found.0.0 w.reads) is found.2
+caller-so_far m n line caller v ws r new room range in_mode is e =
+    action-so_far m n line caller false v ws r new room range (λ f. absurd (cc)) in_mode is e
+
+verb-so_far : (m : Mode) (n line : ℕ) (v : Verb) (ws : List (List ℕ)) (r new : Reading) → n < 65536 → stands (verb_modes v) m ≡ true → IsSoFar m n r → verb_line m line v ws r ≡ Some new → IsSoFar m (n + 1) new
 unfolding verb_line
-verb-so_far m n line verb.Stream ws r new room is e =
+verb-so_far m n line verb.Stream ws r new room in_mode is e =
     let found = then-gives (stream_of line ws) _ new e in
-    later n new (stream-so_far n found.0 r new (stream-gives line ws found.0 found.1) is found.2)
-verb-so_far m n line verb.Journal ws r new room is e =
+    later m n new (stream-so_far m n found.0 r new (stream-gives line ws found.0 found.1) is found.2)
+verb-so_far m n line verb.Journal ws r new room in_mode is e =
     let found = then-gives (setting_of 64 1048576 ws) _ new e in
-    later n new (journal-so_far n found.0 r new (setting-gives 64 1048576 ws found.0 found.1) is found.2)
-verb-so_far m n line verb.Threshold ws r new room is e =
+    later m n new (journal-so_far m n found.0 r new (setting-gives 64 1048576 ws found.0 found.1) is found.2)
+verb-so_far m n line verb.Threshold ws r new room in_mode is e =
     let found = then-gives (setting_of 1 16384 ws) _ new e in
-    later n new (threshold-so_far n found.0 r new (setting-gives 1 16384 ws found.0 found.1) is found.2)
-verb-so_far m n line verb.Phase ws r new room is e = later n new (phase-so_far n ws r new is e)
-verb-so_far m n line verb.Initialise ws r new room is e = action-so_far m n line 1 verb.Initialise ws r new room (lit≤ tt, lit≤ tt) is e
-verb-so_far m n line verb.Uninitialise ws r new room is e = action-so_far m n line 1 verb.Uninitialise ws r new room (lit≤ tt, lit≤ tt) is e
-verb-so_far m n line verb.CopyRead ws r new room is e = action-so_far m n line 1 verb.CopyRead ws r new room (lit≤ tt, lit≤ tt) is e
-verb-so_far m n line verb.CopyWrite ws r new room is e = action-so_far m n line 1 verb.CopyWrite ws r new room (lit≤ tt, lit≤ tt) is e
-verb-so_far m n line verb.Zero ws r new room is e = action-so_far m n line 1 verb.Zero ws r new room (lit≤ tt, lit≤ tt) is e
-verb-so_far m n line verb.Map ws r new room is e = action-so_far m n line 1 verb.Map ws r new room (lit≤ tt, lit≤ tt) is e
-verb-so_far m n line verb.PinRead ws r new room is e = action-so_far m n line 1 verb.PinRead ws r new room (lit≤ tt, lit≤ tt) is e
-verb-so_far m n line verb.PinMapped ws r new room is e = action-so_far m n line 1 verb.PinMapped ws r new room (lit≤ tt, lit≤ tt) is e
-verb-so_far m n line verb.PreparePin ws r new room is e = action-so_far m n line 1 verb.PreparePin ws r new room (lit≤ tt, lit≤ tt) is e
-verb-so_far m n line verb.HeldRead ws r new room is e = action-so_far m n line 1 verb.HeldRead ws r new room (lit≤ tt, lit≤ tt) is e
-verb-so_far m n line verb.PinnedWrite ws r new room is e = action-so_far m n line 1 verb.PinnedWrite ws r new room (lit≤ tt, lit≤ tt) is e
-verb-so_far m n line verb.SetDirty ws r new room is e = action-so_far m n line 1 verb.SetDirty ws r new room (lit≤ tt, lit≤ tt) is e
-verb-so_far m n line verb.Unpin ws r new room is e = action-so_far m n line 1 verb.Unpin ws r new room (lit≤ tt, lit≤ tt) is e
-verb-so_far m n line verb.Repin ws r new room is e = action-so_far m n line 1 verb.Repin ws r new room (lit≤ tt, lit≤ tt) is e
-verb-so_far m n line verb.UnpinRepinned ws r new room is e = action-so_far m n line 1 verb.UnpinRepinned ws r new room (lit≤ tt, lit≤ tt) is e
-verb-so_far m n line verb.MdlRead ws r new room is e = action-so_far m n line 1 verb.MdlRead ws r new room (lit≤ tt, lit≤ tt) is e
-verb-so_far m n line verb.MdlWrite ws r new room is e = action-so_far m n line 1 verb.MdlWrite ws r new room (lit≤ tt, lit≤ tt) is e
-verb-so_far m n line verb.MdlBytes ws r new room is e = action-so_far m n line 1 verb.MdlBytes ws r new room (lit≤ tt, lit≤ tt) is e
-verb-so_far m n line verb.MdlStore ws r new room is e = action-so_far m n line 1 verb.MdlStore ws r new room (lit≤ tt, lit≤ tt) is e
-verb-so_far m n line verb.MdlDone ws r new room is e = action-so_far m n line 1 verb.MdlDone ws r new room (lit≤ tt, lit≤ tt) is e
-verb-so_far m n line verb.MdlAbort ws r new room is e = action-so_far m n line 1 verb.MdlAbort ws r new room (lit≤ tt, lit≤ tt) is e
-verb-so_far m n line verb.NcRead ws r new room is e = action-so_far m n line 1 verb.NcRead ws r new room (lit≤ tt, lit≤ tt) is e
-verb-so_far m n line verb.NcWrite ws r new room is e = action-so_far m n line 1 verb.NcWrite ws r new room (lit≤ tt, lit≤ tt) is e
-verb-so_far m n line verb.SetSizes ws r new room is e = action-so_far m n line 1 verb.SetSizes ws r new room (lit≤ tt, lit≤ tt) is e
-verb-so_far m n line verb.State ws r new room is e = action-so_far m n line 1 verb.State ws r new room (lit≤ tt, lit≤ tt) is e
-verb-so_far m n line verb.Flush ws r new room is e = action-so_far m n line 1 verb.Flush ws r new room (lit≤ tt, lit≤ tt) is e
-verb-so_far m n line verb.Purge ws r new room is e = action-so_far m n line 1 verb.Purge ws r new room (lit≤ tt, lit≤ tt) is e
-verb-so_far m n line verb.IsDirtyData ws r new room is e = action-so_far m n line 1 verb.IsDirtyData ws r new room (lit≤ tt, lit≤ tt) is e
-verb-so_far m n line verb.DirtyPages ws r new room is e = action-so_far m n line 1 verb.DirtyPages ws r new room (lit≤ tt, lit≤ tt) is e
-verb-so_far m n line verb.LsnForFile ws r new room is e = action-so_far m n line 1 verb.LsnForFile ws r new room (lit≤ tt, lit≤ tt) is e
-verb-so_far m n line verb.SetLog ws r new room is e = action-so_far m n line 1 verb.SetLog ws r new room (lit≤ tt, lit≤ tt) is e
-verb-so_far m n line verb.Append ws r new room is e = action-so_far m n line 1 verb.Append ws r new room (lit≤ tt, lit≤ tt) is e
-verb-so_far m n line verb.LogFlush ws r new room is e = action-so_far m n line 1 verb.LogFlush ws r new room (lit≤ tt, lit≤ tt) is e
+    later m n new (threshold-so_far m n found.0 r new (setting-gives 1 16384 ws found.0 found.1) is found.2)
+verb-so_far m n line verb.Phase ws r new room in_mode is e = later m n new (phase-so_far m n ws r new in_mode is e)
+verb-so_far m n line v ws r new room in_mode is e = caller-so_far m n line 1 v ws r new room (lit≤ tt, lit≤ tt) in_mode is e
 
 -- a line by a caller, or without a caller word
-by-so_far : (mode : Mode) (n line : ℕ) (caller : Option ℕ) (word : List ℕ) (more : List (List ℕ)) (r new : Reading) → n < 65536 → caller_of word ≡ caller → IsSoFar n r → line_by mode line caller word more r ≡ Some new → IsSoFar (n + 1) new
+by-so_far : (m : Mode) (n line : ℕ) (caller : Option ℕ) (word : List ℕ) (more : List (List ℕ)) (r new : Reading) → n < 65536 → caller_of word ≡ caller → IsSoFar m n r → line_by m line caller word more r ≡ Some new → IsSoFar m (n + 1) new
 unfolding called_line uncalled_line
-by-so_far mode n line (Some caller) word more r new room by is e =
+by-so_far m n line (Some caller) word more r new room by is e =
     let c = caller-gives word caller by in
-    let found = then-gives (next (verb_in mode) more) _ new e in
-    let w = next-gives (verb_in mode) more found.0.0 found.0.1 found.1 in
-    action-so_far mode n line caller found.0.0 found.0.1 r new room c is found.2
-by-so_far mode n line None word more r new room by is e =
-    let found = then-gives (next (verb_in mode) (word ∷ more)) _ new e in
-    let w = next-gives (verb_in mode) (word ∷ more) found.0.0 found.0.1 found.1 in
-    verb-so_far mode n line found.0.0 found.0.1 r new room is found.2
+    let found = then-gives (next (verb_in m) more) _ new e in
+    let w = next-gives (verb_in m) more found.0.0 found.0.1 found.1 in
+    let t = if-gives (takes_caller found.0.0) _ new found.2 in
+    caller-so_far m n line caller found.0.0 found.0.1 r new room c (verb-gives m w.word found.0.0 w.reads) is t.1
+by-so_far m n line None word more r new room by is e =
+    let found = then-gives (next (verb_in m) (word ∷ more)) _ new e in
+    let w = next-gives (verb_in m) (word ∷ more) found.0.0 found.0.1 found.1 in
+    verb-so_far m n line found.0.0 found.0.1 r new room (verb-gives m w.word found.0.0 w.reads) is found.2
 
-words-so_far : (mode : Mode) (n line : ℕ) (ws : List (List ℕ)) (r new : Reading) → n < 65536 → IsSoFar n r → words_line mode line ws r ≡ Some new → IsSoFar (n + 1) new
+words-so_far : (m : Mode) (n line : ℕ) (ws : List (List ℕ)) (r new : Reading) → n < 65536 → IsSoFar m n r → words_line m line ws r ≡ Some new → IsSoFar m (n + 1) new
 unfolding words_line
-words-so_far mode n line [] r new room is e = let same : r ≡ new = cc in subst (IsSoFar (n + 1)) same (later n r is)
-words-so_far mode n line (word ∷ more) r new room is e = by-so_far mode n line (caller_of word) word more r new room refl is e
+words-so_far m n line [] r new room is e = let same : r ≡ new = cc in subst (IsSoFar m (n + 1)) same (later m n r is)
+words-so_far m n line (word ∷ more) r new room is e = by-so_far m n line (caller_of word) word more r new room refl is e
 
-text-so_far : (mode : Mode) (n line : ℕ) (text : List ℕ) (r new : Reading) → n < 65536 → IsSoFar n r → text_line mode line text r ≡ Some new → IsSoFar (n + 1) new
+text-so_far : (m : Mode) (n line : ℕ) (text : List ℕ) (r new : Reading) → n < 65536 → IsSoFar m n r → text_line m line text r ≡ Some new → IsSoFar m (n + 1) new
 unfolding text_line
-text-so_far mode n line text r new room is e = either (slice_index text 0 == 35) (if-gives (list_all is_printable text) _ new e).1
+text-so_far m n line text r new room is e = either (slice_index text 0 == 35) (if-gives (list_all is_printable text) _ new e).1
   where
-    either : (t : Bool) → (if t then Some r else words_line mode line (words text) r) ≡ Some new → IsSoFar (n + 1) new
-    either true g = let same : r ≡ new = cc in subst (IsSoFar (n + 1)) same (later n r is)
-    either false g = words-so_far mode n line (words text) r new room is g
+    either : (t : Bool) → (if t then Some r else words_line m line (words text) r) ≡ Some new → IsSoFar m (n + 1) new
+    either true g = let same : r ≡ new = cc in subst (IsSoFar m (n + 1)) same (later m n r is)
+    either false g = words-so_far m n line (words text) r new room is g
 
-line-so_far : (mode : Mode) (n line : ℕ) (bytes : List ℕ) (r new : Reading) → n < 65536 → IsSoFar n r → line_of mode line bytes r ≡ Some new → IsSoFar (n + 1) new
+line-so_far : (m : Mode) (n line : ℕ) (bytes : List ℕ) (r new : Reading) → n < 65536 → IsSoFar m n r → line_of m line bytes r ≡ Some new → IsSoFar m (n + 1) new
 unfolding line_of
-line-so_far mode n line bytes r new room is e = text-so_far mode n line (strip_carriage_return bytes) r new room is e
+line-so_far m n line bytes r new room is e = text-so_far m n line (strip_carriage_return bytes) r new room is e
 
-lines-within : (mode : Mode) (n : ℕ) (ls : List (List ℕ)) (r : Reading) (script : Script) → IsSoFar n r → lines_of mode n ls r ≡ Ok script → IsWithin script
+lines-so_far : (m : Mode) (n : ℕ) (ls : List (List ℕ)) (r : Reading) (script : Script) → IsSoFar m n r → lines_of m n ls r ≡ Ok script → IsWithin script × IsOfMode m script
 unfolding lines_of
-lines-within mode n [] r script is e = let same : r.script ≡ script = cc in subst (IsWithin) same is.within
-lines-within mode n (line ∷ more) r script is e = either (nat_lt n 65536) refl e (λ new. lines-within mode (n + 1) more new script)
+lines-so_far m n [] r script is e =
+    let same : r.script ≡ script = cc in
+    subst (λ (script : Script). IsWithin script × IsOfMode m script) same (is.within, record { lines = is.lines; phases = is.phases })
+lines-so_far m n (line ∷ more) r script is e = either (nat_lt n 65536) refl e (λ new. lines-so_far m (n + 1) more new script)
   where
-    on : (o : Option Reading) → line_of mode (n + 1) line r ≡ o → n < 65536 → or_wrong (n + 1) o (λ next. lines_of mode (n + 1) more next) ≡ Ok script → ((new : Reading) → IsSoFar (n + 1) new → lines_of mode (n + 1) more new ≡ Ok script → IsWithin script) → IsWithin script
+    on : (o : Option Reading) → line_of m (n + 1) line r ≡ o → n < 65536 → or_wrong (n + 1) o (λ next. lines_of m (n + 1) more next) ≡ Ok script → ((new : Reading) → IsSoFar m (n + 1) new → lines_of m (n + 1) more new ≡ Ok script → IsWithin script × IsOfMode m script) → IsWithin script × IsOfMode m script
     on None f room g go = absurd (cc)
-    on (Some new) f room g go = go new (line-so_far mode n (n + 1) line r new room is f) g
+    on (Some new) f room g go = go new (line-so_far m n (n + 1) line r new room is f) g
 
-    either : (t : Bool) → nat_lt n 65536 ≡ t → (if t then or_wrong (n + 1) (line_of mode (n + 1) line r) (λ next. lines_of mode (n + 1) more next) else Err (n + 1)) ≡ Ok script → ((new : Reading) → IsSoFar (n + 1) new → lines_of mode (n + 1) more new ≡ Ok script → IsWithin script) → IsWithin script
-    either true f g go = on (line_of mode (n + 1) line r) refl (grind (arith, nat_tests, f)) g go
+    either : (t : Bool) → nat_lt n 65536 ≡ t → (if t then or_wrong (n + 1) (line_of m (n + 1) line r) (λ next. lines_of m (n + 1) more next) else Err (n + 1)) ≡ Ok script → ((new : Reading) → IsSoFar m (n + 1) new → lines_of m (n + 1) more new ≡ Ok script → IsWithin script × IsOfMode m script) → IsWithin script × IsOfMode m script
+    either true f g go = on (line_of m (n + 1) line r) refl (grind (arith, nat_tests, f)) g go
     either false f g go = absurd (cc)
 
-pub script-within : (mode : Mode) (bytes : List ℕ) (script : Script) → script_of mode bytes ≡ Ok script → IsWithin script
+script-gives : (m : Mode) (bytes : List ℕ) (script : Script) → script_of m bytes ≡ Ok script → IsWithin script × IsOfMode m script
 unfolding script_of
-script-within mode bytes script e = lines-within mode 0 (lines bytes) nothing_read script nothing-so_far e
+script-gives m bytes script e = lines-so_far m 0 (lines bytes) nothing_read script (nothing-so_far m) e
+
+pub script-within : (m : Mode) (bytes : List ℕ) (script : Script) → script_of m bytes ≡ Ok script → IsWithin script
+script-within m bytes script e = (script-gives m bytes script e).0
+
+pub script-of_mode : (m : Mode) (bytes : List ℕ) (script : Script) → script_of m bytes ≡ Ok script → IsOfMode m script
+script-of_mode m bytes script e = (script-gives m bytes script e).1
 
 -- so what is read does
-pub reads-within : (mode : Mode) (bytes : List ℕ) (answer : Result Script ScriptFault) → Reads (script_of mode bytes) answer → IfOk answer (IsWithin)
-reads-within mode bytes (Ok script) reads = script-within mode bytes script reads
-reads-within mode bytes (Err why) reads = tt
+pub reads-within : (m : Mode) (bytes : List ℕ) (answer : Result Script ScriptFault) → Reads (script_of m bytes) answer → IfOk answer (IsWithin)
+reads-within m bytes (Ok script) reads = script-within m bytes script reads
+reads-within m bytes (Err why) reads = tt
+
+pub reads-of_mode : (m : Mode) (bytes : List ℕ) (answer : Result Script ScriptFault) → Reads (script_of m bytes) answer → IfOk answer (IsOfMode m)
+reads-of_mode m bytes (Ok script) reads = script-of_mode m bytes script reads
+reads-of_mode m bytes (Err why) reads = tt
 
 -- a line is of no earlier phase than the one from which they ascend
 phase-from : (from : ℕ) (lines : List ActionLine) (i : ℕ) (d : ActionLine) → i < length lines → PhasesAscend from lines → from ≤ (slice_index_or lines i d).phase

@@ -6,7 +6,8 @@ use Rattle.cc_script.specs.declared.script.Action.{Action}
 use Rattle.cc_script.specs.declared.script.Action.TheVariants as action
 use Rattle.cc_script.specs.declared.verb.Verb.{Verb}
 use Rattle.cc_script.specs.declared.verb.Verb.TheVariants as verb
-use Rattle.cc_script.specs.Actions.{ended, initialise_of, uninitialise_of, copy_read_of, copy_write_of, zero_of, nc_read_of, nc_write_of, set_sizes_of, state_of, flush_of, purge_of, set_log_of, append_of, log_flush_of, dirty_pages_of, lsn_for_file_of}
+use Rattle.cc_script.specs.Actions.{ended, initialise_of, uninitialise_of, copy_read_of, copy_write_of, zero_of, set_sizes_of, state_of, flush_of, purge_of, set_log_of, append_of, log_flush_of, dirty_pages_of, lsn_for_file_of}
+use Rattle.cc_script.specs.EventActions.{nc_read_in, nc_write_in, nc_store_page_of, set_granularity_of, set_attributes_of, set_threshold_of, fill_of, drop_of, write_begin_of, write_end_of, sync_of, can_write_of, defer_of}
 use Rattle.cc_script.specs.HoldActions.{map_of, pin_read_of, pin_mapped_of, prepare_pin_of, held_read_of, pinned_write_of, set_dirty_of, unpin_of, repin_of, unpin_repinned_of, mdl_read_of, mdl_write_of, mdl_bytes_of, mdl_store_of, mdl_done_of, mdl_abort_of}
 
 -- an action that binds no word
@@ -36,8 +37,9 @@ action_of mode streams names verb.MdlBytes ws = binds_none names (mdl_bytes_of n
 action_of mode streams names verb.MdlStore ws = binds_none names (mdl_store_of names ws)
 action_of mode streams names verb.MdlDone ws = binds_none names (mdl_done_of names ws)
 action_of mode streams names verb.MdlAbort ws = binds_none names (mdl_abort_of names ws)
-action_of mode streams names verb.NcRead ws = binds_none names (nc_read_of streams ws)
-action_of mode streams names verb.NcWrite ws = binds_none names (nc_write_of streams ws)
+action_of mode streams names verb.NcRead ws = binds_none names (nc_read_in mode streams ws)
+action_of mode streams names verb.NcWrite ws = binds_none names (nc_write_in mode streams ws)
+action_of mode streams names verb.NcStore ws = binds_none names (nc_store_page_of streams ws)
 action_of mode streams names verb.SetSizes ws = binds_none names (set_sizes_of streams ws)
 action_of mode streams names verb.State ws = binds_none names (state_of streams ws)
 action_of mode streams names verb.Flush ws = binds_none names (flush_of streams ws)
@@ -48,12 +50,25 @@ action_of mode streams names verb.LsnForFile ws = binds_none names (lsn_for_file
 action_of mode streams names verb.SetLog ws = binds_none names (set_log_of streams ws)
 action_of mode streams names verb.Append ws = binds_none names (append_of ws)
 action_of mode streams names verb.LogFlush ws = binds_none names (log_flush_of ws)
+action_of mode streams names verb.SetGranularity ws = binds_none names (set_granularity_of streams ws)
+action_of mode streams names verb.SetAttributes ws = binds_none names (set_attributes_of streams ws)
+action_of mode streams names verb.SetThreshold ws = binds_none names (set_threshold_of streams ws)
+action_of mode streams names verb.Fill ws = binds_none names (fill_of streams ws)
+action_of mode streams names verb.Drop ws = binds_none names (drop_of streams ws)
+action_of mode streams names verb.WriteBegin ws = binds_none names (write_begin_of streams ws)
+action_of mode streams names verb.WriteEnd ws = binds_none names (write_end_of streams ws)
+action_of mode streams names verb.Sync ws = binds_none names (sync_of streams ws)
+action_of mode streams names verb.Scan ws = binds_none names (ended ws action.Scan)
+action_of mode streams names verb.CanWrite ws = binds_none names (can_write_of streams ws)
+action_of mode streams names verb.Defer ws = binds_none names (defer_of streams ws)
+action_of mode streams names verb.Post ws = binds_none names (ended ws action.Post)
 action_of mode streams names verb.Stream ws = None
 action_of mode streams names verb.Journal ws = None
 action_of mode streams names verb.Threshold ws = None
 action_of mode streams names verb.Phase ws = None
+action_of mode streams names verb.Fail ws = None
 
--- how many bytes an action reads, writes or appends
+-- how many bytes the words of an action say that it reads, writes or appends
 abbrev pub bytes_moved : Action → ℕ
 bytes_moved (action.CopyRead _ _ len _) = len
 bytes_moved (action.CopyWrite _ _ bytes) = length bytes
@@ -63,6 +78,7 @@ bytes_moved (action.MdlBytes _ _ len) = len
 bytes_moved (action.MdlStore _ _ bytes) = length bytes
 bytes_moved (action.NcRead _ _ len) = len
 bytes_moved (action.NcWrite _ _ bytes) = length bytes
+bytes_moved (action.NcStorePage _ _ bytes) = length bytes
 bytes_moved (action.Append _ bytes) = length bytes
 bytes_moved other = 0
 

@@ -1,5 +1,5 @@
 -- The script that bytes spell: line after line, or the first line that is not in the grammar.
-use Rattle.std.specs.Prelude.{ℕ, ◌+◌, ◌==◌, Bool, true, false, ◌&&◌, not, Option, Some, None, Result, Ok, Err, is_some, option_map, List, [], ◌∷◌, ◌++◌, length, nat_lt, nat_le, slice_index, slice_set, get_or, replicate, if◌then◌else◌, codes}
+use Rattle.std.specs.Prelude.{ℕ, ◌+◌, ◌==◌, Bool, true, false, ◌&&◌, ◌||◌, not, Option, Some, None, Result, Ok, Err, is_some, option_map, List, [], ◌∷◌, ◌++◌, length, nat_lt, nat_le, slice_index, slice_set, get_or, replicate, if◌then◌else◌, codes}
 use Rattle.std.specs.List.{list_all}
 use Rattle.std.specs.Str.Lines.{strip_carriage_return}
 use Rattle.cc_script.specs.declared.script.Mode.{Mode}
@@ -14,7 +14,8 @@ use Rattle.cc_script.specs.declared.caller_words.CallerWords.{CallerWords}
 use Rattle.cc_script.specs.Outcome.{◌>>=◌}
 use Rattle.cc_script.specs.Text.{lines, words}
 use Rattle.cc_script.specs.Words.{number_of, number_between, name_of, caller_of}
-use Rattle.cc_script.specs.Verbs.{verb_in}
+use Rattle.cc_script.specs.Verbs.{takes_caller, verb_in}
+use Rattle.cc_script.specs.Modes.{is_call}
 use Rattle.cc_script.specs.Actions.{next, flag, ended, stream_named, quota_of}
 use Rattle.cc_script.specs.ActionTable.{action_of, bytes_counted, dirty_lines}
 use Rattle.cc_script.specs.HoldWords.{may_use, bound_after}
@@ -102,9 +103,9 @@ with_phase ws r =
     then Some (record r { script = record r.script { phases = r.script.phases + 1 } })
     else None
 
--- a line of a caller's action, in the phase that is under way
-abbrev pub placed : ℕ → ℕ → Action → Reading → ActionLine
-placed n caller action r = record { line = n; phase = r.script.phases; caller = caller; action = action }
+-- a line of a caller's action, in the phase that is under way, and whether it fails
+abbrev pub placed : ℕ → ℕ → Bool → Action → Reading → ActionLine
+placed n caller fails action r = record { line = n; phase = r.script.phases; caller = caller; fails = fails; action = action }
 
 -- the totals that one more line keeps to: in all 33554432 bytes, and 64 lines `dirty`
 abbrev pub keeps_totals : Action → Reading → Bool
@@ -114,23 +115,30 @@ keeps_totals action r = nat_le (r.total + bytes_counted action) 33554432 && nat_
 abbrev pub words_after : Action → CallerWords → CallerWords
 words_after action own = record own { bounds = bound_after action own.bounds }
 
--- An action of a caller with these words, of which those that it binds are known already: within the totals, and on
--- holds as the words allow.
-unfoldable pub with_action : ℕ → ℕ → CallerWords → Action → Reading → Option Reading
-with_action n caller own action r =
-    if keeps_totals action r && may_use action own.bounds
+-- An action of a caller with these words, of which those that it binds are known already: within the totals, on holds as
+-- the words allow, and a call where it fails.
+unfoldable pub with_action : ℕ → ℕ → Bool → CallerWords → Action → Reading → Option Reading
+with_action n caller fails own action r =
+    if keeps_totals action r && (may_use action own.bounds && (not fails || is_call action))
     then Some (record r {
-      script = record r.script { lines = r.script.lines ++ placed n caller action r ∷ [] };
+      script = record r.script { lines = r.script.lines ++ placed n caller fails action r ∷ [] };
       total = r.total + bytes_counted action;
       dirty = r.dirty + dirty_lines action;
       words = slice_set r.words caller (words_after action own);
     })
     else None
 
-unfoldable pub action_line : Mode → ℕ → ℕ → Verb → List (List ℕ) → Reading → Option Reading
-action_line mode n caller v ws r = do
+unfoldable pub action_line : Mode → ℕ → ℕ → Bool → Verb → List (List ℕ) → Reading → Option Reading
+action_line mode n caller fails v ws r = do
   found ← action_of mode r.script.streams (words_by caller r).names v ws
-  with_action n caller (record (words_by caller r) { names = found.1 }) found.0 r
+  with_action n caller fails (record (words_by caller r) { names = found.1 }) found.0 r
+
+-- a line of a caller: an action, or `fail` and an action
+unfoldable pub caller_line : Mode → ℕ → ℕ → Verb → List (List ℕ) → Reading → Option Reading
+caller_line mode n caller verb.Fail ws r = do
+  v ← next (verb_in mode) ws
+  action_line mode n caller true v.0 v.1 r
+caller_line mode n caller v ws r = action_line mode n caller false v ws r
 
 -- a line of a verb, without a caller word
 unfoldable pub verb_line : Mode → ℕ → Verb → List (List ℕ) → Reading → Option Reading
@@ -144,45 +152,13 @@ verb_line mode n verb.Threshold ws r = do
   pages ← setting_of 1 16384 ws
   with_threshold pages r
 verb_line mode n verb.Phase ws r = with_phase ws r
-verb_line mode n verb.Initialise ws r = action_line mode n 1 verb.Initialise ws r
-verb_line mode n verb.Uninitialise ws r = action_line mode n 1 verb.Uninitialise ws r
-verb_line mode n verb.CopyRead ws r = action_line mode n 1 verb.CopyRead ws r
-verb_line mode n verb.CopyWrite ws r = action_line mode n 1 verb.CopyWrite ws r
-verb_line mode n verb.Zero ws r = action_line mode n 1 verb.Zero ws r
-verb_line mode n verb.Map ws r = action_line mode n 1 verb.Map ws r
-verb_line mode n verb.PinRead ws r = action_line mode n 1 verb.PinRead ws r
-verb_line mode n verb.PinMapped ws r = action_line mode n 1 verb.PinMapped ws r
-verb_line mode n verb.PreparePin ws r = action_line mode n 1 verb.PreparePin ws r
-verb_line mode n verb.HeldRead ws r = action_line mode n 1 verb.HeldRead ws r
-verb_line mode n verb.PinnedWrite ws r = action_line mode n 1 verb.PinnedWrite ws r
-verb_line mode n verb.SetDirty ws r = action_line mode n 1 verb.SetDirty ws r
-verb_line mode n verb.Unpin ws r = action_line mode n 1 verb.Unpin ws r
-verb_line mode n verb.Repin ws r = action_line mode n 1 verb.Repin ws r
-verb_line mode n verb.UnpinRepinned ws r = action_line mode n 1 verb.UnpinRepinned ws r
-verb_line mode n verb.MdlRead ws r = action_line mode n 1 verb.MdlRead ws r
-verb_line mode n verb.MdlWrite ws r = action_line mode n 1 verb.MdlWrite ws r
-verb_line mode n verb.MdlBytes ws r = action_line mode n 1 verb.MdlBytes ws r
-verb_line mode n verb.MdlStore ws r = action_line mode n 1 verb.MdlStore ws r
-verb_line mode n verb.MdlDone ws r = action_line mode n 1 verb.MdlDone ws r
-verb_line mode n verb.MdlAbort ws r = action_line mode n 1 verb.MdlAbort ws r
-verb_line mode n verb.NcRead ws r = action_line mode n 1 verb.NcRead ws r
-verb_line mode n verb.NcWrite ws r = action_line mode n 1 verb.NcWrite ws r
-verb_line mode n verb.SetSizes ws r = action_line mode n 1 verb.SetSizes ws r
-verb_line mode n verb.State ws r = action_line mode n 1 verb.State ws r
-verb_line mode n verb.Flush ws r = action_line mode n 1 verb.Flush ws r
-verb_line mode n verb.Purge ws r = action_line mode n 1 verb.Purge ws r
-verb_line mode n verb.IsDirtyData ws r = action_line mode n 1 verb.IsDirtyData ws r
-verb_line mode n verb.DirtyPages ws r = action_line mode n 1 verb.DirtyPages ws r
-verb_line mode n verb.LsnForFile ws r = action_line mode n 1 verb.LsnForFile ws r
-verb_line mode n verb.SetLog ws r = action_line mode n 1 verb.SetLog ws r
-verb_line mode n verb.Append ws r = action_line mode n 1 verb.Append ws r
-verb_line mode n verb.LogFlush ws r = action_line mode n 1 verb.LogFlush ws r
+verb_line mode n v ws r = caller_line mode n 1 v ws r
 
 -- an action behind a caller word
 unfoldable pub called_line : Mode → ℕ → ℕ → List (List ℕ) → Reading → Option Reading
 called_line mode n caller ws r = do
   v ← next (verb_in mode) ws
-  action_line mode n caller v.0 v.1 r
+  if takes_caller v.0 then caller_line mode n caller v.0 v.1 r else None
 
 -- a line that doesn't begin with a caller word
 unfoldable pub uncalled_line : Mode → ℕ → List (List ℕ) → Reading → Option Reading

@@ -18,6 +18,7 @@ use Rattle.cc_script.specs.Grammar.{stream_of, setting_of, script_of}
 use Rattle.cc_script.specs.declared.bound.Bound.{Bound}
 use Rattle.cc_script.specs.HoldWords.{bound_so_far, AreUsedRight, words_bound}
 use Rattle.cc_script.specs.Within.{PhasesAscend, IsWithin}
+use Rattle.cc_script.specs.Modes.{IsOfMode}
 
 -- a number's word is exactly its decimal text
 abbrev pub NumbersAreDecimal : Type 0
@@ -168,6 +169,10 @@ SettingsSpell =
 -- every script of the grammar keeps within what its run may rely on
 abbrev pub ScriptsAreWithin : Type 0
 ScriptsAreWithin = (mode : Mode) (bytes : List ℕ) (script : Script) → script_of mode bytes ≡ Ok script → IsWithin script
+
+-- and has the actions of its mode alone
+abbrev pub ScriptsAreOfMode : Type 0
+ScriptsAreOfMode = (m : Mode) (bytes : List ℕ) (script : Script) → script_of m bytes ≡ Ok script → IsOfMode m script
 
 -- lines whose phases ascend: none is of an earlier phase than one before it
 abbrev pub PhasesRise : Type 0

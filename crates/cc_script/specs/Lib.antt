@@ -1,10 +1,12 @@
 pub mod Outcome
 pub mod Text
 pub mod Words
+pub mod Modes
 pub mod Verbs
 pub mod HoldNames
 pub mod Actions
 pub mod HoldActions
+pub mod EventActions
 pub mod ActionTable
 pub mod HoldWords
 pub mod Grammar

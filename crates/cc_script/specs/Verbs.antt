@@ -1,12 +1,12 @@
--- The table of the verbs: a verb's text, and the modes that it stands in.
+-- The table of the verbs: a verb's text, and the verb that a word is in a mode.
 use Rattle.std.specs.Prelude.{ℕ, Bool, true, false, Option, Some, None, List, find, codes, if◌then◌else◌}
 use Rattle.std.specs.Str.{bytes_eq}
 use Rattle.cc_script.specs.declared.verb.Verb.{Verb}
 use Rattle.cc_script.specs.declared.verb.Verb.TheVariants as verb
 use Rattle.cc_script.specs.declared.verb.TheConstants.{VERBS}
 use Rattle.cc_script.specs.declared.script.Mode.{Mode}
-use Rattle.cc_script.specs.declared.script.Mode.TheVariants as mode
 use Rattle.cc_script.specs.Outcome.{◌>>=◌}
+use Rattle.cc_script.specs.Modes.{stands, verb_modes}
 
 -- the word that a verb is written by
 abbrev pub verb_text : Verb → List ℕ
@@ -47,47 +47,26 @@ verb_text verb.LsnForFile = codes "lsns"
 verb_text verb.SetLog = codes "setlog"
 verb_text verb.Append = codes "append"
 verb_text verb.LogFlush = codes "logflush"
+verb_text verb.SetGranularity = codes "granularity"
+verb_text verb.SetAttributes = codes "attributes"
+verb_text verb.SetThreshold = codes "fthreshold"
+verb_text verb.NcStore = codes "ncstore"
+verb_text verb.Fill = codes "fill"
+verb_text verb.Drop = codes "out"
+verb_text verb.WriteBegin = codes "begin"
+verb_text verb.WriteEnd = codes "end"
+verb_text verb.Sync = codes "sync"
+verb_text verb.Scan = codes "scan"
+verb_text verb.CanWrite = codes "canwrite"
+verb_text verb.Defer = codes "defer"
+verb_text verb.Post = codes "post"
+verb_text verb.Fail = codes "fail"
 
--- the modes that a verb stands in: in steps, a noncached line of a run has another form, which is not read yet
-abbrev pub is_in_mode : Mode → Verb → Bool
-is_in_mode mode.Run _ = true
-is_in_mode mode.Steps verb.Phase = false
-is_in_mode mode.Steps verb.NcRead = false
-is_in_mode mode.Steps verb.NcWrite = false
-is_in_mode mode.Steps verb.Stream = true
-is_in_mode mode.Steps verb.Journal = true
-is_in_mode mode.Steps verb.Threshold = true
-is_in_mode mode.Steps verb.Initialise = true
-is_in_mode mode.Steps verb.Uninitialise = true
-is_in_mode mode.Steps verb.CopyRead = true
-is_in_mode mode.Steps verb.CopyWrite = true
-is_in_mode mode.Steps verb.Zero = true
-is_in_mode mode.Steps verb.Map = true
-is_in_mode mode.Steps verb.PinRead = true
-is_in_mode mode.Steps verb.PinMapped = true
-is_in_mode mode.Steps verb.PreparePin = true
-is_in_mode mode.Steps verb.HeldRead = true
-is_in_mode mode.Steps verb.PinnedWrite = true
-is_in_mode mode.Steps verb.SetDirty = true
-is_in_mode mode.Steps verb.Unpin = true
-is_in_mode mode.Steps verb.Repin = true
-is_in_mode mode.Steps verb.UnpinRepinned = true
-is_in_mode mode.Steps verb.MdlRead = true
-is_in_mode mode.Steps verb.MdlWrite = true
-is_in_mode mode.Steps verb.MdlBytes = true
-is_in_mode mode.Steps verb.MdlStore = true
-is_in_mode mode.Steps verb.MdlDone = true
-is_in_mode mode.Steps verb.MdlAbort = true
-is_in_mode mode.Steps verb.SetSizes = true
-is_in_mode mode.Steps verb.State = true
-is_in_mode mode.Steps verb.Flush = true
-is_in_mode mode.Steps verb.Purge = true
-is_in_mode mode.Steps verb.IsDirtyData = true
-is_in_mode mode.Steps verb.DirtyPages = true
-is_in_mode mode.Steps verb.LsnForFile = true
-is_in_mode mode.Steps verb.SetLog = true
-is_in_mode mode.Steps verb.Append = true
-is_in_mode mode.Steps verb.LogFlush = true
+-- whether a caller word may stand before a verb
+abbrev pub takes_caller : Verb → Bool
+takes_caller verb.Drop = false
+takes_caller verb.WriteEnd = false
+takes_caller other = true
 
 -- the verb that a word is
 unfoldable pub verb_of : List ℕ → Option Verb
@@ -97,4 +76,4 @@ verb_of word = find (λ v. bytes_eq (verb_text v) word) VERBS
 unfoldable pub verb_in : Mode → List ℕ → Option Verb
 verb_in m word = do
   v ← verb_of word
-  if is_in_mode m v then Some v else None
+  if stands (verb_modes v) m then Some v else None

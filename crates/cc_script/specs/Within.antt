@@ -1,7 +1,7 @@
 -- What every script that is read keeps within: what its run may rely on without a test of its own.
-use Rattle.std.specs.Prelude.{ℕ, ◌≡◌, ◌≤◌, ◌<◌, IfSome, List, [], ◌∷◌, length}
+use Rattle.std.specs.Prelude.{ℕ, ◌≡◌, ◌≤◌, ◌<◌, ◌^◌, IfSome, List, [], ◌∷◌, length}
 use Rattle.std.specs.List.{AllByRecursion}
-use Rattle.cc_entry.specs.Place.{File}
+use Rattle.cc_entry.specs.Place.{File, Page}
 use Rattle.cc_script.specs.declared.script.Script.{Script}
 use Rattle.cc_script.specs.declared.script.StreamLine.{StreamLine}
 use Rattle.cc_script.specs.declared.script.Action.{Action}
@@ -15,7 +15,17 @@ pub record IsFileWithin (streams : List StreamLine) (file : File) : Type 0 where
   pub stream : file.stream < length streams
   pub object : file.object < 16
 
--- an action names such a file, or none
+-- a page that a line may name: one of a stream of the script
+pub record IsPageWithin (streams : List StreamLine) (page : Page) : Type 0 where
+  pub stream : page.stream < length streams
+  pub number : page.page < 2 ^ 51
+
+-- a page of such a file
+pub record IsFilePageWithin (streams : List StreamLine) (file : File) (page : ℕ) : Type 0 where
+  pub in_file : IsFileWithin streams file
+  pub number : page < 2 ^ 51
+
+-- an action names such a file or page, or none; a page is stored whole
 abbrev pub IsActionWithin : List StreamLine → Action → Type 0
 IsActionWithin streams (action.Initialise file _ _ _) = IsFileWithin streams file
 IsActionWithin streams (action.Uninitialise file _) = IsFileWithin streams file
@@ -50,6 +60,21 @@ IsActionWithin streams (action.LsnForFile file) = IsFileWithin streams file
 IsActionWithin streams (action.SetLog file _) = IsFileWithin streams file
 IsActionWithin streams (action.Append _ _) = Unit {0}
 IsActionWithin streams (action.LogFlush _ _) = Unit {0}
+IsActionWithin streams (action.SetGranularity file _) = IsFileWithin streams file
+IsActionWithin streams (action.SetAttributes file _ _) = IsFileWithin streams file
+IsActionWithin streams (action.SetThreshold file _) = IsFileWithin streams file
+IsActionWithin streams (action.NcReadPage file page) = IsFilePageWithin streams file page
+IsActionWithin streams (action.NcStorePage file page bytes) = IsFilePageWithin streams file page × (length bytes ≡ 4096)
+IsActionWithin streams (action.NcWritePage file page) = IsFilePageWithin streams file page
+IsActionWithin streams (action.Fill page) = IsPageWithin streams page
+IsActionWithin streams (action.Drop page) = IsPageWithin streams page
+IsActionWithin streams (action.WriteBegin page) = IsPageWithin streams page
+IsActionWithin streams (action.WriteEnd page) = IsPageWithin streams page
+IsActionWithin streams (action.Sync stream) = stream < length streams
+IsActionWithin streams action.Scan = Unit {0}
+IsActionWithin streams (action.CanWrite file _) = IsFileWithin streams file
+IsActionWithin streams (action.Defer file _ _) = IsFileWithin streams file
+IsActionWithin streams action.Post = Unit {0}
 
 -- a stream with a quota in view blocks, and one of four logs or none
 pub record IsStreamWithin (stream : StreamLine) : Type 0 where

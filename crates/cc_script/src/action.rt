@@ -3,9 +3,14 @@
 ghost use Rattle.std.specs.Prelude.{◌≡◌};
 ghost use Rattle.cc_script.specs.Outcome.{Gives, TakesIf};
 ghost use Rattle.cc_script.specs.Actions.{initialise_of, uninitialise_of, copy_read_of, copy_write_of, zero_of, nc_read_of, nc_write_of, set_sizes_of, state_of, flush_of, purge_of, set_log_of, append_of, log_flush_of, dirty_pages_of, lsn_for_file_of, ended};
+ghost use Rattle.cc_script.specs.EventActions.{nc_read_in, nc_write_in};
 ghost use Rattle.cc_script.specs.ActionTable.{action_of, bytes_counted, dirty_lines};
 ghost use Rattle.cc_script.specs.declared.script.Action.TheVariants as action;
 
+use crate::event_action::{
+    can_write, defer, drop, fill, nc_read_page, nc_store_page, nc_write_page, post, scan,
+    set_attributes, set_granularity, set_threshold, sync, write_begin, write_end,
+};
 use crate::fault::LineFault;
 use crate::hold_action::{
     held_read, map, mdl_abort, mdl_bytes, mdl_done, mdl_read, mdl_store, mdl_write, pin_mapped,
@@ -118,6 +123,31 @@ fn nc_write(alloc: Global, streams: &StreamLines, words: &mut Words) -> Result<A
         Ok(Action::NcWrite { file, at, bytes })
     } else {
         Err(LineFault::Syntax)
+    }
+}
+
+// A noncached read, of many pages in a run and of one in steps.
+fn nc_read_in(mode: Mode, streams: &StreamLines, words: &mut Words) -> Option<Action>
+    ensures { result ≡ nc_read_in mode streams.now words.old }
+{
+    match mode {
+        Mode::Run => nc_read(streams, words),
+        Mode::Steps => nc_read_page(streams, words),
+    }
+}
+
+// A noncached write, likewise.
+fn nc_write_in(
+    alloc: Global,
+    mode: Mode,
+    streams: &StreamLines,
+    words: &mut Words,
+) -> Result<Action, LineFault>
+    ensures { Gives (nc_write_in mode streams.now words.old) result }
+{
+    match mode {
+        Mode::Run => nc_write(alloc, streams, words),
+        Mode::Steps => nc_write_page(streams, words).ok_or(LineFault::Syntax),
     }
 }
 
@@ -276,8 +306,9 @@ pub(crate) fn action(
         Verb::MdlStore => mdl_store(alloc, names, words),
         Verb::MdlDone => mdl_done(names, words).ok_or(LineFault::Syntax),
         Verb::MdlAbort => mdl_abort(names, words).ok_or(LineFault::Syntax),
-        Verb::NcRead => nc_read(streams, words).ok_or(LineFault::Syntax),
-        Verb::NcWrite => nc_write(alloc, streams, words),
+        Verb::NcRead => nc_read_in(mode, streams, words).ok_or(LineFault::Syntax),
+        Verb::NcWrite => nc_write_in(alloc, mode, streams, words),
+        Verb::NcStore => nc_store_page(alloc, streams, words),
         Verb::SetSizes => set_sizes(streams, words).ok_or(LineFault::Syntax),
         Verb::State => state(streams, words).ok_or(LineFault::Syntax),
         Verb::Flush => flush(streams, words).ok_or(LineFault::Syntax),
@@ -288,7 +319,21 @@ pub(crate) fn action(
         Verb::SetLog => set_log(streams, words).ok_or(LineFault::Syntax),
         Verb::Append => append(alloc, words),
         Verb::LogFlush => log_flush(words).ok_or(LineFault::Syntax),
-        Verb::Stream | Verb::Journal | Verb::Threshold | Verb::Phase => Err(LineFault::Syntax),
+        Verb::SetGranularity => set_granularity(streams, words).ok_or(LineFault::Syntax),
+        Verb::SetAttributes => set_attributes(streams, words).ok_or(LineFault::Syntax),
+        Verb::SetThreshold => set_threshold(streams, words).ok_or(LineFault::Syntax),
+        Verb::Fill => fill(streams, words).ok_or(LineFault::Syntax),
+        Verb::Drop => drop(streams, words).ok_or(LineFault::Syntax),
+        Verb::WriteBegin => write_begin(streams, words).ok_or(LineFault::Syntax),
+        Verb::WriteEnd => write_end(streams, words).ok_or(LineFault::Syntax),
+        Verb::Sync => sync(streams, words).ok_or(LineFault::Syntax),
+        Verb::Scan => scan(words).ok_or(LineFault::Syntax),
+        Verb::CanWrite => can_write(streams, words).ok_or(LineFault::Syntax),
+        Verb::Defer => defer(streams, words).ok_or(LineFault::Syntax),
+        Verb::Post => post(words).ok_or(LineFault::Syntax),
+        Verb::Stream | Verb::Journal | Verb::Threshold | Verb::Phase | Verb::Fail => {
+            Err(LineFault::Syntax)
+        }
     }
 }
 
@@ -309,7 +354,8 @@ pub(crate) fn bytes_counted(action: &Action) -> u64
         | Action::MdlWrite { len, .. } => *len,
         Action::PinnedWrite { bytes, .. }
         | Action::MdlStore { bytes, .. }
-        | Action::NcWrite { bytes, .. } => bytes.len(),
+        | Action::NcWrite { bytes, .. }
+        | Action::NcStorePage { bytes, .. } => bytes.len(),
         Action::CopyWrite { bytes, .. } | Action::Append { bytes, .. } => bytes.len(),
         _ => 0,
     }

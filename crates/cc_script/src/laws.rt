@@ -1,6 +1,6 @@
 //! Laws of the grammar: functions without a body, whose clauses are proved.
 
-ghost use Rattle.cc_script.specs.Laws.{NumbersAreDecimal, VerbsDiffer, VerbsAreFound, VerbsAreNoCallers, LinesJoin, LinesAreWhole, WordsSpell, FilesSpell, StreamsSpell, ReadsSpell, SettingsSpell, ScriptsAreWithin, PhasesRise, WordsGoOn, WordsAddUp, WordsAreCounted};
+ghost use Rattle.cc_script.specs.Laws.{NumbersAreDecimal, VerbsDiffer, VerbsAreFound, VerbsAreNoCallers, LinesJoin, LinesAreWhole, WordsSpell, FilesSpell, StreamsSpell, ReadsSpell, SettingsSpell, ScriptsAreWithin, ScriptsAreOfMode, PhasesRise, WordsGoOn, WordsAddUp, WordsAreCounted};
 
 /// A number's word is exactly its decimal text, and stands for a number below 2^64.
 
@@ -36,9 +36,10 @@ pub fn lines_spell()
 {}
 
 /// Every script of the grammar keeps within what its run may rely on, in which no line is of an earlier phase
-/// than one before it.
+/// than one before it, and has the actions of its mode alone.
 pub fn scripts_are_within()
     ensures within { ScriptsAreWithin }
+    ensures of_mode { ScriptsAreOfMode }
     ensures phases { PhasesRise }
 {}
 

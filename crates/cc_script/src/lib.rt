@@ -1,11 +1,12 @@
 //! The script: what the program is asked to do, read from the bytes of a file.
 //!
 //! The grammar is a definition in specs/: bytes as lines, a line as words, and a table by cases over the
-//! verbs. `read_script` answers exactly the script that the bytes spell, else the number of the first
-//! line that is not in the grammar, or want of memory. What it answers keeps within the ranges that
-//! a run relies on, so that the run needs no test of its script: a word that names a hold is looked up once, as it is
-//! read, and stands for its number from then on. Laws of the grammar in words of their own, as that a number's
-//! word is its decimal text, are clauses of functions without a body.
+//! verbs, with the modes that each stands in: a script is calls of callers, or events in their order.
+//! `read_script` answers exactly the script that the bytes spell, else the number of the first line that is not
+//! in the grammar, or want of memory. What it answers keeps within the ranges that a run relies on, and has the
+//! actions of its mode alone, so that the run needs no test of its script: a word that names a hold is looked up
+//! once, as it is read, and stands for its number from then on. Laws of the grammar in words of their own, as
+//! that a number's word is its decimal text, are clauses of functions without a body.
 //!
 //! It stands on cc_entry, for the values of the words, and on `indexmap`, by which a word that names a hold is found;
 //! the program's runs stand on it.
@@ -15,6 +16,7 @@ mod action;
 mod bound;
 mod byte_word;
 mod caller_words;
+mod event_action;
 mod fault;
 mod file_word;
 mod hold_action;

@@ -6,6 +6,7 @@ ghost use Rattle.std.specs.Str.Lines.{strip_carriage_return};
 ghost use Rattle.cc_script.specs.Outcome.{Becomes};
 ghost use Rattle.cc_script.specs.Answers.{Reads};
 ghost use Rattle.cc_script.specs.Within.{IsWithin};
+ghost use Rattle.cc_script.specs.Modes.{IsOfMode};
 ghost use Rattle.cc_script.specs.Grammar.{is_printable, called_line, uncalled_line, words_line, text_line, line_of, script_of};
 
 use crate::fault::LineFault;
@@ -18,11 +19,12 @@ use std::alloc::Global;
 /// The most lines of a script.
 const MOST_LINES: u32 = 65536;
 
-/// The script that bytes spell, or the first line that is not in the grammar. A run may rely on what a script
-/// that was read keeps within, and needs no test of it.
+/// The script that bytes spell, or the first line that is not in the grammar of the mode. A run may rely on what a script
+/// that was read keeps within, and on which actions one of its mode may have; it needs no test of either.
 pub fn read_script(alloc: Global, bytes: &[u8], mode: Mode) -> Result<Script, ScriptFault>
     ensures read { Reads (script_of mode bytes.now) result }
     ensures within { IfOk result IsWithin }
+    ensures of_mode { IfOk result (IsOfMode mode) }
 {
     read_lines(alloc, bytes, mode)
 }
@@ -107,7 +109,10 @@ impl Reading {
         ensures { Becomes (called_line mode number caller words.old self.old) result self.new }
     {
         let verb = words.verb(mode).ok_or(LineFault::Syntax)?;
-        self.action(alloc, mode, number, caller, verb, words)
+        if !verb.takes_caller() {
+            return Err(LineFault::Syntax);
+        }
+        self.by_caller(alloc, mode, number, caller, verb, words)
     }
 
     // The words of a line without a caller word.

@@ -4,7 +4,7 @@ ghost use Rattle.std.specs.Prelude.{◌≡◌, ◌<◌, ◌≤◌, ◌+◌, ◌^
 ghost use Rattle.std.specs.Bool.{OnTrue};
 ghost use Rattle.cc_script.specs.Outcome.{Gives, Becomes};
 ghost use Rattle.cc_script.specs.ActionTable.{bytes_counted, dirty_lines};
-ghost use Rattle.cc_script.specs.Grammar.{nothing_read, may_add, with_stream, stream_of, setting_of, with_journal, with_threshold, with_phase, keeps_totals, with_action, action_line, verb_line};
+ghost use Rattle.cc_script.specs.Grammar.{nothing_read, may_add, with_stream, stream_of, setting_of, with_journal, with_threshold, with_phase, keeps_totals, with_action, action_line, caller_line, verb_line};
 
 use crate::action::{action, bytes_counted, dirty_lines};
 use crate::caller_words::{AllWords, CallerWords};
@@ -134,20 +134,21 @@ impl Reading {
         }
     }
 
-    // An action of a caller with these words, of which those that it binds are known already.
+    // An action of a caller with these words, of which those that it binds are known already; only a call may fail.
     #[tactic(auto, unfolding(crate::specs::Grammar::with_action))]
     fn add_action(
         &mut self,
         number: u32,
         caller: u32,
+        fails: bool,
         own: CallerWords,
         action: Action,
     ) -> Result<(), LineFault>
         requires caller { caller ≤ 16 }
-        ensures { Becomes (with_action number caller own action self.old) result self.new }
+        ensures { Becomes (with_action number caller fails own action self.old) result self.new }
     {
         let (total, dirty) = self.totals_with(&action).ok_or(LineFault::Syntax)?;
-        if !own.bounds.may_use(&action) {
+        if !own.bounds.may_use(&action) || (fails && !action.is_call()) {
             return Err(LineFault::Syntax);
         }
         let mut own = own;
@@ -158,6 +159,7 @@ impl Reading {
             line: number,
             phase,
             caller,
+            fails,
             action,
         })?;
         self.total = total;
@@ -166,17 +168,18 @@ impl Reading {
     }
 
     #[tactic(auto, using(crate::proofs::Taken::action_taken), unfolding(crate::specs::Grammar::action_line))]
-    pub(crate) fn action(
+    fn action(
         &mut self,
         alloc: Global,
         mode: Mode,
         number: u32,
         caller: u32,
+        fails: bool,
         verb: Verb,
         words: &mut Words,
     ) -> Result<(), LineFault>
         requires { caller ≤ 16 }
-        ensures { Becomes (action_line mode number caller verb words.old self.old) result self.new }
+        ensures { Becomes (action_line mode number caller fails verb words.old self.old) result self.new }
     {
         let mut own = self.words.take(caller);
         let action = action(
@@ -187,7 +190,30 @@ impl Reading {
             verb,
             words,
         )?;
-        self.add_action(number, caller, own, action)
+        self.add_action(number, caller, fails, own, action)
+    }
+
+    /// A line of a caller: an action, or `fail` and an action.
+    #[tactic(auto, unfolding(crate::specs::Grammar::caller_line))]
+    pub(crate) fn by_caller(
+        &mut self,
+        alloc: Global,
+        mode: Mode,
+        number: u32,
+        caller: u32,
+        verb: Verb,
+        words: &mut Words,
+    ) -> Result<(), LineFault>
+        requires { caller ≤ 16 }
+        ensures { Becomes (caller_line mode number caller verb words.old self.old) result self.new }
+    {
+        match verb {
+            Verb::Fail => {
+                let failing = words.verb(mode).ok_or(LineFault::Syntax)?;
+                self.action(alloc, mode, number, caller, true, failing, words)
+            }
+            _ => self.action(alloc, mode, number, caller, false, verb, words),
+        }
     }
 
     /// A line of a verb, without a caller word.
@@ -216,39 +242,7 @@ impl Reading {
                 self.set_threshold(pages)
             }
             Verb::Phase => self.begin_phase(words),
-            Verb::Initialise
-            | Verb::Uninitialise
-            | Verb::CopyRead
-            | Verb::CopyWrite
-            | Verb::Zero
-            | Verb::Map
-            | Verb::PinRead
-            | Verb::PinMapped
-            | Verb::PreparePin
-            | Verb::HeldRead
-            | Verb::PinnedWrite
-            | Verb::SetDirty
-            | Verb::Unpin
-            | Verb::Repin
-            | Verb::UnpinRepinned
-            | Verb::MdlRead
-            | Verb::MdlWrite
-            | Verb::MdlBytes
-            | Verb::MdlStore
-            | Verb::MdlDone
-            | Verb::MdlAbort
-            | Verb::NcRead
-            | Verb::NcWrite
-            | Verb::SetSizes
-            | Verb::State
-            | Verb::Flush
-            | Verb::Purge
-            | Verb::IsDirtyData
-            | Verb::DirtyPages
-            | Verb::LsnForFile
-            | Verb::SetLog
-            | Verb::Append
-            | Verb::LogFlush => self.action(alloc, mode, number, 1, verb, words),
+            _ => self.by_caller(alloc, mode, number, 1, verb, words),
         }
     }
 }

@@ -4,12 +4,15 @@ ghost use Rattle.std.specs.Prelude.{◌≡◌, ◌∷◌, ◌++◌, ◌<◌, ◌
 ghost use Rattle.std.specs.List.{position};
 ghost use Rattle.std.specs.Str.{bytes_eq};
 ghost use Rattle.cc_script.specs.HoldWords.{binds, words_bound};
+ghost use Rattle.cc_script.specs.Modes.{is_call};
+ghost use Rattle.cc_script.specs.EventActions.{is_defer, defer_lines};
 
 use crate::hold_word::HoldWord;
 use crate::name::Name;
-use cc_entry::{Bytes, FileId, FileSizes, Lsn, NoMemory, Quota, Span, StreamId};
+use cc_entry::{Bytes, FileId, FileSizes, Lsn, NoMemory, PageId, Quota, Span, StreamId};
 use std::alloc::Global;
 use std::marker::Model;
+use thiserror::Error;
 
 /// What the lines of a script are: calls of callers, or events in their order.
 #[derive(Clone, Copy, Debug, PartialEq, Eq)]
@@ -274,6 +277,70 @@ pub enum Action {
         handle: u8,
         lsn: Lsn,
     },
+    SetGranularity {
+        file: FileId,
+        bytes: u64,
+    },
+    SetAttributes {
+        file: FileId,
+        no_read_ahead: bool,
+        no_write_behind: bool,
+    },
+    /// How many pages of a stream may be dirty before its writes are held back, 0 for no limit.
+    SetThreshold {
+        file: FileId,
+        pages: u32,
+    },
+    /// One page of a noncached read in steps.
+    NcReadPage {
+        file: FileId,
+        page: u64,
+    },
+    /// One page of a noncached write in steps, as its bytes come into the cache.
+    NcStorePage {
+        file: FileId,
+        page: u64,
+        bytes: Bytes,
+    },
+    /// One page of a noncached write in steps, as it is on the disk.
+    NcWritePage {
+        file: FileId,
+        page: u64,
+    },
+    /// A page comes in.
+    Fill {
+        page: PageId,
+    },
+    /// A page goes out.
+    Drop {
+        page: PageId,
+    },
+    /// The transfer of a page to the disk begins.
+    WriteBegin {
+        page: PageId,
+    },
+    /// The transfer of a page ends.
+    WriteEnd {
+        page: PageId,
+    },
+    /// The disk of a stream is synced.
+    Sync {
+        stream: StreamId,
+    },
+    /// The lazy writer chooses pages.
+    Scan,
+    CanWrite {
+        file: FileId,
+        bytes: u64,
+    },
+    /// A write is deferred, at the head of the queue where it is tried again.
+    Defer {
+        file: FileId,
+        bytes: u64,
+        retrying: bool,
+    },
+    /// The first deferred write is posted.
+    Post,
 }
 
 impl Action {
@@ -291,14 +358,42 @@ impl Action {
                 | Action::MdlWrite { .. }
         )
     }
+
+    /// Whether it is a call of the cache, which may fail by a fault of its caller. The others are steps of a page, a log
+    /// or a queue.
+    pub fn is_call(&self) -> bool
+        ensures { result ≡ is_call self.now }
+    {
+        !matches!(
+            self,
+            Action::Append { .. }
+                | Action::LogFlush { .. }
+                | Action::Fill { .. }
+                | Action::Drop { .. }
+                | Action::WriteBegin { .. }
+                | Action::WriteEnd { .. }
+                | Action::Sync { .. }
+                | Action::Scan
+                | Action::Defer { .. }
+                | Action::Post
+        )
+    }
+
+    fn is_defer(&self) -> bool
+        ensures { result ≡ is_defer self.now }
+    {
+        matches!(self, Action::Defer { .. })
+    }
 }
 
-/// An action with its line, its phase and its caller, all counted from 1.
+/// An action with its line, its phase and its caller, all counted from 1, and whether it is to fail by a fault that its
+/// caller met.
 #[derive(Debug, Drop)]
 pub struct ActionLine {
     pub line: u32,
     pub phase: u32,
     pub caller: u32,
+    pub fails: bool,
     pub action: Action,
 }
 
@@ -387,12 +482,27 @@ impl Script {
         }
         count
     }
+
+    /// How many lines are `defer`. Each has a post routine of its own, in the order of the lines.
+    pub fn defers(&self) -> usize
+        ensures { result ≡ defer_lines self.now.lines }
+    {
+        let mut count = 0;
+        for line in self.lines.as_slice() {
+            if line.action.is_defer() {
+                count += 1;
+            }
+        }
+        count
+    }
 }
 
 /// Why a script is not read.
-#[derive(Clone, Copy, Debug, PartialEq, Eq)]
+#[derive(Clone, Copy, Debug, PartialEq, Eq, Error)]
 pub enum ScriptFault {
     /// The first line that is not in the grammar, counted from 1.
+    #[error("line {line} is not in the grammar")]
     Syntax { line: u32 },
+    #[error("out of memory")]
     NoMemory,
 }

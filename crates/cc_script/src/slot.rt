@@ -1,10 +1,11 @@
 //! The words behind a verb, taken one after another in the form that the verb asks.
 
-ghost use Rattle.std.specs.Prelude.{◌≡◌, ◌≤◌, IfSome};
+ghost use Rattle.std.specs.Prelude.{◌≡◌, ◌≤◌, ◌<◌, ◌^◌, IfSome};
 ghost use Rattle.cc_script.specs.Outcome.{Takes, TakesIf, TakesBound};
 ghost use Rattle.cc_script.specs.Words.{number_of, number_between, name_of, bytes_of};
 ghost use Rattle.cc_script.specs.Verbs.{verb_in};
-ghost use Rattle.cc_script.specs.Actions.{next, flag, file_of, span_of, optional_span_of, optional_number_of, quota_of, sizes_of};
+ghost use Rattle.cc_script.specs.Actions.{next, flag, stream_named, file_of, span_of, optional_span_of, optional_number_of, quota_of, sizes_of};
+ghost use Rattle.cc_script.specs.EventActions.{page_number, page_of};
 ghost use Rattle.cc_script.specs.HoldNames.{word_of};
 ghost use Rattle.cc_script.specs.HoldActions.{stretch_of};
 ghost use Rattle.cc_script.specs.Grammar.{log_of};
@@ -18,11 +19,14 @@ use crate::script::{Mode, StreamLines};
 use crate::stretch::Stretch;
 use crate::verb::Verb;
 use crate::{byte_word, file_word, word};
-use cc_entry::{Bytes, FileId, FileSizes, Lsn, Quota, Span};
+use cc_entry::{Bytes, FileId, FileSizes, Lsn, PageId, Quota, Span, StreamId};
 use std::alloc::Global;
 
 /// The greatest number of a log.
 const MOST_HANDLE: u64 = 3;
+
+/// The greatest number of a page, one less than 2^51.
+const MOST_PAGE: u64 = 2251799813685247;
 
 /// The greatest log sequence number.
 const MOST_LSN: u64 = 4611686018427387904;
@@ -169,6 +173,30 @@ impl Words<'_> {
         ensures { Takes (next (file_of streams.now) self.old) result self.new }
     {
         file_word::file(streams, self.next()?)
+    }
+
+    pub(crate) fn stream(&mut self, streams: &StreamLines) -> Option<StreamId>
+        ensures { Takes (next (stream_named streams.now) self.old) result self.new }
+    {
+        streams.find(self.next()?)
+    }
+
+    /// The number of a page.
+    pub(crate) fn page_number(&mut self) -> Option<u64>
+        ensures value { Takes (next page_number self.old) result self.new }
+        ensures in_range { IfSome result (λ page. page < 2 ^ 51) }
+    {
+        self.number_between(0, MOST_PAGE)
+    }
+
+    /// A page of a stream.
+    #[tactic(auto, unfolding(crate::specs::EventActions::page_of))]
+    pub(crate) fn page(&mut self, streams: &StreamLines) -> Option<PageId>
+        ensures { Takes (page_of streams.now self.old) result self.new }
+    {
+        let stream = self.stream(streams)?;
+        let page = self.page_number()?;
+        PageId::new(stream, page)
     }
 
     /// A file, so many bytes of it from a place on, and a word that is bound to a hold on them.

@@ -1,7 +1,9 @@
 //! The table of the verbs.
 
-ghost use Rattle.std.specs.Prelude.{◌≡◌};
-ghost use Rattle.cc_script.specs.Verbs.{verb_text, is_in_mode, verb_of, verb_in};
+ghost use Rattle.std.specs.Prelude.{◌≡◌, not};
+ghost use Rattle.cc_script.specs.Modes.{stands, verb_modes};
+ghost use Rattle.cc_script.specs.Verbs.{verb_text, takes_caller, verb_of, verb_in};
+ghost use Rattle.cc_script.specs.declared.script.Mode.TheVariants as mode;
 
 use crate::script::Mode;
 
@@ -45,9 +47,23 @@ pub(crate) enum Verb {
     SetLog,
     Append,
     LogFlush,
+    SetGranularity,
+    SetAttributes,
+    SetThreshold,
+    NcStore,
+    Fill,
+    Drop,
+    WriteBegin,
+    WriteEnd,
+    Sync,
+    Scan,
+    CanWrite,
+    Defer,
+    Post,
+    Fail,
 }
 
-pub(crate) const VERBS: [Verb; 37] = [
+pub(crate) const VERBS: [Verb; 51] = [
     Verb::Stream,
     Verb::Journal,
     Verb::Threshold,
@@ -85,6 +101,20 @@ pub(crate) const VERBS: [Verb; 37] = [
     Verb::SetLog,
     Verb::Append,
     Verb::LogFlush,
+    Verb::SetGranularity,
+    Verb::SetAttributes,
+    Verb::SetThreshold,
+    Verb::NcStore,
+    Verb::Fill,
+    Verb::Drop,
+    Verb::WriteBegin,
+    Verb::WriteEnd,
+    Verb::Sync,
+    Verb::Scan,
+    Verb::CanWrite,
+    Verb::Defer,
+    Verb::Post,
+    Verb::Fail,
 ];
 
 impl Verb {
@@ -129,6 +159,20 @@ impl Verb {
             Verb::SetLog => b"setlog",
             Verb::Append => b"append",
             Verb::LogFlush => b"logflush",
+            Verb::SetGranularity => b"granularity",
+            Verb::SetAttributes => b"attributes",
+            Verb::SetThreshold => b"fthreshold",
+            Verb::NcStore => b"ncstore",
+            Verb::Fill => b"fill",
+            Verb::Drop => b"out",
+            Verb::WriteBegin => b"begin",
+            Verb::WriteEnd => b"end",
+            Verb::Sync => b"sync",
+            Verb::Scan => b"scan",
+            Verb::CanWrite => b"canwrite",
+            Verb::Defer => b"defer",
+            Verb::Post => b"post",
+            Verb::Fail => b"fail",
         }
     }
 
@@ -140,13 +184,40 @@ impl Verb {
         VERBS.iter().copied().find(|v| v.text() == word)
     }
 
+    // Whether it stands in steps alone.
+    fn is_of_steps(self) -> bool
+        ensures { result ≡ not (stands (verb_modes self) mode.Run) }
+    {
+        matches!(
+            self,
+            Verb::NcStore
+                | Verb::Fill
+                | Verb::Drop
+                | Verb::WriteBegin
+                | Verb::WriteEnd
+                | Verb::Sync
+                | Verb::Scan
+                | Verb::CanWrite
+                | Verb::Defer
+                | Verb::Post
+                | Verb::Fail
+        )
+    }
+
     fn is_in_mode(self, mode: Mode) -> bool
-        ensures { result ≡ is_in_mode mode self }
+        ensures { result ≡ stands (verb_modes self) mode }
     {
         match mode {
-            Mode::Run => true,
-            Mode::Steps => !matches!(self, Verb::Phase | Verb::NcRead | Verb::NcWrite),
+            Mode::Run => !self.is_of_steps(),
+            Mode::Steps => !matches!(self, Verb::Phase),
         }
+    }
+
+    /// Whether a caller word may stand before it.
+    pub(crate) fn takes_caller(self) -> bool
+        ensures { result ≡ takes_caller self }
+    {
+        !matches!(self, Verb::Drop | Verb::WriteEnd)
     }
 
     /// The verb that a word is in a mode.

@@ -111,7 +111,7 @@ two_lines = (reads, answer.Given a_byte) ∷ (asks, answer.Given (reply.State tw
 
 -- a line of a script: its number, its phase, its caller and what it does
 abbrev pub line_of : ℕ → ℕ → ℕ → Action → ActionLine
-line_of line phase caller it = record { line = line; phase = phase; caller = caller; action = it }
+line_of line phase caller it = record { line = line; phase = phase; caller = caller; fails = false; action = it }
 
 -- a caller reads in the first phase, and asks in the second
 abbrev pub of_one : List ActionLine

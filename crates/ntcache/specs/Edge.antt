@@ -1,6 +1,7 @@
--- What the program hands to the top call: disks and logs that nobody has used.
-use Rattle.std.specs.Prelude.{[], None}
+-- What the program hands to the top call: disks, logs and post routines that nobody has used.
+use Rattle.std.specs.Prelude.{[], None, false}
 use Rattle.cc_memdev.specs.Devices.{DiskState, LogState}
+use Rattle.ntcache.specs.declared.outside.Routine.{Routine}
 
 -- a disk in memory whose bytes are 5A and none of whose calls is to fail, as it is made
 abbrev pub new_disk : DiskState
@@ -24,3 +25,7 @@ new_log =
       stop = record { after = None; made = 0 };
       faults = 0;
     }
+
+-- a post routine that was not posted
+abbrev pub new_routine : Routine
+new_routine = record { posted = false }

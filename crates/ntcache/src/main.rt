@@ -1,7 +1,8 @@
 //! The program `ntcache`: it hands what is outside to the top call, and ends with its status.
 //!
-//! Each stream has a disk in memory whose bytes are 5A, and there are four logs in memory. The script is the file that
-//! the second word names, the text goes to standard output. Below is `cache_main`, which keeps every promise.
+//! Each stream has a disk in memory whose bytes are 5A, there are four logs in memory, and 64 post routines for writes that
+//! are deferred. The script is the file that the second word names, the text goes to standard output. Below is `cache_main`,
+//! which keeps every promise.
 #![tactic(auto)]
 
 ghost use Rattle.std.specs.Prelude.{◌≡◌, map, string_bytes, IfOk, OnErr};
@@ -12,8 +13,8 @@ mod outside;
 
 use cc_filedev::{Output, PlaceOf, ScriptFile};
 use cc_run::{Ended, cache_main};
-use cc_traits::{PostRoutine, Sink, Source};
-use outside::{Free, Routine, devices, logs};
+use cc_traits::{Sink, Source};
+use outside::{Free, devices, logs, routines};
 use std::alloc::{AllocError, Global};
 use std::env;
 use std::io::ErrorKind;
@@ -65,7 +66,7 @@ fn words_of(rt: HostRuntime) -> Result<Vec<String>, AllocError> {
     }
 }
 
-/// Runs the words over sixteen disks and four logs, and answers the status of the run.
+/// Runs the words over sixteen disks, four logs and 64 post routines, and answers the status of the run.
 fn run<R: Threads + Wait + Sync, S: Source, K: Sink>(
     rt: &R,
     alloc: Global,
@@ -74,17 +75,12 @@ fn run<R: Threads + Wait + Sync, S: Source, K: Sink>(
     out: &mut K,
 ) -> Result<u8, AllocError>
     ensures { IfOk result (HasEnded
-        (input S.told S.faults S.taken (map string_bytes words.now) script.old script.new 16 4)
+        (input S.told S.faults S.taken (map string_bytes words.now) script.old script.new 16 4 64)
         (output K.told K.faults K.stalls out.old out.new)) }
 {
-    // The boxes are made here, since a function must not give a `dyn` that it made.
-    let mut posts = Vec::new(alloc);
-    for _ in 0..64 {
-        let boxed: Box<dyn PostRoutine + Send> = Box::new(alloc, Routine::new())?;
-        posts.push(boxed).map_err(|_| AllocError)?;
-    }
     let disks = devices(alloc)?;
     let logs = logs(alloc)?;
+    let posts = routines(alloc)?;
     let Ended {
         status,
         script: _script,

@@ -1,7 +1,7 @@
 //! Disks and logs as they are handed in, and routines and a gate that do nothing of their own.
 
 ghost use Rattle.std.specs.Prelude.{◌≡◌, false, replicate, IfOk};
-ghost use Rattle.ntcache.specs.Edge.{new_disk, new_log};
+ghost use Rattle.ntcache.specs.Edge.{new_disk, new_log, new_routine};
 
 use cc_memdev::{DiskFails, LogFails, MemDisk, MemLog};
 use cc_traits::{Gate, PostRoutine};
@@ -52,6 +52,17 @@ fn log(alloc: Global) -> MemLog
     MemLog::new(alloc, fails)
 }
 
+/// A post routine for each write that a script may defer.
+pub fn routines(alloc: Global) -> Result<Vec<Routine>, AllocError>
+    ensures { IfOk result (λ routines. routines.items ≡ replicate 64 new_routine) }
+{
+    let mut routines = Vec::with_capacity(alloc, 64)?;
+    for made in 0..64usize {
+        routines.push_reserved(Routine::new());
+    }
+    Ok(routines)
+}
+
 /// A post routine that notes that it was posted.
 #[derive(Drop)]
 pub struct Routine {
@@ -59,8 +70,8 @@ pub struct Routine {
 }
 
 impl Routine {
-    pub fn new() -> Routine
-        ensures { result.posted ≡ false }
+    fn new() -> Routine
+        ensures { result ≡ new_routine }
     {
         Routine { posted: false }
     }

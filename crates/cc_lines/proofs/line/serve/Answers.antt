@@ -223,3 +223,24 @@ pub returns-in-LogFlush : goal.returns-in-LogFlush
 returns-in-LogFlush g c =
     asked-as _ _ _ _ _ _ _ c.in-LogFlush.is
     (flushed-line _ _ c.args.names.now c.args.action.now _ c.requires.good c.in-LogFlush.handle c.in-LogFlush.lsn c.log_flush.result c.answered-in-LogFlush.ensures c.log_flush.ensures.ends)
+
+pub set_granularity-requires-after_bounds : goal.set_granularity-requires-after_bounds
+set_granularity-requires-after_bounds g c κs within = may-on (g.T.Turns.standing c.args.turns.now) _ c.args.names.now c.in-SetGranularity.file.stream c.requires (can-as (g.T.Turns.standing c.args.turns.now) _ _ c.args.names.now c.in-SetGranularity.is c.requires).servable
+
+pub returns-in-SetGranularity : goal.returns-in-SetGranularity
+returns-in-SetGranularity g c =
+    set-line _ _ c.args.names.now _ _ c.requires.good (call.SetGranularity c.in-SetGranularity.file c.in-SetGranularity.bytes) c.set_granularity.result (ap plain_call c.in-SetGranularity.is) (omega arith) c.answered-in-SetGranularity.ensures c.set_granularity.ensures
+
+pub set_attributes-requires-after_bounds : goal.set_attributes-requires-after_bounds
+set_attributes-requires-after_bounds g c κs within = may-on (g.T.Turns.standing c.args.turns.now) _ c.args.names.now c.in-SetAttributes.file.stream c.requires (can-as (g.T.Turns.standing c.args.turns.now) _ _ c.args.names.now c.in-SetAttributes.is c.requires).servable
+
+pub returns-in-SetAttributes : goal.returns-in-SetAttributes
+returns-in-SetAttributes g c =
+    set-line _ _ c.args.names.now _ _ c.requires.good (call.SetAttributes c.in-SetAttributes.file c.in-SetAttributes.no_read_ahead c.in-SetAttributes.no_write_behind) c.set_attributes.result (ap plain_call c.in-SetAttributes.is) (omega arith) c.answered-in-SetAttributes.ensures c.set_attributes.ensures
+
+pub set_threshold-requires-after_bounds : goal.set_threshold-requires-after_bounds
+set_threshold-requires-after_bounds g c κs within = may-on (g.T.Turns.standing c.args.turns.now) _ c.args.names.now c.in-SetThreshold.file.stream c.requires (can-as (g.T.Turns.standing c.args.turns.now) _ _ c.args.names.now c.in-SetThreshold.is c.requires).servable
+
+pub returns-in-SetThreshold : goal.returns-in-SetThreshold
+returns-in-SetThreshold g c =
+    set-line _ _ c.args.names.now _ _ c.requires.good (call.SetThreshold c.in-SetThreshold.file c.in-SetThreshold.pages) c.set_threshold.result (ap plain_call c.in-SetThreshold.is) (omega arith) c.answered-in-SetThreshold.ensures c.set_threshold.ensures

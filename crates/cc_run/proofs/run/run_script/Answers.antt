@@ -2,6 +2,7 @@
 use Rattle.std.proofs.Common.{◌++◌, ◌∙◌, length, take, drop, reverse, refl, ap, subst, arith}
 use Rattle.std.proofs.lemmas.List.{length-take, length-append, length-reverse, take-append-drop}
 use Rattle.std.specs.Prelude.{slice_get}
+use Rattle.cc_model.specs.Good.{IsGood}
 use Rattle.cc_pieces.specs.Explained.{IsExplained}
 use Rattle.cc_turns.specs.Desk.{disk_at_first, log_at_first}
 use Rattle.cc_run.specs.Disks.{DisksStand}
@@ -11,6 +12,7 @@ use Rattle.cc_run.proofs.RowSteps.{reverse_twice}
 use Rattle.cc_run.proofs.RunSteps.{setup-is, enough-disks}
 use Rattle.cc_run.proofs.DiskSteps.{disks-left}
 use Rattle.cc_run.proofs.LogSteps.{logs-left}
+use Rattle.cc_run.proofs.PostSteps.{posts-kept, run-defers-none}
 use Rattle.cc_run.proofs.run.run_script.Goals as goal
 
 pub invariant_of-setup-clause-few_disks : goal.invariant_of-setup-clause-few_disks
@@ -25,7 +27,7 @@ pub run_on-replies-requires-clause-enough : goal.run_on-replies-requires-clause-
 run_on-replies-requires-clause-enough g c κs within =
     let begun = ap (λ b. length b.disks) c.in-Ok-new.ensures.fresh.begun_is in
     let few = c.requires.within.few_streams in
-    let enough = enough-disks (length c.args.disks.items) (length c.args.logs.items) c.args.script.now c.requires.enough in
+    let enough = enough-disks (length c.args.disks.items) (length c.args.logs.items) (length c.args.posts.items) c.args.script.now c.requires.enough in
     omega (arith, begun, ap length c.in-Ok-first_of.ensures.first, length-take 16 c.args.disks.items, few, enough)
 
 pub put_back-requires-in-Ok-new : goal.put_back-requires-in-Ok-new
@@ -58,22 +60,26 @@ put_back-requires-in-Ok-new-2 g c =
       c.in-Ok-first_of-2.ensures.room,
     )
 
-pub returns-in-Ok-new-clause-explained : goal.returns-in-Ok-new-clause-explained
-returns-in-Ok-new-clause-explained g c =
-    subst (λ u. IsExplained u (given_of c.args.script.now) (lines_answered c.run_on-replies.result.replies.items) (reverse c.run_on-replies.result.journal.items))
-    (setup-is g.D.Told.told g.D.Told.faults g.L.LogFile.told g.L.LogFile.faults c.in-Ok-new.desk _ c.args.script.now c.args.disks.items c.args.logs.items c.in-Ok-new.ensures.fresh.begun_is c.in-Ok-first_of.ensures.first c.in-Ok-first_of-2.ensures.first refl refl)
-    c.run_on-replies.ensures.explained
-
-pub returns-in-Ok-new-clause-disks : goal.returns-in-Ok-new-clause-disks
-returns-in-Ok-new-clause-disks g c =
-    let begun = ap (λ b. b.disks) c.in-Ok-new.ensures.fresh.begun_is ∙ c.in-Ok-first_of.ensures.first in
-    disks-left g.D.Told.told g.D.Told.faults (reverse c.run_on-replies.result.journal.items) c.args.disks.items c.run_on-replies.result.disks.items _
-    (subst (λ ds. DisksStand g.D.Told.told g.D.Told.faults (λ s. disk_at_first g.D.Told.told g.D.Told.faults (slice_get ds s)) (length ds) (reverse c.run_on-replies.result.journal.items) c.run_on-replies.result.disks.items) begun c.run_on-replies.ensures.disks)
-    (c.put_back-in-Ok-new.ensures ∙ ap (λ l. c.run_on-replies.result.disks.items ++ l) (ap reverse c.in-Ok-first_of.ensures.left ∙ reverse_twice (drop 16 c.args.disks.items)))
-
-pub returns-in-Ok-new-clause-logs : goal.returns-in-Ok-new-clause-logs
-returns-in-Ok-new-clause-logs g c =
-    let begun = ap (λ b. b.logs) c.in-Ok-new.ensures.fresh.begun_is ∙ c.in-Ok-first_of-2.ensures.first in
-    logs-left g.L.LogFile.told g.L.LogFile.faults (reverse c.run_on-replies.result.journal.items) c.args.logs.items c.run_on-replies.result.logs.items _
-    (subst (λ ls. LogsStand g.L.LogFile.told g.L.LogFile.faults (λ handle. log_at_first g.L.LogFile.told g.L.LogFile.faults (slice_get ls handle)) (length ls) (reverse c.run_on-replies.result.journal.items) c.run_on-replies.result.logs.items) begun c.run_on-replies.ensures.logs)
-    (c.put_back-in-Ok-new-2.ensures ∙ ap (λ l. c.run_on-replies.result.logs.items ++ l) (ap reverse c.in-Ok-first_of-2.ensures.left ∙ reverse_twice (drop 4 c.args.logs.items)))
+-- the run stands for a past, and all of it came back before what it did not take
+pub returns-in-Ok-new-clause-ran : goal.returns-in-Ok-new-clause-ran
+returns-in-Ok-new-clause-ran g c =
+    let past = reverse c.run_on-replies.result.journal.items in
+    let setup = setup-is g.D.Told.told g.D.Told.faults g.L.LogFile.told g.L.LogFile.faults c.in-Ok-new.desk _ c.args.script.now c.args.disks.items c.args.logs.items c.in-Ok-new.ensures.fresh.begun_is c.in-Ok-first_of.ensures.first c.in-Ok-first_of-2.ensures.first refl refl in
+    let disks = ap (λ b. b.disks) c.in-Ok-new.ensures.fresh.begun_is ∙ c.in-Ok-first_of.ensures.first in
+    let logs = ap (λ b. b.logs) c.in-Ok-new.ensures.fresh.begun_is ∙ c.in-Ok-first_of-2.ensures.first in
+    record {
+      good = subst (λ u. IsGood u past) setup c.run_on-replies.ensures.good;
+      explained = subst (λ u. IsExplained u (given_of c.args.script.now) (lines_answered c.run_on-replies.result.replies.items) past) setup c.run_on-replies.ensures.explained;
+      table = c.run_on-replies.ensures.table;
+      disks_left =
+          disks-left g.D.Told.told g.D.Told.faults past c.args.disks.items c.run_on-replies.result.disks.items _
+          (subst (λ ds. DisksStand g.D.Told.told g.D.Told.faults (λ s. disk_at_first g.D.Told.told g.D.Told.faults (slice_get ds s)) (length ds) past c.run_on-replies.result.disks.items) disks c.run_on-replies.ensures.disks)
+          (c.put_back-in-Ok-new.ensures ∙ ap (λ l. c.run_on-replies.result.disks.items ++ l) (ap reverse c.in-Ok-first_of.ensures.left ∙ reverse_twice (drop 16 c.args.disks.items)));
+      logs_left =
+          logs-left g.L.LogFile.told g.L.LogFile.faults past c.args.logs.items c.run_on-replies.result.logs.items _
+          (subst (λ ls. LogsStand g.L.LogFile.told g.L.LogFile.faults (λ handle. log_at_first g.L.LogFile.told g.L.LogFile.faults (slice_get ls handle)) (length ls) past c.run_on-replies.result.logs.items) logs c.run_on-replies.ensures.logs)
+          (c.put_back-in-Ok-new-2.ensures ∙ ap (λ l. c.run_on-replies.result.logs.items ++ l) (ap reverse c.in-Ok-first_of-2.ensures.left ∙ reverse_twice (drop 4 c.args.logs.items)));
+      posts_left =
+          rw c.run_on-replies.ensures.posts (posts-kept g.Q.PostRoutine.posted _ past c.args.posts.items
+          (run-defers-none c.args.script.now.streams c.args.script.now.lines c.run_on-replies.result.replies.items c.requires.of_mode.lines) c.requires.posts);
+    }

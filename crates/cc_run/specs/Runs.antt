@@ -1,0 +1,45 @@
+-- What a script left that was run: what explains its answers, by its mode, and what comes back.
+use Rattle.std.specs.Prelude.{◌≡◌, ℕ, List, [], IfSome, reverse}
+use Rattle.std.specs.declared.option.Option.{Option}
+use Rattle.std.specs.declared.option.Option.TheVariants.{Some, None}
+use Rattle.cc_entry.specs.declared.answer.LineReply.{LineReply}
+use Rattle.cc_entry.specs.declared.entry.Entry.{Entry}
+use Rattle.cc_model.specs.Good.{IsGood}
+use Rattle.cc_model.specs.Setup.{Setup}
+use Rattle.cc_pieces.specs.Explained.{Answered, IsExplained}
+use Rattle.cc_pieces.specs.Steps.{IsSteppedThrough, PostsLeft, deferrals_by}
+use Rattle.cc_pieces.specs.Table.{table_of}
+use Rattle.cc_script.specs.declared.script.Mode.{Mode}
+use Rattle.cc_script.specs.declared.script.Mode.TheVariants as mode
+use Rattle.cc_script.specs.declared.script.Script.{Script}
+use Rattle.cc_turns.specs.Desk.{Tells}
+use Rattle.cc_run.specs.Disks.{DisksLeft}
+use Rattle.cc_run.specs.Lines.{given_of, lines_answered}
+use Rattle.cc_run.specs.Logs.{LogsLeft}
+use Rattle.cc_run.specs.Setups.{setup_of}
+use Rattle.cc_run.specs.declared.modes.RunResult.{RunResult}
+
+-- A past explains what a script was answered: in a run, by what each caller's lines left between two moments; in steps, by
+-- one event a line.
+abbrev pub IsExplainedBy : Mode → Setup → Script → Answered → List Entry → Type 0
+IsExplainedBy mode.Run u script told past = IsExplained u (given_of script) told past
+IsExplainedBy mode.Steps u script told past = IsSteppedThrough u script.streams script.lines told.replies past
+
+-- the numbers of the deferred writes of a script's `defer` lines, where one was run
+abbrev pub deferrals_in : Option Script → List LineReply → List (Option ℕ)
+deferrals_in None replies = []
+deferrals_in (Some script) replies = deferrals_by script.streams script.lines replies
+
+-- A script was run in a mode over these disks, logs and post routines. Its journal is good, and explains each answer; the
+-- rows are those of its dirty page table, where memory was found for them; and disks, logs and routines came back as the
+-- journal says.
+pub record HasRun {D L Q : Type 0} (tells : Tells D L Q) (m : Mode) (script : Script) (disks : List D) (logs : List L)
+    (posts : List Q) (ran : RunResult D L Q) : Type 0 where
+  pub good : IsGood (setup_of tells.disk tells.disk_faults script disks logs) (reverse ran.journal.items)
+  pub explained : IsExplainedBy m (setup_of tells.disk tells.disk_faults script disks logs) script
+      (lines_answered ran.replies.items) (reverse ran.journal.items)
+  pub table : IfSome ran.table (λ rows. rows.items ≡ table_of (reverse ran.journal.items))
+  pub disks_left : DisksLeft tells.disk tells.disk_faults (reverse ran.journal.items) disks ran.disks.items
+  pub logs_left : LogsLeft tells.log tells.log_faults (reverse ran.journal.items) logs ran.logs.items
+  pub posts_left : PostsLeft tells.posted (deferrals_in (Some script) ran.replies.items) (reverse ran.journal.items)
+      posts ran.posts.items

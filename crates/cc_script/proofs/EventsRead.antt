@@ -1,0 +1,177 @@
+-- What a line of steps, or a setting, that is read names and moves.
+use Rattle.std.proofs.Common.{◌≡◌, ℕ, ◌<◌, ◌==◌, ◌^◌, true, Some, List, length, refl, ap, subst, arith}
+use Rattle.std.specs.Str.{bytes_eq}
+use Rattle.std.proofs.lemmas.Bool.Decides.{nat_tests}
+use Rattle.cc_entry.specs.Place.{File, Page}
+use Rattle.cc_script.specs.declared.script.Mode.{Mode}
+use Rattle.cc_script.specs.declared.script.Mode.TheVariants as mode
+use Rattle.cc_script.specs.declared.script.StreamLine.{StreamLine}
+use Rattle.cc_script.specs.declared.script.Action.{Action}
+use Rattle.cc_script.specs.declared.script.Action.TheVariants as action
+use Rattle.cc_script.specs.Words.{number_of, number_between, bytes_of}
+use Rattle.cc_script.specs.Actions.{next, ended, stream_named, file_of}
+use Rattle.cc_script.specs.EventActions.{page_number, page_of, fill_of, drop_of, write_begin_of, write_end_of, sync_of, nc_read_page_of, nc_store_page_of, nc_write_page_of, can_write_of, defer_of, set_granularity_of, set_attributes_of, set_threshold_of}
+use Rattle.cc_script.specs.Modes.{StepsAlone, stands}
+use Rattle.cc_script.specs.Within.{IsPageWithin, IsFilePageWithin}
+use Rattle.cc_script.proofs.Steps.{then-gives, if-gives, next-gives, ended-gives, between-gives, position-below, file-gives}
+use Rattle.cc_script.proofs.Plain.{IsPlain}
+
+-- a stream that is named is one of the script
+stream-gives : (streams : List StreamLine) (ws : List (List ℕ)) (s : ℕ) (more : List (List ℕ)) → next (stream_named streams) ws ≡ Some (s, more) → s < length streams
+stream-gives streams ws s more e =
+    let w = next-gives (stream_named streams) ws s more e in
+    position-below (λ stream. bytes_eq stream.name w.word) streams s w.reads
+
+-- a page's number is below 2^51
+number-gives : (ws : List (List ℕ)) (page : ℕ) (more : List (List ℕ)) → next page_number ws ≡ Some (page, more) → page < 2 ^ 51
+number-gives ws page more e =
+    let w = next-gives page_number ws page more e in
+    let b = between-gives 0 2251799813685247 w.word page w.reads in
+    let most = b.most in
+    omega (arith, most)
+
+page-gives : (streams : List StreamLine) (ws : List (List ℕ)) (page : Page) (more : List (List ℕ)) → page_of streams ws ≡ Some (page, more) → IsPageWithin streams page
+unfolding page_of
+page-gives streams ws page more e =
+    let stream = then-gives (next (stream_named streams) ws) _ (page, more) e in
+    let number = then-gives (next page_number stream.0.1) _ (page, more) stream.2 in
+    let pair : (let it : Page × List (List ℕ) = (record { stream = stream.0.0; page = number.0.0 }, number.0.1) in it) ≡ (page, more) = cc in
+    subst (IsPageWithin streams) (ap (λ (it : Page × List (List ℕ)). it.0) pair)
+    (record { stream = stream-gives streams ws stream.0.0 stream.0.1 stream.1; number = number-gives stream.0.1 number.0.0 number.0.1 number.1 })
+
+-- a file, and the number of a page of it
+file_page-gives : (streams : List StreamLine) (ws more left : List (List ℕ)) (file : File) (page : ℕ) → next (file_of streams) ws ≡ Some (file, more) → next page_number more ≡ Some (page, left) → IsFilePageWithin streams file page
+file_page-gives streams ws more left file page e g =
+    let f = next-gives (file_of streams) ws file more e in
+    record { in_file = file-gives streams f.word file f.reads; number = number-gives more page left g }
+
+pub fill-gives : (m : Mode) (streams : List StreamLine) (ws : List (List ℕ)) → stands StepsAlone m ≡ true → (a : Action) → fill_of streams ws ≡ Some a → IsPlain m streams a
+unfolding fill_of
+fill-gives m streams ws in_mode a e =
+    let page = then-gives (page_of streams ws) _ a e in
+    let end = ended-gives _ _ a page.2 in
+    subst (IsPlain m streams) end.1
+    (record { file = page-gives streams ws page.0.0 page.0.1 page.1; moved = omega arith; numbered = λ n. refl; in_mode = in_mode })
+
+pub drop-gives : (m : Mode) (streams : List StreamLine) (ws : List (List ℕ)) → stands StepsAlone m ≡ true → (a : Action) → drop_of streams ws ≡ Some a → IsPlain m streams a
+unfolding drop_of
+drop-gives m streams ws in_mode a e =
+    let page = then-gives (page_of streams ws) _ a e in
+    let end = ended-gives _ _ a page.2 in
+    subst (IsPlain m streams) end.1
+    (record { file = page-gives streams ws page.0.0 page.0.1 page.1; moved = omega arith; numbered = λ n. refl; in_mode = in_mode })
+
+pub write_begin-gives : (m : Mode) (streams : List StreamLine) (ws : List (List ℕ)) → stands StepsAlone m ≡ true → (a : Action) → write_begin_of streams ws ≡ Some a → IsPlain m streams a
+unfolding write_begin_of
+write_begin-gives m streams ws in_mode a e =
+    let page = then-gives (page_of streams ws) _ a e in
+    let end = ended-gives _ _ a page.2 in
+    subst (IsPlain m streams) end.1
+    (record { file = page-gives streams ws page.0.0 page.0.1 page.1; moved = omega arith; numbered = λ n. refl; in_mode = in_mode })
+
+pub write_end-gives : (m : Mode) (streams : List StreamLine) (ws : List (List ℕ)) → stands StepsAlone m ≡ true → (a : Action) → write_end_of streams ws ≡ Some a → IsPlain m streams a
+unfolding write_end_of
+write_end-gives m streams ws in_mode a e =
+    let page = then-gives (page_of streams ws) _ a e in
+    let end = ended-gives _ _ a page.2 in
+    subst (IsPlain m streams) end.1
+    (record { file = page-gives streams ws page.0.0 page.0.1 page.1; moved = omega arith; numbered = λ n. refl; in_mode = in_mode })
+
+pub sync-gives : (m : Mode) (streams : List StreamLine) (ws : List (List ℕ)) → stands StepsAlone m ≡ true → (a : Action) → sync_of streams ws ≡ Some a → IsPlain m streams a
+unfolding sync_of
+sync-gives m streams ws in_mode a e =
+    let stream = then-gives (next (stream_named streams) ws) _ a e in
+    let end = ended-gives _ _ a stream.2 in
+    subst (IsPlain m streams) end.1
+    (record { file = stream-gives streams ws stream.0.0 stream.0.1 stream.1; moved = omega arith; numbered = λ n. refl; in_mode = in_mode })
+
+pub scan-gives : (m : Mode) (streams : List StreamLine) (ws : List (List ℕ)) → stands StepsAlone m ≡ true → (a : Action) → ended ws action.Scan ≡ Some a → IsPlain m streams a
+scan-gives m streams ws in_mode a e =
+    subst (IsPlain m streams) (ended-gives ws action.Scan a e).1
+    (record { file = tt; moved = omega arith; numbered = λ n. refl; in_mode = in_mode })
+
+pub post-gives : (m : Mode) (streams : List StreamLine) (ws : List (List ℕ)) → stands StepsAlone m ≡ true → (a : Action) → ended ws action.Post ≡ Some a → IsPlain m streams a
+post-gives m streams ws in_mode a e =
+    subst (IsPlain m streams) (ended-gives ws action.Post a e).1
+    (record { file = tt; moved = omega arith; numbered = λ n. refl; in_mode = in_mode })
+
+pub nc_read_page-gives : (streams : List StreamLine) (ws : List (List ℕ)) (a : Action) → nc_read_page_of streams ws ≡ Some a → IsPlain mode.Steps streams a
+unfolding nc_read_page_of
+nc_read_page-gives streams ws a e =
+    let file = then-gives (next (file_of streams) ws) _ a e in
+    let page = then-gives (next page_number file.0.1) _ a file.2 in
+    let end = ended-gives _ _ a page.2 in
+    let of_file = file_page-gives streams ws file.0.1 page.0.1 file.0.0 page.0.0 file.1 page.1 in
+    subst (IsPlain mode.Steps streams) end.1 (record { file = of_file; moved = omega arith; numbered = λ n. refl; in_mode = refl })
+
+pub nc_write_page-gives : (streams : List StreamLine) (ws : List (List ℕ)) (a : Action) → nc_write_page_of streams ws ≡ Some a → IsPlain mode.Steps streams a
+unfolding nc_write_page_of
+nc_write_page-gives streams ws a e =
+    let file = then-gives (next (file_of streams) ws) _ a e in
+    let page = then-gives (next page_number file.0.1) _ a file.2 in
+    let end = ended-gives _ _ a page.2 in
+    let of_file = file_page-gives streams ws file.0.1 page.0.1 file.0.0 page.0.0 file.1 page.1 in
+    subst (IsPlain mode.Steps streams) end.1 (record { file = of_file; moved = omega arith; numbered = λ n. refl; in_mode = refl })
+
+pub nc_store_page-gives : (m : Mode) (streams : List StreamLine) (ws : List (List ℕ)) → stands StepsAlone m ≡ true → (a : Action) → nc_store_page_of streams ws ≡ Some a → IsPlain m streams a
+unfolding nc_store_page_of
+nc_store_page-gives m streams ws in_mode a e =
+    let file = then-gives (next (file_of streams) ws) _ a e in
+    let page = then-gives (next page_number file.0.1) _ a file.2 in
+    let bytes = then-gives (next bytes_of page.0.1) _ a page.2 in
+    let whole = if-gives (length bytes.0.0 == 4096) (ended bytes.0.1 (action.NcStorePage file.0.0 page.0.0 bytes.0.0)) a bytes.2 in
+    let end = ended-gives _ _ a whole.1 in
+    let of_file = file_page-gives streams ws file.0.1 page.0.1 file.0.0 page.0.0 file.1 page.1 in
+    let len : length bytes.0.0 ≡ 4096 = grind (arith, nat_tests, whole.0) in
+    subst (IsPlain m streams) end.1 (record { file = (of_file, len); moved = omega (arith, len); numbered = λ n. refl; in_mode = in_mode })
+
+pub can_write-gives : (m : Mode) (streams : List StreamLine) (ws : List (List ℕ)) → stands StepsAlone m ≡ true → (a : Action) → can_write_of streams ws ≡ Some a → IsPlain m streams a
+unfolding can_write_of
+can_write-gives m streams ws in_mode a e =
+    let file = then-gives (next (file_of streams) ws) _ a e in
+    let bytes = then-gives (next number_of file.0.1) _ a file.2 in
+    let end = ended-gives _ _ a bytes.2 in
+    let f = next-gives (file_of streams) ws file.0.0 file.0.1 file.1 in
+    subst (IsPlain m streams) end.1
+    (record { file = file-gives streams f.word file.0.0 f.reads; moved = omega arith; numbered = λ n. refl; in_mode = in_mode })
+
+pub defer-gives : (m : Mode) (streams : List StreamLine) (ws : List (List ℕ)) → stands StepsAlone m ≡ true → (a : Action) → defer_of streams ws ≡ Some a → IsPlain m streams a
+unfolding defer_of
+defer-gives m streams ws in_mode a e =
+    let file = then-gives (next (file_of streams) ws) _ a e in
+    let bytes = then-gives (next number_of file.0.1) _ a file.2 in
+    let end = ended-gives _ _ a bytes.2 in
+    let f = next-gives (file_of streams) ws file.0.0 file.0.1 file.1 in
+    subst (IsPlain m streams) end.1
+    (record { file = file-gives streams f.word file.0.0 f.reads; moved = omega arith; numbered = λ n. refl; in_mode = in_mode })
+
+pub set_granularity-gives : (m : Mode) (streams : List StreamLine) (ws : List (List ℕ)) → (a : Action) → set_granularity_of streams ws ≡ Some a → IsPlain m streams a
+unfolding set_granularity_of
+set_granularity-gives m streams ws a e =
+    let file = then-gives (next (file_of streams) ws) _ a e in
+    let bytes = then-gives (next number_of file.0.1) _ a file.2 in
+    let end = ended-gives _ _ a bytes.2 in
+    let f = next-gives (file_of streams) ws file.0.0 file.0.1 file.1 in
+    subst (IsPlain m streams) end.1
+    (record { file = file-gives streams f.word file.0.0 f.reads; moved = omega arith; numbered = λ n. refl; in_mode = refl })
+
+pub set_attributes-gives : (m : Mode) (streams : List StreamLine) (ws : List (List ℕ)) → (a : Action) → set_attributes_of streams ws ≡ Some a → IsPlain m streams a
+unfolding set_attributes_of
+set_attributes-gives m streams ws a e =
+    let file = then-gives (next (file_of streams) ws) _ a e in
+    let ahead = then-gives (next (number_between 0 1) file.0.1) _ a file.2 in
+    let behind = then-gives (next (number_between 0 1) ahead.0.1) _ a ahead.2 in
+    let end = ended-gives _ _ a behind.2 in
+    let f = next-gives (file_of streams) ws file.0.0 file.0.1 file.1 in
+    subst (IsPlain m streams) end.1
+    (record { file = file-gives streams f.word file.0.0 f.reads; moved = omega arith; numbered = λ n. refl; in_mode = refl })
+
+pub set_threshold-gives : (m : Mode) (streams : List StreamLine) (ws : List (List ℕ)) → (a : Action) → set_threshold_of streams ws ≡ Some a → IsPlain m streams a
+unfolding set_threshold_of
+set_threshold-gives m streams ws a e =
+    let file = then-gives (next (file_of streams) ws) _ a e in
+    let pages = then-gives (next (number_between 0 4294967295) file.0.1) _ a file.2 in
+    let end = ended-gives _ _ a pages.2 in
+    let f = next-gives (file_of streams) ws file.0.0 file.0.1 file.1 in
+    subst (IsPlain m streams) end.1
+    (record { file = file-gives streams f.word file.0.0 f.reads; moved = omega arith; numbered = λ n. refl; in_mode = refl })

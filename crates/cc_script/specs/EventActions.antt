@@ -1,0 +1,129 @@
+-- The lines of `steps` alone, and the settings of a stream: the words behind the verb, in their order.
+use Rattle.std.specs.Prelude.{ℕ, suc, ◌==◌, Bool, true, false, Option, Some, None, List, [], ◌∷◌, length, if◌then◌else◌, codes}
+use Rattle.cc_entry.specs.Place.{Page}
+use Rattle.cc_script.specs.declared.script.Mode.{Mode}
+use Rattle.cc_script.specs.declared.script.Mode.TheVariants as mode
+use Rattle.cc_script.specs.declared.script.StreamLine.{StreamLine}
+use Rattle.cc_script.specs.declared.script.Action.{Action}
+use Rattle.cc_script.specs.declared.script.Action.TheVariants as action
+use Rattle.cc_script.specs.declared.script.ActionLine.{ActionLine}
+use Rattle.cc_script.specs.Outcome.{◌>>=◌}
+use Rattle.cc_script.specs.Words.{number_of, number_between, bytes_of}
+use Rattle.cc_script.specs.Actions.{next, flag, ended, stream_named, file_of, nc_read_of, nc_write_of}
+
+-- PAGE: the number of a page, below 2^51
+abbrev pub page_number : List ℕ → Option ℕ
+page_number word = number_between 0 2251799813685247 word
+
+-- NAME PAGE: a page of a stream
+unfoldable pub page_of : List StreamLine → List (List ℕ) → Option (Page × List (List ℕ))
+page_of streams ws = do
+  stream ← next (stream_named streams) ws
+  page ← next page_number stream.1
+  Some (record { stream = stream.0; page = page.0 }, page.1)
+
+-- fill NAME PAGE
+unfoldable pub fill_of : List StreamLine → List (List ℕ) → Option Action
+fill_of streams ws = do
+  page ← page_of streams ws
+  ended page.1 (action.Fill page.0)
+
+-- out NAME PAGE
+unfoldable pub drop_of : List StreamLine → List (List ℕ) → Option Action
+drop_of streams ws = do
+  page ← page_of streams ws
+  ended page.1 (action.Drop page.0)
+
+-- begin NAME PAGE
+unfoldable pub write_begin_of : List StreamLine → List (List ℕ) → Option Action
+write_begin_of streams ws = do
+  page ← page_of streams ws
+  ended page.1 (action.WriteBegin page.0)
+
+-- end NAME PAGE
+unfoldable pub write_end_of : List StreamLine → List (List ℕ) → Option Action
+write_end_of streams ws = do
+  page ← page_of streams ws
+  ended page.1 (action.WriteEnd page.0)
+
+-- sync NAME
+unfoldable pub sync_of : List StreamLine → List (List ℕ) → Option Action
+sync_of streams ws = do
+  stream ← next (stream_named streams) ws
+  ended stream.1 (action.Sync stream.0)
+
+-- ncread FILE PAGE
+unfoldable pub nc_read_page_of : List StreamLine → List (List ℕ) → Option Action
+nc_read_page_of streams ws = do
+  file ← next (file_of streams) ws
+  page ← next page_number file.1
+  ended page.1 (action.NcReadPage file.0 page.0)
+
+-- ncstore FILE PAGE BYTES, the bytes of a whole page
+unfoldable pub nc_store_page_of : List StreamLine → List (List ℕ) → Option Action
+nc_store_page_of streams ws = do
+  file ← next (file_of streams) ws
+  page ← next page_number file.1
+  bytes ← next bytes_of page.1
+  if length bytes.0 == 4096 then ended bytes.1 (action.NcStorePage file.0 page.0 bytes.0) else None
+
+-- ncwrite FILE PAGE
+unfoldable pub nc_write_page_of : List StreamLine → List (List ℕ) → Option Action
+nc_write_page_of streams ws = do
+  file ← next (file_of streams) ws
+  page ← next page_number file.1
+  ended page.1 (action.NcWritePage file.0 page.0)
+
+-- the noncached lines that both modes have, each in its own form
+abbrev pub nc_read_in : Mode → List StreamLine → List (List ℕ) → Option Action
+nc_read_in mode.Run streams ws = nc_read_of streams ws
+nc_read_in mode.Steps streams ws = nc_read_page_of streams ws
+
+abbrev pub nc_write_in : Mode → List StreamLine → List (List ℕ) → Option Action
+nc_write_in mode.Run streams ws = nc_write_of streams ws
+nc_write_in mode.Steps streams ws = nc_write_page_of streams ws
+
+-- canwrite FILE N
+unfoldable pub can_write_of : List StreamLine → List (List ℕ) → Option Action
+can_write_of streams ws = do
+  file ← next (file_of streams) ws
+  bytes ← next number_of file.1
+  ended bytes.1 (action.CanWrite file.0 bytes.0)
+
+-- defer FILE N [retry]
+unfoldable pub defer_of : List StreamLine → List (List ℕ) → Option Action
+defer_of streams ws = do
+  file ← next (file_of streams) ws
+  bytes ← next number_of file.1
+  ended (flag (codes "retry") bytes.1).1 (action.Defer file.0 bytes.0 (flag (codes "retry") bytes.1).0)
+
+-- granularity FILE N
+unfoldable pub set_granularity_of : List StreamLine → List (List ℕ) → Option Action
+set_granularity_of streams ws = do
+  file ← next (file_of streams) ws
+  bytes ← next number_of file.1
+  ended bytes.1 (action.SetGranularity file.0 bytes.0)
+
+-- attributes FILE A B: each 0 or 1
+unfoldable pub set_attributes_of : List StreamLine → List (List ℕ) → Option Action
+set_attributes_of streams ws = do
+  file ← next (file_of streams) ws
+  ahead ← next (number_between 0 1) file.1
+  behind ← next (number_between 0 1) ahead.1
+  ended behind.1 (action.SetAttributes file.0 (ahead.0 == 1) (behind.0 == 1))
+
+-- fthreshold FILE N: a number below 2^32
+unfoldable pub set_threshold_of : List StreamLine → List (List ℕ) → Option Action
+set_threshold_of streams ws = do
+  file ← next (file_of streams) ws
+  pages ← next (number_between 0 4294967295) file.1
+  ended pages.1 (action.SetThreshold file.0 pages.0)
+
+-- how many lines are `defer`: each has a post routine of its own, in their order
+abbrev pub is_defer : Action → Bool
+is_defer (action.Defer _ _ _) = true
+is_defer other = false
+
+abbrev pub defer_lines : List ActionLine → ℕ
+defer_lines [] = 0
+defer_lines (line ∷ lines) = if is_defer line.action then suc (defer_lines lines) else defer_lines lines
