@@ -1,4 +1,4 @@
-//! Scripts on cache maps, holds, purges and noncached pages that run whole, through the top call, over devices in memory.
+//! Scripts on cache maps, holds, purges and noncached pages, and scripts of steps, that run whole, through the top call, over devices in memory.
 //!
 //! Each test runs a script by the words of the command line and compares the exit status and the text with what the
 //! script language and the format of the text say (docs/SCRIPTS.md). No expected text is taken from the program.
@@ -26,7 +26,11 @@ mod noncached_threads;
 #[cfg(test)]
 mod purges;
 #[cfg(test)]
+mod random_steps;
+#[cfg(test)]
 mod stamps;
+#[cfg(test)]
+mod steps;
 #[cfg(test)]
 mod threads;
 #[cfg(test)]

@@ -15,6 +15,7 @@ pub use devices::{LineFeeds, Moment, NarrowSink, UntoldDisk, WaitingDisk, WaitsI
 pub use during::run_during;
 pub use program::{
     Row, Seen, disk, disk_failing, log_failing, run, run_logged, run_over, run_over_five, run_with,
+    step_over,
 };
 
 #[cfg(test)]

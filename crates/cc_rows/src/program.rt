@@ -1,8 +1,11 @@
 //! The program over devices in memory: its status and its text.
 
+ghost use Rattle.std.specs.Prelude.{◌≡◌, false, replicate, IfOk};
+ghost use Rattle.cc_rows.specs.Routines.{new_routine};
+
 use cc_memdev::{DiskFails, LogFails, MemDisk, MemLog, MemSink, MemSource};
 use cc_run::{Ended, cache_main};
-use cc_traits::{Gate, PageDisk, Sink, Source};
+use cc_traits::{Gate, PageDisk, PostRoutine, Sink, Source};
 use std::alloc::{AllocError, Global};
 use std::sync::Wait;
 use std::thread::Threads;
@@ -14,6 +17,39 @@ impl Gate for Free {
     fn before(&self, _caller: u32, _call: u32) {}
 
     fn after(&self, _caller: u32, _call: u32) {}
+}
+
+/// A post routine that notes that it was posted.
+#[derive(Drop)]
+pub struct Routine {
+    pub posted: bool,
+}
+
+impl Routine {
+    fn new() -> Routine
+        ensures { result ≡ new_routine }
+    {
+        Routine { posted: false }
+    }
+}
+
+impl PostRoutine for Routine {
+    ghost posted = { λ routine. routine.posted };
+
+    fn post(&mut self) {
+        self.posted = true;
+    }
+}
+
+/// Sixteen routines, none of which was posted.
+fn routines(alloc: Global) -> Result<Vec<Routine>, AllocError>
+    ensures { IfOk result (λ routines. routines.items ≡ replicate 16 new_routine) }
+{
+    let mut routines = Vec::with_capacity(alloc, 16)?;
+    for made in 0..16usize {
+        routines.push_reserved(Routine::new());
+    }
+    Ok(routines)
 }
 
 /// A script, and the whole text of its run.
@@ -30,7 +66,7 @@ pub struct Seen {
     pub text: String,
 }
 
-/// What a run gave back: its status, how many replies and entries there are, the disks and the logs.
+/// What a run gave back: its status, how many replies and entries there are, the disks, the logs and the routines.
 #[derive(Drop)]
 pub struct Left<D> {
     pub status: u8,
@@ -38,6 +74,7 @@ pub struct Left<D> {
     pub entries: usize,
     pub disks: Vec<D>,
     pub logs: Vec<MemLog>,
+    pub posts: Vec<Routine>,
 }
 
 /// A disk of 5A whose reads, writes and syncs with these numbers fail.
@@ -105,6 +142,7 @@ pub fn left_with<R: Threads + Wait + Sync, S: Source, K: Sink, D: PageDisk + Dro
     for word in words {
         own.push(String::from_str(alloc, word)?)?;
     }
+    let posts = routines(alloc)?;
     let Ended {
         status,
         script: _script,
@@ -114,24 +152,15 @@ pub fn left_with<R: Threads + Wait + Sync, S: Source, K: Sink, D: PageDisk + Dro
         journal,
         disks,
         logs,
-        posts: _posts,
-    } = cache_main(
-        rt,
-        alloc,
-        &own,
-        source,
-        sink,
-        disks,
-        logs,
-        Vec::new(alloc),
-        gate,
-    );
+        posts,
+    } = cache_main(rt, alloc, &own, source, sink, disks, logs, posts, gate);
     Ok(Left {
         status,
         replies: replies.len(),
         entries: journal.len(),
         disks,
         logs,
+        posts,
     })
 }
 
@@ -285,4 +314,35 @@ pub fn run_logged<R: Threads + Wait + Sync>(
         text,
     };
     Ok((seen, left.logs))
+}
+
+/// Takes a script of steps through its events, over a disk and these logs, and answers how many routines were posted too.
+pub fn step_over<R: Threads + Wait + Sync>(
+    rt: &R,
+    alloc: Global,
+    script: &str,
+    disk: MemDisk,
+    logs: Vec<MemLog>,
+) -> Result<(Seen, usize), AllocError> {
+    let mut source = source(alloc, script)?;
+    let mut sink = sink(alloc);
+    let mut disks = Vec::new(alloc);
+    disks.push(disk).map_err(|_| AllocError)?;
+    let left = left_with(
+        rt,
+        alloc,
+        &["steps", "s"],
+        &mut source,
+        &mut sink,
+        disks,
+        logs,
+        &Free,
+    )?;
+    let posted = left.posts.iter().filter(|routine| routine.posted).count();
+    let text = text_of(alloc, &sink)?;
+    let seen = Seen {
+        status: left.status,
+        text,
+    };
+    Ok((seen, posted))
 }

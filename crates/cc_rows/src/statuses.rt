@@ -32,7 +32,7 @@ fn failing_source(alloc: Global) -> Result<MemSource, AllocError> {
     Ok(MemSource::new(bytes, 4096, vec![in alloc; 1]?))
 }
 
-// The words come first: the source that would fail is not asked. The last three lists are of commands
+// The words come first: the source that would fail is not asked. The last two lists are of commands
 // that the usage names and that are not served yet.
 #[test]
 fn wrong_words(rt: HostRuntime) -> Result<(), Fail> {
@@ -45,8 +45,8 @@ fn wrong_words(rt: HostRuntime) -> Result<(), Fail> {
         &["Run", "s"],
         &["walk", "s"],
         &["run", "s", "d", "e"],
+        &["steps", "s", "d"],
         &["run", "s", "d"],
-        &["steps", "s"],
         &["gen", "7"],
     ];
     for words in lists {
@@ -79,6 +79,28 @@ fn too_few_disks(rt: HostRuntime) -> Result<(), Fail> {
         )?;
         let printed = text_of(alloc, &sink)?;
         assert_eq!(rt; (ended, printed.as_str()), (status, text), "{script}");
+    }
+    Ok(())
+}
+
+// Each line that defers a write has a routine of its own: here there are sixteen.
+#[test]
+fn too_few_routines(rt: HostRuntime) -> Result<(), Fail> {
+    let alloc = rt.alloc();
+    for (lines, status) in [(16, 0), (17, 7)] {
+        let mut script = String::from_str(alloc, "stream a 0 0\n")?;
+        for _ in 0..lines {
+            script.push_str("defer a 1\n")?;
+        }
+        let ended = status_of(
+            &rt,
+            rt.alloc(),
+            &["steps", "s"],
+            &mut source(alloc, &script)?,
+            &mut sink(alloc),
+            Some(disk(alloc, &[])?),
+        )?;
+        assert_eq!(rt; ended, status, "{lines}");
     }
     Ok(())
 }

@@ -1,0 +1,2 @@
+-- What the contracts of the tests cite.
+pub mod Routines
