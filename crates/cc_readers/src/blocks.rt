@@ -10,8 +10,8 @@ ghost use Rattle.cc_readers.specs.ViewReads.{over_quota};
 ghost use Rattle.cc_readers.specs.HoldReads.{holds_in, range_of_reach};
 
 use crate::holds::{OpenHold, Reach};
-use crate::reasons::refuse;
 use cc_entry::{CcError, NoMemory};
+use cc_reasons::refuse;
 use std::alloc::Global;
 
 // The view blocks of a range, before others.
@@ -104,7 +104,8 @@ fn needed(alloc: Global, holds: &[OpenHold], range: Reach) -> Result<u64, NoMemo
     Ok(each.len() as u64)
 }
 
-/// The refusal of a range whose blocks, with those of open holds, exceed the quota.
+/// The refusal of a range whose blocks, with those of open holds, exceed the quota. Answers `NoMemory` where memory is
+/// wanting.
 pub fn by_quota(
     alloc: Global,
     holds: &[OpenHold],

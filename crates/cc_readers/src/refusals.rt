@@ -11,28 +11,15 @@ use crate::discards::{by_growth, by_images};
 use crate::holds::open_holds;
 use crate::needs::range_viewed;
 use crate::pins::by_pins;
-use crate::reasons::{
-    by_granularity, by_length, by_log, by_map, by_size, by_sizes, by_valid, by_view,
-};
+use crate::reasons::{by_map, by_sizes, by_valid};
 use crate::sizes::{size, sizes, valid};
 use crate::views::{by_pool, by_residents, quota};
 use cc_entry::{Call, CcError, Entry, NoMemory, StreamId};
+use cc_reasons::{by_granularity, by_length, by_log, by_size, by_view, first_in};
 use std::alloc::Global;
 
-// The first refusal of a list.
-fn first_in(reasons: &[Option<CcError>]) -> Option<CcError>
-    ensures { result ≡ first_of reasons.now }
-{
-    let Some((first, rest)) = reasons.split_first() else {
-        return None;
-    };
-    match first {
-        Some(refused) => Some(*refused),
-        None => first_in(rest),
-    }
-}
-
-/// The refusal of a call whose range has blocks that, with those of open holds, exceed the quota.
+/// The refusal of a call whose range has blocks that, with those of open holds, exceed the quota. Answers `NoMemory`
+/// where memory is wanting.
 pub fn by_views(
     alloc: Global,
     journal: &[Entry],
@@ -100,7 +87,7 @@ fn by_use(
 }
 
 /// The refusal of a call on a stream, where there are so many logs: the first reason that holds, in
-/// their order. It is exact where the valid data length is below 2^64.
+/// their order. It is exact where the valid data length is below 2^64. Answers `NoMemory` where memory is wanting.
 pub fn refusal(
     alloc: Global,
     journal: &[Entry],

@@ -13,10 +13,10 @@ ghost use Rattle.cc_readers.specs.ViewReads.{first_absent, read_refusal};
 ghost use Rattle.cc_readers.specs.QuotaReads.{quota_asked, quota_given};
 
 use crate::dirty::has_map;
-use crate::reasons::refuse;
 use crate::residents::is_page_resident;
 use crate::sizes::{size, sizes};
 use cc_entry::{Call, CcError, Entry, NoMemory, Outcome, StreamId};
+use cc_reasons::refuse;
 use std::alloc::Global;
 
 // The quota that an initialise gives.
@@ -62,7 +62,7 @@ fn quota_by(entry: &Entry, stream: StreamId) -> Option<u8>
     }
 }
 
-/// The quota of a stream: that of the last initialise that made the map.
+/// The quota of a stream: that of the last initialise that made the map. Answers `NoMemory` where memory is wanting.
 pub fn quota(
     alloc: Global,
     journal: &[Entry],
@@ -100,7 +100,7 @@ fn views(alloc: Global, journal: &[Entry], stream: StreamId) -> Result<u8, NoMem
     }
 }
 
-/// The views that all mapped streams take.
+/// The views that all mapped streams take. Answers `NoMemory` where memory is wanting.
 pub fn all_views(alloc: Global, journal: &[Entry]) -> Result<u64, NoMemory>
     ensures { IfOk result (λ views. views ≡ views_taken (reverse journal.now)) }
 {
@@ -115,7 +115,8 @@ pub fn all_views(alloc: Global, journal: &[Entry]) -> Result<u64, NoMemory>
     Ok(taken)
 }
 
-/// The refusal of an initialise that makes the map and asks more views than the pool has left.
+/// The refusal of an initialise that makes the map and asks more views than the pool has left. Answers `NoMemory` where
+/// memory is wanting.
 pub fn by_pool(
     alloc: Global,
     journal: &[Entry],
@@ -147,7 +148,7 @@ fn is_absent(
     Ok(!resident)
 }
 
-/// The least page of a range that is not resident.
+/// The least page of a range that is not resident. Answers `NoMemory` where memory is wanting.
 pub fn first_absent(
     alloc: Global,
     journal: &[Entry],
@@ -208,7 +209,8 @@ fn absent_in(
     Ok(absent_at(page))
 }
 
-/// The refusal of a read that may not wait and needs a page that is not resident.
+/// The refusal of a read that may not wait and needs a page that is not resident. Answers `NoMemory` where memory is
+/// wanting.
 pub fn by_residents(
     alloc: Global,
     journal: &[Entry],

@@ -4,17 +4,17 @@
 //! wherever what is kept stands for the history. So no call repeats it: a call that is not refused here may be
 //! done, as far as the disks, the logs, the journal's room and memory let it.
 //!
-//! The calls of the cache stand above. Below are what is kept of a stream (`cc_stream`), of its open holds
-//! (`cc_holds`) and of the images of its pages (`cc_images`), the rows of the dirty page table (`cc_dirty`), the
-//! values of `cc_entry`, the definitions of `cc_model` and how they step (`cc_laws`, `cc_events`). What else the
-//! pages of a stream and the journal have to say comes as numbers, so that the crate stands on neither. Only the
-//! count of view blocks takes memory.
+//! The calls of the cache stand above. Below are what is kept of a stream (`cc_stream`), of its open holds (`cc_holds`)
+//! and of the images of its pages (`cc_images`), the rows of the dirty page table (`cc_dirty`), the reasons that lie in
+//! the arguments of a call (`cc_reasons`), the values of `cc_entry`, the definitions of `cc_model` and how they step
+//! (`cc_laws`). What else the pages of a stream and the journal have to say comes as numbers, so that the crate stands
+//! on neither. Only the count of view blocks takes memory.
 #![tactic(auto)]
 
-mod arguments;
 mod conflicts;
 mod disk;
 mod known;
+mod maps;
 mod refusals;
 mod views;
 

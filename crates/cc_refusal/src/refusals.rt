@@ -10,28 +10,14 @@ ghost use Rattle.cc_model.specs.Refusals.{first_of, refusal};
 ghost use Rattle.cc_refusal.specs.Known.{KnownStands, IsLeastAbsent};
 ghost use Rattle.cc_refusal.specs.Reasons.{argument_reasons, hold_reasons, use_reasons, disk_reasons};
 
-use crate::arguments::{
-    by_block, by_granularity, by_length, by_log, by_map, by_size, by_sizes, by_valid,
-};
 use crate::conflicts::{by_holds, by_pins};
 use crate::disk::{by_growth, by_images};
 use crate::known::Known;
+use crate::maps::{by_map, by_sizes};
 use crate::views::{by_pool, by_residents, by_views};
 use cc_entry::{Call, CcError, NoMemory};
+use cc_reasons::{by_granularity, by_length, by_log, by_size, by_valid, by_view, first_in};
 use std::alloc::Global;
-
-// The first refusal of a list.
-fn first_in(reasons: &[Option<CcError>]) -> Option<CcError>
-    ensures { result ≡ first_of reasons.now }
-{
-    let Some((first, rest)) = reasons.split_first() else {
-        return None;
-    };
-    match first {
-        Some(refused) => Some(*refused),
-        None => first_in(rest),
-    }
-}
 
 // The first reason that lies in the arguments, or in the sizes, maps and logs that the call meets.
 fn by_arguments(known: &Known, call: &Call) -> Option<CcError>
@@ -41,7 +27,7 @@ fn by_arguments(known: &Known, call: &Call) -> Option<CcError>
     let reasons = [
         by_map(known.state, call),
         by_length(call),
-        by_block(call),
+        by_view(call),
         by_sizes(known, call),
         by_granularity(call),
         by_log(known.logs, call),
@@ -89,7 +75,7 @@ fn by_disk(known: &Known, call: &Call) -> Option<CcError>
 
 /// The refusal of a call on a stream: the first reason that holds, in their order. `absent` is the least page
 /// of the call's range that is not resident, where the call is a copy read that may not wait; of other calls
-/// it is not looked at.
+/// it is not looked at. Answers `NoMemory` where memory is wanting.
 pub fn refusal(
     alloc: Global,
     known: &Known,

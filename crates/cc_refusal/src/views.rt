@@ -15,9 +15,9 @@ ghost use Rattle.cc_stream.specs.Stream.{StreamStands};
 ghost use Rattle.cc_holds.specs.Stands.{HoldsStand};
 ghost use Rattle.cc_refusal.specs.Known.{HasBlocksOf, IsLeastAbsent};
 
-use crate::arguments::refuse;
 use crate::known::Known;
 use cc_entry::{Call, CcError, NoMemory, Span};
+use cc_reasons::refuse;
 use std::alloc::Global;
 
 // So many bytes from a place on.

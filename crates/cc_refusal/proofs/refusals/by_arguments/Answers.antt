@@ -12,7 +12,7 @@ returns c = λ u past h stands.
     ∙ ap first_of
     (same_reasons (c.by_map.ensures h stands.state)
     (same_reasons c.by_length.ensures
-    (same_reasons c.by_block.ensures
+    (same_reasons c.by_view.ensures
     (same_reasons (c.by_sizes.ensures h stands.state stands.valid stands.mapped)
     (same_reasons c.by_granularity.ensures
     (same_reasons (c.by_log.ensures u stands.logs)

@@ -1,5 +1,5 @@
 use Rattle.std.proofs.Common.{length}
-use Rattle.cc_readers.proofs.refusals.+first_in.Given as goal
+use Rattle.cc_reasons.proofs.first.+first_in.Given as goal
 
 abbrev pub decreases-first_in : goal.decreases-first_in
 decreases-first_in l = length l.reasons.now
