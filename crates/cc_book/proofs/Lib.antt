@@ -5,5 +5,6 @@ pub mod DoneSteps
 pub mod OwnedSteps
 mod StoreSteps
 pub mod ReadSteps
+pub mod NoncachedReads
 pub mod ImageSteps
 pub mod DirtyRows

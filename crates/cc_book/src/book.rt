@@ -233,7 +233,7 @@ impl Book {
             .ahead_of(file, at, len, no_read_ahead, self.state.size())
     }
 
-    /// The refusal of a call on the stream, where there is one.
+    /// The refusal of a call on the stream, where there is one. Answers `NoMemory` where memory is wanting.
     pub fn refusal<Q>(
         &self,
         alloc: Global,
@@ -259,7 +259,7 @@ impl Book {
     }
 
     /// The view block to give up so that one of the span can be mapped: the least recently used one that has no
-    /// open hold and is none of the span's.
+    /// open hold and is none of the span's. Answers `NoMemory` where memory is wanting.
     pub fn block_to_go(&self, alloc: Global, span: Span) -> Result<Option<u64>, NoMemory>
         ensures { IfOk result (λ block. (opening : Option (ℕ → List ℕ)) (past : List Entry) →
             BookStands opening past self.now →
@@ -283,7 +283,7 @@ impl Book {
     }
 
     /// A page comes in from the raw bytes of the disk, as zeros where it begins at the valid data length or past
-    /// it.
+    /// it. Answers `NoMemory`, and then nothing has changed.
     pub fn bring_in<Q>(
         &mut self,
         journal: &mut Journal<Q>,
@@ -311,7 +311,8 @@ impl Book {
         Ok(())
     }
 
-    /// The transfer of a page to the disk begins, with a snapshot of the page.
+    /// The transfer of a page to the disk begins, with a snapshot of the page. Answers `NoMemory`, and then the journal
+    /// is as it was, and the book stands for it as before.
     pub fn begin<Q>(
         &mut self,
         journal: &mut Journal<Q>,

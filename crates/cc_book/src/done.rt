@@ -28,7 +28,8 @@ use std::alloc::Global;
 impl Book {
     /// A call on the stream is done with this answer. An uninitialise answers whether the shared map went, which
     /// the journal says before it (`Journal::stays_mapped`). The pages that the call changes are owned first, so
-    /// where it finds no memory no byte has changed. The images follow last and take none.
+    /// where it finds no memory no byte has changed. The images follow last and take none. Answers `NoMemory`, and then
+    /// the journal is as it was, and the book stands for it as before.
     pub fn done<Q>(
         &mut self,
         alloc: Global,
@@ -65,7 +66,8 @@ impl Book {
     }
 
     /// A noncached store of these bytes of a page is done, and the page's transfer begins. What its end may need is taken
-    /// first, so where no memory is found no byte has changed.
+    /// first, so where no memory is found no byte has changed. Answers `NoMemory`, and then the journal is as it was,
+    /// and the book stands for it as before.
     pub fn store<Q>(
         &mut self,
         alloc: Global,

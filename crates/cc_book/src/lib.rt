@@ -1,14 +1,14 @@
 //! The book of a stream: all that is kept of it, and how it and the journal go on together.
 //!
 //! What the layer keeps true: a book that stands for the journal, over what the stream's disk told of its opening
-//! pages, stands for it after each step, and the step places one entry, for which a place was reserved and with
-//! which the journal is good. A step that finds no memory leaves the journal as it was, and the book stands for what
-//! it stood for: no byte has changed, at most pages are owned again that snapshots shared. So whoever holds the
-//! book's turn knows of the stream what the whole journal says of it: its sizes, its holds, its pages and their
-//! bytes.
+//! pages, stands for it after each step, and the step places its entries (one, of a noncached store two), for which
+//! places were reserved and with which the journal is good. A step that finds no memory leaves the journal as it was,
+//! and the book stands for what it stood for: no byte has changed, only which pages are owned may have. So whoever
+//! holds the book's turn knows of the stream what the whole journal says of it: its sizes, its holds, its pages and
+//! their bytes.
 //!
 //! `book` has what is kept, what is asked of it, and the entries of pages and of calls that failed; `done` the
-//! calls that are done, and `read` what a read answers.
+//! calls that are done, `read` what a read answers, and `noncached` what a noncached one does.
 //!
 //! The steps of the calls stand above. Below are the five parts of a book: the state of the stream
 //! (`cc_stream`), its private maps (`cc_ahead`), its open holds (`cc_holds`), its contents (`cc_content`) and the
@@ -18,6 +18,7 @@
 
 mod book;
 mod done;
+mod noncached;
 mod read;
 
 pub use book::Book;

@@ -20,7 +20,7 @@ const ZEROS: [u8; 4096] = [0; 4096];
 
 impl Book {
     /// The bytes of a read of so many bytes at a place (`CcCopyRead`), as far as the size, where each of their
-    /// pages is resident.
+    /// pages is resident. Answers `NoMemory` where memory is wanting.
     pub fn read(&self, alloc: Global, at: u64, len: u64) -> Result<Bytes, NoMemory>
         ensures { IfOk result (λ bytes. (opening : Option (ℕ → List ℕ)) (past : List Entry) →
             BookStands opening past self.now →

@@ -1,7 +1,7 @@
 -- Lemmas of noncached reads and writes, each before those that cite it.
 pub mod Misshapen
 pub mod ReadStepping
-pub mod ReadBytes
+pub mod DirtyNext
 pub mod ReadCalls
 pub mod ReadPlacing
 pub mod ReadNexting

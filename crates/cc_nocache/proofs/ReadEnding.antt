@@ -40,7 +40,8 @@ use Rattle.cc_visits.proofs.Replies.{replied, reads-fit, full-listed}
 use Rattle.cc_visits.proofs.Stepping.{disk-grew, fill-as}
 use Rattle.cc_visits.proofs.Telling.{same-reply}
 use Rattle.cc_visits.proofs.Visiting.{Visiting, Visited, visited}
-use Rattle.cc_nocache.specs.ReadSteps.{HasEnded, MayEnd, WasReadAbsent, without_one}
+use Rattle.cc_book.specs.Noncached.{WasRead}
+use Rattle.cc_nocache.specs.ReadSteps.{HasEnded, MayEnd, without_one}
 use Rattle.cc_nocache.specs.ReadVisits.{FitsEnded, IsAtRead, ReadEnded, ToldEnded, WasReadHere, count_of}
 use Rattle.cc_nocache.specs.declared.read_steps.Ended.{Ended}
 use Rattle.cc_nocache.specs.declared.read_steps.Ended.TheVariants as ended
@@ -92,9 +93,9 @@ module _ {Q : Type 0} (posted : Q → Bool) (w v : Standing) (file : File) (page
   pub may-end : (pass : ℕ) (raw : List ℕ) → pass ≡ v.number → WasReadHere w file page raw → MayEnd w.setup pass file page raw b (without_one j)
   may-end pass raw me read = record {
     may = fill-less pass me;
-    read = subst (λ (h : List Effect). WasReadAbsent (w.setup.opening b.stream) h page raw)
+    read = subst (λ (h : List Effect). WasRead (w.setup.opening b.stream) h page raw)
         (sym (history-held w b.stream j.entries (has-book posted w v b c j k has vis) rest.device vis.grows))
-        (subst (λ (n : ℕ). WasReadAbsent (w.setup.opening n) (history w.seen n) page raw) (sym here) read);
+        (subst (λ (n : ℕ). WasRead (w.setup.opening n) (history w.seen n) page raw) (sym here) read);
   }
 
   pub ended-as : (pass : ℕ) (raw : List ℕ) (end : Ended) → pass ≡ v.number → WasReadHere w file page raw → ((u : Setup) → MayEnd u pass file page raw b (without_one j) → HasEnded u pass file page end b c j k) → HasEnded w.setup w.number file page end b c j k

@@ -8,7 +8,7 @@ use Rattle.cc_entry.specs.declared.error.CcError.TheVariants as error
 use Rattle.cc_entry.specs.declared.reply.Reply.{Reply}
 use Rattle.cc_entry.specs.declared.reply.Reply.TheVariants as reply
 use Rattle.cc_book.specs.Book.{BookState}
-use Rattle.cc_content.specs.Filling.{IsReadFrom}
+use Rattle.cc_book.specs.Noncached.{WasRead}
 use Rattle.cc_effects.specs.Calls.{has_no_write}
 use Rattle.cc_fill.specs.Fill.{MayFill, page_of}
 use Rattle.cc_journal.specs.Journal.{JournalState}
@@ -22,15 +22,6 @@ use Rattle.cc_nocache.specs.declared.read_steps.Next.{Next}
 use Rattle.cc_nocache.specs.declared.read_steps.Next.TheVariants as next
 use Rattle.cc_nocache.specs.declared.read_steps.Ended.{Ended}
 use Rattle.cc_nocache.specs.declared.read_steps.Ended.TheVariants as ended
-
--- where a page starts, if it starts below the size
-abbrev pub IsStart : ℕ → ℕ → Option ℕ → Type 0
-IsStart size page None = size ≤ 4096 * page
-IsStart size page (Some at) = (at ≡ 4096 * page) × (at < size)
-
--- what was read of a page is the plain file where the page is not resident, below the valid data length
-abbrev pub WasReadAbsent : Option (ℕ → List ℕ) → List Effect → ℕ → List ℕ → Type 0
-WasReadAbsent opening h page raw = is_resident h page ≡ false → IsReadFrom opening h page raw
 
 -- A read that has not written its page need not: the page has no bytes that can be written.
 abbrev pub IsClean : {Q : Type 0} → Bool → BookState → ℕ → JournalState Q → Type 0
@@ -92,7 +83,7 @@ AdmittedLeft u pass file page written other b c j k = NextLeft u pass file page 
 pub record MayEnd {Q : Type 0} (u : Setup) (pass : ℕ) (file : File) (page : ℕ) (raw : List ℕ)
     (b : BookState) (j : JournalState Q) : Type 0 where
   pub may : MayFill u pass (call.NcRead file page) b j
-  pub read : WasReadAbsent (u.opening b.stream) (history j.entries b.stream) page raw
+  pub read : WasRead (u.opening b.stream) (history j.entries b.stream) page raw
 
 -- How the read ended, for whose entry a place is reserved, by cases: done, refused since others brought a refusal about,
 -- or without an entry.

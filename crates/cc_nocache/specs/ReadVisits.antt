@@ -24,7 +24,7 @@ use Rattle.cc_visits.specs.Ways.{IsFull, WasWanted}
 use Rattle.cc_visits.specs.declared.tell.Returned.{Returned}
 use Rattle.cc_visits.specs.declared.tell.Returned.TheVariants as returned
 use Rattle.cc_writes.specs.Writes.{IsToWrite}
-use Rattle.cc_nocache.specs.ReadSteps.{WasReadAbsent}
+use Rattle.cc_book.specs.Noncached.{WasRead}
 use Rattle.cc_nocache.specs.declared.read_steps.Ended.{Ended}
 use Rattle.cc_nocache.specs.declared.read_steps.Ended.TheVariants as ended
 use Rattle.cc_nocache.specs.declared.read_steps.Next.{Next}
@@ -110,7 +110,7 @@ look_of (next.Stopped e) = look.Ended (Err e)
 
 -- what was read of a page is what the disk is known to hold of it, where the page is not resident
 abbrev pub WasReadHere : Standing → File → ℕ → List ℕ → Type 0
-WasReadHere w file page raw = WasReadAbsent (w.setup.opening file.stream) (history w.seen file.stream) page raw
+WasReadHere w file page raw = WasRead (w.setup.opening file.stream) (history w.seen file.stream) page raw
 
 -- Where the read was done, what was handed in has room for its reply.
 abbrev pub FitsEnded : Ended → List Entry → List ℕ → Type 0

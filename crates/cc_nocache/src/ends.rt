@@ -4,14 +4,13 @@ ghost use Rattle.std.specs.Prelude.{◌≡◌, true};
 ghost use Rattle.cc_model.specs.Conditions.{MayFinish};
 ghost use Rattle.cc_model.specs.History.{history};
 ghost use Rattle.cc_model.specs.Setup.{Setup};
-ghost use Rattle.cc_model.specs.Touches.{is_dirty};
 ghost use Rattle.cc_step.specs.Step.{StandUnder};
 ghost use Rattle.cc_visits.specs.Hands.{HasBook, IsAtRest, Went};
 ghost use Rattle.cc_nocache.specs.Ends.{MayFinishHere, IsTidied, IsEnded, IsIdlePage, HasFinished, HasFailedSince, HasFailedWrite};
 
+use crate::dirty::is_dirty;
 use cc_book::Book;
 use cc_entry::{Call, CcError, FileId, PageId, Reply};
-use cc_flush::next_dirty;
 use cc_journal::Journal;
 use cc_turns::Turns;
 use std::alloc::Global;
@@ -125,18 +124,7 @@ fn may_go<Q>(book: &Book, journal: &Journal<Q>, page: PageId) -> bool
         return false;
     }
     match book.page(number) {
-        Some(_) => !is_dirty(journal, page),
-        None => false,
-    }
-}
-
-// Whether a page is dirty.
-fn is_dirty<Q>(journal: &Journal<Q>, page: PageId) -> bool
-    ensures { result ≡ is_dirty (history journal.now.entries page.stream) page.page }
-{
-    let number = page.page();
-    match next_dirty(journal, page.stream(), None, number) {
-        Some(next) => next == number,
+        Some(_) => !is_dirty(journal, page.stream(), number),
         None => false,
     }
 }

@@ -19,8 +19,8 @@ use cc_visits::{fail_at, release_at};
 use cc_writes::{read_free, write_for};
 use std::alloc::Global;
 
-/// Reads a page of a stream past its cache, into the front of `out`, and answers how many bytes it has. The page is
-/// written first where it is dirty, and a resident one answers for the disk.
+/// Reads a page of a stream, noncached, into the front of `out`, and answers how many bytes it has. The page is
+/// written first where it is dirty and no pin owes it a stamp. Where it is resident the bytes are its frame's.
 ///
 /// `NotCached`, `ReadFault`, `WriteFault`, `LogFault`, `JournalFull`, `NoMemory`.
 pub(crate) fn read_held<T: Turns>(

@@ -3,23 +3,18 @@
 ghost use Rattle.std.specs.Prelude.{◌≡◌, ℕ, ◌*◌, ◌<◌, not, List, Option, IfOk};
 ghost use Rattle.std.specs.declared.option.Option.TheVariants.{None};
 ghost use Rattle.cc_entry.specs.declared.call.Call.TheVariants as call;
-ghost use Rattle.cc_entry.specs.declared.entry.Entry.{Entry};
-ghost use Rattle.cc_entry.specs.declared.reply.Reply.TheVariants as reply;
 ghost use Rattle.cc_book.specs.Book.{BookStands};
-ghost use Rattle.cc_content.specs.Filling.{IsReadFrom};
 ghost use Rattle.cc_effects.specs.Calls.{has_no_write};
 ghost use Rattle.cc_fill.specs.Fill.{MayFill, page_of};
 ghost use Rattle.cc_model.specs.History.{history};
 ghost use Rattle.cc_model.specs.Refusals.{refusal};
-ghost use Rattle.cc_model.specs.Replies.{Reads};
 ghost use Rattle.cc_model.specs.Setup.{Setup};
-ghost use Rattle.cc_model.specs.Touches.{is_dirty, size_of};
-ghost use Rattle.cc_nocache.specs.ReadSteps.{AdmittedLeft, GoneOn, HasEnded, IsStart, MayEnd, NextLeft, WasReadAbsent, without_one};
+ghost use Rattle.cc_model.specs.Touches.{size_of};
+ghost use Rattle.cc_nocache.specs.ReadSteps.{AdmittedLeft, GoneOn, HasEnded, MayEnd, NextLeft, without_one};
 
+use crate::dirty::is_dirty;
 use cc_book::Book;
-use cc_content::cleared;
 use cc_entry::{Bytes, Call, CcError, FileId, NoMemory, Reply};
-use cc_flush::next_dirty;
 use cc_journal::Journal;
 use std::alloc::Global;
 
@@ -122,7 +117,7 @@ fn admitted<Q>(
         journal.release(1);
         return Next::Writes;
     }
-    match start_of(book, page) {
+    match book.start_of(page) {
         Some(_) => Next::Reads,
         None => {
             let call = Call::NcRead { file, page };
@@ -162,7 +157,7 @@ pub(crate) fn end<Q>(
             journal.release(owed);
             Ended::Refused(error)
         }
-        Ok(None) => match answer(alloc, book, page, raw) {
+        Ok(None) => match book.read_noncached(alloc, page, raw) {
             Ok(bytes) => {
                 let owed = journal.owed_end(pass);
                 match book.done(alloc, journal, pass, call, Reply::Read(bytes)) {
@@ -190,58 +185,5 @@ fn is_to_write<Q>(book: &Book, journal: &Journal<Q>, page: u64) -> bool
     ensures { (opening : Option (ℕ → List ℕ)) → BookStands opening journal.now.entries book.now →
         result ≡ not (has_no_write (page_of book.now page) journal.now.entries) }
 {
-    is_dirty(book, journal, page) && !book.is_unstamped(page)
-}
-
-// Whether a page is dirty.
-fn is_dirty<Q>(book: &Book, journal: &Journal<Q>, page: u64) -> bool
-    ensures { result ≡ is_dirty (history journal.now.entries book.now.stream) page }
-{
-    match next_dirty(journal, book.stream(), None, page) {
-        Some(next) => next == page,
-        None => false,
-    }
-}
-
-// Where a page starts, if it starts below the size.
-fn start_of(book: &Book, page: u64) -> Option<u64>
-    ensures { (opening : Option (ℕ → List ℕ)) (past : List Entry) → BookStands opening past book.now →
-        IsStart (size_of (history past book.now.stream)) page result }
-{
-    if page < book.size().div_ceil(4096) {
-        Some(4096 * page)
-    } else {
-        None
-    }
-}
-
-// What the read of a page answers: the bytes of its frame where it is resident, else those that the disk gave.
-fn answer(alloc: Global, book: &Book, page: u64, raw: &[u8; 4096]) -> Result<Bytes, NoMemory>
-    requires stands { (opening : Option (ℕ → List ℕ)) × (past : List Entry) × BookStands opening past book.now }
-    ensures { IfOk result (λ bytes. (opening : Option (ℕ → List ℕ)) (past : List Entry) →
-        BookStands opening past book.now → WasReadAbsent opening (history past book.now.stream) page raw.now →
-        Reads opening (history past book.now.stream) (4096 * page) 4096 (reply.Read bytes)) }
-{
-    match start_of(book, page) {
-        None => Ok(Bytes::new(alloc)),
-        Some(at) => match book.page(page) {
-            Some(_) => book.read(alloc, at, 4096),
-            None => from_disk(alloc, book, at, raw),
-        },
-    }
-}
-
-// The bytes of a page that starts at this place, of which the disk gave these, as far as the size: past the valid data
-// length they are zero.
-fn from_disk(alloc: Global, book: &Book, at: u64, raw: &[u8; 4096]) -> Result<Bytes, NoMemory>
-    requires below { (opening : Option (ℕ → List ℕ)) × (past : List Entry) × BookStands opening past book.now
-        × (at < size_of (history past book.now.stream)) }
-    ensures { IfOk result (λ bytes. (opening : Option (ℕ → List ℕ)) (past : List Entry) (page : ℕ) →
-        BookStands opening past book.now → at ≡ 4096 * page → at < size_of (history past book.now.stream) →
-        IsReadFrom opening (history past book.now.stream) page raw.now →
-        Reads opening (history past book.now.stream) at 4096 (reply.Read bytes)) }
-{
-    let bytes = cleared(raw, book.valid().saturating_sub(at));
-    let end = (book.size() - at).min(4096);
-    Bytes::of(alloc, &bytes[..end as usize])
+    is_dirty(journal, book.stream(), page) && !book.is_unstamped(page)
 }

@@ -11,10 +11,11 @@ use cc_entry::{Call, CcError, FileId};
 use cc_turns::Turns;
 use std::alloc::Global;
 
-/// Reads whole pages of a stream past the cache, from a place on, into the front of `out`, and answers how many bytes
-/// they are: a page that is dirty and owes no stamp is written first, and a resident one answers for the disk. No page
-/// comes in. The page that begins at the size or past it ends the read. Place and length are multiples of 4096, and the
-/// length is at most 65536. A read of no bytes succeeds for every file object.
+/// Reads whole pages of a stream, noncached, from a place on, into the front of `out`, and answers how many bytes
+/// they are. It is no Cc routine: in Windows it is a read of a file object without intermediate buffering. A page that
+/// is dirty and owes no stamp is written first; where a page is resident the bytes are its frame's. No page comes in. The
+/// page that begins at the size or past it ends the read. Place and length are multiples of 4096, and the length is at
+/// most 65536. A read of no bytes at an aligned place succeeds for every file object.
 ///
 /// `TooLong` and `Unaligned` (behind `NotCached`, with no page finished), `NotCached`, `ReadFault`, `WriteFault`,
 /// `LogFault`, `JournalFull`, `NoMemory`.

@@ -1,4 +1,4 @@
-//! The write of a page past the cache, with the disk and the book of its stream in hand.
+//! The noncached write of a page, with the disk and the book of its stream in hand.
 
 ghost use Rattle.std.specs.Prelude.{◌≡◌, ◌<◌, ◌≤◌, List, OnOk};
 ghost use Rattle.cc_entry.specs.declared.entry.Entry.{Entry};

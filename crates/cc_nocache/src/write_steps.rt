@@ -1,4 +1,4 @@
-//! What the write of a page past the cache does next on a book and a journal, until the page is ready to be stored.
+//! What the noncached write of a page does next on a book and a journal, until the page is ready to be stored.
 
 ghost use Rattle.std.specs.Prelude.{◌≡◌, ◌<◌};
 ghost use Rattle.std.specs.declared.option.Option.TheVariants.{None};

@@ -38,7 +38,8 @@ use Rattle.cc_turns.specs.Disk.{DiskStands, opening_of}
 use Rattle.cc_turns.specs.Standing.{DiskAtFirst}
 use Rattle.cc_world.specs.Calls.{CallWent, IsFiledOn, IsRefusedSo, IsUnrefused}
 use Rattle.cc_world.specs.Rows.{DiskIsUsed, IsAtRest, RowEnded, RowLeft, RowWent, StandsUnder}
-use Rattle.cc_world.specs.Uncached.{IsAdmittedOn, IsImage, IsReadyOn, MayEndRead, WasRead, stored_byte}
+use Rattle.cc_book.specs.Noncached.{WasRead}
+use Rattle.cc_world.specs.Uncached.{IsAdmittedOn, IsImage, IsReadyOn, MayEndRead, stored_byte}
 use Rattle.cc_world.specs.Ways.{CanEnd, MayDo, asked_for, entries_done, filed_under, reason_of}
 use Rattle.cc_world.specs.declared.events.Event.TheVariants as event
 use Rattle.cc_world.specs.declared.events.StepReply.{StepReply}

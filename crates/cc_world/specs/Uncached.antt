@@ -10,7 +10,7 @@ use Rattle.cc_entry.specs.declared.error.NoMemory.{NoMemory}
 use Rattle.cc_entry.specs.declared.reply.Reply.TheVariants as reply
 use Rattle.cc_traits.specs.Disk.{Disk}
 use Rattle.cc_book.specs.Book.{BookState, BookStands, Stays}
-use Rattle.cc_content.specs.Filling.{IsReadFrom}
+use Rattle.cc_book.specs.Noncached.{WasRead}
 use Rattle.cc_journal.specs.Journal.{JournalState}
 use Rattle.cc_model.specs.Conditions.{IsReady, MayStore}
 use Rattle.cc_model.specs.History.{Effect, history}
@@ -38,16 +38,6 @@ pub record IsReadyOn {D Q : Type 0} (told : D → Option Disk) (faults : D → �
     (more pass : ℕ) (it : Call) (row : Row D) (j : JournalState Q) : Type 0 where
   pub made : IsAdmittedOn told faults u first more it row j
   pub ready : IsReady j.entries pass row.book.stream it
-
--- where a page starts, if it starts below the size
-abbrev pub IsStart : ℕ → ℕ → Option ℕ → Type 0
-IsStart size page None = size ≤ 4096 * page
-IsStart size page (Some at) = (at ≡ 4096 * page) × (at < size)
-
--- A page that starts below the size was read from the disk, where it is not resident: below the valid data length these
--- are the plain file's bytes.
-abbrev pub WasRead : Option (ℕ → List ℕ) → List Effect → ℕ → List ℕ → Type 0
-WasRead opening h page raw = is_resident h page ≡ false → 4096 * page < size_of h → IsReadFrom opening h page raw
 
 -- a noncached read of a page may end now, for whose entry a place is reserved, and of which this was read
 pub record MayEndRead {Q : Type 0} (u : Setup) (pass : ℕ) (file : File) (page : ℕ) (raw : List ℕ) (b : BookState)

@@ -84,13 +84,12 @@ fn used(hold: u64, kind: HoldKind, range: Option<(u64, u64)>) -> Option<HoldUse>
 fn serves(holds: &[OpenHold], pass: u32, asked: HoldUse) -> bool
     ensures { result ≡ serves_use pass asked (hold_at (holds_in holds.now) asked.hold) }
 {
-    let Some((first, rest)) = holds.split_first() else {
-        return false;
-    };
-    if first.id == asked.hold {
-        return fits(first, pass, asked);
+    for hold in holds {
+        if hold.id == asked.hold {
+            return fits(hold, pass, asked);
+        }
     }
-    serves(rest, pass, asked)
+    false
 }
 
 // Whether a hold was made by the pass, is of the kind that is asked and has the bytes.

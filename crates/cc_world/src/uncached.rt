@@ -11,7 +11,8 @@ ghost use Rattle.cc_turns.specs.Disk.{opening_of};
 ghost use Rattle.cc_turns.specs.Standing.{DiskAtFirst};
 ghost use Rattle.cc_world.specs.Pages.{AreFlushed};
 ghost use Rattle.cc_world.specs.Rows.{IsStanding, RowEnded, RowLeft, RowStands, StandsUnder};
-ghost use Rattle.cc_world.specs.Uncached.{IsAdmittedOn, IsReadyOn, StoreLeft, WasRead};
+ghost use Rattle.cc_book.specs.Noncached.{WasRead};
+ghost use Rattle.cc_world.specs.Uncached.{IsAdmittedOn, IsReadyOn, StoreLeft};
 ghost use Rattle.cc_world.specs.Ways.{filed_under};
 ghost use Rattle.cc_world.specs.declared.events.Event.TheVariants as event;
 

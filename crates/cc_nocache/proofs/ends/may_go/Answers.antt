@@ -1,10 +1,12 @@
+-- A page that the book has, that no hold has and that is not dirty, is so in the history: resident, clean, not held.
 use Rattle.std.specs.Prelude.{◌≡◌, ℕ}
 use Rattle.std.proofs.Common.{sym, ◌∙◌, subst, ap}
 use Rattle.cc_model.specs.History.{history}
 use Rattle.cc_model.specs.Holds.{holds_of, is_held}
 use Rattle.cc_model.specs.Residency.{is_resident}
 use Rattle.cc_nocache.specs.Ends.{IsIdlePage}
-use Rattle.cc_nocache.proofs.Idle.{never, some-there}
+use Rattle.cc_nocache.proofs.DirtyNext.{never}
+use Rattle.cc_nocache.proofs.Idle.{some-there}
 use Rattle.cc_nocache.proofs.ends.may_go.Goals as goal
 
 pub returns-in-Some : goal.returns-in-Some

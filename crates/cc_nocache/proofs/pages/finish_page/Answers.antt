@@ -1,3 +1,5 @@
+-- By how the transfer ended: after a good end the write may finish, after a failed one it may fail, and without memory
+-- nothing follows.
 use Rattle.std.proofs.Common.{◌≡◌, ap, sym, ◌∙◌, subst, refl, false}
 use Rattle.cc_entry.specs.declared.entry.End.{End}
 use Rattle.cc_turns.specs.Standing.{Standing}

@@ -1,3 +1,5 @@
+-- Behind the store, the transfer that it began is of the bytes as they are cut at the size, so the page may be
+-- finished; without room or memory for the store, nothing was placed.
 use Rattle.std.specs.Prelude.{◌≡◌, ℕ, ◌-◌, ◌*◌, ◌<◌, min, List, length}
 use Rattle.std.proofs.Common.{ap, arith, inl, subst, sym, ◌∙◌}
 use Rattle.cc_entry.specs.declared.call.Call.TheVariants as call

@@ -1,3 +1,5 @@
+-- Others went on while the disk was read, and the read still waits for it: the page lands, its failure is told, or for
+-- want of memory the place is given back.
 use Rattle.std.specs.Prelude.{ℕ, Result, Err, OnOk, Some, refl}
 use Rattle.std.proofs.Common.{sym, subst}
 use Rattle.cc_entry.specs.declared.call.Call.TheVariants as call

@@ -1,3 +1,4 @@
+-- By the first look: the read ended, its dirty page is written first, or a place is reserved and the disk is read.
 use Rattle.std.specs.Prelude.{ℕ, false, List}
 use Rattle.std.proofs.Common.{sym, ◌∙◌, subst}
 use Rattle.cc_entry.specs.declared.entry.Entry.{Entry}

@@ -1,3 +1,4 @@
+-- By the look at a page that was written for the read: the read ended, or a place is reserved and the disk is read.
 use Rattle.std.specs.Prelude.{ℕ}
 use Rattle.std.proofs.Common.{sym, ◌∙◌, subst}
 use Rattle.cc_writes.specs.Writes.{HasBoth}

@@ -1,3 +1,5 @@
+-- The entry of the page that was not read halts the read with `ReadFault`, which it may tell; what it tells is no
+-- refusal of a place or a length.
 use Rattle.std.specs.Prelude.{ℕ, List, Err, refl}
 use Rattle.std.proofs.Common.{sym, subst}
 use Rattle.cc_entry.specs.declared.call.Call.TheVariants as call

@@ -1,3 +1,5 @@
+-- The page is dirty, of the read's range, and the read is admitted, so it may be written for it; a page written well is
+-- read, and a write that failed ends the read.
 use Rattle.std.specs.Prelude.{◌≡◌, ℕ, true, false, Result, Err, IfErr, IfOk, List}
 use Rattle.std.proofs.Common.{sym, subst}
 use Rattle.cc_entry.specs.declared.call.Call.{Call}

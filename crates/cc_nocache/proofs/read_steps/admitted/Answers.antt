@@ -1,3 +1,5 @@
+-- By the page: dirty, and not written for the read yet, it is to be written; starting below the size it is to be read;
+-- else the read is done without bytes, on its reserved place.
 use Rattle.std.specs.Prelude.{◌≡◌, ◌<◌, ◌≤◌, ◌*◌, ◌-◌, ℕ, List, []}
 use Rattle.std.proofs.Common.{ap, sym, ◌∙◌, subst}
 use Rattle.cc_entry.specs.declared.call.Call.TheVariants as call
@@ -11,7 +13,8 @@ use Rattle.cc_model.specs.Touches.{size_of}
 use Rattle.cc_step.specs.Step.{AttemptDone}
 use Rattle.cc_step.proofs.Attempts.{forgoing}
 use Rattle.cc_nocache.specs.ReadSteps.{without_one}
-use Rattle.cc_nocache.proofs.ReadBytes.{reads-none, never, always}
+use Rattle.cc_book.proofs.NoncachedReads.{reads-none}
+use Rattle.cc_nocache.proofs.DirtyNext.{never, always}
 use Rattle.cc_nocache.proofs.ReadStepping.{forgone-left, may-do, done-here, to-write, to-read}
 use Rattle.cc_nocache.proofs.read_steps.admitted.Goals.{else-not-written-via-then-not-written+else-is_to_write, else-not-written-via-else-not-written}
 use Rattle.cc_nocache.proofs.read_steps.admitted.Goals as goal

@@ -1,3 +1,5 @@
+-- By the refusal: the entry of the failed read, or of the read with its reply, may stand on the reserved place, and the
+-- place of the end that the pass owed is released.
 use Rattle.std.specs.Prelude.{◌≡◌, ℕ, ◌-◌, ◌≤◌}
 use Rattle.std.proofs.Common.{ap, sym, ◌∙◌, subst}
 use Rattle.cc_entry.specs.declared.call.Call.TheVariants as call
@@ -33,8 +35,8 @@ returns-in-Ok-Some g c u may =
     (sym (c.in-Ok-Some.ensures u (u.opening c.args.book.now.stream) fill.may.stand.logs_are fill.may.stand.stands) ∙ c.in-Ok-Some.field-0-is)
     c.fail.ensures.placed c.fail.ensures.stands c.fail.ensures.same)
 
-pub answer-requires : goal.answer-requires
-answer-requires g c =
+pub read_noncached-requires : goal.read_noncached-requires
+read_noncached-requires g c =
     let u = c.requires.may.0 in
     let fill = c.requires.may.1.may in
     record { stands = (u.opening c.args.book.now.stream, c.args.journal.now.entries, fill.may.stand.stands) }

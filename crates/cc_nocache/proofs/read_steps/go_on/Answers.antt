@@ -1,3 +1,4 @@
+-- By the refusal: the failed read's entry may stand on the reserved place; a read that nothing refuses is admitted.
 use Rattle.std.specs.Prelude.{◌≡◌, ℕ, ◌-◌, ◌≤◌}
 use Rattle.std.proofs.Common.{ap, sym, ◌∙◌, subst}
 use Rattle.cc_entry.specs.declared.call.Call.TheVariants as call

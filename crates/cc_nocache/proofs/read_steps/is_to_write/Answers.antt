@@ -2,7 +2,7 @@ use Rattle.std.proofs.Common.{sym, ◌∙◌}
 use Rattle.cc_model.specs.History.{history}
 use Rattle.cc_model.specs.Stamps.{is_unstamped}
 use Rattle.cc_model.specs.Touches.{is_dirty}
-use Rattle.cc_nocache.proofs.ReadBytes.{stamped-is}
+use Rattle.cc_nocache.proofs.DirtyNext.{stamped-is}
 use Rattle.cc_nocache.proofs.read_steps.is_to_write.Goals as goal
 
 pub returns-then-is_dirty : goal.returns-then-is_dirty

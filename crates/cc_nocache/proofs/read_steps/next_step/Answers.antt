@@ -1,3 +1,4 @@
+-- With a place reserved the read may step as before; what going on leaves is what the next step leaves.
 use Rattle.std.proofs.Common.{sym, subst}
 use Rattle.cc_entry.specs.declared.call.Call.TheVariants as call
 use Rattle.cc_fill.specs.Fill.{MayFill}

@@ -1,3 +1,5 @@
+-- One visit: the read may end on the journal that was taken, with what the disk gave, and its bytes fit what was handed
+-- in; what it placed is good and is given with the journal.
 use Rattle.std.specs.Prelude.{ℕ}
 use Rattle.std.proofs.Common.{sym, subst, arith}
 use Rattle.cc_turns.specs.Standing.{Standing}

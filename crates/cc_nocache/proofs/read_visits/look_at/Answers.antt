@@ -1,3 +1,5 @@
+-- One visit: the read may step on the journal that was taken, and what it placed is good and is given with it; a place
+-- for the reading of the disk stays reserved.
 use Rattle.std.specs.Prelude.{ℕ}
 use Rattle.std.proofs.Common.{sym, subst}
 use Rattle.cc_turns.specs.Standing.{Standing}

@@ -1,3 +1,5 @@
+-- One visit: the entry of a page that the disk failed to read uses the reserved place, keeps the journal good, which is
+-- given with it, and halts the read.
 use Rattle.std.specs.Prelude.{ℕ}
 use Rattle.std.proofs.Common.{sym, subst, arith, ◌∙◌}
 use Rattle.cc_book.specs.Book.{Gains}

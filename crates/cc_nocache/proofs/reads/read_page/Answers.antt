@@ -1,3 +1,5 @@
+-- The turns that are taken put the disk and the book in hand; what the read of the page left since, it left since
+-- before they were taken.
 use Rattle.std.specs.Prelude.{ℕ, List}
 use Rattle.std.proofs.Common.{ap, sym, ◌∙◌, subst}
 use Rattle.cc_entry.specs.declared.call.Call.TheVariants as call

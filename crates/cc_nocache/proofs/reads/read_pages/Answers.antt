@@ -1,3 +1,5 @@
+-- Each page goes on behind the pages before, with its bytes behind theirs; a page without bytes, one that failed, or
+-- the last ends the read.
 use Rattle.std.specs.Prelude.{◌≡◌, ℕ, suc, ◌+◌, ◌-◌, ◌/◌, ◌≤◌, Ok, Err, List, length, refl}
 use Rattle.std.proofs.Common.{sym, subst, arith}
 use Rattle.std.proofs.lemmas.List.{length-take-le}

@@ -1,3 +1,5 @@
+-- The turn that is taken puts the book in hand for a visit; what the refusal left since, it left since before it was
+-- taken.
 use Rattle.std.specs.Prelude.{ℕ}
 use Rattle.std.proofs.Common.{ap, sym, ◌∙◌, subst}
 use Rattle.cc_book.specs.Book.{BookStands}

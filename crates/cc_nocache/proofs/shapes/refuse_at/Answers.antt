@@ -1,3 +1,5 @@
+-- One visit: a call whose place or length is out of order may be refused on the journal that was taken, and its entry
+-- is given with it.
 use Rattle.std.specs.Prelude.{ℕ}
 use Rattle.std.proofs.Common.{sym, subst, arith}
 use Rattle.cc_effects.specs.Noncached.{MisshapenLeft}

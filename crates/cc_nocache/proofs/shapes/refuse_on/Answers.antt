@@ -1,3 +1,4 @@
+-- With a place reserved the refusal's entry is good; what is released is the place of the end that the pass owed.
 use Rattle.std.specs.Prelude.{◌≡◌, ℕ, ◌-◌, ◌≤◌, List}
 use Rattle.std.proofs.Common.{ap, sym, ◌∙◌, subst}
 use Rattle.cc_book.specs.Book.{Gains, GoesOn, MayPlace, failed}

@@ -1,3 +1,5 @@
+-- One visit: the page may be stored on the journal that was taken, and the store is given with it, and the begin of its
+-- transfer.
 use Rattle.std.proofs.Common.{◌≡◌, ◌<◌, ℕ, ap, sym, ◌∙◌, subst, arith}
 use Rattle.cc_turns.specs.Standing.{Standing}
 use Rattle.cc_visits.specs.Hands.{HasBook, WentWith}

@@ -1,3 +1,5 @@
+-- By the step: a page in the way is dirty, and the write admitted, so it may be written for it, and the round is what
+-- that left; any other step is the round.
 use Rattle.std.specs.Prelude.{◌≡◌, ℕ, true, None}
 use Rattle.std.proofs.Common.{ap, sym, ◌∙◌, subst}
 use Rattle.cc_entry.specs.declared.call.Call.TheVariants as call

@@ -1,3 +1,4 @@
+-- Each round leaves the write under way, its page ready, or its end; rounds that are used up find no memory.
 use Rattle.std.specs.Prelude.{List}
 use Rattle.std.proofs.Common.{subst}
 use Rattle.cc_entry.specs.declared.entry.Entry.{Entry}

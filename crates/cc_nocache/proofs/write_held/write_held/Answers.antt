@@ -1,3 +1,4 @@
+-- A page for which room was made is written as a page that is ready; a write that failed before is turned away.
 use Rattle.std.specs.Prelude.{◌≡◌, ℕ, Result, Ok, Err, List}
 use Rattle.std.proofs.Common.{ap, sym, ◌∙◌, subst}
 use Rattle.cc_entry.specs.declared.error.CcError.{CcError}

@@ -1,3 +1,5 @@
+-- A log that was flushed leaves the page ready and logged, so it may be put; a log that failed halts the write; want of
+-- room or memory turns it away.
 use Rattle.std.specs.Prelude.{◌≡◌, ℕ, ◌<◌, false, Result, Ok, Err, List}
 use Rattle.std.proofs.Common.{ap, sym, ◌∙◌, subst}
 use Rattle.cc_entry.specs.Place.{Page}

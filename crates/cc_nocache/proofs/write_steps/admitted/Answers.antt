@@ -1,3 +1,4 @@
+-- With room for its block the page is ready; without it, room may be made, and what that leaves is the next step.
 use Rattle.std.proofs.Common.{sym, ◌∙◌, subst}
 use Rattle.cc_entry.specs.declared.call.Call.TheVariants as call
 use Rattle.cc_nocache.specs.WriteSteps.{NextLeft}

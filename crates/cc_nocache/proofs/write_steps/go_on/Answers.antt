@@ -1,3 +1,5 @@
+-- By the refusal: the entry of the failed write may stand on the reserved place; a write that nothing refuses goes on,
+-- with the place given back.
 use Rattle.std.specs.Prelude.{◌≡◌, ℕ, ◌-◌, ◌≤◌, refl}
 use Rattle.std.proofs.Common.{ap, sym, ◌∙◌, subst}
 use Rattle.cc_entry.specs.declared.call.Call.TheVariants as call

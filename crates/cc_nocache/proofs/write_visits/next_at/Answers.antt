@@ -1,3 +1,4 @@
+-- One visit: the write may step on the journal that was taken, and what it placed is good and is given with it.
 use Rattle.std.specs.Prelude.{ℕ}
 use Rattle.std.proofs.Common.{sym, subst, arith}
 use Rattle.cc_turns.specs.Standing.{Standing}

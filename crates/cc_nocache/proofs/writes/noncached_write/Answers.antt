@@ -1,3 +1,5 @@
+-- By the place and the length: out of order, the entry of the first page refuses the write; in order, what its pages
+-- leave is what the write leaves.
 use Rattle.std.specs.Prelude.{length, refl}
 use Rattle.std.proofs.Common.{sym, ◌∙◌}
 use Rattle.cc_turns.specs.Standing.{Standing}

@@ -1,3 +1,5 @@
+-- Each page goes on behind the pages before, with its own 4096 bytes of the piece; one that failed, or the last, ends
+-- the write.
 use Rattle.std.specs.Prelude.{◌≡◌, ℕ, suc, ◌+◌, ◌-◌, ◌*◌, ◌/◌, Result, Ok, Err, List, length, take, drop, refl}
 use Rattle.std.proofs.Common.{ap, arith, subst, ◌∙◌}
 use Rattle.cc_entry.specs.declared.error.CcError.{CcError}

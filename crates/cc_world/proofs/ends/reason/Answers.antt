@@ -1,3 +1,4 @@
+-- Any call but the end of a noncached write is refused for what the book tells, which stands for the past.
 use Rattle.std.specs.Prelude.{◌≡◌, ℕ, List, Option}
 use Rattle.std.proofs.Common.{sym, ◌∙◌}
 use Rattle.std.proofs.lemmas.Result.{IfOk-weaker}

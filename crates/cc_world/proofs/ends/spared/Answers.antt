@@ -1,3 +1,4 @@
+-- Any call but the end of a noncached write gives back what its step spares and what its pass owed, which both are few.
 use Rattle.std.specs.Prelude.{ℕ, ◌+◌, ◌≡◌}
 use Rattle.std.proofs.Common.{ap, sym, ◌∙◌, arith}
 use Rattle.cc_journal.specs.Calls.{owed_end}

@@ -1,3 +1,5 @@
+-- With a place reserved the log and the journal stand, and what appending then leaves is what the event leaves; without
+-- one nothing changed.
 use Rattle.std.specs.Prelude.{refl}
 use Rattle.cc_journal.specs.Journal.{room_of}
 use Rattle.cc_world.specs.declared.events.Event.TheVariants as event

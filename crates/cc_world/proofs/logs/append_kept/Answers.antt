@@ -1,3 +1,5 @@
+-- By what the log answers: an entry with the next LSN, or that of its failure, may stand on the reserved place; a log
+-- that is full, or found no memory, leaves none.
 use Rattle.std.specs.Prelude.{◌≡◌, ℕ, suc, ◌+◌, ◌-◌, ◌^◌, ◌<◌, ◌≤◌, List, [], ◌∷◌, Some, None, Result, Ok, Err, IsErrOf, refl}
 use Rattle.std.proofs.Common.{ap, sym, ◌∙◌, subst, arith, ⊎_elim}
 use Rattle.cc_entry.specs.declared.entry.Entry.{Entry}

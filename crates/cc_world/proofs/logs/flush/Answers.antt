@@ -1,3 +1,5 @@
+-- A log that was flushed so far asks nothing; else, with a place reserved, what flushing then leaves is what the event
+-- leaves, and without one nothing changed.
 use Rattle.std.specs.Prelude.{ℕ, ◌<◌, ◌≤◌, refl}
 use Rattle.std.proofs.Common.{ap, arith, subst, sym}
 use Rattle.cc_journal.specs.Journal.{room_of}

@@ -1,3 +1,5 @@
+-- By what the log answers: the entry of its flush, or that of its failure, may stand on the reserved place; a log that
+-- found no memory leaves none.
 use Rattle.std.specs.Prelude.{◌≡◌, ℕ, ◌+◌, ◌-◌, ◌<◌, [], ◌∷◌, Some, None, Err, refl}
 use Rattle.std.proofs.Common.{ap, sym, ◌∙◌, subst, arith, ⊎_elim}
 use Rattle.cc_entry.specs.declared.entry.Entry.{Entry}

@@ -1,3 +1,4 @@
+-- What the book answers, with what was read, is the reply that the read may end with; the copy of it is the same.
 use Rattle.std.specs.Prelude.{◌≡◌, [], ◌∷◌}
 use Rattle.std.proofs.Common.{sym, subst}
 use Rattle.cc_entry.specs.declared.call.Call.TheVariants as call
@@ -15,7 +16,7 @@ returns-clause-done g c u may =
     (c.in_ok-done.ensures.placed u (record {
       unrefused = may.unrefused;
       may = record {
-        reply_is = c.in_ok-answer.ensures (u.opening c.args.book.now.stream) j.entries may.unrefused.made.stands.stand.stands may.read;
+        reply_is = c.in_ok-read_noncached.ensures (u.opening c.args.book.now.stream) j.entries may.unrefused.made.stands.stand.stands may.read;
         may_end = (tt, may.ready);
       };
     }))

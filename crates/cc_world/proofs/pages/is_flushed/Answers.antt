@@ -1,3 +1,5 @@
+-- Without a log nothing is to be flushed; the stream's log is among those that are given, and what it was flushed to is
+-- what the past says.
 use Rattle.std.specs.Prelude.{◌≡◌, ◌<◌, ℕ, Option, None, Some, length, slice_get, refl}
 use Rattle.std.proofs.Common.{sym, ◌∙◌, subst, arith}
 use Rattle.cc_model.specs.History.{history}

@@ -1,3 +1,4 @@
+-- A page that a pin owes a stamp may not begin; any other with a row in the table may where its log is flushed.
 use Rattle.std.specs.Prelude.{◌≡◌, ℕ, true, false, List, Option}
 use Rattle.std.proofs.Common.{ap, sym, ◌∙◌, subst}
 use Rattle.cc_dirty.specs.declared.row.Row.{Row}

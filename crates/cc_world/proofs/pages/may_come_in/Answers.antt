@@ -1,3 +1,5 @@
+-- Without a map, resident, or starting at the size or past it, a page may not come in; any other may where its view
+-- block has room.
 use Rattle.std.specs.Prelude.{◌≡◌, ℕ, ◌*◌, ◌<◌, true, false}
 use Rattle.std.proofs.Common.{ap, sym, ◌∙◌}
 use Rattle.cc_model.specs.History.{history}

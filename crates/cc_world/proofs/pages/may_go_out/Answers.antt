@@ -1,3 +1,4 @@
+-- A page that is not resident, or that a hold has, may not go out; any other may where it is clean.
 use Rattle.std.specs.Prelude.{◌≡◌, ℕ, true, false, not}
 use Rattle.std.proofs.Common.{ap, sym, ◌∙◌}
 use Rattle.cc_model.specs.History.{history}

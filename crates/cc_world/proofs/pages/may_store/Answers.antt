@@ -1,3 +1,5 @@
+-- Owed a stamp, or without room for its view block, a page may not be stored; any other, if whole, may where its log is
+-- flushed to its newest LSN, of which a page without a row in the table has none.
 use Rattle.std.specs.Prelude.{◌≡◌, ℕ, true, nat_le, List, None, Option}
 use Rattle.std.proofs.Common.{ap, sym, ◌∙◌, subst}
 use Rattle.std.proofs.lemmas.Bool.{le-leb}

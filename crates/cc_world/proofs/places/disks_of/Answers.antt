@@ -1,3 +1,4 @@
+-- As rows are taken from the last on, their disks stand in the opposite order; reversed, they are those of all rows.
 use Rattle.std.proofs.Common.{◌≡◌, length, ap, arith, rules}
 use Rattle.cc_turns.proofs.RowSteps.{longer, no_items}
 use Rattle.cc_world.specs.declared.rows.Row.{Row}

@@ -1,3 +1,4 @@
+-- As logs are taken from the last on, their files stand in the opposite order; reversed, they are those of all logs.
 use Rattle.std.proofs.Common.{◌≡◌, length, ap, arith, rules}
 use Rattle.cc_turns.proofs.RowSteps.{longer, no_items}
 use Rattle.cc_log.specs.Turn.{LogState}

@@ -1,3 +1,4 @@
+-- As the files are taken in their order, each log so far is at home at its handle, and nothing was done to it yet.
 use Rattle.std.proofs.Common.{◌≡◌, ◌+◌, ◌<◌, Some, [], length, reverse, drop, suc, refl, sym, subst, ap, ◌∙◌, arith, rules}
 use Rattle.std.specs.Prelude.{slice_get}
 use Rattle.std.proofs.lemmas.List.{length-reverse}

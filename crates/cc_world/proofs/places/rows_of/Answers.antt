@@ -1,3 +1,4 @@
+-- As the disks are taken in their order, each row so far has its own, and a book that stands for the empty past.
 use Rattle.std.proofs.Common.{◌≡◌, ◌+◌, Some, [], length, reverse, drop, suc, refl, sym, subst, ap, ◌∙◌, arith, rules}
 use Rattle.std.specs.Prelude.{slice_get, IfSome}
 use Rattle.std.proofs.lemmas.List.{length-reverse}

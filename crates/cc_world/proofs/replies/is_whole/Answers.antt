@@ -1,3 +1,5 @@
+-- The request of an object that is not open is not whole; any other is where its blocks and those of open holds are
+-- within the quota.
 use Rattle.std.proofs.Common.{ap, sym, ◌∙◌}
 use Rattle.std.specs.Prelude.{ℕ, ◌≡◌, ◌+◌, false, min, refl, List}
 use Rattle.cc_model.specs.History.{history}

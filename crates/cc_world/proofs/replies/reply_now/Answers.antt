@@ -1,3 +1,4 @@
+-- A purge may be done where no page of its span is resident; a call of none of the other kinds is stepped.
 use Rattle.std.proofs.Common.{sym, subst}
 use Rattle.std.specs.Prelude.{Option}
 use Rattle.cc_entry.specs.declared.call.Call.{Call}

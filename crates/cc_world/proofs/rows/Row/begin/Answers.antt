@@ -1,3 +1,5 @@
+-- By what is kept and the test: with a transfer open, or the test failed, the begin may not happen; else it may, and
+-- needs two places.
 use Rattle.std.specs.Prelude.{ℕ, List, refl}
 use Rattle.std.proofs.Common.{ap, sym, ◌∙◌, subst}
 use Rattle.cc_entry.specs.declared.entry.Entry.{Entry}

@@ -1,3 +1,5 @@
+-- A page with no byte below the valid data length lands without a read, any other with what was read; a disk that
+-- failed leaves the entry of that, and one that found no memory none.
 use Rattle.std.specs.Prelude.{◌≡◌, ℕ, ◌+◌, ◌-◌, ◌*◌, nat_lt, false, is_some, None, [], ◌∷◌, refl}
 use Rattle.std.proofs.Common.{ap, sym, ◌∙◌, subst, arith}
 use Rattle.cc_entry.specs.Place.{Page}

@@ -1,3 +1,4 @@
+-- The page whose bytes are kept is the one whose transfer is open, so it may end; for any other page none is open.
 use Rattle.std.specs.Prelude.{◌≡◌, Some, refl}
 use Rattle.std.proofs.Common.{ap, sym, ◌∙◌, subst}
 use Rattle.cc_entry.specs.declared.entry.Entry.TheVariants as entry

@@ -1,3 +1,4 @@
+-- A read that ends leaves its entry on the row as on the book; without memory its place is given back.
 use Rattle.std.specs.Prelude.{[], ◌∷◌, refl}
 use Rattle.cc_entry.specs.declared.call.Call.TheVariants as call
 use Rattle.cc_entry.specs.declared.reply.Outcome.TheVariants as outcome

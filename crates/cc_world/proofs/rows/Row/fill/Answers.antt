@@ -1,3 +1,5 @@
+-- By what is kept and the test: with a transfer open, or the test failed, the page may not come in; else it may, and
+-- needs one place.
 use Rattle.std.specs.Prelude.{ℕ, List, refl}
 use Rattle.std.proofs.Common.{ap, sym, ◌∙◌, subst}
 use Rattle.cc_entry.specs.declared.entry.Entry.{Entry}

@@ -1,3 +1,5 @@
+-- The begin has one reserved place, and the past then owes the other to the end; the bytes that are kept are under way.
+-- Without memory both places are released.
 use Rattle.std.specs.Prelude.{◌≡◌, ℕ, suc, ◌+◌, ◌-◌, ◌<◌, ◌≤◌, false, is_some, None, Some, List, [], ◌∷◌, refl}
 use Rattle.std.proofs.Common.{ap, sym, ◌∙◌, subst, arith}
 use Rattle.cc_entry.specs.declared.entry.Entry.{Entry}

@@ -1,3 +1,5 @@
+-- The entry of the page is that of the past, by its valid data length, and has the reserved place; without memory the
+-- place is released.
 use Rattle.std.specs.Prelude.{◌≡◌, ℕ, ◌+◌, ◌-◌, ◌<◌, ◌≤◌, false, is_some, None, List, [], ◌∷◌, refl}
 use Rattle.std.proofs.Common.{ap, sym, ◌∙◌, subst, arith}
 use Rattle.cc_entry.specs.declared.entry.Entry.{Entry}

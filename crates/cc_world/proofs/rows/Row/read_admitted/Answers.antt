@@ -1,3 +1,4 @@
+-- A page that may not be read now leaves all as it was; one that may is read with a place reserved, or finds none.
 use Rattle.std.specs.Prelude.{◌≡◌, ◌||◌, is_none, refl}
 use Rattle.std.proofs.Common.{sym, ◌∙◌}
 use Rattle.cc_entry.specs.declared.call.Call.TheVariants as call

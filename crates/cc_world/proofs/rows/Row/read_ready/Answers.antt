@@ -1,3 +1,5 @@
+-- A page that starts at the size or past it ends without a read, any other with what was read; a disk that failed
+-- leaves the entry of that, and one that found no memory none.
 use Rattle.std.specs.Prelude.{◌≡◌, ℕ, ◌+◌, ◌*◌, ◌<◌, ◌≤◌, [], ◌∷◌, refl}
 use Rattle.std.specs.Int.{div_ceil}
 use Rattle.std.proofs.Common.{ap, sym, ◌∙◌, subst, arith}

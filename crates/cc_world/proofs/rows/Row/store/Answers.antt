@@ -1,3 +1,4 @@
+-- The page starts below the size, and may be stored on the book; the bytes that are kept are those that go to the disk.
 use Rattle.std.specs.Prelude.{◌≡◌, None, refl}
 use Rattle.cc_entry.specs.declared.call.Call.TheVariants as call
 use Rattle.cc_model.specs.History.{history}

@@ -1,3 +1,4 @@
+-- A store that was done leaves its entry and that of its begin; without memory its four places are given back.
 use Rattle.std.specs.Prelude.{◌≡◌, [], refl}
 use Rattle.std.proofs.Common.{sym, subst}
 use Rattle.cc_entry.specs.declared.call.Call.TheVariants as call

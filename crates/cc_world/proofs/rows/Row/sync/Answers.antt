@@ -1,3 +1,4 @@
+-- With a transfer open the sync may not happen; else its entry has the reserved place, and says how the disk answered.
 use Rattle.std.specs.Prelude.{◌≡◌, ℕ, ◌+◌, ◌-◌, None, [], ◌∷◌, refl}
 use Rattle.std.proofs.Common.{ap, sym, ◌∙◌, subst, arith, inr}
 use Rattle.cc_entry.specs.declared.entry.Entry.{Entry}

@@ -1,3 +1,4 @@
+-- The row of the page's stream stands, so a transfer may end on it; with what that leaves of it the World stands.
 use Rattle.std.proofs.Common.{◌<◌, ℕ, ap, length, sym, ◌∙◌, subst, arith}
 use Rattle.cc_turns.specs.Desk.{tells_of}
 use Rattle.std.specs.Prelude.{slice_set}

@@ -1,3 +1,4 @@
+-- The log of the handle stands, so it may be flushed; with what that leaves of it the World stands.
 use Rattle.std.specs.Prelude.{slice_set}
 use Rattle.std.proofs.Common.{◌<◌, length, sym, ◌∙◌, subst, arith}
 use Rattle.cc_turns.specs.Desk.{tells_of}

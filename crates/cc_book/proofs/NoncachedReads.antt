@@ -1,24 +1,22 @@
--- The bytes that the read of a page answers: those of its frame, or those that the disk gave, as far as the size.
-use Rattle.std.specs.Prelude.{◌≡◌, ℕ, ◌+◌, ◌-◌, ◌*◌, ◌/◌, ◌<◌, ◌≤◌, Bool, true, false, not, ◌||◌, ◌==◌, min, List, [], ◌∷◌, length, take, slice_index, Option, None, Some, refl}
+-- The bytes that a noncached read of a page answers: those of its frame, or those that the disk gave, as far as the size.
+use Rattle.std.specs.Prelude.{◌≡◌, ℕ, ◌+◌, ◌-◌, ◌*◌, ◌/◌, ◌<◌, ◌≤◌, true, min, List, [], ◌∷◌, length, take, slice_index, Option, None, Some, refl}
 use Rattle.std.specs.List.{list_all, range_with_len}
 use Rattle.std.specs.Int.{div_ceil}
 use Rattle.std.proofs.Common.{ap, sym, ◌∙◌, subst, arith}
-use Rattle.std.proofs.lemmas.Bool.{eqb-true, lt-ltb}
-use Rattle.std.proofs.lemmas.Bool.Decides.{nat_tests}
+use Rattle.std.proofs.lemmas.Bool.{lt-ltb}
 use Rattle.std.proofs.lemmas.List.{get_or-take}
 use Rattle.cc_entry.specs.Pages.{pages_of}
 use Rattle.cc_entry.specs.declared.reply.Reply.TheVariants as reply
-use Rattle.cc_book.proofs.ReadSteps.{reads-part}
 use Rattle.cc_content.specs.Contents.{IsByteOf}
 use Rattle.cc_content.specs.Filling.{IsReadFrom, IsClearedFrom}
 use Rattle.cc_content.proofs.ContentSteps.{IsByteOf-filled}
-use Rattle.cc_flush.specs.Dirty.{IsNext, IsCleanFrom}
 use Rattle.cc_model.specs.History.{Effect}
 use Rattle.cc_model.specs.Ranges.{cut_range}
 use Rattle.cc_model.specs.Replies.{Reads}
 use Rattle.cc_model.specs.Residency.{all_resident, is_resident}
-use Rattle.cc_model.specs.Touches.{is_dirty, size_of, valid_of}
-use Rattle.cc_nocache.specs.ReadSteps.{IsStart}
+use Rattle.cc_model.specs.Touches.{size_of, valid_of}
+use Rattle.cc_book.specs.Noncached.{IsStart}
+use Rattle.cc_book.proofs.ReadSteps.{reads-part}
 
 -- where a page starts
 pub starts-some : (size page : ℕ) → page < div_ceil size 4096 → IsStart size page (Some (4096 * page))
@@ -61,31 +59,3 @@ reads-disk opening h page end raw bytes part below read cleared long ends same =
   where
     count : (size n : ℕ) → 4096 * page < size → n ≡ end → end ≡ min (size - 4096 * page) 4096 → n ≡ min (4096 * page + 4096) size - 4096 * page
     count size n b l e = omega (arith, b, l, e)
-
--- whether a page is dirty is whether it is the next dirty one from it on
-pub dirty-next : (h : List Effect) (page next : ℕ) → IsNext h None page next → (next == page) ≡ is_dirty h page
-dirty-next h page next is = go (next == page) refl
-  where
-    less : page ≤ next → (next == page) ≡ false → page < next
-    less most other = grind (arith, nat_tests)
-
-    go : (b : Bool) → (next == page) ≡ b → b ≡ is_dirty h page
-    go true same = sym (subst (λ (n : ℕ). is_dirty h n ≡ true) (eqb-true next page same) is.dirty)
-    go false other = sym (is.between page (omega arith) (less is.from_is other) refl)
-
-pub clean-next : (h : List Effect) (page : ℕ) → IsCleanFrom h None page → false ≡ is_dirty h page
-clean-next h page clean = sym (clean page (omega arith) refl)
-
--- a dirty page has bytes that can be written where it is not Unstamped
-pub stamped-is : (dirty unstamped is : Bool) → dirty ≡ true → is ≡ unstamped → not is ≡ not (not dirty || unstamped)
-stamped-is true unstamped is dirty same = ap not same
-stamped-is false unstamped is dirty same = absurd (cc)
-
--- what is said by its opposite
-pub never : (b : Bool) → not b ≡ true → b ≡ false
-never true is = absurd (cc)
-never false is = refl
-
-pub always : (b : Bool) → not b ≡ false → b ≡ true
-always true is = refl
-always false is = absurd (cc)

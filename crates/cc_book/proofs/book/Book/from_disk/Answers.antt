@@ -1,3 +1,4 @@
+-- What the disk gave, cleared from the valid data length on and cut at the size, is what a read of the page answers.
 use Rattle.std.specs.Prelude.{◌≡◌, ℕ, ◌-◌, ◌*◌, ◌<◌, ◌≤◌, min, List, length, take}
 use Rattle.std.proofs.Common.{ap, sym, ◌∙◌, subst, arith}
 use Rattle.std.proofs.lemmas.Result.{IfOk-weaker}
@@ -7,8 +8,8 @@ use Rattle.cc_entry.specs.declared.reply.Reply.TheVariants as reply
 use Rattle.cc_model.specs.History.{history}
 use Rattle.cc_model.specs.Replies.{Reads}
 use Rattle.cc_model.specs.Touches.{size_of, valid_of}
-use Rattle.cc_world.proofs.PageBytes.{front-byte, reads-disk}
-use Rattle.cc_world.proofs.page_bytes.from_disk.Goals as goal
+use Rattle.cc_book.proofs.NoncachedReads.{front-byte, reads-disk}
+use Rattle.cc_book.proofs.book.Book.from_disk.Goals as goal
 
 pub overflow_sub-size : goal.overflow_sub-size
 overflow_sub-size c = omega (arith, c.size.ensures c.requires.below.0 c.requires.below.1 c.requires.below.2, c.requires.below.3)
@@ -20,7 +21,7 @@ returns c =
     let whole : length cleared ≡ 4096 = search in
     IfOk-weaker c.of.result _ _
     (λ bytes same opening past page stands at_is below read.
-    let h = history past c.args.book.now.stream in
+    let h = history past c.args.self.now.stream in
     let ends : end ≡ min (size_of h - 4096 * page) 4096 =
     c.min-end.ensures ∙ ap (λ n. min n 4096) (ap (λ n. n - c.args.at) (c.size.ensures opening past stands) ∙ ap (λ n. size_of h - n) at_is) in
     let from : c.saturating_sub.result ≡ valid_of h - 4096 * page =
