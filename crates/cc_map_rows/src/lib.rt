@@ -1,7 +1,7 @@
-//! Scripts on cache maps, holds, purges and noncached pages, and scripts of steps, that run whole, through the top call, over devices in memory.
+//! Whole scripts on cache maps, holds, purges and noncached pages, and scripts of steps, over devices in memory.
 //!
-//! Each test runs a script by the words of the command line and compares the exit status and the text with what the
-//! script language and the format of the text say (docs/SCRIPTS.md). No expected text is taken from the program.
+//! Each test runs a script by the words of the command line and compares the exit status and the text, or parts of it, with
+//! what the script language and the format of the text say (docs/SCRIPTS.md). No expected text is taken from the program.
 //! Nothing stands on this crate.
 #![tactic(auto)]
 
@@ -13,6 +13,8 @@ mod faults;
 mod hold_threads;
 #[cfg(test)]
 mod holds;
+#[cfg(test)]
+mod long_steps;
 #[cfg(test)]
 mod maps;
 #[cfg(test)]

@@ -1,9 +1,10 @@
 -- Whether a flush may be done, after one entry more.
-use Rattle.std.specs.Prelude.{◌≡◌, ℕ, suc, ◌+◌, ◌<◌, ◌≤◌, Bool, true, false, is_some, ◌&&◌, ◌||◌, List, [], ◌∷◌, ◌++◌, length, reverse, take, refl}
+use Rattle.std.specs.Prelude.{◌≡◌, ℕ, suc, ◌+◌, ◌-◌, ◌<◌, ◌≤◌, Bool, true, false, is_some, ◌&&◌, ◌||◌, List, [], ◌∷◌, ◌++◌, length, reverse, take, refl}
 use Rattle.std.specs.declared.option.Option.{Option}
 use Rattle.std.specs.declared.option.Option.TheVariants.{Some, None}
+use Rattle.std.specs.Int.{from_bool}
 use Rattle.std.specs.List.{cons_option}
-use Rattle.std.proofs.Common.{ap, ◌∙◌, arith, get_or}
+use Rattle.std.proofs.Common.{ap, sym, ◌∙◌, arith, get_or}
 use Rattle.std.proofs.lemmas.Bool.{lt-ltb, le-ltb}
 use Rattle.cc_entry.specs.Place.{Range}
 use Rattle.cc_entry.specs.declared.entry.Entry.{Entry}
@@ -17,7 +18,7 @@ use Rattle.cc_events.specs.declared.touching.Touching.TheVariants as touching
 use Rattle.cc_events.specs.Events.{event_in}
 use Rattle.cc_events.specs.Touchings.{touching_of, touches_after}
 use Rattle.cc_readers.specs.FlushReads.{came_after}
-use Rattle.cc_readers.proofs.ReaderSteps.{effects_more}
+use Rattle.cc_readers.proofs.ReaderSteps.{effects_back, effects_more}
 use Rattle.cc_readers.proofs.PassReads.{newest}
 use Rattle.cc_readers.proofs.TouchReads.{touches_back, touches_none}
 
@@ -40,6 +41,22 @@ pub none_more : (journal : List Entry) (i : ℕ) (e : Entry) (s : ℕ) (b : Bool
 none_more journal i e s b is in_range tells b_is =
     ap length (effects_more journal i e s in_range)
     ∙ count-same (effect_of (get_or journal i e) s) (effects (take i journal) s) b (tells ∙ ap (λ x. is_some (effect_of x s)) is) b_is
+
+count-by : {X : Type 0} (o : Option X) (xs : List X) (b : Bool) → b ≡ is_some o → length (cons_option o xs) ≡ length xs + from_bool b
+count-by None xs b is = rw is (omega arith)
+count-by (Some x) xs b is = rw is (omega arith)
+
+-- n is 1 where the last entry is an effect, else 0
+count-back : (journal rest : List Entry) (last : Entry) (s : ℕ) (b : Bool) (n : ℕ) → journal ≡ rest ++ last ∷ [] → b ≡ is_some (effect_of last s) → n ≡ from_bool b → length (effects journal s) ≡ length (effects rest s) + n
+count-back journal rest last s b n is tells is_n =
+    ap length (effects_back journal rest last s is)
+    ∙ (count-by (effect_of last s) (effects rest s) b tells ∙ ap (λ k. length (effects rest s) + k) (sym is_n))
+
+pub last_counted : (journal rest : List Entry) (last : Entry) (s : ℕ) (b : Bool) (n count : ℕ) → journal ≡ rest ++ last ∷ [] → b ≡ is_some (effect_of last s) → n ≡ from_bool b → count ≡ length (effects journal s) → n ≤ count
+last_counted journal rest last s b n count is tells is_n counted = omega (arith, count-back journal rest last s b n is tells is_n)
+
+pub rest_counted : (journal rest : List Entry) (last : Entry) (s : ℕ) (b : Bool) (n count : ℕ) → journal ≡ rest ++ last ∷ [] → b ≡ is_some (effect_of last s) → n ≡ from_bool b → count ≡ length (effects journal s) → count - n ≡ length (effects rest s)
+rest_counted journal rest last s b n count is tells is_n counted = omega (arith, count-back journal rest last s b n is tells is_n)
 
 pub effects_none : (s : ℕ) → length (effects [] s) ≡ 0
 unfolding history

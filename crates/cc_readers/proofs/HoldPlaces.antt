@@ -11,7 +11,7 @@ use Rattle.cc_model.specs.Holds.{Hold, holds_of}
 use Rattle.cc_readers.specs.Effects.{effects}
 use Rattle.cc_events.specs.Holdings.{holding_of, place_in, place_after}
 use Rattle.cc_readers.proofs.ReaderSteps.{effects_back}
-use Rattle.cc_events.proofs.HoldEvents.{place_in-holding}
+use Rattle.cc_events.proofs.HoldEvents.{place_in-holding, choose_other}
 
 pub place_in_back : (journal rest : List Entry) (last : Entry) (s : ℕ) (what : Holding) (id : ℕ) → journal ≡ rest ++ last ∷ [] → what ≡ holding_of (effect_of last s) → place_in (holds_of (effects journal s)) id ≡ place_after what (holds_of (effects rest s)) id
 place_in_back journal rest last s what id is happens =
@@ -30,3 +30,10 @@ place_after-repins made named id holds place is =
 pub place_after-repins_none : (made named id : ℕ) (holds : List Hold) → None ≡ place_in holds named → place_after (holding.Repins made named) holds id ≡ place_in holds id
 place_after-repins_none made named id holds is =
     ap (λ (o : Option (ℕ × ℕ)). elim o [ None ↦ place_in holds id | Some p ↦ if made == id then Some p else place_in holds id ]) (sym is)
+
+pub place_after-repins_other : (made named id : ℕ) (holds : List Hold) → (made ≡ id → ⊥) → place_after (holding.Repins made named) holds id ≡ place_in holds id
+place_after-repins_other made named id holds other = go (place_in holds named)
+  where
+    go : (o : Option (ℕ × ℕ)) → elim o [ None ↦ place_in holds id | Some p ↦ if made == id then Some p else place_in holds id ] ≡ place_in holds id
+    go None = refl
+    go (Some p) = choose_other made id (Some p) (place_in holds id) other

@@ -1,14 +1,15 @@
 -- The sizes of a stream after an entry.
-use Rattle.std.specs.Prelude.{◌≡◌, ℕ, ◌+◌, ◌≤◌, Bool, true, false, nat_le, List, [], ◌∷◌, ◌++◌, length, take, slice_index, refl}
-use Rattle.std.proofs.Common.{ap, sym, ◌∙◌, arith}
+use Rattle.std.specs.Prelude.{◌≡◌, ℕ, ◌+◌, ◌<◌, ◌≤◌, Bool, true, false, nat_le, List, [], ◌∷◌, ◌++◌, length, take, slice_index, refl}
+use Rattle.std.proofs.Common.{ap, sym, ◌∙◌, arith, get_or, subst}
 use Rattle.std.proofs.lemmas.Bool.{leb-true, leb-false}
-use Rattle.std.proofs.lemmas.List.{take-append-le, length-append, take_all, get_or_append_left, get_or_push}
+use Rattle.std.proofs.lemmas.List.{take-append-le, take-take, length-append, length-take, take_all, get_or_append_left, get_or_push}
 use Rattle.cc_entry.specs.declared.entry.Entry.{Entry}
 use Rattle.cc_model.specs.History.{effect_of, history}
 use Rattle.cc_model.specs.Touches.{sizes, size_of, valid_of}
 use Rattle.cc_readers.specs.Effects.{effects, AreSizes}
 use Rattle.cc_events.specs.Events.{event_of, size_after, valid_after}
 use Rattle.cc_readers.proofs.ReaderSteps.{effects_back}
+use Rattle.cc_readers.proofs.TouchReads.{entries_next}
 use Rattle.cc_events.proofs.SizeEvents.{size-event, valid-event}
 
 pub size_back : (journal rest : List Entry) (last : Entry) (s : ℕ) → journal ≡ rest ++ last ∷ [] → size_of (effects journal s) ≡ size_after (event_of (effect_of last s)) (effects rest s)
@@ -47,3 +48,21 @@ sizes_none found journal s is one = record {
   where
     go : (i : ℕ) → i ≤ 0 → slice_index (0 ∷ []) i ≡ size_of (effects (take i []) s)
     go i within = let zero : i ≡ 0 = omega arith in rw zero refl
+
+pub sizes_next : (found now : List ℕ) (journal : List Entry) (i : ℕ) (entry : Entry) (s size : ℕ) → entry ≡ get_or journal i entry → i < length journal → AreSizes found (take i journal) s → length found ≡ i + 1 → size ≡ size_after (event_of (effect_of entry s)) (effects (take i journal) s) → now ≡ found ++ size ∷ [] → AreSizes now (take (i + 1) journal) s
+sizes_next found now journal i entry s size is in_range are count after pushed =
+    subst (λ (xs : List ℕ). AreSizes xs (take (i + 1) journal) s) (sym pushed)
+    (sizes_more found (take (i + 1) journal) (take i journal) entry s size (entries_next journal i entry is in_range) are (omega (arith, length-take i journal)) after)
+
+-- the sizes of a journal are those of its entries up to a place
+pub sizes_up_to : (sizes : List ℕ) (journal : List Entry) (i s : ℕ) → AreSizes sizes journal s → i ≤ length journal → AreSizes sizes (take i journal) s
+sizes_up_to sizes journal i s are within = record {
+  long = omega (arith, are.long, length-take i journal);
+  each = λ k early.
+      are.each k (omega (arith, length-take i journal))
+      ∙ ap (λ (es : List Entry). size_of (effects es s)) (sym (take-take k i journal (omega (arith, length-take i journal))));
+}
+
+pub valid_next : (journal : List Entry) (i : ℕ) (entry : Entry) (s now : ℕ) → entry ≡ get_or journal i entry → i < length journal → now ≡ valid_after (event_of (effect_of entry s)) (effects (take i journal) s) → now ≡ valid_of (effects (take (i + 1) journal) s)
+valid_next journal i entry s now is in_range after =
+    after ∙ sym (valid_back (take (i + 1) journal) (take i journal) entry s (entries_next journal i entry is in_range))

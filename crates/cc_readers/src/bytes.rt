@@ -35,7 +35,7 @@ pub enum Found {
     Before(Origin),
 }
 
-/// The byte at a place, over a disk that opened with `fill` everywhere.
+/// The byte at a place, over a disk that opened with `fill` everywhere. Answers `NoMemory` where memory is wanting.
 pub fn byte(
     alloc: Global,
     journal: &[Entry],
@@ -50,7 +50,8 @@ pub fn byte(
     byte_at(alloc, journal, &found, valid, stream, fill, at)
 }
 
-/// What a read of `len` bytes from `at` on answers, over a disk that opened with `fill` everywhere.
+/// What a read of `len` bytes from `at` on answers, over a disk that opened with `fill` everywhere. Answers `NoMemory`
+/// where memory is wanting.
 pub fn answer(
     alloc: Global,
     journal: &[Entry],

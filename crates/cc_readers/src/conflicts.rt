@@ -178,7 +178,8 @@ fn by_last(
     Ok(held_at(least_in_the_way(holds, Bar::Any)))
 }
 
-/// The refusal of a call that open holds bar: a set of sizes, the last uninitialise, a purge, a discard.
+/// The refusal of a call that open holds bar: a set of sizes, the last uninitialise, a purge, a discard. Answers
+/// `NoMemory` where memory is wanting.
 pub fn by_holds(
     alloc: Global,
     journal: &[Entry],

@@ -15,37 +15,34 @@ use cc_events::{Event, Touching, event_on};
 use std::alloc::Global;
 
 /// Whether a page has a touch that is neither written nor cut, where `ended` says whether its transfer
-/// ended ok after the journal's last entry.
+/// ended ok after the journal's last entry. Answers `NoMemory` where memory is wanting.
 pub fn is_unwritten(
     alloc: Global,
     journal: &[Entry],
     sizes: &[u64],
     stream: StreamId,
     page: u128,
-    ended: bool,
+    mut ended: bool,
 ) -> Result<bool, NoMemory>
     requires { AreSizes sizes.now journal.now stream }
     ensures { IfOk result (λ dirty. dirty ≡ not (is_empty (touches ended (effects journal.now stream) page))) }
 {
-    let Some((last, rest)) = journal.split_last() else {
-        return Ok(false);
-    };
-    match touching_by(alloc, last, rest, sizes[rest.len()], stream, page)? {
-        Touching::Rests => is_unwritten(alloc, rest, sizes, stream, page, ended),
-        Touching::Touches(_) => Ok(true),
-        Touching::Cuts => Ok(false),
-        Touching::Begins => {
-            if ended {
-                Ok(false)
-            } else {
-                is_unwritten(alloc, rest, sizes, stream, page, ended)
-            }
+    let mut left = journal;
+    while let Some((last, rest)) = left.split_last() {
+        match touching_by(alloc, last, rest, sizes[rest.len()], stream, page)? {
+            Touching::Rests => {}
+            Touching::Touches(_) => return Ok(true),
+            Touching::Cuts => return Ok(false),
+            Touching::Begins if ended => return Ok(false),
+            Touching::Begins => {}
+            Touching::Ends => ended = true,
         }
-        Touching::Ends => is_unwritten(alloc, rest, sizes, stream, page, true),
+        left = rest;
     }
+    Ok(false)
 }
 
-/// The dirty pages of a stream, ascending.
+/// The dirty pages of a stream, ascending. Answers `NoMemory` where memory is wanting.
 pub fn dirty_pages(
     alloc: Global,
     journal: &[Entry],
@@ -60,7 +57,7 @@ pub fn dirty_pages(
     dirty_among(alloc, journal, sizes, stream, &each)
 }
 
-/// Whether the stream has a shared cache map.
+/// Whether the stream has a shared cache map. Answers `NoMemory` where memory is wanting.
 pub fn has_map(
     alloc: Global,
     journal: &[Entry],
@@ -82,11 +79,11 @@ pub fn has_map(
 fn touched(alloc: Global, journal: &[Entry], stream: StreamId) -> Result<Vec<u64>, NoMemory>
     ensures { IfOk result (λ pages. pages.items ≡ touched (effects journal.now stream)) }
 {
-    let Some((last, rest)) = journal.split_last() else {
-        return Ok(Vec::new(alloc));
-    };
-    let before = touched(alloc, rest, stream)?;
-    touched_then(alloc, last, rest, stream, before)
+    let mut pages = Vec::new(alloc);
+    for (i, entry) in journal.iter().enumerate() {
+        pages = touched_then(alloc, entry, &journal[..i], stream, pages)?;
+    }
+    Ok(pages)
 }
 
 // The pages that an entry touched, given the entries before it, before others.
@@ -136,13 +133,12 @@ fn is_any_dirty(
     requires { AreSizes sizes.now journal.now stream }
     ensures { IfOk result (λ any. any ≡ list_any (is_dirty (effects journal.now stream)) pages.now) }
 {
-    let Some((first, rest)) = pages.split_first() else {
-        return Ok(false);
-    };
-    if is_unwritten(alloc, journal, sizes, stream, u128::from(*first), false)? {
-        return Ok(true);
+    for page in pages {
+        if is_unwritten(alloc, journal, sizes, stream, u128::from(*page), false)? {
+            return Ok(true);
+        }
     }
-    is_any_dirty(alloc, journal, sizes, stream, rest)
+    Ok(false)
 }
 
 // Those of the pages that are dirty.
@@ -156,12 +152,11 @@ fn dirty_among(
     requires { AreSizes sizes.now journal.now stream }
     ensures { IfOk result (λ dirty. dirty.items ≡ filter (is_dirty (effects journal.now stream)) pages.now) }
 {
-    let Some((first, rest)) = pages.split_first() else {
-        return Ok(Vec::new(alloc));
-    };
-    let mut dirty = dirty_among(alloc, journal, sizes, stream, rest)?;
-    if is_unwritten(alloc, journal, sizes, stream, u128::from(*first), false)? {
-        dirty.insert(0, *first)?;
+    let mut dirty = Vec::new(alloc);
+    for page in pages {
+        if is_unwritten(alloc, journal, sizes, stream, u128::from(*page), false)? {
+            dirty.push(*page)?;
+        }
     }
     Ok(dirty)
 }

@@ -18,7 +18,8 @@ use cc_entry::{Call, CcError, Entry, NoMemory, StreamId};
 use cc_events::event_on;
 use std::alloc::Global;
 
-/// The refusal of a discard by the least dirty page of its span whose image is not known.
+/// The refusal of a discard by the least dirty page of its span whose image is not known. Answers `NoMemory` where
+/// memory is wanting.
 pub fn by_images(
     alloc: Global,
     journal: &[Entry],
@@ -36,7 +37,8 @@ pub fn by_images(
     Ok(unsettled_at(first_unsettled(journal, stream, &dirty, span)))
 }
 
-/// The refusal of a discard by the least dirty page of its span that has grown.
+/// The refusal of a discard by the least dirty page of its span that has grown. Answers `NoMemory` where memory is
+/// wanting.
 pub fn by_growth(
     alloc: Global,
     journal: &[Entry],

@@ -25,7 +25,8 @@ struct Flush {
 }
 
 /// Whether a flush by the pass may be done: after its last call there is a good sync of the stream at which each
-/// unwritten touch of a page of the span is later than that call. No span is the whole stream.
+/// unwritten touch of a page of the span is later than that call. No span is the whole stream. Answers `NoMemory` where
+/// memory is wanting.
 pub fn is_flushed(
     alloc: Global,
     journal: &[Entry],
@@ -171,11 +172,13 @@ fn is_page_settled(
         ≡ came_after flush.now.seen (unwritten (effects journal.now flush.now.stream) page)) }
 {
     let mut ended = false;
+    let mut before = effects_of(journal, flush.stream);
     let mut left = journal;
     while let Some((last, rest)) = left.split_last() {
+        before -= usize::from(is_effect(last, flush.stream));
         match touching_by(alloc, last, rest, sizes[rest.len()], flush.stream, page)? {
             Touching::Rests => {}
-            Touching::Touches(_) if effects_of(rest, flush.stream) < flush.seen => return Ok(false),
+            Touching::Touches(_) if before < flush.seen => return Ok(false),
             Touching::Cuts => return Ok(true),
             Touching::Begins if ended => return Ok(true),
             Touching::Ends => ended = true,

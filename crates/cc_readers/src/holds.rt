@@ -51,7 +51,7 @@ pub enum Change {
     Ends,
 }
 
-/// The open holds of a stream, the newest first.
+/// The open holds of a stream, the newest first. Answers `NoMemory` where memory is wanting.
 pub fn open_holds(
     alloc: Global,
     journal: &[Entry],
@@ -59,11 +59,11 @@ pub fn open_holds(
 ) -> Result<Vec<OpenHold>, NoMemory>
     ensures { IfOk result (λ found. holds_in found.items ≡ holds_of (effects journal.now stream)) }
 {
-    let Some((last, rest)) = journal.split_last() else {
-        return Ok(Vec::new(alloc));
-    };
-    let before = open_holds(alloc, rest, stream)?;
-    holds_then(alloc, before, last, stream)
+    let mut found = Vec::new(alloc);
+    for entry in journal {
+        found = holds_then(alloc, found, entry, stream)?;
+    }
+    Ok(found)
 }
 
 // The open holds after an entry.
@@ -259,30 +259,24 @@ fn repin(
 pub fn place_at(holds: &[OpenHold], id: u64) -> Option<(FileId, u64, u64)>
     ensures { result ≡ option_map spot_of (hold_at (holds_in holds.now) id) }
 {
-    let Some((first, rest)) = holds.split_first() else {
-        return None;
-    };
-    if first.id == id {
-        return Some((first.file, first.at, first.len));
-    }
-    place_at(rest, id)
+    let hold = holds.iter().find(|hold| hold.id == id)?;
+    Some((hold.file, hold.at, hold.len))
 }
 
 // The holds with those of this id changed.
 fn changed(
     alloc: Global,
-    mut holds: Vec<OpenHold>,
+    holds: Vec<OpenHold>,
     id: u64,
     change: Change,
 ) -> Result<Vec<OpenHold>, NoMemory>
     ensures { IfOk result (λ then. holds_in then.items ≡ changed_by change id (holds_in holds.items)) }
 {
-    let Some(last) = holds.pop() else {
-        return Ok(holds);
-    };
-    let mut then = changed(alloc, holds, id, change)?;
-    if let Some(kept) = one_changed(alloc, last, id, change)? {
-        then.push(kept)?;
+    let mut then = Vec::with_capacity(alloc, holds.len())?;
+    for hold in holds {
+        if let Some(kept) = one_changed(alloc, hold, id, change)? {
+            then.push(kept)?;
+        }
     }
     Ok(then)
 }

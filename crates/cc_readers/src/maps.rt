@@ -12,7 +12,7 @@ use cc_entry::{Entry, NoMemory, StreamId};
 use cc_events::{Event, Holding, event_on, holding_on};
 use std::alloc::Global;
 
-/// The file objects that have a private cache map, the newest first.
+/// The file objects that have a private cache map, the newest first. Answers `NoMemory` where memory is wanting.
 pub fn open_objects(alloc: Global, journal: &[Entry], stream: StreamId) -> Result<Vec<u8>, NoMemory>
     ensures { IfOk result (λ found. found.items ≡ objects (effects journal.now stream)) }
 {
@@ -47,7 +47,7 @@ fn objects_then(alloc: Global, before: Vec<u8>, event: Event) -> Result<Vec<u8>,
     }
 }
 
-/// The objects but for one.
+/// The objects but for one. Answers `NoMemory` where memory is wanting.
 pub fn others(alloc: Global, opened: &[u8], object: u8) -> Result<Vec<u8>, NoMemory>
     ensures { IfOk result (λ others. others.items ≡ without object opened.now) }
 {
@@ -63,34 +63,20 @@ pub fn others(alloc: Global, opened: &[u8], object: u8) -> Result<Vec<u8>, NoMem
 pub fn hold_place(journal: &[Entry], stream: StreamId, hold: u64) -> Option<(u64, u64)>
     ensures { result ≡ place_in (holds_of (effects journal.now stream)) hold }
 {
-    let Some((last, rest)) = journal.split_last() else {
-        return None;
-    };
-    match holding_on(last, stream) {
-        Holding::Makes { id, at, len } => {
-            if id == hold {
-                Some((at, len))
-            } else {
-                hold_place(rest, stream, hold)
-            }
-        }
-        Holding::Repins { id, of } => match hold_place(rest, stream, of) {
-            Some(place) => {
-                if id == hold {
-                    Some(place)
-                } else {
-                    hold_place(rest, stream, hold)
+    let mut left = journal;
+    while let Some((last, rest)) = left.split_last() {
+        match holding_on(last, stream) {
+            Holding::Rests => {}
+            Holding::Makes { id, at, len } if id == hold => return Some((at, len)),
+            Holding::Ends { id } if id == hold => return None,
+            Holding::Repins { id, of } if id == hold => {
+                if let Some(place) = hold_place(rest, stream, of) {
+                    return Some(place);
                 }
             }
-            None => hold_place(rest, stream, hold),
-        },
-        Holding::Ends { id } => {
-            if id == hold {
-                None
-            } else {
-                hold_place(rest, stream, hold)
-            }
+            Holding::Makes { .. } | Holding::Ends { .. } | Holding::Repins { .. } => {}
         }
-        Holding::Rests => hold_place(rest, stream, hold),
+        left = rest;
     }
+    None
 }

@@ -65,7 +65,8 @@ pub fn range_in(size: u64, call: &Call) -> Option<Reach>
 }
 
 /// The range whose blocks have to be mapped beside those of open holds, in a stream of this size. A
-/// read that may not wait has one only where a page of its range is not resident.
+/// read that may not wait has one only where a page of its range is not resident. Answers `NoMemory` where memory is
+/// wanting.
 pub fn range_viewed(
     alloc: Global,
     journal: &[Entry],

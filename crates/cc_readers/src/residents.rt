@@ -14,7 +14,7 @@ use cc_entry::{Entry, NoMemory, StreamId};
 use cc_events::{Event, event_on, span_has};
 use std::alloc::Global;
 
-/// Whether a page of a stream is resident.
+/// Whether a page of a stream is resident. Answers `NoMemory` where memory is wanting.
 pub fn is_page_resident(
     alloc: Global,
     journal: &[Entry],
@@ -27,7 +27,7 @@ pub fn is_page_resident(
     is_resident_with(alloc, journal, &found, stream, page)
 }
 
-/// The same, given the sizes.
+/// The same, given the sizes. Answers `NoMemory` where memory is wanting.
 pub fn is_resident_with(
     alloc: Global,
     journal: &[Entry],

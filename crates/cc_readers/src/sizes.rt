@@ -11,19 +11,17 @@ use cc_entry::{Entry, NoMemory, StreamId};
 use cc_events::{Event, event_on, stored_end};
 use std::alloc::Global;
 
-/// The size before each entry of a journal, and after the last one.
+/// The size before each entry of a journal, and after the last one. Answers `NoMemory` where memory is wanting.
 pub fn sizes(alloc: Global, journal: &[Entry], stream: StreamId) -> Result<Vec<u64>, NoMemory>
     ensures each { IfOk result (λ found. AreSizes found.items journal.now stream) }
     ensures count { IfOk result (λ found. length found.items ≡ length journal.now + 1) }
 {
-    let Some((last, rest)) = journal.split_last() else {
-        let mut none = Vec::new(alloc);
-        none.push(0)?;
-        return Ok(none);
-    };
-    let mut found = sizes(alloc, rest, stream)?;
-    let size = size_then(alloc, last, rest, &found, stream)?;
-    found.push(size)?;
+    let mut found = Vec::new(alloc);
+    found.push(0)?;
+    for (i, entry) in journal.iter().enumerate() {
+        let size = size_then(alloc, entry, &journal[..i], &found, stream)?;
+        found.push(size)?;
+    }
     Ok(found)
 }
 
@@ -66,7 +64,7 @@ fn size_then(
     }
 }
 
-/// The size of a stream.
+/// The size of a stream. Answers `NoMemory` where memory is wanting.
 pub fn size(alloc: Global, journal: &[Entry], stream: StreamId) -> Result<u64, NoMemory>
     ensures { IfOk result (λ size. size ≡ size_of (effects journal.now stream)) }
 {
@@ -74,7 +72,7 @@ pub fn size(alloc: Global, journal: &[Entry], stream: StreamId) -> Result<u64, N
     Ok(found[journal.len()])
 }
 
-/// Whether a page of a stream is dirty.
+/// Whether a page of a stream is dirty. Answers `NoMemory` where memory is wanting.
 pub fn is_page_dirty(
     alloc: Global,
     journal: &[Entry],
@@ -87,7 +85,8 @@ pub fn is_page_dirty(
     is_unwritten(alloc, journal, &found, stream, u128::from(page), false)
 }
 
-/// The valid data length of a stream. In a journal that is not good it may be past 2^64.
+/// The valid data length of a stream. In a journal that is not good it may be past 2^64. Answers `NoMemory` where
+/// memory is wanting.
 pub fn valid(alloc: Global, journal: &[Entry], stream: StreamId) -> Result<u128, NoMemory>
     ensures { IfOk result (λ valid. valid ≡ valid_of (effects journal.now stream)) }
 {
@@ -95,7 +94,7 @@ pub fn valid(alloc: Global, journal: &[Entry], stream: StreamId) -> Result<u128,
     valid_with(alloc, journal, &found, stream)
 }
 
-/// The same, given the sizes.
+/// The same, given the sizes. Answers `NoMemory` where memory is wanting.
 pub fn valid_with(
     alloc: Global,
     journal: &[Entry],
@@ -105,11 +104,11 @@ pub fn valid_with(
     requires { AreSizes sizes.now journal.now stream }
     ensures { IfOk result (λ valid. valid ≡ valid_of (effects journal.now stream)) }
 {
-    let Some((last, rest)) = journal.split_last() else {
-        return Ok(0);
-    };
-    let before = valid_with(alloc, rest, sizes, stream)?;
-    valid_then(alloc, last, rest, sizes, before, stream)
+    let mut valid = 0;
+    for (i, entry) in journal.iter().enumerate() {
+        valid = valid_then(alloc, entry, &journal[..i], sizes, valid, stream)?;
+    }
+    Ok(valid)
 }
 
 // The valid data length after an entry, given the entries before it.

@@ -12,7 +12,7 @@ use cc_entry::{Entry, Lsn, NoMemory, StreamId};
 use cc_events::Touching;
 use std::alloc::Global;
 
-/// The least and the greatest LSN of a page.
+/// The least and the greatest LSN of a page. Answers `NoMemory` where memory is wanting.
 pub fn lsns(
     alloc: Global,
     journal: &[Entry],

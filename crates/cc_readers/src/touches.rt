@@ -15,7 +15,8 @@ use cc_entry::{Entry, Lsn, NoMemory, StreamId};
 use cc_events::{Event, Touching, cut_at, event_on, range_has, span_has, stored_end, touch};
 use std::alloc::Global;
 
-/// What an entry does to the touches of a page, given the entries before it and the size before it.
+/// What an entry does to the touches of a page, given the entries before it and the size before it. Answers `NoMemory`
+/// where memory is wanting.
 pub fn touching_by(
     alloc: Global,
     last: &Entry,
@@ -79,7 +80,7 @@ fn stamp(rest: &[Entry], stream: StreamId, hold: u64, lsn: Option<Lsn>, page: u1
     }
 }
 
-/// The size that an uninitialise of the object sets, where it sets one.
+/// The size that an uninitialise of the object sets, where it sets one. Answers `NoMemory` where memory is wanting.
 pub fn truncation_at(
     alloc: Global,
     rest: &[Entry],

@@ -1,3 +1,5 @@
+-- From the newest entry back: each fault is older than those found before it, until a call of the pass that is no done
+-- noncached store, or the end.
 use Rattle.std.proofs.Common.{reverse, ap, sym, ◌∙◌}
 use Rattle.std.proofs.lemmas.List.{nil_from_length}
 use Rattle.std.specs.Option.{option_map, option_or}

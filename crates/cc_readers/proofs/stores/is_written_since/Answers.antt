@@ -1,3 +1,5 @@
+-- From the newest entry back: a call of the pass says no, a good end of its transfer of the page says yes, and where
+-- neither stands it was not written.
 use Rattle.std.proofs.Common.{reverse, ap, sym, ◌∙◌}
 use Rattle.std.proofs.lemmas.List.{nil_from_length}
 use Rattle.cc_entry.specs.Place.{Page}

@@ -1,5 +1,0 @@
-use Rattle.std.proofs.Common.{length}
-use Rattle.cc_readers.proofs.holds.+place_at.Given as goal
-
-abbrev pub decreases-place_at : goal.decreases-place_at
-decreases-place_at l = length l.holds.now
