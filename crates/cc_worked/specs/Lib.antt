@@ -1,3 +1,4 @@
+-- The worked journals that the contracts cite, by what they show; first what they share.
 pub mod Values
 pub mod Copies
 pub mod Pages

@@ -7,7 +7,7 @@ use Rattle.cc_entry.specs.declared.reply.Outcome.TheVariants as outcome
 use Rattle.cc_entry.specs.declared.error.CcError.TheVariants as error
 use Rattle.cc_entry.specs.declared.entry.Entry.{Entry}
 use Rattle.cc_entry.specs.declared.entry.Entry.TheVariants as entry
-use Rattle.cc_worked.specs.Values.{a, page, opened, done, answers, refused, read_in, begins, written, synced}
+use Rattle.cc_worked.specs.Values.{a, row, opened, done, answers, refused, read_in, begins, written, synced}
 
 -- stream 0 keeps log 0, an entry is appended, and a pin changes the page that it holds
 abbrev pub pinned_change : List Entry
@@ -20,10 +20,10 @@ pinned_change =
     ∷ done 1 2 (call.PinnedWrite 1 0 (171 ∷ []))
     ∷ []
 
--- the dirty page table with one row
+-- a caller asks for the dirty page table of log 0, and is told this one row
 abbrev pub table_of : ℕ → ℕ → ℕ → ℕ → Entry
 table_of pass nth oldest newest =
-    entry.Call pass nth None (call.DirtyPages 0) (outcome.Done (reply.Rows (record { page = page 0; oldest = oldest; newest = newest } ∷ [])))
+    entry.Call pass nth None (call.DirtyPages 0) (outcome.Done (reply.Rows (row oldest newest ∷ [])))
 
 -- a flush before the stamp is refused; then the pin is stamped and ended
 abbrev pub stamped : List Entry

@@ -1,4 +1,4 @@
--- Noncached reads and writes beside the cache.
+-- Noncached reads and writes.
 use Rattle.std.specs.Prelude.{List, [], ◌∷◌, ◌++◌, true, reverse, replicate}
 use Rattle.cc_entry.specs.declared.call.Call.TheVariants as call
 use Rattle.cc_entry.specs.declared.reply.Reply.TheVariants as reply

@@ -1,14 +1,59 @@
 -- What lines leave by their answers: lines of one call, and of the calls without an entry. Each stretch has its
 -- newest entry first, and stands on a past.
-use Rattle.std.specs.Prelude.{ℕ, true, List, [], ◌∷◌, replicate}
+use Rattle.std.specs.Prelude.{ℕ, suc, true, false, List, [], ◌∷◌, replicate}
+use Rattle.cc_entry.specs.declared.answer.Answer.{Answer}
 use Rattle.cc_entry.specs.declared.answer.Tick.{Tick}
 use Rattle.cc_entry.specs.declared.answer.AheadDone.{AheadDone}
+use Rattle.cc_entry.specs.declared.call.Call.{Call}
 use Rattle.cc_entry.specs.declared.call.Call.TheVariants as call
 use Rattle.cc_entry.specs.declared.error.CcError.TheVariants as error
 use Rattle.cc_entry.specs.declared.entry.Entry.{Entry}
 use Rattle.cc_entry.specs.declared.entry.Entry.TheVariants as entry
-use Rattle.cc_worked.specs.Values.{a, page, done, refused, goes_out, begins, ends}
+use Rattle.cc_model.specs.Setup.{Setup}
+use Rattle.cc_effects.specs.Moments.{Between}
+use Rattle.cc_pieces.specs.Answered.{CallAnswered, AppendAnswered, LogFlushAnswered, DeferAnswered, PostsAnswered}
+use Rattle.cc_pieces.specs.Answered.{TickAnswered, AheadAnswered, LevelsAnswered, NcReadAnswered, NcWriteAnswered}
+use Rattle.cc_worked.specs.Values.{setup, a, page, done, refused, goes_out, begins, ends}
 use Rattle.cc_worked.specs.PiecesWithoutEntry.{request}
+
+-- a line of one call
+abbrev pub CallLine : Call → Answer → Between
+CallLine it = CallAnswered setup 1 it
+
+-- the byte 01 is appended to log 0
+abbrev pub AppendLine : Answer → Between
+AppendLine = AppendAnswered setup 1 0 (1 ∷ [])
+
+-- a log is flushed to an LSN
+abbrev pub LogFlushLine : ℕ → ℕ → Answer → Between
+LogFlushLine handle lsn = LogFlushAnswered setup 1 handle lsn
+
+-- a write of 4097 bytes is deferred
+abbrev pub DeferLine : Answer → Between
+DeferLine = DeferAnswered 1 a 4097 false
+
+-- deferred writes are posted, in a run of such a setup
+abbrev pub PostsLine : Setup → Answer → Between
+PostsLine u = PostsAnswered u 1
+
+-- the lazy writer ticks, and the read-ahead worker takes a step
+abbrev pub TickLine : Answer → Between
+TickLine = TickAnswered 17
+
+abbrev pub AheadLine : Answer → Between
+AheadLine = AheadAnswered setup 18
+
+-- the levels are asked, where a size has one more of them than it has bytes
+abbrev pub LevelsLine : Answer → Between
+LevelsLine = LevelsAnswered suc 1 a
+
+-- a noncached read from a place on, of so many bytes
+abbrev pub NcReadLine : ℕ → ℕ → Answer → Between
+NcReadLine at len = NcReadAnswered setup 1 a at len
+
+-- a noncached write of bytes, from the first place on
+abbrev pub NcWriteLine : List ℕ → Answer → Between
+NcWriteLine bytes = NcWriteAnswered setup 1 a 0 bytes
 
 -- a log is flushed to LSN 4
 abbrev pub flushed_to_four : List Entry

@@ -46,6 +46,10 @@ no_waiting = call.CopyRead a 0 1 false
 abbrev pub comes_in_without_waiting : List Entry
 comes_in_without_waiting = answers 1 1 no_waiting a_byte ∷ read_in 1 0 ∷ []
 
+-- such a read of a resident page; wrong as a read of the shim, which waits
+abbrev pub read_without_waiting : List Entry
+read_without_waiting = answers 1 1 no_waiting a_byte ∷ []
+
 -- wrong: a read syncs the disk
 abbrev pub read_that_syncs : List Entry
 read_that_syncs = answers 1 1 first_byte a_byte ∷ synced 1 ∷ read_in 1 0 ∷ []

@@ -7,6 +7,7 @@ use Rattle.cc_entry.specs.Place.{Range}
 use Rattle.cc_entry.specs.declared.place.FileState.{FileState}
 use Rattle.cc_entry.specs.declared.call.Call.{Call}
 use Rattle.cc_entry.specs.declared.call.Call.TheVariants as call
+use Rattle.cc_entry.specs.declared.reply.Reply.{Reply}
 use Rattle.cc_entry.specs.declared.reply.Reply.TheVariants as reply
 use Rattle.cc_entry.specs.declared.reply.Outcome.TheVariants as outcome
 use Rattle.cc_entry.specs.declared.error.CcError.TheVariants as error
@@ -22,10 +23,13 @@ use Rattle.cc_script.specs.declared.script.ActionLine.{ActionLine}
 use Rattle.cc_script.specs.declared.script.StreamLine.{StreamLine}
 use Rattle.cc_print.specs.declared.table.TableRow.{TableRow}
 use Rattle.cc_model.specs.Setup.{Setup}
+use Rattle.cc_effects.specs.Moments.{Between}
+use Rattle.cc_pieces.specs.Openings.{Opens, Opened}
+use Rattle.cc_pieces.specs.Served.{Served}
 use Rattle.cc_pieces.specs.Phases.{Plan}
 use Rattle.cc_pieces.specs.Explained.{Given, Answered}
-use Rattle.cc_worked.specs.Values.{setup, a, b, page, sized, done, answers, refused, read_in, begins, ends, fails}
-use Rattle.cc_worked.specs.PiecesReads.{a_byte, page_comes_in}
+use Rattle.cc_worked.specs.Values.{setup, a, b, page, sized, done, answers, refused, read_in, begins, ends, fails, synced, unit, Leaves}
+use Rattle.cc_worked.specs.PiecesReads.{first_resident, a_byte, page_comes_in}
 use Rattle.cc_worked.specs.PiecesWithoutEntry.{request}
 
 -- a stream of two pages with such a log, or none
@@ -64,9 +68,17 @@ opens_both = entry.Call 0 2 (Some 1) (call.Initialise b (sized 8192 8192) 16 fal
 abbrev pub opens_first_twice : List Entry
 opens_first_twice = done 0 2 initialises ∷ opens
 
+-- the line of a stream with such a log, or none
+abbrev pub OneStream : Option ℕ → Answer → Between
+OneStream log = Opens setup 0 (stream_with log)
+
+-- the lines of two streams without a log
+abbrev pub TwoStreams : List LineReply → Between
+TwoStreams = Opened setup 0 (stream_with None ∷ stream_with None ∷ [])
+
 -- the reply of a line that had no more to say
 abbrev pub unit_at : ℕ → LineReply
-unit_at line = record { line = line; answer = answer.Given reply.Unit }
+unit_at line = record { line = line; answer = unit }
 
 -- a journal of so many entries at most
 abbrev pub of_capacity : ℕ → Setup
@@ -75,6 +87,18 @@ of_capacity n = record setup { capacity = n }
 -- the answer that the journal is full
 abbrev pub full_at : ℕ → Answer
 full_at entries = answer.Refused (error.JournalFull entries)
+
+-- a line of caller 1, which has no hold
+abbrev pub OneLine : Action → Answer → Between
+OneLine it = Served setup 1 [] it
+
+-- on a stream with a resident page, such a line makes this call alone, and answers what that replies
+abbrev pub MakesOneCall : Action → Call → Reply → Type 0
+MakesOneCall it made r = Leaves (OneLine it) (answer.Given r) first_resident (answers 1 1 made r ∷ [])
+
+-- that stream is flushed, of which no page is dirty
+abbrev pub flushes : Option Range → List Entry
+flushes span = done 1 1 (call.Flush a span) ∷ synced 1 ∷ []
 
 -- the first bytes of a stream
 abbrev pub first_bytes : Range

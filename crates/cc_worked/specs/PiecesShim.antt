@@ -6,10 +6,35 @@ use Rattle.cc_entry.specs.declared.place.FileState.{FileState}
 use Rattle.cc_entry.specs.declared.call.Call.{Call}
 use Rattle.cc_entry.specs.declared.call.Call.TheVariants as call
 use Rattle.cc_entry.specs.declared.reply.Reply.TheVariants as reply
+use Rattle.cc_entry.specs.declared.answer.Answer.{Answer}
 use Rattle.cc_entry.specs.declared.error.CcError.TheVariants as error
 use Rattle.cc_entry.specs.declared.entry.Entry.{Entry}
 use Rattle.cc_entry.specs.declared.entry.Entry.TheVariants as entry
-use Rattle.cc_worked.specs.Values.{a, page, sized, opened, done, answers, refused, read_in}
+use Rattle.cc_effects.specs.Moments.{Between}
+use Rattle.cc_pieces.specs.Shim.{ReadPath, ReadAnswered, WriteAnswered, UpdateAnswered, write_calls}
+use Rattle.cc_worked.specs.Values.{setup, a, page, sized, opened, done, answers, refused, read_in}
+
+-- a read by a path, from a place on, of so many bytes
+abbrev pub ReadBy : ReadPath → ℕ → ℕ → Answer → Between
+ReadBy path at len = ReadAnswered setup 1 a path at len
+
+-- a write of bytes at a place
+abbrev pub WriteOf : List ℕ → ℕ → Answer → Between
+WriteOf bytes at = WriteAnswered setup 1 a at bytes
+
+-- a write, and an update, of the byte AB at a place
+abbrev pub ByteWrite : ℕ → Answer → Between
+ByteWrite at = WriteOf (171 ∷ []) at
+
+abbrev pub ByteUpdate : ℕ → Answer → Between
+ByteUpdate at = UpdateAnswered setup 1 a at (171 ∷ [])
+
+-- the call that writes that byte, and the calls of such a write after the sizes were told so
+abbrev pub writes_at : ℕ → Call
+writes_at at = call.CopyWrite a at (171 ∷ [])
+
+abbrev pub calls_of_write : ℕ → FileState → List Call
+calls_of_write at state = write_calls a at (171 ∷ []) state
 
 -- what a stream of two pages tells of itself, of which one is valid
 abbrev pub one_page_valid : FileState
@@ -29,7 +54,7 @@ zeroes = call.Zero a (record { from = 4096; to = 8192 })
 
 -- and then the byte is written
 abbrev pub writes : Call
-writes = call.CopyWrite a 8192 (171 ∷ [])
+writes = writes_at 8192
 
 -- the calls of that write, and the pages that come in for them
 abbrev pub grows : List Entry

@@ -1,13 +1,36 @@
 -- What the calls without an entry of their own leave: logs, deferrals and posts, pages and ticks, read-ahead
 -- steps. Each stretch has its newest entry first, and stands on a past.
-use Rattle.std.specs.Prelude.{List, [], ◌∷◌, true, false}
+use Rattle.std.specs.Prelude.{ℕ, Result, List, [], ◌∷◌, ◌++◌, true, false}
+use Rattle.std.specs.declared.option.Option.{Option}
 use Rattle.cc_entry.specs.declared.answer.Tick.{Tick}
 use Rattle.cc_entry.specs.declared.place.Request.{Request}
 use Rattle.cc_entry.specs.declared.call.Call.TheVariants as call
 use Rattle.cc_entry.specs.declared.reply.Reply.TheVariants as reply
+use Rattle.cc_entry.specs.declared.error.CcError.{CcError}
 use Rattle.cc_entry.specs.declared.entry.Entry.{Entry}
 use Rattle.cc_entry.specs.declared.entry.Entry.TheVariants as entry
-use Rattle.cc_worked.specs.Values.{a, page, opened, done, answers, read_in, begins, ends, fails}
+use Rattle.cc_model.specs.Setup.{Setup}
+use Rattle.cc_effects.specs.Moments.{Between}
+use Rattle.cc_effects.specs.LogCalls.{AppendLeft, LogFlushLeft}
+use Rattle.cc_effects.specs.Throttle.{DeferLeft, PostLeft}
+use Rattle.cc_worked.specs.Values.{setup, a, page, opened, done, answers, read_in, begins, ends, fails}
+use Rattle.cc_worked.specs.PiecesReads.{two_pages}
+
+-- the byte 01 is appended to a log
+abbrev pub AppendTo : ℕ → Result ℕ CcError → Between
+AppendTo handle = AppendLeft setup 1 handle (1 ∷ [])
+
+-- log 0 is flushed to an LSN
+abbrev pub LogFlushTo : ℕ → Result ℕ CcError → Between
+LogFlushTo lsn = LogFlushLeft {T = ℕ} setup 1 0 lsn
+
+-- a write of so many bytes is deferred
+abbrev pub DeferralOf : ℕ → Result ℕ CcError → Between
+DeferralOf bytes = DeferLeft 1 a bytes false
+
+-- a deferred write is posted, in a run of such a setup
+abbrev pub PostIn : Setup → Result (Option ℕ) CcError → Between
+PostIn u = PostLeft u 1
 
 -- a log was flushed to LSN 3
 abbrev pub flushed_to_three : List Entry
@@ -29,6 +52,10 @@ deferred = entry.Defer 1 1 a 2 false ∷ []
 
 abbrev pub posted : List Entry
 posted = entry.Posted 1 ∷ []
+
+-- a past with that deferral
+abbrev pub one_deferred : List Entry
+one_deferred = deferred ++ two_pages
 
 -- a dirty page
 abbrev pub dirty : List Entry

@@ -1,5 +1,5 @@
 -- What a transfer cleans: the changes before its begin, and none after it.
-use Rattle.std.specs.Prelude.{ℕ, List, [], ◌∷◌, ◌++◌, true, false, reverse}
+use Rattle.std.specs.Prelude.{List, [], ◌∷◌, ◌++◌, true, false, reverse}
 use Rattle.std.specs.declared.option.Option.TheVariants.{Some, None}
 use Rattle.cc_entry.specs.declared.place.DirtyRow.{DirtyRow}
 use Rattle.cc_entry.specs.declared.call.Call.TheVariants as call
@@ -7,7 +7,7 @@ use Rattle.cc_entry.specs.declared.reply.Reply.TheVariants as reply
 use Rattle.cc_entry.specs.declared.reply.Outcome.TheVariants as outcome
 use Rattle.cc_entry.specs.declared.entry.Entry.{Entry}
 use Rattle.cc_entry.specs.declared.entry.Entry.TheVariants as entry
-use Rattle.cc_worked.specs.Values.{a, page, opened, done, answers, dirty_is, read_in, goes_out, begins, ends, fails, synced}
+use Rattle.cc_worked.specs.Values.{a, opened, done, answers, dirty_is, read_in, goes_out, begins, ends, fails, synced}
 
 -- While a second caller writes the page, the first changes and stamps it again.
 abbrev pub changed_under_way : List Entry
@@ -32,10 +32,6 @@ ended_well = reverse (changed_under_way ++ ends 2 0 ∷ [])
 
 abbrev pub ended_badly : List Entry
 ended_badly = reverse (changed_under_way ++ fails 2 0 ∷ [])
-
--- the row of the page in the dirty page table
-abbrev pub row : ℕ → ℕ → DirtyRow
-row oldest newest = record { page = page 0; oldest = oldest; newest = newest }
 
 -- a third caller is told the table
 abbrev pub told : List DirtyRow → Entry

@@ -13,11 +13,13 @@ use Rattle.cc_entry.specs.declared.entry.Entry.{Entry}
 use Rattle.cc_entry.specs.declared.entry.Entry.TheVariants as entry
 use Rattle.cc_worked.specs.Values.{a, sized, opened, done, answers, refused, read_in, goes_out, begins}
 
--- a hold of one byte in each of the first eight blocks of a stream with a quota of eight
+-- the first byte of block k is mapped, by call k + 1 and as hold k + 1
+abbrev pub held_in : ℕ → List Entry
+held_in k = read_in 1 (64 * k) ∷ answers 1 (k + 1) (call.Map a (262144 * k) 1) (reply.Hold (k + 1)) ∷ []
+
+-- so in each of the first eight blocks of a stream with a quota of eight
 abbrev pub eight_held : List Entry
-eight_held =
-    done 0 1 (call.Initialise a (sized 2359296 2359296) 8 false)
-    ∷ flat_map (λ k. read_in 1 (64 * k) ∷ answers 1 (k + 1) (call.Map a (262144 * k) 1) (reply.Hold (k + 1)) ∷ []) (range_with_len 0 8)
+eight_held = done 0 1 (call.Initialise a (sized 2359296 2359296) 8 false) ∷ flat_map held_in (range_with_len 0 8)
 
 -- a read in the ninth block is refused until a hold has ended, and then takes that one's block
 abbrev pub block_taken_over : List Entry
@@ -64,10 +66,14 @@ ninth_mapped = reverse (eight_held ++ answers 1 9 (call.Map a 2097152 1) (reply.
 abbrev pub first_of : ℕ → File
 first_of s = record { stream = s; object = 0 }
 
+-- stream s is initialised with a quota of 64, by call s + 1 of pass 0
+abbrev pub initialised : ℕ → Entry
+initialised s =
+    entry.Call 0 (s + 1) (Some s) (call.Initialise (first_of s) (sized 8192 8192) 64 false) (outcome.Done reply.Unit)
+
 -- four streams take all of the pool, and the fifth is refused
 abbrev pub pool_taken : List Entry
-pool_taken =
-    map (λ s. entry.Call 0 (s + 1) (Some s) (call.Initialise (first_of s) (sized 8192 8192) 64 false) (outcome.Done reply.Unit)) (range_with_len 0 4)
+pool_taken = map initialised (range_with_len 0 4)
 
 abbrev pub fifth : Call
 fifth = call.Initialise (first_of 4) (sized 8192 8192) 16 false

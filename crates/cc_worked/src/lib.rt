@@ -1,11 +1,13 @@
-//! Worked journals: runs of the cache written out entry by entry, each held against the definitions of
-//! `cc_model` by computation.
+//! Worked journals: runs of the cache written out entry by entry, each held against the definitions by computation.
 //!
 //! A right journal is legal, allowed and covered. A wrong one is the beginning of a right one and what
 //! may not follow, mostly a single entry, and a law refuses it. So the definitions are seen to tell both
 //! apart, in each subject. The functions do nothing; their contracts are the statements. The journals
-//! stand in `specs`, oldest entry first, and `proofs/Opened` names all that has to be unfolded to compute
-//! them. Nothing stands above this crate.
+//! stand in `specs`, oldest entry first; the stretches of `Pieces*` have the newest first, since each stands on a past.
+//! Of a piece, `Leaves line told past piece` says that it stands in the relation of its line, and `CallDone` and
+//! `CallFailed` that it stands in that of a call: a right one does, and no wrong one. `proofs/Opened` names all that
+//! has to be unfolded to compute them. Below are the definitions of `cc_model`, `cc_effects` and `cc_pieces`; nothing
+//! stands above this crate.
 #![tactic(auto, unfolding(crate::proofs::Opened::opened))]
 
 pub mod callers;

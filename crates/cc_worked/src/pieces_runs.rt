@@ -7,20 +7,18 @@ ghost use Rattle.cc_entry.specs.declared.error.CcError.TheVariants as error;
 ghost use Rattle.cc_entry.specs.declared.reply.Reply.TheVariants as reply;
 ghost use Rattle.cc_entry.specs.declared.answer.Answer.TheVariants as answer;
 ghost use Rattle.cc_script.specs.declared.script.Action.TheVariants as action;
-ghost use Rattle.cc_pieces.specs.Served.{Served};
-ghost use Rattle.cc_pieces.specs.Openings.{Opens, Opened};
 ghost use Rattle.cc_pieces.specs.Rooms.{HadNoRoom, is_alone, room_limit};
 ghost use Rattle.cc_pieces.specs.Runs.{Explains, Ran, bindings_of};
 ghost use Rattle.cc_pieces.specs.Phases.{is_before_phase, limit_in, lines_before, PhaseRan, PhasesRan};
 ghost use Rattle.cc_pieces.specs.Explained.{IsExplained};
 ghost use Rattle.cc_pieces.specs.Table.{table_of};
 ghost use Rattle.cc_effects.specs.Failures.{failures};
-ghost use Rattle.cc_worked.specs.Values.{setup, a, second, sized, opened, done, answers, dirty_is, synced};
+ghost use Rattle.cc_worked.specs.Values.{setup, a, second, sized, opened, dirty_is, unit, gives, Leaves, LeavesNothing};
 ghost use Rattle.cc_worked.specs.PiecesReads.{two_pages, first_resident, a_byte, page_comes_in, page_alone};
-ghost use Rattle.cc_worked.specs.PiecesRuns.{stream_with, opens, opens_with, caller_opens, opening_is_refused, log_all_the_same};
-ghost use Rattle.cc_worked.specs.PiecesRuns.{opens_both, opens_first_twice, unit_at, of_capacity, full_at};
+ghost use Rattle.cc_worked.specs.PiecesRuns.{OneStream, TwoStreams, opens, opens_with, caller_opens, opening_is_refused, log_all_the_same};
+ghost use Rattle.cc_worked.specs.PiecesRuns.{opens_both, opens_first_twice, unit_at, of_capacity, full_at, OneLine, MakesOneCall, flushes};
 ghost use Rattle.cc_worked.specs.PiecesRuns.{first_bytes, reads, asks, two_full, reads_and_asks, asks_and_reads, asks_twice, two_lines};
-ghost use Rattle.cc_worked.specs.PiecesRuns.{line_of, of_one, of_two, of_one_answered, plan_with, one_step, stranger_beside};
+ghost use Rattle.cc_worked.specs.PiecesRuns.{line_of, of_one, of_two, plan_with, one_step, stranger_beside};
 ghost use Rattle.cc_worked.specs.PiecesLines.{no_request, one_map};
 ghost use Rattle.cc_worked.specs.PiecesWithoutEntry.{flushed_to_three, appended};
 ghost use Rattle.cc_worked.specs.PiecesAnswered.{flushed_to_four, one_byte_is_refused};
@@ -31,19 +29,19 @@ ghost use Rattle.cc_worked.specs.PiecesRuns.{two_dirty, one_dirty, stamped_row, 
 /// The line of a stream is answered when its first object is initialised, by pass 0, and has its log; the streams
 /// open in their order.
 pub fn streams_are_opened()
-    ensures opened { Opens setup 0 (stream_with None) (answer.Given reply.Unit) [] opens }
-    ensures with_log { Opens setup 0 (stream_with (Some 3)) (answer.Given reply.Unit) [] (opens_with 3) }
-    ensures refused { Opens setup 0 (stream_with (Some 3)) (answer.Refused (error.NoVacbs 3)) [] opening_is_refused }
-    ensures both { Opened setup 0 (stream_with None ∷ stream_with None ∷ []) (unit_at 1 ∷ unit_at 2 ∷ []) [] opens_both }
-    ensures not_without_log { Opens setup 0 (stream_with (Some 3)) (answer.Given reply.Unit) [] opens → ⊥ }
-    ensures no_other_log { Opens setup 0 (stream_with (Some 3)) (answer.Given reply.Unit) [] (opens_with 2) → ⊥ }
-    ensures no_log_unasked { Opens setup 0 (stream_with None) (answer.Given reply.Unit) [] (opens_with 3) → ⊥ }
-    ensures no_other_sizes { Opens setup 0 (stream_with None) (answer.Given reply.Unit) [] (opened 8192 4096 ∷ []) → ⊥ }
-    ensures by_no_caller { Opens setup 0 (stream_with None) (answer.Given reply.Unit) [] caller_opens → ⊥ }
-    ensures no_more { Opens setup 0 (stream_with (Some 0)) (answer.Refused (error.NoVacbs 3)) [] log_all_the_same → ⊥ }
-    ensures not_full { Opens setup 0 (stream_with None) (full_at 0) [] [] → ⊥ }
-    ensures by_their_number { Opened setup 0 (stream_with None ∷ stream_with None ∷ []) (unit_at 1 ∷ unit_at 2 ∷ []) [] opens_first_twice → ⊥ }
-    ensures each_answered { Opened setup 0 (stream_with None ∷ stream_with None ∷ []) (unit_at 1 ∷ []) [] opens_both → ⊥ }
+    ensures opened { Leaves (OneStream None) unit [] opens }
+    ensures with_log { Leaves (OneStream (Some 3)) unit [] (opens_with 3) }
+    ensures refused { Leaves (OneStream (Some 3)) (answer.Refused (error.NoVacbs 3)) [] opening_is_refused }
+    ensures both { Leaves TwoStreams (unit_at 1 ∷ unit_at 2 ∷ []) [] opens_both }
+    ensures not_without_log { Leaves (OneStream (Some 3)) unit [] opens → ⊥ }
+    ensures no_other_log { Leaves (OneStream (Some 3)) unit [] (opens_with 2) → ⊥ }
+    ensures no_log_unasked { Leaves (OneStream None) unit [] (opens_with 3) → ⊥ }
+    ensures no_other_sizes { Leaves (OneStream None) unit [] (opened 8192 4096 ∷ []) → ⊥ }
+    ensures by_no_caller { Leaves (OneStream None) unit [] caller_opens → ⊥ }
+    ensures no_more { Leaves (OneStream (Some 0)) (answer.Refused (error.NoVacbs 3)) [] log_all_the_same → ⊥ }
+    ensures not_full { LeavesNothing (OneStream None) (full_at 0) [] → ⊥ }
+    ensures by_their_number { Leaves TwoStreams (unit_at 1 ∷ unit_at 2 ∷ []) [] opens_first_twice → ⊥ }
+    ensures each_answered { Leaves TwoStreams (unit_at 1 ∷ []) [] opens_both → ⊥ }
 {}
 
 /// A line may be told that the journal is full only where at one of its moments it had that many entries and less
@@ -54,7 +52,8 @@ pub fn full_journal_had_no_room()
     ensures noncached { HadNoRoom (of_capacity 4) 4 (answer.NcRefused 0 (error.JournalFull 1)) two_pages two_pages }
     ensures not_so_many { HadNoRoom (of_capacity 4) 4 (full_at 2) two_pages two_pages → ⊥ }
     ensures had_room { HadNoRoom (of_capacity 5) 4 (full_at 1) two_pages two_pages → ⊥ }
-    ensures noncached_had_room { HadNoRoom (of_capacity 5) 4 (answer.NcRefused 0 (error.JournalFull 1)) two_pages two_pages → ⊥ }
+    ensures noncached_had_room { HadNoRoom (of_capacity 5) 4 (answer.NcRefused 0 (error.JournalFull 1))
+        two_pages two_pages → ⊥ }
     ensures alone { room_limit 0 0 (is_alone 1 of_one) ≡ 4 }
     ensures beside_caller { room_limit 0 0 (is_alone 1 of_two) ≡ 32 }
     ensures in_phase_alone { limit_in (plan_with 0 0) 1 ≡ 4 }
@@ -64,66 +63,67 @@ pub fn full_journal_had_no_room()
 
 /// A line of each verb leaves its call, or its entry of a log, with its arguments.
 pub fn each_verb_is_served()
-    ensures written { Served setup 1 [] (action.CopyWrite a 0 (171 ∷ [])) (answer.Given reply.Unit) first_resident (done 1 1 (call.CopyWrite a 0 (171 ∷ [])) ∷ first_resident) }
-    ensures zeroed { Served setup 1 [] (action.Zero a first_bytes) (answer.Given reply.Unit) first_resident (done 1 1 (call.Zero a first_bytes) ∷ first_resident) }
-    ensures sized { Served setup 1 [] (action.SetSizes a 8192 4096) (answer.Given reply.Unit) first_resident (done 1 1 (call.SetSizes a 8192 4096) ∷ first_resident) }
-    ensures asked { Served setup 1 [] asks (answer.Given (reply.State two_full)) first_resident (answers 1 1 (call.State a) (reply.State two_full) ∷ first_resident) }
-    ensures flushed { Served setup 1 [] (action.Flush a None) (answer.Given reply.Unit) first_resident (done 1 1 (call.Flush a None) ∷ synced 1 ∷ first_resident) }
-    ensures asked_dirty { Served setup 1 [] action.IsDirtyData (answer.Given (reply.Flag false)) first_resident (dirty_is 1 1 false ∷ first_resident) }
-    ensures log_set { Served setup 1 [] (action.SetLog a 3) (answer.Given reply.Unit) first_resident (done 1 1 (call.SetLog a 3) ∷ first_resident) }
-    ensures appended { Served setup 1 [] (action.Append 0 (1 ∷ [])) (answer.NewLsn 4) flushed_to_three (appended ++ flushed_to_three) }
-    ensures log_flushed { Served setup 1 [] (action.LogFlush 0 4) (answer.Given reply.Unit) flushed_to_three (flushed_to_four ++ flushed_to_three) }
-    ensures opened_again { Served setup 1 [] (action.Initialise second (sized 8192 8192) 16 false) (answer.Given reply.Unit)
-        first_resident (done 1 1 (call.Initialise second (sized 8192 8192) 16 false) ∷ first_resident) }
-    ensures closed { Served setup 1 [] (action.Uninitialise a (Some 0)) (answer.Given (reply.Flag false))
-        first_resident (answers 1 1 (call.Uninitialise a (Some 0)) (reply.Flag false) ∷ first_resident) }
-    ensures purged { Served setup 1 [] (action.Purge a None) (answer.Given reply.Unit)
-        first_resident (done 1 1 (call.Purge a None) ∷ first_resident) }
-    ensures no_page_read { Served setup 1 [] (action.NcRead a 0 0) (answer.Given (reply.Read [])) two_pages two_pages }
-    ensures page_read_refused { Served setup 1 [] (action.NcRead a 1 4096) (answer.NcRefused 0 error.Unaligned)
-        two_pages (misaligned ++ two_pages) }
-    ensures page_write_refused { Served setup 1 [] (action.NcWrite a 0 (171 ∷ [])) (answer.NcRefused 0 error.Unaligned)
-        two_pages (one_byte_is_refused ++ two_pages) }
-    ensures not_zeroed { Served setup 1 [] (action.Zero a first_bytes) (answer.Given reply.Unit) first_resident (done 1 1 (call.CopyWrite a 0 (0 ∷ [])) ∷ first_resident) → ⊥ }
-    ensures no_other_sizes { Served setup 1 [] (action.SetSizes a 8192 4096) (answer.Given reply.Unit) first_resident (done 1 1 (call.SetSizes a 4096 8192) ∷ first_resident) → ⊥ }
-    ensures no_other_log { Served setup 1 [] (action.SetLog a 3) (answer.Given reply.Unit) first_resident (done 1 1 (call.SetLog a 2) ∷ first_resident) → ⊥ }
-    ensures no_other_bytes { Served setup 1 [] (action.Append 0 (2 ∷ [])) (answer.NewLsn 4) flushed_to_three (appended ++ flushed_to_three) → ⊥ }
-    ensures flush_has_no_lsn { Served setup 1 [] (action.LogFlush 0 4) (answer.NewLsn 4) flushed_to_three (flushed_to_four ++ flushed_to_three) → ⊥ }
-    ensures no_other_span { Served setup 1 [] (action.Flush a None) (answer.Given reply.Unit) first_resident (done 1 1 (call.Flush a (Some first_bytes)) ∷ synced 1 ∷ first_resident) → ⊥ }
-    ensures no_other_file { Served setup 1 [] asks (answer.Given (reply.State two_full)) first_resident (answers 1 1 (call.State second) (reply.State two_full) ∷ first_resident) → ⊥ }
-    ensures no_other_truncate { Served setup 1 [] (action.Uninitialise a None) (answer.Given (reply.Flag false))
-        first_resident (answers 1 1 (call.Uninitialise a (Some 0)) (reply.Flag false) ∷ first_resident) → ⊥ }
-    ensures purge_is_no_flush { Served setup 1 [] (action.Purge a None) (answer.Given reply.Unit)
-        first_resident (done 1 1 (call.Flush a None) ∷ synced 1 ∷ first_resident) → ⊥ }
-    ensures told_with_its_pages { Served setup 1 [] (action.NcRead a 1 4096) (answer.Refused error.Unaligned)
-        two_pages (misaligned ++ two_pages) → ⊥ }
+    ensures written { MakesOneCall (action.CopyWrite a 0 (171 ∷ [])) (call.CopyWrite a 0 (171 ∷ [])) reply.Unit }
+    ensures zeroed { MakesOneCall (action.Zero a first_bytes) (call.Zero a first_bytes) reply.Unit }
+    ensures sized { MakesOneCall (action.SetSizes a 8192 4096) (call.SetSizes a 8192 4096) reply.Unit }
+    ensures asked { MakesOneCall asks (call.State a) (reply.State two_full) }
+    ensures flushed { Leaves (OneLine (action.Flush a None)) unit first_resident (flushes None) }
+    ensures asked_dirty { Leaves (OneLine action.IsDirtyData) (answer.Given (reply.Flag false))
+        first_resident (dirty_is 1 1 false ∷ []) }
+    ensures log_set { MakesOneCall (action.SetLog a 3) (call.SetLog a 3) reply.Unit }
+    ensures appended { Leaves (OneLine (action.Append 0 (1 ∷ []))) (answer.NewLsn 4) flushed_to_three appended }
+    ensures log_flushed { Leaves (OneLine (action.LogFlush 0 4)) unit flushed_to_three flushed_to_four }
+    ensures opened_again { MakesOneCall (action.Initialise second (sized 8192 8192) 16 false)
+        (call.Initialise second (sized 8192 8192) 16 false) reply.Unit }
+    ensures closed { MakesOneCall (action.Uninitialise a (Some 0)) (call.Uninitialise a (Some 0)) (reply.Flag false) }
+    ensures purged { MakesOneCall (action.Purge a None) (call.Purge a None) reply.Unit }
+    ensures no_page_read { LeavesNothing (OneLine (action.NcRead a 0 0)) (gives []) two_pages }
+    ensures page_read_refused { Leaves (OneLine (action.NcRead a 1 4096)) (answer.NcRefused 0 error.Unaligned)
+        two_pages misaligned }
+    ensures page_write_refused { Leaves (OneLine (action.NcWrite a 0 (171 ∷ []))) (answer.NcRefused 0 error.Unaligned)
+        two_pages one_byte_is_refused }
+    ensures not_zeroed { MakesOneCall (action.Zero a first_bytes) (call.CopyWrite a 0 (0 ∷ [])) reply.Unit → ⊥ }
+    ensures no_other_sizes { MakesOneCall (action.SetSizes a 8192 4096) (call.SetSizes a 4096 8192) reply.Unit → ⊥ }
+    ensures no_other_log { MakesOneCall (action.SetLog a 3) (call.SetLog a 2) reply.Unit → ⊥ }
+    ensures no_other_bytes { Leaves (OneLine (action.Append 0 (2 ∷ []))) (answer.NewLsn 4)
+        flushed_to_three appended → ⊥ }
+    ensures flush_has_no_lsn { Leaves (OneLine (action.LogFlush 0 4)) (answer.NewLsn 4)
+        flushed_to_three flushed_to_four → ⊥ }
+    ensures no_other_span { Leaves (OneLine (action.Flush a None)) unit
+        first_resident (flushes (Some first_bytes)) → ⊥ }
+    ensures no_other_file { MakesOneCall asks (call.State second) (reply.State two_full) → ⊥ }
+    ensures no_other_truncate { MakesOneCall (action.Uninitialise a None)
+        (call.Uninitialise a (Some 0)) (reply.Flag false) → ⊥ }
+    ensures purge_is_no_flush { Leaves (OneLine (action.Purge a None)) unit first_resident (flushes None) → ⊥ }
+    ensures told_with_its_pages { Leaves (OneLine (action.NcRead a 1 4096)) (answer.Refused error.Unaligned)
+        two_pages misaligned → ⊥ }
 {}
 
 /// The lines of a caller leave pieces one after the other, each of its line, and the caller places nothing else.
 pub fn lines_run_in_their_order()
-    ensures explained { Explains setup 32 1 [] reads (answer.Given a_byte) two_pages (page_comes_in ++ two_pages) }
-    ensures ran { Ran setup 32 1 [] two_lines two_pages (reads_and_asks ++ two_pages) }
-    ensures nothing_asked { Ran setup 32 2 [] [] two_pages (reads_and_asks ++ two_pages) }
-    ensures by_its_caller { Explains setup 32 2 [] reads (answer.Given a_byte) two_pages (page_comes_in ++ two_pages) → ⊥ }
-    ensures not_full { Explains setup 32 1 [] reads (full_at 2) two_pages (page_alone ++ two_pages) → ⊥ }
-    ensures in_order { Ran setup 32 1 [] two_lines two_pages (asks_and_reads ++ two_pages) → ⊥ }
-    ensures each_line { Ran setup 32 1 [] two_lines two_pages (page_comes_in ++ two_pages) → ⊥ }
-    ensures no_more { Ran setup 32 1 [] two_lines two_pages (asks_twice ++ two_pages) → ⊥ }
+    ensures explained { Leaves (Explains setup 32 1 [] reads) (answer.Given a_byte) two_pages page_comes_in }
+    ensures ran { Leaves (Ran setup 32 1 []) two_lines two_pages reads_and_asks }
+    ensures nothing_asked { Leaves (Ran setup 32 2 []) [] two_pages reads_and_asks }
+    ensures by_its_caller { Leaves (Explains setup 32 2 [] reads) (answer.Given a_byte) two_pages page_comes_in → ⊥ }
+    ensures not_full { Leaves (Explains setup 32 1 [] reads) (full_at 2) two_pages page_alone → ⊥ }
+    ensures in_order { Leaves (Ran setup 32 1 []) two_lines two_pages asks_and_reads → ⊥ }
+    ensures each_line { Leaves (Ran setup 32 1 []) two_lines two_pages page_comes_in → ⊥ }
+    ensures no_more { Leaves (Ran setup 32 1 []) two_lines two_pages asks_twice → ⊥ }
 {}
 
 /// In a phase each caller runs its lines of it, no other pass places anything, and the workers answer as often as
 /// they are asked; the phases follow each other.
 pub fn phases_run_one_after_the_other()
-    ensures ran { PhaseRan setup (plan_with 0 0) 1 [] [] two_pages (page_comes_in ++ two_pages) }
-    ensures both { PhasesRan setup (plan_with 0 0) 1 2 [] [] two_pages (reads_and_asks ++ two_pages) }
-    ensures no_request { PhaseRan setup (plan_with 0 2) 1 [] (no_request ∷ []) two_pages (page_comes_in ++ two_pages) }
-    ensures no_stranger { PhaseRan setup (plan_with 0 0) 1 [] [] two_pages (stranger_beside ++ two_pages) → ⊥ }
-    ensures no_later_line { PhaseRan setup (plan_with 0 0) 1 [] [] two_pages (reads_and_asks ++ two_pages) → ⊥ }
-    ensures no_tick_left_out { PhaseRan setup (plan_with 1 0) 1 [] [] two_pages (page_comes_in ++ two_pages) → ⊥ }
-    ensures no_step_left_out { PhaseRan setup (plan_with 0 1) 1 [] [] two_pages (page_comes_in ++ two_pages) → ⊥ }
-    ensures not_ended { PhaseRan setup (plan_with 0 2) 1 [] (one_step ∷ []) two_pages (page_comes_in ++ two_pages) → ⊥ }
-    ensures in_order { PhasesRan setup (plan_with 0 0) 1 2 [] [] two_pages (asks_and_reads ++ two_pages) → ⊥ }
-    ensures nothing_after { PhasesRan setup (plan_with 0 0) 1 0 [] [] two_pages (page_alone ++ two_pages) → ⊥ }
+    ensures ran { Leaves (PhaseRan setup (plan_with 0 0) 1 []) [] two_pages page_comes_in }
+    ensures both { Leaves (PhasesRan setup (plan_with 0 0) 1 2 []) [] two_pages reads_and_asks }
+    ensures no_request { Leaves (PhaseRan setup (plan_with 0 2) 1 []) (no_request ∷ []) two_pages page_comes_in }
+    ensures no_stranger { Leaves (PhaseRan setup (plan_with 0 0) 1 []) [] two_pages stranger_beside → ⊥ }
+    ensures no_later_line { Leaves (PhaseRan setup (plan_with 0 0) 1 []) [] two_pages reads_and_asks → ⊥ }
+    ensures no_tick_left_out { Leaves (PhaseRan setup (plan_with 1 0) 1 []) [] two_pages page_comes_in → ⊥ }
+    ensures no_step_left_out { Leaves (PhaseRan setup (plan_with 0 1) 1 []) [] two_pages page_comes_in → ⊥ }
+    ensures not_ended { Leaves (PhaseRan setup (plan_with 0 2) 1 []) (one_step ∷ []) two_pages page_comes_in → ⊥ }
+    ensures in_order { Leaves (PhasesRan setup (plan_with 0 0) 1 2 []) [] two_pages asks_and_reads → ⊥ }
+    ensures nothing_after { Leaves (PhasesRan setup (plan_with 0 0) 1 0 []) [] two_pages page_alone → ⊥ }
 {}
 
 /// A run is explained where its streams opened and then its phases ran, and each line has its reply, in order.
@@ -145,7 +145,7 @@ pub fn table_and_failures_are_read_off()
     ensures no_more { failures 0 three_fail ≡ 4 → ⊥ }
 {}
 
-/// A line is before a phase only where it is the caller's and of an earlier one; and no line of a script binds a word.
+/// A line is before a phase only where it is the caller's and of an earlier one; and none of these lines binds a word.
 pub fn earlier_lines_are_told_apart()
     ensures earlier { lines_before (plan_with 0 0) 2 1 ≡ (reads, answer.Given a_byte) ∷ [] }
     ensures not_of_the_phase { lines_before (plan_with 0 0) 2 1 ≡ two_lines → ⊥ }

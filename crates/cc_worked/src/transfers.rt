@@ -5,8 +5,8 @@ ghost use Rattle.cc_model.specs.Stamps.{dirty_table};
 ghost use Rattle.cc_model.specs.Legal.{IsLegal};
 ghost use Rattle.cc_model.specs.Allowed.{IsAllowed};
 ghost use Rattle.cc_model.specs.Covered.{IsCovered};
-ghost use Rattle.cc_worked.specs.Values.{setup};
-ghost use Rattle.cc_worked.specs.Transfers.{ended_well, row, told, ended_badly, dirty_after, clean_after, out_after, ended_by_another, begun_twice, synced_under_way};
+ghost use Rattle.cc_worked.specs.Values.{setup, row};
+ghost use Rattle.cc_worked.specs.Transfers.{ended_well, told, ended_badly, dirty_after, clean_after, out_after, ended_by_another, begun_twice, synced_under_way};
 
 /// A page that was changed while it was written is dirty after a good end, by the later change alone.
 pub fn later_change_outlives_transfer()
