@@ -6,12 +6,12 @@ use Rattle.atomic_table.specs.Seated.{TableId}
 use Rattle.cc_entry.specs.declared.entry.Entry.{Entry}
 use Rattle.cc_effects.specs.Moments.{IsIdle}
 use Rattle.cc_model.specs.Turns.{Turn, Device, Book, Log, Journal}
-use Rattle.cc_turns.specs.Standing.{Held, nothing}
-use Rattle.cc_turns.specs.Desk.{Begun, DeskState}
+use Rattle.cc_turns.specs.Standing.{Standing, Held, nothing}
+use Rattle.cc_turns.specs.Desk.{Begun, Tells, DeskState}
 use Rattle.cc_turns.specs.Slots.{slot_of, under_way_in}
 use Rattle.cc_turns.specs.declared.slots.Place.{Place}
 use Rattle.cc_board.specs.declared.rule.View.{View}
-use Rattle.cc_board.specs.View.{run_of, held_of, split_left, split_right, with_number, joined}
+use Rattle.cc_board.specs.View.{run_of, held_of, standing_at, split_left, split_right, with_number, joined}
 
 -- which board it is, and the run that it is of
 pub record BoardState (D L : Type 0) : Type 0 where
@@ -61,7 +61,7 @@ pub record IsOpened {D L Q : Type 0} (desk : DeskState D L Q) (passes : ℕ) (bo
   pub one_made : first.knows.made ≡ 1
   pub none_ended : first.knows.ended ≡ []
 
--- No board was made of a desk: it came back as it was.
+-- No board was made of a desk: it came back with its run, its entries and what was under way, and holds no turn.
 pub record IsHandedBack {D L Q : Type 0} (desk back : DeskState D L Q) : Type 0 where
   pub run_is : back.begun ≡ desk.begun
   pub entries_are : back.last.entries ≡ desk.last.entries
@@ -113,6 +113,10 @@ pub record SeatedState (D L : Type 0) : Type 0 where
   pub board : BoardState D L
   pub knows : View D L
   pub device_turns : ℕ
+
+-- what it knows, as its turns tell it
+abbrev pub seated_standing : {D L Q : Type 0} → Tells D L Q → SeatedState D L → Standing
+seated_standing tells s = standing_at tells s.board.id s.knows s.device_turns
 
 abbrev pub pass_of : {D L : Type 0} → SeatedState D L → PassState D L
 pass_of s = record { board = s.board.id; knows = s.knows; device_turns = s.device_turns }

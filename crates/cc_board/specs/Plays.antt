@@ -18,6 +18,10 @@ use Rattle.cc_board.specs.View.{run_of, standing_of, with_turn, without_turn, wi
 abbrev pub Slot : Type 0 → Type 0 → Type 0 → Type 0
 Slot D L Q = Option (Place D L Q)
 
+-- what a step tells its pass: of the step, what the pass knew and the word that was found or stored, what it knows now
+abbrev pub Telling : Type 0 → Type 0 → Type 0 → Type 1
+Telling D L Q = Step (Slot D L Q) → Me (Slot D L Q) (View D L) → ℕ → Me (Slot D L Q) (View D L) → Type 0
+
 -- the turn of a word, of each kind
 abbrev pub device_at : {D L : Type 0} → Begun D L → ℕ → Turn
 device_at begun word = Device (word - 1)
@@ -43,7 +47,7 @@ pub record Took {D L Q : Type 0} (tells : Tells D L Q) (turn : Turn) (me now : M
   pub few : now.0.others ≤ me.0.before + me.0.passes
 
 -- the turn was free and was taken, or nothing changed
-abbrev pub TakesTurn : {D L Q : Type 0} → Tells D L Q → (Begun D L → ℕ → Turn) → Step (Slot D L Q) → Me (Slot D L Q) (View D L) → ℕ → Me (Slot D L Q) (View D L) → Type 0
+abbrev pub TakesTurn : {D L Q : Type 0} → Tells D L Q → (Begun D L → ℕ → Turn) → Telling D L Q
 TakesTurn tells turn_at step me found now = MatchBool (found == 0) (Took tells (turn_at (run_of me.0) step.word) me now) (now ≡ me)
 
 -- what was taken last
@@ -53,7 +57,7 @@ last_place ((slot, None) ∷ carried) then other = other
 last_place ((slot, Some place) ∷ carried) then other = then place
 
 -- the turn was given back, with what it is of
-abbrev pub GivesTurn : {D L Q : Type 0} → (Begun D L → ℕ → Turn) → Step (Slot D L Q) → Me (Slot D L Q) (View D L) → ℕ → Me (Slot D L Q) (View D L) → Type 0
+abbrev pub GivesTurn : {D L Q : Type 0} → (Begun D L → ℕ → Turn) → Telling D L Q
 GivesTurn turn_at step me stored now =
     now ≡ (last_place me.1 (λ place. without_turn (turn_at (run_of me.0) step.word) place me.0) me.0, rest me.1)
 
@@ -66,13 +70,13 @@ pub record Counted {D L Q : Type 0} (me : Me (Slot D L Q) (View D L)) (found : �
   pub fewer_ended : length me.0.ended < me.0.made
   pub others_ended : (number : ℕ) (seen : List Entry) → Contains me.0.ended (number, seen) → number ≢ 0
 
-abbrev pub CountsPasses : {D L Q : Type 0} → Step (Slot D L Q) → Me (Slot D L Q) (View D L) → ℕ → Me (Slot D L Q) (View D L) → Type 0
+abbrev pub CountsPasses : {D L Q : Type 0} → Telling D L Q
 CountsPasses step me found now = Counted me found now
 
 -- a number was drawn
-abbrev pub DrawsNumber : {D L Q : Type 0} → Step (Slot D L Q) → Me (Slot D L Q) (View D L) → ℕ → Me (Slot D L Q) (View D L) → Type 0
+abbrev pub DrawsNumber : {D L Q : Type 0} → Telling D L Q
 DrawsNumber step me stored now = now ≡ (with_number me.0, me.1)
 
 -- the pass is of this run, and nothing changed
-abbrev pub LearnsRun : {D L Q : Type 0} → Begun D L → Step (Slot D L Q) → Me (Slot D L Q) (View D L) → ℕ → Me (Slot D L Q) (View D L) → Type 0
+abbrev pub LearnsRun : {D L Q : Type 0} → Begun D L → Telling D L Q
 LearnsRun begun step me found now = (now ≡ me) × (run_of me.0 ≡ begun)

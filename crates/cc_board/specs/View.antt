@@ -90,7 +90,11 @@ abbrev pub without_turn : {D L Q : Type 0} → Turn → Place D L Q → View D L
 without_turn (Device stream) given v = record v { device = None }
 without_turn (Book stream) given v = record v { book = None }
 without_turn (Log handle) given v = record v { log = None }
-without_turn Journal (place.Journal j) v = record v { journal = false; seen = j.entries; in_flight = j.reserved - (reserved_in j.entries + v.others) }
+without_turn Journal (place.Journal j) v = record v {
+  journal = false;
+  seen = j.entries;
+  in_flight = j.reserved - (reserved_in j.entries + v.others);
+}
 without_turn Journal other v = record v { journal = false }
 
 -- a number was drawn, for a pass that is made next
@@ -102,7 +106,18 @@ abbrev pub split_left : {D L : Type 0} → View D L → View D L
 split_left v = record v { drawn = false }
 
 abbrev pub split_right : {D L : Type 0} → View D L → View D L
-split_right v = record v { number = v.made - 1; device = None; book = None; log = None; journal = false; in_flight = 0; others = 0; made = 0; drawn = false; ended = [] }
+split_right v = record v {
+  number = v.made - 1;
+  device = None;
+  book = None;
+  log = None;
+  journal = false;
+  in_flight = 0;
+  others = 0;
+  made = 0;
+  drawn = false;
+  ended = [];
+}
 
 -- a pass took another back: it keeps its number and what it had seen, and what it has under way
 abbrev pub joined : {D L : Type 0} → View D L → View D L → View D L

@@ -10,8 +10,8 @@ ghost use Rattle.cc_turns.specs.Disk.{DiskStands, opening_of};
 ghost use Rattle.cc_turns.specs.Log.{LogStands};
 ghost use Rattle.cc_turns.specs.Journal.{JournalStands};
 ghost use Rattle.cc_turns.specs.Takes.{Takes, Adds, with_device, with_book, with_log, with_journal, without_device, without_book, without_log, without_journal};
-ghost use Rattle.cc_board.specs.View.{held_of, standing_at};
-ghost use Rattle.cc_board.specs.Board.{IsOf, pass_of};
+ghost use Rattle.cc_board.specs.View.{held_of};
+ghost use Rattle.cc_board.specs.Board.{IsOf, pass_of, seated_standing};
 
 use crate::board::{Board, Pass};
 use crate::rule::{
@@ -113,7 +113,7 @@ impl<'b, R: Wait, D: PageDisk, L: LogFile, Q: PostRoutine> Turns for Seated<'b, 
 
     type Post = Q;
 
-    ghost standing = { λ s. standing_at (tells_of D.told D.faults L.told L.faults Q.posted) s.board.id s.knows s.device_turns };
+    ghost standing = { seated_standing (tells_of D.told D.faults L.told L.faults Q.posted) };
 
     fn me(&self) -> u32 {
         self.number
@@ -177,9 +177,10 @@ impl<'b, R: Wait, D: PageDisk, L: LogFile, Q: PostRoutine> Turns for Seated<'b, 
         requires held { (held_of self.old.knows).log ≡ Some handle }
         requires no_journal { (held_of self.old.knows).journal ≡ false }
         requires handle { log.handle ≡ handle }
-        requires stands { LogStands L.told L.faults ((standing_at (tells_of D.told D.faults L.told L.faults Q.posted) self.old.board.id self.old.knows self.old.device_turns).logs handle) self.old.knows.seen log }
-        ensures { standing_at (tells_of D.told D.faults L.told L.faults Q.posted) self.new.board.id self.new.knows self.new.device_turns
-            ≡ without_log (standing_at (tells_of D.told D.faults L.told L.faults Q.posted) self.old.board.id self.old.knows self.old.device_turns) }
+        requires stands { LogStands L.told L.faults
+            ((seated_standing (tells_of D.told D.faults L.told L.faults Q.posted) self.old).logs handle) self.old.knows.seen log }
+        ensures { seated_standing (tells_of D.told D.faults L.told L.faults Q.posted) self.new
+            ≡ without_log (seated_standing (tells_of D.told D.faults L.told L.faults Q.posted) self.old) }
     {
         let slot = 2 * usize::from(self.board.streams()) + usize::from(handle);
         self.board
@@ -199,11 +200,13 @@ impl<'b, R: Wait, D: PageDisk, L: LogFile, Q: PostRoutine> Turns for Seated<'b, 
 
     fn give_journal(&mut self, journal: Journal<Q>)
         requires held { (held_of self.old.knows).journal ≡ true }
-        requires adds { Adds (standing_at (tells_of D.told D.faults L.told L.faults Q.posted) self.old.board.id self.old.knows self.old.device_turns) journal.entries }
-        requires stands { JournalStands Q.posted (without_journal journal (standing_at (tells_of D.told D.faults L.told L.faults Q.posted) self.old.board.id self.old.knows self.old.device_turns)) journal }
-        requires few { (without_journal journal (standing_at (tells_of D.told D.faults L.told L.faults Q.posted) self.old.board.id self.old.knows self.old.device_turns)).in_flight ≤ 1 }
-        ensures { standing_at (tells_of D.told D.faults L.told L.faults Q.posted) self.new.board.id self.new.knows self.new.device_turns
-            ≡ without_journal journal (standing_at (tells_of D.told D.faults L.told L.faults Q.posted) self.old.board.id self.old.knows self.old.device_turns) }
+        requires adds { Adds (seated_standing (tells_of D.told D.faults L.told L.faults Q.posted) self.old) journal.entries }
+        requires stands { JournalStands Q.posted
+            (without_journal journal (seated_standing (tells_of D.told D.faults L.told L.faults Q.posted) self.old)) journal }
+        requires few { (without_journal journal
+            (seated_standing (tells_of D.told D.faults L.told L.faults Q.posted) self.old)).in_flight ≤ 1 }
+        ensures { seated_standing (tells_of D.told D.faults L.told L.faults Q.posted) self.new
+            ≡ without_journal journal (seated_standing (tells_of D.told D.faults L.told L.faults Q.posted) self.old) }
     {
         let slot = 2 * self.board.streams() as usize + self.board.logs() as usize;
         self.board

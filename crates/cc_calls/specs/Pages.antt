@@ -33,7 +33,8 @@ StaysGood old new = IsGood old.setup old.seen → IsGood old.setup new.seen
 -- at a moment of the call a page of its range was not resident
 abbrev pub HadMissed : Call → List Entry → List Entry → Type 0
 HadMissed it old new =
-    AtSome (λ moment. (page : Page) × (reaches it page moment ≡ true) × (is_resident (history moment page.stream) page.page ≡ false)) old new
+    AtSome (λ moment.
+    (page : Page) × (reaches it page moment ≡ true) × (is_resident (history moment page.stream) page.page ≡ false)) old new
 
 -- The turn of a disk was taken no more often than before, or a page of the call's range was not resident.
 abbrev pub TookDeviceFor : Call → Standing → Standing → Type 0

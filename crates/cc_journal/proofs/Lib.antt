@@ -3,7 +3,7 @@ pub mod CallSteps
 pub mod PlaceSteps
 pub mod RowSteps
 pub mod RowCounts
-pub mod TouchLoop
+pub mod Touches
 pub mod RowFollow
 pub mod StreamsSteps
 pub mod MapClosing

@@ -13,7 +13,7 @@ use cc_dirty::DirtyTable;
 use cc_entry::{Lsn, PageId, Span, StreamId};
 
 /// The pages of a range of bytes are touched, with this LSN or without.
-#[tactic(auto, using(crate::proofs::TouchLoop::touches_range, crate::proofs::TouchLoop::touches_nothing, crate::proofs::TouchLoop::range_absent))]
+#[tactic(auto, using(crate::proofs::Touches::touches_range, crate::proofs::Touches::touches_nothing, crate::proofs::Touches::range_absent))]
 pub(crate) fn touch_range(
     table: &mut DirtyTable,
     stream: StreamId,
@@ -36,7 +36,7 @@ pub(crate) fn touch_range(
 }
 
 // The pages from one number up to, and without, another are touched.
-#[tactic(auto, using(crate::proofs::TouchLoop::touches_none, crate::proofs::TouchLoop::touch_fits, crate::proofs::TouchLoop::touch_step))]
+#[tactic(auto, using(crate::proofs::Touches::touches_none, crate::proofs::Touches::touch_fits, crate::proofs::Touches::touch_step))]
 fn touch_pages(table: &mut DirtyTable, stream: StreamId, from: u64, to: u64, lsn: &Option<Lsn>)
     requires in_order { from ≤ to }
     requires within { to ≤ 2 ^ 51 }

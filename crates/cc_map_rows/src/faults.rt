@@ -48,42 +48,126 @@ const PURGED_FAULTS: [Fault; 6] = [
         read: 1,
         write: 0,
         sync: 0,
-        answers: "setup\n1 ok\ncaller t1\n2 error 14 ReadFault 0\n3 ok hold 1\n4 no hold\n5 no hold\n6 no hold\n7 no hold\n8 ok\n9 error 8 Held 1\n10 error 8 Held 1\n11 ok 5Ax2\njournal\n",
+        answers: "setup
+1 ok
+caller t1
+2 error 14 ReadFault 0
+3 ok hold 1
+4 no hold
+5 no hold
+6 no hold
+7 no hold
+8 ok
+9 error 8 Held 1
+10 error 8 Held 1
+11 ok 5Ax2
+journal
+",
         table: "table\na 1 - -\ntrace\n",
     },
     Fault {
         read: 2,
         write: 0,
         sync: 0,
-        answers: "setup\n1 ok\ncaller t1\n2 ok hold 1\n3 error 9 Busy 1\n4 ok\n5 ok hold 2\n6 ok\n7 ok\n8 error 14 ReadFault 1\n9 ok\n10 ok\n11 ok 00x2\njournal\n",
+        answers: "setup
+1 ok
+caller t1
+2 ok hold 1
+3 error 9 Busy 1
+4 ok
+5 ok hold 2
+6 ok
+7 ok
+8 error 14 ReadFault 1
+9 ok
+10 ok
+11 ok 00x2
+journal
+",
         table: "cread a:0 0 2 = ok 00x2\ntrace\n",
     },
     Fault {
         read: 3,
         write: 0,
         sync: 0,
-        answers: "setup\n1 ok\ncaller t1\n2 ok hold 1\n3 error 9 Busy 1\n4 ok\n5 ok hold 2\n6 ok\n7 ok\n8 ok\n9 ok\n10 ok\n11 error 14 ReadFault 0\njournal\n",
+        answers: "setup
+1 ok
+caller t1
+2 ok hold 1
+3 error 9 Busy 1
+4 ok
+5 ok hold 2
+6 ok
+7 ok
+8 ok
+9 ok
+10 ok
+11 error 14 ReadFault 0
+journal
+",
         table: "cread a:0 0 2 = error 14 ReadFault 0\ntrace\n",
     },
     Fault {
         read: 0,
         write: 1,
         sync: 0,
-        answers: "setup\n1 ok\ncaller t1\n2 ok hold 1\n3 error 9 Busy 1\n4 ok\n5 ok hold 2\n6 ok\n7 error 15 WriteFault 0\n8 ok\n9 ok\n10 ok\n11 ok 00x2\njournal\n",
+        answers: "setup
+1 ok
+caller t1
+2 ok hold 1
+3 error 9 Busy 1
+4 ok
+5 ok hold 2
+6 ok
+7 error 15 WriteFault 0
+8 ok
+9 ok
+10 ok
+11 ok 00x2
+journal
+",
         table: "cread a:0 0 2 = ok 00x2\ntrace\n",
     },
     Fault {
         read: 0,
         write: 2,
         sync: 0,
-        answers: "setup\n1 ok\ncaller t1\n2 ok hold 1\n3 error 9 Busy 1\n4 ok\n5 ok hold 2\n6 ok\n7 ok\n8 ok\n9 error 15 WriteFault 1\n10 ok\n11 ok 00x2\njournal\n",
+        answers: "setup
+1 ok
+caller t1
+2 ok hold 1
+3 error 9 Busy 1
+4 ok
+5 ok hold 2
+6 ok
+7 ok
+8 ok
+9 error 15 WriteFault 1
+10 ok
+11 ok 00x2
+journal
+",
         table: "cread a:0 0 2 = ok 00x2\ntrace\n",
     },
     Fault {
         read: 0,
         write: 0,
         sync: 1,
-        answers: "setup\n1 ok\ncaller t1\n2 ok hold 1\n3 error 9 Busy 1\n4 ok\n5 ok hold 2\n6 ok\n7 error 15 WriteFault 0\n8 ok\n9 ok\n10 ok\n11 ok 00x2\njournal\n",
+        answers: "setup
+1 ok
+caller t1
+2 ok hold 1
+3 error 9 Busy 1
+4 ok
+5 ok hold 2
+6 ok
+7 error 15 WriteFault 0
+8 ok
+9 ok
+10 ok
+11 ok 00x2
+journal
+",
         table: "cread a:0 0 2 = ok 00x2\ntrace\n",
     },
 ];

@@ -43,7 +43,7 @@ read a 1
 ",
 };
 
-/// A dirty page is written before it is read past the cache, and a page that was written past it comes in as written.
+/// A dirty page is written before a noncached read of it, and a page of a noncached write comes in as written.
 #[test]
 fn noncached_beside_cached(rt: HostRuntime) -> Result<(), Fail> {
     let seen = run(&rt, rt.alloc(), BESIDE_CACHED.script)?;

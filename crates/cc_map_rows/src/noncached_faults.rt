@@ -82,7 +82,15 @@ const SEVERAL_PAGES_FAULTS: [Fault; 11] = [
         read: 0,
         write: 2,
         sync: 0,
-        answers: "setup\n1 ok\ncaller t1\n2 error 15 WriteFault 1 done 1\n3 ok 11x8192,5Ax4096\n4 ok\n5 ok 11x4096,22,11x4095,5Ax4096\njournal\n",
+        answers: "setup
+1 ok
+caller t1
+2 error 15 WriteFault 1 done 1
+3 ok 11x8192,5Ax4096
+4 ok
+5 ok 11x4096,22,11x4095,5Ax4096
+journal
+",
         table: "ncread a:0 2 = ok 5Ax4096\ntrace\n",
     },
     Fault {
@@ -188,30 +196,138 @@ const BEHIND_A_LOG_FAULTS: [LogFault; 4] = [
     LogFault {
         append: 1,
         flush: 0,
-        answers: "setup\n1 ok\ncaller t1\n2 error 16 LogFault 0\n3 ok hold 1\n4 ok\n5 ok\n6 ok AB,5Ax4095\n7 ok lsn 2\n8 ok\n9 ok\n10 ok count 4096\n11 ok\n12 ok count 4096\njournal\n",
+        answers: "setup
+1 ok
+caller t1
+2 error 16 LogFault 0
+3 ok hold 1
+4 ok
+5 ok
+6 ok AB,5Ax4095
+7 ok lsn 2
+8 ok
+9 ok
+10 ok count 4096
+11 ok
+12 ok count 4096
+journal
+",
         entry: "\n3 logfailed 1 0\n",
-        trace: "trace\nlog 0 failed\nread a 0\nlog 0 flush 1\nwrite a 0 begin\nwrite a 0 ok\nread a 0\nlog 0 append 2\nlog 0 flush 2\nwrite a 0 begin\nwrite a 0 ok\nwrite a 0 begin\nwrite a 0 ok\n",
+        trace: "trace
+log 0 failed
+read a 0
+log 0 flush 1
+write a 0 begin
+write a 0 ok
+read a 0
+log 0 append 2
+log 0 flush 2
+write a 0 begin
+write a 0 ok
+write a 0 begin
+write a 0 ok
+",
     },
     LogFault {
         append: 2,
         flush: 0,
-        answers: "setup\n1 ok\ncaller t1\n2 ok lsn 1\n3 ok hold 1\n4 ok\n5 ok\n6 ok AB,5Ax4095\n7 error 16 LogFault 0\n8 ok\n9 ok\n10 ok count 4096\n11 ok\n12 ok count 4096\njournal\n",
+        answers: "setup
+1 ok
+caller t1
+2 ok lsn 1
+3 ok hold 1
+4 ok
+5 ok
+6 ok AB,5Ax4095
+7 error 16 LogFault 0
+8 ok
+9 ok
+10 ok count 4096
+11 ok
+12 ok count 4096
+journal
+",
         entry: "\n12 logfailed 1 0\n",
-        trace: "trace\nlog 0 append 1\nread a 0\nlog 0 flush 1\nwrite a 0 begin\nwrite a 0 ok\nread a 0\nlog 0 failed\nlog 0 flush 2\nwrite a 0 begin\nwrite a 0 ok\nwrite a 0 begin\nwrite a 0 ok\n",
+        trace: "trace
+log 0 append 1
+read a 0
+log 0 flush 1
+write a 0 begin
+write a 0 ok
+read a 0
+log 0 failed
+log 0 flush 2
+write a 0 begin
+write a 0 ok
+write a 0 begin
+write a 0 ok
+",
     },
     LogFault {
         append: 0,
         flush: 1,
-        answers: "setup\n1 ok\ncaller t1\n2 ok lsn 1\n3 ok hold 1\n4 ok\n5 ok\n6 error 16 LogFault 0 done 0\n7 ok lsn 2\n8 ok\n9 ok\n10 ok count 4096\n11 ok\n12 ok count 4096\njournal\n",
+        answers: "setup
+1 ok
+caller t1
+2 ok lsn 1
+3 ok hold 1
+4 ok
+5 ok
+6 error 16 LogFault 0 done 0
+7 ok lsn 2
+8 ok
+9 ok
+10 ok count 4096
+11 ok
+12 ok count 4096
+journal
+",
         entry: "\n8 logfailed 1 0\n9 call 1 4 ncread a:0 0 = error 16 LogFault 0\n",
-        trace: "trace\nlog 0 append 1\nread a 0\nlog 0 failed\nlog 0 append 2\nlog 0 flush 2\nwrite a 0 begin\nwrite a 0 ok\nwrite a 0 begin\nwrite a 0 ok\n",
+        trace: "trace
+log 0 append 1
+read a 0
+log 0 failed
+log 0 append 2
+log 0 flush 2
+write a 0 begin
+write a 0 ok
+write a 0 begin
+write a 0 ok
+",
     },
     LogFault {
         append: 0,
         flush: 2,
-        answers: "setup\n1 ok\ncaller t1\n2 ok lsn 1\n3 ok hold 1\n4 ok\n5 ok\n6 ok AB,5Ax4095\n7 ok lsn 2\n8 ok\n9 ok\n10 error 16 LogFault 0 done 0\n11 ok\n12 ok count 4096\njournal\n",
+        answers: "setup
+1 ok
+caller t1
+2 ok lsn 1
+3 ok hold 1
+4 ok
+5 ok
+6 ok AB,5Ax4095
+7 ok lsn 2
+8 ok
+9 ok
+10 error 16 LogFault 0 done 0
+11 ok
+12 ok count 4096
+journal
+",
         entry: "\n15 logfailed 1 0\n16 call 1 7 ncwrite a:0 0 = error 16 LogFault 0\n",
-        trace: "trace\nlog 0 append 1\nread a 0\nlog 0 flush 1\nwrite a 0 begin\nwrite a 0 ok\nread a 0\nlog 0 append 2\nlog 0 failed\nlog 0 flush 2\nwrite a 0 begin\nwrite a 0 ok\n",
+        trace: "trace
+log 0 append 1
+read a 0
+log 0 flush 1
+write a 0 begin
+write a 0 ok
+read a 0
+log 0 append 2
+log 0 failed
+log 0 flush 2
+write a 0 begin
+write a 0 ok
+",
     },
 ];
 

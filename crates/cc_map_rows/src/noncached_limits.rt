@@ -41,13 +41,26 @@ const FULL: [Full; 3] = [
         reads: 59,
         rest: "ncwrite a 4096 CDx4096\nncwrite a 8192 CDx4096\nncread a 0 4096\n",
         answers: "\n62 error 13 JournalFull 61 done 0\n63 error 2 BeyondSize 8192 done 0\n64 ok 5Ax4096\njournal\n",
-        journal: "\n61 call 1 59 cread a:0 0 1 = ok 5A\n62 call 1 60 ncwrite a:0 2 = error 2 BeyondSize 8192\n63 call 1 61 ncread a:0 0 = ok 5Ax4096\ntrace\n",
+        journal: "
+61 call 1 59 cread a:0 0 1 = ok 5A
+62 call 1 60 ncwrite a:0 2 = error 2 BeyondSize 8192
+63 call 1 61 ncread a:0 0 = ok 5Ax4096
+trace
+",
     },
     Full {
         reads: 55,
         rest: "ncwrite a 0 CDx8192\nncread a 0 4096\n",
         answers: "\n58 error 13 JournalFull 62 done 1\n59 ok CDx4096\njournal\n",
-        journal: "\n58 call 1 56 ncstore a:0 0 CDx4096 = ok\n59 begin 1 a 0\n60 end 1 a 0 ok\n61 out a 0\n62 call 1 57 ncwrite a:0 0 = ok\n63 call 1 58 ncread a:0 0 = ok CDx4096\ntrace\n",
+        journal: "
+58 call 1 56 ncstore a:0 0 CDx4096 = ok
+59 begin 1 a 0
+60 end 1 a 0 ok
+61 out a 0
+62 call 1 57 ncwrite a:0 0 = ok
+63 call 1 58 ncread a:0 0 = ok CDx4096
+trace
+",
     },
 ];
 
@@ -163,7 +176,15 @@ const NINTH_BLOCK_FAULTS: [(u64, &str, &str); 2] = [
     (
         1,
         "\n13 ok\n14 error 15 WriteFault 0 done 0\n15 ok 5A,AB\njournal\n",
-        "\n22 begin 1 a 0\n23 end 1 a 0 failed\n24 call 1 13 ncwrite a:0 512 = error 15 WriteFault 0\n25 call 1 14 cread a:0 0 2 = ok 5A,AB\ntable\na 0 - -\ntrace\n",
+        "
+22 begin 1 a 0
+23 end 1 a 0 failed
+24 call 1 13 ncwrite a:0 512 = error 15 WriteFault 0
+25 call 1 14 cread a:0 0 2 = ok 5A,AB
+table
+a 0 - -
+trace
+",
     ),
     (
         2,

@@ -64,7 +64,13 @@ t1 isdirty
 ",
         waits: WaitsIn::Write(1),
         answers: "setup\n1 ok\ncaller t1\n4 ok count 4096\n7 ok EF,CD\n8 ok true\ncaller t2\n2 ok 5A\n5 ok\njournal\n",
-        entries: "\n4 call 1 1 ncstore a:0 1 CDx4096 = ok\n5 begin 1 a 1\n6 call 2 2 cwrite a:0 4096 EF = ok\n7 end 1 a 1 ok\n8 call 1 2 ncwrite a:0 1 = ok\n",
+        entries: "
+4 call 1 1 ncstore a:0 1 CDx4096 = ok
+5 begin 1 a 1
+6 call 2 2 cwrite a:0 4096 EF = ok
+7 end 1 a 1 ok
+8 call 1 2 ncwrite a:0 1 = ok
+",
     },
     // A page that is cut during its transfer is written all the same, and reads as zeros where the size rises again.
     Beside {
@@ -80,7 +86,13 @@ t1 cread a 4096 1
 ",
         waits: WaitsIn::Write(1),
         answers: "setup\n1 ok\ncaller t1\n4 ok count 4096\n7 ok -\n8 ok\n9 ok 00\ncaller t2\n2 ok 5A\n5 ok\njournal\n",
-        entries: "\n4 call 1 1 ncstore a:0 1 CDx4096 = ok\n5 begin 1 a 1\n6 call 2 2 sizes a:0 8192 4096 = ok\n7 end 1 a 1 ok\n8 call 1 2 ncwrite a:0 1 = ok\n",
+        entries: "
+4 call 1 1 ncstore a:0 1 CDx4096 = ok
+5 begin 1 a 1
+6 call 2 2 sizes a:0 8192 4096 = ok
+7 end 1 a 1 ok
+8 call 1 2 ncwrite a:0 1 = ok
+",
     },
 ];
 

@@ -12,7 +12,7 @@ use Rattle.cc_model.specs.History.{history}
 use Rattle.cc_model.specs.Replies.{Reads}
 use Rattle.cc_effects.specs.Moments.{Between}
 
--- A page was read past the cache: it has its entry, and the bytes that this answers are the plain file's at that place.
+-- A page was read by a noncached read: it has its entry, and the bytes that this answers are the plain file's at that place.
 pub record IsPlainPage (u : Setup) (me : ℕ) (file : File) (page : ℕ) (bytes : List ℕ) (old new : List Entry) : Type 0 where
   pub nth : ℕ
   pub later : List Entry

@@ -12,7 +12,8 @@ use Rattle.cc_pieces.specs.Served.{Served, bindings_after}
 use Rattle.cc_pieces.specs.Rooms.{HadNoRoom}
 
 -- from one moment to another, a caller's line left a piece that explains its answer
-pub record Explains (u : Setup) (limit me : ℕ) (bindings : List Binding) (asked : Action) (told : Answer) (old new : List Entry) : Type 0 where
+pub record Explains (u : Setup) (limit me : ℕ) (bindings : List Binding) (asked : Action) (told : Answer)
+    (old new : List Entry) : Type 0 where
   pub served : Served u me bindings asked told old new
   pub room : HadNoRoom u limit told old new
 

@@ -1,5 +1,5 @@
 -- What each action of a script leaves: one case for each. The other lines, of the shim and without a call's entry, are
--- defined beside, and become a case here with their verb.
+-- defined beside; no line of a run has them.
 use Rattle.std.specs.Prelude.{ℕ, List, []}
 use Rattle.cc_entry.specs.declared.call.Call.TheVariants as call
 use Rattle.cc_entry.specs.declared.answer.Answer.{Answer}

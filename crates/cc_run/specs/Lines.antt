@@ -127,7 +127,8 @@ StreamsLeft u s (stream ∷ streams) (reply ∷ replies) old new =
 StreamsLeft u s streams replies old new = ⊥
 
 -- The streams were opened, and the replies of their lines stand behind those that were there.
-pub record StreamsOpened (u : Setup) (s : ℕ) (streams : List StreamLine) (before after : List LineReply) (old new : List Entry) : Type 0 where
+pub record StreamsOpened (u : Setup) (s : ℕ) (streams : List StreamLine) (before after : List LineReply)
+    (old new : List Entry) : Type 0 where
   pub answers : List LineReply
   pub grew : after ≡ before ++ answers
   pub lines_are : answered_lines answers ≡ map (λ stream. stream.line) streams

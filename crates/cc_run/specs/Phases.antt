@@ -52,7 +52,8 @@ PhasesLeft u (suc before) lines replies old new =
     × PhaseLeft u (suc before) (after_lines earlier told (λ me. [])) last answers between new
 
 -- The phases were served, and the replies of their lines stand behind those that were there.
-pub record PhasesServed (u : Setup) (phases : ℕ) (lines : List ActionLine) (before after : List LineReply) (old new : List Entry) : Type 0 where
+pub record PhasesServed (u : Setup) (phases : ℕ) (lines : List ActionLine) (before after : List LineReply)
+    (old new : List Entry) : Type 0 where
   pub answers : List LineReply
   pub grew : after ≡ before ++ answers
   pub left : PhasesLeft u phases lines answers old new

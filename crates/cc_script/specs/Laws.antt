@@ -156,7 +156,8 @@ pub record IsReadSpelling (streams : List StreamLine) (ws : List (List ℕ)) (as
 
 abbrev pub ReadsSpell : Type 0
 ReadsSpell =
-    (streams : List StreamLine) (ws : List (List ℕ)) (asked : Action) → (copy_read_of streams ws ≡ Some asked) ↔ IsReadSpelling streams ws asked
+    (streams : List StreamLine) (ws : List (List ℕ)) (asked : Action) →
+    (copy_read_of streams ws ≡ Some asked) ↔ IsReadSpelling streams ws asked
 
 -- the word behind the verb of a line that sets a number
 abbrev pub SpellsSetting : ℕ → ℕ → List (List ℕ) → ℕ → Type 0

@@ -1,4 +1,4 @@
-use Rattle.cc_journal.proofs.TouchLoop.{touch_fits, touch_step}
+use Rattle.cc_journal.proofs.Touches.{touch_fits, touch_step}
 use Rattle.cc_journal.proofs.table.touch_pages.Goals as goal
 
 -- src/table.rt:49:9

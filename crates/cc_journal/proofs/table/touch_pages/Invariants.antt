@@ -1,4 +1,4 @@
-use Rattle.cc_journal.proofs.TouchLoop.{TouchedSoFar}
+use Rattle.cc_journal.proofs.Touches.{TouchedSoFar}
 use Rattle.cc_journal.proofs.table.touch_pages.Given as goal
 
 abbrev pub invariant-loop-number : goal.invariant-loop-number

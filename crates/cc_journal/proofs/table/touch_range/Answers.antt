@@ -1,5 +1,5 @@
 use Rattle.std.proofs.Common.{arith}
-use Rattle.cc_journal.proofs.TouchLoop.{last_below}
+use Rattle.cc_journal.proofs.Touches.{last_below}
 use Rattle.cc_journal.proofs.table.touch_range.Goals as goal
 
 -- src/table.rt:32:21
