@@ -8,6 +8,7 @@ use std::alloc::Global;
 use std::array;
 use std::marker::Model;
 use std::sync::Arc;
+use thiserror::Error;
 
 /// Bytes in a page.
 pub const PAGE_SIZE: usize = 4096;
@@ -16,7 +17,8 @@ pub const PAGE_SIZE: usize = 4096;
 pub const PAGES: usize = 64;
 
 /// No memory was found for the frame of a page.
-#[derive(Clone, Copy, Debug, PartialEq, Eq)]
+#[derive(Clone, Copy, Debug, PartialEq, Eq, Error)]
+#[error("no memory for the 4096 bytes of a page")]
 pub struct NoMemory;
 
 /// A snapshot of a page: the bytes of the moment in which it was made, whatever becomes of the page.
@@ -71,7 +73,7 @@ impl Model for Frames {
 }
 
 impl Frames {
-    /// No page.
+    /// No page. Answers `NoMemory` where memory is wanting.
     pub fn new(alloc: Global) -> Result<Frames, NoMemory>
         ensures empty { IfOk result (λ frames. (i : ℕ) → page_at frames i ≡ None) }
     {
@@ -93,7 +95,8 @@ impl Frames {
         }
     }
 
-    /// Gives a page these bytes, in a frame of its own. The page is owned then.
+    /// Gives a page these bytes, in a frame of its own. The page is owned then. Answers `NoMemory`, and then nothing
+    /// has changed.
     pub fn put(&mut self, i: u8, bytes: &[u8; PAGE_SIZE]) -> Result<(), NoMemory>
         requires { i < PAGES }
         ensures page { OnOk result (page_at self.new i ≡ Some (owned bytes.now)) }
@@ -121,7 +124,8 @@ impl Frames {
         overwrite(&mut (*self.slots)[i as usize], at as usize, bytes);
     }
 
-    /// Makes a snapshot of a page, which is shared then; `None` where there is no page.
+    /// Makes a snapshot of a page, which is shared then; `None` where there is no page. Answers `NoMemory`, and then
+    /// nothing has changed.
     pub fn share(&mut self, i: u8) -> Result<Option<Frame>, NoMemory>
         requires { i < PAGES }
         ensures page { IfOk result (Snapshot (page_at self.old i) (page_at self.new i)) }
@@ -136,7 +140,8 @@ impl Frames {
         Ok(Some(frame))
     }
 
-    /// Makes a page that is there owned, by a copy where it is shared.
+    /// Makes a page that is there owned, by a copy where it is shared. Answers `NoMemory`, and then nothing has
+    /// changed.
     pub fn own(&mut self, i: u8) -> Result<(), NoMemory>
         requires within { i < PAGES }
         requires there { IsSome (page_at self.old i) }

@@ -6,17 +6,23 @@ ghost use Rattle.cc_run.specs.Ends.{TookPart};
 ghost use Rattle.cc_run.specs.declared.output.OutputError.TheVariants as unput;
 
 use cc_traits::{Sink, Stop};
+use thiserror::Error;
 
 /// Why a text was not put out whole.
-#[derive(Clone, Copy, Debug, PartialEq, Eq)]
+#[derive(Clone, Copy, Debug, PartialEq, Eq, Error)]
 pub enum OutputError {
     /// The sink failed, or took nothing where there were bytes.
+    #[error("the sink failed, or took nothing where there were bytes")]
     Failed,
     /// No memory was found; what was put before is out.
+    #[error("out of memory: the text was put out in part")]
     NoMemory,
 }
 
 /// Puts the whole text out.
+///
+/// `Failed` where the sink failed, or took nothing where there were bytes; `NoMemory`. In both cases it took no more
+/// than a first part of the text.
 pub fn put_all<K: Sink>(sink: &mut K, text: &[u8]) -> Result<(), OutputError>
     ensures whole { OnOk result (Both (K.told sink.old) (K.told sink.new) (Took text.now)) }
     ensures part { Both (K.told sink.old) (K.told sink.new) (TookPart text.now) }

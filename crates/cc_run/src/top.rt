@@ -44,7 +44,7 @@ pub struct Ended<D, L = Box<dyn LogFile + Send>, Q = Box<dyn PostRoutine + Send>
     pub script: Option<Script>,
     /// The answer of each line, those of the streams first.
     pub replies: Vec<LineReply>,
-    /// The answers of the lazy writer, with the number of the phase, from 1, as line. There is none yet.
+    /// The answers of the lazy writer, with the number of the phase, from 1, as line. There are none.
     pub ticks: Vec<LineReply>,
     /// The answers of the read-ahead worker, likewise.
     pub aheads: Vec<LineReply>,

@@ -1,3 +1,4 @@
+-- What the contracts cite.
 pub mod Slots
 pub mod Block
 pub mod Levels

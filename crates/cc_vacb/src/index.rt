@@ -14,9 +14,11 @@ use crate::slots::Slot;
 use crate::{levels, roots, tree};
 use std::alloc::{AllocError, Global};
 use std::marker::Model;
+use thiserror::Error;
 
 /// Memory was wanting, and nothing was changed.
-#[derive(Clone, Copy, PartialEq, Eq, Debug)]
+#[derive(Clone, Copy, Debug, PartialEq, Eq, Error)]
+#[error("no memory for an index block of the view index")]
 pub struct NoMemory;
 
 impl From<AllocError> for NoMemory {
@@ -45,7 +47,7 @@ impl Model for ViewIndex {
 }
 
 impl ViewIndex {
-    /// The index of a stream of that many bytes, which keeps the allocator.
+    /// The index of a stream of that many bytes, which keeps the allocator. Answers `NoMemory` where memory is wanting.
     pub fn new(alloc: Global, size: u64) -> Result<ViewIndex, NoMemory>
         ensures size { IfOk result (λ index. index.size ≡ size) }
         ensures empty { IfOk result (λ index. (block : ℕ) → entry_at index block ≡ None) }
@@ -62,6 +64,8 @@ impl ViewIndex {
         })
     }
 
+    /// Enters the view of a block, in the place of the one that it had. Answers `NoMemory` where memory is wanting, or
+    /// where there are more than 4294967280 index blocks; then nothing has changed.
     pub fn put(&mut self, block: u64, view: u16) -> Result<(), NoMemory>
         requires { StartsBelow block self.old.size }
         ensures here { OnOk result (entry_at self.new block ≡ Some view) }
@@ -80,6 +84,7 @@ impl ViewIndex {
         Ok(())
     }
 
+    /// Takes the entry of a block out and answers its view, where it had one. It takes no memory.
     pub fn take(&mut self, block: u64) -> Option<u16>
         requires { StartsBelow block self.old.size }
         ensures value { result ≡ entry_at self.old block }
@@ -93,8 +98,9 @@ impl ViewIndex {
         tree::take_view(&mut self.blocks, top, block)
     }
 
-    /// The index of the same entries for another size. A size that is no greater takes no memory, and nothing
-    /// is changed where memory is wanting.
+    /// The index of the same entries for another size. A size that is no greater takes no memory. A greater one answers
+    /// `NoMemory` where memory is wanting, or where there are more than 4294967280 index blocks; then nothing has
+    /// changed.
     pub fn resize(&mut self, size: u64) -> Result<(), NoMemory>
         requires { size < self.old.size
             → (block : ℕ) → IsSome (entry_at self.old block) → StartsBelow block size }
@@ -125,6 +131,7 @@ impl ViewIndex {
         Ok(())
     }
 
+    /// How many levels the tree has for the size: the least number, from 1 on, whose slots cover it.
     pub fn levels(&self) -> u8
         ensures count { result ≡ levels_of self.now.size }
         ensures least { IsLeastLevels self.now.size result }

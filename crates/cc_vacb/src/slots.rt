@@ -14,6 +14,7 @@ pub enum Slot {
 impl Slot {
     ghost use Rattle.cc_vacb.specs.Slots.{child_of, view_of};
 
+    /// The number of the index block that the slot holds, where it holds one.
     pub fn child(self) -> Option<u32>
         ensures { result ≡ child_of self }
     {
@@ -23,6 +24,7 @@ impl Slot {
         }
     }
 
+    /// The view that the slot holds, where it holds one.
     pub fn view(self) -> Option<u16>
         ensures { result ≡ view_of self }
     {
