@@ -1,3 +1,4 @@
+-- What the contracts cite.
 pub mod Kept
 pub mod Reads
 pub mod After

@@ -5,9 +5,9 @@
 //! read-ahead that a read leads to, are known in a step, where the definitions go over the whole history. It
 //! takes no memory and refuses nothing.
 //!
-//! The book of a stream stands above; below are the values of `cc_entry` and the definitions of `cc_model`.
-//! Which objects are open, the size and whether read-ahead is off are kept elsewhere (`cc_stream`), so
-//! whoever follows a call or asks for a read-ahead says them.
+//! The book of a stream stands above; below are the values of `cc_entry`, the definitions of `cc_model`, and what is
+//! kept of the stream (`cc_stream`), which has the open objects, the size and whether read-ahead is off: whoever
+//! follows a call or asks for a read-ahead says them.
 #![tactic(auto)]
 
 mod map;

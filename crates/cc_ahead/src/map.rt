@@ -1,4 +1,4 @@
-//! What is kept of one object of a stream: its granularity, and the last two reads, which lead ahead or don't.
+//! What is kept of one object of a stream: its granularity, and the last two reads, by which a read-ahead follows or not.
 
 ghost use Rattle.std.specs.Prelude.{◌≡◌, ◌+◌, ◌*◌, ◌^◌, ◌<◌};
 ghost use Rattle.cc_model.specs.ReadAhead.{is_sequential, rounded_up};

@@ -71,7 +71,7 @@ impl PrivateMaps {
     }
 
     /// The read-ahead that a read of `len` bytes at a place leads to (`CcScheduleReadAhead`), where it leads
-    /// to one: one granule after its end, cut at the size.
+    /// to one: the granule that begins at its end, rounded up to a whole granule, cut at the size.
     pub fn ahead_of(
         &self,
         file: FileId,

@@ -1,3 +1,4 @@
+-- What the contracts cite.
 pub mod Overlap
 pub mod Touched
 pub mod Holds

@@ -69,6 +69,7 @@ impl Model for Holds {
 }
 
 impl Holds {
+    /// No open hold. The allocator is kept for the holds to come.
     pub fn new(alloc: Global) -> Holds
         ensures { result ≡ [] }
     {
@@ -85,6 +86,7 @@ impl Holds {
         &self.holds
     }
 
+    /// The row of the open hold of an id, where there is one.
     pub fn get(&self, id: u64) -> Option<&HoldRow>
         ensures { option_copied result ≡ option_map (λ h. h.row) (hold_of self.now id) }
     {
@@ -94,7 +96,8 @@ impl Holds {
             .map(|hold| &hold.row)
     }
 
-    /// Opens a hold. Where its row has a written span, the pages of that span are touched.
+    /// Opens a hold. Where its row has a written span, the pages of that span are touched. Answers `NoMemory`, and then
+    /// nothing has changed.
     pub fn add(&mut self, hold: HoldRow) -> Result<(), NoMemory>
         ensures ok { OnOk result (self.new ≡ inserted self.old (opened hold)) }
         ensures err { OnErr result (self.new ≡ self.old) }
@@ -122,7 +125,7 @@ impl Holds {
         Some(row)
     }
 
-    /// Notes a write through the hold of an id.
+    /// Notes a write through the hold of an id. Answers `NoMemory`, and then nothing has changed.
     pub fn touch(&mut self, id: u64, span: Span) -> Result<(), NoMemory>
         requires { IsSome (hold_of self.old id) }
         ensures ok { OnOk result (Changes self.old self.new id (written span)) }

@@ -27,6 +27,7 @@ impl Model for TouchedPages {
 }
 
 impl TouchedPages {
+    /// No page.
     pub fn new(alloc: Global) -> TouchedPages
         ensures { result ≡ [] }
     {
@@ -42,13 +43,14 @@ impl TouchedPages {
         &self.pages
     }
 
+    /// Whether the page of this number is there.
     pub fn contains(&self, page: u64) -> bool
         ensures { result ≡ has_touched self.now page }
     {
         self.pages.contains(&page)
     }
 
-    /// Adds the pages that have a byte of the span.
+    /// Adds the pages that have a byte of the span. Answers `NoMemory`, and then nothing has changed.
     pub fn touch(&mut self, span: Span) -> Result<(), NoMemory>
         ensures ok { OnOk result (self.new ≡ with_pages self.old (pages_of span)) }
         ensures err { OnErr result (self.new ≡ self.old) }
@@ -62,6 +64,7 @@ impl TouchedPages {
         add_pages(&mut self.pages, first, end)
     }
 
+    /// Takes all pages out.
     pub fn clear(&mut self)
         ensures { self.new ≡ [] }
     {

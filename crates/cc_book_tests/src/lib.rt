@@ -1,7 +1,7 @@
 //! Tests of the public calls of what is kept of a stream: its holds, its contents, its images, a refusal, and its book.
 //!
 //! A clause can't forbid want of memory, so a body that always answers it is proved under any contract, and one
-//! whose `requires` no journal meets is proved whatever it does; here each such call is made once and its answer
+//! whose `requires` no journal meets is proved whatever it does; here most of them are made once and the answer
 //! compared. The expected values come from the definitions, none from the program. Nothing stands on this crate.
 #![tactic(auto)]
 

@@ -99,7 +99,8 @@ pub fn prepare_mdl_write<T: Turns>(
     }
 }
 
-/// Reads bytes of a read chain, as many as `out` has.
+/// Reads bytes of a read chain from a place of the stream on, as many as `out` has. In Windows it is a read of what the
+/// MDL describes.
 ///
 /// `JournalFull`, `NoMemory`.
 pub fn mdl_bytes<T: Turns>(
@@ -123,7 +124,8 @@ pub fn mdl_bytes<T: Turns>(
     read_hold(alloc, turns, &chain.held, call, out)
 }
 
-/// Stores bytes into a write chain. The store is visible and dirty at once.
+/// Stores bytes into a write chain from a place of the stream on. The store is visible and dirty at once. In Windows it
+/// is a write into what the MDL describes.
 ///
 /// `BeyondValid`, `JournalFull`, `NoMemory`.
 pub fn mdl_store<T: Turns>(

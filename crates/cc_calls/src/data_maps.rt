@@ -84,7 +84,8 @@ pub fn pin_mapped<T: Turns>(
     }
 }
 
-/// Reads mapped bytes, as many as `out` has.
+/// Reads mapped bytes from a place of the stream on, as many as `out` has. In Windows it is a read through the pointer
+/// that `CcMapData` gave.
 ///
 /// `JournalFull`, `NoMemory`.
 pub fn mapped_read<T: Turns>(

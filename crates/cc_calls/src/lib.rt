@@ -15,7 +15,7 @@
 //! made, used and ended; `data_maps`, `pins`, `repins` and `chains` have the routines on holds. Below are the turns
 //! (`cc_turns`), the visits of a pass to the journal (`cc_visits`), the writing of a page with the flush of its log and
 //! the fetch of pages (`cc_writes`), the flush and the purge of a span (`cc_flush`), and what others leave of a pass's
-//! holds (`cc_own`).
+//! holds (`cc_own`). The lines of a script (`cc_lines`) and the runs (`cc_run`) stand above.
 #![tactic(auto)]
 
 mod chains;

@@ -1,4 +1,5 @@
-//! The calls on a log: its own routines, which the cache calls for a file system.
+//! The calls on a log. They are no Cc routines: the log is the file system's own, and the cache flushes it before a page
+//! goes to its disk.
 
 ghost use Rattle.std.specs.Prelude.{◌≡◌, ◌<◌, false, None, Some};
 ghost use Rattle.cc_effects.specs.LogCalls.{AppendLeft, LogFlushLeft};
@@ -16,7 +17,7 @@ use cc_turns::Turns;
 use cc_writes::{LogFlush, flush_to, give_back, place};
 use std::alloc::Global;
 
-/// Appends an entry to a log, and answers its LSN.
+/// Appends an entry to a log, and answers its LSN, which is the one behind the log's floor.
 ///
 /// `JournalFull`, `NoLog`, `LogFull`, `LogFault`, `NoMemory`.
 pub fn log_append<T: Turns>(

@@ -103,7 +103,8 @@ pub fn prepare_pin_write<T: Turns>(
     }
 }
 
-/// Reads pinned bytes, as many as `out` has.
+/// Reads pinned bytes from a place of the stream on, as many as `out` has. In Windows it is a read through the pointer
+/// that the pin gave.
 ///
 /// `JournalFull`, `NoMemory`.
 pub fn pinned_read<T: Turns>(
@@ -127,8 +128,9 @@ pub fn pinned_read<T: Turns>(
     read_hold(alloc, turns, &hold.held, call, out)
 }
 
-/// Writes into pinned bytes. The pages are dirty and Unstamped, so nobody writes them, until the pin is set dirty; the
-/// room for that is taken here.
+/// Writes into pinned bytes from a place of the stream on. The pages are dirty and Unstamped, so nobody writes them,
+/// until the pin is set dirty; the room for that is taken here. In Windows it is a write through the pointer that the pin
+/// gave.
 ///
 /// `BeyondValid`, `JournalFull`, `NoMemory`.
 pub fn pinned_write<T: Turns>(

@@ -17,7 +17,7 @@ use cc_turns::Turns;
 use cc_visits::Returned;
 use std::alloc::Global;
 
-/// The sizes of a stream, and its log.
+/// The sizes of a stream, in bytes, and its log. It is no Cc routine: in Windows a file system keeps them itself.
 ///
 /// `NotCached`, `JournalFull`, `NoMemory`.
 pub fn file_state<T: Turns>(

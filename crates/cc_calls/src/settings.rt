@@ -66,7 +66,8 @@ pub fn set_granularity<T: Turns>(
     )
 }
 
-/// Sets whether a stream is read ahead and written behind (`CcSetAdditionalCacheAttributes`).
+/// Sets what the journal says of a stream's read-ahead and of the lazy writer's choice of its pages
+/// (`CcSetAdditionalCacheAttributes`). Nothing reads ahead or writes behind by itself.
 ///
 /// `NotCached`, `JournalFull`, `NoMemory`.
 pub fn set_attributes<T: Turns>(
@@ -88,8 +89,8 @@ pub fn set_attributes<T: Turns>(
     set(alloc, turns, file.stream(), call)
 }
 
-/// Sets how many pages of a stream may be dirty before its writes are held back, 0 for no limit
-/// (`CcSetDirtyPageThreshold`).
+/// Sets how many pages of a stream may be dirty before a write may not go, 0 for no limit (`CcSetDirtyPageThreshold`).
+/// Nothing holds a write back by itself.
 ///
 /// `NotCached`, `JournalFull`, `NoMemory`.
 pub fn set_threshold<T: Turns>(

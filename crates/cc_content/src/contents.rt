@@ -132,7 +132,7 @@ impl Contents {
     }
 
     /// Makes a snapshot of a page, where it is resident. The page is shared then, and a call that changes it
-    /// owns it first.
+    /// owns it first. Answers `NoMemory` where memory is wanting; no byte changes in either case.
     pub fn share(&mut self, page: u64) -> Result<Option<Frame>, NoMemory>
         ensures resident { IfOk result (λ frame. (opening : Option (ℕ → List ℕ)) (h : List Effect) →
             ContentsStand opening h self.old → is_some frame ≡ is_resident h page) }
@@ -150,7 +150,7 @@ impl Contents {
     }
 
     /// Follows an initialise that makes the shared map (`CcInitializeCacheMap`), with this size and valid data
-    /// length in bytes.
+    /// length in bytes. Answers `NoMemory`, and then nothing has changed.
     pub fn open(
         &mut self,
         alloc: Global,
@@ -170,7 +170,7 @@ impl Contents {
     }
 
     /// Follows a page that came in, given what was read of it: below the valid data length that stays, and
-    /// from there on the page is 0.
+    /// from there on the page is 0. Answers `NoMemory`, and then nothing has changed.
     pub fn came_in(&mut self, page: u64, raw: &[u8; 4096]) -> Result<(), NoMemory>
         requires { HasRoomFor self.old page }
         ensures stands { OnOk result ((opening : Option (ℕ → List ℕ)) (h : List Effect) (pass : ℕ)

@@ -31,7 +31,8 @@ use std::cmp::min;
 
 impl Contents {
     /// Makes the pages owned that a done call changes in place, by a copy of each that is shared. `truncation` is
-    /// the size that an uninitialise sets, where it sets one.
+    /// the size that an uninitialise sets, where it sets one. Answers `NoMemory`, and then no byte has changed, but
+    /// some of the pages may be owned.
     pub fn own(&mut self, call: &Call, truncation: Option<u64>) -> Result<(), NoMemory>
         requires may { IsFollowable call.now truncation self.old }
         ensures owned { OnOk result (OwnsChanged self.new call.now truncation) }
@@ -62,7 +63,8 @@ impl Contents {
     /// Follows a call of the stream that was done, which finds the pages owned that it changes in place. `size`
     /// is the size before it, `truncation` the size that an uninitialise sets, where it sets one, and `mapped`
     /// says whether there is a map after it. Only an initialise that makes the map, a set of sizes, a noncached
-    /// store and a write take memory; a write has its bytes in a `Vec` for as long as this takes.
+    /// store and a write take memory; a write has its bytes in a `Vec` for as long as this takes. Answers `NoMemory`,
+    /// and then nothing has changed.
     pub fn done(
         &mut self,
         alloc: Global,

@@ -1,3 +1,4 @@
+-- What the contracts cite.
 pub mod Order
 pub mod Unwritten
 pub mod Table

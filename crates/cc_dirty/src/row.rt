@@ -101,6 +101,7 @@ impl Row {
         }
     }
 
+    /// Whether any touch of the page is unwritten: one that a transfer under way took, or a later one.
     pub fn is_touched(&self) -> bool
         ensures { result ≡ is_touched self.now }
     {

@@ -30,6 +30,7 @@ impl Model for DirtyTable {
 }
 
 impl DirtyTable {
+    /// A table without rows, which keeps the allocator.
     pub fn new(alloc: Global) -> DirtyTable
         ensures { result.rows ≡ [] }
     {
@@ -38,7 +39,7 @@ impl DirtyTable {
         }
     }
 
-    /// Makes room for so many rows in all.
+    /// Makes room for so many rows in all. Answers `NoMemory`, and then nothing has changed.
     pub fn reserve(&mut self, rows: u32) -> Result<(), NoMemory>
         ensures room { OnOk result (rows ≤ self.new.capacity) }
         ensures rows { self.new.rows ≡ self.old.rows }

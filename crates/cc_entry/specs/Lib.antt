@@ -1,3 +1,4 @@
+-- What the contracts cite.
 pub mod Place
 pub mod Pages
 pub mod Kinds

@@ -49,7 +49,7 @@ impl Model for BytesRoom {
 }
 
 impl BytesRoom {
-    /// Room for as many bytes at most.
+    /// Room for as many bytes at most. Answers `NoMemory` where memory is wanting.
     pub fn new(alloc: Global, most: usize) -> Result<BytesRoom, NoMemory>
         ensures { IfOk result (λ room. room ≡ most) }
     {
@@ -89,7 +89,7 @@ impl Bytes {
         }
     }
 
-    /// The bytes of a slice.
+    /// The bytes of a slice. Answers `NoMemory` where memory is wanting.
     pub fn of(alloc: Global, slice: &[u8]) -> Result<Bytes, NoMemory>
         ensures { IfOk result (λ bytes. bytes ≡ slice.now) }
     {
@@ -97,7 +97,7 @@ impl Bytes {
         Ok(room.keep(slice))
     }
 
-    /// Adds `count` bytes of one value at the end.
+    /// Adds `count` bytes of one value at the end. Answers `NoMemory`, and then nothing has changed.
     pub fn append(&mut self, byte: u8, count: u64) -> Result<(), NoMemory>
         requires some { 0 < count }
         requires fits { length self.old + count < 2 ^ 64 }
@@ -116,6 +116,7 @@ impl Bytes {
         self.len
     }
 
+    /// Whether there is no byte.
     pub fn is_empty(&self) -> bool
         ensures { IsTrue result ↔ (self.now ≡ []) }
     {
@@ -136,7 +137,7 @@ impl Bytes {
         None
     }
 
-    /// The bytes in a `Vec`.
+    /// The bytes in a `Vec`. Answers `NoMemory` where memory is wanting.
     pub fn to_vec(&self, alloc: Global) -> Result<Vec<u8>, NoMemory>
         ensures { IfOk result (λ bytes. bytes.items ≡ self.now) }
     {

@@ -21,18 +21,21 @@ impl Model for Pages {
 }
 
 impl Pages {
+    /// The pages of a `Vec`, in its order.
     pub fn from_vec(items: Vec<PageId>) -> Pages
         ensures { result ≡ items.items }
     {
         Pages { items }
     }
 
+    /// The pages, in their order.
     pub fn as_slice(&self) -> &[PageId]
         ensures { result.now ≡ self.now }
     {
         &self.items
     }
 
+    /// The pages in the `Vec` that keeps them.
     pub fn into_vec(self) -> Vec<PageId>
         ensures { result.items ≡ self }
     {
@@ -72,18 +75,21 @@ impl Model for Rows {
 }
 
 impl Rows {
+    /// The rows of a `Vec`, in its order.
     pub fn from_vec(items: Vec<DirtyRow>) -> Rows
         ensures { result ≡ items.items }
     {
         Rows { items }
     }
 
+    /// The rows, in their order.
     pub fn as_slice(&self) -> &[DirtyRow]
         ensures { result.now ≡ self.now }
     {
         &self.items
     }
 
+    /// The rows in the `Vec` that keeps them.
     pub fn into_vec(self) -> Vec<DirtyRow>
         ensures { result.items ≡ self }
     {
@@ -122,18 +128,21 @@ impl Model for Ids {
 }
 
 impl Ids {
+    /// The numbers of a `Vec`, in its order.
     pub fn from_vec(items: Vec<u64>) -> Ids
         ensures { result ≡ items.items }
     {
         Ids { items }
     }
 
+    /// The numbers, in their order.
     pub fn as_slice(&self) -> &[u64]
         ensures { result.now ≡ self.now }
     {
         &self.items
     }
 
+    /// The numbers in the `Vec` that keeps them.
     pub fn into_vec(self) -> Vec<u64>
         ensures { result.items ≡ self }
     {

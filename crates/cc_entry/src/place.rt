@@ -23,6 +23,7 @@ impl Model for StreamId {
 }
 
 impl StreamId {
+    /// The stream of this number, `None` from 16 on.
     pub fn new(n: u8) -> Option<StreamId>
         ensures in_range { IsSome result ↔ (n < 16) }
         ensures number { IfSome result (λ stream. stream ≡ n) }
@@ -34,6 +35,7 @@ impl StreamId {
         }
     }
 
+    /// Its number, 0 to 15.
     pub fn number(self) -> u8
         ensures same { result ≡ self }
         ensures in_range { result < 16 }
@@ -63,6 +65,7 @@ impl Model for FileId {
 }
 
 impl FileId {
+    /// The file object of this number and of the stream of that one; `None` where one of the two is 16 or more.
     pub fn new(stream: u8, object: u8) -> Option<FileId>
         ensures in_range { IsSome result ↔ ((stream < 16) × (object < 16)) }
         ensures stream { IfSome result (λ file. file.stream ≡ stream) }
@@ -76,12 +79,14 @@ impl FileId {
         }
     }
 
+    /// The stream of its file.
     pub fn stream(self) -> StreamId
         ensures { result ≡ self.stream }
     {
         self.stream
     }
 
+    /// Its number among the file objects of its stream, 0 to 15.
     pub fn object(self) -> u8
         ensures same { result ≡ self.object }
         ensures in_range { result < 16 }
@@ -111,6 +116,7 @@ impl Model for PageId {
 }
 
 impl PageId {
+    /// The page of this number in a stream, `None` from 2^51 on.
     pub fn new(stream: StreamId, page: u64) -> Option<PageId>
         ensures in_range { IsSome result ↔ (page < 2 ^ 51) }
         ensures stream { IfSome result (λ place. place.stream ≡ stream) }
@@ -123,12 +129,14 @@ impl PageId {
         }
     }
 
+    /// The stream that has the page.
     pub fn stream(self) -> StreamId
         ensures { result ≡ self.stream }
     {
         self.stream
     }
 
+    /// Its number in its stream, below 2^51.
     pub fn page(self) -> u64
         ensures same { result ≡ self.page }
         ensures in_range { result < 2 ^ 51 }
@@ -156,6 +164,7 @@ impl Model for Lsn {
 }
 
 impl Lsn {
+    /// The LSN of this number, `None` for 0 and past 2^62.
     pub fn new(n: u64) -> Option<Lsn>
         ensures in_range { IsSome result ↔ ((1 ≤ n) × (n ≤ 2 ^ 62)) }
         ensures number { IfSome result (λ lsn. lsn ≡ n) }
@@ -167,6 +176,7 @@ impl Lsn {
         }
     }
 
+    /// Its number, 1 to 2^62.
     pub fn number(self) -> u64
         ensures same { result ≡ self }
         ensures above_zero { 1 ≤ result }
@@ -197,6 +207,7 @@ impl Model for Span {
 }
 
 impl Span {
+    /// The bytes from `from` up to, and without, `to`; `None` where `to` is less than `from`.
     pub fn new(from: u64, to: u64) -> Option<Span>
         ensures in_order { IsSome result ↔ (from ≤ to) }
         ensures start { IfSome result (λ span. span.from ≡ from) }
@@ -245,6 +256,7 @@ impl Model for Quota {
 }
 
 impl Quota {
+    /// The quota of so many view blocks, `None` below 8 and past 64.
     pub fn new(n: u8) -> Option<Quota>
         ensures in_range { IsSome result ↔ ((8 ≤ n) × (n ≤ 64)) }
         ensures blocks { IfSome result (λ quota. quota ≡ n) }
@@ -256,6 +268,7 @@ impl Quota {
         }
     }
 
+    /// How many view blocks may be mapped, 8 to 64.
     pub fn blocks(self) -> u8
         ensures same { result ≡ self }
         ensures at_least { 8 ≤ result }

@@ -13,6 +13,7 @@ pub struct Output<'a, R: Print> {
 }
 
 impl<'a, R: Print> Output<'a, R> {
+    /// The sink that prints with `out`, of which no call has failed.
     pub fn new(out: &'a R) -> Output<'a, R>
         ensures { result.faults ≡ 0 }
     {

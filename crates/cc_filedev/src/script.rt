@@ -42,6 +42,7 @@ pub struct ScriptFile<P: Place> {
 }
 
 impl<P: Place> ScriptFile<P> {
+    /// The file at a place, which is not open yet: no byte was taken of it, and no call has failed.
     pub fn new(place: P) -> ScriptFile<P>
         ensures none_taken { result.taken ≡ 0 }
         ensures no_fault { result.faults ≡ 0 }

@@ -19,6 +19,8 @@ use cc_step::{Stepped, attempt};
 use std::alloc::Global;
 
 /// Goes on with a call of this pass as far as its book and the journal alone allow.
+///
+/// `Stopped` with `JournalFull` or `NoMemory`.
 pub fn next<Q>(
     alloc: Global,
     book: &mut Book,
@@ -69,6 +71,8 @@ fn bring<Q>(
 
 /// Makes room for the block of the page that a call waits for: a dirty page of the block to give up is to be written, or
 /// its least page goes out.
+///
+/// `Stopped` with `JournalFull` or `NoMemory`.
 pub fn make_room<Q>(
     alloc: Global,
     book: &mut Book,

@@ -25,6 +25,8 @@ use std::alloc::Global;
 /// read if it has to be. The place that is reserved for it is used, or given back.
 ///
 /// `raw` is what was read of it; `None` where it had no byte below the valid data length.
+///
+/// `NoMemory`, and then the place is given back.
 pub fn land<Q>(
     alloc: Global,
     book: &mut Book,

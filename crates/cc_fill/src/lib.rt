@@ -1,7 +1,7 @@
 //! Pages for a call: what a call that may bring pages in does next on its book.
 //!
 //! What the layer keeps true: such a call waits for one page at a time, the least that it needs and that is not
-//! resident, and is decided anew after each. A page comes in only while the call still waits for it, and only where
+//! resident, and is decided anew after each. A page comes in only as one of the call's range, and only where
 //! the quota of view blocks has room for it. Room is made from one block, the least recently used one that has no open
 //! hold and is none of the call's: its dirty pages are written before, and then its pages go out, the least first. So
 //! no page goes out for a call that others made needless, and what was read of a page is shown only where it is still

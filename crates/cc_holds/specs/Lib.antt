@@ -1,3 +1,4 @@
+-- What the contracts cite.
 pub mod Stands
 pub mod Makes
 pub mod Looks

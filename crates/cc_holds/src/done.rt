@@ -14,7 +14,7 @@ use cc_entry::{Call, NoMemory, Span};
 impl OpenHolds {
     /// Follows a call of the stream that was done, given the id in its reply, which is greater than that of each
     /// open hold where the call makes one. What it zeroes or writes ends below 2^64. Only a new hold and a pinned
-    /// write take memory.
+    /// write take memory. Answers `NoMemory`, and then nothing has changed.
     pub fn done(&mut self, call: &Call, id: u64) -> Result<(), NoMemory>
         requires zeroed { zeroed_end call.now < 2 ^ 64 }
         requires written { written_end call.now < 2 ^ 64 }

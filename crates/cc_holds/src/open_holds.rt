@@ -242,7 +242,7 @@ impl OpenHolds {
         self.holds.active_blocks()
     }
 
-    /// The view blocks that have a byte of an open hold, each once.
+    /// The view blocks that have a byte of an open hold, each once. Answers `NoMemory` where memory is wanting.
     pub fn held_blocks(&self, alloc: Global) -> Result<Vec<u64>, NoMemory>
         ensures distinct { IfOk result (λ blocks. IsDistinct nat_eq blocks.items) }
         ensures same { IfOk result (λ blocks. (h : List Effect) → HoldsStand h self.now →
@@ -255,7 +255,8 @@ impl OpenHolds {
         Ok(blocks)
     }
 
-    /// The view blocks that have a byte of an open hold or of a span, each once.
+    /// The view blocks that have a byte of an open hold or of a span, each once. Answers `NoMemory` where memory is
+    /// wanting.
     pub fn kept_blocks(&self, alloc: Global, span: Span) -> Result<Vec<u64>, NoMemory>
         ensures same { IfOk result (λ blocks. (h : List Effect) → HoldsStand h self.now → (b : ℕ) →
             is_among b blocks.items ≡ (is_among b (held_blocks (holds_of h)) || is_among b (blocks_of span))) }
@@ -268,7 +269,7 @@ impl OpenHolds {
         Ok(blocks)
     }
 
-    /// How many view blocks have a byte of an open hold or of a span.
+    /// How many view blocks have a byte of an open hold or of a span. Answers `NoMemory` where memory is wanting.
     pub fn needed_blocks(&self, alloc: Global, span: Span) -> Result<u64, NoMemory>
         ensures { IfOk result (λ count. (h : List Effect) → HoldsStand h self.now →
             count ≡ needed_blocks (holds_of h) span) }

@@ -94,7 +94,7 @@ impl Images {
         }
     }
 
-    /// Takes the memory that the end of a page's transfer may need.
+    /// Takes the memory that the end of a page's transfer may need. Answers `NoMemory`, and then nothing has changed.
     pub fn reserve(&mut self) -> Result<(), NoMemory>
         ensures room { OnOk result (HasRoomToBegin self.new) }
         ensures stands { (h : List Effect) → ImagesStand h self.old → ImagesStand h self.new }
@@ -113,7 +113,8 @@ impl Images {
         self.begun = valid;
     }
 
-    /// Follows the begin of a page's transfer, at this valid data length. Its end takes no memory.
+    /// Follows the begin of a page's transfer, at this valid data length. Its end takes no memory. Answers `NoMemory`,
+    /// and then nothing has changed.
     pub fn began(&mut self, valid: u64) -> Result<(), NoMemory>
         ensures stands { OnOk result ((h : List Effect) (pass page : ℕ) → ImagesStand h self.old →
             valid ≡ valid_of h → ImagesStand (Began pass page ∷ h) self.new) }

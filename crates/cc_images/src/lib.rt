@@ -10,7 +10,8 @@
 //! `images` has the whole, `grown` the pages that have grown, `room` the room for them, and `unknown` the pages
 //! whose image is not known.
 //! The refusal of a call (`cc_refusal`) and the book of a stream stand above; below are the dirty page table
-//! (`cc_dirty`), the values of `cc_entry`, and the definitions of `cc_model` with their lemmas in `cc_laws`.
+//! (`cc_dirty`), what an entry does to a stream (`cc_events`), the values of `cc_entry`, and the definitions of
+//! `cc_model` with their lemmas in `cc_laws`.
 #![tactic(auto)]
 
 mod grown;

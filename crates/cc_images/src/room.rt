@@ -23,7 +23,7 @@ impl Model for Room {
 }
 
 impl Room {
-    /// Room for all pages of a quota.
+    /// Room for all pages of a quota. Answers `NoMemory` where memory is wanting.
     pub fn new(alloc: Global, quota: Quota) -> Result<Room, NoMemory>
         ensures { IfOk result (λ room. 64 * quota ≤ room) }
     {

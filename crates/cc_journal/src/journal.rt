@@ -32,7 +32,7 @@ use cc_traits::{PostRoutine, PostedRoutine};
 use std::alloc::Global;
 use std::marker::Model;
 
-/// The entries of a run, and beside them what their readers need, so that nobody searches them.
+/// The entries of a run, and beside them what others ask of them, so that no call of a run searches them.
 #[derive(Drop)]
 pub struct Journal<Q = Box<dyn PostRoutine + Send>> {
     alloc: Global,
@@ -77,7 +77,8 @@ impl<Q> Model for Journal<Q> {
 }
 
 impl<Q: PostRoutine> Journal<Q> {
-    /// An empty journal, with room for all rows of the dirty page table and for 64 deferred writes.
+    /// An empty journal, with room for all rows of the dirty page table and for 64 deferred writes. Answers `NoMemory`
+    /// where memory is wanting.
     pub fn new(
         alloc: Global,
         capacity: u32,
@@ -138,8 +139,8 @@ impl<Q: PostRoutine> Journal<Q> {
         id
     }
 
-    /// Posts the write at the head of the queue, which may go, and answers its id and its routine. It takes no
-    /// memory.
+    /// Posts the write at the head of the queue, which may go, and answers its id and its routine, the one that was
+    /// handed to `CcDeferWrite`. It takes no memory.
     pub fn push_posted(&mut self) -> PostedRoutine<Q>
         requires reserved { 0 < self.old.reserved }
         requires may_go { head_may_go (limited self.old.threshold) self.old.entries (queue self.old.entries) ≡ true }
@@ -278,7 +279,7 @@ impl<Q> Journal<Q> {
         self.holds + 1
     }
 
-    /// Whether a stream has a shared map: an object is open, or a page is dirty.
+    /// Whether a stream has a shared map (`CcIsFileCached`): an object is open, or a page is dirty.
     pub fn is_mapped(&self, stream: StreamId) -> bool
         ensures { result ≡ is_mapped (history self.now.entries stream) }
     {
@@ -308,7 +309,7 @@ impl<Q> Journal<Q> {
         256_u16.saturating_sub(self.streams.views_taken())
     }
 
-    /// The dirty page table.
+    /// The dirty page table, of which `CcGetDirtyPages` gives the pages of one log.
     pub fn dirty(&self) -> &DirtyTable
         ensures rows { result.now.rows ≡ self.now.rows }
         ensures follows { Follows self.now.entries result.now.rows }
@@ -327,7 +328,7 @@ impl<Q> Journal<Q> {
         goes(pages, total, self.threshold, count, own)
     }
 
-    /// How many deferred writes wait, at most 64.
+    /// How many deferred writes (`CcDeferWrite`) wait, at most 64.
     pub fn queued(&self) -> u8
         ensures queue { result ≡ length (queue self.now.entries) }
         ensures most { result ≤ 64 }
@@ -335,7 +336,7 @@ impl<Q> Journal<Q> {
         self.waiting.len() as u8
     }
 
-    /// Whether a deferred write waits, and the one at the head may go.
+    /// Whether a deferred write (`CcDeferWrite`) waits, and the one at the head may go (`CcCanIWrite`).
     pub fn may_post(&self) -> bool
         ensures { (u : Setup) → u.threshold ≡ self.now.threshold →
             result ≡ head_may_go u self.now.entries (queue self.now.entries) }
@@ -346,7 +347,8 @@ impl<Q> Journal<Q> {
         }
     }
 
-    /// The pages that a scan of the lazy writer picks.
+    /// The pages that a scan of the lazy writer picks. No public Cc routine does that. Answers `NoMemory` where memory
+    /// is wanting.
     pub fn pick(&self) -> Result<Pages, NoMemory>
         ensures { (u : Setup) → u.threshold ≡ self.now.threshold →
             IfOk result (λ picked. picked ≡ pick u self.now.entries) }

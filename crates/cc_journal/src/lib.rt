@@ -4,14 +4,15 @@
 //! be written down. Beside the entries it keeps what others ask of them, each equal to its definition on the
 //! entries: the rows of the dirty page table, the queue of deferred writes, what the lazy writer would pick,
 //! whether a write may go, the log of each stream, the views that are free, the id of the next hold, and how
-//! many calls of each pass have ended. So nobody searches the entries.
+//! many calls of each pass have ended. So no call of a run searches the entries.
 //!
 //! An entry is followed by its stream's state (`streams`), the ranges of open holds (`places`), the rows of the
 //! pages that it touches, cuts, begins or ends (`table`), the counts of calls (`calls`), the scans (`scans`)
 //! and the queue (`queue`). Each entry after which the journal is good so far may be pushed (`laws`).
 //!
-//! The book of each stream and the turns of a board stand above; below are `cc_stream`, `cc_dirty`, what an
-//! entry does to a stream (`cc_events`), and the definitions of `cc_model`.
+//! The book of each stream, the dirty page table of a log (`cc_table`) and the turns (`cc_turns`, `cc_board`) stand
+//! above; below are `cc_stream`, `cc_dirty`, what an entry does to a stream (`cc_events`), the post routines of
+//! `cc_traits`, and the definitions of `cc_model` with their laws.
 #![tactic(auto)]
 
 mod calls;

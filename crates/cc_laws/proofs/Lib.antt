@@ -1,3 +1,4 @@
+-- Lemmas on how the definitions step and what holds of them, for the laws and for the crates above.
 pub mod HistorySteps
 pub mod TurnSteps
 pub mod QuietSteps

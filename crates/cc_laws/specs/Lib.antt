@@ -1,3 +1,4 @@
+-- In the order in which the definitions build on each other.
 pub mod Laws
 pub mod Facts
 pub mod ByPlaces

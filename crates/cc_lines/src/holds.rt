@@ -56,7 +56,7 @@ impl Model for Names {
 }
 
 impl Names {
-    /// No words yet, with room for so many.
+    /// No words yet, with room for so many. Answers `NoMemory` where memory is wanting.
     pub fn with_room(alloc: Global, words: usize) -> Result<Names, NoMemory>
         ensures { IfOk result (λ names. (names.named ≡ []) × (words ≤ names.room)) }
     {

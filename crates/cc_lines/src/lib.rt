@@ -1,11 +1,11 @@
 //! The call of one line of a script, over any turns.
 //!
-//! What the layer keeps true: a line's action is served by the one call of it, between the two sides of the gate, and
-//! what the call leaves explains the line's answer, over what the caller's words name. What is kept of those words goes
+//! What the layer keeps true: a line's action is served by the one call of it, between the gate's `before` and `after`,
+//! and what the call leaves explains the line's answer, over what the caller's words name. What is kept of those words goes
 //! on standing for what the caller was answered: each word names the hold that its line made, which the caller has still,
-//! or nothing where none was made.
+//! or nothing where none was made or a line has ended it.
 //!
-//! `line` serves an action, `held_lines` one on a hold, `noncached_lines` one past the cache, and `holds` keeps what the
+//! `line` serves an action, `held_lines` one on a hold, `noncached_lines` a noncached one, and `holds` keeps what the
 //! words of a caller name. The phases of a run stand above (`cc_run`); below are the calls (`cc_calls`, `cc_nocache`)
 //! and how the journal explains answers (`cc_pieces`).
 #![tactic(auto)]

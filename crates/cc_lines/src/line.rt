@@ -25,7 +25,7 @@ use cc_traits::Gate;
 use cc_turns::Turns;
 use std::alloc::Global;
 
-/// Serves an action between the two sides of the gate, as the call of its caller with this number.
+/// Serves an action between the gate's `before` and `after`, as the call of its caller with this number.
 pub fn serve_at<T: Turns, P: Gate>(
     alloc: Global,
     turns: &mut T,

@@ -1,4 +1,4 @@
-//! The lines that read and write whole pages past the cache.
+//! The noncached lines, which read and write whole pages.
 
 ghost use Rattle.cc_entry.specs.declared.answer.Answer.TheVariants as answer;
 ghost use Rattle.cc_entry.specs.declared.error.CcError.TheVariants as error;

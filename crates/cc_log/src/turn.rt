@@ -44,14 +44,14 @@ impl<L: LogFile> LogTurn<L> {
         }
     }
 
-    /// The greatest LSN that was appended or flushed to, 0 at first.
+    /// The greatest LSN that was appended or flushed to, 0 at first. No Cc routine: it is the log's own.
     pub fn floor(&self) -> u64
         ensures { result ≡ self.now.floor }
     {
         self.floor
     }
 
-    /// The greatest LSN that was flushed to, 0 at first.
+    /// The greatest LSN that was flushed to, 0 at first. No Cc routine: it is the log's own.
     pub fn flushed(&self) -> u64
         ensures same { result ≡ self.now.flushed }
         ensures within { self.now.flushed ≤ self.now.floor }
@@ -59,7 +59,7 @@ impl<L: LogFile> LogTurn<L> {
         self.flushed
     }
 
-    /// Appends an entry and answers its LSN, one more than the floor.
+    /// Appends an entry and answers its LSN, one more than the floor. No Cc routine: it is the log's own.
     ///
     /// `LogFull` where no LSN is left, `LogFault` where the file failed, `NoMemory`.
     pub fn append(&mut self, bytes: &[u8]) -> Result<Lsn, CcError>
@@ -86,7 +86,8 @@ impl<L: LogFile> LogTurn<L> {
         }
     }
 
-    /// Flushes the log up to an LSN. It takes no memory.
+    /// Flushes the log up to an LSN. It takes no memory. In Windows it is the routine that a file system hands to
+    /// `CcSetLogHandleForFile`.
     ///
     /// `LogFault` where the file failed; `NoMemory` only where the file's count of faults is at its end.
     pub fn flush(&mut self, to: Lsn) -> Result<(), CcError>

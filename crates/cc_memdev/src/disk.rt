@@ -104,7 +104,7 @@ impl MemDisk {
         self.content.page(page)
     }
 
-    /// The contents of a page that a crash now can leave, oldest first.
+    /// The contents of a page that a crash now can leave, oldest first. Answers `AllocError` where memory is wanting.
     pub fn may(&self, page: u64) -> Result<Vec<[u8; 4096]>, AllocError>
         ensures { IfOk result (λ contents. contents.items ≡ may_of self.now.disk page) }
     {

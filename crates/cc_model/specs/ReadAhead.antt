@@ -50,7 +50,7 @@ abbrev pub rounded_up : ℕ → ℕ → ℕ
 rounded_up n step = ((n + (step - 1)) / step) * step
 
 -- The read-ahead that a read of len bytes at a place leads to, where it leads to one
--- (CcScheduleReadAhead): one granule after its end, cut at the size.
+-- (CcScheduleReadAhead): the granule that begins at its end, rounded up to a whole granule, cut at the size.
 unfoldable pub ahead_of : List Effect → File → ℕ → ℕ → Option Request
 ahead_of h file at len =
     let granule = granularity_of file.object h in

@@ -54,7 +54,8 @@ pub fn others_go_on()
 {}
 
 /// In a good journal, a line that a copied read answered with bytes has its entry in its piece, and the bytes
-/// are the plain file's at that place (`CcCopyRead`).
+/// are the plain file's at that place, where the disk told its opening pages; else their number is, and those from the
+/// valid data length on are zeros (`CcCopyRead`).
 pub fn reads_answer_the_plain_file()
     ensures { (u : Setup) (limit me : ℕ) (bindings : List Binding) (file : File) (at len : ℕ) (wait : Bool) (bytes : List ℕ)
         (old new newer : List Entry) →
@@ -91,16 +92,19 @@ pub fn uninitialise_tells_whether_the_map_went()
         × (gone ≡ not (is_mapped (Did me (call.Uninitialise file truncate) (reply.Flag gone) ∷ history (earlier ++ old) file.stream))) }
 {}
 
-/// A word names the hold that its line made, of the kind that the hold is now; a refused line binds nothing.
+/// Of a caller's first word: it names the hold that its line made, of the kind that the hold is now; a refused line binds
+/// nothing.
 pub fn words_name_holds()
     ensures made { (word id : ℕ) → hold_named (bound word kind.Map (answer.Given (reply.Hold id)) []) word is_map ≡ Some id }
     ensures of_its_kind { (word id : ℕ) → hold_named (bound word kind.Map (answer.Given (reply.Hold id)) []) word is_pin ≡ None }
     ensures pinned { (word id : ℕ) →
-        hold_named (pinned word (answer.Given (reply.Hold id)) (bound word kind.Map (answer.Given (reply.Hold id)) [])) word is_pin ≡ Some id }
+        hold_named (pinned word (answer.Given (reply.Hold id)) (bound word kind.Map (answer.Given (reply.Hold id)) [])) word is_pin
+        ≡ Some id }
     ensures refused { (word : ℕ) (e : CcError) → hold_named (bound word kind.Map (answer.Refused e) []) word is_map ≡ None }
 {}
 
-/// A line on a word that names no hold of the kind that it needs is answered so, and leaves nothing.
+/// A read through a word that names no hold, and a pinned write through one that names a map, are answered so and leave
+/// nothing.
 pub fn lines_without_hold_leave_nothing()
     ensures read { (u : Setup) (me word at len : ℕ) (told : Answer) (old new : List Entry) →
         HeldReadLine u me [] word at len told old new → (told ≡ answer.NoHold) × IsIdle me old new }

@@ -1,3 +1,4 @@
+-- In the order in which the definitions build on each other.
 pub mod Append
 pub mod Words
 pub mod Answers

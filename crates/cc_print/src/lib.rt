@@ -5,7 +5,7 @@
 //! here answers exactly its part of it, or want of memory. A stream that the script doesn't have is
 //! written without a name.
 //!
-//! It stands on cc_entry and cc_script; the program's runs stand on it.
+//! It stands on `cc_entry` and `cc_script`; the pieces (`cc_pieces`), worked journals and the program's runs stand on it.
 #![tactic(auto)]
 
 mod answer;

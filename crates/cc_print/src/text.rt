@@ -202,7 +202,8 @@ fn whole_text(
     Ok(text)
 }
 
-/// The whole text of a run. `table` are the pages that are dirty at the end, by stream and page.
+/// The whole text of a run. `table` are the pages that are dirty at the end, by stream and page. Answers `NoMemory`
+/// where memory is wanting.
 pub fn text_of(
     alloc: Global,
     script: &Script,

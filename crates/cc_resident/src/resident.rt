@@ -36,7 +36,7 @@ impl Model for ResidentPages {
 }
 
 impl ResidentPages {
-    /// No page, of a stream of that many bytes.
+    /// No page, of a stream of that many bytes. Answers `NoMemory` where memory is wanting.
     pub fn new(alloc: Global, quota: Quota, size: u64) -> Result<ResidentPages, NoMemory>
         ensures empty { IfOk result (λ r. (p : ℕ) → page_at r p ≡ None) }
         ensures blocks { IfOk result (λ r. blocks r ≡ []) }
@@ -113,7 +113,8 @@ impl ResidentPages {
         self.views.quota()
     }
 
-    /// Makes a snapshot of a page, which is shared then; `None` where the page is not resident.
+    /// Makes a snapshot of a page, which is shared then; `None` where the page is not resident. Answers `NoMemory`
+    /// where memory is wanting; no byte changes in either case.
     pub fn share(&mut self, page: u64) -> Result<Option<Frame>, NoMemory>
         ensures snapshot { IfOk result (λ frame. frame ≡ page_at self.old page) }
         ensures whole { IfOk result (λ frame. IfSome frame (λ bytes. length bytes ≡ 4096)) }
@@ -123,7 +124,8 @@ impl ResidentPages {
         steps::share(&mut self.views, page)
     }
 
-    /// Makes the resident pages with bytes of a range owned, by a copy of each that is shared.
+    /// Makes the resident pages with bytes of a range owned, by a copy of each that is shared. Answers `NoMemory`, and
+    /// then no byte has changed, but some of the pages may be owned.
     pub fn own_range(&mut self, from: u64, to: u64) -> Result<(), NoMemory>
         ensures owned { OnOk result (AllOwned self.new (record { from = from; to = to })) }
         ensures bytes { SameBytes self.old self.new }
@@ -136,7 +138,8 @@ impl ResidentPages {
         }
     }
 
-    /// Makes the page owned that a cut to a size would change, where there is one.
+    /// Makes the page owned that a cut to a size would change, where there is one. Answers `NoMemory`, and then no byte
+    /// has changed.
     pub fn own_rest(&mut self, size: u64) -> Result<(), NoMemory>
         ensures owned { OnOk result (AllOwned self.new (rest_of_page size)) }
         ensures bytes { SameBytes self.old self.new }
@@ -145,7 +148,8 @@ impl ResidentPages {
         steps::own_span(&mut self.views, size / 4096, size.div_ceil(4096))
     }
 
-    /// Makes a page these bytes, whether it was resident or not, and notes a use of its block.
+    /// Makes a page these bytes, whether it was resident or not, and notes a use of its block. Answers `NoMemory`, and
+    /// then nothing has changed.
     pub fn bring_in(&mut self, page: u64, bytes: &[u8; 4096]) -> Result<(), NoMemory>
         requires starts { 4096 * page < self.old.size }
         requires room { (is_among (block_of page) (blocks self.old) ≡ true)
@@ -190,7 +194,7 @@ impl ResidentPages {
     }
 
     /// Cuts the stream to a size, or lets it grow. The pages that start at or past the size are taken out,
-    /// and bytes past it are 0. Only growth takes memory.
+    /// and bytes past it are 0. Only growth takes memory. Answers `NoMemory`, and then nothing has changed.
     pub fn cut(&mut self, size: u64) -> Result<(), NoMemory>
         requires owned { AllOwned self.old (rest_of_page size) }
         ensures pages { OnOk result (Cuts self.old self.new size) }

@@ -133,6 +133,7 @@ pub struct Moment {
 }
 
 impl Moment {
+    /// A moment that has not come, and for which nobody waited in vain.
     pub fn new() -> Moment {
         Moment {
             came: AtomicBool::new(false),

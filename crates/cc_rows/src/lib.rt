@@ -2,9 +2,10 @@
 //!
 //! The crate has tests, and what they need: runs over devices in memory, and devices beside those of `cc_memdev` and
 //! `cc_filedev`, a sink that takes a few bytes a call, a source of line feeds, a disk that tells nothing, and one that
-//! waits. Each test runs a script by the words of the command line and compares the exit status and the text with what the script
-//! language and the format of the text say (docs/SCRIPTS.md). No expected text is taken from the program.
-//! The tests of lines on holds, cache maps and noncached pages stand on it (`cc_map_rows`).
+//! waits. Each test runs a script by the words of the command line and compares the exit status and the text, or parts of
+//! it, with what the script language and the format of the text say (docs/SCRIPTS.md). No expected text is taken from the
+//! program. The tests of lines on holds, cache maps and noncached pages (`cc_map_rows`) and the program of `examples`
+//! stand on it; below is the top call (`cc_run`).
 #![tactic(auto)]
 
 mod devices;

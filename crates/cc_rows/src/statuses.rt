@@ -33,7 +33,7 @@ fn failing_source(alloc: Global) -> Result<MemSource, AllocError> {
 }
 
 // The words come first: the source that would fail is not asked. The last two lists are of commands
-// that the usage names and that are not served yet.
+// that the usage names and that do not exist.
 #[test]
 fn wrong_words(rt: HostRuntime) -> Result<(), Fail> {
     let alloc = rt.alloc();

@@ -1,3 +1,4 @@
+-- Lemmas of a run: of its lines, phases and callers, of what it gives back, and of how the program ends.
 mod Acting
 mod Ascending
 mod LinesRan

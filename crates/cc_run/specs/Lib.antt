@@ -1,3 +1,4 @@
+-- What the contracts cite.
 pub mod Desks
 pub mod Setups
 pub mod Lines

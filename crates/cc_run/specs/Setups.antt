@@ -7,7 +7,7 @@ use Rattle.cc_model.specs.Setup.{Setup}
 use Rattle.cc_script.specs.declared.script.Script.{Script}
 use Rattle.cc_turns.specs.Desk.{openings}
 
--- The disks of a run: the first 16 of those that are handed in, as many as it has streams at most.
+-- The disks of a run: the first 16 of those that are handed in, which is as many as a script has streams at most.
 abbrev pub run_disks : {D : Type 0} → List D → List D
 run_disks disks = take 16 disks
 

@@ -28,12 +28,14 @@ impl Model for HoldWord {
 }
 
 impl HoldWord {
+    /// The word of this number.
     pub fn new(number: usize) -> HoldWord
         ensures { result ≡ number }
     {
         HoldWord { number }
     }
 
+    /// Its number among the words that its caller binds, from 0.
     pub fn number(self) -> usize
         ensures { result ≡ self }
     {

@@ -8,8 +8,8 @@
 //! once, as it is read, and stands for its number from then on. Laws of the grammar in words of their own, as
 //! that a number's word is its decimal text, are clauses of functions without a body.
 //!
-//! It stands on cc_entry, for the values of the words, and on `indexmap`, by which a word that names a hold is found;
-//! the program's runs stand on it.
+//! It stands on `cc_entry`, for the values of the words, on `indexmap`, by which a word that names a hold is found, and
+//! on `thiserror`, for the text of its fault; the text, the pieces and the runs stand on it.
 #![tactic(auto)]
 
 mod action;

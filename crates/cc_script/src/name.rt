@@ -37,12 +37,14 @@ impl Name {
         Ok(Name { text })
     }
 
+    /// The name as text.
     pub fn as_str(&self) -> &str
         ensures { result.now ≡ self.now }
     {
         self.text.as_str()
     }
 
+    /// The bytes of the name.
     pub fn as_bytes(&self) -> &[u8]
         ensures { result.now ≡ self.now }
     {

@@ -21,6 +21,8 @@ const MOST_LINES: u32 = 65536;
 
 /// The script that bytes spell, or the first line that is not in the grammar of the mode. A run may rely on what a script
 /// that was read keeps within, and on which actions one of its mode may have; it needs no test of either.
+///
+/// `ScriptFault::Syntax` with the number of that line, counted from 1; `ScriptFault::NoMemory`.
 pub fn read_script(alloc: Global, bytes: &[u8], mode: Mode) -> Result<Script, ScriptFault>
     ensures read { Reads (script_of mode bytes.now) result }
     ensures within { IfOk result IsWithin }

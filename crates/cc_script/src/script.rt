@@ -51,6 +51,7 @@ impl Model for StreamLines {
 }
 
 impl StreamLines {
+    /// No stream.
     pub fn new(alloc: Global) -> StreamLines
         ensures { result ≡ [] }
     {
@@ -59,6 +60,7 @@ impl StreamLines {
         }
     }
 
+    /// The streams of a `Vec`, in its order; they are 16 at most.
     pub fn from_vec(items: Vec<StreamLine>) -> StreamLines
         requires { vec_len items ≤ 16 }
         ensures { result ≡ items.items }
@@ -66,6 +68,7 @@ impl StreamLines {
         StreamLines { items }
     }
 
+    /// The streams in the `Vec` that keeps them.
     pub fn into_vec(self) -> Vec<StreamLine>
         ensures { result.items ≡ self }
     {
@@ -73,6 +76,7 @@ impl StreamLines {
         items
     }
 
+    /// The streams, each at the place that is its number.
     pub fn as_slice(&self) -> &[StreamLine]
         ensures same { result.now ≡ self.now }
         ensures most { length self.now ≤ 16 }
@@ -80,6 +84,7 @@ impl StreamLines {
         &self.items
     }
 
+    /// How many streams there are, at most 16.
     pub fn len(&self) -> usize
         ensures count { result ≡ length self.now }
         ensures most { result ≤ 16 }
@@ -87,6 +92,7 @@ impl StreamLines {
         self.items.len()
     }
 
+    /// Whether there is no stream.
     pub fn is_empty(&self) -> bool
         ensures { result ≡ (length self.now == 0) }
     {
@@ -286,7 +292,7 @@ pub enum Action {
         no_read_ahead: bool,
         no_write_behind: bool,
     },
-    /// How many pages of a stream may be dirty before its writes are held back, 0 for no limit.
+    /// How many pages of a stream may be dirty before a write may not go, 0 for no limit.
     SetThreshold {
         file: FileId,
         pages: u32,
@@ -413,6 +419,7 @@ impl Model for ActionLines {
 }
 
 impl ActionLines {
+    /// No action.
     pub fn new(alloc: Global) -> ActionLines
         ensures { result ≡ [] }
     {
@@ -421,24 +428,28 @@ impl ActionLines {
         }
     }
 
+    /// The actions of a `Vec`, in its order.
     pub fn from_vec(items: Vec<ActionLine>) -> ActionLines
         ensures { result ≡ items.items }
     {
         ActionLines { items }
     }
 
+    /// The actions, in the order of their lines.
     pub fn as_slice(&self) -> &[ActionLine]
         ensures { result.now ≡ self.now }
     {
         &self.items
     }
 
+    /// Whether there is no action.
     pub fn is_empty(&self) -> bool
         ensures { result ≡ (length self.now == 0) }
     {
         self.items.is_empty()
     }
 
+    /// The actions in the `Vec` that keeps them.
     pub fn into_vec(self) -> Vec<ActionLine>
         ensures { result.items ≡ self }
     {

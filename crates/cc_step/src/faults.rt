@@ -27,7 +27,7 @@ pub enum Failed {
 /// Ends a call of this pass that met a fault: refused, where others brought a refusal about meanwhile, else with the
 /// fault.
 ///
-/// `JournalFull` exactly where there is no room, with the number of entries; `NoMemory`.
+/// `JournalFull` only where there is too little room, with the number of entries; `NoMemory`.
 pub fn fail<Q>(
     alloc: Global,
     book: &mut Book,

@@ -34,7 +34,7 @@ pub enum Stepped {
 /// set-dirty that was reserved, and the end of a hold, have their place and take no memory. Where the pass owed the end of
 /// a noncached write, whose transfer found no memory, the place of that end is given back.
 ///
-/// `JournalFull` exactly where there is no room, with the number of entries; `NoMemory`.
+/// `JournalFull` only where there is too little room, with the number of entries; `NoMemory`.
 pub fn attempt<Q>(
     alloc: Global,
     book: &mut Book,

@@ -1,2 +1,3 @@
+-- What the contracts cite.
 pub mod Stream
 pub mod After

@@ -1,2 +1,3 @@
+-- What the tests' contracts cite.
 pub mod Light
 pub mod Boards

@@ -306,7 +306,7 @@ fn keeps_options(rt: HostRuntime) {
     );
 }
 
-/// Of a line that opens, closes, purges or goes around the cache: the object of its file, and up to three numbers.
+/// Of a line that opens, closes or purges, or of a noncached one: the object of its file, and up to three numbers.
 fn numbers_of(action: &Action) -> Option<(u8, u64, u64, u64)> {
     match action {
         Action::Initialise { file, sizes, .. } => {

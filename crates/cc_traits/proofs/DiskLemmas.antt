@@ -1,5 +1,5 @@
--- What a device needs to show that its disk was written, failed_write or settled: from the contents that it
--- lists, and for a device that puts each content behind the others.
+-- What a device needs to show that a write of its disk ended well or failed, or that it was settled: from the contents
+-- that it lists, and for a device that puts each content behind the others.
 use Rattle.std.proofs.Common.{◌≡◌, ℕ, ◌==◌, Bool, true, false, if◌then◌else◌, List, [], ◌∷◌, ◌++◌, Contains, refl, ◌∙◌, ap, subst, eq-eqb}
 use Rattle.std.proofs.lemmas.Bool.{eqb-true}
 use Rattle.std.proofs.lemmas.List.{append-nil}
@@ -76,7 +76,7 @@ Wrote-by_contents page bytes old new held own rest =
       may = λ p. may_of-more page bytes old new others own rest p (page == p) refl;
     }
 
--- a disk that holds what it held was failed_write where it lists the bytes behind what a crash could leave
+-- a disk that holds what it held stands after a failed write where it lists the bytes behind what a crash could leave
 pub WriteFailed-by_contents : (page : ℕ) (bytes : List ℕ) (old new : Disk) → ((p : ℕ) → page_of new p ≡ page_of old p) → contents new.may page ≡ may_of old page ++ bytes ∷ [] → ((p : ℕ) → (page == p) ≡ false → contents new.may p ≡ contents old.may p) → WriteFailed page bytes old new
 WriteFailed-by_contents page bytes old new held own rest =
     let more : (p : ℕ) → may_of new p ≡ (if page == p then may_of old p ++ bytes ∷ [] else may_of old p) = λ p. may_of-more page bytes old new (λ q _. held q) own rest p (page == p) refl in

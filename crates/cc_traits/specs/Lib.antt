@@ -1,3 +1,4 @@
+-- What the contracts cite.
 pub mod Stop
 pub mod Told
 pub mod Disk

@@ -25,7 +25,7 @@ pub trait PageDisk: Told + Send {
         ensures stays { Self.told self.new ≡ Self.told self.old }
         ensures counted { Self.faults self.new ≡ Self.faults self.old + faults_in result };
 
-    /// Writes a page. Where it fails, the page holds one of the contents that a crash can leave.
+    /// Writes a page. Where it fails, the page holds one of the contents that a crash can leave, if it did before.
     fn write_page(&mut self, page: u64, bytes: &[u8; 4096]) -> Result<(), Stop>
         ensures wrote { OnOk result
             (Both (Self.told self.old) (Self.told self.new) (Wrote page bytes.now)) }

@@ -16,7 +16,7 @@ pub struct Setup<D, L = Box<dyn LogFile + Send>> {
     pub logs: Vec<L>,
     /// How many entries the journal has room for.
     pub journal: u32,
-    /// How many dirty pages there may be before writes are held back.
+    /// How many dirty pages there may be before a write may not go.
     pub threshold: u32,
     ghost few_disks: { vec_len disks ≤ 16 },
     ghost few_logs: { vec_len logs ≤ 4 },

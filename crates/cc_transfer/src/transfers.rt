@@ -17,7 +17,9 @@ ghost use Rattle.cc_transfer.specs.Transfers.{CanRead, CanTransfer, IsUnderWay, 
 use cc_entry::End;
 use cc_traits::{PageDisk, Stop};
 
-/// Reads a page into `raw`. What `raw` has where the disk stops is left open.
+/// Reads a page into `raw`. What `raw` has where the disk stops is left open. Answers `Stop::Failed` where the disk
+/// failed, whose count of faults rose by one, and `Stop::NoMemory` where it could not read for want of memory, or its
+/// count of faults is at its end.
 pub fn read<D: PageDisk>(disk: &mut D, page: u64, raw: &mut [u8; 4096]) -> Result<(), Stop>
     ensures found { OnOk result ((u : Setup) (first : DiskAtFirst) (past : List Entry) (s : ℕ) →
         CanRead D.told D.faults u first past s page disk.old →

@@ -50,7 +50,7 @@ pub trait Turns {
             (standing self.new).seen stream result }
         ensures at_rest { open_of (history (standing self.new).seen stream) ≡ None };
 
-    /// Gives it, with no transfer under way.
+    /// Gives the turn of a stream's disk, with no transfer under way.
     fn give_device(&mut self, stream: StreamId, disk: Self::Disk)
         requires held { (standing self.old).held ≡ record nothing { device = Some stream } }
         requires stands { DiskStands Self.Disk.told Self.Disk.faults ((standing self.old).disks stream)
@@ -67,7 +67,7 @@ pub trait Turns {
         ensures stream { result.stream ≡ stream }
         ensures stands { BookStands ((standing self.new).setup.opening stream) (standing self.new).seen result };
 
-    /// Gives it.
+    /// Gives the turn of a stream's book.
     fn give_book(&mut self, stream: StreamId, book: Book)
         requires held { (standing self.old).held
             ≡ record nothing { device = (standing self.old).held.device; book = Some stream } }
@@ -85,7 +85,7 @@ pub trait Turns {
         ensures stands { LogStands Self.Log.told Self.Log.faults ((standing self.new).logs handle)
             (standing self.new).seen result };
 
-    /// Gives it.
+    /// Gives the turn of a log.
     fn give_log(&mut self, handle: u8, log: LogTurn<Self::Log>)
         requires held { (standing self.old).held.log ≡ Some handle }
         requires no_journal { (standing self.old).held.journal ≡ false }
@@ -100,8 +100,8 @@ pub trait Turns {
         ensures took { Takes with_journal (standing self.old) (standing self.new) }
         ensures stands { JournalStands Self.Post.posted (standing self.new) result };
 
-    /// Gives it, with the entries of the pass that it was given since. Each stands where the turns that it needs are
-    /// held. The pass has one entry at most reserved for what it has under way.
+    /// Gives the turn of the journal, with the entries of the pass that it was given since. Each stands where the turns
+    /// that it needs are held. The pass has one entry at most reserved for what it has under way.
     fn give_journal(&mut self, journal: Journal<Self::Post>)
         requires held { (standing self.old).held.journal ≡ true }
         requires adds { Adds (standing self.old) journal.entries }

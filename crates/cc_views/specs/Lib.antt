@@ -1,3 +1,4 @@
+-- What the contracts cite.
 pub mod Views
 pub mod Indexed
 pub mod Lent

@@ -39,7 +39,7 @@ impl Model for Views {
 impl Views {
     ghost use Rattle.cc_views.specs.Lent.{LendsFrames};
 
-    /// No mapped block, of a stream of that many bytes.
+    /// No mapped block, of a stream of that many bytes. Answers `NoMemory` where memory is wanting.
     pub fn new(alloc: Global, quota: Quota, size: u64) -> Result<Views, NoMemory>
         ensures empty { IfOk result (λ v. v.views ≡ []) }
         ensures quota { IfOk result (λ v. v.quota ≡ quota) }
@@ -102,7 +102,7 @@ impl Views {
         }
     }
 
-    /// Maps a block, with no page.
+    /// Maps a block, with no page. Answers `NoMemory`, and then nothing has changed.
     pub fn add(&mut self, block: u64) -> Result<(), NoMemory>
         requires room { length self.old.views < self.old.quota }
         requires unmapped { frames_at self.old block ≡ None }
@@ -136,7 +136,8 @@ impl Views {
         }
     }
 
-    /// The same blocks for another size of the stream. One that is no greater takes no memory.
+    /// The same blocks for another size of the stream. One that is no greater takes no memory. Answers `NoMemory`, and
+    /// then nothing has changed.
     pub fn resize(&mut self, size: u64) -> Result<(), NoMemory>
         requires { (block : ℕ) → IsSome (frames_at self.old block) → StartsBelow block size }
         ensures smaller { size ≤ self.old.size → IsOk result }

@@ -5,8 +5,9 @@
 //! is still under way, was stopped by a fault, or ended as its answer says. Others may go on between two visits, but
 //! nowhere that the pass holds a turn.
 //!
-//! `visits` has the visits, `tell` what a call returns to its caller. The functions that read and write pages stand
-//! above, and the calls. Below are the turns (`cc_turns`), and the steps of a call on a book (`cc_step`, `cc_fill`).
+//! `visits` has the visits, `release` one that gives back a place, `tell` what a call returns to its caller. The
+//! functions that read and write pages stand above, and the calls. Below are the turns (`cc_turns`), and the steps of a
+//! call on a book (`cc_step`, `cc_fill`).
 #![tactic(auto)]
 
 mod release;

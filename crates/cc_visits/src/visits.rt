@@ -113,6 +113,8 @@ pub fn next_at<T: Turns>(
 /// Brings a page in that a call waits for, from the raw bytes of the disk where it was read, if the call still waits
 /// for it, there is room for its block, and it was read if it has to be. The place that is reserved for it is used, or
 /// given back.
+///
+/// `NoMemory`, and then the place is given back.
 pub fn land_at<T: Turns>(
     alloc: Global,
     turns: &mut T,

@@ -100,7 +100,7 @@ pub fn fail<T: Turns>(
     (book, Err(error))
 }
 
-/// A call that is given up, for want of room or of memory.
+/// A call that is given up, for want of room or of memory. Answers the error that is handed in.
 pub fn given_up(_call: Call, error: CcError) -> Result<Call, CcError>
     ensures { result ≡ Err error }
 {

@@ -116,7 +116,8 @@ fn read_page<T: Turns>(
     }
 }
 
-/// Reads a page with the book given.
+/// Reads a page with the book given. Answers `Stop::Failed` where the disk failed, and `Stop::NoMemory` where it could
+/// not read for want of memory, or its count of faults is at its end.
 pub fn read_free<T: Turns>(
     turns: &mut T,
     disk: &mut T::Disk,

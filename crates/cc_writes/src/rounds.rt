@@ -29,6 +29,8 @@ const ROUNDS: u32 = 131_072;
 
 /// Brings the pages of a call in, with the turn of its stream's disk, until the call ends. Answers what the call
 /// returns to its caller.
+///
+/// The refusal of the call; `ReadFault`, `WriteFault`, `LogFault`, `JournalFull`, `NoMemory`.
 pub fn fetch<T: Turns>(
     alloc: Global,
     turns: &mut T,

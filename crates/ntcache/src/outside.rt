@@ -7,7 +7,7 @@ use cc_memdev::{DiskFails, LogFails, MemDisk, MemLog};
 use cc_traits::{Gate, PostRoutine};
 use std::alloc::{AllocError, Global};
 
-/// A disk for each stream that a script can have, with 5A in each byte.
+/// A disk for each stream that a script can have, with 5A in each byte. Answers `AllocError` where memory is wanting.
 pub fn devices(alloc: Global) -> Result<Vec<MemDisk>, AllocError>
     ensures { IfOk result (λ disks. disks.items ≡ replicate 16 new_disk) }
 {
@@ -30,7 +30,7 @@ fn device(alloc: Global) -> MemDisk
     MemDisk::new(alloc, 0x5A, fails)
 }
 
-/// Each log that a script can name.
+/// Each log that a script can name. Answers `AllocError` where memory is wanting.
 pub fn logs(alloc: Global) -> Result<Vec<MemLog>, AllocError>
     ensures { IfOk result (λ logs. logs.items ≡ replicate 4 new_log) }
 {
@@ -52,7 +52,8 @@ fn log(alloc: Global) -> MemLog
     MemLog::new(alloc, fails)
 }
 
-/// A post routine for each write that a script may defer.
+/// The 64 post routines: a script of steps with more lines that defer a write ends with status 7. Answers `AllocError`
+/// where memory is wanting.
 pub fn routines(alloc: Global) -> Result<Vec<Routine>, AllocError>
     ensures { IfOk result (λ routines. routines.items ≡ replicate 64 new_routine) }
 {

@@ -1,3 +1,5 @@
+-- By what the line does: its event, or its call, names streams that there are, and its answer is the line's; without
+-- memory nothing happened.
 use Rattle.std.proofs.Common.{ap, length, subst, sym, ◌∙◌}
 use Rattle.cc_pieces.specs.Events.{Makes}
 use Rattle.cc_turns.specs.Desk.{tells_of}

@@ -1,3 +1,4 @@
+-- Each line steps behind the lines before, with room for its reply and its word; with the last all of them went.
 use Rattle.std.proofs.Common.{ap, arith, refl, ◌∙◌}
 use Rattle.cc_steps.proofs.LineSteps.{line-further, lines-went, no-line-yet}
 use Rattle.cc_steps.proofs.lines.step_lines.Goals as goal

@@ -1,3 +1,4 @@
+-- Each stream has a disk, and is set up behind the streams before, with room for its reply.
 use Rattle.std.proofs.Common.{arith, rules, length, subst, sym, ◌<◌, ◌∙◌}
 use Rattle.cc_steps.proofs.StreamSteps.{none-yet, one-further, streams-went}
 use Rattle.cc_steps.proofs.openings.open_streams.Goals as goal

@@ -1,3 +1,4 @@
+-- Of a line that pins a map: the names, with the word's made a pin, are those of the definition, newest first.
 use Rattle.std.specs.Prelude.{List, map, reverse, vec_capacity}
 use Rattle.std.proofs.Common.{ap, arith, length, sym, ◌∙◌}
 use Rattle.std.proofs.lemmas.List.{length-map, with_items_is}

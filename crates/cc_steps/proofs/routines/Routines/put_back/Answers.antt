@@ -1,3 +1,4 @@
+-- Where a routine waits under the number it comes back to its place; where none does nothing comes back.
 use Rattle.std.specs.Prelude.{List, position, reverse, slice_set, vec_capacity}
 use Rattle.std.proofs.Common.{ap, sym, ◌∙◌}
 use Rattle.cc_steps.specs.Routines.{RoutinesState, come_back, waits_for}
