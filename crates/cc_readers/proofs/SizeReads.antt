@@ -2,7 +2,7 @@
 use Rattle.std.specs.Prelude.{◌≡◌, ℕ, ◌+◌, ◌<◌, ◌≤◌, Bool, true, false, nat_le, List, [], ◌∷◌, ◌++◌, length, take, slice_index, refl}
 use Rattle.std.proofs.Common.{ap, sym, ◌∙◌, arith, get_or, subst}
 use Rattle.std.proofs.lemmas.Bool.{leb-true, leb-false}
-use Rattle.std.proofs.lemmas.List.{take-append-le, take-take, length-append, length-take, take_all, get_or_append_left, get_or_push}
+use Rattle.std.proofs.lemmas.List.{take-append-le, length-append, length-take, take_all, get_or_append_left, get_or_push}
 use Rattle.cc_entry.specs.declared.entry.Entry.{Entry}
 use Rattle.cc_model.specs.History.{effect_of, history}
 use Rattle.cc_model.specs.Touches.{sizes, size_of, valid_of}
@@ -53,15 +53,6 @@ pub sizes_next : (found now : List ℕ) (journal : List Entry) (i : ℕ) (entry 
 sizes_next found now journal i entry s size is in_range are count after pushed =
     subst (λ (xs : List ℕ). AreSizes xs (take (i + 1) journal) s) (sym pushed)
     (sizes_more found (take (i + 1) journal) (take i journal) entry s size (entries_next journal i entry is in_range) are (omega (arith, length-take i journal)) after)
-
--- the sizes of a journal are those of its entries up to a place
-pub sizes_up_to : (sizes : List ℕ) (journal : List Entry) (i s : ℕ) → AreSizes sizes journal s → i ≤ length journal → AreSizes sizes (take i journal) s
-sizes_up_to sizes journal i s are within = record {
-  long = omega (arith, are.long, length-take i journal);
-  each = λ k early.
-      are.each k (omega (arith, length-take i journal))
-      ∙ ap (λ (es : List Entry). size_of (effects es s)) (sym (take-take k i journal (omega (arith, length-take i journal))));
-}
 
 pub valid_next : (journal : List Entry) (i : ℕ) (entry : Entry) (s now : ℕ) → entry ≡ get_or journal i entry → i < length journal → now ≡ valid_after (event_of (effect_of entry s)) (effects (take i journal) s) → now ≡ valid_of (effects (take (i + 1) journal) s)
 valid_next journal i entry s now is in_range after =
