@@ -1,7 +1,6 @@
 -- The visit in which a noncached write ends.
-use Rattle.std.specs.Prelude.{◌≡◌, ℕ, suc, ◌+◌, ◌-◌, ◌≤◌, ◌<◌, Bool, true, false, List, [], ◌∷◌, ◌++◌, None, Some, refl, if◌then◌else◌}
+use Rattle.std.specs.Prelude.{◌≡◌, ℕ, suc, ◌+◌, ◌-◌, ◌<◌, Bool, true, false, List, [], ◌∷◌, ◌++◌, None, Some, refl, if◌then◌else◌}
 use Rattle.std.specs.List.{AllByRecursion}
-use Rattle.std.specs.declared.option.Option.{Option}
 use Rattle.std.proofs.Common.{ap, sym, ◌∙◌, subst, arith}
 use Rattle.std.proofs.lemmas.Bool.{eq-eqb}
 use Rattle.cc_entry.specs.Place.{File, Page}
@@ -22,17 +21,16 @@ use Rattle.cc_laws.proofs.HistorySteps.{history-page_out, history-done, history-
 use Rattle.cc_laws.proofs.ImageSteps.{open_of-done, open_of-went_out}
 use Rattle.cc_laws.proofs.TurnSteps.{is_quiet-append, is_quiet-none, is_quiet-unneeded}
 use Rattle.cc_model.specs.Conditions.{MayFinish}
-use Rattle.cc_model.specs.Good.{IsGood}
 use Rattle.cc_model.specs.History.{history}
 use Rattle.cc_model.specs.Images.{open_of}
-use Rattle.cc_model.specs.Passes.{store_of, stored_by, up_to_call, calls_of, is_the_page}
+use Rattle.cc_model.specs.Passes.{up_to_call, calls_of}
 use Rattle.cc_model.specs.Room.{reserved_in}
 use Rattle.cc_model.specs.Turns.{Turn, is_quiet}
 use Rattle.cc_step.specs.Step.{StandUnder, is_answered}
 use Rattle.cc_step.proofs.Reserved.{reserved-done, reserved-failed}
 use Rattle.cc_turns.specs.Standing.{Standing, holds}
 use Rattle.cc_turns.specs.Journal.{JournalStands}
-use Rattle.cc_turns.specs.Takes.{Grows, Adds, without_journal, may_be_of}
+use Rattle.cc_turns.specs.Takes.{Adds, without_journal, may_be_of}
 use Rattle.cc_visits.specs.Hands.{HasBook, IsAtRest, WentWith}
 use Rattle.cc_visits.proofs.Owing.{reserved-page_out}
 use Rattle.cc_visits.proofs.Placing.{unneeded-call}

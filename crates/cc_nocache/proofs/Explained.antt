@@ -1,7 +1,7 @@
 -- What the writing of one page leaves is what a noncached write leaves of a page.
-use Rattle.std.specs.Prelude.{◌≡◌, ℕ, suc, ◌+◌, ◌-◌, ◌*◌, ◌≤◌, ◌<◌, Bool, true, false, ◌==◌, ◌&&◌, ◌||◌, nat_lt, min, List, [], ◌∷◌, ◌++◌, length, Result, Ok, Err, None, Some, refl, if◌then◌else◌}
-use Rattle.std.proofs.Common.{ap, sym, ◌∙◌, subst, arith, append_assoc, inl, inr}
-use Rattle.std.proofs.lemmas.Bool.{eq-eqb, lt-ltb}
+use Rattle.std.specs.Prelude.{◌≡◌, ℕ, suc, ◌-◌, ◌*◌, ◌≤◌, ◌<◌, Bool, true, false, ◌||◌, min, List, [], ◌∷◌, ◌++◌, length, Result, Ok, Err, Some, refl}
+use Rattle.std.proofs.Common.{ap, sym, ◌∙◌, subst, arith, append_assoc, inr}
+use Rattle.std.proofs.lemmas.Bool.{eq-eqb}
 use Rattle.cc_entry.specs.Place.{File, Page}
 use Rattle.cc_entry.specs.declared.call.Call.{Call}
 use Rattle.cc_entry.specs.declared.call.Call.TheVariants as call
@@ -14,25 +14,24 @@ use Rattle.cc_entry.specs.declared.error.CcError.TheVariants as error
 use Rattle.cc_entry.specs.declared.reply.Outcome.TheVariants as outcome
 use Rattle.cc_entry.specs.declared.reply.Reply.TheVariants as reply
 use Rattle.cc_book.specs.Stored.{store_done}
-use Rattle.cc_effects.specs.Asked.{Calls, makes_way, may_take_out, asks_out}
-use Rattle.cc_effects.specs.Moments.{own, Others, EachOwn, IsIdle, PlacedOnly}
+use Rattle.cc_effects.specs.Asked.{Calls, makes_way, may_take_out}
+use Rattle.cc_effects.specs.Moments.{own, Others, EachOwn}
 use Rattle.cc_effects.specs.Noncached.{IsTransferred, IsPageWritten, TakesOut, TransferRefused, bytes_stored}
-use Rattle.cc_effects.proofs.Stretches.{each-append, each-others, own-after, own-others}
+use Rattle.cc_effects.proofs.Stretches.{each-others, own-others}
 use Rattle.cc_model.specs.Conditions.{MayFinish}
 use Rattle.cc_model.specs.History.{history}
 use Rattle.cc_model.specs.Passes.{calls_of, is_the_page, store_of, is_written_since}
 use Rattle.cc_model.specs.Sizes.{stored_range}
 use Rattle.cc_model.specs.Touches.{size_of}
 use Rattle.cc_turns.specs.Standing.{Standing}
-use Rattle.cc_turns.specs.Takes.{Grows}
 use Rattle.cc_visits.specs.Hands.{WentWith}
 use Rattle.cc_visits.specs.Ways.{IsAtWork}
 use Rattle.cc_writes.specs.Transfers.{IsFinished}
 use Rattle.cc_writes.proofs.Visits.{went-number}
 use Rattle.cc_writes.proofs.Works.{work-grown}
-use Rattle.cc_nocache.specs.Ends.{IsOut, HasFinished, HasFailedWrite, write_done, write_failed}
-use Rattle.cc_nocache.specs.Pages.{FinishedLeft, PutLeft, IsWritten, IsUnwritten}
-use Rattle.cc_nocache.specs.Stores.{HasStored, with_store}
+use Rattle.cc_nocache.specs.Ends.{IsOut, HasFinished, write_done, write_failed}
+use Rattle.cc_nocache.specs.Pages.{FinishedLeft, PutLeft, IsUnwritten}
+use Rattle.cc_nocache.specs.Stores.{HasStored}
 use Rattle.cc_nocache.proofs.Finishing.{finish-others}
 use Rattle.cc_nocache.proofs.Goods.{stored-end}
 use Rattle.cc_nocache.proofs.PageWriting.{finishes-after}

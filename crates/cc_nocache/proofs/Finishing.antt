@@ -1,8 +1,8 @@
 -- The end of a noncached write on a book and a journal: its page goes out where it can, and its entry is placed.
-use Rattle.std.specs.Prelude.{◌≡◌, ℕ, suc, ◌+◌, ◌-◌, ◌≤◌, ◌<◌, Bool, true, false, List, [], ◌∷◌, ◌++◌, None, Some, refl}
+use Rattle.std.specs.Prelude.{◌≡◌, ℕ, ◌-◌, ◌<◌, true, List, [], ◌∷◌, ◌++◌, None, Some, refl}
 use Rattle.std.specs.declared.option.Option.{Option}
 use Rattle.std.specs.List.{list_any}
-use Rattle.std.proofs.Common.{ap, sym, ◌∙◌, subst, arith}
+use Rattle.std.proofs.Common.{ap, sym, ◌∙◌, subst}
 use Rattle.std.proofs.lemmas.Bool.{eq-eqb}
 use Rattle.cc_entry.specs.Place.{File, Page}
 use Rattle.cc_entry.specs.declared.call.Call.{Call}
@@ -31,10 +31,9 @@ use Rattle.cc_model.specs.Legal.{IsLegal, IsLegalEntry}
 use Rattle.cc_model.specs.Passes.{store_of, stored_by, stored_page, is_store, is_the_page, is_written_since, up_to_call}
 use Rattle.cc_model.specs.Setup.{Setup}
 use Rattle.cc_journal.specs.Calls.{ends_in_store}
-use Rattle.cc_step.specs.Step.{StandUnder}
 use Rattle.cc_step.proofs.Attempts.{reserving, adds-reserving}
 use Rattle.cc_step.proofs.Placed.{so-far}
-use Rattle.cc_nocache.specs.Ends.{MayFinishHere, IsOut, IsTidied, IsEnded, IsIdlePage, HasFailedSince, MayFailHere, write_done, write_failed}
+use Rattle.cc_nocache.specs.Ends.{MayFinishHere, IsTidied, IsEnded, IsIdlePage, HasFailedSince, MayFailHere, write_done, write_failed}
 
 nothing_owed : (e : Entry) (past : List Entry) → owed_begin past ≡ None → IsOwed (owed_begin past) e
 nothing_owed e past none = rw none tt

@@ -1,5 +1,5 @@
 -- A good journal stays good with a noncached store and with the begin of its transfer.
-use Rattle.std.specs.Prelude.{◌≡◌, ℕ, suc, ◌+◌, ◌-◌, ◌*◌, ◌<◌, ◌≤◌, Bool, true, false, nat_lt, nat_le, min, max, List, [], ◌∷◌, length, slice_index, Option, None, Some, refl, if◌then◌else◌}
+use Rattle.std.specs.Prelude.{◌≡◌, ℕ, suc, ◌+◌, ◌-◌, ◌*◌, ◌<◌, ◌≤◌, Bool, true, false, nat_lt, nat_le, min, max, List, [], ◌∷◌, slice_index, Option, None, Some, refl, if◌then◌else◌}
 use Rattle.std.specs.Option.{option_map}
 use Rattle.std.proofs.Common.{ap, sym, ◌∙◌, subst, arith}
 use Rattle.std.proofs.lemmas.Bool.{eq-eqb, lt-ltb, le-leb, ltb-true, ltb-false, le-ltb, and_from}
@@ -8,7 +8,6 @@ use Rattle.cc_entry.specs.Place.{File, Page}
 use Rattle.cc_entry.specs.declared.call.Call.{Call}
 use Rattle.cc_entry.specs.declared.call.Call.TheVariants as call
 use Rattle.cc_entry.specs.declared.entry.Entry.{Entry}
-use Rattle.cc_entry.specs.declared.entry.Entry.TheVariants as entry
 use Rattle.cc_entry.specs.declared.error.CcError.TheVariants as error
 use Rattle.cc_entry.specs.declared.reply.Reply.TheVariants as reply
 use Rattle.cc_book.specs.Stored.{store_done}
@@ -38,7 +37,7 @@ use Rattle.cc_model.specs.Room.{reserved_in}
 use Rattle.cc_model.specs.Settings.{log_of}
 use Rattle.cc_model.specs.Setup.{Setup}
 use Rattle.cc_model.specs.Sizes.{stored_range}
-use Rattle.cc_model.specs.Stamps.{is_unstamped, newest_of, lsns_of}
+use Rattle.cc_model.specs.Stamps.{is_unstamped, newest_of}
 use Rattle.cc_model.specs.Touches.{is_dirty, size_of, valid_of}
 use Rattle.cc_journal.specs.Calls.{owed_end}
 use Rattle.cc_step.proofs.Placed.{so-far}

@@ -1,8 +1,8 @@
 -- The writing of one page of a noncached write: its store with the begin of its transfer, and what follows.
-use Rattle.std.specs.Prelude.{◌≡◌, ℕ, suc, ◌+◌, ◌-◌, ◌*◌, ◌≤◌, ◌<◌, ◌⊎◌, Bool, true, false, ◌==◌, ◌||◌, nat_lt, min, List, [], ◌∷◌, ◌++◌, length, slice_index, Result, Ok, Err, None, Some, refl, if◌then◌else◌}
+use Rattle.std.specs.Prelude.{◌≡◌, ℕ, suc, ◌+◌, ◌-◌, ◌*◌, Bool, true, false, ◌==◌, ◌||◌, nat_lt, List, [], ◌∷◌, ◌++◌, length, slice_index, Some, refl, if◌then◌else◌}
 use Rattle.std.specs.declared.option.Option.{Option}
 use Rattle.std.specs.List.{list_any}
-use Rattle.std.proofs.Common.{ap, sym, ◌∙◌, subst, arith, append_assoc, inl, inr}
+use Rattle.std.proofs.Common.{ap, sym, ◌∙◌, subst, arith}
 use Rattle.std.proofs.lemmas.Bool.{eq-eqb, ltb-true, ltb-false}
 use Rattle.cc_entry.specs.Place.{File, Page}
 use Rattle.cc_entry.specs.declared.call.Call.TheVariants as call
@@ -10,7 +10,6 @@ use Rattle.cc_entry.specs.declared.entry.End.{End}
 use Rattle.cc_entry.specs.declared.entry.End.TheVariants as how
 use Rattle.cc_entry.specs.declared.entry.Entry.{Entry}
 use Rattle.cc_entry.specs.declared.entry.Entry.TheVariants as entry
-use Rattle.cc_entry.specs.declared.error.CcError.{CcError}
 use Rattle.cc_entry.specs.declared.error.CcError.TheVariants as error
 use Rattle.cc_entry.specs.declared.reply.Outcome.TheVariants as outcome
 use Rattle.cc_entry.specs.declared.reply.Reply.TheVariants as reply
@@ -27,15 +26,13 @@ use Rattle.cc_model.specs.Covered.{IsLogged}
 use Rattle.cc_model.specs.Faults.{faults_since, is_failed_write}
 use Rattle.cc_model.specs.History.{history}
 use Rattle.cc_model.specs.Images.{open_of}
-use Rattle.cc_model.specs.Passes.{is_same_page, is_the_page, store_of, stored_by, is_written_since, calls_of}
+use Rattle.cc_model.specs.Passes.{is_same_page, is_the_page, store_of, stored_by, calls_of}
 use Rattle.cc_model.specs.Touches.{size_of}
-use Rattle.cc_model.specs.Turns.{Device, is_quiet}
-use Rattle.cc_transfer.specs.Transfers.{transferred}
 use Rattle.cc_turns.specs.Disk.{DiskStands, opening_of}
 use Rattle.cc_turns.specs.Standing.{Standing, DiskAtFirst}
 use Rattle.cc_turns.specs.Takes.{Grows}
 use Rattle.cc_visits.specs.Hands.{HasBook, IsAtRest, SameDisk, WentWith}
-use Rattle.cc_visits.proofs.Disks.{disk-call, disk-page_out, disk-same, disk-then, disk_still}
+use Rattle.cc_visits.proofs.Disks.{disk-call, disk-page_out, disk-same, disk_still}
 use Rattle.cc_writes.specs.Transfers.{IsUnderWay, IsFinished}
 use Rattle.cc_writes.specs.Writes.{HasBoth}
 use Rattle.cc_writes.proofs.Flushing.{disk-grown}
@@ -43,7 +40,7 @@ use Rattle.cc_writes.proofs.Quiet.{history-kept, flushed_to-grows, logged-kept}
 use Rattle.cc_writes.proofs.Visits.{went-number, went-held}
 use Rattle.cc_writes.proofs.Writing.{opening-kept, disks-kept}
 use Rattle.cc_nocache.specs.Ends.{IsOut, HasFinished, HasFailedSince, HasFailedWrite, write_done, write_failed}
-use Rattle.cc_nocache.specs.Stores.{IsReadyToStore, HasStored, stored_byte, with_store}
+use Rattle.cc_nocache.specs.Stores.{IsReadyToStore, HasStored, stored_byte}
 use Rattle.cc_nocache.proofs.Finishing.{store-others}
 use Rattle.cc_nocache.proofs.Goods.{open-stored, bytes-with_store}
 use Rattle.cc_nocache.proofs.Storing.{refusal-history}

@@ -1,5 +1,5 @@
 -- The disk failed to read a page: its entry is placed in a visit, and halts the read.
-use Rattle.std.specs.Prelude.{◌≡◌, ℕ, ◌-◌, ◌<◌, Bool, List, ◌∷◌, refl}
+use Rattle.std.specs.Prelude.{◌≡◌, ℕ, ◌<◌, Bool, List, ◌∷◌, refl}
 use Rattle.std.proofs.Common.{ap, sym, ◌∙◌, subst}
 use Rattle.cc_entry.specs.Place.{File}
 use Rattle.cc_entry.specs.declared.call.Call.TheVariants as call

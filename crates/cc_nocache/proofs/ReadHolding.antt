@@ -16,7 +16,6 @@ use Rattle.cc_writes.specs.Calls.{MayFaultInWriting, PageLeft}
 use Rattle.cc_writes.proofs.Halting.{no-memory}
 use Rattle.cc_nocache.specs.ReadVisits.{page_in, ReadEnded, IsReading}
 use Rattle.cc_nocache.proofs.Misshapen.{read-unshaped}
-use Rattle.cc_nocache.proofs.ReadCalls.{wrote}
 
 -- what is said of a pass as it stands is said of it as it stood, and the other way round
 pub said-before : (Says : Setup → ℕ → Type 0) (flight : ℕ) (w v : Standing) → WentWith flight w v → Says v.setup v.number → Says w.setup w.number

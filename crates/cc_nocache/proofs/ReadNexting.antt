@@ -16,7 +16,7 @@ use Rattle.cc_model.specs.Holds.{holds_of}
 use Rattle.cc_model.specs.Passes.{calls_of}
 use Rattle.cc_model.specs.Setup.{Setup}
 use Rattle.cc_step.specs.Step.{StandUnder}
-use Rattle.cc_turns.specs.Standing.{Standing, holds}
+use Rattle.cc_turns.specs.Standing.{Standing}
 use Rattle.cc_turns.specs.Takes.{without_journal}
 use Rattle.cc_visits.specs.Hands.{HasBook, IsAtRest, SameDisk, WentWith}
 use Rattle.cc_visits.specs.Visits.{IsFiledNow}

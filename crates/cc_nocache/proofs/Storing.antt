@@ -1,5 +1,5 @@
 -- The store of a page on a book and a journal, and the visit in which it is placed.
-use Rattle.std.specs.Prelude.{◌≡◌, ℕ, suc, ◌+◌, ◌-◌, ◌≤◌, ◌<◌, Bool, true, false, List, [], ◌∷◌, length, Result, Ok, Err, OnErr, None, Some, refl}
+use Rattle.std.specs.Prelude.{◌≡◌, ℕ, suc, ◌+◌, ◌-◌, ◌≤◌, ◌<◌, Bool, true, false, List, [], ◌∷◌, length, Result, Ok, Err, None, refl}
 use Rattle.std.proofs.Common.{ap, sym, ◌∙◌, subst, arith, inl, inr, ⊎_elim}
 use Rattle.std.proofs.lemmas.Bool.{eq-eqb}
 use Rattle.cc_entry.specs.Place.{File, Page}
@@ -20,9 +20,7 @@ use Rattle.cc_model.specs.Good.{IsGood}
 use Rattle.cc_model.specs.History.{history}
 use Rattle.cc_model.specs.Images.{open_of}
 use Rattle.cc_model.specs.Refusals.{refusal}
-use Rattle.cc_model.specs.Residency.{mapped_blocks_with}
 use Rattle.cc_model.specs.Room.{reserved_in}
-use Rattle.cc_model.specs.Settings.{quota_of}
 use Rattle.cc_model.specs.Setup.{Setup}
 use Rattle.cc_model.specs.Turns.{Turn, is_quiet}
 use Rattle.cc_step.specs.Step.{StandUnder}
@@ -34,7 +32,7 @@ use Rattle.cc_turns.specs.Takes.{Grows, Adds, without_journal}
 use Rattle.cc_visits.specs.Hands.{HasBook, IsAtRest, WentWith}
 use Rattle.cc_visits.specs.Ways.{IsFull}
 use Rattle.cc_visits.proofs.Replies.{full-stopped}
-use Rattle.cc_writes.specs.Logs.{IsStopAt, IsWant}
+use Rattle.cc_writes.specs.Logs.{IsStopAt}
 use Rattle.cc_writes.proofs.Beginning.{want-stop}
 use Rattle.cc_writes.proofs.Visits.{Visiting, Visited, visited, stepping-none}
 use Rattle.cc_writes.proofs.Quiet.{holds_no_journal, holds_the_book, history-kept, stands-same, flushed_to-grows, logged-kept, book-after}

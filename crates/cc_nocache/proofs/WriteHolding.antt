@@ -1,5 +1,5 @@
 -- The write of a page with the disk and the book of its stream in hand: its rounds, and how they go on.
-use Rattle.std.specs.Prelude.{◌≡◌, ℕ, ◌<◌, true, false, ◌||◌, Result, Ok, Err, IfErr, IfOk, List, refl}
+use Rattle.std.specs.Prelude.{◌≡◌, ℕ, ◌<◌, true, Result, Ok, Err, IfErr, IfOk, List, refl}
 use Rattle.std.specs.declared.option.Option.{Option}
 use Rattle.std.proofs.Common.{ap, sym, ◌∙◌, subst, inl}
 use Rattle.cc_entry.specs.Place.{File, Page}
@@ -21,11 +21,10 @@ use Rattle.cc_writes.specs.Writes.{HasBoth}
 use Rattle.cc_writes.proofs.Halting.{no-memory}
 use Rattle.cc_writes.proofs.Visits.{went-then}
 use Rattle.cc_writes.proofs.Works.{either}
-use Rattle.cc_nocache.specs.WriteHeld.{RoomLeft, RoundLeft, round_of}
+use Rattle.cc_nocache.specs.WriteHeld.{RoundLeft, round_of}
 use Rattle.cc_nocache.specs.WriteHeld.{PageLeft as PageLeftBy}
 use Rattle.cc_nocache.specs.WriteVisits.{IsTurnedAway, IsWriting, page_in}
 use Rattle.cc_nocache.specs.declared.write_held.Round.{Round}
-use Rattle.cc_nocache.specs.declared.write_held.Round.TheVariants as round
 use Rattle.cc_nocache.proofs.Misshapen.{unshaped}
 
 -- a page in the way may be written for the write, and for its store

@@ -1,6 +1,6 @@
 -- The next step of the write of a page, in a visit with the stream's disk in hand.
-use Rattle.std.specs.Prelude.{◌≡◌, ℕ, suc, ◌+◌, ◌≤◌, Bool, true, false, List, [], ◌∷◌, None, Some, refl}
-use Rattle.std.proofs.Common.{ap, sym, ◌∙◌, subst, inl, inr}
+use Rattle.std.specs.Prelude.{◌≡◌, ℕ, suc, Bool, true, List, [], ◌∷◌, Some, refl}
+use Rattle.std.proofs.Common.{ap, sym, subst, inl, inr}
 use Rattle.std.proofs.lemmas.Bool.{eq-eqb}
 use Rattle.cc_entry.specs.Place.{File, Page}
 use Rattle.cc_entry.specs.declared.call.Call.{Call}
@@ -9,21 +9,19 @@ use Rattle.cc_entry.specs.declared.entry.Entry.{Entry}
 use Rattle.cc_entry.specs.declared.entry.Entry.TheVariants as entry
 use Rattle.cc_entry.specs.declared.reply.Outcome.TheVariants as outcome
 use Rattle.cc_book.specs.Book.{BookState}
-use Rattle.cc_effects.specs.Asked.{Calls, is_in_the_way, makes_way}
+use Rattle.cc_effects.specs.Asked.{is_in_the_way, makes_way}
 use Rattle.cc_effects.specs.Moments.{IsIdle}
 use Rattle.cc_fill.specs.Fill.{HasToWrite, MadeWay, MayFill, page_of}
 use Rattle.cc_journal.specs.Journal.{JournalState}
 use Rattle.cc_model.specs.History.{history}
 use Rattle.cc_model.specs.Holds.{holds_of}
 use Rattle.cc_model.specs.Passes.{calls_of}
-use Rattle.cc_model.specs.Refusals.{refusal}
 use Rattle.cc_model.specs.Setup.{Setup}
 use Rattle.cc_step.specs.Step.{StandUnder}
 use Rattle.cc_turns.specs.Standing.{Standing}
 use Rattle.cc_turns.specs.Takes.{without_journal}
 use Rattle.cc_visits.specs.Hands.{HasBook, IsAtRest, SameDisk}
 use Rattle.cc_visits.specs.Visits.{IsFiledNow, IsOf}
-use Rattle.cc_visits.specs.Ways.{IsAtWork}
 use Rattle.cc_visits.proofs.Attempting.{number-is, visited-refused, visited-same, left-refused, left-stopped, full-refused, full-stop}
 use Rattle.cc_visits.proofs.Disks.{disk-same, disk-call, disk-page_out}
 use Rattle.cc_visits.proofs.Others.{under_way-on}

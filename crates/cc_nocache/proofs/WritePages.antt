@@ -1,5 +1,5 @@
 -- The pages of a noncached write, one after the other, each with the turns of its disk and its book.
-use Rattle.std.specs.Prelude.{◌≡◌, ℕ, zero, suc, ◌+◌, ◌-◌, ◌*◌, ◌/◌, ◌<◌, ◌≤◌, Bool, true, false, nat_lt, min, Result, Ok, Err, List, [], ◌∷◌, length, take, drop, Some, None, refl, if◌then◌else◌}
+use Rattle.std.specs.Prelude.{◌≡◌, ℕ, suc, ◌+◌, ◌-◌, ◌*◌, ◌/◌, ◌<◌, ◌≤◌, Bool, true, false, nat_lt, min, Result, Ok, Err, List, [], ◌∷◌, length, take, drop, Some, None, refl, if◌then◌else◌}
 use Rattle.std.specs.declared.option.Option.{Option}
 use Rattle.std.proofs.Common.{ap, sym, ◌∙◌, subst, arith}
 use Rattle.std.proofs.lemmas.List.{drop-drop}
@@ -7,7 +7,6 @@ use Rattle.cc_entry.specs.Place.{File}
 use Rattle.cc_entry.specs.declared.call.Call.TheVariants as call
 use Rattle.cc_entry.specs.declared.entry.Entry.{Entry}
 use Rattle.cc_entry.specs.declared.error.CcError.{CcError}
-use Rattle.cc_effects.specs.Moments.{IsIdle}
 use Rattle.cc_effects.specs.Noncached.{AlignedWriteLeft, IsPageWritten, MisshapenLeft, PageWritesRefused, PagesWritten, ShapedWriteLeft, shape_refusal}
 use Rattle.cc_effects.proofs.Starts.{begins}
 use Rattle.cc_effects.proofs.Stretches.{idle-none}

@@ -1,10 +1,9 @@
 -- The write of a page that is ready to be stored: its log is flushed, and then it is stored.
-use Rattle.std.specs.Prelude.{◌≡◌, ℕ, ◌*◌, ◌<◌, ◌≤◌, ◌^◌, ◌⊎◌, Bool, true, false, ◌&&◌, ◌||◌, ◌==◌, Result, Ok, Err, List, [], refl}
+use Rattle.std.specs.Prelude.{◌≡◌, ℕ, ◌*◌, ◌<◌, ◌^◌, Bool, true, false, ◌||◌, ◌==◌, Result, Ok, Err, List, refl}
 use Rattle.std.specs.declared.option.Option.{Option}
 use Rattle.std.specs.declared.option.Option.TheVariants.{None, Some}
-use Rattle.std.proofs.Common.{ap, sym, ◌∙◌, subst, arith, inl, inr, ⊎_elim}
+use Rattle.std.proofs.Common.{ap, sym, subst, arith, inl, inr, ⊎_elim}
 use Rattle.std.proofs.lemmas.Bool.{and_from, eq-eqb, or_right}
-use Rattle.std.specs.List.{list_any}
 use Rattle.cc_entry.specs.Place.{File, Page}
 use Rattle.cc_entry.specs.declared.call.Call.{Call}
 use Rattle.cc_entry.specs.declared.call.Call.TheVariants as call
@@ -16,13 +15,11 @@ use Rattle.cc_traits.specs.Disk.{Disk}
 use Rattle.cc_book.specs.Book.{BookState}
 use Rattle.cc_effects.specs.Asked.{Calls, Work, may_write, reaches, stores}
 use Rattle.cc_effects.specs.Calls.{CallLeft, IsUnderWay}
-use Rattle.cc_effects.specs.Noncached.{PageRefused, TransferRefused, is_of_shape}
 use Rattle.cc_effects.proofs.Starts.{begins}
 use Rattle.cc_flush.proofs.Owing.{some-least}
 use Rattle.cc_laws.proofs.SoundFacts.{size_of-good}
 use Rattle.cc_laws.proofs.UnrefusedCalls.{unrefused}
 use Rattle.cc_model.specs.Conflicts.{busy_by}
-use Rattle.cc_model.specs.Covered.{IsLogged}
 use Rattle.cc_model.specs.Faults.{LogFailed}
 use Rattle.cc_model.specs.Good.{IsGood}
 use Rattle.cc_model.specs.History.{Effect, history}
@@ -42,7 +39,7 @@ use Rattle.cc_writes.specs.declared.log.LogFlush.{LogFlush}
 use Rattle.cc_writes.specs.declared.log.LogFlush.TheVariants as flush
 use Rattle.cc_writes.proofs.Calling.{tells-log}
 use Rattle.cc_writes.proofs.Explained.{both-flushed}
-use Rattle.cc_writes.proofs.Flushing.{flush-history, work-grows, work-reached, work-unlogged}
+use Rattle.cc_writes.proofs.Flushing.{flush-history, work-reached, work-unlogged}
 use Rattle.cc_writes.proofs.Halting.{at-work, given-up, halted-since, no-memory, under-way}
 use Rattle.cc_writes.proofs.Quiet.{holds_both}
 use Rattle.cc_writes.proofs.Visits.{went-number}

@@ -1,24 +1,22 @@
 -- The steps of the write of a page on its book, until the page is ready to be stored.
-use Rattle.std.specs.Prelude.{◌≡◌, ℕ, ◌+◌, ◌-◌, ◌*◌, ◌/◌, ◌<◌, ◌≤◌, Bool, true, false, not, ◌==◌, nat_lt, min, List, [], ◌∷◌, length, None, Some, refl, if◌then◌else◌}
+use Rattle.std.specs.Prelude.{◌≡◌, ℕ, ◌+◌, ◌-◌, ◌*◌, ◌/◌, ◌<◌, ◌≤◌, Bool, true, false, not, ◌==◌, min, List, [], ◌∷◌, Some, refl}
 use Rattle.std.specs.List.{find, range_with_len}
-use Rattle.std.proofs.Common.{ap, sym, ◌∙◌, subst, arith, inr}
+use Rattle.std.proofs.Common.{ap, ◌∙◌, arith}
 use Rattle.std.proofs.lemmas.Bool.{eq-eqb, lt-ltb}
 use Rattle.cc_entry.specs.Pages.{block_of, pages_of}
 use Rattle.cc_entry.specs.Place.{File}
 use Rattle.cc_entry.specs.declared.call.Call.{Call}
 use Rattle.cc_entry.specs.declared.call.Call.TheVariants as call
-use Rattle.cc_entry.specs.declared.entry.Entry.{Entry}
 use Rattle.cc_book.specs.Book.{BookState}
-use Rattle.cc_fill.specs.Fill.{MakesWay, MayFill, page_of}
+use Rattle.cc_fill.specs.Fill.{MakesWay}
 use Rattle.cc_fill.specs.Fill.{NextLeft as WayLeft}
-use Rattle.cc_fill.specs.Room.{IsCrowded, IsWaiting, has_room}
+use Rattle.cc_fill.specs.Room.{IsCrowded, has_room}
 use Rattle.cc_fill.specs.declared.ways.Next.{Next as Way}
 use Rattle.cc_fill.specs.declared.ways.Next.TheVariants as way
 use Rattle.cc_fill.proofs.Rooms.{full, room-within}
 use Rattle.cc_journal.specs.Journal.{JournalState}
 use Rattle.cc_laws.proofs.Lists1.{among-any}
 use Rattle.cc_model.specs.History.{Effect, history}
-use Rattle.cc_model.specs.Refusals.{refusal}
 use Rattle.cc_model.specs.Residency.{block_is_mapped, is_resident, residents}
 use Rattle.cc_model.specs.Setup.{Setup}
 use Rattle.cc_model.specs.Sizes.{stored_range}
@@ -26,7 +24,7 @@ use Rattle.cc_model.specs.Touches.{size_of}
 use Rattle.cc_step.specs.Step.{least_absent}
 use Rattle.cc_step.proofs.Placed.{so-far}
 use Rattle.cc_nocache.specs.WriteSteps.{HasRoom, MayMakeRoom, NextLeft, next_of}
-use Rattle.cc_nocache.proofs.Goods.{below-size, stored-end}
+use Rattle.cc_nocache.proofs.Goods.{below-size}
 
 -- the pages of the range of a page's write
 pages-stored : (page size : ℕ) → 4096 * page < size → pages_of (stored_range page size) ≡ page ∷ []

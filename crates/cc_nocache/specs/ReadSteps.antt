@@ -1,7 +1,6 @@
 -- The steps of a page of a noncached read on its book: what it does next, and how it ends.
-use Rattle.std.specs.Prelude.{◌≡◌, ℕ, ◌+◌, ◌-◌, ◌*◌, ◌<◌, ◌≤◌, Bool, true, false, List, []}
-use Rattle.std.specs.declared.option.Option.{Option}
-use Rattle.std.specs.declared.option.Option.TheVariants.{Some, None}
+use Rattle.std.specs.Prelude.{◌≡◌, ℕ, ◌+◌, ◌-◌, ◌*◌, ◌<◌, Bool, true, false, List, []}
+use Rattle.std.specs.declared.option.Option.TheVariants.{None}
 use Rattle.cc_entry.specs.Place.{File}
 use Rattle.cc_entry.specs.declared.call.Call.TheVariants as call
 use Rattle.cc_entry.specs.declared.error.CcError.TheVariants as error
@@ -12,9 +11,8 @@ use Rattle.cc_book.specs.Noncached.{WasRead}
 use Rattle.cc_effects.specs.Calls.{has_no_write}
 use Rattle.cc_fill.specs.Fill.{MayFill, page_of}
 use Rattle.cc_journal.specs.Journal.{JournalState}
-use Rattle.cc_model.specs.History.{Effect, history}
+use Rattle.cc_model.specs.History.{history}
 use Rattle.cc_model.specs.Refusals.{refusal}
-use Rattle.cc_model.specs.Residency.{is_resident}
 use Rattle.cc_model.specs.Setup.{Setup}
 use Rattle.cc_model.specs.Touches.{size_of}
 use Rattle.cc_step.specs.Step.{AttemptDone, AttemptRefused, IsStop, FoundNone}

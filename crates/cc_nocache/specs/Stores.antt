@@ -1,6 +1,6 @@
 -- What the store of a page asks of a book and a journal, and what it leaves with the begin of its transfer.
-use Rattle.std.specs.Prelude.{◌≡◌, ℕ, ◌+◌, ◌≤◌, nat_lt, List, ◌∷◌, length, slice_index, if◌then◌else◌, Result, Ok, Err, ◌-◌, ◌*◌}
-use Rattle.std.specs.declared.option.Option.TheVariants.{Some, None}
+use Rattle.std.specs.Prelude.{◌≡◌, ℕ, ◌+◌, ◌≤◌, nat_lt, List, ◌∷◌, slice_index, if◌then◌else◌, Result, Ok, Err, ◌-◌, ◌*◌}
+use Rattle.std.specs.declared.option.Option.TheVariants.{None}
 use Rattle.cc_entry.specs.Place.{File, Page}
 use Rattle.cc_entry.specs.declared.call.Call.TheVariants as call
 use Rattle.cc_entry.specs.declared.entry.Entry.{Entry}
@@ -18,7 +18,6 @@ use Rattle.cc_model.specs.Residency.{mapped_blocks_with}
 use Rattle.cc_model.specs.Room.{reserved_in}
 use Rattle.cc_model.specs.Settings.{quota_of}
 use Rattle.cc_model.specs.Setup.{Setup}
-use Rattle.cc_model.specs.Touches.{size_of}
 use Rattle.cc_step.specs.Step.{StandUnder}
 use Rattle.cc_turns.specs.Standing.{Standing}
 use Rattle.cc_turns.specs.Takes.{Grows}

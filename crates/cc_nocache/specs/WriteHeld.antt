@@ -1,5 +1,5 @@
 -- What the write of a page leaves, with the disk and the book of its stream in hand.
-use Rattle.std.specs.Prelude.{◌≡◌, ℕ, Result, Ok, Err, List}
+use Rattle.std.specs.Prelude.{ℕ, Result, Ok, Err, List}
 use Rattle.cc_entry.specs.Place.{File}
 use Rattle.cc_entry.specs.declared.call.Call.{Call}
 use Rattle.cc_entry.specs.declared.entry.Entry.{Entry}

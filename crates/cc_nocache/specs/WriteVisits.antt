@@ -1,5 +1,5 @@
 -- What the write of a page leaves on its way, from whichever moment it is under way, until the page is ready to be stored.
-use Rattle.std.specs.Prelude.{◌≡◌, ℕ, true, false, Err, List}
+use Rattle.std.specs.Prelude.{◌≡◌, ℕ, true, false, List}
 use Rattle.std.specs.declared.option.Option.TheVariants.{None}
 use Rattle.cc_entry.specs.Place.{File, Page}
 use Rattle.cc_entry.specs.declared.call.Call.TheVariants as call

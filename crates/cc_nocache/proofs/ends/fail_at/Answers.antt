@@ -1,6 +1,6 @@
 -- One visit: a write whose transfer failed may fail on the journal that was taken, at the place that the past owes it;
 -- its entry is given with the journal.
-use Rattle.std.proofs.Common.{◌≡◌, ℕ, ap, sym, ◌∙◌, subst, arith}
+use Rattle.std.proofs.Common.{◌≡◌, ap, sym, ◌∙◌, subst, arith}
 use Rattle.cc_turns.specs.Standing.{Standing}
 use Rattle.cc_visits.specs.Hands.{HasBook, IsAtRest, WentWith}
 use Rattle.cc_visits.proofs.Visiting.{few-left}

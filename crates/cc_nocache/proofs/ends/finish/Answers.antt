@@ -1,4 +1,4 @@
-use Rattle.std.proofs.Common.{◌≡◌, ap, sym, ◌∙◌, subst}
+use Rattle.std.proofs.Common.{sym, ◌∙◌}
 use Rattle.cc_nocache.proofs.Finishing.{may-finish, ended}
 use Rattle.cc_nocache.proofs.ends.finish.Goals as goal
 

@@ -1,6 +1,6 @@
 -- One visit: a write whose page is on the disk may end on the journal that was taken, and what its end placed is good
 -- and is given with it.
-use Rattle.std.proofs.Common.{◌≡◌, ℕ, ap, sym, ◌∙◌, subst, arith}
+use Rattle.std.proofs.Common.{◌≡◌, ap, sym, ◌∙◌, subst, arith}
 use Rattle.cc_turns.specs.Standing.{Standing}
 use Rattle.cc_visits.specs.Hands.{HasBook, IsAtRest, WentWith}
 use Rattle.cc_visits.proofs.Visiting.{few-left}

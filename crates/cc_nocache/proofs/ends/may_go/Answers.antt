@@ -1,10 +1,8 @@
 -- A page that the book has, that no hold has and that is not dirty, is so in the history: resident, clean, not held.
-use Rattle.std.specs.Prelude.{◌≡◌, ℕ}
-use Rattle.std.proofs.Common.{sym, ◌∙◌, subst, ap}
+use Rattle.std.specs.Prelude.{◌≡◌, ℕ, false}
+use Rattle.std.proofs.Common.{sym, ◌∙◌, subst}
 use Rattle.cc_model.specs.History.{history}
-use Rattle.cc_model.specs.Holds.{holds_of, is_held}
-use Rattle.cc_model.specs.Residency.{is_resident}
-use Rattle.cc_nocache.specs.Ends.{IsIdlePage}
+use Rattle.cc_model.specs.Touches.{is_dirty}
 use Rattle.cc_nocache.proofs.DirtyNext.{never}
 use Rattle.cc_nocache.proofs.Idle.{some-there}
 use Rattle.cc_nocache.proofs.ends.may_go.Goals as goal
@@ -18,5 +16,7 @@ returns-in-Some g c clean u stand here =
     record {
       resident = rw (here, sym c.page-number.ensures.same) resident;
       not_held = rw (here, sym c.page-number.ensures.same) free;
-      clean = sym c.is_dirty.ensures ∙ never c.is_dirty.result clean;
+      clean = subst (λ (s : ℕ). is_dirty (history past s) c.args.page.page ≡ false) c.stream.ensures
+          (subst (λ (n : ℕ). is_dirty (history past c.stream.result) n ≡ false) c.page-number.ensures.same
+          (sym c.is_dirty.ensures ∙ never c.is_dirty.result clean));
     }

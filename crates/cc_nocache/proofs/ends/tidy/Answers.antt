@@ -1,5 +1,5 @@
 -- A page that may go goes out at a place reserved for it; one that may not, or finds no room, leaves all as it was.
-use Rattle.std.proofs.Common.{◌≡◌, ap, sym, ◌∙◌, subst, refl}
+use Rattle.std.proofs.Common.{sym, subst, refl}
 use Rattle.cc_book.specs.Book.{MayPlace, Gains, GoesOn}
 use Rattle.cc_entry.specs.declared.entry.Entry.TheVariants as entry
 use Rattle.cc_journal.specs.Journal.{JournalState}

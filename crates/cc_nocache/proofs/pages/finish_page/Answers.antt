@@ -1,10 +1,8 @@
 -- By how the transfer ended: after a good end the write may finish, after a failed one it may fail, and without memory
 -- nothing follows.
-use Rattle.std.proofs.Common.{◌≡◌, ap, sym, ◌∙◌, subst, refl, false}
+use Rattle.std.proofs.Common.{subst, refl, false}
 use Rattle.cc_entry.specs.declared.entry.End.{End}
-use Rattle.cc_turns.specs.Standing.{Standing}
 use Rattle.cc_writes.specs.Transfers.{IsFinished}
-use Rattle.cc_writes.proofs.Visits.{went-then}
 use Rattle.cc_nocache.proofs.PageWriting.{finishes-after, fails-after, both-done, both-told}
 use Rattle.cc_nocache.proofs.pages.finish_page.Goals as goal
 

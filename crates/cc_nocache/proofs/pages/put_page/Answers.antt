@@ -7,7 +7,6 @@ use Rattle.cc_content.specs.Filling.{IsClearedFrom}
 use Rattle.cc_effects.specs.Asked.{Calls}
 use Rattle.cc_model.specs.History.{history}
 use Rattle.cc_model.specs.Touches.{size_of}
-use Rattle.cc_turns.specs.Standing.{Standing}
 use Rattle.cc_visits.specs.Ways.{IsAtWork}
 use Rattle.cc_writes.proofs.Visits.{grows-none}
 use Rattle.cc_writes.proofs.Writing.{both-grown}

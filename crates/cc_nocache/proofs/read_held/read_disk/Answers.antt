@@ -27,11 +27,11 @@ unread-error-requires-clause-wanted g c κs within =
     )
 
 pub land_at-told-requires-clause-read : goal.land_at-told-requires-clause-read
-land_at-told-requires-clause-read g c κs within =
+land_at-told-requires-clause-read g c κs within absent below =
     let v = g.T.Turns.standing c.read_free-book.new.turns in
     let page = c.args.page in
     subst (λ (n : ℕ). WasReadFor v n page (Some c.read_free-book.new.raw)) (c.requires.stream)
-    (subst (λ (r : Result (Unit {0}) Stop). OnOk r (WasReadFor v c.args.book.stream page (Some c.read_free-book.new.raw))) c.in-Ok.is c.read_free-book.ensures.found)
+    (subst (λ (r : Result (Unit {0}) Stop). OnOk r (WasReadFor v c.args.book.stream page (Some c.read_free-book.new.raw))) c.in-Ok.is c.read_free-book.ensures.found) absent
 
 pub returns-in-Ok-clause-both : goal.returns-in-Ok-clause-both
 returns-in-Ok-clause-both g c =

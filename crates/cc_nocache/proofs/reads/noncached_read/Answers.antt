@@ -2,7 +2,6 @@
 -- leave is what the read leaves.
 use Rattle.std.specs.Prelude.{length, refl}
 use Rattle.std.proofs.Common.{sym, ◌∙◌}
-use Rattle.cc_effects.specs.Noncached.{shape_refusal}
 use Rattle.cc_nocache.proofs.ReadPages.{whole-read, misshapen-read, shape-is, shape-fits}
 use Rattle.cc_nocache.proofs.reads.noncached_read.Goals as goal
 

@@ -1,6 +1,6 @@
 -- With four places reserved the page may be stored and its transfer begun, and the place of the end that the pass owed
 -- is released; without memory the four come back.
-use Rattle.std.proofs.Common.{◌≡◌, ap, sym, ◌∙◌, subst}
+use Rattle.std.proofs.Common.{sym, subst}
 use Rattle.cc_journal.specs.Journal.{JournalState}
 use Rattle.cc_book.specs.Stored.{MayStoreAndBegin}
 use Rattle.cc_nocache.proofs.Storing.{has-owed, may-store, stored-here, unstored-here}

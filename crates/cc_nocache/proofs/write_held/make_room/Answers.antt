@@ -2,7 +2,7 @@
 use Rattle.std.specs.Prelude.{List}
 use Rattle.std.proofs.Common.{subst}
 use Rattle.cc_entry.specs.declared.entry.Entry.{Entry}
-use Rattle.cc_nocache.specs.WriteHeld.{IsFullRound, RoundLeft, RoundReady}
+use Rattle.cc_nocache.specs.WriteHeld.{RoundLeft}
 use Rattle.cc_nocache.specs.WriteVisits.{IsWriting}
 use Rattle.cc_nocache.specs.declared.write_held.Round.{Round}
 use Rattle.cc_nocache.specs.declared.write_held.Round.TheVariants as round

@@ -1,8 +1,7 @@
 -- A page for which room was made is written as a page that is ready; a write that failed before is turned away.
-use Rattle.std.specs.Prelude.{◌≡◌, ℕ, Result, Ok, Err, List}
-use Rattle.std.proofs.Common.{ap, sym, ◌∙◌, subst}
+use Rattle.std.specs.Prelude.{Result}
+use Rattle.std.proofs.Common.{subst}
 use Rattle.cc_entry.specs.declared.error.CcError.{CcError}
-use Rattle.cc_turns.specs.Standing.{Standing}
 use Rattle.cc_nocache.specs.WriteHeld.{RoomLeft}
 use Rattle.cc_nocache.proofs.WriteHolding.{ready-left, turned-left}
 use Rattle.cc_nocache.proofs.write_held.write_held.Goals as goal

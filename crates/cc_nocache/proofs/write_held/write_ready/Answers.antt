@@ -1,6 +1,6 @@
 -- A log that was flushed leaves the page ready and logged, so it may be put; a log that failed halts the write; want of
 -- room or memory turns it away.
-use Rattle.std.specs.Prelude.{◌≡◌, ℕ, ◌<◌, false, Result, Ok, Err, List}
+use Rattle.std.specs.Prelude.{◌≡◌, ℕ, false, Result, Ok, List}
 use Rattle.std.proofs.Common.{ap, sym, ◌∙◌, subst}
 use Rattle.cc_entry.specs.Place.{Page}
 use Rattle.cc_entry.specs.declared.call.Call.TheVariants as call
@@ -8,14 +8,11 @@ use Rattle.cc_entry.specs.declared.entry.Entry.{Entry}
 use Rattle.cc_entry.specs.declared.error.CcError.{CcError}
 use Rattle.cc_entry.specs.declared.error.CcError.TheVariants as error
 use Rattle.cc_effects.specs.Asked.{Calls}
-use Rattle.cc_effects.specs.Calls.{CallLeft}
 use Rattle.cc_effects.proofs.Starts.{begins}
 use Rattle.cc_model.specs.History.{history}
-use Rattle.cc_model.specs.Setup.{Setup}
 use Rattle.cc_model.specs.Stamps.{is_unstamped}
-use Rattle.cc_turns.specs.Standing.{Standing}
 use Rattle.cc_visits.specs.Hands.{HasBook}
-use Rattle.cc_visits.specs.Ways.{IsAtWork, IsHalted, IsReason}
+use Rattle.cc_visits.specs.Ways.{IsAtWork, IsHalted}
 use Rattle.cc_visits.proofs.Resting.{rest-went}
 use Rattle.cc_writes.specs.Logs.{FlushLeft}
 use Rattle.cc_writes.specs.Writes.{HasBoth}
@@ -25,9 +22,8 @@ use Rattle.cc_writes.proofs.Disks.{both_still}
 use Rattle.cc_writes.proofs.Numbered.{same-place}
 use Rattle.cc_nocache.specs.Pages.{PutLeft}
 use Rattle.cc_nocache.specs.Stores.{IsReadyToStore}
-use Rattle.cc_nocache.specs.WriteHeld.{PageLeft}
-use Rattle.cc_nocache.specs.WriteVisits.{IsWriting, page_in}
-use Rattle.cc_nocache.proofs.WriteReady.{both-after, failed-left, halted-after, put-left-since, reached-after, ready-after, ready-numbered, stamped-page, turned-after}
+use Rattle.cc_nocache.specs.WriteVisits.{page_in}
+use Rattle.cc_nocache.proofs.WriteReady.{both-after, failed-left, halted-after, put-left-since, ready-after, ready-numbered, stamped-page, turned-after}
 use Rattle.cc_nocache.proofs.write_held.write_ready.Goals as goal
 
 pub unwrap-stored-requires : goal.unwrap-stored-requires

@@ -1,6 +1,5 @@
 -- With room for its block the page is ready; without it, room may be made, and what that leaves is the next step.
 use Rattle.std.proofs.Common.{sym, ◌∙◌, subst}
-use Rattle.cc_entry.specs.declared.call.Call.TheVariants as call
 use Rattle.cc_nocache.specs.WriteSteps.{NextLeft}
 use Rattle.cc_nocache.specs.declared.write_steps.Next.{Next}
 use Rattle.cc_nocache.proofs.WriteStepping.{crowded-here, made-room, ready-here}

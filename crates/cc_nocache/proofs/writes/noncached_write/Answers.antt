@@ -2,8 +2,7 @@
 -- leave is what the write leaves.
 use Rattle.std.specs.Prelude.{length, refl}
 use Rattle.std.proofs.Common.{sym, ◌∙◌}
-use Rattle.cc_turns.specs.Standing.{Standing}
-use Rattle.cc_nocache.proofs.Callers.{shape-fits, shape-is}
+use Rattle.cc_nocache.proofs.Callers.{shape-is}
 use Rattle.cc_nocache.proofs.WritePages.{misshapen-write, whole-write}
 use Rattle.cc_nocache.proofs.writes.noncached_write.Goals as goal
 

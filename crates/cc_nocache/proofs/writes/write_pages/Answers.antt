@@ -1,9 +1,7 @@
 -- Each page goes on behind the pages before, with its own 4096 bytes of the piece; one that failed, or the last, ends
 -- the write.
-use Rattle.std.specs.Prelude.{◌≡◌, ℕ, suc, ◌+◌, ◌-◌, ◌*◌, ◌/◌, Result, Ok, Err, List, length, take, drop, refl}
-use Rattle.std.proofs.Common.{ap, arith, subst, ◌∙◌}
-use Rattle.cc_entry.specs.declared.error.CcError.{CcError}
-use Rattle.cc_turns.specs.Standing.{Standing}
+use Rattle.std.specs.Prelude.{◌≡◌, ℕ, suc, ◌+◌, ◌/◌, Ok, Err, length, refl}
+use Rattle.std.proofs.Common.{arith, subst}
 use Rattle.cc_nocache.specs.Writes.{PageWriteEnds}
 use Rattle.cc_nocache.proofs.Callers.{can-again}
 use Rattle.cc_nocache.proofs.WritePages.{WritesOn, ends-all, ends-refused, one-page, writes-begin, writes-more}
