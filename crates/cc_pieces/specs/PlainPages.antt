@@ -1,4 +1,5 @@
--- The pages of a noncached read as they stand in its piece, each with the plain file's bytes.
+-- The pages of a noncached read as they stand in its piece, each with the bytes that a read there answers: the plain
+-- file's, where the disk told its opening pages, else so many, with zeros from the valid data length on.
 use Rattle.std.specs.Prelude.{◌≡◌, ℕ, ◌*◌, List, [], ◌∷◌, ◌++◌}
 use Rattle.std.specs.declared.option.Option.TheVariants.{Some}
 use Rattle.cc_entry.specs.Place.{File}
@@ -12,7 +13,7 @@ use Rattle.cc_model.specs.History.{history}
 use Rattle.cc_model.specs.Replies.{Reads}
 use Rattle.cc_effects.specs.Moments.{Between}
 
--- A page was read by a noncached read: it has its entry, and the bytes that this answers are the plain file's at that place.
+-- A page was read by a noncached read: it has its entry, and the bytes that this answers are those of a read there.
 pub record IsPlainPage (u : Setup) (me : ℕ) (file : File) (page : ℕ) (bytes : List ℕ) (old new : List Entry) : Type 0 where
   pub nth : ℕ
   pub later : List Entry
