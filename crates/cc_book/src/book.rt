@@ -21,9 +21,10 @@ ghost use Rattle.cc_model.specs.Refusals.{refusal};
 ghost use Rattle.cc_model.specs.Setup.{Setup};
 ghost use Rattle.cc_model.specs.Stamps.{is_unstamped};
 ghost use Rattle.cc_effects.specs.Asked.{block_to_go};
-ghost use Rattle.cc_holds.specs.Stands.{owes_set_dirty, shown, shown_row};
+ghost use Rattle.cc_holds.specs.Stands.{shown, shown_row};
 ghost use Rattle.cc_refusal.specs.Known.{IsLeastAbsent};
 ghost use Rattle.cc_book.specs.Book.{BookStands, MayPlace, Gains, GoesOn, Stays, IsSnapshot, page_in, failed};
+ghost use Rattle.cc_model.specs.Room.{owes_set_dirty};
 
 use cc_ahead::PrivateMaps;
 use cc_content::Contents;

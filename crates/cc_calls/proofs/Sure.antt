@@ -21,7 +21,6 @@ use Rattle.cc_effects.specs.Moments.{EachOwn, own}
 use Rattle.cc_effects.specs.Places.{MayPlace}
 use Rattle.cc_effects.specs.Refusals.{may_refuse, owes_nothing}
 use Rattle.cc_effects.proofs.Stretches.{own-append}
-use Rattle.cc_holds.specs.Stands.{owes_set_dirty}
 use Rattle.cc_model.specs.Cache.{all_streams}
 use Rattle.cc_model.specs.Good.{IsGood, IsGoodSoFar}
 use Rattle.cc_model.specs.History.{history}
@@ -41,6 +40,7 @@ use Rattle.cc_visits.specs.Visits.{IsFiledNow}
 use Rattle.cc_calls.specs.Ends.{OwesSetDirty, writes_through}
 use Rattle.cc_calls.specs.declared.held.Held.{Held}
 use Rattle.cc_calls.proofs.Holding.{so-far}
+use Rattle.cc_model.specs.Room.{owes_set_dirty}
 
 -- what a pass may place before the entry of its call changes no hold
 placed-kept : (me id : ℕ) (work : Work) (old past : List Entry) (e : Entry) → MayPlace me work old past e → changes_hold id e ≡ false

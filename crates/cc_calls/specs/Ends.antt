@@ -14,7 +14,6 @@ use Rattle.cc_entry.specs.declared.reply.Reply.TheVariants as reply
 use Rattle.cc_entry.specs.Kinds.{is_map, is_pin}
 use Rattle.cc_effects.specs.Calls.{CallLeft}
 use Rattle.cc_effects.specs.Repins.{UnpinLeft}
-use Rattle.cc_holds.specs.Stands.{owes_set_dirty}
 use Rattle.cc_model.specs.Good.{IsGood}
 use Rattle.cc_model.specs.History.{history}
 use Rattle.cc_model.specs.Holds.{holds_of, hold_at}
@@ -27,6 +26,7 @@ use Rattle.cc_calls.specs.Flushes.{IsDurable}
 use Rattle.cc_calls.specs.Pages.{IsFullOf, PagesLeft, StaysGood, WentOn}
 use Rattle.cc_calls.specs.Held.{IsHolding, range_of}
 use Rattle.cc_calls.specs.declared.held.Held.{Held}
+use Rattle.cc_model.specs.Room.{owes_set_dirty}
 
 -- how the entry of a call says that it ended, whose caller was answered a hold, or failed
 abbrev pub hold_outcome : Result Held CcError → Outcome

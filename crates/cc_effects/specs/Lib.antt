@@ -14,3 +14,4 @@ pub mod Levels
 pub mod Noncached
 pub mod Repins
 pub mod Failures
+pub mod Events

@@ -12,8 +12,10 @@
 //! the lines of a script, speak in its words.
 #![tactic(auto)]
 
+mod events;
 mod laws;
 
+pub use events::{Event, StepReply};
 pub use laws::{
     calls_stay_explained, entries_may_stand_where_they_do, entries_stand_after_what_was_seen,
     faults_are_shown, log_calls_stay_explained, noncached_calls_stay_explained,

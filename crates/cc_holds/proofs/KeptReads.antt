@@ -22,11 +22,12 @@ use Rattle.cc_model.specs.Conflicts.{has_page_of, bars_pin}
 use Rattle.cc_bcb.specs.Holds.{hold_of, range_of, overlaps, conflicts, is_unstamped, ends_past, first_id}
 use Rattle.cc_bcb.specs.declared.holds.Hold.{Hold}
 use Rattle.cc_bcb.proofs.Overlap.{share_page-ends}
-use Rattle.cc_holds.specs.Stands.{owes_set_dirty, Shown, shown, shown_row, IsHold, IdsAscend, HoldsStand}
+use Rattle.cc_holds.specs.Stands.{Shown, shown, shown_row, IsHold, IdsAscend, HoldsStand}
 use Rattle.cc_holds.specs.Looks.{keeps_page, has_bytes}
 use Rattle.cc_holds.proofs.Zips.{reverse-onto, any-reversed, zip-any, zip-length}
 use Rattle.cc_holds.proofs.KeptLists.{IdsAbove}
 use Rattle.cc_holds.proofs.HoldsStanding.{same_id, all-reversed}
+use Rattle.cc_model.specs.Room.{owes_set_dirty}
 
 -- each hold of the definition has an id above this one
 abbrev HeldAbove : ℕ → List held.Hold → Type 0

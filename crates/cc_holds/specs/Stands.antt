@@ -62,8 +62,3 @@ IdsAscend (kept ∷ holds) = AllByRecursion (λ later. kept.row.id < later.row.i
 pub record HoldsStand (h : List Effect) (holds : List Hold) : Type 0 where
   pub each : AllZip IsHold (reverse (holds_of h)) holds
   pub in_order : IdsAscend holds
-
--- whether an open hold, where there is one, is a pin that changed bytes and was not set dirty since
-abbrev pub owes_set_dirty : Option held.Hold → Bool
-owes_set_dirty None = false
-owes_set_dirty (Some hold) = is_pin hold.kind && not (is_empty hold.owed)

@@ -12,8 +12,9 @@ ghost use Rattle.cc_model.specs.Stamps.{owes_stamp, is_unstamped};
 ghost use Rattle.cc_model.specs.Conflicts.{has_page_of, pin_in_the_way, pin_that_owes};
 ghost use Rattle.cc_model.specs.Views.{active_blocks, needed_blocks};
 ghost use Rattle.cc_model.specs.Numbers.{is_among};
-ghost use Rattle.cc_holds.specs.Stands.{HoldsStand, owes_set_dirty, shown, shown_row};
+ghost use Rattle.cc_holds.specs.Stands.{HoldsStand, shown, shown_row};
 ghost use Rattle.cc_holds.specs.Makes.{row_made, zeroed_end};
+ghost use Rattle.cc_model.specs.Room.{owes_set_dirty};
 
 use crate::blocks::{add_blocks, add_held};
 use crate::look::{any_keeps_page, first_in_the_way, first_with_bytes};

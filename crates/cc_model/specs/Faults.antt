@@ -36,6 +36,12 @@ faults_since [] me = []
 faults_since (e ∷ past) me =
     elim (ends_call_of me e) [ true ↦ [] | false ↦ cons_option (fault_of me e) (faults_since past me) ]
 
+-- the oldest fault of faults, of which the newest is the first
+abbrev pub oldest : List Fault → Option Fault
+oldest [] = None
+oldest (it ∷ []) = Some it
+oldest (it ∷ next ∷ older) = oldest (next ∷ older)
+
 abbrev pub is_failed_read : ℕ → Fault → Bool
 is_failed_read page (ReadFailed failed) = failed == page
 is_failed_read page (WriteFailed failed) = false

@@ -1,7 +1,7 @@
 -- Room in the journal: what is owed to entries that have to find a place later.
 use Rattle.std.specs.Prelude.{Option, Bool, ℕ, suc, ◌+◌, ◌-◌, true, false, not, ◌&&◌, List, [], ◌∷◌, length, is_some, if◌then◌else◌}
 use Rattle.std.specs.List.{sum_by}
-use Rattle.std.specs.Prelude.{Some}
+use Rattle.std.specs.Prelude.{Some, None}
 use Rattle.cc_entry.specs.declared.call.Call.{Call}
 use Rattle.cc_entry.specs.declared.call.Call.TheVariants as call
 use Rattle.cc_entry.specs.declared.entry.Entry.{Entry}
@@ -9,7 +9,7 @@ use Rattle.cc_entry.specs.declared.entry.Entry.TheVariants as entry
 use Rattle.cc_model.specs.Setup.{Setup}
 use Rattle.cc_model.specs.Numbers.{is_empty, is_among}
 use Rattle.cc_model.specs.History.{Effect, history}
-use Rattle.cc_model.specs.Holds.{Hold, holds_of}
+use Rattle.cc_model.specs.Holds.{Hold, hold_at, holds_of}
 use Rattle.cc_entry.specs.Kinds.{is_pin}
 use Rattle.cc_model.specs.Images.{open_of}
 use Rattle.cc_model.specs.Cache.{all_streams}
@@ -19,9 +19,30 @@ use Rattle.cc_model.specs.Passes.{is_store, store_of, is_the_page}
 abbrev pub owed_by_hold : Hold → ℕ
 owed_by_hold hold = if is_pin hold.kind && not (is_empty hold.owed) then 2 else 1
 
+-- whether an open hold, where there is one, is a pin that changed bytes and was not set dirty since
+abbrev pub owes_set_dirty : Option Hold → Bool
+owes_set_dirty None = false
+owes_set_dirty (Some hold) = is_pin hold.kind && not (is_empty hold.owed)
+
 -- a stream owes what its holds owe, and the end of its open transfer
 abbrev pub owed_by_stream : List Effect → ℕ
 owed_by_stream h = sum_by owed_by_hold (holds_of h) + (if is_some (open_of h) then 1 else 0)
+
+-- How many places a call asks that is done: that of its entry, and those that it reserves with it. A hold reserves its
+-- end; a zeroing prepare, and the first write through a pin since its last set-dirty, reserve the set-dirty. A
+-- set-dirty that was reserved, and an end, ask none.
+abbrev pub places_asked : List Hold → Call → ℕ
+places_asked holds (call.Map file at len) = 2
+places_asked holds (call.PinRead file at len exclusive) = 2
+places_asked holds (call.PreparePin file at len true exclusive) = 3
+places_asked holds (call.PreparePin file at len false exclusive) = 2
+places_asked holds (call.Repin hold) = 2
+places_asked holds (call.MdlRead file at len) = 2
+places_asked holds (call.MdlWrite file at len) = 2
+places_asked holds (call.PinnedWrite hold at bytes) = if owes_set_dirty (hold_at holds hold) then 1 else 2
+places_asked holds (call.SetDirty hold lsn) = if owes_set_dirty (hold_at holds hold) then 0 else 1
+places_asked holds (call.EndHold hold) = 0
+places_asked holds other = 1
 
 -- how many passes, but for those listed, have a done noncached store as their last call: each owes the
 -- end of that write

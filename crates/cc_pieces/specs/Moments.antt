@@ -5,10 +5,10 @@ use Rattle.cc_entry.specs.declared.entry.Entry.{Entry}
 use Rattle.cc_entry.specs.declared.error.CcError.TheVariants as error
 use Rattle.cc_model.specs.Room.{room_in}
 use Rattle.cc_model.specs.Setup.{Setup}
-use Rattle.cc_world.specs.Ways.{Answers, IsWanting, MayHappen, asked_by, faulted_by}
-use Rattle.cc_world.specs.declared.events.Event.{Event}
-use Rattle.cc_world.specs.declared.events.StepReply.{StepReply}
-use Rattle.cc_world.specs.declared.events.StepReply.TheVariants as step
+use Rattle.cc_effects.specs.Events.{Answers, IsWanting, MayHappen, asked_by, faulted_by}
+use Rattle.cc_effects.specs.declared.events.Event.{Event}
+use Rattle.cc_effects.specs.declared.events.StepReply.{StepReply}
+use Rattle.cc_effects.specs.declared.events.StepReply.TheVariants as step
 
 -- An event that was replied so placed these entries, and nothing else came: it is not now exactly where the law forbids
 -- it, the journal is full exactly where there is less room than it asks, and any other reply is what its entries say.

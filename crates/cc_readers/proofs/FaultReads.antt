@@ -6,9 +6,8 @@ use Rattle.std.specs.List.{cons_option}
 use Rattle.std.specs.Option.{option_map, option_or}
 use Rattle.std.proofs.Common.{ap, sym, ◌∙◌}
 use Rattle.cc_entry.specs.declared.entry.Entry.{Entry}
-use Rattle.cc_model.specs.Faults.{Fault, fault_of, faults_since}
+use Rattle.cc_model.specs.Faults.{Fault, fault_of, faults_since, oldest}
 use Rattle.cc_model.specs.Passes.{ends_call_of}
-use Rattle.cc_readers.specs.FaultReads.{oldest}
 use Rattle.cc_readers.proofs.PassReads.{newest}
 
 or-none : {X : Type 0} (o : Option X) → option_or o None ≡ o

@@ -12,9 +12,3 @@ fault_in (fault.Read page) = model.ReadFailed page
 fault_in (fault.Write page) = model.WriteFailed page
 fault_in fault.Sync = model.SyncFailed
 fault_in (fault.Log handle) = model.LogFailed handle
-
--- the oldest fault of faults, of which the newest is the first
-abbrev pub oldest : List model.Fault → Option model.Fault
-oldest [] = None
-oldest (it ∷ []) = Some it
-oldest (it ∷ next ∷ older) = oldest (next ∷ older)

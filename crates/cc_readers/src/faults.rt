@@ -2,9 +2,9 @@
 
 ghost use Rattle.std.specs.Prelude.{◌≡◌, reverse};
 ghost use Rattle.std.specs.Option.{option_map};
-ghost use Rattle.cc_model.specs.Faults.{fault_of, faults_since};
+ghost use Rattle.cc_model.specs.Faults.{fault_of, faults_since, oldest};
 ghost use Rattle.cc_model.specs.Passes.{ends_call_of};
-ghost use Rattle.cc_readers.specs.FaultReads.{fault_in, oldest};
+ghost use Rattle.cc_readers.specs.FaultReads.{fault_in};
 
 use cc_entry::{Call, End, Entry, Outcome};
 

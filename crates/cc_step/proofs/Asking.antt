@@ -15,7 +15,6 @@ use Rattle.cc_entry.specs.declared.hold.HoldKind.TheVariants as kind
 use Rattle.cc_entry.specs.declared.reply.Outcome.TheVariants as outcome
 use Rattle.cc_entry.specs.declared.reply.Reply.{Reply}
 use Rattle.cc_effects.specs.Asked.{brings_in}
-use Rattle.cc_holds.specs.Stands.{owes_set_dirty}
 use Rattle.cc_journal.specs.Calls.{owed_end}
 use Rattle.cc_laws.proofs.HistorySteps.{history-done, history-done_other}
 use Rattle.cc_laws.proofs.HoldSteps.{holds_of-done}
@@ -25,7 +24,7 @@ use Rattle.cc_model.specs.Filing.{IsFiled}
 use Rattle.cc_model.specs.Good.{IsGoodSoFar}
 use Rattle.cc_model.specs.History.{history}
 use Rattle.cc_model.specs.Holds.{Hold, hold_at, changed_at, id_of, held_after, holds_of}
-use Rattle.cc_model.specs.Room.{owed_by_hold, owed_by_stream, reserved_in}
+use Rattle.cc_model.specs.Room.{owed_by_hold, owed_by_stream, reserved_in, owes_set_dirty, places_asked}
 use Rattle.cc_model.specs.Setup.{Setup}
 use Rattle.cc_own.specs.Own.{new_hold}
 use Rattle.cc_own.proofs.DistinctIds.{ids-distinct}
@@ -34,7 +33,7 @@ use Rattle.cc_step.proofs.HoldSums.{owed-more, owed-changed, owed-ended}
 use Rattle.cc_step.proofs.Maps.{serves-kind, map-owes_none}
 use Rattle.cc_step.proofs.Failing.{stepped-answered}
 use Rattle.cc_step.proofs.Reserved.{stores-call, no-store}
-use Rattle.cc_step.specs.Step.{is_stepped, places_asked, places_spared, most_asked, asked_now}
+use Rattle.cc_step.specs.Step.{is_stepped, places_spared, most_asked, asked_now}
 
 -- no call asks more than its most
 pub most : (holds : List Hold) (it : Call) → places_asked holds it ≤ most_asked it

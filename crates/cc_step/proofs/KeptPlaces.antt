@@ -7,17 +7,17 @@ use Rattle.cc_entry.specs.declared.call.Call.TheVariants as call
 use Rattle.cc_entry.specs.declared.entry.Entry.{Entry}
 use Rattle.cc_entry.specs.declared.reply.Reply.TheVariants as reply
 use Rattle.cc_book.specs.Book.{BookState, Gains, done, takes_memory}
-use Rattle.cc_holds.specs.Stands.{owes_set_dirty}
 use Rattle.cc_journal.specs.Calls.{owed_end}
 use Rattle.cc_journal.specs.Journal.{JournalState}
 use Rattle.cc_model.specs.Good.{IsGood}
 use Rattle.cc_model.specs.History.{Effect, history}
 use Rattle.cc_model.specs.Holds.{Hold, hold_at, holds_of}
 use Rattle.cc_model.specs.Refusals.{refusal}
+use Rattle.cc_model.specs.Room.{owes_set_dirty, places_asked}
 use Rattle.cc_model.specs.Setup.{Setup}
 use Rattle.cc_step.proofs.Attempts.{owed-after}
 use Rattle.cc_step.proofs.Placed.{good-done}
-use Rattle.cc_step.specs.Step.{is_stepped, places_asked, places_spared, asked_now, MayStep, IsReadyFor, IsReplyOf, AddsOwing}
+use Rattle.cc_step.specs.Step.{is_stepped, places_spared, asked_now, MayStep, IsReadyFor, IsReplyOf, AddsOwing}
 
 -- it is one of the two
 abbrev pub AsksNone : Call → Type 0

@@ -12,7 +12,6 @@ use Rattle.cc_entry.specs.declared.error.CcError.TheVariants as error
 use Rattle.cc_entry.specs.declared.entry.Entry.{Entry}
 use Rattle.cc_entry.specs.declared.reply.Reply.{Reply}
 use Rattle.cc_book.specs.Book.{BookState, BookStands, Gains, done, failed}
-use Rattle.cc_holds.specs.Stands.{owes_set_dirty}
 use Rattle.cc_journal.specs.Journal.{JournalState, room_of}
 use Rattle.cc_model.specs.Acts.{file_of}
 use Rattle.cc_model.specs.Conditions.{IsFilled}
@@ -24,7 +23,7 @@ use Rattle.cc_model.specs.Ranges.{range_of}
 use Rattle.cc_model.specs.Refusals.{refusal}
 use Rattle.cc_model.specs.Replies.{IsReply}
 use Rattle.cc_model.specs.Residency.{is_resident}
-use Rattle.cc_model.specs.Room.{reserved_in}
+use Rattle.cc_model.specs.Room.{owes_set_dirty, places_asked, reserved_in}
 use Rattle.cc_model.specs.Setup.{Setup}
 use Rattle.cc_model.specs.Touches.{size_of}
 use Rattle.cc_step.specs.declared.steps.Stepped.{Stepped}
@@ -133,22 +132,6 @@ is_answered (call.Purge file span) = true
 is_answered (call.NcRead file page) = true
 is_answered (call.NcWrite file page) = true
 is_answered other = is_stepped other
-
--- How many places a call asks that is done: that of its entry, and those that it reserves with it. A hold reserves its
--- end; a zeroing prepare, and the first write through a pin since its last set-dirty, reserve the set-dirty. A
--- set-dirty that was reserved, and an end, ask none.
-abbrev pub places_asked : List Hold → Call → ℕ
-places_asked holds (call.Map file at len) = 2
-places_asked holds (call.PinRead file at len exclusive) = 2
-places_asked holds (call.PreparePin file at len true exclusive) = 3
-places_asked holds (call.PreparePin file at len false exclusive) = 2
-places_asked holds (call.Repin hold) = 2
-places_asked holds (call.MdlRead file at len) = 2
-places_asked holds (call.MdlWrite file at len) = 2
-places_asked holds (call.PinnedWrite hold at bytes) = if owes_set_dirty (hold_at holds hold) then 1 else 2
-places_asked holds (call.SetDirty hold lsn) = if owes_set_dirty (hold_at holds hold) then 0 else 1
-places_asked holds (call.EndHold hold) = 0
-places_asked holds other = 1
 
 -- as many as it may ask, whatever holds are open
 abbrev pub most_asked : Call → ℕ

@@ -16,8 +16,8 @@ use Rattle.cc_pieces.specs.Steps.{was_posted}
 use Rattle.cc_turns.specs.Desk.{Tells}
 use Rattle.cc_pieces.specs.Moments.{EventLeft}
 use Rattle.cc_world.specs.World.{WorldState, setup_of}
-use Rattle.cc_world.specs.declared.events.Event.TheVariants as event
-use Rattle.cc_world.specs.declared.events.StepReply.TheVariants as step
+use Rattle.cc_effects.specs.declared.events.Event.TheVariants as event
+use Rattle.cc_effects.specs.declared.events.StepReply.TheVariants as step
 use Rattle.cc_steps.specs.Happening.{HasHappened}
 use Rattle.cc_steps.specs.Lines.{EventWent, RoutinesWent}
 use Rattle.cc_steps.specs.Routines.{IsQuiet, RoutinesStand, RoutinesState, come_back, deferrals_in}

@@ -17,12 +17,12 @@ use Rattle.cc_model.specs.Setup.{Setup}
 use Rattle.cc_turns.specs.Desk.{Begun, Tells}
 use Rattle.cc_world.specs.Journals.{refused_plainly}
 use Rattle.cc_pieces.specs.Moments.{EventLeft}
-use Rattle.cc_world.specs.Ways.{Answers, IsWanting, MayHappen, Where, OnStream, OnLog, OnJournal, Nowhere, asked_by, faulted_by, place_of}
+use Rattle.cc_effects.specs.Events.{Answers, IsWanting, MayHappen, Where, OnStream, OnLog, OnJournal, Nowhere, asked_by, faulted_by, place_of}
 use Rattle.cc_world.specs.World.{Faulted, Happened, JournalRests, Stepped, WentAt, WorldState, setup_of}
-use Rattle.cc_world.specs.declared.events.Event.{Event}
-use Rattle.cc_world.specs.declared.events.Event.TheVariants as event
-use Rattle.cc_world.specs.declared.events.StepReply.{StepReply}
-use Rattle.cc_world.specs.declared.events.StepReply.TheVariants as step
+use Rattle.cc_effects.specs.declared.events.Event.{Event}
+use Rattle.cc_effects.specs.declared.events.Event.TheVariants as event
+use Rattle.cc_effects.specs.declared.events.StepReply.{StepReply}
+use Rattle.cc_effects.specs.declared.events.StepReply.TheVariants as step
 use Rattle.cc_steps.specs.Happening.{HasHappened, reply_without, without_routine}
 
 -- whether an event may happen, what it asks, and what it places, without its routine

@@ -12,9 +12,9 @@ use Rattle.cc_script.specs.declared.script.Action.{Action}
 use Rattle.cc_script.specs.declared.script.Action.TheVariants as action
 use Rattle.cc_pieces.specs.Bindings.{Binding, hold_named}
 use Rattle.cc_pieces.specs.Events.{Doing, Happens, Makes, NamesNone, doing_of, held_read, on_hold}
-use Rattle.cc_world.specs.Ways.{IsKnown, NamesOf}
-use Rattle.cc_world.specs.declared.events.Event.{Event}
-use Rattle.cc_world.specs.declared.events.Event.TheVariants as event
+use Rattle.cc_effects.specs.Events.{IsKnown, NamesOf}
+use Rattle.cc_effects.specs.declared.events.Event.{Event}
+use Rattle.cc_effects.specs.declared.events.Event.TheVariants as event
 use Rattle.cc_steps.specs.Doing.{IsCopied, IsPlain}
 use Rattle.cc_steps.specs.Happening.{without_routine}
 use Rattle.cc_steps.specs.Lines.{IsKnownTo, called}

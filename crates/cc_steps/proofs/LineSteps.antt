@@ -24,9 +24,9 @@ use Rattle.cc_pieces.specs.Events.{Doing, Happens, Makes, NamesNone, doing_of, e
 use Rattle.cc_pieces.specs.Steps.{LineStepped, LinesStepped, bindings_behind, deferral_in, deferrals_of, line_event}
 use Rattle.cc_turns.specs.Desk.{Begun, Tells}
 use Rattle.cc_world.specs.World.{WorldState, setup_of}
-use Rattle.cc_world.specs.declared.events.Event.{Event}
-use Rattle.cc_world.specs.declared.events.Event.TheVariants as event
-use Rattle.cc_world.specs.declared.events.StepReply.TheVariants as step
+use Rattle.cc_effects.specs.declared.events.Event.{Event}
+use Rattle.cc_effects.specs.declared.events.Event.TheVariants as event
+use Rattle.cc_effects.specs.declared.events.StepReply.TheVariants as step
 use Rattle.cc_steps.specs.Doing.{IsCopied}
 use Rattle.cc_steps.specs.Happening.{without_routine}
 use Rattle.cc_steps.specs.Lines.{LineWent, LinesWent, RoutinesWent, WasAnswered, called, taken_by}

@@ -19,11 +19,11 @@ use Rattle.cc_pieces.specs.Steps.{posts_it, was_posted}
 use Rattle.cc_traits.specs.declared.post.PostedRoutine.{PostedRoutine}
 use Rattle.cc_world.specs.Journals.{Queued}
 use Rattle.cc_pieces.specs.Moments.{EventLeft}
-use Rattle.cc_world.specs.Ways.{Answers, IsUnposted, IsWanting, entries_done, faulted_by, read_fault}
-use Rattle.cc_world.specs.declared.events.Event.{Event}
-use Rattle.cc_world.specs.declared.events.Event.TheVariants as event
-use Rattle.cc_world.specs.declared.events.StepReply.{StepReply}
-use Rattle.cc_world.specs.declared.events.StepReply.TheVariants as step
+use Rattle.cc_effects.specs.Events.{Answers, IsUnposted, IsWanting, entries_done, faulted_by, read_fault}
+use Rattle.cc_effects.specs.declared.events.Event.{Event}
+use Rattle.cc_effects.specs.declared.events.Event.TheVariants as event
+use Rattle.cc_effects.specs.declared.events.StepReply.{StepReply}
+use Rattle.cc_effects.specs.declared.events.StepReply.TheVariants as step
 use Rattle.cc_steps.specs.Doing.{IsPlain}
 use Rattle.cc_steps.specs.Happening.{PostsNone, reply_without, without_routine}
 use Rattle.cc_steps.specs.Routines.{IsQuiet}

@@ -12,8 +12,8 @@ use Rattle.cc_script.specs.declared.script.Action.{Action}
 use Rattle.cc_script.specs.declared.script.Action.TheVariants as action
 use Rattle.cc_pieces.specs.Bindings.{Binding, hold_named}
 use Rattle.cc_pieces.specs.Events.{Doing, Happens, Makes, NamesNone, on_hold}
-use Rattle.cc_world.specs.declared.events.Event.{Event}
-use Rattle.cc_world.specs.declared.events.Event.TheVariants as event
+use Rattle.cc_effects.specs.declared.events.Event.{Event}
+use Rattle.cc_effects.specs.declared.events.Event.TheVariants as event
 use Rattle.cc_steps.specs.Happening.{without_routine}
 use Rattle.cc_steps.specs.declared.doing.Doing.{Doing as Made}
 use Rattle.cc_steps.specs.declared.doing.Doing.TheVariants as made

@@ -5,10 +5,10 @@ use Rattle.cc_turns.specs.Desk.{Tells}
 use Rattle.cc_world.specs.Journals.{Queued}
 use Rattle.cc_pieces.specs.Moments.{EventLeft}
 use Rattle.cc_world.specs.World.{WorldState, setup_of}
-use Rattle.cc_world.specs.declared.events.Event.{Event}
-use Rattle.cc_world.specs.declared.events.Event.TheVariants as event
-use Rattle.cc_world.specs.declared.events.StepReply.{StepReply}
-use Rattle.cc_world.specs.declared.events.StepReply.TheVariants as step
+use Rattle.cc_effects.specs.declared.events.Event.{Event}
+use Rattle.cc_effects.specs.declared.events.Event.TheVariants as event
+use Rattle.cc_effects.specs.declared.events.StepReply.{StepReply}
+use Rattle.cc_effects.specs.declared.events.StepReply.TheVariants as step
 
 -- an event with nothing in place of its routine
 abbrev pub without_routine : {Q : Type 0} → Event Q → Event (Unit {0})

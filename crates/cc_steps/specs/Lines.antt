@@ -13,8 +13,8 @@ use Rattle.cc_pieces.specs.Bindings.{Binding}
 use Rattle.cc_pieces.specs.Steps.{EventAnswered, LineStepped, LinesStepped, StreamStepped, StreamsStepped, deferral_in, deferrals_of, line_event}
 use Rattle.cc_turns.specs.Desk.{Tells}
 use Rattle.cc_world.specs.World.{WorldState, setup_of}
-use Rattle.cc_world.specs.declared.events.Event.{Event}
-use Rattle.cc_world.specs.declared.events.Event.TheVariants as event
+use Rattle.cc_effects.specs.declared.events.Event.{Event}
+use Rattle.cc_effects.specs.declared.events.Event.TheVariants as event
 use Rattle.cc_steps.specs.Routines.{IsQuiet, RoutinesStand, RoutinesState, deferrals_in}
 
 -- an action names streams that there are

@@ -13,7 +13,7 @@ ghost use Rattle.cc_steps.specs.Names.{bindings_in};
 use crate::names::Names;
 use cc_entry::{Bytes, Call, FileId, NoMemory};
 use cc_script::{Action, HoldWord, Need};
-use cc_world::Event;
+use cc_effects::Event;
 use std::alloc::Global;
 
 /// What a line is.

@@ -3,14 +3,15 @@
 ghost use Rattle.std.specs.Prelude.{◌≡◌, length};
 ghost use Rattle.cc_pieces.specs.Steps.{answer_by};
 ghost use Rattle.cc_turns.specs.Desk.{tells_of};
-ghost use Rattle.cc_world.specs.Ways.{IsKnown, IsUnposted};
+ghost use Rattle.cc_effects.specs.Events.{IsKnown, IsUnposted};
 ghost use Rattle.cc_steps.specs.Doing.{IsPlain};
 ghost use Rattle.cc_steps.specs.Happening.{HasHappened, PostsNone, reply_without, without_routine};
 ghost use Rattle.cc_steps.specs.Lines.{WasAnswered};
 
 use cc_entry::Answer;
 use cc_traits::{LogFile, PageDisk, PostRoutine};
-use cc_world::{Event, StepReply, World};
+use cc_effects::{Event, StepReply};
+use cc_world::World;
 
 /// Lets an event happen, at the end of the journal so far.
 pub(crate) fn happen<D: PageDisk, L: LogFile, Q: PostRoutine>(

@@ -5,7 +5,7 @@ ghost use Rattle.std.specs.List.{AllByRecursion};
 ghost use Rattle.cc_script.specs.EventActions.{defer_lines, is_defer};
 ghost use Rattle.cc_pieces.specs.Steps.{deferral_in};
 ghost use Rattle.cc_turns.specs.Desk.{tells_of};
-ghost use Rattle.cc_world.specs.declared.events.Event.TheVariants as event;
+ghost use Rattle.cc_effects.specs.declared.events.Event.TheVariants as event;
 ghost use Rattle.cc_steps.specs.Lines.{EventWent, IsKnownTo, LineWent, LinesWent, called};
 ghost use Rattle.cc_steps.specs.Names.{bindings_in, words_in};
 ghost use Rattle.cc_steps.specs.Routines.{RoutinesStand};
@@ -17,7 +17,8 @@ use crate::routines::{Routines, Slot};
 use cc_entry::{Answer, Call, CcError, FileId, Ids, LineReply};
 use cc_script::ActionLine;
 use cc_traits::{LogFile, PageDisk, PostRoutine, PostedRoutine};
-use cc_world::{Event, StepReply, World};
+use cc_effects::{Event, StepReply};
+use cc_world::World;
 use std::alloc::Global;
 
 /// Steps through the lines in their order, and puts the reply of each behind the replies.

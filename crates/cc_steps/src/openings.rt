@@ -3,15 +3,16 @@
 ghost use Rattle.std.specs.Prelude.{◌≡◌, ◌+◌, ◌<◌, ◌≤◌, length, vec_len, vec_capacity};
 ghost use Rattle.cc_model.specs.Acts.{file_of};
 ghost use Rattle.cc_turns.specs.Desk.{tells_of};
-ghost use Rattle.cc_world.specs.Ways.{NamesOf};
-ghost use Rattle.cc_world.specs.declared.events.Event.TheVariants as event;
+ghost use Rattle.cc_effects.specs.Events.{NamesOf};
+ghost use Rattle.cc_effects.specs.declared.events.Event.TheVariants as event;
 ghost use Rattle.cc_steps.specs.Lines.{StreamWent, StreamsWent, WasAnswered};
 
 use crate::happening::answer_to;
 use cc_entry::{Answer, Call, FileId, FileSizes, LineReply, Reply};
 use cc_script::StreamLine;
 use cc_traits::{LogFile, PageDisk, PostRoutine};
-use cc_world::{Event, World};
+use cc_effects::Event;
+use cc_world::World;
 
 /// Sets the streams up in their order, and puts the reply of each line behind the replies.
 pub(crate) fn open_streams<D: PageDisk, L: LogFile, Q: PostRoutine>(

@@ -7,7 +7,6 @@ use Rattle.cc_entry.specs.declared.call.Call.{Call}
 use Rattle.cc_entry.specs.declared.call.Call.TheVariants as call
 use Rattle.cc_entry.specs.declared.entry.Entry.{Entry}
 use Rattle.cc_effects.specs.Refusals.{owes_nothing}
-use Rattle.cc_holds.specs.Stands.{owes_set_dirty}
 use Rattle.cc_laws.proofs.Lists1.{among-any, among-range}
 use Rattle.cc_model.specs.Acts.{file_of}
 use Rattle.cc_model.specs.Cache.{all_streams}
@@ -15,6 +14,7 @@ use Rattle.cc_model.specs.Filing.{IsFiled, serves}
 use Rattle.cc_model.specs.History.{history}
 use Rattle.cc_model.specs.Holds.{Hold, hold_at, holds_of}
 use Rattle.cc_model.specs.Numbers.{is_empty}
+use Rattle.cc_model.specs.Room.{owes_set_dirty}
 use Rattle.cc_step.specs.Step.{is_answered, asked_now}
 use Rattle.cc_visits.proofs.Refusals.{MayStop, stops-free}
 

@@ -19,11 +19,11 @@ use Rattle.cc_model.specs.Pick.{pick}
 use Rattle.cc_model.specs.Setup.{Setup}
 use Rattle.cc_model.specs.Throttle.{pages_for}
 use Rattle.cc_world.specs.Journals.{Queued}
-use Rattle.cc_world.specs.Ways.{Answers, IsWanting, OnStream, OnLog, OnJournal, Nowhere, call_entry, entries_done, faulted_by, filed_under, log_place, page_in, place_of, place_on, read_fault, write_end}
-use Rattle.cc_world.specs.declared.events.Event.{Event}
-use Rattle.cc_world.specs.declared.events.Event.TheVariants as event
-use Rattle.cc_world.specs.declared.events.StepReply.{StepReply}
-use Rattle.cc_world.specs.declared.events.StepReply.TheVariants as step
+use Rattle.cc_effects.specs.Events.{Answers, IsWanting, OnStream, OnLog, OnJournal, Nowhere, call_entry, entries_done, faulted_by, filed_under, log_place, page_in, place_of, place_on, read_fault, write_end}
+use Rattle.cc_effects.specs.declared.events.Event.{Event}
+use Rattle.cc_effects.specs.declared.events.Event.TheVariants as event
+use Rattle.cc_effects.specs.declared.events.StepReply.{StepReply}
+use Rattle.cc_effects.specs.declared.events.StepReply.TheVariants as step
 use Rattle.cc_world.proofs.Quiet.{AreAlone, AreOnLog, AreWithin, IsAlone, IsOn, IsOnLog, alone-none, alone-one, on-log-none, on-log-one, within-more, within-none, within-one}
 
 same-stream : (a b : ℕ) → OnStream a ≡ OnStream b → a ≡ b

@@ -25,7 +25,7 @@ use Rattle.cc_model.specs.Refusals.{refusal}
 use Rattle.cc_model.specs.Setup.{Setup}
 use Rattle.cc_step.proofs.Reasons.{is_listed, refusal-listed, never-long}
 use Rattle.cc_world.specs.Calls.{IsFiledOn, IsRefusedSo, IsReplied, places_one}
-use Rattle.cc_world.specs.Ways.{filed_under, reason_of}
+use Rattle.cc_effects.specs.Events.{filed_under, reason_of}
 
 nothing-owed : (e : Entry) (past : List Entry) → owed_begin past ≡ None → IsOwed (owed_begin past) e
 nothing-owed e past none = rw none tt

@@ -30,9 +30,9 @@ use Rattle.cc_step.specs.Step.{StandUnder}
 use Rattle.cc_world.proofs.CallGood.{good-refused, good-replied, listed}
 use Rattle.cc_world.proofs.CallSums.{asked-ready, reserved-failed, sum-replied}
 use Rattle.cc_world.specs.Calls.{BookStandsUnder, CallLeft, CallWent, IsAnswer, IsFiledOn, IsMade, IsRefusedSo, IsReplied, IsUnrefused, PlaceLeft, asked_on, asked_ready, spared_on}
-use Rattle.cc_world.specs.Ways.{CanEnd, MayDo, asked_for, call_entry, filed_under, reason_of}
-use Rattle.cc_world.specs.declared.events.StepReply.{StepReply}
-use Rattle.cc_world.specs.declared.events.StepReply.TheVariants as step
+use Rattle.cc_effects.specs.Events.{CanEnd, MayDo, asked_for, call_entry, filed_under, reason_of}
+use Rattle.cc_effects.specs.declared.events.StepReply.{StepReply}
+use Rattle.cc_effects.specs.declared.events.StepReply.TheVariants as step
 
 -- A call may not end now that may not be filed, or has no reply with which it may.
 pub unfiled-never : (u : Setup) (past : List Entry) (pass s : ℕ) (it : Call) → filed_under past it ≡ Some s → (IsFiledOn past pass s it → ⊥) → MayDo u past pass it → ⊥

@@ -34,7 +34,7 @@ use Rattle.cc_readers.specs.ViewReads.{over_quota}
 use Rattle.cc_step.proofs.Filled.{filled-none}
 use Rattle.cc_step.specs.Step.{IsReadyFor, is_stepped, least_absent}
 use Rattle.cc_world.specs.Calls.{IsAnswer, IsUnrefused, MayReply, ends_on_book, unit_if}
-use Rattle.cc_world.specs.Ways.{filed_under, reason_of}
+use Rattle.cc_effects.specs.Events.{filed_under, reason_of}
 
 -- a range is not filled of which a page is absent
 none-absent : (test : ℕ → Bool) (p : ℕ) (ps : List ℕ) → list_all test ps ≡ true → find (λ q. not (test q)) ps ≡ Some p → ⊥

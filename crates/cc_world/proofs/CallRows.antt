@@ -23,10 +23,10 @@ use Rattle.cc_turns.specs.Standing.{DiskAtFirst}
 use Rattle.cc_world.specs.Calls.{BookStandsUnder, CallLeft, CallWent, ends_on_book, places_one}
 use Rattle.cc_world.specs.Pages.{Says}
 use Rattle.cc_world.specs.Rows.{DiskIsUsed, RowLeft, RowWent, StandsUnder}
-use Rattle.cc_world.specs.Ways.{call_entry, entries_done, filed_under, reason_of}
-use Rattle.cc_world.specs.declared.events.Event.TheVariants as event
-use Rattle.cc_world.specs.declared.events.StepReply.{StepReply}
-use Rattle.cc_world.specs.declared.events.StepReply.TheVariants as step
+use Rattle.cc_effects.specs.Events.{call_entry, entries_done, filed_under, reason_of}
+use Rattle.cc_effects.specs.declared.events.Event.TheVariants as event
+use Rattle.cc_effects.specs.declared.events.StepReply.{StepReply}
+use Rattle.cc_effects.specs.declared.events.StepReply.TheVariants as step
 use Rattle.cc_world.specs.declared.rows.Kept.{Kept}
 use Rattle.cc_world.specs.declared.rows.Row.{Row}
 use Rattle.cc_world.proofs.Open.{open-kept}

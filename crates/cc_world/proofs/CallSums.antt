@@ -14,7 +14,6 @@ use Rattle.cc_entry.specs.declared.reply.Outcome.{Outcome}
 use Rattle.cc_entry.specs.declared.reply.Outcome.TheVariants as outcome
 use Rattle.cc_entry.specs.declared.reply.Reply.{Reply}
 use Rattle.cc_book.specs.Book.{BookState, done, failed}
-use Rattle.cc_holds.specs.Stands.{owes_set_dirty}
 use Rattle.cc_journal.specs.Calls.{ends_in_store, owed_end, owes_store}
 use Rattle.cc_journal.specs.Journal.{JournalState}
 use Rattle.cc_laws.proofs.HistorySteps.{history-call_failed, history-done, history-done_other}
@@ -27,14 +26,14 @@ use Rattle.cc_model.specs.History.{history}
 use Rattle.cc_model.specs.Holds.{Hold, hold_at, holds_of}
 use Rattle.cc_model.specs.Legal.{ends_own_store, stream_history}
 use Rattle.cc_model.specs.Passes.{calls_of, is_store, is_the_page, store_of, stored_by, stored_page, up_to_call}
-use Rattle.cc_model.specs.Room.{owed_by_stream, reserved_in}
+use Rattle.cc_model.specs.Room.{owed_by_stream, reserved_in, owes_set_dirty, places_asked}
 use Rattle.cc_model.specs.Setup.{Setup}
 use Rattle.cc_step.proofs.Asking.{asked-reserved}
 use Rattle.cc_step.proofs.Placed.{so-far}
 use Rattle.cc_step.proofs.Reserved.{stores-call, sum-same}
-use Rattle.cc_step.specs.Step.{asked_now, is_stepped, places_asked, places_spared}
+use Rattle.cc_step.specs.Step.{asked_now, is_stepped, places_spared}
 use Rattle.cc_world.specs.Calls.{IsFiledOn, IsRefusedSo, IsReplied, asked_on, asked_ready, places_one, spared_on}
-use Rattle.cc_world.specs.Ways.{asked_done, filed_under}
+use Rattle.cc_effects.specs.Events.{asked_done, filed_under}
 
 with-stores : (owed sums before stores : ℕ) → owed + stores ≡ before → owed + (sums + stores) ≡ sums + before
 with-stores owed sums before stores is = omega (arith, is)

@@ -33,10 +33,10 @@ use Rattle.cc_world.proofs.CallSums.{owes-one, reserved-failed}
 use Rattle.cc_world.specs.Calls.{CallWent, IsFiledOn}
 use Rattle.cc_world.specs.Failing.{FailLeft, IsFailing, IsTelling, MayTell}
 use Rattle.cc_world.specs.Rows.{DiskIsUsed, RowLeft, RowWent, StandsUnder}
-use Rattle.cc_world.specs.Ways.{MayStandIf, asked_to_fail, call_entry, filed_under}
-use Rattle.cc_world.specs.declared.events.Event.TheVariants as event
-use Rattle.cc_world.specs.declared.events.StepReply.{StepReply}
-use Rattle.cc_world.specs.declared.events.StepReply.TheVariants as step
+use Rattle.cc_effects.specs.Events.{MayStandIf, asked_to_fail, call_entry, filed_under}
+use Rattle.cc_effects.specs.declared.events.Event.TheVariants as event
+use Rattle.cc_effects.specs.declared.events.StepReply.{StepReply}
+use Rattle.cc_effects.specs.declared.events.StepReply.TheVariants as step
 use Rattle.cc_world.specs.declared.rows.Kept.{Kept}
 use Rattle.cc_world.specs.declared.rows.Row.{Row}
 

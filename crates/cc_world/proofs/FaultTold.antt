@@ -11,18 +11,17 @@ use Rattle.cc_entry.specs.declared.entry.Entry.{Entry}
 use Rattle.cc_entry.specs.declared.error.CcError.{CcError}
 use Rattle.cc_model.specs.Acts.{file_of}
 use Rattle.cc_model.specs.Allowed.{is_fault}
-use Rattle.cc_model.specs.Faults.{Fault, ReadFailed, WriteFailed, SyncFailed, LogFailed, faults_since, is_failed_log, is_failed_read, is_failed_sync, is_failed_write}
+use Rattle.cc_model.specs.Faults.{Fault, ReadFailed, WriteFailed, SyncFailed, LogFailed, faults_since, is_failed_log, is_failed_read, is_failed_sync, is_failed_write, oldest}
 use Rattle.cc_model.specs.Filing.{IsFiled}
 use Rattle.cc_model.specs.Holds.{holds_of}
 use Rattle.cc_model.specs.Legal.{IsFailure, NothingElse, ends_own_store, stream_history}
 use Rattle.cc_model.specs.Ranges.{first_page}
 use Rattle.cc_model.specs.Refusals.{refusal}
 use Rattle.cc_model.specs.Setup.{Setup}
-use Rattle.cc_readers.specs.FaultReads.{oldest}
 use Rattle.cc_world.specs.Calls.{IsFiledOn}
 use Rattle.cc_world.specs.Failing.{MayTell}
 use Rattle.cc_world.specs.Pages.{Says}
-use Rattle.cc_world.specs.Ways.{MayStandIf, error_of, fault_told, filed_under, told_entry}
+use Rattle.cc_effects.specs.Events.{MayStandIf, error_of, fault_told, filed_under, told_entry}
 
 -- the oldest fault is one of the faults
 or-later : (a b : Bool) → b ≡ true → (a || b) ≡ true

@@ -10,17 +10,16 @@ use Rattle.cc_entry.specs.declared.call.Call.TheVariants as call
 use Rattle.cc_entry.specs.declared.entry.Entry.{Entry}
 use Rattle.cc_entry.specs.declared.hold.HoldKind.{HoldKind}
 use Rattle.cc_model.specs.Acts.{file_of}
-use Rattle.cc_model.specs.Faults.{Fault, faults_since}
+use Rattle.cc_model.specs.Faults.{Fault, faults_since, oldest}
 use Rattle.cc_model.specs.Filing.{IsFiled, serves, serves_range}
 use Rattle.cc_model.specs.Holds.{hold_at, holds_of}
 use Rattle.cc_model.specs.Legal.{stream_history}
 use Rattle.cc_model.specs.Setup.{Setup}
 use Rattle.cc_turns.specs.Desk.{Tells}
 use Rattle.cc_world.specs.Filing.{AreBooks, FilesUnder, is_unfiled}
-use Rattle.cc_readers.specs.FaultReads.{oldest}
-use Rattle.cc_world.specs.Ways.{MayHappen, MayStandIf, NamesOf, OnJournal, OnStream, filed_under, place_on, told_entry}
+use Rattle.cc_effects.specs.Events.{MayHappen, MayStandIf, NamesOf, OnJournal, OnStream, filed_under, place_on, told_entry}
 use Rattle.cc_world.specs.World.{WorldStands, WorldState}
-use Rattle.cc_world.specs.declared.events.Event.TheVariants as event
+use Rattle.cc_effects.specs.declared.events.Event.TheVariants as event
 use Rattle.cc_world.specs.declared.filing.Filing.TheVariants as filing
 use Rattle.cc_world.specs.declared.rows.Row.{Row}
 use Rattle.cc_world.proofs.JournalSteps.{are-books}

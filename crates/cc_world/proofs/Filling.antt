@@ -19,8 +19,8 @@ use Rattle.cc_transfer.specs.Transfers.{faults_by}
 use Rattle.cc_turns.proofs.BookGrows.{book_grows}
 use Rattle.cc_turns.specs.Standing.{DiskAtFirst}
 use Rattle.cc_world.specs.Rows.{RowEnded, RowLeft, RowWent, reply_to}
-use Rattle.cc_world.specs.Ways.{MayHappen, page_in}
-use Rattle.cc_world.specs.declared.events.Event.TheVariants as event
+use Rattle.cc_effects.specs.Events.{MayHappen, page_in}
+use Rattle.cc_effects.specs.declared.events.Event.TheVariants as event
 use Rattle.cc_world.specs.declared.rows.Row.{Row}
 
 -- the two ways to name the entry of a page that comes in

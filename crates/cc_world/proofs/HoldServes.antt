@@ -14,7 +14,7 @@ use Rattle.cc_model.specs.Holds.{Hold, hold_at, holds_of}
 use Rattle.cc_world.specs.Calls.{IsFiledOn}
 use Rattle.cc_world.specs.HoldUses.{is_of_kind, is_served, serves_use, use_of}
 use Rattle.cc_world.specs.Pages.{Says}
-use Rattle.cc_world.specs.Ways.{filed_under}
+use Rattle.cc_effects.specs.Events.{filed_under}
 use Rattle.cc_world.specs.declared.filed.HoldUse.{HoldUse}
 
 -- a test says whether it passes

@@ -14,7 +14,7 @@ use Rattle.cc_holds.specs.Stands.{shown, shown_row}
 use Rattle.cc_model.specs.History.{history}
 use Rattle.cc_model.specs.Holds.{hold_at, holds_of}
 use Rattle.cc_world.specs.Filing.{AreBooks}
-use Rattle.cc_world.specs.Ways.{holder_of}
+use Rattle.cc_effects.specs.Events.{holder_of}
 use Rattle.cc_world.specs.declared.rows.Row.{Row}
 
 -- whether a hold is open in a stream

@@ -19,19 +19,18 @@ use Rattle.cc_journal.specs.Calls.{owed_end}
 use Rattle.cc_journal.specs.Journal.{JournalState, head_may_go, room_of}
 use Rattle.cc_journal.specs.Queue.{AllUnposted}
 use Rattle.cc_model.specs.Conditions.{MayPost}
-use Rattle.cc_model.specs.Faults.{Fault, ReadFailed, WriteFailed, SyncFailed, LogFailed, faults_since}
+use Rattle.cc_model.specs.Faults.{Fault, ReadFailed, WriteFailed, SyncFailed, LogFailed, faults_since, oldest}
 use Rattle.cc_model.specs.Good.{IsGood}
 use Rattle.cc_model.specs.Passes.{calls_of}
 use Rattle.cc_model.specs.Refusals.{refusal}
 use Rattle.cc_model.specs.Setup.{Setup}
 use Rattle.cc_model.specs.Throttle.{pages_for}
-use Rattle.cc_readers.specs.FaultReads.{oldest}
 use Rattle.cc_world.specs.Filing.{is_unfiled}
 use Rattle.cc_world.specs.Journals.{JournalEnded, JournalStandsUnder, JournalWent}
 use Rattle.cc_world.specs.Reserving.{unreserved}
-use Rattle.cc_world.specs.Ways.{MayDo, asked_for, call_entry, entries_done, error_of, goes_first, reason_of}
-use Rattle.cc_world.specs.declared.events.Event.TheVariants as event
-use Rattle.cc_world.specs.declared.events.StepReply.TheVariants as step
+use Rattle.cc_effects.specs.Events.{MayDo, asked_for, call_entry, entries_done, error_of, goes_first, reason_of}
+use Rattle.cc_effects.specs.declared.events.Event.TheVariants as event
+use Rattle.cc_effects.specs.declared.events.StepReply.TheVariants as step
 use Rattle.cc_world.proofs.JournalStanding.{placed-from, went-one}
 use Rattle.cc_world.proofs.Unfiled.{asked-fail, asked-table, fault-is, fault-stands, may-ask-table, reserved-unfiled, unfiled-under}
 

@@ -15,9 +15,9 @@ use Rattle.cc_model.specs.Room.{reserved_in}
 use Rattle.cc_model.specs.Setup.{Setup}
 use Rattle.cc_world.specs.Journals.{HasPlaced, JournalEnded, JournalStandsUnder, JournalWent}
 use Rattle.cc_world.specs.Reserving.{HasReserved, unreserved}
-use Rattle.cc_world.specs.Ways.{IsWanting, MayHappen, asked_by}
-use Rattle.cc_world.specs.declared.events.Event.{Event}
-use Rattle.cc_world.specs.declared.events.StepReply.TheVariants as step
+use Rattle.cc_effects.specs.Events.{IsWanting, MayHappen, asked_by}
+use Rattle.cc_effects.specs.declared.events.Event.{Event}
+use Rattle.cc_effects.specs.declared.events.StepReply.TheVariants as step
 use Rattle.cc_world.proofs.Owing.{owes_nothing, reserved-same}
 use Rattle.cc_world.proofs.Placing.{is_call, good-placed, so-far}
 

@@ -14,11 +14,11 @@ use Rattle.cc_turns.proofs.LogGrows.{log_grows}
 use Rattle.cc_world.specs.Filing.{AreBooks}
 use Rattle.cc_world.specs.Journals.{JournalEnded, JournalLeft, JournalStandsUnder, JournalWent, refused_plainly}
 use Rattle.cc_world.specs.Rows.{RowStands}
-use Rattle.cc_world.specs.Ways.{OnJournal, Where, place_of}
+use Rattle.cc_effects.specs.Events.{OnJournal, Where, place_of}
 use Rattle.cc_world.specs.World.{Happened, RowIsHome, Stepped, WentAlone, WentAt, WorldStands, WorldState, setup_of}
-use Rattle.cc_world.specs.declared.events.Event.{Event}
-use Rattle.cc_world.specs.declared.events.StepReply.{StepReply}
-use Rattle.cc_world.specs.declared.events.StepReply.TheVariants as step
+use Rattle.cc_effects.specs.declared.events.Event.{Event}
+use Rattle.cc_effects.specs.declared.events.StepReply.{StepReply}
+use Rattle.cc_effects.specs.declared.events.StepReply.TheVariants as step
 use Rattle.cc_world.specs.declared.rows.Row.{Row}
 use Rattle.cc_world.proofs.Belonging.{answers-alone, wanting-alone}
 use Rattle.cc_world.proofs.Quiet.{AreAlone}

@@ -21,11 +21,11 @@ use Rattle.cc_model.specs.Setup.{Setup}
 use Rattle.cc_turns.specs.Log.{LogStands, log_failures}
 use Rattle.cc_turns.specs.Standing.{LogAtFirst}
 use Rattle.cc_world.specs.Logs.{LogEnded, LogFaulted, LogLeft, LogStandsUnder, LogWent}
-use Rattle.cc_world.specs.Ways.{IsWanting, asked_by, faulted_by}
-use Rattle.cc_world.specs.declared.events.Event.{Event}
-use Rattle.cc_world.specs.declared.events.Event.TheVariants as event
-use Rattle.cc_world.specs.declared.events.StepReply.{StepReply}
-use Rattle.cc_world.specs.declared.events.StepReply.TheVariants as step
+use Rattle.cc_effects.specs.Events.{IsWanting, asked_by, faulted_by}
+use Rattle.cc_effects.specs.declared.events.Event.{Event}
+use Rattle.cc_effects.specs.declared.events.Event.TheVariants as event
+use Rattle.cc_effects.specs.declared.events.StepReply.{StepReply}
+use Rattle.cc_effects.specs.declared.events.StepReply.TheVariants as step
 use Rattle.cc_world.proofs.Owing.{owes_nothing, reserved-same}
 use Rattle.cc_world.proofs.Placing.{is_call, good-placed, so-far}
 

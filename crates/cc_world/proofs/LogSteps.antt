@@ -20,11 +20,11 @@ use Rattle.cc_turns.proofs.BookGrows.{book_grows}
 use Rattle.cc_turns.proofs.LogGrows.{log_grows}
 use Rattle.cc_world.specs.Logs.{LogFaulted, LogLeft, LogStandsUnder, LogWent}
 use Rattle.cc_world.specs.Rows.{RowStands}
-use Rattle.cc_world.specs.Ways.{MayHappen, OnLog, Where, faulted_by, log_place, place_of}
+use Rattle.cc_effects.specs.Events.{MayHappen, OnLog, Where, faulted_by, log_place, place_of}
 use Rattle.cc_world.specs.World.{Faulted, RowIsHome, Stepped, WentAt, WentLog, WorldStands, WorldState, setup_of}
-use Rattle.cc_world.specs.declared.events.Event.{Event}
-use Rattle.cc_world.specs.declared.events.StepReply.{StepReply}
-use Rattle.cc_world.specs.declared.events.StepReply.TheVariants as step
+use Rattle.cc_effects.specs.declared.events.Event.{Event}
+use Rattle.cc_effects.specs.declared.events.StepReply.{StepReply}
+use Rattle.cc_effects.specs.declared.events.StepReply.TheVariants as step
 use Rattle.cc_world.specs.declared.rows.Row.{Row}
 use Rattle.cc_world.proofs.Belonging.{answers-on-log, fault-on-log, is-on-log, log-leaves, never-kept, queue-left, wanting-on-log}
 use Rattle.cc_world.proofs.Quiet.{AreOnLog, IsOnLog, on-log-one}

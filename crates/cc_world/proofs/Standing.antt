@@ -23,10 +23,10 @@ use Rattle.cc_transfer.proofs.OpenTransfers.{IsUnderWay-open}
 use Rattle.cc_turns.specs.Disk.{DiskStands, opening_of}
 use Rattle.cc_turns.specs.Standing.{DiskAtFirst}
 use Rattle.cc_world.specs.Rows.{DiskIsUsed, IsAtRest, IsCarrying, RowEnded, RowFaulted, RowLeft, RowWent, StandsUnder}
-use Rattle.cc_world.specs.Ways.{IsWanting, MayHappen, asked_by, faulted_by}
-use Rattle.cc_world.specs.declared.events.Event.{Event}
-use Rattle.cc_world.specs.declared.events.StepReply.{StepReply}
-use Rattle.cc_world.specs.declared.events.StepReply.TheVariants as step
+use Rattle.cc_effects.specs.Events.{IsWanting, MayHappen, asked_by, faulted_by}
+use Rattle.cc_effects.specs.declared.events.Event.{Event}
+use Rattle.cc_effects.specs.declared.events.StepReply.{StepReply}
+use Rattle.cc_effects.specs.declared.events.StepReply.TheVariants as step
 use Rattle.cc_world.specs.declared.rows.Kept.{Kept}
 use Rattle.cc_world.specs.declared.rows.Row.{Row}
 use Rattle.cc_world.proofs.Placing.{is_call, good-placed, so-far}

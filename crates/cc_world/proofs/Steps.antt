@@ -29,11 +29,11 @@ use Rattle.cc_turns.proofs.LogGrows.{log_grows}
 use Rattle.cc_world.specs.Journals.{HasPlaced}
 use Rattle.cc_world.specs.Pages.{AreFlushed}
 use Rattle.cc_world.specs.Rows.{DiskIsUsed, RowFaulted, RowLeft, RowStands, RowWent, StandsUnder}
-use Rattle.cc_world.specs.Ways.{Where, OnStream, faulted_by, place_of}
+use Rattle.cc_effects.specs.Events.{Where, OnStream, faulted_by, place_of}
 use Rattle.cc_world.specs.World.{AreAt, Faulted, RowIsHome, Stepped, WentAt, WorldStands, WorldState, Went, setup_of}
-use Rattle.cc_world.specs.declared.events.Event.{Event}
-use Rattle.cc_world.specs.declared.events.StepReply.{StepReply}
-use Rattle.cc_world.specs.declared.events.StepReply.TheVariants as step
+use Rattle.cc_effects.specs.declared.events.Event.{Event}
+use Rattle.cc_effects.specs.declared.events.StepReply.{StepReply}
+use Rattle.cc_effects.specs.declared.events.StepReply.TheVariants as step
 use Rattle.cc_world.specs.declared.rows.Kept.{Kept}
 use Rattle.cc_world.specs.declared.rows.Row.{Row}
 use Rattle.cc_world.proofs.Belonging.{answers-within, fault-within, never-kept, queue-left, stream-leaves, wanting-within}

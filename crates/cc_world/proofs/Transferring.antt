@@ -26,8 +26,8 @@ use Rattle.cc_transfer.specs.Transfers.{IsUnderWay, faults_by}
 use Rattle.cc_turns.specs.Disk.{DiskStands, opening_of}
 use Rattle.cc_turns.specs.Standing.{DiskAtFirst}
 use Rattle.cc_world.specs.Rows.{DiskIsUsed, IsAtRest, IsCarrying, RowEnded, RowLeft, RowWent, StandsUnder, reply_to}
-use Rattle.cc_world.specs.Ways.{MayHappen, beginner, write_end}
-use Rattle.cc_world.specs.declared.events.Event.TheVariants as event
+use Rattle.cc_effects.specs.Events.{MayHappen, beginner, write_end}
+use Rattle.cc_effects.specs.declared.events.Event.TheVariants as event
 use Rattle.cc_world.specs.declared.rows.Kept.{Kept}
 use Rattle.cc_world.specs.declared.rows.Row.{Row}
 use Rattle.cc_world.proofs.Standing.{carried-open, gained-so, went-by}

@@ -40,10 +40,10 @@ use Rattle.cc_world.specs.Calls.{CallWent, IsFiledOn, IsRefusedSo, IsUnrefused}
 use Rattle.cc_world.specs.Rows.{DiskIsUsed, IsAtRest, RowEnded, RowLeft, RowWent, StandsUnder}
 use Rattle.cc_book.specs.Noncached.{WasRead}
 use Rattle.cc_world.specs.Uncached.{IsAdmittedOn, IsImage, IsReadyOn, MayEndRead, stored_byte}
-use Rattle.cc_world.specs.Ways.{CanEnd, MayDo, asked_for, entries_done, filed_under, reason_of}
-use Rattle.cc_world.specs.declared.events.Event.TheVariants as event
-use Rattle.cc_world.specs.declared.events.StepReply.{StepReply}
-use Rattle.cc_world.specs.declared.events.StepReply.TheVariants as step
+use Rattle.cc_effects.specs.Events.{CanEnd, MayDo, asked_for, entries_done, filed_under, reason_of}
+use Rattle.cc_effects.specs.declared.events.Event.TheVariants as event
+use Rattle.cc_effects.specs.declared.events.StepReply.{StepReply}
+use Rattle.cc_effects.specs.declared.events.StepReply.TheVariants as step
 use Rattle.cc_world.specs.declared.rows.Kept.{Kept}
 use Rattle.cc_world.specs.declared.rows.Row.{Row}
 use Rattle.cc_world.proofs.CallLeft.{may-replied, unready-never}

@@ -22,7 +22,7 @@ use Rattle.cc_model.specs.Allowed.{IsAllowed, IsAllowedSoFar, MayEnd, is_fault}
 use Rattle.cc_model.specs.Cache.{all_streams, is_any_dirty}
 use Rattle.cc_model.specs.Conditions.{IsFilled}
 use Rattle.cc_model.specs.Covered.{IsCovered, IsCoveredEntry}
-use Rattle.cc_model.specs.Faults.{Fault, faults_since}
+use Rattle.cc_model.specs.Faults.{Fault, faults_since, oldest}
 use Rattle.cc_model.specs.Filing.{IsFiled}
 use Rattle.cc_model.specs.Good.{IsGood}
 use Rattle.cc_model.specs.History.{history}
@@ -35,10 +35,9 @@ use Rattle.cc_model.specs.Room.{owed_by_stream, reserved_in}
 use Rattle.cc_model.specs.Setup.{Setup}
 use Rattle.cc_model.specs.Stamps.{dirty_table}
 use Rattle.cc_model.specs.Touches.{size_of}
-use Rattle.cc_readers.specs.FaultReads.{oldest}
 use Rattle.cc_step.proofs.Reserved.{stores-call, sum-same}
 use Rattle.cc_world.specs.Filing.{is_unfiled}
-use Rattle.cc_world.specs.Ways.{MayDo, MayStandIf, asked_for, asked_to_fail, call_entry, error_of, fault_told, filed_under}
+use Rattle.cc_effects.specs.Events.{MayDo, MayStandIf, asked_for, asked_to_fail, call_entry, error_of, fault_told, filed_under}
 use Rattle.cc_world.proofs.FaultTold.{failure}
 use Rattle.cc_world.proofs.Placing.{nothing-owed}
 

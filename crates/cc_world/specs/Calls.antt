@@ -19,12 +19,12 @@ use Rattle.cc_model.specs.Filing.{IsFiled}
 use Rattle.cc_model.specs.History.{history}
 use Rattle.cc_model.specs.Holds.{Hold, holds_of}
 use Rattle.cc_model.specs.Replies.{IsReply}
-use Rattle.cc_model.specs.Room.{reserved_in}
+use Rattle.cc_model.specs.Room.{reserved_in, places_asked}
 use Rattle.cc_model.specs.Setup.{Setup}
-use Rattle.cc_step.specs.Step.{StandUnder, places_asked, places_spared}
-use Rattle.cc_world.specs.Ways.{MayDo, asked_for, call_entry, filed_under, reason_of}
-use Rattle.cc_world.specs.declared.events.StepReply.{StepReply}
-use Rattle.cc_world.specs.declared.events.StepReply.TheVariants as step
+use Rattle.cc_step.specs.Step.{StandUnder, places_spared}
+use Rattle.cc_effects.specs.Events.{MayDo, asked_for, call_entry, filed_under, reason_of}
+use Rattle.cc_effects.specs.declared.events.StepReply.{StepReply}
+use Rattle.cc_effects.specs.declared.events.StepReply.TheVariants as step
 
 -- Whether a call ends on its stream's book and the journal alone. A noncached read or store of a page uses the disk, and the
 -- two calls that are left are filed under no stream.

@@ -12,9 +12,9 @@ use Rattle.cc_journal.specs.Journal.{JournalState, room_of}
 use Rattle.cc_model.specs.Allowed.{MayStand, is_fault}
 use Rattle.cc_model.specs.Setup.{Setup}
 use Rattle.cc_world.specs.Calls.{BookStandsUnder, CallWent}
-use Rattle.cc_world.specs.Ways.{MayStandIf, asked_to_fail, call_entry, fault_told, filed_under}
-use Rattle.cc_world.specs.declared.events.StepReply.{StepReply}
-use Rattle.cc_world.specs.declared.events.StepReply.TheVariants as step
+use Rattle.cc_effects.specs.Events.{MayStandIf, asked_to_fail, call_entry, fault_told, filed_under}
+use Rattle.cc_effects.specs.declared.events.StepReply.{StepReply}
+use Rattle.cc_effects.specs.declared.events.StepReply.TheVariants as step
 
 -- A call is made that is filed under the book's stream.
 pub record IsFailing {Q : Type 0} (u : Setup) (it : Call) (b : BookState) (j : JournalState Q) : Type 0 where

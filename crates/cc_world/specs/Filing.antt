@@ -8,7 +8,7 @@ use Rattle.cc_entry.specs.declared.entry.Entry.{Entry}
 use Rattle.cc_book.specs.Book.{BookStands}
 use Rattle.cc_model.specs.Acts.{file_of}
 use Rattle.cc_model.specs.History.{history}
-use Rattle.cc_world.specs.Ways.{filed_under}
+use Rattle.cc_effects.specs.Events.{filed_under}
 use Rattle.cc_world.specs.declared.filing.Filing.{Filing}
 use Rattle.cc_world.specs.declared.filing.Filing.TheVariants as filing
 use Rattle.cc_world.specs.declared.rows.Row.{Row}

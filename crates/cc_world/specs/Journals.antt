@@ -11,11 +11,11 @@ use Rattle.cc_model.specs.Good.{IsGood}
 use Rattle.cc_model.specs.Room.{reserved_in}
 use Rattle.cc_model.specs.Setup.{Setup}
 use Rattle.cc_model.specs.Throttle.{pages_for}
-use Rattle.cc_world.specs.Ways.{Answers, IsWanting, MayHappen, asked_by}
-use Rattle.cc_world.specs.declared.events.Event.{Event}
-use Rattle.cc_world.specs.declared.events.Event.TheVariants as event
-use Rattle.cc_world.specs.declared.events.StepReply.{StepReply}
-use Rattle.cc_world.specs.declared.events.StepReply.TheVariants as step
+use Rattle.cc_effects.specs.Events.{Answers, IsWanting, MayHappen, asked_by}
+use Rattle.cc_effects.specs.declared.events.Event.{Event}
+use Rattle.cc_effects.specs.declared.events.Event.TheVariants as event
+use Rattle.cc_effects.specs.declared.events.StepReply.{StepReply}
+use Rattle.cc_effects.specs.declared.events.StepReply.TheVariants as step
 
 -- The journal gained these entries, and nothing else of it changed but what is reserved, its rows and its queue.
 abbrev pub HasPlaced : {Q : Type 0} → List Entry → JournalState Q → JournalState Q → Type 0

@@ -1,6 +1,5 @@
 -- What the contracts cite.
 pub mod Pages
-pub mod Ways
 pub mod Journals
 pub mod Reserving
 pub mod Rows

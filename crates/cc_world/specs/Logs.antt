@@ -13,10 +13,10 @@ use Rattle.cc_model.specs.Room.{reserved_in}
 use Rattle.cc_model.specs.Setup.{Setup}
 use Rattle.cc_turns.specs.Log.{LogStands}
 use Rattle.cc_turns.specs.Standing.{LogAtFirst}
-use Rattle.cc_world.specs.Ways.{Answers, IsWanting, asked_by, faulted_by}
-use Rattle.cc_world.specs.declared.events.Event.{Event}
-use Rattle.cc_world.specs.declared.events.StepReply.{StepReply}
-use Rattle.cc_world.specs.declared.events.StepReply.TheVariants as step
+use Rattle.cc_effects.specs.Events.{Answers, IsWanting, asked_by, faulted_by}
+use Rattle.cc_effects.specs.declared.events.Event.{Event}
+use Rattle.cc_effects.specs.declared.events.StepReply.{StepReply}
+use Rattle.cc_effects.specs.declared.events.StepReply.TheVariants as step
 
 -- A log and a journal stand under a setup: the journal is good, and the log, which is one of the setup's, stands for it.
 -- So many places are reserved in the journal beyond what its entries owe.

@@ -5,7 +5,7 @@ use Rattle.cc_entry.specs.declared.call.Call.{Call}
 use Rattle.cc_entry.specs.declared.entry.Entry.{Entry}
 use Rattle.cc_model.specs.Acts.{file_of}
 use Rattle.cc_world.specs.Filing.{is_unfiled}
-use Rattle.cc_world.specs.Ways.{filed_under, holder_of}
+use Rattle.cc_effects.specs.Events.{filed_under, holder_of}
 use Rattle.cc_world.specs.declared.filing.Named.{Named}
 use Rattle.cc_world.specs.declared.filing.Named.TheVariants as named
 

@@ -22,7 +22,7 @@ use Rattle.cc_turns.specs.Standing.{DiskAtFirst}
 use Rattle.cc_world.specs.Calls.{IsUnrefused}
 use Rattle.cc_world.specs.Pages.{Says}
 use Rattle.cc_world.specs.Rows.{RowWent, StandsUnder}
-use Rattle.cc_world.specs.Ways.{entries_done, filed_under, reason_of}
+use Rattle.cc_effects.specs.Events.{entries_done, filed_under, reason_of}
 use Rattle.cc_world.specs.declared.rows.Row.{Row}
 
 -- A call is made that is filed under the row's stream, and nothing refuses it. So many places are reserved beyond what the

@@ -19,10 +19,10 @@ use Rattle.cc_turns.specs.Log.{FileStands}
 use Rattle.cc_turns.specs.Places.{IsRoomFor}
 use Rattle.cc_world.specs.Journals.{HasPlaced, Queued, refused_plainly}
 use Rattle.cc_world.specs.Rows.{DiskIsUsed, RowStands}
-use Rattle.cc_world.specs.Ways.{Answers, IsWanting, MayHappen, Where, OnStream, OnLog, OnJournal, Nowhere, asked_by, faulted_by, place_of}
-use Rattle.cc_world.specs.declared.events.Event.{Event}
-use Rattle.cc_world.specs.declared.events.StepReply.{StepReply}
-use Rattle.cc_world.specs.declared.events.StepReply.TheVariants as step
+use Rattle.cc_effects.specs.Events.{Answers, IsWanting, MayHappen, Where, OnStream, OnLog, OnJournal, Nowhere, asked_by, faulted_by, place_of}
+use Rattle.cc_effects.specs.declared.events.Event.{Event}
+use Rattle.cc_effects.specs.declared.events.StepReply.{StepReply}
+use Rattle.cc_effects.specs.declared.events.StepReply.TheVariants as step
 use Rattle.cc_world.specs.declared.rows.Kept.{Kept}
 use Rattle.cc_world.specs.declared.rows.Row.{Row}
 use Rattle.cc_world.specs.declared.world.Rows.{Rows}

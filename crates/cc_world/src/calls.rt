@@ -5,11 +5,11 @@ ghost use Rattle.cc_model.specs.Setup.{Setup};
 ghost use Rattle.cc_turns.specs.Standing.{DiskAtFirst};
 ghost use Rattle.cc_world.specs.Pages.{AreFlushed};
 ghost use Rattle.cc_world.specs.Rows.{IsStanding, RowLeft, StandsUnder};
-ghost use Rattle.cc_world.specs.Ways.{filed_under};
-ghost use Rattle.cc_world.specs.declared.events.Event.TheVariants as event;
+ghost use Rattle.cc_effects.specs.Events.{filed_under};
+ghost use Rattle.cc_effects.specs.declared.events.Event.TheVariants as event;
 
 use crate::ends::end_call;
-use crate::events::StepReply;
+use cc_effects::StepReply;
 use crate::rows::Row;
 use cc_entry::Call;
 use cc_journal::Journal;

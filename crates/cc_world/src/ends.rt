@@ -10,10 +10,10 @@ ghost use Rattle.cc_model.specs.Images.{open_of};
 ghost use Rattle.cc_model.specs.Setup.{Setup};
 ghost use Rattle.cc_world.specs.Calls.{CallLeft, CallWent, IsFiledOn, IsMade, IsRefusedSo, IsReplied, IsUnrefused, PlaceLeft, asked_on, asked_ready, ends_on_book, spared_on};
 ghost use Rattle.cc_world.specs.Pages.{Says};
-ghost use Rattle.cc_world.specs.Ways.{call_entry, reason_of};
+ghost use Rattle.cc_effects.specs.Events.{call_entry, reason_of};
 
 use crate::copies::copy_of;
-use crate::events::StepReply;
+use cc_effects::StepReply;
 use crate::filed::is_filed;
 use crate::replies::reply_now;
 use cc_book::Book;

@@ -7,10 +7,10 @@ ghost use Rattle.cc_turns.specs.Standing.{DiskAtFirst};
 ghost use Rattle.cc_world.specs.Failing.{FailLeft, IsFailing, IsTelling, IsToldBy};
 ghost use Rattle.cc_world.specs.Pages.{Says};
 ghost use Rattle.cc_world.specs.Rows.{IsStanding, RowLeft, StandsUnder};
-ghost use Rattle.cc_world.specs.Ways.{filed_under};
-ghost use Rattle.cc_world.specs.declared.events.Event.TheVariants as event;
+ghost use Rattle.cc_effects.specs.Events.{filed_under};
+ghost use Rattle.cc_effects.specs.declared.events.Event.TheVariants as event;
 
-use crate::events::StepReply;
+use cc_effects::StepReply;
 use crate::filed::is_filed;
 use crate::rows::Row;
 use crate::told::error_of;

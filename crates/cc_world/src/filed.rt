@@ -6,7 +6,7 @@ ghost use Rattle.cc_readers.specs.HoldReads.{hold_of, holds_in};
 ghost use Rattle.cc_world.specs.Calls.{IsFiledOn};
 ghost use Rattle.cc_world.specs.HoldUses.{fits, has_range, is_of_kind, serves_use, use_of, used};
 ghost use Rattle.cc_world.specs.Pages.{Says};
-ghost use Rattle.cc_world.specs.Ways.{filed_under};
+ghost use Rattle.cc_effects.specs.Events.{filed_under};
 
 use cc_book::Book;
 use cc_entry::{Call, HoldKind, NoMemory};

@@ -4,7 +4,7 @@ ghost use Rattle.std.specs.Prelude.{◌≡◌, ◌<◌, IfSome, List, length};
 ghost use Rattle.cc_entry.specs.declared.entry.Entry.{Entry};
 ghost use Rattle.cc_world.specs.Filing.{AreBooks, FilesUnder};
 ghost use Rattle.cc_world.specs.Naming.{IsNamed};
-ghost use Rattle.cc_world.specs.Ways.{holder_of};
+ghost use Rattle.cc_effects.specs.Events.{holder_of};
 
 use crate::rows::Row;
 use cc_entry::{Call, FileId, StreamId};

@@ -3,19 +3,19 @@
 ghost use Rattle.std.specs.Prelude.{◌≡◌, ℕ, ◌+◌, true, false, is_some, List, Option, Some, [], ◌∷◌, IfOk, IfErr, OnOk, OnErr};
 ghost use Rattle.cc_book.specs.Book.{BookStands};
 ghost use Rattle.cc_entry.specs.declared.call.Call.TheVariants as call;
-ghost use Rattle.cc_model.specs.Faults.{faults_since};
+ghost use Rattle.cc_model.specs.Faults.{faults_since, oldest};
 ghost use Rattle.cc_model.specs.Good.{IsGood};
 ghost use Rattle.cc_model.specs.Refusals.{refusal};
 ghost use Rattle.cc_model.specs.Setup.{Setup};
 ghost use Rattle.cc_model.specs.Stamps.{dirty_table};
-ghost use Rattle.cc_readers.specs.FaultReads.{fault_in, oldest};
+ghost use Rattle.cc_readers.specs.FaultReads.{fault_in};
 ghost use Rattle.cc_world.specs.Filing.{is_unfiled};
 ghost use Rattle.cc_world.specs.Journals.{IsJournalStanding, JournalLeft, JournalStandsUnder, JournalWent};
 ghost use Rattle.cc_world.specs.Reserving.{CanDefer, HasReserved, IsKept, unreserved};
-ghost use Rattle.cc_world.specs.Ways.{call_entry};
-ghost use Rattle.cc_world.specs.declared.events.Event.TheVariants as event;
+ghost use Rattle.cc_effects.specs.Events.{call_entry};
+ghost use Rattle.cc_effects.specs.declared.events.Event.TheVariants as event;
 
-use crate::events::StepReply;
+use cc_effects::StepReply;
 use crate::told::error_of;
 use cc_book::Book;
 use cc_entry::{Call, CcError, Entry, FileId, NoMemory, Outcome, Reply, Rows};

@@ -19,7 +19,6 @@
 mod calls;
 mod copies;
 mod ends;
-mod events;
 mod failing;
 mod filed;
 mod filing;
@@ -35,5 +34,4 @@ mod told;
 mod uncached;
 mod world;
 
-pub use events::{Event, StepReply};
 pub use world::World;

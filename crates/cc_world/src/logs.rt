@@ -4,9 +4,9 @@ ghost use Rattle.std.specs.Prelude.{◌≡◌, false};
 ghost use Rattle.cc_model.specs.Setup.{Setup};
 ghost use Rattle.cc_turns.specs.Standing.{LogAtFirst};
 ghost use Rattle.cc_world.specs.Logs.{IsLogStanding, IsToFlush, LogEnded, LogLeft, LogStandsUnder};
-ghost use Rattle.cc_world.specs.declared.events.Event.TheVariants as event;
+ghost use Rattle.cc_effects.specs.declared.events.Event.TheVariants as event;
 
-use crate::events::StepReply;
+use cc_effects::StepReply;
 use cc_entry::{Bytes, CcError, Entry, Lsn, NoMemory, Reply};
 use cc_journal::Journal;
 use cc_log::LogTurn;

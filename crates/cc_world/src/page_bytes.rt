@@ -10,7 +10,7 @@ ghost use Rattle.cc_model.specs.Setup.{Setup};
 ghost use Rattle.cc_model.specs.Touches.{size_of};
 ghost use Rattle.cc_world.specs.Calls.{CallWent};
 ghost use Rattle.cc_world.specs.Uncached.{IsImage, MayEndRead};
-ghost use Rattle.cc_world.specs.Ways.{call_entry};
+ghost use Rattle.cc_effects.specs.Events.{call_entry};
 
 use crate::copies::copy_of;
 use crate::ends::done;

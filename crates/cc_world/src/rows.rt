@@ -8,9 +8,9 @@ ghost use Rattle.cc_turns.specs.Disk.{opening_of};
 ghost use Rattle.cc_turns.specs.Standing.{DiskAtFirst};
 ghost use Rattle.cc_world.specs.Pages.{AreFlushed};
 ghost use Rattle.cc_world.specs.Rows.{IsBeginning, IsBringing, IsStanding, RowEnded, RowLeft, StandsUnder, reply_to};
-ghost use Rattle.cc_world.specs.declared.events.Event.TheVariants as event;
+ghost use Rattle.cc_effects.specs.declared.events.Event.TheVariants as event;
 
-use crate::events::StepReply;
+use cc_effects::StepReply;
 use crate::pages::{has_valid_byte, may_begin, may_come_in, may_go_out};
 use cc_book::Book;
 use cc_entry::{CcError, End, Entry, NoMemory, PageId, Reply, StreamId};

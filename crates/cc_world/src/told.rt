@@ -3,7 +3,7 @@
 ghost use Rattle.std.specs.Prelude.{◌≡◌};
 ghost use Rattle.cc_model.specs.Ranges.{first_of_span, first_page};
 ghost use Rattle.cc_readers.specs.FaultReads.{fault_in};
-ghost use Rattle.cc_world.specs.Ways.{error_of};
+ghost use Rattle.cc_effects.specs.Events.{error_of};
 
 use cc_entry::{Call, CcError, Span};
 use cc_readers::faults::Fault;

@@ -13,11 +13,11 @@ ghost use Rattle.cc_world.specs.Pages.{AreFlushed};
 ghost use Rattle.cc_world.specs.Rows.{IsStanding, RowEnded, RowLeft, RowStands, StandsUnder};
 ghost use Rattle.cc_book.specs.Noncached.{WasRead};
 ghost use Rattle.cc_world.specs.Uncached.{IsAdmittedOn, IsReadyOn, StoreLeft};
-ghost use Rattle.cc_world.specs.Ways.{filed_under};
-ghost use Rattle.cc_world.specs.declared.events.Event.TheVariants as event;
+ghost use Rattle.cc_effects.specs.Events.{filed_under};
+ghost use Rattle.cc_effects.specs.declared.events.Event.TheVariants as event;
 
 use crate::ends::refuse;
-use crate::events::StepReply;
+use cc_effects::StepReply;
 use crate::page_bytes::{finish_read, image_of};
 use crate::pages::may_store;
 use crate::rows::{Kept, Row};

@@ -7,11 +7,11 @@ ghost use Rattle.cc_model.specs.Acts.{file_of};
 ghost use Rattle.cc_model.specs.Good.{IsGood};
 ghost use Rattle.cc_model.specs.Throttle.{queue};
 ghost use Rattle.cc_turns.specs.Desk.{made_from, tells_of};
-ghost use Rattle.cc_world.specs.Ways.{IsKnown, IsUnposted, NamesOf};
+ghost use Rattle.cc_effects.specs.Events.{IsKnown, IsUnposted, NamesOf};
 ghost use Rattle.cc_world.specs.World.{AreRowsFor, DisksEnded, IsFresh, IsNoLogReply, JournalRests, LogsEnded, Stepped, setup_of};
-ghost use Rattle.cc_world.specs.declared.events.Event.TheVariants as event;
+ghost use Rattle.cc_effects.specs.declared.events.Event.TheVariants as event;
 
-use crate::events::{Event, StepReply};
+use cc_effects::{Event, StepReply};
 use crate::filing::{Filing, filing_of};
 use crate::journal::{defer, do_unfiled, fail_unfiled, post, scan};
 use crate::logs::{append, flush};

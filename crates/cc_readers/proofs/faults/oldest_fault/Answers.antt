@@ -4,8 +4,9 @@ use Rattle.std.proofs.Common.{reverse, ap, sym, ◌∙◌}
 use Rattle.std.proofs.lemmas.List.{nil_from_length}
 use Rattle.std.specs.Option.{option_map, option_or}
 use Rattle.std.specs.List.{cons_option}
+use Rattle.cc_model.specs.Faults.{oldest}
 use Rattle.cc_model.specs.Faults as model
-use Rattle.cc_readers.specs.FaultReads.{fault_in, oldest}
+use Rattle.cc_readers.specs.FaultReads.{fault_in}
 use Rattle.cc_readers.proofs.FaultReads.{faults_call, faults_more, faults_none, oldest_or}
 use Rattle.cc_readers.proofs.faults.oldest_fault.Goals as goal
 

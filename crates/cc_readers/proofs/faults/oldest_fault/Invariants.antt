@@ -1,7 +1,7 @@
 use Rattle.std.proofs.Common.{◌≡◌, reverse, length}
 use Rattle.std.specs.Option.{option_map, option_or}
-use Rattle.cc_model.specs.Faults.{faults_since}
-use Rattle.cc_readers.specs.FaultReads.{fault_in, oldest}
+use Rattle.cc_model.specs.Faults.{faults_since, oldest}
+use Rattle.cc_readers.specs.FaultReads.{fault_in}
 use Rattle.cc_readers.proofs.faults.oldest_fault.Given as goal
 
 -- the oldest of the whole is that of what is left, or else the one that is known

@@ -3,7 +3,7 @@
 use Rattle.std.proofs.Common.{ap, length, subst, sym, ◌∙◌}
 use Rattle.cc_pieces.specs.Events.{Makes}
 use Rattle.cc_turns.specs.Desk.{tells_of}
-use Rattle.cc_world.specs.Ways.{IsKnown}
+use Rattle.cc_effects.specs.Events.{IsKnown}
 use Rattle.cc_steps.specs.Doing.{HappensPlainly, IsPlain, doing_made}
 use Rattle.cc_steps.specs.Happening.{without_routine}
 use Rattle.cc_steps.specs.Lines.{WasAnswered, called}

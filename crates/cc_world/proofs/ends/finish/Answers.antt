@@ -1,7 +1,7 @@
 use Rattle.std.proofs.Common.{sym, subst}
 use Rattle.cc_entry.specs.declared.reply.Reply.{Reply}
 use Rattle.cc_world.specs.Calls.{CallLeft}
-use Rattle.cc_world.specs.declared.events.StepReply.TheVariants as step
+use Rattle.cc_effects.specs.declared.events.StepReply.TheVariants as step
 use Rattle.cc_world.proofs.CallLeft.{finished, unfinished}
 use Rattle.cc_world.proofs.ends.finish.Goals as goal
 

@@ -7,7 +7,7 @@ use Rattle.cc_model.specs.History.{history}
 use Rattle.cc_model.specs.Refusals.{refusal}
 use Rattle.cc_model.specs.Setup.{Setup}
 use Rattle.cc_world.specs.Calls.{IsMade}
-use Rattle.cc_world.specs.Ways.{reason_of}
+use Rattle.cc_effects.specs.Events.{reason_of}
 use Rattle.cc_world.proofs.CallGood.{reason-else}
 use Rattle.cc_world.proofs.ends.reason.Goals as goal
 

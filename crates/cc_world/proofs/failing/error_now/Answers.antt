@@ -3,9 +3,9 @@ use Rattle.std.proofs.Common.{Bool, not, subst, sym, ap, ◌∙◌}
 use Rattle.std.specs.declared.option.Option.TheVariants.{Some}
 use Rattle.std.specs.Option.{option_map}
 use Rattle.cc_entry.specs.declared.error.CcError.{CcError}
-use Rattle.cc_model.specs.Faults.{faults_since}
+use Rattle.cc_model.specs.Faults.{faults_since, oldest}
 use Rattle.cc_model.specs.Legal.{NothingElse}
-use Rattle.cc_readers.specs.FaultReads.{fault_in, oldest}
+use Rattle.cc_readers.specs.FaultReads.{fault_in}
 use Rattle.cc_world.proofs.FaultTold.{may-tell}
 use Rattle.cc_world.specs.Calls.{IsFiledOn}
 use Rattle.cc_world.specs.Failing.{MayTell}

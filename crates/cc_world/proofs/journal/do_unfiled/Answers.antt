@@ -5,7 +5,7 @@ use Rattle.cc_entry.specs.declared.call.Call.{Call}
 use Rattle.cc_entry.specs.declared.call.Call.TheVariants as call
 use Rattle.cc_journal.specs.Journal.{JournalState}
 use Rattle.cc_world.specs.Journals.{JournalLeft}
-use Rattle.cc_world.specs.declared.events.Event.TheVariants as event
+use Rattle.cc_effects.specs.declared.events.Event.TheVariants as event
 use Rattle.cc_world.proofs.JournalStanding.{as-unreserved, stands-unreserved, wanting}
 use Rattle.cc_world.proofs.Unfiled.{asked-ask, asks-dirty, may-ask}
 use Rattle.cc_world.proofs.journal.do_unfiled.Goals as goal

@@ -6,7 +6,7 @@ use Rattle.cc_entry.specs.declared.entry.Entry.TheVariants as entry
 use Rattle.cc_journal.specs.Journal.{MayBePushed}
 use Rattle.cc_journal.proofs.GoodEntries.{MayBePushed-good}
 use Rattle.cc_step.proofs.Reserved.{owed-least}
-use Rattle.cc_world.specs.Ways.{call_entry}
+use Rattle.cc_effects.specs.Events.{call_entry}
 use Rattle.cc_world.proofs.JournalEvents.{went-unfiled}
 use Rattle.cc_world.proofs.Placing.{so-far}
 use Rattle.cc_world.proofs.Unfiled.{unfiled-under}

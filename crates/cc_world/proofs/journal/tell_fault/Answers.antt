@@ -8,9 +8,9 @@ use Rattle.cc_journal.specs.Journal.{JournalState, room_of}
 use Rattle.cc_model.specs.Good.{IsGood}
 use Rattle.cc_readers.specs.FaultReads.{fault_in}
 use Rattle.cc_world.specs.Journals.{JournalEnded, JournalWent}
-use Rattle.cc_world.specs.Ways.{call_entry}
-use Rattle.cc_world.specs.declared.events.Event.TheVariants as event
-use Rattle.cc_world.specs.declared.events.StepReply.TheVariants as step
+use Rattle.cc_effects.specs.Events.{call_entry}
+use Rattle.cc_effects.specs.declared.events.Event.TheVariants as event
+use Rattle.cc_effects.specs.declared.events.StepReply.TheVariants as step
 use Rattle.cc_world.proofs.JournalEvents.{told-left}
 use Rattle.cc_world.proofs.JournalStanding.{as-unreserved, same-entries, same-queue, stands-unreserved, wanting}
 use Rattle.cc_world.proofs.Unfiled.{asked-fail, fault-stands, good-told}

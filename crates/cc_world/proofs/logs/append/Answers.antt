@@ -2,7 +2,7 @@
 -- one nothing changed.
 use Rattle.std.specs.Prelude.{refl}
 use Rattle.cc_journal.specs.Journal.{room_of}
-use Rattle.cc_world.specs.declared.events.Event.TheVariants as event
+use Rattle.cc_effects.specs.declared.events.Event.TheVariants as event
 use Rattle.cc_world.proofs.LogStanding.{log-left, log-reserved, log-unreserved}
 use Rattle.cc_world.proofs.Standing.{roomy}
 use Rattle.cc_world.proofs.logs.append.Goals as goal

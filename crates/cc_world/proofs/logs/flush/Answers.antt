@@ -4,7 +4,7 @@ use Rattle.std.specs.Prelude.{ℕ, ◌<◌, ◌≤◌, refl}
 use Rattle.std.proofs.Common.{ap, arith, subst, sym}
 use Rattle.cc_journal.specs.Journal.{room_of}
 use Rattle.cc_model.specs.Logs.{flushed_to}
-use Rattle.cc_world.specs.declared.events.Event.TheVariants as event
+use Rattle.cc_effects.specs.declared.events.Event.TheVariants as event
 use Rattle.cc_world.proofs.LogStanding.{flush-asks-one, flush-nothing, log-left, log-reserved, log-unreserved, not-flushed}
 use Rattle.cc_world.proofs.Standing.{roomy}
 use Rattle.cc_world.proofs.logs.flush.Goals as goal

@@ -6,7 +6,7 @@ use Rattle.cc_entry.specs.declared.reply.Outcome.TheVariants as outcome
 use Rattle.cc_entry.specs.declared.reply.Reply.{Reply}
 use Rattle.cc_entry.specs.declared.reply.Reply.TheVariants as reply
 use Rattle.cc_world.specs.Calls.{CallWent}
-use Rattle.cc_world.specs.Ways.{call_entry}
+use Rattle.cc_effects.specs.Events.{call_entry}
 use Rattle.cc_world.proofs.page_bytes.finish_read.Goals as goal
 
 pub returns-clause-done : goal.returns-clause-done

@@ -11,7 +11,7 @@ use Rattle.cc_model.specs.Images.{open_of}
 use Rattle.cc_model.specs.Residency.{is_resident}
 use Rattle.cc_model.specs.Touches.{valid_of}
 use Rattle.cc_turns.specs.Disk.{DiskStands, opening_of}
-use Rattle.cc_world.specs.declared.events.Event.TheVariants as event
+use Rattle.cc_effects.specs.declared.events.Event.TheVariants as event
 use Rattle.cc_world.proofs.Filling.{nothing-below, book-unread}
 use Rattle.cc_world.proofs.Placing.{so-far}
 use Rattle.cc_world.proofs.Open.{open-kept}

@@ -11,7 +11,7 @@ use Rattle.cc_model.specs.History.{history}
 use Rattle.cc_model.specs.Images.{open_of}
 use Rattle.cc_turns.specs.Disk.{opening_of}
 use Rattle.cc_world.proofs.Standing.{is-busy, is-resting, may-place, went-one, rests-on, gained, gained-so, roomy, unreserved}
-use Rattle.cc_world.specs.declared.events.Event.TheVariants as event
+use Rattle.cc_effects.specs.declared.events.Event.TheVariants as event
 use Rattle.cc_world.proofs.Tests.{go-out-there, says-no, says-yes}
 use Rattle.cc_world.proofs.rows.Row.drop_page.Goals as goal
 

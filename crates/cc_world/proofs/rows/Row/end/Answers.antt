@@ -3,8 +3,8 @@ use Rattle.std.specs.Prelude.{◌≡◌, Some, refl}
 use Rattle.std.proofs.Common.{ap, sym, ◌∙◌, subst}
 use Rattle.cc_entry.specs.declared.entry.Entry.TheVariants as entry
 use Rattle.cc_world.specs.Rows.{RowLeft}
-use Rattle.cc_world.specs.declared.events.StepReply.{StepReply}
-use Rattle.cc_world.specs.declared.events.Event.TheVariants as event
+use Rattle.cc_effects.specs.declared.events.StepReply.{StepReply}
+use Rattle.cc_effects.specs.declared.events.Event.TheVariants as event
 use Rattle.cc_world.proofs.Standing.{may-place}
 use Rattle.cc_world.proofs.Transferring.{ended-so, has-place, may-stand, not-it}
 use Rattle.cc_world.proofs.rows.Row.end.Goals as goal

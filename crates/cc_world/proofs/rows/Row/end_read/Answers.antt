@@ -2,7 +2,7 @@
 use Rattle.std.specs.Prelude.{[], ◌∷◌, refl}
 use Rattle.cc_entry.specs.declared.call.Call.TheVariants as call
 use Rattle.cc_entry.specs.declared.reply.Outcome.TheVariants as outcome
-use Rattle.cc_world.specs.Ways.{call_entry}
+use Rattle.cc_effects.specs.Events.{call_entry}
 use Rattle.cc_world.proofs.CallRows.{row-called}
 use Rattle.cc_world.proofs.UncachedCalls.{given-back, may-end-read}
 use Rattle.cc_world.proofs.rows.Row.end_read.Goals as goal

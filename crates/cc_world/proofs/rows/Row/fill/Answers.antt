@@ -7,8 +7,8 @@ use Rattle.cc_journal.specs.Journal.{room_of}
 use Rattle.cc_model.specs.History.{history}
 use Rattle.cc_model.specs.Images.{open_of}
 use Rattle.cc_turns.specs.Disk.{opening_of}
-use Rattle.cc_world.specs.Ways.{MayHappen}
-use Rattle.cc_world.specs.declared.events.Event.TheVariants as event
+use Rattle.cc_effects.specs.Events.{MayHappen}
+use Rattle.cc_effects.specs.declared.events.Event.TheVariants as event
 use Rattle.cc_world.proofs.Standing.{is-busy, is-resting, reserved-under, left-from, roomy, unreserved}
 use Rattle.cc_world.proofs.Tests.{come-in-there, says-no, says-yes}
 use Rattle.cc_world.proofs.rows.Row.fill.Goals as goal

@@ -8,7 +8,7 @@ use Rattle.cc_journal.specs.Journal.{JournalState}
 use Rattle.cc_model.specs.History.{history}
 use Rattle.cc_model.specs.Images.{open_of}
 use Rattle.cc_turns.specs.Disk.{opening_of}
-use Rattle.cc_world.specs.Ways.{page_in}
+use Rattle.cc_effects.specs.Events.{page_in}
 use Rattle.cc_world.proofs.Filling.{same-entry}
 use Rattle.cc_world.proofs.Standing.{is-idle, is-resting, may-place, went-one, went-none, rests-on, gained-so}
 use Rattle.cc_world.proofs.rows.Row.land.Goals as goal

@@ -9,7 +9,7 @@ use Rattle.cc_entry.specs.declared.entry.Entry.TheVariants as entry
 use Rattle.cc_model.specs.History.{history}
 use Rattle.cc_model.specs.Touches.{size_of}
 use Rattle.cc_turns.specs.Disk.{opening_of}
-use Rattle.cc_world.specs.declared.events.Event.TheVariants as event
+use Rattle.cc_effects.specs.declared.events.Event.TheVariants as event
 use Rattle.cc_world.proofs.PageBytes.{lies-below, lies-past}
 use Rattle.cc_world.proofs.Standing.{ended-since, may-push}
 use Rattle.cc_world.proofs.Stores.{numbered}

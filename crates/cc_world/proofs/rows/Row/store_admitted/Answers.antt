@@ -8,7 +8,7 @@ use Rattle.cc_model.specs.History.{history}
 use Rattle.cc_turns.specs.Disk.{opening_of}
 use Rattle.cc_world.specs.Rows.{RowLeft}
 use Rattle.cc_world.specs.Uncached.{IsAdmittedOn}
-use Rattle.cc_world.specs.declared.events.Event.TheVariants as event
+use Rattle.cc_effects.specs.declared.events.Event.TheVariants as event
 use Rattle.cc_world.proofs.Standing.{is-busy, is-resting}
 use Rattle.cc_world.proofs.Stores.{below-size, numbered}
 use Rattle.cc_world.proofs.Tests.{says-no, says-yes}

@@ -4,7 +4,7 @@ use Rattle.std.proofs.Common.{sym, subst}
 use Rattle.cc_entry.specs.declared.call.Call.TheVariants as call
 use Rattle.cc_entry.specs.declared.reply.Reply.TheVariants as reply
 use Rattle.cc_world.specs.Rows.{RowWent}
-use Rattle.cc_world.specs.Ways.{entries_done}
+use Rattle.cc_effects.specs.Events.{entries_done}
 use Rattle.cc_world.specs.declared.rows.Row.{Row}
 use Rattle.cc_world.proofs.UncachedCalls.{given-back}
 use Rattle.cc_world.proofs.rows.Row.store_ready.Goals as goal

@@ -10,8 +10,8 @@ use Rattle.cc_model.specs.Images.{open_of}
 use Rattle.cc_model.specs.Turns.{Device}
 use Rattle.cc_turns.specs.Disk.{DiskStands, opening_of}
 use Rattle.cc_world.specs.Rows.{RowLeft}
-use Rattle.cc_world.specs.declared.events.StepReply.{StepReply}
-use Rattle.cc_world.specs.declared.events.Event.TheVariants as event
+use Rattle.cc_effects.specs.declared.events.StepReply.{StepReply}
+use Rattle.cc_effects.specs.declared.events.Event.TheVariants as event
 use Rattle.cc_world.proofs.Filling.{book-on, sync-left, sync-replied}
 use Rattle.cc_world.proofs.Open.{open-kept}
 use Rattle.cc_world.proofs.Standing.{is-busy, is-resting, may-push, went-one, rests-as, gained, gained-so, roomy, unreserved}

@@ -3,7 +3,7 @@ use Rattle.std.specs.Prelude.{◌<◌, length, refl}
 use Rattle.std.proofs.Common.{sym, subst, ◌∙◌, arith}
 use Rattle.cc_turns.specs.Desk.{tells_of}
 use Rattle.cc_world.specs.World.{Stepped, world_of}
-use Rattle.cc_world.specs.declared.events.Event.TheVariants as event
+use Rattle.cc_effects.specs.declared.events.Event.TheVariants as event
 use Rattle.cc_world.proofs.JournalSteps.{are-books, journal-stands, journal-stepped}
 use Rattle.cc_world.proofs.Steps.{read-there, row-stream}
 use Rattle.cc_world.proofs.world.World.defer.Goals as goal

@@ -2,9 +2,9 @@
 use Rattle.std.proofs.Common.{◌<◌, ℕ, ap, length, sym, ◌∙◌, subst, arith}
 use Rattle.cc_turns.specs.Desk.{tells_of}
 use Rattle.std.specs.Prelude.{slice_set}
-use Rattle.cc_world.specs.Ways.{OnStream}
+use Rattle.cc_effects.specs.Events.{OnStream}
 use Rattle.cc_world.specs.World.{Stepped, world_of}
-use Rattle.cc_world.specs.declared.events.Event.TheVariants as event
+use Rattle.cc_effects.specs.declared.events.Event.TheVariants as event
 use Rattle.cc_world.proofs.Steps.{read-there, row-stands, row-stream, stepped}
 use Rattle.cc_world.proofs.world.World.drop_page.Goals as goal
 

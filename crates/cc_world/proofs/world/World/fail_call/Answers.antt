@@ -4,9 +4,9 @@ use Rattle.std.specs.Prelude.{ℕ, ◌<◌, Some, length, slice_set, refl}
 use Rattle.std.proofs.Common.{ap, sym, subst, ◌∙◌, arith}
 use Rattle.cc_model.specs.Acts.{file_of}
 use Rattle.cc_turns.specs.Desk.{tells_of}
-use Rattle.cc_world.specs.Ways.{MayHappen, NamesOf}
+use Rattle.cc_effects.specs.Events.{MayHappen, NamesOf}
 use Rattle.cc_world.specs.World.{Stepped, setup_of, world_of}
-use Rattle.cc_world.specs.declared.events.Event.TheVariants as event
+use Rattle.cc_effects.specs.declared.events.Event.TheVariants as event
 use Rattle.cc_world.proofs.FiledUnder.{books-there, not-failed, on-journal, on-stream, row-there}
 use Rattle.cc_world.proofs.JournalSteps.{journal-stands, journal-stepped}
 use Rattle.cc_world.proofs.Steps.{read-there, row-stands, row-stream, stepped}

@@ -3,7 +3,7 @@ use Rattle.std.specs.Prelude.{slice_set}
 use Rattle.std.proofs.Common.{◌<◌, length, sym, ◌∙◌, subst, arith}
 use Rattle.cc_turns.specs.Desk.{tells_of}
 use Rattle.cc_world.specs.World.{Stepped, world_of}
-use Rattle.cc_world.specs.declared.events.Event.TheVariants as event
+use Rattle.cc_effects.specs.declared.events.Event.TheVariants as event
 use Rattle.cc_world.proofs.LogSteps.{log-handle, log-place, log-stands, log-stepped}
 use Rattle.cc_world.proofs.Steps.{read-there}
 use Rattle.cc_world.proofs.world.World.flush_log.Goals as goal

@@ -3,7 +3,7 @@ use Rattle.std.specs.Prelude.{refl}
 use Rattle.std.proofs.Common.{sym, subst}
 use Rattle.cc_turns.specs.Desk.{tells_of}
 use Rattle.cc_world.specs.World.{Stepped, world_of}
-use Rattle.cc_world.specs.declared.events.Event.TheVariants as event
+use Rattle.cc_effects.specs.declared.events.Event.TheVariants as event
 use Rattle.cc_world.proofs.JournalSteps.{journal-stands, journal-stepped}
 use Rattle.cc_world.proofs.world.World.step.Goals as goal
 

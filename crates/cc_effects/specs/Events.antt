@@ -19,7 +19,7 @@ use Rattle.cc_entry.specs.declared.reply.Reply.{Reply}
 use Rattle.cc_entry.specs.declared.reply.Reply.TheVariants as reply
 use Rattle.cc_model.specs.Acts.{file_of}
 use Rattle.cc_model.specs.Allowed.{MayEnd, MayStand}
-use Rattle.cc_model.specs.Faults.{Fault, ReadFailed, WriteFailed, SyncFailed, LogFailed, faults_since}
+use Rattle.cc_model.specs.Faults.{Fault, ReadFailed, WriteFailed, SyncFailed, LogFailed, faults_since, oldest}
 use Rattle.cc_model.specs.Filing.{IsFiled}
 use Rattle.cc_model.specs.History.{history}
 use Rattle.cc_model.specs.Holds.{Hold, hold_at, holds_of}
@@ -32,15 +32,14 @@ use Rattle.cc_model.specs.Ranges.{first_page}
 use Rattle.cc_model.specs.Reasons.{is_open}
 use Rattle.cc_model.specs.Refusals.{refusal}
 use Rattle.cc_model.specs.Replies.{IsReply}
+use Rattle.cc_model.specs.Room.{places_asked}
 use Rattle.cc_model.specs.Setup.{Setup}
 use Rattle.cc_model.specs.Throttle.{deferred, may_go, pages_for, queue}
 use Rattle.cc_model.specs.Touches.{valid_of}
-use Rattle.cc_readers.specs.FaultReads.{oldest}
-use Rattle.cc_step.specs.Step.{places_asked}
-use Rattle.cc_world.specs.declared.events.Event.{Event}
-use Rattle.cc_world.specs.declared.events.Event.TheVariants as event
-use Rattle.cc_world.specs.declared.events.StepReply.{StepReply}
-use Rattle.cc_world.specs.declared.events.StepReply.TheVariants as step
+use Rattle.cc_effects.specs.declared.events.Event.{Event}
+use Rattle.cc_effects.specs.declared.events.Event.TheVariants as event
+use Rattle.cc_effects.specs.declared.events.StepReply.{StepReply}
+use Rattle.cc_effects.specs.declared.events.StepReply.TheVariants as step
 
 -- the entry of a page that comes in: from the disk where it has a byte below the valid data length
 abbrev pub page_in : List Entry → ℕ → Page → Entry
