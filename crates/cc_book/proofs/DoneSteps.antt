@@ -13,7 +13,7 @@ use Rattle.cc_model.specs.Holds.{holds_of, id_of}
 use Rattle.cc_model.specs.Passes.{calls_of}
 use Rattle.cc_model.specs.Setup.{Setup}
 use Rattle.cc_model.specs.Touches.{size_of, is_mapped}
-use Rattle.cc_bcb.specs.declared.holds.Hold.{Hold}
+use Rattle.cc_holds.specs.declared.holds.Hold.{Hold}
 use Rattle.cc_holds.specs.Done.{MakesAbove, written_end}
 use Rattle.cc_holds.specs.Makes.{zeroed_end}
 use Rattle.cc_holds.specs.Stands.{HoldsStand}

@@ -10,7 +10,7 @@ use Rattle.cc_entry.specs.declared.reply.Outcome.TheVariants as outcome
 use Rattle.cc_model.specs.Passes.{calls_of}
 use Rattle.cc_entry.specs.declared.entry.Entry.{Entry}
 use Rattle.cc_ahead.specs.Kept.{Kept, PrivateStands}
-use Rattle.cc_bcb.specs.declared.holds.Hold.{Hold}
+use Rattle.cc_holds.specs.declared.holds.Hold.{Hold}
 use Rattle.cc_content.specs.Contents.{Contents, ContentsStand, IsByteOf}
 use Rattle.cc_content.specs.Following.{truncated_by}
 use Rattle.cc_content.specs.Owned.{OwnsChanged}

@@ -27,8 +27,8 @@ use Rattle.cc_model.specs.Refusals.{refusal}
 use Rattle.cc_model.specs.Setup.{Setup}
 use Rattle.cc_model.specs.Touches.{is_mapped}
 use Rattle.cc_turns.specs.Standing.{Standing}
-use Rattle.cc_visits.specs.declared.tell.Returned.{Returned}
-use Rattle.cc_visits.specs.declared.tell.Returned.TheVariants as returned
+use Rattle.cc_writes.specs.declared.tell.Returned.{Returned}
+use Rattle.cc_writes.specs.declared.tell.Returned.TheVariants as returned
 use Rattle.cc_calls.specs.Maps.{HasClosed, UninitializeEnds}
 use Rattle.cc_calls.specs.Paged.{CalledAtOnce}
 use Rattle.cc_calls.proofs.Fronts.{outcome-is}

@@ -11,9 +11,9 @@ use Rattle.cc_entry.specs.declared.reply.Reply.TheVariants as reply
 use Rattle.cc_effects.specs.Refusals.{may_refuse, may_want}
 use Rattle.cc_effects.proofs.Starts.{begins, gives_up}
 use Rattle.cc_turns.specs.Standing.{Standing}
-use Rattle.cc_visits.specs.declared.tell.Returned.{Returned}
-use Rattle.cc_visits.specs.declared.tell.Returned.TheVariants as returned
-use Rattle.cc_visits.specs.Ways.{IsTold}
+use Rattle.cc_writes.specs.declared.tell.Returned.{Returned}
+use Rattle.cc_writes.specs.declared.tell.Returned.TheVariants as returned
+use Rattle.cc_writes.specs.Ways.{IsTold}
 use Rattle.cc_writes.specs.Fetch.{CanCall}
 use Rattle.cc_calls.specs.Paged.{Paged}
 use Rattle.cc_calls.specs.Pages.{ChangeEnds, ReadEnds}

@@ -16,8 +16,8 @@ use Rattle.cc_entry.specs.declared.reply.Reply.{Reply}
 use Rattle.cc_entry.specs.declared.reply.Reply.TheVariants as reply
 use Rattle.cc_effects.specs.Calls.{CallLeft}
 use Rattle.cc_effects.specs.Moments.{own}
-use Rattle.cc_flush.proofs.FlushedAlone.{clean-alone, none-other, own-rest, own-tail}
-use Rattle.cc_flush.proofs.KeptSince.{crash-since}
+use Rattle.cc_ranges.proofs.FlushedAlone.{clean-alone, none-other, own-rest, own-tail}
+use Rattle.cc_ranges.proofs.KeptSince.{crash-since}
 use Rattle.cc_laws.proofs.HistorySteps.{history-done, history-done_other, history-no_stream}
 use Rattle.cc_laws.proofs.TouchSteps.{touches-looks}
 use Rattle.cc_model.specs.Good.{IsGood, IsGoodSoFar}
@@ -29,8 +29,8 @@ use Rattle.cc_model.specs.Sizes.{Touch}
 use Rattle.cc_model.specs.Touches.{is_dirty}
 use Rattle.cc_turns.specs.Standing.{Standing, Held, nothing}
 use Rattle.cc_turns.specs.Takes.{Takes, with_device, with_book, without_device, without_book}
-use Rattle.cc_visits.specs.Hands.{Went}
-use Rattle.cc_visits.specs.Ways.{IsFull}
+use Rattle.cc_writes.specs.Hands.{Went}
+use Rattle.cc_writes.specs.Ways.{IsFull}
 use Rattle.cc_writes.specs.Fetch.{WentOn}
 use Rattle.cc_calls.specs.Answers.{outcome_of}
 use Rattle.cc_calls.specs.Flushes.{LeavesClean, IsDurable, FlushEnds}

@@ -19,9 +19,9 @@ use Rattle.cc_model.specs.Setup.{Setup}
 use Rattle.cc_turns.specs.Log.{log_failures}
 use Rattle.cc_turns.specs.Standing.{Standing}
 use Rattle.cc_turns.specs.Takes.{Grows, Takes, with_log}
-use Rattle.cc_visits.specs.Hands.{WentWith}
-use Rattle.cc_visits.specs.Visits.{HasPlaced}
-use Rattle.cc_visits.specs.Ways.{IsFull}
+use Rattle.cc_writes.specs.Hands.{WentWith}
+use Rattle.cc_writes.specs.Visits.{HasPlaced}
+use Rattle.cc_writes.specs.Ways.{IsFull}
 use Rattle.cc_writes.specs.Logs.{LogLeft}
 use Rattle.cc_writes.specs.declared.log.LogFlush.{LogFlush}
 use Rattle.cc_writes.specs.declared.log.LogFlush.TheVariants as flush

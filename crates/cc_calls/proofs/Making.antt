@@ -16,8 +16,8 @@ use Rattle.cc_model.specs.Good.{IsGoodSoFar}
 use Rattle.cc_own.specs.Own.{HasHold, new_hold}
 use Rattle.cc_own.proofs.CallsKeep.{map-leaves, pin_read-leaves, prepare_zeroed-leaves, prepare-leaves, mdl_read-leaves, mdl_write-leaves, repin-leaves}
 use Rattle.cc_turns.specs.Standing.{Standing}
-use Rattle.cc_visits.specs.declared.tell.Returned.{Returned}
-use Rattle.cc_visits.specs.declared.tell.Returned.TheVariants as returned
+use Rattle.cc_writes.specs.declared.tell.Returned.{Returned}
+use Rattle.cc_writes.specs.declared.tell.Returned.TheVariants as returned
 use Rattle.cc_calls.specs.Held.{IsHolding}
 use Rattle.cc_calls.specs.Ends.{MakesHold, MakingEnds, RepinEnds, held_at, kind_made}
 use Rattle.cc_calls.specs.declared.held.Held.{Held}

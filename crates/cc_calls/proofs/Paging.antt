@@ -15,12 +15,12 @@ use Rattle.cc_model.specs.Good.{IsGood}
 use Rattle.cc_model.specs.Setup.{Setup}
 use Rattle.cc_step.specs.Step.{most_asked}
 use Rattle.cc_turns.specs.Standing.{Standing}
-use Rattle.cc_visits.specs.Hands.{Went}
-use Rattle.cc_visits.specs.Visits.{IsOf, IsWaitedFor, TriedLeft}
-use Rattle.cc_visits.specs.declared.visits.Tried.{Tried}
-use Rattle.cc_visits.specs.declared.visits.Tried.TheVariants as tried
-use Rattle.cc_visits.specs.declared.tell.Returned.{Returned}
-use Rattle.cc_visits.specs.Ways.{EndedSo, IsFull}
+use Rattle.cc_writes.specs.Hands.{Went}
+use Rattle.cc_writes.specs.Visits.{IsOf, IsWaitedFor, TriedLeft}
+use Rattle.cc_writes.specs.declared.visits.Tried.{Tried}
+use Rattle.cc_writes.specs.declared.visits.Tried.TheVariants as tried
+use Rattle.cc_writes.specs.declared.tell.Returned.{Returned}
+use Rattle.cc_writes.specs.Ways.{EndedSo, IsFull}
 use Rattle.cc_writes.specs.Fetch.{WentOn, most_room}
 use Rattle.cc_calls.specs.Paged.{Paged, is_paged}
 use Rattle.cc_calls.proofs.Waiting.{IsMissed, brings, missed-page}

@@ -19,7 +19,7 @@ use Rattle.cc_model.specs.Ranges.{span_has}
 use Rattle.cc_model.specs.Residency.{residents}
 use Rattle.cc_model.specs.Setup.{Setup}
 use Rattle.cc_turns.specs.Standing.{Standing}
-use Rattle.cc_visits.specs.Ways.{IsFull}
+use Rattle.cc_writes.specs.Ways.{IsFull}
 use Rattle.cc_writes.specs.Fetch.{WentOn}
 use Rattle.cc_calls.specs.Answers.{outcome_of}
 use Rattle.cc_calls.specs.Purges.{IsPurged, PurgeEnds}

@@ -3,7 +3,7 @@ use Rattle.std.specs.Prelude.{◌≡◌, ℕ, true, List, Ok}
 use Rattle.cc_entry.specs.declared.call.Call.{Call}
 use Rattle.cc_entry.specs.declared.call.Call.TheVariants as call
 use Rattle.cc_turns.specs.Standing.{Standing}
-use Rattle.cc_visits.specs.declared.tell.Returned.{Returned}
+use Rattle.cc_writes.specs.declared.tell.Returned.{Returned}
 use Rattle.cc_calls.specs.Answers.{CallSets, is_setting}
 use Rattle.cc_calls.specs.Paged.{CalledAtOnce}
 use Rattle.cc_calls.proofs.Replies.{answers_nothing, told-nothing}

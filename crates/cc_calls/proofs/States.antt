@@ -8,8 +8,8 @@ use Rattle.cc_entry.specs.declared.reply.Outcome.TheVariants as outcome
 use Rattle.cc_entry.specs.declared.reply.Reply.TheVariants as reply
 use Rattle.cc_effects.specs.Calls.{CallLeft}
 use Rattle.cc_turns.specs.Standing.{Standing}
-use Rattle.cc_visits.specs.declared.tell.Returned.{Returned}
-use Rattle.cc_visits.specs.declared.tell.Returned.TheVariants as returned
+use Rattle.cc_writes.specs.declared.tell.Returned.{Returned}
+use Rattle.cc_writes.specs.declared.tell.Returned.TheVariants as returned
 use Rattle.cc_calls.specs.Answers.{CallEnds, lsns_outcome, state_outcome}
 use Rattle.cc_calls.specs.Paged.{CalledAtOnce}
 use Rattle.cc_calls.proofs.Replies.{lsns-reply, state-reply}

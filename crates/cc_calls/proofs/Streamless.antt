@@ -44,9 +44,9 @@ use Rattle.cc_step.proofs.Reserved.{owed-least, stores-call, sum-same}
 use Rattle.cc_turns.specs.Standing.{Standing, Held, holds}
 use Rattle.cc_turns.specs.Journal.{JournalStands}
 use Rattle.cc_turns.specs.Takes.{Takes, with_journal, without_journal}
-use Rattle.cc_visits.specs.Ways.{IsFull}
-use Rattle.cc_visits.proofs.Others.{under_way-on}
-use Rattle.cc_visits.proofs.Replies.{full-stopped}
+use Rattle.cc_writes.specs.Ways.{IsFull}
+use Rattle.cc_writes.proofs.Others.{under_way-on}
+use Rattle.cc_writes.proofs.Replies.{full-stopped}
 use Rattle.cc_writes.proofs.Visits.{Visiting, Visited, visited, visiting, stepping-none}
 use Rattle.cc_calls.specs.Answers.{CallEnds, IsFree}
 use Rattle.cc_calls.specs.Pages.{StaysGood}

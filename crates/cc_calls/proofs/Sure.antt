@@ -36,7 +36,7 @@ use Rattle.cc_own.proofs.OpenIds.{ids-apart}
 use Rattle.cc_own.proofs.OwnHolds.{all-keep, served}
 use Rattle.cc_step.specs.Step.{asked_now}
 use Rattle.cc_turns.specs.Standing.{Standing}
-use Rattle.cc_visits.specs.Visits.{IsFiledNow}
+use Rattle.cc_writes.specs.Visits.{IsFiledNow}
 use Rattle.cc_calls.specs.Ends.{OwesSetDirty, writes_through}
 use Rattle.cc_calls.specs.declared.held.Held.{Held}
 use Rattle.cc_calls.proofs.Holding.{so-far}

@@ -17,8 +17,8 @@ use Rattle.cc_calls.specs.Answers.{outcome_of}
 use Rattle.cc_calls.specs.Flushes.{FlushEnds, IsDurable}
 use Rattle.cc_effects.specs.Calls.{CallLeft}
 use Rattle.cc_effects.specs.Repins.{IsHoldEnded}
-use Rattle.cc_flush.specs.Crash.{IsKeptSince}
-use Rattle.cc_flush.proofs.Settling.{history-longer, settled_since-fewer}
+use Rattle.cc_ranges.specs.Crash.{IsKeptSince}
+use Rattle.cc_ranges.proofs.Settling.{history-longer, settled_since-fewer}
 use Rattle.cc_laws.proofs.SoundFacts.{size_of-good}
 use Rattle.cc_model.specs.Flushed.{settled_since}
 use Rattle.cc_model.specs.Good.{IsGoodSoFar}

@@ -21,11 +21,11 @@ use Rattle.cc_own.proofs.OwnHolds.{filed-grows}
 use Rattle.cc_step.proofs.Placed.{so-far}
 use Rattle.cc_turns.specs.Standing.{Standing, Held, nothing}
 use Rattle.cc_turns.specs.Takes.{Takes, with_book, without_book}
-use Rattle.cc_visits.specs.Hands.{HasBook, Went}
-use Rattle.cc_visits.specs.Visits.{IsFiledNow, IsFullTried, TriedLeft}
-use Rattle.cc_visits.specs.declared.tell.Returned.{Returned}
-use Rattle.cc_visits.specs.declared.visits.Tried.{Tried}
-use Rattle.cc_visits.specs.declared.visits.Tried.TheVariants as tried
+use Rattle.cc_writes.specs.Hands.{HasBook, Went}
+use Rattle.cc_writes.specs.Visits.{IsFiledNow, IsFullTried, TriedLeft}
+use Rattle.cc_writes.specs.declared.tell.Returned.{Returned}
+use Rattle.cc_writes.specs.declared.visits.Tried.{Tried}
+use Rattle.cc_writes.specs.declared.visits.Tried.TheVariants as tried
 use Rattle.cc_writes.specs.Fetch.{CanCall}
 use Rattle.cc_calls.specs.Answers.{CallEnds}
 use Rattle.cc_calls.specs.Paged.{CalledAtOnce}

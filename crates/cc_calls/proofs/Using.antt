@@ -18,8 +18,8 @@ use Rattle.cc_effects.proofs.Starts.{begins, gives_up}
 use Rattle.cc_own.specs.Own.{changes_it}
 use Rattle.cc_step.specs.Step.{most_asked}
 use Rattle.cc_turns.specs.Standing.{Standing}
-use Rattle.cc_visits.specs.Hands.{Went}
-use Rattle.cc_visits.specs.declared.tell.Returned.{Returned}
+use Rattle.cc_writes.specs.Hands.{Went}
+use Rattle.cc_writes.specs.declared.tell.Returned.{Returned}
 use Rattle.cc_calls.specs.Held.{IsHolding}
 use Rattle.cc_calls.specs.Ends.{HeldReadEnds, HoldEnded, PinMappedEnds, UseEnds, fills, writes_through}
 use Rattle.cc_calls.specs.declared.held.Held.{Held}

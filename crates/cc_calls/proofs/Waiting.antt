@@ -17,7 +17,7 @@ use Rattle.cc_model.specs.Residency.{is_resident}
 use Rattle.cc_model.specs.Setup.{Setup}
 use Rattle.cc_model.specs.Touches.{size_of}
 use Rattle.cc_step.specs.Step.{is_stepped, least_absent}
-use Rattle.cc_visits.specs.Visits.{IsOf, IsWaitedFor}
+use Rattle.cc_writes.specs.Visits.{IsOf, IsWaitedFor}
 use Rattle.cc_calls.specs.Paged.{is_paged}
 
 pub stepped : (it : Call) → is_paged it ≡ true → is_stepped it ≡ true

@@ -11,14 +11,14 @@ use Rattle.cc_entry.specs.declared.reply.Outcome.TheVariants as outcome
 use Rattle.cc_entry.specs.declared.reply.Reply.TheVariants as reply
 use Rattle.cc_effects.specs.Calls.{CallLeft}
 use Rattle.cc_turns.specs.Standing.{Standing, nothing}
-use Rattle.cc_visits.specs.Hands.{Went}
+use Rattle.cc_writes.specs.Hands.{Went}
 use Rattle.cc_step.specs.Step.{most_asked}
-use Rattle.cc_visits.specs.Ways.{IsFull}
+use Rattle.cc_writes.specs.Ways.{IsFull}
 use Rattle.cc_calls.specs.Pages.{StaysGood}
 -- A pass may call on a stream.
 pub use Rattle.cc_writes.specs.Fetch.{CanCall}
 -- how the entry of a call says that it ended, whose caller was answered no value, or failed
-pub use Rattle.cc_flush.specs.Flush.{outcome_of}
+pub use Rattle.cc_ranges.specs.Flush.{outcome_of}
 
 -- A pass may make a call that is on no stream: it holds no turn, and has nothing under way.
 pub record IsFree (w : Standing) : Type 0 where

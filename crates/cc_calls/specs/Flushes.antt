@@ -10,7 +10,7 @@ use Rattle.cc_entry.specs.declared.entry.End.TheVariants as how
 use Rattle.cc_entry.specs.declared.error.CcError.{CcError}
 use Rattle.cc_effects.specs.Calls.{CallLeft}
 use Rattle.cc_effects.specs.Moments.{own}
-use Rattle.cc_flush.specs.Crash.{IsKeptSince}
+use Rattle.cc_ranges.specs.Crash.{IsKeptSince}
 use Rattle.cc_model.specs.Flushed.{settled_since}
 use Rattle.cc_model.specs.Good.{IsGood, IsGoodSoFar}
 use Rattle.cc_model.specs.History.{history}

@@ -4,8 +4,8 @@ use Rattle.cc_entry.specs.declared.error.CcError.{CcError}
 use Rattle.cc_entry.specs.declared.error.CcError.TheVariants as error
 use Rattle.cc_effects.specs.Moments.{Between}
 use Rattle.cc_turns.specs.Standing.{Standing}
-use Rattle.cc_visits.specs.Hands.{Went, WentWith}
-use Rattle.cc_visits.specs.Ways.{IsFull}
+use Rattle.cc_writes.specs.Hands.{Went, WentWith}
+use Rattle.cc_writes.specs.Ways.{IsFull}
 use Rattle.cc_writes.specs.Logs.{IsWant}
 use Rattle.cc_calls.specs.Pages.{StaysGood}
 

@@ -7,9 +7,9 @@ use Rattle.cc_effects.specs.Asked.{brings_in}
 use Rattle.cc_model.specs.Good.{IsGood}
 use Rattle.cc_step.specs.Step.{most_asked}
 use Rattle.cc_turns.specs.Standing.{Standing}
-use Rattle.cc_visits.specs.Hands.{Went}
-use Rattle.cc_visits.specs.Ways.{EndedSo, IsFull}
-use Rattle.cc_visits.specs.declared.tell.Returned.{Returned}
+use Rattle.cc_writes.specs.Hands.{Went}
+use Rattle.cc_writes.specs.Ways.{EndedSo, IsFull}
+use Rattle.cc_writes.specs.declared.tell.Returned.{Returned}
 use Rattle.cc_writes.specs.Fetch.{WentOn, most_room}
 use Rattle.cc_calls.specs.Pages.{TookDeviceFor}
 

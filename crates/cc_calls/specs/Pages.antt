@@ -15,8 +15,8 @@ use Rattle.cc_model.specs.Good.{IsGood}
 use Rattle.cc_model.specs.History.{history}
 use Rattle.cc_model.specs.Residency.{is_resident}
 use Rattle.cc_turns.specs.Standing.{Standing}
-use Rattle.cc_visits.specs.Ways.{IsFull}
-use Rattle.cc_flush.specs.Flush.{outcome_of}
+use Rattle.cc_writes.specs.Ways.{IsFull}
+use Rattle.cc_ranges.specs.Flush.{outcome_of}
 -- A pass goes on as it stood: it has seen more, what others have reserved may be other, and it may have taken the
 -- turn of a disk.
 pub use Rattle.cc_writes.specs.Fetch.{WentOn}

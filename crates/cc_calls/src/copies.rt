@@ -7,7 +7,7 @@ ghost use Rattle.cc_calls.specs.Pages.{ChangeEnds, ReadEnds};
 use crate::turned::call_paged;
 use cc_entry::{Bytes, Call, CcError, FileId, Span};
 use cc_turns::Turns;
-use cc_visits::Returned;
+use cc_writes::Returned;
 use std::alloc::Global;
 
 /// Copies the bytes of a stream from a place on into the front of `out`, as far as they go below the size, and answers

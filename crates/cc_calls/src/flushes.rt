@@ -5,7 +5,7 @@ ghost use Rattle.cc_calls.specs.Flushes.{FlushEnds};
 ghost use Rattle.cc_calls.specs.Purges.{PurgeEnds};
 
 use cc_entry::{CcError, FileId, Span};
-use cc_flush::{flush_held, purge_held};
+use cc_ranges::{flush_held, purge_held};
 use cc_turns::Turns;
 use std::alloc::Global;
 

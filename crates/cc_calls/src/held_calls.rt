@@ -3,7 +3,7 @@
 ghost use Rattle.std.specs.Prelude.{◌≡◌, Bool, true, length, IsOk};
 ghost use Rattle.cc_entry.specs.declared.hold.HoldKind.{HoldKind};
 ghost use Rattle.cc_step.specs.Step.{asked_now};
-ghost use Rattle.cc_visits.specs.Visits.{IsFiledNow};
+ghost use Rattle.cc_writes.specs.Visits.{IsFiledNow};
 ghost use Rattle.cc_calls.specs.Answers.{CanCall};
 ghost use Rattle.cc_calls.specs.Held.{IsHolding};
 ghost use Rattle.cc_calls.specs.Ends.{HeldReadEnds, HoldEnded, MakesHold, MakingEnds, UseEnds, fills, kind_made, writes_through};
@@ -12,7 +12,7 @@ use crate::held::Held;
 use crate::{call_at_once, call_paged};
 use cc_entry::{Call, CcError, FileId};
 use cc_turns::Turns;
-use cc_visits::Returned;
+use cc_writes::Returned;
 use std::alloc::Global;
 
 /// Makes a call that makes a hold of so many bytes of a stream from a place on.

@@ -13,9 +13,9 @@
 //! into them, `flushes` those that write the dirty pages of a span, and then sync its disk or take its pages out, `logs`
 //! the two calls on a log, an append and a flush. `held` has what every hold tells of itself, `held_calls` how a hold is
 //! made, used and ended; `data_maps`, `pins`, `repins` and `chains` have the routines on holds. Below are the turns
-//! (`cc_turns`), the visits of a pass to the journal (`cc_visits`), the writing of a page with the flush of its log and
-//! the fetch of pages (`cc_writes`), the flush and the purge of a span (`cc_flush`), and what others leave of a pass's
-//! holds (`cc_own`). The lines of a script (`cc_lines`) and the runs (`cc_run`) stand above.
+//! (`cc_turns`), the visits of a pass to the journal, the writing of a page with the flush of its log and the fetch of
+//! pages (`cc_writes`), the flush and the purge of a span (`cc_ranges`), and what others leave of a pass's holds
+//! (`cc_own`). The lines of a script (`cc_lines`) and the runs (`cc_run`) stand above.
 #![tactic(auto)]
 
 mod chains;

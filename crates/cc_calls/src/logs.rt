@@ -6,8 +6,8 @@ ghost use Rattle.cc_effects.specs.LogCalls.{AppendLeft, LogFlushLeft};
 ghost use Rattle.cc_model.specs.Good.{IsGood};
 ghost use Rattle.cc_turns.specs.Log.{LogStands};
 ghost use Rattle.cc_turns.specs.Takes.{Grows};
-ghost use Rattle.cc_visits.specs.Hands.{WentWith};
-ghost use Rattle.cc_visits.specs.Ways.{IsFull};
+ghost use Rattle.cc_writes.specs.Hands.{WentWith};
+ghost use Rattle.cc_writes.specs.Ways.{IsFull};
 ghost use Rattle.cc_calls.specs.Answers.{IsFree};
 ghost use Rattle.cc_calls.specs.Logs.{IsNotFull, LogEnds, PlaceLeft, RoomLeft};
 

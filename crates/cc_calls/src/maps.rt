@@ -8,7 +8,7 @@ use crate::settings::set;
 use crate::turned::call_at_once;
 use cc_entry::{Call, CcError, FileId, FileSizes, Quota};
 use cc_turns::Turns;
-use cc_visits::Returned;
+use cc_writes::Returned;
 use std::alloc::Global;
 
 /// Makes the shared cache map of a stream, with a private one for the file object, or the private one alone where there

@@ -11,10 +11,9 @@ ghost use Rattle.cc_calls.specs.Streamless.{PlacesStreamless, StreamlessLeft, Ta
 
 use crate::turned::call_at_once;
 use cc_entry::{Call, CcError, Entry, FileId, FileState, Lsn, Outcome, Reply, Rows};
-use cc_journal::Journal;
-use cc_table::dirty_table;
+use cc_journal::{Journal, dirty_table};
 use cc_turns::Turns;
-use cc_visits::Returned;
+use cc_writes::Returned;
 use std::alloc::Global;
 
 /// The sizes of a stream, in bytes, and its log. It is no Cc routine: in Windows a file system keeps them itself.

@@ -13,7 +13,7 @@ use crate::pins::Pinned;
 use crate::{call_at_once, flush};
 use cc_entry::{Call, CcError, Span};
 use cc_turns::Turns;
-use cc_visits::Returned;
+use cc_writes::Returned;
 use std::alloc::Global;
 use std::marker::Model;
 

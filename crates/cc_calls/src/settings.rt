@@ -2,7 +2,7 @@
 
 ghost use Rattle.std.specs.Prelude.{◌≡◌, true};
 ghost use Rattle.cc_entry.specs.declared.call.Call.TheVariants as call;
-ghost use Rattle.cc_visits.specs.Visits.{IsOf};
+ghost use Rattle.cc_writes.specs.Visits.{IsOf};
 ghost use Rattle.cc_calls.specs.Answers.{CanCall, CallSets, is_setting};
 
 use crate::turned::call_at_once;

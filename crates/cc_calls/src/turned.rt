@@ -6,16 +6,15 @@ ghost use Rattle.cc_effects.specs.Calls.{IsUnderWay};
 ghost use Rattle.cc_model.specs.Good.{IsGood};
 ghost use Rattle.cc_model.specs.Ranges.{range_of};
 ghost use Rattle.cc_step.specs.Step.{is_stepped};
-ghost use Rattle.cc_visits.specs.Hands.{Went};
-ghost use Rattle.cc_visits.specs.Ways.{FitsIn};
-ghost use Rattle.cc_visits.specs.Visits.{IsFiledNow, IsOf, IsFullTried, TriedLeft};
+ghost use Rattle.cc_writes.specs.Hands.{Went};
+ghost use Rattle.cc_writes.specs.Ways.{FitsIn};
+ghost use Rattle.cc_writes.specs.Visits.{IsFiledNow, IsOf, IsFullTried, TriedLeft};
 ghost use Rattle.cc_writes.specs.Fetch.{CanCall};
 ghost use Rattle.cc_calls.specs.Paged.{CalledAtOnce, Paged, is_paged};
 
 use cc_entry::{Call, CcError, StreamId};
 use cc_turns::Turns;
-use cc_visits::{Returned, Tried, attempt_at};
-use cc_writes::fetch;
+use cc_writes::{Returned, Tried, attempt_at, fetch};
 use std::alloc::Global;
 
 /// Makes a call that needs no page, in one turn of its stream's book, and answers what it returns to its caller.

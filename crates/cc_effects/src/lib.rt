@@ -1,4 +1,4 @@
-//! What one call of one pass leaves in the journal between two moments.
+//! What one call of one pass leaves in the journal between two moments, and what one event of the World leaves.
 //!
 //! A moment is the past that the journal was then; others' entries stand between two of them too. For each
 //! call and each answer that it may give, the definitions in specs/ say which entries of its pass stand in
@@ -8,8 +8,11 @@
 //! definitions in the order in which they build on each other; the functions have no body, and their
 //! contracts are laws.
 //!
-//! It stands on `cc_entry` and `cc_model`. The clauses of every call, and `cc_pieces`, which ties calls to
-//! the lines of a script, speak in its words.
+//! `events` has the events of the World and their replies, and `Events` of specs/ when one may happen, what it asks and
+//! what it places. The World (`cc_world`) and what explains a script of `steps` (`cc_pieces`) both stand on them.
+//!
+//! It stands on `cc_entry`, `cc_model` and the post routines of `cc_traits`. The clauses of every call, and `cc_pieces`,
+//! which ties calls and events to the lines of a script, speak in its words.
 #![tactic(auto)]
 
 mod events;

@@ -5,7 +5,7 @@ use Rattle.std.specs.declared.option.Option.TheVariants.{Some, None}
 use Rattle.std.specs.Option.{option_copied, option_map}
 use Rattle.std.proofs.Common.{Bor}
 use Rattle.cc_entry.specs.declared.hold.HoldRow.{HoldRow}
-use Rattle.cc_bcb.specs.declared.holds.Hold.{Hold}
+use Rattle.cc_holds.specs.declared.holds.Hold.{Hold}
 
 module _ (found : Option (Bor HoldRow)) (kept : Option Hold) (is : option_copied found ≡ option_map (λ (h : Hold). h.row) kept) where
   pub is-there : is_some found ≡ true → IsSome kept

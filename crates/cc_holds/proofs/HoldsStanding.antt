@@ -17,10 +17,10 @@ use Rattle.cc_model.specs.History.{Effect, Did, CameIn, WentOut, Began, Ended, S
 use Rattle.cc_model.specs.Holds.{hold_at, changed_at, made, repinned, id_of, held_after, holds_of}
 use Rattle.cc_model.specs.Holds as held
 use Rattle.cc_laws.proofs.HoldSteps.{changes_holds, holds_of-done, holds_of-other, holds_of-came_in, holds_of-went_out, holds_of-began, holds_of-ended, holds_of-synced, holds_of-pin_mapped, holds_of-pinned_write, holds_of-set_dirty, holds_of-end_hold}
-use Rattle.cc_bcb.specs.Holds.{hold_of, without, inserted, opened, written, cleaned, pinned, touched_at, Changes}
-use Rattle.cc_bcb.specs.Touched.{has_touched, widened}
+use Rattle.cc_holds.specs.Holds.{hold_of, without, inserted, opened, written, cleaned, pinned, touched_at, Changes}
+use Rattle.cc_holds.specs.Touched.{has_touched, widened}
 use Rattle.cc_model.specs.Numbers.{is_empty}
-use Rattle.cc_bcb.specs.declared.holds.Hold.{Hold}
+use Rattle.cc_holds.specs.declared.holds.Hold.{Hold}
 use Rattle.cc_holds.specs.Stands.{Shown, IsHold, IdsAscend, HoldsStand}
 use Rattle.cc_holds.specs.Makes.{new_row, row_made}
 use Rattle.cc_holds.proofs.Zips.{reverse-onto, reverse-mapped, reverse-filtered, zip-onto, zip-mapped, zip-filtered}

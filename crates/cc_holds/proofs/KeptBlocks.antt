@@ -16,9 +16,9 @@ use Rattle.cc_model.specs.Holds as held
 use Rattle.cc_model.specs.Views as views
 use Rattle.cc_laws.proofs.BlockPages.{is_member-among}
 use Rattle.cc_laws.proofs.Lists1.{count-le}
-use Rattle.cc_bcb.specs.Holds.{range_of, held_blocks, active_blocks}
-use Rattle.cc_bcb.specs.Touched.{has_touched, with_page, with_pages}
-use Rattle.cc_bcb.specs.declared.holds.Hold.{Hold}
+use Rattle.cc_holds.specs.Holds.{range_of, held_blocks, active_blocks}
+use Rattle.cc_holds.specs.Touched.{has_touched, with_page, with_pages}
+use Rattle.cc_holds.specs.declared.holds.Hold.{Hold}
 use Rattle.cc_holds.specs.Stands.{HoldsStand}
 use Rattle.cc_holds.proofs.PagesOwed.{touched-with}
 use Rattle.cc_holds.proofs.KeptReads.{any-kept, range-kept}

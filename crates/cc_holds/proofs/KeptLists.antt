@@ -5,8 +5,8 @@ use Rattle.std.specs.declared.option.Option.TheVariants.{Some, None}
 use Rattle.std.specs.List.{AllByRecursion, filter, position_or_len}
 use Rattle.std.proofs.Common.{ap, sym, subst, ◌∙◌, arith}
 use Rattle.std.proofs.lemmas.Bool.{eqb-true, ne_eqb, ltb-true}
-use Rattle.cc_bcb.specs.Holds.{hold_of, has_id, without, inserted, Changes}
-use Rattle.cc_bcb.specs.declared.holds.Hold.{Hold}
+use Rattle.cc_holds.specs.Holds.{hold_of, has_id, without, inserted, Changes}
+use Rattle.cc_holds.specs.declared.holds.Hold.{Hold}
 use Rattle.cc_holds.specs.Stands.{IdsAscend}
 
 -- each hold has an id below this one

@@ -19,9 +19,9 @@ use Rattle.cc_model.specs.Holds.{holds_of, hold_at, is_held, least_id, lesser, r
 use Rattle.cc_model.specs.Holds as held
 use Rattle.cc_model.specs.Stamps.{owes_stamp}
 use Rattle.cc_model.specs.Conflicts.{has_page_of, bars_pin}
-use Rattle.cc_bcb.specs.Holds.{hold_of, range_of, overlaps, conflicts, is_unstamped, ends_past, first_id}
-use Rattle.cc_bcb.specs.declared.holds.Hold.{Hold}
-use Rattle.cc_bcb.proofs.Overlap.{share_page-ends}
+use Rattle.cc_holds.specs.Holds.{hold_of, range_of, overlaps, conflicts, is_unstamped, ends_past, first_id}
+use Rattle.cc_holds.specs.declared.holds.Hold.{Hold}
+use Rattle.cc_holds.proofs.Overlap.{share_page-ends}
 use Rattle.cc_holds.specs.Stands.{Shown, shown, shown_row, IsHold, IdsAscend, HoldsStand}
 use Rattle.cc_holds.specs.Looks.{keeps_page, has_bytes}
 use Rattle.cc_holds.proofs.Zips.{reverse-onto, any-reversed, zip-any, zip-length}

@@ -17,9 +17,9 @@ use Rattle.cc_model.specs.Ranges.{span_has}
 use Rattle.cc_model.specs.Stamps.{owes_stamp, owed_pages}
 use Rattle.cc_laws.proofs.BlockPages.{Above, Rises, rises-ascending}
 use Rattle.cc_laws.proofs.DirtyAmong.{is_among-ascending}
-use Rattle.cc_bcb.specs.Holds.{is_unstamped}
-use Rattle.cc_bcb.specs.Touched.{has_touched}
-use Rattle.cc_bcb.specs.declared.holds.Hold.{Hold}
+use Rattle.cc_holds.specs.Holds.{is_unstamped}
+use Rattle.cc_holds.specs.Touched.{has_touched}
+use Rattle.cc_holds.specs.declared.holds.Hold.{Hold}
 use Rattle.cc_holds.specs.Stands.{HoldsStand}
 use Rattle.cc_holds.specs.Looks.{with_least, with_owed}
 use Rattle.cc_holds.proofs.PagesOwed.{among-pages_of}

@@ -1,3 +1,9 @@
+pub mod Pages
+pub mod Places
+pub mod Changes
+mod Order
+pub mod Overlap
+mod BlockCounts
 pub mod Zips
 pub mod KeptLists
 pub mod PagesOwed

@@ -8,7 +8,7 @@ use Rattle.std.proofs.lemmas.List.Folds.{list_any-append}
 use Rattle.cc_entry.specs.Place.{Range}
 use Rattle.cc_entry.specs.Pages.{has_page, last_page, pages_of}
 use Rattle.cc_model.specs.Numbers.{is_among}
-use Rattle.cc_bcb.specs.Touched.{has_touched, with_page, with_pages}
+use Rattle.cc_holds.specs.Touched.{has_touched, with_page, with_pages}
 
 pub among-range : (first n p : ℕ) → is_among p (range_with_len first n) ≡ (nat_le first p && nat_lt p (first + n))
 among-range first zero p = grind (arith, nat_tests)

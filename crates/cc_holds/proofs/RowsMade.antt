@@ -20,7 +20,7 @@ use Rattle.cc_holds.specs.Done.{MakesAbove, takes_memory}
 use Rattle.cc_holds.proofs.MadeIds.{id-made}
 use Rattle.cc_model.specs.Holds.{Hold, hold_at, holds_of, id_of, repinned}
 use Rattle.cc_laws.proofs.HoldSteps.{holds_of-done}
-use Rattle.cc_bcb.specs.declared.holds.Hold as kept
+use Rattle.cc_holds.specs.declared.holds.Hold as kept
 use Rattle.cc_holds.specs.Makes.{new_row, row_made, row_named}
 use Rattle.cc_holds.specs.Stands.{HoldsStand}
 use Rattle.cc_holds.proofs.HoldsStanding.{stands-same, stands-other}

@@ -1,4 +1,7 @@
 -- What the contracts cite.
+pub mod Overlap
+pub mod Touched
+pub mod Holds
 pub mod Stands
 pub mod Makes
 pub mod Looks

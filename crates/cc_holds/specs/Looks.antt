@@ -6,8 +6,8 @@ use Rattle.cc_entry.specs.Kinds.{is_pin}
 use Rattle.cc_entry.specs.Pages.{has_page}
 use Rattle.cc_model.specs.Holds.{lesser}
 use Rattle.cc_model.specs.Ranges.{span_has}
-use Rattle.cc_bcb.specs.Holds.{range_of}
-use Rattle.cc_bcb.specs.declared.holds.Hold.{Hold}
+use Rattle.cc_holds.specs.Holds.{range_of}
+use Rattle.cc_holds.specs.declared.holds.Hold.{Hold}
 
 -- whether a hold has the page
 abbrev pub keeps_page : ℕ → Hold → Bool

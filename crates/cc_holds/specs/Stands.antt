@@ -12,8 +12,8 @@ use Rattle.cc_model.specs.History.{Effect}
 use Rattle.cc_model.specs.Numbers.{is_empty}
 use Rattle.cc_model.specs.Holds.{holds_of}
 use Rattle.cc_model.specs.Holds as held
-use Rattle.cc_bcb.specs.Touched.{has_touched}
-use Rattle.cc_bcb.specs.declared.holds.Hold.{Hold}
+use Rattle.cc_holds.specs.Touched.{has_touched}
+use Rattle.cc_holds.specs.declared.holds.Hold.{Hold}
 
 -- What is shown of a hold: all but the caller that made it and the bytes for which it owes a stamp.
 pub record Shown : Type 0 where

@@ -3,10 +3,10 @@
 ghost use Rattle.std.specs.Prelude.{◌≡◌, ◌-◌, ◌≤◌, ◌^◌, OnOk};
 ghost use Rattle.std.specs.List.{range_with_len};
 ghost use Rattle.cc_entry.specs.Pages.{blocks_of};
-ghost use Rattle.cc_bcb.specs.Holds.{held_blocks};
-ghost use Rattle.cc_bcb.specs.Touched.{with_pages};
+ghost use Rattle.cc_holds.specs.Holds.{held_blocks};
+ghost use Rattle.cc_holds.specs.Touched.{with_pages};
 
-use cc_bcb::Hold;
+use crate::Hold;
 use cc_entry::NoMemory;
 
 /// Bytes in a view block.

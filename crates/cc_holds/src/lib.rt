@@ -1,23 +1,33 @@
-//! The open holds of one stream, by its history: maps, pins, repins and descriptor chains.
+//! The open holds of one stream: maps, pins, repins and descriptor chains.
 //!
-//! What the layer keeps true: after each entry of the journal the holds that are kept are the open ones that
-//! the stream's history says, by id, each with the pages to which it owes a stamp. So the hold that is in the
-//! way, a held page, an owed stamp and the view blocks are read from the open holds, where the definitions go
-//! over the whole history. A call that finds no memory leaves the holds as they were, and none but `done`,
+//! What the layer keeps true: after each entry of the journal the holds that are kept are the open ones that the
+//! stream's history says, by id, each with the pages to which it owes a stamp. So the hold that is in the way, a held
+//! page, an owed stamp and the view blocks are read from the open holds, where the definitions go over the whole
+//! history. No look-up takes memory; a call that finds none leaves the holds as they were, and none but `done`,
 //! `held_blocks`, `kept_blocks` and `needed_blocks` takes memory.
 //!
-//! `open_holds` has the holds as a whole, `done` what a done call does to them, `rows` the row of a hold that is made,
-//! `blocks` the view blocks that holds need, `look` and `owed` the walks over them. The book of a stream stands above:
-//! it knows that a new hold's id is greater than each open one (`proofs/MadeIds`), and which entries change no hold
-//! (`proofs/HoldsStanding`). Below are the container of holds (`cc_bcb`), the values of `cc_entry`, the definitions of
-//! `cc_model` and how they step (`cc_laws`, `cc_events`).
+//! `holds` is the container: holds by id, so that a look-up answers the one of the least id, beside each the pages that
+//! were written through it since its last set-dirty (`touched`); `lookup`, `ranges` and `block_counts` are its walks. It
+//! knows no journal. `open_holds` has the holds as a stream's history has them, `done` what a done call does to them,
+//! `rows` the row of a hold that is made, `blocks` the view blocks that holds need, `look` and `owed` the walks over
+//! them. The book of a stream stands above: it knows that a new hold's id is greater than each open one
+//! (`proofs/MadeIds`), and which entries change no hold (`proofs/HoldsStanding`). Below are the values of `cc_entry`, the
+//! definitions of `cc_model` and how they step (`cc_laws`, `cc_events`).
 #![tactic(auto)]
 
+mod block_counts;
 mod blocks;
 mod done;
+mod holds;
 mod look;
+mod lookup;
 mod open_holds;
 mod owed;
+mod ranges;
 mod rows;
+mod touched;
 
+pub use holds::{Hold, Holds};
 pub use open_holds::OpenHolds;
+pub use ranges::overlaps;
+pub use touched::TouchedPages;

@@ -3,12 +3,12 @@
 ghost use Rattle.std.specs.Prelude.{◌≡◌};
 ghost use Rattle.std.specs.List.{list_any};
 ghost use Rattle.cc_entry.specs.Pages.{has_page, share_page};
-ghost use Rattle.cc_bcb.specs.Holds.{range_of, conflicts, first_id};
-ghost use Rattle.cc_bcb.specs.Overlap.{ends_share_page};
+ghost use Rattle.cc_holds.specs.Holds.{range_of, conflicts, first_id};
+ghost use Rattle.cc_holds.specs.Overlap.{ends_share_page};
 ghost use Rattle.cc_holds.specs.Looks.{keeps_page, has_bytes};
 
+use crate::Hold;
 use crate::owed::is_pin;
-use cc_bcb::Hold;
 use cc_entry::HoldRow;
 use cc_events::range_has;
 

@@ -16,11 +16,11 @@ ghost use Rattle.cc_holds.specs.Stands.{HoldsStand, shown, shown_row};
 ghost use Rattle.cc_holds.specs.Makes.{row_made, zeroed_end};
 ghost use Rattle.cc_model.specs.Room.{owes_set_dirty};
 
+use crate::Holds;
 use crate::blocks::{add_blocks, add_held};
 use crate::look::{any_keeps_page, first_in_the_way, first_with_bytes};
 use crate::owed::least_owed;
 use crate::rows::{new_row, owes_set_dirty, row_named};
-use cc_bcb::Holds;
 use cc_entry::{Call, HoldKind, HoldRow, NoMemory, Span};
 use std::alloc::Global;
 use std::marker::Model;
@@ -33,7 +33,7 @@ pub struct OpenHolds {
 
 impl Model for OpenHolds {
     ghost use Rattle.std.specs.Prelude.{List};
-    ghost use Rattle.cc_bcb.specs.declared.holds.Hold.{Hold};
+    ghost use Rattle.cc_holds.specs.declared.holds.Hold.{Hold};
 
     ghost Value = { List Hold };
 

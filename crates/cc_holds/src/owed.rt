@@ -5,7 +5,7 @@ ghost use Rattle.cc_entry.specs.Kinds.{is_pin};
 ghost use Rattle.cc_model.specs.Holds.{lesser};
 ghost use Rattle.cc_holds.specs.Looks.{with_least, with_owed};
 
-use cc_bcb::Hold;
+use crate::Hold;
 use cc_entry::{HoldKind, Span};
 use cc_events::span_has;
 

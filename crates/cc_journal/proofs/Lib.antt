@@ -14,3 +14,7 @@ pub mod Sums
 pub mod KeptSteps
 pub mod DirtyBelow
 pub mod GoodEntries
+pub mod RowLsns
+pub mod StreamLsns
+pub mod LogRows
+pub mod AnyRows

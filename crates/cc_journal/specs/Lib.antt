@@ -9,3 +9,4 @@ pub mod Queue
 pub mod Scans
 pub mod Journal
 pub mod Kept
+pub mod Stamped

@@ -28,7 +28,7 @@ use Rattle.cc_pieces.specs.Bindings.{Binding, bound}
 use Rattle.cc_pieces.specs.Served.{Served, bindings_after}
 use Rattle.cc_step.specs.Step.{most_asked}
 use Rattle.cc_turns.specs.Standing.{Standing}
-use Rattle.cc_visits.specs.Ways.{IsFull}
+use Rattle.cc_writes.specs.Ways.{IsFull}
 use Rattle.cc_calls.specs.Ends.{MakingEnds, hold_outcome}
 use Rattle.cc_lines.specs.Holds.{NamesState, bound_named, kind_of, made_told, test_of}
 use Rattle.cc_lines.specs.Line.{CanServe, IsFullTold, LineEnds, StandFor}

@@ -25,7 +25,7 @@ use Rattle.cc_calls.specs.Logs.{LogEnds}
 use Rattle.cc_calls.specs.Pages.{ChangeEnds}
 use Rattle.cc_calls.specs.Purges.{PurgeEnds}
 use Rattle.cc_turns.specs.Standing.{Standing}
-use Rattle.cc_visits.specs.Ways.{IsFull}
+use Rattle.cc_writes.specs.Ways.{IsFull}
 use Rattle.cc_lines.specs.Holds.{NamesState}
 use Rattle.cc_lines.specs.Line.{CanServe, IsFullTold, LineEnds, flag_told, lsns_told, rows_told, state_told, told_of}
 use Rattle.cc_lines.proofs.WordLines.{full-told, went-on}

@@ -27,7 +27,7 @@ use Rattle.cc_pieces.specs.Served.{Served, bindings_after}
 use Rattle.cc_step.specs.Step.{most_asked}
 use Rattle.cc_calls.specs.Answers.{CanCall, outcome_of}
 use Rattle.cc_turns.specs.Standing.{Standing}
-use Rattle.cc_visits.specs.Ways.{IsFull}
+use Rattle.cc_writes.specs.Ways.{IsFull}
 use Rattle.cc_calls.specs.Held.{HoldsAfter, IsHolding, covers}
 use Rattle.cc_calls.specs.Ends.{UseEnds}
 use Rattle.cc_calls.specs.declared.held.Held.{Held}

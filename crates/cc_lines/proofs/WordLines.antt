@@ -28,8 +28,8 @@ use Rattle.cc_pieces.specs.Answered.{CallAnswered}
 use Rattle.cc_pieces.specs.Bindings.{Binding, OnHold, hold_named, id_if}
 use Rattle.cc_calls.specs.Pages.{WentOn}
 use Rattle.cc_turns.specs.Standing.{Standing}
-use Rattle.cc_visits.specs.Hands.{Went}
-use Rattle.cc_visits.specs.Ways.{IsFullError}
+use Rattle.cc_writes.specs.Hands.{Went}
+use Rattle.cc_writes.specs.Ways.{IsFullError}
 use Rattle.cc_calls.specs.Held.{HoldsAfter}
 use Rattle.cc_calls.specs.declared.held.Held.{Held}
 use Rattle.cc_lines.specs.Holds.{HasNamed, IsNamed, NamesStand, NamesState, held_of, kind_of, named_at, test_of}

@@ -18,9 +18,9 @@ use Rattle.cc_model.specs.Good.{IsGood}
 use Rattle.cc_pieces.specs.Bindings.{Binding}
 use Rattle.cc_pieces.specs.Served.{Served, bindings_after}
 use Rattle.cc_turns.specs.Standing.{Standing, nothing}
-use Rattle.cc_visits.specs.Ways.{IsFullError}
+use Rattle.cc_writes.specs.Ways.{IsFullError}
 use Rattle.cc_calls.specs.Pages.{StaysGood, WentOn}
-use Rattle.cc_nocache.specs.declared.error.NcError.{NcError}
+use Rattle.cc_ranges.specs.declared.error.NcError.{NcError}
 use Rattle.cc_calls.specs.Held.{IsHolding}
 use Rattle.cc_calls.specs.declared.held.Held.{Held}
 use Rattle.cc_lines.specs.Holds.{NamesState, NamesStand, HasRoom}

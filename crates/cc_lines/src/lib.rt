@@ -6,7 +6,7 @@
 //! or nothing where none was made or a line has ended it.
 //!
 //! `line` serves an action, `held_lines` one on a hold, `noncached_lines` a noncached one, and `holds` keeps what the
-//! words of a caller name. The phases of a run stand above (`cc_run`); below are the calls (`cc_calls`, `cc_nocache`)
+//! words of a caller name. The phases of a run stand above (`cc_run`); below are the calls (`cc_calls`, `cc_ranges`)
 //! and how the journal explains answers (`cc_pieces`).
 #![tactic(auto)]
 

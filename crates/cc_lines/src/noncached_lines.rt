@@ -9,7 +9,7 @@ ghost use Rattle.cc_lines.specs.Line.{IsFullTold, nc_refused};
 ghost use Rattle.std.specs.Prelude.{◌≡◌};
 
 use cc_entry::{Answer, Bytes, BytesRoom, CcError, FileId, Reply};
-use cc_nocache::{NcError, noncached_read, noncached_write};
+use cc_ranges::{NcError, noncached_read, noncached_write};
 use cc_turns::Turns;
 use std::alloc::Global;
 

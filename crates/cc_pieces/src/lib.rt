@@ -10,8 +10,8 @@
 //!
 //! `Steps`, `Events` and `Moments` say the same of a script of `steps`, whose lines are events.
 //!
-//! What one call leaves is told by `cc_effects`, on which this crate stands, beside the script, the text and the events
-//! of `cc_world`; the runs stand above it.
+//! What one call or one event leaves is told by `cc_effects`, on which this crate stands, beside the script and the text;
+//! the runs stand above it.
 #![tactic(auto)]
 
 mod laws;

@@ -20,8 +20,8 @@ use Rattle.cc_pieces.specs.Rooms.{HadNoRoom, WasFull}
 use Rattle.cc_pieces.specs.Served.{Served}
 use Rattle.cc_turns.specs.Standing.{Standing}
 use Rattle.cc_turns.specs.Takes.{HasActed}
-use Rattle.cc_visits.specs.Hands.{Went}
-use Rattle.cc_visits.specs.Ways.{IsFullError}
+use Rattle.cc_writes.specs.Hands.{Went}
+use Rattle.cc_writes.specs.Ways.{IsFullError}
 use Rattle.cc_calls.specs.Pages.{WentOn}
 use Rattle.cc_run.specs.Desks.{IsReady, IsSameRun, IsSamePass}
 use Rattle.cc_lines.specs.Holds.{NamesStand, NamesState}

@@ -20,7 +20,7 @@ use Rattle.cc_pieces.specs.Answered.{CallAnswered}
 use Rattle.cc_pieces.specs.Openings.{LoggedOpening, Opened, Opens, first_object_of, opening_call}
 use Rattle.cc_pieces.specs.Rooms.{HadNoRoom}
 use Rattle.cc_turns.specs.Standing.{Standing}
-use Rattle.cc_visits.specs.Hands.{Went}
+use Rattle.cc_writes.specs.Hands.{Went}
 use Rattle.cc_lines.specs.Line.{IsFullTold}
 use Rattle.cc_run.specs.Lines.{StreamsLeft, StreamsOpened}
 use Rattle.cc_run.proofs.Acting.{room-left}

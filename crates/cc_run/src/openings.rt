@@ -4,7 +4,7 @@ ghost use Rattle.std.specs.Prelude.{◌≡◌, ◌≢◌, ℕ, ◌+◌, ◌<◌,
 ghost use Rattle.cc_effects.specs.Moments.{IsIdle};
 ghost use Rattle.cc_pieces.specs.Openings.{LoggedOpening};
 ghost use Rattle.cc_calls.specs.Answers.{CanCall};
-ghost use Rattle.cc_visits.specs.Hands.{Went};
+ghost use Rattle.cc_writes.specs.Hands.{Went};
 ghost use Rattle.cc_turns.specs.Desk.{standing_of};
 ghost use Rattle.cc_run.specs.Desks.{IsReady, IsSameRun};
 ghost use Rattle.cc_lines.specs.Line.{IsFullTold};

@@ -11,8 +11,8 @@ ghost use Rattle.cc_run.specs.Runs.{HasRun};
 use crate::modes::{MOST_DISKS, MOST_LOGS, RunResult};
 use crate::row::{first_of, put_back};
 use crate::table::printed_rows;
+use cc_event_lines::{StepsEnd, run_steps};
 use cc_script::Script;
-use cc_steps::{StepsEnd, run_steps};
 use cc_traits::{LogFile, PageDisk, PostRoutine, Setup};
 use std::alloc::Global;
 

@@ -1,4 +1,4 @@
--- Lemmas of the step, each before those that cite it.
+-- Lemmas of the step, and of what comes next where it waits, each before those that cite it.
 pub mod Reasons
 pub mod Within
 pub mod Filled
@@ -12,3 +12,13 @@ pub mod Finishing
 pub mod Attempts
 pub mod KeptPlaces
 pub mod Ended
+pub mod Stops
+pub mod Found
+pub mod Waiting
+pub mod Owed
+pub mod Below
+pub mod Rooms
+pub mod Going
+pub mod Dirty
+pub mod PlacedPages
+pub mod Emptied

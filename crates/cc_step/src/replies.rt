@@ -13,8 +13,7 @@ ghost use Rattle.cc_step.specs.Step.{is_stepped, StandUnder, IsReadyFor};
 
 use cc_book::Book;
 use cc_entry::{Call, FileSizes, FileState, NoMemory, Reply};
-use cc_journal::Journal;
-use cc_table::lsns;
+use cc_journal::{Journal, lsns};
 use std::alloc::Global;
 
 /// What a call answers that nothing refuses and whose pages are resident.

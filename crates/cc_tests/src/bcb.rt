@@ -1,8 +1,8 @@
 //! Tests of the open holds.
 
 use crate::sent::takes_sent;
-use cc_bcb::{Holds, TouchedPages};
 use cc_entry::{FileId, HoldKind, HoldRow, Span};
+use cc_holds::{Holds, TouchedPages};
 use std::test::Fail;
 
 const PAGE: u64 = 4096;

@@ -3,7 +3,7 @@
 //! A clause can't forbid want of memory, so a body that always answers it is proved under any contract; here
 //! such calls of the lower crates are made once and the answer compared. The expected values come from the formats and rules
 //! that docs/ states, none from the program. The tests of a crate stand here so that the crate itself is
-//! proved once. Scripts that run whole are tested in `cc_rows`. Nothing stands on this crate.
+//! proved once. Scripts that run whole are cases (`cases`). Nothing stands on this crate.
 #![tactic(auto)]
 
 #[cfg(test)]

@@ -1,4 +1,4 @@
--- Lemmas of turns, each before those that cite it.
+-- Lemmas of turns, and of reads, transfers and syncs, each before those that cite it.
 pub mod BookGrows
 pub mod DiskGrows
 pub mod LogGrows
@@ -8,3 +8,10 @@ pub mod RowSteps
 pub mod Fresh
 pub mod SlotSteps
 pub mod Taking
+pub mod Keeping
+pub mod Rooms
+pub mod Handles
+pub mod PageRead
+pub mod OpenTransfers
+pub mod PageWritten
+pub mod DiskSynced

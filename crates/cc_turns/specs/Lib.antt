@@ -7,3 +7,4 @@ pub mod Takes
 pub mod Places
 pub mod Desk
 pub mod Slots
+pub mod Transfers

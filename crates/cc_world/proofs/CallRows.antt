@@ -17,8 +17,8 @@ use Rattle.cc_journal.specs.Journal.{JournalState}
 use Rattle.cc_model.specs.History.{history}
 use Rattle.cc_model.specs.Images.{Transfer, open_of}
 use Rattle.cc_model.specs.Setup.{Setup}
-use Rattle.cc_transfer.proofs.Keeping.{DiskStands-kept}
-use Rattle.cc_transfer.proofs.OpenTransfers.{IsUnderWay-called}
+use Rattle.cc_turns.proofs.Keeping.{DiskStands-kept}
+use Rattle.cc_turns.proofs.OpenTransfers.{IsUnderWay-called}
 use Rattle.cc_turns.specs.Standing.{DiskAtFirst}
 use Rattle.cc_world.specs.Calls.{BookStandsUnder, CallLeft, CallWent, ends_on_book, places_one}
 use Rattle.cc_world.specs.Pages.{Says}

@@ -15,7 +15,7 @@ use Rattle.cc_model.specs.History.{history}
 use Rattle.cc_model.specs.Setup.{Setup}
 use Rattle.cc_model.specs.Touches.{valid_of}
 use Rattle.cc_model.specs.Turns.{Book}
-use Rattle.cc_transfer.specs.Transfers.{faults_by}
+use Rattle.cc_turns.specs.Transfers.{faults_by}
 use Rattle.cc_turns.proofs.BookGrows.{book_grows}
 use Rattle.cc_turns.specs.Standing.{DiskAtFirst}
 use Rattle.cc_world.specs.Rows.{RowEnded, RowLeft, RowWent, reply_to}

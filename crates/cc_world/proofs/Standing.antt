@@ -18,8 +18,8 @@ use Rattle.cc_model.specs.History.{history}
 use Rattle.cc_model.specs.Images.{Transfer, open_of}
 use Rattle.cc_model.specs.Room.{reserved_in}
 use Rattle.cc_model.specs.Setup.{Setup}
-use Rattle.cc_transfer.proofs.Keeping.{leaves_disk, DiskStands-kept}
-use Rattle.cc_transfer.proofs.OpenTransfers.{IsUnderWay-open}
+use Rattle.cc_turns.proofs.Keeping.{leaves_disk, DiskStands-kept}
+use Rattle.cc_turns.proofs.OpenTransfers.{IsUnderWay-open}
 use Rattle.cc_turns.specs.Disk.{DiskStands, opening_of}
 use Rattle.cc_turns.specs.Standing.{DiskAtFirst}
 use Rattle.cc_world.specs.Rows.{DiskIsUsed, IsAtRest, IsCarrying, RowEnded, RowFaulted, RowLeft, RowWent, StandsUnder}

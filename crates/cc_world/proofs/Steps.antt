@@ -18,8 +18,8 @@ use Rattle.cc_log.specs.Turn.{LogState}
 use Rattle.cc_model.specs.History.{history}
 use Rattle.cc_model.specs.Logs.{flushed_to}
 use Rattle.cc_model.specs.Turns.{Device, is_quiet}
-use Rattle.cc_transfer.proofs.Handles.{handle-below}
-use Rattle.cc_transfer.proofs.OpenTransfers.{IsUnderWay-grown}
+use Rattle.cc_turns.proofs.Handles.{handle-below}
+use Rattle.cc_turns.proofs.OpenTransfers.{IsUnderWay-grown}
 use Rattle.cc_turns.specs.Desk.{Tells, LogIsHome, disk_at_first, log_at_first, openings}
 use Rattle.cc_turns.specs.Log.{LogStands}
 use Rattle.cc_turns.specs.Standing.{DiskAtFirst}

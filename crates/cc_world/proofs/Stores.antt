@@ -49,7 +49,7 @@ use Rattle.cc_model.specs.Sizes.{stored_range}
 use Rattle.cc_model.specs.Stamps.{is_unstamped, newest_of}
 use Rattle.cc_model.specs.Touches.{is_dirty, size_of, valid_of}
 use Rattle.cc_step.proofs.Reserved.{reserved-stored}
-use Rattle.cc_transfer.proofs.Rooms.{reserved-begun}
+use Rattle.cc_turns.proofs.Rooms.{reserved-begun}
 use Rattle.cc_world.specs.Pages.{Says}
 use Rattle.cc_world.specs.Uncached.{stored_byte}
 use Rattle.cc_world.proofs.Placing.{so-far}

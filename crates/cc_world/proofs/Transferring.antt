@@ -20,9 +20,9 @@ use Rattle.cc_model.specs.History.{history}
 use Rattle.cc_model.specs.Images.{Transfer, open_of}
 use Rattle.cc_model.specs.Room.{reserved_in}
 use Rattle.cc_model.specs.Setup.{Setup}
-use Rattle.cc_transfer.proofs.OpenTransfers.{IsUnderWay-begun}
-use Rattle.cc_transfer.proofs.Rooms.{reserved-ended}
-use Rattle.cc_transfer.specs.Transfers.{IsUnderWay, faults_by}
+use Rattle.cc_turns.proofs.OpenTransfers.{IsUnderWay-begun}
+use Rattle.cc_turns.proofs.Rooms.{reserved-ended}
+use Rattle.cc_turns.specs.Transfers.{IsUnderWay, faults_by}
 use Rattle.cc_turns.specs.Disk.{DiskStands, opening_of}
 use Rattle.cc_turns.specs.Standing.{DiskAtFirst}
 use Rattle.cc_world.specs.Rows.{DiskIsUsed, IsAtRest, IsCarrying, RowEnded, RowLeft, RowWent, StandsUnder, reply_to}

@@ -32,8 +32,8 @@ use Rattle.cc_model.specs.Residency.{is_resident}
 use Rattle.cc_model.specs.Room.{reserved_in}
 use Rattle.cc_model.specs.Setup.{Setup}
 use Rattle.cc_model.specs.Touches.{size_of}
-use Rattle.cc_transfer.proofs.OpenTransfers.{IsUnderWay-read, IsUnderWay-unread}
-use Rattle.cc_transfer.specs.Transfers.{CanRead, fill_failed}
+use Rattle.cc_turns.proofs.OpenTransfers.{IsUnderWay-read, IsUnderWay-unread}
+use Rattle.cc_turns.specs.Transfers.{CanRead, fill_failed}
 use Rattle.cc_turns.specs.Disk.{DiskStands, opening_of}
 use Rattle.cc_turns.specs.Standing.{DiskAtFirst}
 use Rattle.cc_world.specs.Calls.{CallWent, IsFiledOn, IsRefusedSo, IsUnrefused}

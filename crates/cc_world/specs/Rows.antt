@@ -19,7 +19,7 @@ use Rattle.cc_model.specs.Images.{open_of}
 use Rattle.cc_model.specs.Room.{reserved_in}
 use Rattle.cc_model.specs.Setup.{Setup}
 use Rattle.cc_model.specs.Touches.{valid_of}
-use Rattle.cc_transfer.specs.Transfers.{IsUnderWay}
+use Rattle.cc_turns.specs.Transfers.{IsUnderWay}
 use Rattle.cc_turns.specs.Disk.{DiskStands, opening_of}
 use Rattle.cc_turns.specs.Standing.{DiskAtFirst}
 use Rattle.cc_effects.specs.Events.{Answers, IsWanting, MayHappen, asked_by, faulted_by}

@@ -9,8 +9,8 @@ ghost use Rattle.cc_effects.specs.Events.{filed_under};
 ghost use Rattle.cc_effects.specs.declared.events.Event.TheVariants as event;
 
 use crate::ends::end_call;
-use cc_effects::StepReply;
 use crate::rows::Row;
+use cc_effects::StepReply;
 use cc_entry::Call;
 use cc_journal::Journal;
 use cc_log::LogTurn;

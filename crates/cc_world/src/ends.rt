@@ -13,10 +13,10 @@ ghost use Rattle.cc_world.specs.Pages.{Says};
 ghost use Rattle.cc_effects.specs.Events.{call_entry, reason_of};
 
 use crate::copies::copy_of;
-use cc_effects::StepReply;
 use crate::filed::is_filed;
 use crate::replies::reply_now;
 use cc_book::Book;
+use cc_effects::StepReply;
 use cc_entry::{Call, CcError, NoMemory, Reply};
 use cc_journal::Journal;
 use cc_step::{places_asked, places_spared};

@@ -10,11 +10,11 @@ ghost use Rattle.cc_world.specs.Rows.{IsStanding, RowLeft, StandsUnder};
 ghost use Rattle.cc_effects.specs.Events.{filed_under};
 ghost use Rattle.cc_effects.specs.declared.events.Event.TheVariants as event;
 
-use cc_effects::StepReply;
 use crate::filed::is_filed;
 use crate::rows::Row;
 use crate::told::error_of;
 use cc_book::Book;
+use cc_effects::StepReply;
 use cc_entry::{Call, CcError, NoMemory};
 use cc_journal::Journal;
 use cc_readers::faults::oldest_fault;

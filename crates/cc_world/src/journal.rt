@@ -15,13 +15,12 @@ ghost use Rattle.cc_world.specs.Reserving.{CanDefer, HasReserved, IsKept, unrese
 ghost use Rattle.cc_effects.specs.Events.{call_entry};
 ghost use Rattle.cc_effects.specs.declared.events.Event.TheVariants as event;
 
-use cc_effects::StepReply;
 use crate::told::error_of;
 use cc_book::Book;
+use cc_effects::StepReply;
 use cc_entry::{Call, CcError, Entry, FileId, NoMemory, Outcome, Reply, Rows};
-use cc_journal::Journal;
+use cc_journal::{Journal, dirty_table, is_any_dirty};
 use cc_readers::faults::{Fault, oldest_fault};
-use cc_table::{dirty_table, is_any_dirty};
 use cc_traits::PostRoutine;
 use std::alloc::Global;
 

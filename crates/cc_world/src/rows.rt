@@ -10,15 +10,15 @@ ghost use Rattle.cc_world.specs.Pages.{AreFlushed};
 ghost use Rattle.cc_world.specs.Rows.{IsBeginning, IsBringing, IsStanding, RowEnded, RowLeft, StandsUnder, reply_to};
 ghost use Rattle.cc_effects.specs.declared.events.Event.TheVariants as event;
 
-use cc_effects::StepReply;
 use crate::pages::{has_valid_byte, may_begin, may_come_in, may_go_out};
 use cc_book::Book;
+use cc_effects::StepReply;
 use cc_entry::{CcError, End, Entry, NoMemory, PageId, Reply, StreamId};
 use cc_journal::Journal;
 use cc_log::LogTurn;
 use cc_pages::Frame;
 use cc_traits::{LogFile, PageDisk, Stop};
-use cc_transfer::{read, sync, transfer};
+use cc_turns::{read, sync, transfer};
 
 /// The bytes of a page whose transfer a pass began.
 #[derive(Drop)]

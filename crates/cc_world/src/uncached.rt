@@ -17,15 +17,15 @@ ghost use Rattle.cc_effects.specs.Events.{filed_under};
 ghost use Rattle.cc_effects.specs.declared.events.Event.TheVariants as event;
 
 use crate::ends::refuse;
-use cc_effects::StepReply;
 use crate::page_bytes::{finish_read, image_of};
 use crate::pages::may_store;
 use crate::rows::{Kept, Row};
+use cc_effects::StepReply;
 use cc_entry::{Bytes, Call, CcError, Entry, FileId, NoMemory, PageId, Reply, StreamId};
 use cc_journal::Journal;
 use cc_log::LogTurn;
 use cc_traits::{LogFile, PageDisk, Stop};
-use cc_transfer::read;
+use cc_turns::read;
 use std::alloc::Global;
 
 impl<D: PageDisk> Row<D> {

@@ -11,12 +11,12 @@ ghost use Rattle.cc_effects.specs.Events.{IsKnown, IsUnposted, NamesOf};
 ghost use Rattle.cc_world.specs.World.{AreRowsFor, DisksEnded, IsFresh, IsNoLogReply, JournalRests, LogsEnded, Stepped, setup_of};
 ghost use Rattle.cc_effects.specs.declared.events.Event.TheVariants as event;
 
-use cc_effects::{Event, StepReply};
 use crate::filing::{Filing, filing_of};
 use crate::journal::{defer, do_unfiled, fail_unfiled, post, scan};
 use crate::logs::{append, flush};
 use crate::places::{disks_of, files_of, logs_of, rows_of};
 use crate::rows::Row;
+use cc_effects::{Event, StepReply};
 use cc_entry::{Bytes, Call, CcError, FileId, Lsn, NoMemory, PageId, StreamId};
 use cc_journal::{Journal, Parts};
 use cc_log::LogTurn;

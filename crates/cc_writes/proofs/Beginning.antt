@@ -19,14 +19,14 @@ use Rattle.cc_step.proofs.Placed.{so-far}
 use Rattle.cc_turns.specs.Standing.{Standing}
 use Rattle.cc_turns.specs.Journal.{JournalStands}
 use Rattle.cc_turns.specs.Takes.{Grows, Adds, without_journal}
-use Rattle.cc_visits.specs.Hands.{HasBook, IsAtRest, WentWith}
-use Rattle.cc_visits.specs.Visits.{HasPlaced}
+use Rattle.cc_writes.specs.Hands.{HasBook, IsAtRest, WentWith}
+use Rattle.cc_writes.specs.Visits.{HasPlaced}
 use Rattle.cc_writes.specs.Logs.{IsWant, IsStopAt}
 use Rattle.cc_writes.specs.Transfers.{BeginLeft, IsBegun, IsUnbegun, BegunLeft}
 use Rattle.cc_writes.proofs.Visits.{Visiting, Visited, visited, stepping-none}
 use Rattle.cc_writes.proofs.Quiet.{holds_no_journal, holds_the_book, history-kept, stands-same, flushed_to-grows, logged-kept, book-after}
 use Rattle.cc_writes.proofs.Placed.{may_begin, good-begun, quiet-page}
-use Rattle.cc_transfer.proofs.Rooms.{reserved-begun}
+use Rattle.cc_turns.proofs.Rooms.{reserved-begun}
 
 -- a begin with two places reserved before
 pub begun-placed : {Q : Type 0} (e : Entry) (j r k : JournalState Q) → r ≡ record j { reserved = j.reserved + 2 } → k ≡ record r { entries = e ∷ r.entries; reserved = r.reserved - 1; rows = k.rows } → k ≡ record j { entries = e ∷ j.entries; reserved = j.reserved + 1; rows = k.rows }

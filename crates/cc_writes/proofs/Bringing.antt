@@ -11,10 +11,10 @@ use Rattle.cc_effects.proofs.Starts.{begins}
 use Rattle.cc_model.specs.Setup.{Setup}
 use Rattle.cc_step.specs.Step.{is_stepped}
 use Rattle.cc_turns.specs.Standing.{Standing}
-use Rattle.cc_visits.specs.Hands.{WentWith}
-use Rattle.cc_visits.specs.Ways.{WasWanted}
-use Rattle.cc_visits.specs.Visits.{IsOf, IsWaitedFor}
-use Rattle.cc_visits.proofs.Others.{under_way-on}
+use Rattle.cc_writes.specs.Hands.{WentWith}
+use Rattle.cc_writes.specs.Ways.{WasWanted}
+use Rattle.cc_writes.specs.Visits.{IsOf, IsWaitedFor}
+use Rattle.cc_writes.proofs.Others.{under_way-on}
 use Rattle.cc_writes.specs.Calls.{PageLeft}
 use Rattle.cc_writes.specs.Rounds.{IsWanted}
 use Rattle.cc_writes.proofs.Going.{wanted}

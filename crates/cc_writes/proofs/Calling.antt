@@ -18,9 +18,9 @@ use Rattle.cc_model.specs.Refusals.{refusal}
 use Rattle.cc_model.specs.Setup.{Setup}
 use Rattle.cc_step.specs.Step.{is_answered}
 use Rattle.cc_turns.specs.Standing.{Standing}
-use Rattle.cc_visits.specs.Hands.{WentWith}
-use Rattle.cc_visits.specs.Ways.{IsAtWork, HasFailed, IsHalted, IsReason, is_met}
-use Rattle.cc_visits.proofs.Refusals.{may_be_reserved, tells-free}
+use Rattle.cc_writes.specs.Hands.{WentWith}
+use Rattle.cc_writes.specs.Ways.{IsAtWork, HasFailed, IsHalted, IsReason, is_met}
+use Rattle.cc_writes.proofs.Refusals.{may_be_reserved, tells-free}
 use Rattle.cc_writes.specs.Calls.{MayFaultInWriting, PageLeft}
 use Rattle.cc_writes.specs.Writes.{WriteLeft, WriteShown}
 use Rattle.cc_writes.specs.declared.writes.PageWrite.{PageWrite}

@@ -8,11 +8,11 @@ use Rattle.cc_traits.specs.Disk.{Disk}
 use Rattle.cc_book.specs.Book.{BookState, BookStands}
 use Rattle.cc_laws.proofs.TurnSteps.{is_quiet-none}
 use Rattle.cc_model.specs.Turns.{Device, Book, is_quiet}
-use Rattle.cc_transfer.specs.Transfers.{CanTransfer, transferred}
+use Rattle.cc_turns.specs.Transfers.{CanTransfer, transferred}
 use Rattle.cc_turns.specs.Disk.{DiskStands}
 use Rattle.cc_turns.specs.Standing.{Standing, Held, DiskAtFirst, nothing}
 use Rattle.cc_turns.specs.Takes.{Takes, with_book, without_book}
-use Rattle.cc_visits.specs.Hands.{HasBook}
+use Rattle.cc_writes.specs.Hands.{HasBook}
 use Rattle.cc_writes.specs.Transfers.{GrowsBeside, IsCarried}
 
 -- the pass went on at once

@@ -6,8 +6,8 @@ use Rattle.cc_traits.specs.Disk.{Disk}
 use Rattle.cc_book.specs.Book.{BookState}
 use Rattle.cc_turns.specs.Disk.{DiskStands, opening_of}
 use Rattle.cc_turns.specs.Standing.{Standing, DiskAtFirst}
-use Rattle.cc_visits.specs.Hands.{HasBook, IsAtRest, SameDisk, WentWith}
-use Rattle.cc_visits.proofs.Disks.{disk_still}
+use Rattle.cc_writes.specs.Hands.{HasBook, IsAtRest, SameDisk, WentWith}
+use Rattle.cc_writes.proofs.VisitDisks.{disk_still}
 use Rattle.cc_writes.specs.Writes.{HasBoth}
 
 module _ {D : Type 0} (told : D → Option Disk) (faults : D → ℕ) (flight : ℕ) (w v : Standing) (s : ℕ) (b c : BookState) (disk : D)

@@ -16,12 +16,12 @@ use Rattle.cc_step.proofs.Placed.{so-far}
 use Rattle.cc_turns.specs.Standing.{Standing}
 use Rattle.cc_turns.specs.Journal.{JournalStands}
 use Rattle.cc_turns.specs.Takes.{Adds, without_journal}
-use Rattle.cc_visits.specs.Hands.{HasBook, WentWith}
-use Rattle.cc_visits.specs.Visits.{HasPlaced}
+use Rattle.cc_writes.specs.Hands.{HasBook, WentWith}
+use Rattle.cc_writes.specs.Visits.{HasPlaced}
 use Rattle.cc_writes.proofs.Visits.{Visiting, Visited, visited}
 use Rattle.cc_writes.proofs.Quiet.{holds_no_journal, holds_the_book, history-kept, stands-same, book-after}
 use Rattle.cc_writes.proofs.Placed.{good-ended, quiet-page}
-use Rattle.cc_transfer.proofs.Rooms.{reserved-ended}
+use Rattle.cc_turns.proofs.Rooms.{reserved-ended}
 
 -- What the pass gives after the end, and how it goes on.
 pub record Ending {Q : Type 0} (posted : Q → Bool) (w v : Standing) (page : Page) (how : End) (c : BookState) (k : JournalState Q) : Type 0 where

@@ -15,8 +15,8 @@ use Rattle.cc_model.specs.Touches.{is_dirty}
 use Rattle.cc_turns.specs.Disk.{DiskStands}
 use Rattle.cc_turns.specs.Standing.{Standing, DiskAtFirst}
 use Rattle.cc_turns.specs.Takes.{Grows}
-use Rattle.cc_visits.specs.Hands.{HasBook, WentWith}
-use Rattle.cc_visits.specs.Ways.{IsAtWork, HasFailed}
+use Rattle.cc_writes.specs.Hands.{HasBook, WentWith}
+use Rattle.cc_writes.specs.Ways.{IsAtWork, HasFailed}
 use Rattle.cc_writes.specs.Writes.{HasBoth, IsToWrite, WantedMemory, WriteLeft}
 use Rattle.cc_writes.specs.Logs.{HoldsBoth, FlushLeft, IsWant}
 use Rattle.cc_writes.specs.Transfers.{PutLeft}

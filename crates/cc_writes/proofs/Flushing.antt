@@ -21,14 +21,14 @@ use Rattle.cc_model.specs.Logs.{flushed_to}
 use Rattle.cc_model.specs.Settings.{log_of}
 use Rattle.cc_model.specs.Stamps.{newest_of, is_unstamped}
 use Rattle.cc_model.specs.Turns.{Device}
-use Rattle.cc_transfer.proofs.Keeping.{DiskStands-kept, leaves_disk}
+use Rattle.cc_turns.proofs.Keeping.{DiskStands-kept, leaves_disk}
 use Rattle.cc_turns.specs.Disk.{DiskStands}
 use Rattle.cc_turns.specs.Standing.{Standing, DiskAtFirst}
 use Rattle.cc_turns.specs.Takes.{Grows}
 use Rattle.cc_turns.proofs.DiskGrows.{disk_grows}
-use Rattle.cc_visits.specs.Hands.{HasBook, WentWith}
-use Rattle.cc_visits.specs.Visits.{HasPlaced}
-use Rattle.cc_visits.specs.Ways.{IsAtWork, HasFailed}
+use Rattle.cc_writes.specs.Hands.{HasBook, WentWith}
+use Rattle.cc_writes.specs.Visits.{HasPlaced}
+use Rattle.cc_writes.specs.Ways.{IsAtWork, HasFailed}
 use Rattle.cc_writes.specs.Logs.{HoldsBoth, IsDue, HasFlushed, LogLeft, FlushLeft, ReachedBy, IsWant, newest_on}
 use Rattle.cc_writes.specs.declared.log.LogFlush.{LogFlush}
 use Rattle.cc_writes.specs.declared.log.LogFlush.TheVariants as flush

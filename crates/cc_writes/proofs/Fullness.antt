@@ -8,7 +8,7 @@ use Rattle.cc_entry.specs.declared.error.CcError.TheVariants as error
 use Rattle.cc_model.specs.Room.{reserved_in}
 use Rattle.cc_step.specs.Step.{most_asked}
 use Rattle.cc_turns.specs.Standing.{Standing}
-use Rattle.cc_visits.specs.Ways.{IsFull, IsFullError}
+use Rattle.cc_writes.specs.Ways.{IsFull, IsFullError}
 use Rattle.cc_writes.specs.Fetch.{most_room}
 use Rattle.cc_writes.specs.Rounds.{IsFullCourse, course_of}
 

@@ -10,9 +10,9 @@ use Rattle.cc_effects.specs.Moments.{IsIdle}
 use Rattle.cc_model.specs.Setup.{Setup}
 use Rattle.cc_step.specs.Step.{is_stepped}
 use Rattle.cc_step.proofs.Failing.{stepped-answered}
-use Rattle.cc_visits.specs.Ways.{WasWanted}
-use Rattle.cc_visits.specs.Visits.{IsOf, IsWaitedFor}
-use Rattle.cc_visits.proofs.Refusals.{may-tell}
+use Rattle.cc_writes.specs.Ways.{WasWanted}
+use Rattle.cc_writes.specs.Visits.{IsOf, IsWaitedFor}
+use Rattle.cc_writes.proofs.Refusals.{may-tell}
 use Rattle.cc_writes.specs.Calls.{MayFaultInWriting}
 use Rattle.cc_writes.proofs.Reached.{reached}
 

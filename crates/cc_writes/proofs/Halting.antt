@@ -21,8 +21,8 @@ use Rattle.cc_model.specs.History.{history}
 use Rattle.cc_model.specs.Refusals.{refusal}
 use Rattle.cc_model.specs.Setup.{Setup}
 use Rattle.cc_step.specs.Step.{is_answered}
-use Rattle.cc_visits.specs.Ways.{IsAtWork, HasFailed, IsHalted}
-use Rattle.cc_visits.proofs.Refusals.{may_be_reserved, may-stop, may-want}
+use Rattle.cc_writes.specs.Ways.{IsAtWork, HasFailed, IsHalted}
+use Rattle.cc_writes.proofs.Refusals.{may_be_reserved, may-stop, may-want}
 use Rattle.cc_writes.specs.Writes.{WantedMemory, WriteLeft}
 
 -- a call is work, and this work a call

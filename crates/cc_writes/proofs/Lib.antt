@@ -1,4 +1,23 @@
--- Lemmas of the writing of a page, and of the rounds of a call, each before those that cite it.
+-- Lemmas of the visits, of the writing of a page, and of the rounds of a call, each before those that cite it.
+pub mod Copying
+pub mod Telling
+pub mod Others
+pub mod Refusals
+pub mod Wanting
+pub mod VisitDisks
+pub mod Owing
+pub mod Visiting
+pub mod Resting
+pub mod Placing
+pub mod VisitEnding
+pub mod Replies
+pub mod Attempting
+pub mod Pages
+pub mod VisitStepping
+pub mod VisitHalting
+pub mod Landing
+pub mod Failing
+pub mod Releasing
 pub mod Visits
 pub mod Quiet
 pub mod Placed

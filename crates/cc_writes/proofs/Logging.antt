@@ -25,15 +25,15 @@ use Rattle.cc_turns.specs.Standing.{Standing, Held, LogAtFirst, holds}
 use Rattle.cc_turns.specs.Takes.{Grows, may_be_of, with_journal, with_log, Takes}
 use Rattle.cc_turns.proofs.LogGrows.{log_grows}
 use Rattle.cc_turns.proofs.Taking.{transfer_kept}
-use Rattle.cc_visits.specs.Hands.{WentWith, IsAtRest}
-use Rattle.cc_visits.specs.Visits.{HasPlaced}
+use Rattle.cc_writes.specs.Hands.{WentWith, IsAtRest}
+use Rattle.cc_writes.specs.Visits.{HasPlaced}
 use Rattle.cc_writes.specs.Logs.{MayLog, HasLogged, LogLeft, ReservedLeft}
 use Rattle.cc_writes.specs.declared.log.LogFlush.{LogFlush}
 use Rattle.cc_writes.specs.declared.log.LogFlush.TheVariants as flush
 use Rattle.cc_writes.proofs.Visits.{Visiting, Visited, visited, stepping-none, grows-then, placed-then}
 use Rattle.cc_writes.proofs.Quiet.{is_held, floor_of-held, flushed_to-grows, flushed_to-held, next_lsn-held}
 use Rattle.cc_writes.proofs.Placed.{good-appended, good-flushed, good-log_failed, quiet-log}
-use Rattle.cc_transfer.proofs.Rooms.{reserved-appended, reserved-flushed, reserved-log_failed}
+use Rattle.cc_turns.proofs.Rooms.{reserved-appended, reserved-flushed, reserved-log_failed}
 
 -- the entry of a log whose turn is held may stand
 pub may_log-good : (w : Standing) (e : Entry) (past : List Entry) → MayLog w e → Grows w past → IsGood w.setup past → IsGood w.setup (e ∷ past)

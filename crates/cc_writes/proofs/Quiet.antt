@@ -16,7 +16,7 @@ use Rattle.cc_model.specs.Stamps.{newest_of}
 use Rattle.cc_model.specs.Turns.{Device, Book, Log}
 use Rattle.cc_turns.specs.Standing.{Standing, Held, is_the, nothing}
 use Rattle.cc_turns.specs.Takes.{Grows}
-use Rattle.cc_visits.specs.Hands.{HasBook, IsAtRest, WentWith}
+use Rattle.cc_writes.specs.Hands.{HasBook, IsAtRest, WentWith}
 use Rattle.cc_writes.specs.Logs.{HoldsBoth}
 use Rattle.cc_writes.proofs.Visits.{went-held}
 

@@ -17,7 +17,7 @@ use Rattle.cc_model.specs.Ranges.{range_of}
 use Rattle.cc_model.specs.Residency.{is_resident}
 use Rattle.cc_model.specs.Touches.{size_of}
 use Rattle.cc_step.specs.Step.{is_stepped, least_absent}
-use Rattle.cc_visits.specs.Visits.{IsOf}
+use Rattle.cc_writes.specs.Visits.{IsOf}
 
 -- what is found among numbers that follow one another lies between the ends
 find-range : (test : ℕ → Bool) (from len p : ℕ) → find test (range_with_len from len) ≡ Some p → (from ≤ p) × (p < from + len)

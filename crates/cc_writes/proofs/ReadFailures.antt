@@ -6,12 +6,12 @@ use Rattle.cc_entry.specs.declared.entry.Entry.{Entry}
 use Rattle.cc_traits.specs.Disk.{Disk}
 use Rattle.cc_book.specs.Book.{BookState}
 use Rattle.cc_model.specs.Turns.{Device}
-use Rattle.cc_transfer.specs.Transfers.{fill_failed}
+use Rattle.cc_turns.specs.Transfers.{fill_failed}
 use Rattle.cc_turns.specs.Disk.{DiskStands}
 use Rattle.cc_turns.specs.Standing.{Standing}
-use Rattle.cc_visits.specs.Hands.{HasBook, IsAtRest, WentWith}
-use Rattle.cc_visits.proofs.Disks.{disk_still}
-use Rattle.cc_visits.proofs.Resting.{is-held}
+use Rattle.cc_writes.specs.Hands.{HasBook, IsAtRest, WentWith}
+use Rattle.cc_writes.proofs.VisitDisks.{disk_still}
+use Rattle.cc_writes.proofs.Resting.{is-held}
 use Rattle.cc_writes.specs.Writes.{HasBoth}
 use Rattle.cc_writes.proofs.Disks.{with_disk, both_still, book_of, rest_of}
 use Rattle.cc_writes.specs.Rounds.{MayTellFailure, WasTold}

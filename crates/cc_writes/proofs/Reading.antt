@@ -14,14 +14,14 @@ use Rattle.cc_model.specs.Allowed.{IsAllowed}
 use Rattle.cc_model.specs.Good.{IsGood, IsGoodSoFar}
 use Rattle.cc_model.specs.History.{history}
 use Rattle.cc_model.specs.Setup.{Setup}
-use Rattle.cc_transfer.specs.Transfers.{CanRead, fill_failed}
+use Rattle.cc_turns.specs.Transfers.{CanRead, fill_failed}
 use Rattle.cc_turns.specs.Disk.{DiskStands, opening_of}
 use Rattle.cc_turns.specs.Standing.{Standing, DiskAtFirst, Held, nothing}
 use Rattle.cc_turns.specs.Takes.{Takes, with_book, without_book}
 use Rattle.cc_turns.proofs.DiskGrows.{disk_grows}
 use Rattle.cc_turns.proofs.Taking.{disk_kept, transfer_kept}
-use Rattle.cc_visits.specs.Hands.{HasBook, IsAtRest}
-use Rattle.cc_visits.specs.Visits.{WasReadFor}
+use Rattle.cc_writes.specs.Hands.{HasBook, IsAtRest}
+use Rattle.cc_writes.specs.Visits.{WasReadFor}
 use Rattle.cc_writes.specs.Writes.{HasBoth}
 use Rattle.cc_writes.specs.Rounds.{MayTellFailure}
 

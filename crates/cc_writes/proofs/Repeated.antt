@@ -9,7 +9,7 @@ use Rattle.cc_effects.specs.Calls.{IsUnderWay}
 use Rattle.cc_effects.proofs.Starts.{begins}
 use Rattle.cc_model.specs.Setup.{Setup}
 use Rattle.cc_turns.specs.Standing.{Standing}
-use Rattle.cc_visits.specs.Hands.{Went}
+use Rattle.cc_writes.specs.Hands.{Went}
 use Rattle.cc_writes.specs.Writes.{HasBoth}
 use Rattle.cc_writes.specs.Rounds.{RoundLeft}
 use Rattle.cc_writes.specs.declared.course.Course.{Course}

@@ -11,10 +11,10 @@ use Rattle.cc_entry.specs.declared.error.CcError.{CcError}
 use Rattle.cc_entry.specs.declared.error.CcError.TheVariants as error
 use Rattle.cc_effects.specs.Moments.{Others}
 use Rattle.cc_effects.proofs.Stretches.{own-others, own-after}
-use Rattle.cc_transfer.specs.Transfers.{transferred}
+use Rattle.cc_turns.specs.Transfers.{transferred}
 use Rattle.cc_turns.specs.Standing.{Standing}
 use Rattle.cc_turns.specs.Takes.{Grows}
-use Rattle.cc_visits.specs.Hands.{WentWith}
+use Rattle.cc_writes.specs.Hands.{WentWith}
 use Rattle.cc_writes.specs.Writes.{IsBefore, HasTransferred, WriteShown}
 use Rattle.cc_writes.specs.Logs.{FlushLeft, ReachedBy, IsWant}
 use Rattle.cc_writes.specs.Transfers.{IsTransferred, PutLeft}

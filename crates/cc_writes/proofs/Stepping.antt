@@ -8,10 +8,10 @@ use Rattle.cc_effects.specs.Calls.{IsUnderWay}
 use Rattle.cc_effects.proofs.Starts.{begins}
 use Rattle.cc_model.specs.Setup.{Setup}
 use Rattle.cc_turns.specs.Standing.{Standing}
-use Rattle.cc_visits.specs.Hands.{WentWith}
-use Rattle.cc_visits.specs.Visits.{StepLeft, IsToBeWritten, IsWaitedFor}
-use Rattle.cc_visits.specs.declared.visits.Step.{Step}
-use Rattle.cc_visits.specs.declared.visits.Step.TheVariants as step
+use Rattle.cc_writes.specs.Hands.{WentWith}
+use Rattle.cc_writes.specs.Visits.{StepLeft, IsToBeWritten, IsWaitedFor}
+use Rattle.cc_writes.specs.declared.visits.Step.{Step}
+use Rattle.cc_writes.specs.declared.visits.Step.TheVariants as step
 use Rattle.cc_writes.specs.Calls.{PageLeft}
 use Rattle.cc_writes.specs.Rounds.{RoundLeft, course_of}
 

@@ -18,9 +18,9 @@ use Rattle.cc_turns.specs.Disk.{DiskStands, opening_of}
 use Rattle.cc_turns.specs.Standing.{Standing, Held, nothing}
 use Rattle.cc_turns.specs.Takes.{Takes, with_device, with_book, without_device, without_book}
 use Rattle.cc_turns.proofs.Taking.{disk_kept, transfer_kept}
-use Rattle.cc_visits.specs.Ways.{EndedSo}
-use Rattle.cc_visits.specs.declared.tell.Returned.{Returned}
-use Rattle.cc_visits.proofs.Others.{under_way-on}
+use Rattle.cc_writes.specs.Ways.{EndedSo}
+use Rattle.cc_writes.specs.declared.tell.Returned.{Returned}
+use Rattle.cc_writes.proofs.Others.{under_way-on}
 use Rattle.cc_writes.specs.Writes.{HasBoth}
 use Rattle.cc_writes.specs.Fetch.{CanCall}
 

@@ -14,8 +14,8 @@ use Rattle.cc_model.specs.Turns.{Turn, is_quiet}
 use Rattle.cc_turns.specs.Standing.{Standing, Held, holds}
 use Rattle.cc_turns.specs.Journal.{JournalStands}
 use Rattle.cc_turns.specs.Takes.{Grows, Takes, Adds, with_journal, without_journal, may_be_of}
-use Rattle.cc_visits.specs.Hands.{WentWith}
-use Rattle.cc_visits.specs.Visits.{HasPlaced}
+use Rattle.cc_writes.specs.Hands.{WentWith}
+use Rattle.cc_writes.specs.Visits.{HasPlaced}
 
 -- What a pass knows as it has taken the journal: its front is what it has seen now.
 pub record Visiting {Q : Type 0} (posted : Q → Bool) (w v : Standing) (j : JournalState Q) : Type 0 where

@@ -25,9 +25,9 @@ use Rattle.cc_model.specs.Images.{open_of}
 use Rattle.cc_model.specs.Passes.{is_same_page}
 use Rattle.cc_model.specs.Stamps.{is_unstamped}
 use Rattle.cc_model.specs.Turns.{Device, is_quiet}
-use Rattle.cc_transfer.specs.Transfers.{transferred}
+use Rattle.cc_turns.specs.Transfers.{transferred}
 use Rattle.cc_turns.proofs.DiskGrows.{open_of-quiet}
-use Rattle.cc_visits.specs.Ways.{IsAtWork, IsStoppedBy, HasFailed}
+use Rattle.cc_writes.specs.Ways.{IsAtWork, IsStoppedBy, HasFailed}
 use Rattle.cc_writes.specs.Writes.{WantedMemory}
 use Rattle.cc_writes.specs.Logs.{IsDue}
 

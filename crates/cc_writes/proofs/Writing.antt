@@ -22,13 +22,13 @@ use Rattle.cc_laws.proofs.TurnSteps.{is_quiet-append}
 use Rattle.cc_model.specs.History.{history}
 use Rattle.cc_model.specs.Images.{open_of}
 use Rattle.cc_model.specs.Turns.{Device, Book}
-use Rattle.cc_transfer.specs.Transfers.{transferred}
+use Rattle.cc_turns.specs.Transfers.{transferred}
 use Rattle.cc_turns.specs.Disk.{DiskStands, opening_of}
 use Rattle.cc_turns.specs.Standing.{Standing, DiskAtFirst}
 use Rattle.cc_turns.specs.Takes.{Grows}
 use Rattle.cc_turns.proofs.DiskGrows.{open_of-quiet}
-use Rattle.cc_visits.specs.Hands.{HasBook, WentWith}
-use Rattle.cc_visits.specs.Visits.{HasPlaced}
+use Rattle.cc_writes.specs.Hands.{HasBook, WentWith}
+use Rattle.cc_writes.specs.Visits.{HasPlaced}
 use Rattle.cc_writes.specs.Writes.{HasBoth}
 use Rattle.cc_writes.specs.Transfers.{HasBegun, GrowsBeside, IsCarried, IsUnderWay, IsFinished, FinishLeft, IsTransferred, PutLeft, answer_of}
 use Rattle.cc_writes.specs.declared.writes.PageWrite.{PageWrite}

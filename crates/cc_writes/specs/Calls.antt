@@ -11,7 +11,7 @@ use Rattle.cc_effects.specs.Calls.{CallLeft, IsUnderWay}
 use Rattle.cc_effects.specs.Refusals.{may_refuse}
 use Rattle.cc_model.specs.Setup.{Setup}
 use Rattle.cc_turns.specs.Standing.{Standing}
-use Rattle.cc_visits.specs.Ways.{IsAtWork}
+use Rattle.cc_writes.specs.Ways.{IsAtWork}
 
 -- A call may answer each fault of the writing of a page.
 pub record MayFaultInWriting (it : Call) : Type 0 where

@@ -1,4 +1,8 @@
 -- What the contracts cite.
+pub mod Hands
+pub mod Ways
+pub mod Visits
+pub mod Told
 pub mod Writes
 pub mod Logs
 pub mod Transfers

@@ -10,12 +10,12 @@ use Rattle.cc_traits.specs.Disk.{Disk}
 use Rattle.cc_effects.specs.Calls.{IsUnderWay}
 use Rattle.cc_model.specs.Setup.{Setup}
 use Rattle.cc_model.specs.Turns.{Device, is_quiet}
-use Rattle.cc_transfer.specs.Transfers.{fill_failed}
+use Rattle.cc_turns.specs.Transfers.{fill_failed}
 use Rattle.cc_turns.specs.Disk.{DiskStands}
 use Rattle.cc_turns.specs.Standing.{Standing}
-use Rattle.cc_visits.specs.Hands.{SameDisk}
-use Rattle.cc_visits.specs.Ways.{EndedSo, IsFull, WasWanted}
-use Rattle.cc_visits.specs.Visits.{HasPlaced}
+use Rattle.cc_writes.specs.Hands.{SameDisk}
+use Rattle.cc_writes.specs.Ways.{EndedSo, IsFull, WasWanted}
+use Rattle.cc_writes.specs.Visits.{HasPlaced}
 use Rattle.cc_writes.specs.declared.course.Course.{Course}
 use Rattle.cc_writes.specs.declared.course.Course.TheVariants as course
 

@@ -16,12 +16,12 @@ use Rattle.cc_effects.specs.Moments.{Others}
 use Rattle.cc_journal.specs.Journal.{JournalState}
 use Rattle.cc_model.specs.History.{history}
 use Rattle.cc_model.specs.Turns.{Device, Book, is_quiet}
-use Rattle.cc_transfer.specs.Transfers.{CanTransfer, transferred}
+use Rattle.cc_turns.specs.Transfers.{CanTransfer, transferred}
 use Rattle.cc_turns.specs.Disk.{DiskStands, opening_of}
 use Rattle.cc_turns.specs.Standing.{Standing, DiskAtFirst}
 use Rattle.cc_turns.specs.Takes.{Grows}
-use Rattle.cc_visits.specs.Hands.{HasBook}
-use Rattle.cc_visits.specs.Visits.{HasPlaced}
+use Rattle.cc_writes.specs.Hands.{HasBook}
+use Rattle.cc_writes.specs.Visits.{HasPlaced}
 use Rattle.cc_writes.specs.Logs.{IsWant, IsStopAt}
 use Rattle.cc_writes.specs.declared.writes.PageWrite.{PageWrite}
 use Rattle.cc_writes.specs.declared.writes.PageWrite.TheVariants as write

@@ -20,12 +20,12 @@ use Rattle.cc_model.specs.Settings.{log_of}
 use Rattle.cc_model.specs.Stamps.{is_unstamped}
 use Rattle.cc_model.specs.Touches.{is_dirty}
 use Rattle.cc_model.specs.Turns.{Device, Book, is_quiet}
-use Rattle.cc_transfer.specs.Transfers.{transferred}
+use Rattle.cc_turns.specs.Transfers.{transferred}
 use Rattle.cc_turns.specs.Disk.{DiskStands, opening_of}
 use Rattle.cc_turns.specs.Standing.{Standing}
 use Rattle.cc_turns.specs.Takes.{Grows}
-use Rattle.cc_visits.specs.Hands.{HasBook, IsAtRest}
-use Rattle.cc_visits.specs.Ways.{IsAtWork, IsStoppedBy, HasFailed}
+use Rattle.cc_writes.specs.Hands.{HasBook, IsAtRest}
+use Rattle.cc_writes.specs.Ways.{IsAtWork, IsStoppedBy, HasFailed}
 use Rattle.cc_writes.specs.declared.writes.PageWrite.{PageWrite}
 use Rattle.cc_writes.specs.declared.writes.PageWrite.TheVariants as write
 

@@ -9,17 +9,17 @@ ghost use Rattle.cc_effects.specs.Refusals.{may_refuse};
 ghost use Rattle.cc_model.specs.History.{history};
 ghost use Rattle.cc_model.specs.Refusals.{refusal};
 ghost use Rattle.cc_step.specs.Step.{is_answered};
-ghost use Rattle.cc_visits.specs.Hands.{HasBook, IsAtRest, SameDisk, Went};
-ghost use Rattle.cc_visits.specs.Ways.{IsFull, IsHalted, IsReason};
-ghost use Rattle.cc_visits.specs.Visits.{IsOf};
+ghost use Rattle.cc_writes.specs.Hands.{HasBook, IsAtRest, SameDisk, Went};
+ghost use Rattle.cc_writes.specs.Ways.{IsFull, IsHalted, IsReason};
+ghost use Rattle.cc_writes.specs.Visits.{IsOf};
 ghost use Rattle.cc_writes.specs.Calls.{KeepsWork, MayFaultInWriting, PageLeft};
 ghost use Rattle.cc_writes.specs.Writes.{HasBoth, HasTransferred, IsToWrite};
 
+use crate::fail_at;
 use crate::writes::{PageWrite, write_page};
 use cc_book::Book;
 use cc_entry::{Call, CcError};
 use cc_turns::Turns;
-use cc_visits::fail_at;
 use std::alloc::Global;
 
 /// Writes a dirty page for a call, which may write it. The call goes on, or fails.

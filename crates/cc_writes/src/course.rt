@@ -1,7 +1,7 @@
 //! The course of a call: it goes on, or it has ended.
 
+use crate::Returned;
 use cc_entry::{Call, CcError};
-use cc_visits::Returned;
 
 /// How a call stands after a round.
 #[derive(Drop)]

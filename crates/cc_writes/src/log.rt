@@ -10,9 +10,9 @@ ghost use Rattle.cc_model.specs.Settings.{log_of};
 ghost use Rattle.cc_model.specs.Stamps.{is_unstamped};
 ghost use Rattle.cc_turns.specs.Log.{LogStands};
 ghost use Rattle.cc_turns.specs.Takes.{Grows};
-ghost use Rattle.cc_visits.specs.Hands.{HasBook, IsAtRest, Went, WentWith};
-ghost use Rattle.cc_visits.specs.Visits.{HasPlaced};
-ghost use Rattle.cc_visits.specs.Ways.{IsFull};
+ghost use Rattle.cc_writes.specs.Hands.{HasBook, IsAtRest, Went, WentWith};
+ghost use Rattle.cc_writes.specs.Visits.{HasPlaced};
+ghost use Rattle.cc_writes.specs.Ways.{IsFull};
 ghost use Rattle.cc_writes.specs.Logs.{FlushLeft, LogLeft, NewestLeft, ReservedLeft, MayLog, HoldsBoth, newest_later};
 
 use cc_book::Book;

@@ -8,20 +8,19 @@ ghost use Rattle.cc_effects.specs.Asked.{brings_in};
 ghost use Rattle.cc_effects.specs.Calls.{IsUnderWay};
 ghost use Rattle.cc_effects.specs.Moments.{IsIdle};
 ghost use Rattle.cc_step.specs.Step.{is_stepped};
-ghost use Rattle.cc_visits.specs.Hands.{HasBook, IsAtRest, SameDisk, Went, WentWith};
-ghost use Rattle.cc_visits.specs.Ways.{IsFull, WasWanted};
-ghost use Rattle.cc_visits.specs.Visits.{IsOf, IsWaitedFor, WasReadFor};
+ghost use Rattle.cc_writes.specs.Hands.{HasBook, IsAtRest, SameDisk, Went, WentWith};
+ghost use Rattle.cc_writes.specs.Ways.{IsFull, WasWanted};
+ghost use Rattle.cc_writes.specs.Visits.{IsOf, IsWaitedFor, WasReadFor};
 ghost use Rattle.cc_writes.specs.Calls.{PageLeft};
 ghost use Rattle.cc_writes.specs.Writes.{HasBoth};
 ghost use Rattle.cc_writes.specs.Rounds.{MayTellFailure, WasTold, IsWanted};
 
 use crate::calls::{fail, given_up};
+use crate::{land_at, release_at, unread_at};
 use cc_book::Book;
 use cc_entry::{Call, CcError, NoMemory};
 use cc_traits::Stop;
-use cc_transfer::read;
-use cc_turns::Turns;
-use cc_visits::{land_at, release_at, unread_at};
+use cc_turns::{Turns, read};
 use std::alloc::Global;
 
 /// Brings a page in that a call waits for, and for whose entry a place is reserved: read from the disk, where it has a

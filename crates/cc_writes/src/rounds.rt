@@ -6,9 +6,9 @@ ghost use Rattle.cc_effects.specs.Asked.{brings_in};
 ghost use Rattle.cc_effects.specs.Calls.{IsUnderWay};
 ghost use Rattle.cc_model.specs.Good.{IsGood};
 ghost use Rattle.cc_step.specs.Step.{is_stepped};
-ghost use Rattle.cc_visits.specs.Hands.{Went};
-ghost use Rattle.cc_visits.specs.Ways.{EndedSo, FitsIn, IsFull};
-ghost use Rattle.cc_visits.specs.Visits.{IsOf};
+ghost use Rattle.cc_writes.specs.Hands.{Went};
+ghost use Rattle.cc_writes.specs.Ways.{EndedSo, FitsIn, IsFull};
+ghost use Rattle.cc_writes.specs.Visits.{IsOf};
 ghost use Rattle.cc_writes.specs.Writes.{HasBoth};
 ghost use Rattle.cc_writes.specs.Fetch.{CanCall, WentOn, most_room};
 ghost use Rattle.cc_writes.specs.Rounds.{RoundLeft, IsFullCourse, course_of};
@@ -17,10 +17,10 @@ use crate::calls::write_for;
 use crate::course::Course;
 use crate::keeping::Rounds;
 use crate::pages::bring;
+use crate::{Returned, Step, next_at};
 use cc_book::Book;
 use cc_entry::{Call, CcError, StreamId};
 use cc_turns::Turns;
-use cc_visits::{Returned, Step, next_at};
 use std::alloc::Global;
 
 // More rounds than a call takes. It has at most 257 pages, each of which is read at most twice, and before each read a

@@ -7,17 +7,16 @@ ghost use Rattle.cc_model.specs.Covered.{IsLogged};
 ghost use Rattle.cc_model.specs.History.{history};
 ghost use Rattle.cc_model.specs.Images.{open_of};
 ghost use Rattle.cc_model.specs.Touches.{is_dirty};
-ghost use Rattle.cc_visits.specs.Hands.{HasBook, IsAtRest, Went};
-ghost use Rattle.cc_visits.specs.Visits.{HasPlaced};
-ghost use Rattle.cc_visits.specs.Ways.{IsFull};
+ghost use Rattle.cc_writes.specs.Hands.{HasBook, IsAtRest, Went};
+ghost use Rattle.cc_writes.specs.Visits.{HasPlaced};
+ghost use Rattle.cc_writes.specs.Ways.{IsFull};
 ghost use Rattle.cc_writes.specs.Transfers.{BeginLeft, BegunLeft, GrowsBeside, IsCarried};
 
 use cc_book::Book;
 use cc_entry::{CcError, End, NoMemory, PageId};
 use cc_journal::Journal;
 use cc_pages::Frame;
-use cc_transfer::transfer;
-use cc_turns::Turns;
+use cc_turns::{Turns, transfer};
 
 /// The transfer of a dirty page begins whose log is flushed, with a snapshot of the page. A place stays reserved for
 /// its end.

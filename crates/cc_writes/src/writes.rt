@@ -6,8 +6,8 @@ ghost use Rattle.cc_effects.specs.Asked.{Work, may_write};
 ghost use Rattle.cc_model.specs.Covered.{IsLogged};
 ghost use Rattle.cc_model.specs.History.{history};
 ghost use Rattle.cc_model.specs.Touches.{is_dirty};
-ghost use Rattle.cc_visits.specs.Hands.{Went};
-ghost use Rattle.cc_visits.specs.Ways.{IsAtWork, IsFull};
+ghost use Rattle.cc_writes.specs.Hands.{Went};
+ghost use Rattle.cc_writes.specs.Ways.{IsAtWork, IsFull};
 ghost use Rattle.cc_writes.specs.Writes.{HasBoth, IsToWrite, WriteLeft, WriteShown};
 ghost use Rattle.cc_writes.specs.Transfers.{IsUnderWay, IsFinished, PutLeft, FinishLeft, answer_of};
 

@@ -9,7 +9,7 @@ use Rattle.cc_model.specs.Good.{IsGood}
 use Rattle.cc_model.specs.Setup.{Setup}
 use Rattle.cc_turns.specs.Standing.{Standing}
 use Rattle.cc_turns.specs.Takes.{without_device}
-use Rattle.cc_visits.specs.Ways.{IsFull}
+use Rattle.cc_writes.specs.Ways.{IsFull}
 use Rattle.cc_writes.specs.Fetch.{CanCall}
 use Rattle.cc_writes.proofs.TakingBoth.{both_begun, left_since}
 use Rattle.cc_calls.specs.Answers.{outcome_of}

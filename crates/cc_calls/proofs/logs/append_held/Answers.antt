@@ -4,7 +4,7 @@ use Rattle.cc_entry.specs.declared.entry.Entry.TheVariants as entry
 use Rattle.cc_entry.specs.declared.error.CcError.{CcError}
 use Rattle.std.proofs.lemmas.Bool.{eq-eqb}
 use Rattle.std.specs.Prelude.{refl}
-use Rattle.cc_visits.specs.Visits.{HasPlaced}
+use Rattle.cc_writes.specs.Visits.{HasPlaced}
 use Rattle.cc_writes.proofs.Logging.{held-done, held-failed, held-floor, held-refused}
 use Rattle.cc_calls.proofs.LogCalls.{failures-appended, left-failed, left-refused, only-placed}
 use Rattle.cc_calls.proofs.logs.append_held.Goals as goal

@@ -3,7 +3,7 @@ use Rattle.std.specs.Prelude.{refl}
 use Rattle.std.proofs.Common.{arith}
 use Rattle.cc_entry.specs.declared.call.Call.TheVariants as call
 use Rattle.cc_entry.specs.declared.reply.Reply.TheVariants as reply
-use Rattle.cc_visits.proofs.Visiting.{few-left}
+use Rattle.cc_writes.proofs.Visiting.{few-left}
 use Rattle.cc_calls.specs.Answers.{rows_outcome}
 use Rattle.cc_calls.proofs.Streamless.{gives-streamless, journal-owes, whole-streamless}
 use Rattle.cc_calls.proofs.queries.dirty_pages.Goals as goal

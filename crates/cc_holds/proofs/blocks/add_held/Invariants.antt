@@ -1,6 +1,6 @@
 use Rattle.std.proofs.Common.{◌≡◌, take}
-use Rattle.cc_bcb.specs.Holds.{held_blocks}
-use Rattle.cc_bcb.specs.Touched.{with_pages}
+use Rattle.cc_holds.specs.Holds.{held_blocks}
+use Rattle.cc_holds.specs.Touched.{with_pages}
 use Rattle.cc_holds.proofs.blocks.add_held.Given as goal
 
 abbrev pub invariant-loop-hold : goal.invariant-loop-hold

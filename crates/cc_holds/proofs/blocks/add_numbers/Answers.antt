@@ -1,5 +1,5 @@
 use Rattle.std.proofs.Common.{rules, arith}
-use Rattle.cc_bcb.proofs.Pages.{with_pages-more}
+use Rattle.cc_holds.proofs.Pages.{with_pages-more}
 use Rattle.cc_holds.proofs.blocks.add_numbers.Goals as goal
 use Rattle.cc_holds.proofs.blocks.add_numbers.Goals.{then-not-contains+in_ok-push, else-not-contains}
 

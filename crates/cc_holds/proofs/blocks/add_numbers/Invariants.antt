@@ -1,6 +1,6 @@
 use Rattle.std.proofs.Common.{◌≡◌, ◌-◌}
 use Rattle.std.specs.List.{range_with_len}
-use Rattle.cc_bcb.specs.Touched.{with_pages}
+use Rattle.cc_holds.specs.Touched.{with_pages}
 use Rattle.cc_holds.proofs.blocks.add_numbers.Given as goal
 
 abbrev pub invariant-loop-number : goal.invariant-loop-number

@@ -1,7 +1,7 @@
 use Rattle.std.proofs.Common.{◌≡◌, ◌∙◌, sym, rules}
-use Rattle.cc_bcb.specs.Holds.{range_of}
-use Rattle.cc_bcb.specs.Overlap.{ends_share_page}
-use Rattle.cc_bcb.proofs.Overlap.{share_page-ends}
+use Rattle.cc_holds.specs.Holds.{range_of}
+use Rattle.cc_holds.specs.Overlap.{ends_share_page}
+use Rattle.cc_holds.proofs.Overlap.{share_page-ends}
 use Rattle.cc_holds.proofs.look.shares_page.Goals as goal
 
 pub returns : goal.returns

@@ -5,7 +5,7 @@ use Rattle.cc_entry.specs.declared.call.Call.{Call}
 use Rattle.cc_entry.specs.declared.error.CcError.{CcError}
 use Rattle.cc_entry.specs.declared.error.CcError.TheVariants as error
 use Rattle.cc_model.specs.Faults.{WriteFailed, LogFailed}
-use Rattle.cc_visits.specs.Ways.{IsReason}
+use Rattle.cc_writes.specs.Ways.{IsReason}
 use Rattle.cc_writes.specs.declared.writes.PageWrite.TheVariants as write
 use Rattle.cc_writes.specs.Calls.{PageLeft}
 use Rattle.cc_writes.proofs.Disks.{still_of}

@@ -3,7 +3,7 @@ use Rattle.std.proofs.Common.{ℕ, refl, ap, ◌∙◌, subst, arith, inl, inr, 
 use Rattle.std.specs.Prelude.{Err}
 use Rattle.cc_entry.specs.declared.entry.Entry.TheVariants as entry
 use Rattle.cc_entry.specs.declared.error.CcError.{CcError}
-use Rattle.cc_visits.specs.Visits.{HasPlaced}
+use Rattle.cc_writes.specs.Visits.{HasPlaced}
 use Rattle.cc_writes.proofs.Logging.{failures-flushed, held-kept, held-reached, held-due, held-done, held-failed, held-refused}
 use Rattle.cc_writes.proofs.log.flush_held.Goals as goal
 

@@ -4,7 +4,7 @@ use Rattle.cc_model.specs.History.{history}
 use Rattle.cc_model.specs.Settings.{log_of}
 use Rattle.cc_writes.proofs.Visits.{grows-none}
 use Rattle.cc_writes.proofs.Quiet.{holds_both}
-use Rattle.cc_transfer.proofs.Handles.{handle-below}
+use Rattle.cc_turns.proofs.Handles.{handle-below}
 use Rattle.cc_writes.proofs.Flushing.{flush-book, logged-logless}
 use Rattle.cc_writes.proofs.log.flush_log.Goals as goal
 

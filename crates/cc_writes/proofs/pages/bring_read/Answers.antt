@@ -3,7 +3,7 @@ use Rattle.std.specs.Prelude.{ℕ, List}
 use Rattle.std.proofs.Common.{subst, sym}
 use Rattle.cc_entry.specs.declared.entry.Entry.{Entry}
 use Rattle.cc_effects.specs.Calls.{IsUnderWay}
-use Rattle.cc_visits.specs.Ways.{WasWanted}
+use Rattle.cc_writes.specs.Ways.{WasWanted}
 use Rattle.cc_writes.specs.Calls.{PageLeft}
 use Rattle.cc_writes.proofs.Disks.{still_of}
 use Rattle.cc_writes.specs.Rounds.{IsWanted}

@@ -3,7 +3,7 @@ use Rattle.std.specs.Prelude.{Result}
 use Rattle.cc_entry.specs.declared.call.Call.{Call}
 use Rattle.cc_entry.specs.declared.error.CcError.{CcError}
 use Rattle.cc_step.proofs.Failing.{stepped-answered}
-use Rattle.cc_visits.proofs.Refusals.{brings-free}
+use Rattle.cc_writes.proofs.Refusals.{brings-free}
 use Rattle.cc_writes.specs.Calls.{PageLeft}
 use Rattle.cc_writes.proofs.Halting.{no-memory}
 use Rattle.cc_writes.proofs.pages.land.Goals as goal

@@ -5,9 +5,9 @@ use Rattle.cc_entry.specs.declared.error.CcError.TheVariants as error
 use Rattle.cc_model.specs.Setup.{Setup}
 use Rattle.cc_step.proofs.Failing.{stepped-answered}
 use Rattle.cc_turns.specs.Standing.{Standing}
-use Rattle.cc_visits.specs.Visits.{UnreadLeft}
-use Rattle.cc_visits.specs.Ways.{IsHalted}
-use Rattle.cc_visits.proofs.Refusals.{may-tell}
+use Rattle.cc_writes.specs.Visits.{UnreadLeft}
+use Rattle.cc_writes.specs.Ways.{IsHalted}
+use Rattle.cc_writes.proofs.Refusals.{may-tell}
 use Rattle.cc_writes.proofs.pages.unread.Goals as goal
 
 pub fail-requires-clause-listed : goal.fail-requires-clause-listed

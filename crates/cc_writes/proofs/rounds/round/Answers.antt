@@ -5,7 +5,7 @@ use Rattle.cc_entry.specs.declared.call.Call.{Call}
 use Rattle.cc_effects.specs.Asked.{brings_in}
 use Rattle.cc_step.specs.Step.{is_answered, is_stepped}
 use Rattle.cc_step.proofs.Failing.{stepped-answered}
-use Rattle.cc_visits.specs.Visits.{IsOf}
+use Rattle.cc_writes.specs.Visits.{IsOf}
 use Rattle.cc_writes.specs.Calls.{MayFaultInWriting}
 use Rattle.cc_writes.specs.Writes.{HasBoth}
 use Rattle.cc_writes.proofs.Disks.{still_of}

@@ -2,10 +2,10 @@
 use Rattle.std.specs.Prelude.{ℕ}
 use Rattle.std.proofs.Common.{subst}
 use Rattle.cc_step.proofs.Failing.{stepped-answered}
-use Rattle.cc_visits.proofs.Refusals.{brings-free}
+use Rattle.cc_writes.proofs.Refusals.{brings-free}
 use Rattle.cc_writes.specs.Writes.{HasBoth}
 use Rattle.cc_entry.specs.declared.call.Call.{Call}
-use Rattle.cc_visits.specs.Ways.{IsFull}
+use Rattle.cc_writes.specs.Ways.{IsFull}
 use Rattle.cc_writes.specs.Fetch.{most_room}
 use Rattle.cc_writes.specs.Rounds.{IsFullCourse}
 use Rattle.cc_writes.specs.declared.course.Course.{Course}

@@ -1,9 +1,9 @@
 -- One visit: a dirty page whose log is flushed may begin, and what is owed for its end stays reserved.
 use Rattle.std.proofs.Common.{◌≡◌, ◌<◌, ℕ, ap, sym, ◌∙◌, subst, arith}
 use Rattle.cc_turns.specs.Standing.{Standing}
-use Rattle.cc_visits.specs.Hands.{HasBook, WentWith}
+use Rattle.cc_writes.specs.Hands.{HasBook, WentWith}
 use Rattle.cc_writes.specs.Transfers.{BeginLeft}
-use Rattle.cc_visits.proofs.Visiting.{few-left}
+use Rattle.cc_writes.proofs.Visiting.{few-left}
 use Rattle.cc_writes.proofs.Visits.{visiting}
 use Rattle.cc_writes.proofs.Beginning.{may_be_begun, beginning}
 use Rattle.cc_writes.proofs.transfers.begin_at.Goals as goal

@@ -1,8 +1,8 @@
 -- One visit: the transfer that the pass began may end on its own place, and the book stands with the end.
 use Rattle.std.proofs.Common.{◌≡◌, ◌<◌, ℕ, ap, sym, ◌∙◌, subst, arith}
 use Rattle.cc_turns.specs.Standing.{Standing}
-use Rattle.cc_visits.specs.Hands.{HasBook, WentWith}
-use Rattle.cc_visits.proofs.Visiting.{few-left}
+use Rattle.cc_writes.specs.Hands.{HasBook, WentWith}
+use Rattle.cc_writes.proofs.Visiting.{few-left}
 use Rattle.cc_writes.proofs.Visits.{visiting}
 use Rattle.cc_writes.proofs.Ending.{end-reserved, may_be_ended, ending}
 use Rattle.cc_writes.proofs.transfers.end_at.Goals as goal

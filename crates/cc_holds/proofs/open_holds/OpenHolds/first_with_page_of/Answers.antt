@@ -3,7 +3,7 @@ use Rattle.std.proofs.Common.{Option}
 use Rattle.cc_entry.specs.Place.{Range}
 use Rattle.cc_model.specs.Holds.{holds_of, least_id}
 use Rattle.cc_model.specs.Conflicts.{has_page_of}
-use Rattle.cc_bcb.specs.Holds.{first_id}
+use Rattle.cc_holds.specs.Holds.{first_id}
 use Rattle.cc_holds.specs.Looks.{has_bytes}
 use Rattle.std.proofs.Common.{◌∙◌, ap, sym, subst}
 use Rattle.cc_holds.specs.Stands.{HoldsStand}

@@ -1,7 +1,7 @@
 use Rattle.std.proofs.Common.{◌∙◌, ap, sym, subst}
 use Rattle.cc_holds.specs.Stands.{HoldsStand}
 use Rattle.std.specs.Prelude.{is_some}
-use Rattle.cc_bcb.specs.Holds.{is_unstamped}
+use Rattle.cc_holds.specs.Holds.{is_unstamped}
 use Rattle.cc_holds.proofs.KeptReads.{any-kept, owes-kept, found-any}
 use Rattle.cc_holds.proofs.open_holds.OpenHolds.is_unstamped.Goals as goal
 

@@ -3,7 +3,7 @@ use Rattle.std.proofs.Common.{◌∙◌, ap, sym, subst, length, arith, List, �
 use Rattle.cc_entry.specs.Place.{Range}
 use Rattle.cc_entry.specs.Pages.{blocks_of}
 use Rattle.cc_model.specs.Numbers.{is_among}
-use Rattle.cc_bcb.specs.Touched.{with_pages}
+use Rattle.cc_holds.specs.Touched.{with_pages}
 use Rattle.cc_holds.specs.Stands.{HoldsStand}
 use Rattle.cc_holds.proofs.KeptBlocks.{added-are, among-needed, needed-kept, range-of}
 use Rattle.cc_holds.proofs.open_holds.OpenHolds.kept_blocks.Goals as goal

@@ -1,5 +1,5 @@
 use Rattle.std.proofs.Common.{◌∙◌, ap, sym, subst}
-use Rattle.cc_bcb.specs.Holds.{conflicts, first_id}
+use Rattle.cc_holds.specs.Holds.{conflicts, first_id}
 use Rattle.cc_holds.specs.Stands.{HoldsStand}
 use Rattle.cc_holds.proofs.KeptReads.{least-kept, bars-kept}
 use Rattle.cc_holds.proofs.open_holds.OpenHolds.pin_in_bytes.Goals as goal

@@ -8,7 +8,7 @@ use Rattle.cc_book.specs.Book.{BookStands}
 use Rattle.cc_journal.specs.Journal.{JournalState}
 use Rattle.cc_model.specs.History.{history}
 use Rattle.cc_model.specs.Images.{open_of}
-use Rattle.cc_transfer.proofs.Rooms.{reserved-begun}
+use Rattle.cc_turns.proofs.Rooms.{reserved-begun}
 use Rattle.cc_turns.specs.Disk.{opening_of}
 use Rattle.cc_world.proofs.Standing.{is-idle, is-resting, may-place, went-by, went-none, gained-so}
 use Rattle.cc_world.proofs.Transferring.{begun-carries}

@@ -1,7 +1,0 @@
-use Rattle.std.proofs.Common.{rules}
-use Rattle.cc_bcb.specs.Holds.{overlaps}
-use Rattle.cc_bcb.proofs.Order.{IsLeast-first}
-use Rattle.cc_bcb.proofs.holds.Holds.overlapping.Goals as goal
-
-pub returns-clause-least : goal.returns-clause-least
-returns-clause-least c = IsLeast-first (overlaps c.args.span) c.args.self.now c.first_overlapping.result (search rules) (search (rules, c.self.invariant))

@@ -1,7 +1,0 @@
-use Rattle.std.proofs.Common.{rules}
-use Rattle.cc_bcb.specs.Holds.{conflicts}
-use Rattle.cc_bcb.proofs.Order.{IsLeast-first}
-use Rattle.cc_bcb.proofs.holds.Holds.pin_conflict.Goals as goal
-
-pub returns-clause-least : goal.returns-clause-least
-returns-clause-least c = IsLeast-first (conflicts c.args.span c.args.exclusive) c.args.self.now c.first_conflict.result (search rules) (search (rules, c.self.invariant))

@@ -1,7 +1,0 @@
-use Rattle.std.proofs.Common.{rules}
-use Rattle.cc_bcb.specs.Holds.{is_unstamped}
-use Rattle.cc_bcb.proofs.Order.{IsLeast-first}
-use Rattle.cc_bcb.proofs.holds.Holds.unstamped.Goals as goal
-
-pub returns-clause-least : goal.returns-clause-least
-returns-clause-least c = IsLeast-first (is_unstamped c.args.page) c.args.self.now c.first_unstamped.result (search rules) (search (rules, c.self.invariant))

@@ -1,4 +1,0 @@
--- What the contracts cite.
-pub mod Overlap
-pub mod Touched
-pub mod Holds

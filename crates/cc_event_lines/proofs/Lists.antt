@@ -1,0 +1,143 @@
+-- Lists as loops leave them: gone over from the front, and taken from the end.
+use Rattle.std.specs.Prelude.{◌≡◌, ℕ, zero, suc, ◌+◌, ◌<◌, ◌≤◌, Bool, true, false, List, [], ◌∷◌, ◌++◌, get_or, length, map, position, reverse, slice_set, refl, ◌⊎◌}
+use Rattle.std.specs.declared.option.Option.{Option}
+use Rattle.std.specs.declared.option.Option.TheVariants.{Some, None}
+use Rattle.std.specs.List.{position_from}
+use Rattle.std.proofs.Common.{ap, append_assoc, arith, inl, inr, sym, ◌∙◌, ⊎_elim}
+use Rattle.std.proofs.lemmas.Iterator.Adapters.{position_from-zero}
+use Rattle.std.proofs.lemmas.List.{reverse-append}
+use Rattle.cc_event_lines.specs.Routines.{RoutinesState, all_back, and_here, come_back, here, waits_for}
+use Rattle.cc_event_lines.specs.declared.routines.Slot.{Slot}
+
+-- a list of which a function went over so many
+abbrev pub gone : {A : Type 0} → (A → A) → ℕ → List A → List A
+gone f zero xs = xs
+gone f (suc n) [] = []
+gone f (suc n) (x ∷ xs) = f x ∷ gone f n xs
+
+pub gone-none : {A : Type 0} (f : A → A) (xs : List A) → gone f 0 xs ≡ xs
+gone-none f xs = refl
+
+pub gone-read : {A : Type 0} (f : A → A) (n : ℕ) (xs : List A) (d : A) → get_or (gone f n xs) n d ≡ get_or xs n d
+gone-read f zero xs d = refl
+gone-read f (suc n) [] d = refl
+gone-read f (suc n) (x ∷ xs) d = gone-read f n xs d
+
+pub gone-more : {A : Type 0} (f : A → A) (n : ℕ) (xs : List A) (d : A) → n < length xs → slice_set (gone f n xs) n (f (get_or xs n d)) ≡ gone f (suc n) xs
+gone-more f zero [] d within = absurd (omega arith)
+gone-more f zero (x ∷ xs) d within = refl
+gone-more f (suc n) [] d within = absurd (omega arith)
+gone-more f (suc n) (x ∷ xs) d within = ap (λ ys. f x ∷ ys) (gone-more f n xs d (omega arith))
+
+pub gone-same : {A : Type 0} (f : A → A) (n : ℕ) (xs : List A) (d : A) → n < length xs → f (get_or xs n d) ≡ get_or xs n d → gone f n xs ≡ gone f (suc n) xs
+gone-same f zero [] d within same = absurd (omega arith)
+gone-same f zero (x ∷ xs) d within same = ap (λ y. y ∷ xs) (sym same)
+gone-same f (suc n) [] d within same = absurd (omega arith)
+gone-same f (suc n) (x ∷ xs) d within same = ap (λ ys. f x ∷ ys) (gone-same f n xs d (omega arith) same)
+
+pub gone-all : {A : Type 0} (f : A → A) (n : ℕ) (xs : List A) → length xs ≤ n → gone f n xs ≡ map f xs
+gone-all f zero [] within = refl
+gone-all f zero (x ∷ xs) within = absurd (omega arith)
+gone-all f (suc n) [] within = refl
+gone-all f (suc n) (x ∷ xs) within = ap (λ ys. f x ∷ ys) (gone-all f n xs (omega arith))
+
+pub gone-step : {A : Type 0} (f : A → A) (n : ℕ) (xs items : List A) (x d : A) → items ≡ gone f n xs → n < length xs → x ≡ f (get_or items n d) → slice_set items n x ≡ gone f (n + 1) xs
+gone-step f n xs items x d is within new =
+    ap (λ ys. slice_set ys n x) is
+    ∙ (ap (λ y. slice_set (gone f n xs) n y) (new ∙ ap f (ap (λ ys. get_or ys n d) is ∙ gone-read f n xs d))
+    ∙ (gone-more f n xs d within ∙ ap (λ (m : ℕ). gone f m xs) (one-on n)))
+  where
+    one-on : (n : ℕ) → suc n ≡ n + 1
+    one-on n = omega arith
+
+map-one : {A B : Type 0} (f : A → B) (xs : List A) (y : A) → map f (xs ++ y ∷ []) ≡ map f xs ++ f y ∷ []
+map-one f [] y = refl
+map-one f (x ∷ xs) y = ap (λ ys. f x ∷ ys) (map-one f xs y)
+
+pub reverse-map : {A B : Type 0} (f : A → B) (xs : List A) → reverse (map f xs) ≡ map f (reverse xs)
+reverse-map f [] = refl
+reverse-map f (x ∷ xs) =
+    reverse-append (f x ∷ []) (map f xs) ∙ (ap (λ ys. ys ++ f x ∷ []) (reverse-map f xs) ∙ (sym (map-one f (reverse xs) x) ∙ ap (map f) (sym (reverse-append (x ∷ []) xs))))
+
+pub reverse-one : {A : Type 0} (xs : List A) (x : A) → reverse (xs ++ x ∷ []) ≡ x ∷ reverse xs
+reverse-one xs x = reverse-append xs (x ∷ [])
+
+-- the routines that are here, with one place more
+pub here-one : {Q : Type 0} (slots : List (Slot Q)) (slot : Slot Q) → here (slots ++ slot ∷ []) ≡ here slots ++ and_here slot.routine []
+here-one [] slot = refl
+here-one {Q} (first ∷ slots) slot = by first.routine (here-one slots slot)
+  where
+    by : (o : Option Q) → here (slots ++ slot ∷ []) ≡ here slots ++ and_here slot.routine [] → and_here o (here (slots ++ slot ∷ [])) ≡ and_here o (here slots) ++ and_here slot.routine []
+    by None rest = rest
+    by (Some q) rest = ap (λ (qs : List Q). q ∷ qs) rest
+
+-- those that come back, the last first
+pub all_back-one : {Q : Type 0} (backs : List (ℕ × Q)) (back : ℕ × Q) (slots : List (Slot Q)) → all_back (backs ++ back ∷ []) slots ≡ all_back backs (come_back back.0 back.1 slots)
+all_back-one [] back slots = refl
+all_back-one {Q} (first ∷ backs) back slots = ap (λ (s : List (Slot Q)). come_back first.0 first.1 s) (all_back-one backs back slots)
+
+-- Where a routine comes back to: the first place that waits for it.
+abbrev ComesAt : {Q : Type 0} → ℕ → ℕ → Q → List (Slot Q) → Option ℕ → Type 0
+ComesAt n id routine slots place =
+    ((place ≡ None) × (come_back id routine slots ≡ slots))
+    ⊎ ((k : ℕ) × (place ≡ Some (n + k)) × (come_back id routine slots ≡ slice_set slots k (record { deferral = Some id; routine = Some routine })))
+
+comes-from : {Q : Type 0} (n id : ℕ) (routine : Q) (slots : List (Slot Q)) → ComesAt n id routine slots (position_from (waits_for id) n slots)
+comes-from n id routine [] = inl (refl, refl)
+comes-from {Q} n id routine (slot ∷ slots) = by (waits_for id slot) refl (comes-from (n + 1) id routine slots)
+  where
+    here-at : n ≡ n + 0
+    here-at = omega arith
+
+    later-at : (k : ℕ) → (n + 1) + k ≡ n + suc k
+    later-at k = omega arith
+
+    by : (b : Bool) → waits_for id slot ≡ b → ComesAt (n + 1) id routine slots (position_from (waits_for id) (n + 1) slots) → ComesAt n id routine (slot ∷ slots) (position_from (waits_for id) n (slot ∷ slots))
+    by true is rest = inr (0, rw is (ap (λ (m : ℕ). Some m) here-at), rw is refl)
+    by false is (inl none) = inl (rw is none.0, rw is (ap (λ (s : List (Slot Q)). slot ∷ s) none.1))
+    by false is (inr some) = inr (suc some.0, rw is (some.1 ∙ ap (λ (m : ℕ). Some m) (later-at some.0)), rw is (ap (λ (s : List (Slot Q)). slot ∷ s) some.2))
+
+pub comes-there : {Q : Type 0} (id : ℕ) (routine : Q) (slots : List (Slot Q)) (place : ℕ) → position (waits_for id) slots ≡ Some place → come_back id routine slots ≡ slice_set slots place (record { deferral = Some id; routine = Some routine })
+comes-there {Q} id routine slots place at =
+    ⊎_elim (λ (none : (position_from (waits_for id) 0 slots ≡ None) × (come_back id routine slots ≡ slots)). absurd (apart place (sym at ∙ (position_from-zero (waits_for id) slots ∙ none.0))))
+    (λ (some : (k : ℕ) × (position_from (waits_for id) 0 slots ≡ Some (0 + k)) × (come_back id routine slots ≡ slice_set slots k (record { deferral = Some id; routine = Some routine }))).
+    some.2 ∙ ap (λ (k : ℕ). slice_set slots k (record { deferral = Some id; routine = Some routine })) (same some.0 place (sym (sym at ∙ (position_from-zero (waits_for id) slots ∙ some.1)))))
+    (comes-from 0 id routine slots)
+  where
+    apart : (n : ℕ) → Some n ≡ None → ⊥
+    apart n is = absurd (cc)
+
+    same : (k n : ℕ) → Some (0 + k) ≡ Some n → k ≡ n
+    same k n is = let e : 0 + k ≡ n = cc in omega (arith, e)
+
+pub comes-nowhere : {Q : Type 0} (id : ℕ) (routine : Q) (slots : List (Slot Q)) → position (waits_for id) slots ≡ None → come_back id routine slots ≡ slots
+comes-nowhere {Q} id routine slots at =
+    ⊎_elim (λ (none : (position_from (waits_for id) 0 slots ≡ None) × (come_back id routine slots ≡ slots)). none.1)
+    (λ (some : (k : ℕ) × (position_from (waits_for id) 0 slots ≡ Some (0 + k)) × (come_back id routine slots ≡ slice_set slots k (record { deferral = Some id; routine = Some routine }))).
+    absurd (apart some.0 (sym some.1 ∙ (sym (position_from-zero (waits_for id) slots) ∙ at))))
+    (comes-from 0 id routine slots)
+  where
+    apart : (n : ℕ) → Some (0 + n) ≡ None → ⊥
+    apart n is = absurd (cc)
+
+-- a place that is taken from the end, with its routine and without
+pub popped-some : {Q : Type 0} (slots left : List (Slot Q)) (routines now all : List Q) (unused : List Q) (slot : Slot Q) (routine : Q) → slots ≡ left ++ slot ∷ [] → now ≡ routines ++ routine ∷ [] → slot.routine ≡ Some routine → here slots ++ reverse routines ≡ all ++ unused → here left ++ reverse now ≡ all ++ unused
+popped-some {Q} slots left routines now all unused slot routine is grown has was =
+    ap (λ (qs : List Q). here left ++ reverse qs) grown
+    ∙ (ap (λ (qs : List Q). here left ++ qs) (reverse-one routines routine)
+    ∙ (sym (append_assoc (here left) (routine ∷ []) (reverse routines))
+    ∙ (ap (λ (o : Option Q). (here left ++ and_here o []) ++ reverse routines) (sym has)
+    ∙ (ap (λ (qs : List Q). qs ++ reverse routines) (sym (here-one left slot) ∙ ap here (sym is)) ∙ was))))
+
+pub popped-none : {Q : Type 0} (slots left : List (Slot Q)) (routines all : List Q) (slot : Slot Q) → slots ≡ left ++ slot ∷ [] → slot.routine ≡ None → here slots ++ reverse routines ≡ all → here left ++ reverse routines ≡ all
+popped-none {Q} slots left routines all slot is has was =
+    ap (λ (qs : List Q). qs ++ reverse routines) (nothing-on (here left) ∙ (ap (λ (o : Option Q). here left ++ and_here o []) (sym has) ∙ (sym (here-one left slot) ∙ ap here (sym is)))) ∙ was
+  where
+    nothing-on : (xs : List Q) → xs ≡ xs ++ []
+    nothing-on [] = refl
+    nothing-on (x ∷ xs) = ap (λ ys. x ∷ ys) (nothing-on xs)
+
+-- all but the places is as at first
+pub same-rest : {Q : Type 0} (first now next : RoutinesState Q) (slots : List (Slot Q)) → next ≡ record now { slots = slots } → now ≡ record first { slots = now.slots } → next ≡ record first { slots = next.slots }
+same-rest {Q} first now next slots new old =
+    new ∙ (ap (λ (r : RoutinesState Q). record r { slots = slots }) old ∙ ap (λ (s : List (Slot Q)). record first { slots = s }) (sym (ap (λ (r : RoutinesState Q). r.slots) new)))

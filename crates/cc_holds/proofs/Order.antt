@@ -1,0 +1,56 @@
+-- Holds in the order of their ids.
+use Rattle.std.proofs.Common.{◌≡◌, ℕ, ◌<◌, ◌≤◌, Bool, true, false, List, Option, None, Some, length, get_or, inl, inr, refl, ◌∙◌, sym, subst, nat_lt, insert, if◌then◌else◌, arith}
+use Rattle.std.proofs.lemmas.Bool.{cases_lt}
+use Rattle.std.proofs.lemmas.Option.{slice_get_within, slice_get-get_or}
+use Rattle.std.proofs.lemmas.List.Folds.{find_at}
+use Rattle.std.proofs.lemmas.List.Sums.{fails_before_first, passes_at_first}
+use Rattle.std.proofs.lemmas.List.Sorted.{IsNonDecreasingBy-insert}
+use Rattle.std.proofs.lemmas.Bool.Decides.{nat_tests}
+use Rattle.std.specs.List.{find, slice_get, position_or_len}
+use Rattle.std.specs.List.Sorted.{IsNonDecreasingBy}
+use Rattle.std.specs.Option.{option_map}
+use Rattle.cc_holds.specs.Holds.{first_id, IsLeast}
+use Rattle.cc_holds.specs.declared.holds.Hold.{Hold}
+
+abbrev pub InOrder : List Hold → Type 0
+InOrder holds = IsNonDecreasingBy (λ h. h.row.id) holds
+
+found-least : (passes : Hold → Bool) (holds : List Hold) (found : Option Hold) → InOrder holds → find passes holds ≡ found
+    → IsLeast passes holds (option_map (λ h. h.row.id) found)
+found-least passes holds None order e = tt
+found-least passes holds (Some h) order e = λ k d lt pass.
+    let i = position_or_len passes holds in
+    let at : slice_get holds i ≡ Some h = sym (find_at passes holds) ∙ e in
+    let within : i < length holds = slice_get_within holds i h at in
+    let same : Some (get_or holds i d) ≡ Some h = sym (slice_get-get_or holds i d within) ∙ at in
+    elim (cases_lt k i) [
+      | inl before ↦ absurd (cc (fails_before_first passes holds k d before, pass))
+      | inr after ↦ let eq : get_or holds i d ≡ h = cc in subst (λ (x : Hold). x.row.id ≤ (get_or holds k d).row.id) eq (order i k d after lt)
+    ]
+
+-- the first hold that passes is the one of the least id
+pub first_id-least : (passes : Hold → Bool) (holds : List Hold) → InOrder holds → IsLeast passes holds (first_id passes holds)
+first_id-least passes holds order = found-least passes holds (find passes holds) order refl
+
+-- the same of an answer that is known to be that id
+pub IsLeast-first : (passes : Hold → Bool) (holds : List Hold) (answer : Option ℕ) → answer ≡ first_id passes holds → InOrder holds → IsLeast passes holds answer
+IsLeast-first passes holds answer e order = subst (IsLeast passes holds) (sym e) (first_id-least passes holds order)
+
+-- a hold that goes in before the first of a greater id
+InOrder-insert : (holds : List Hold) (h : Hold) (place : ℕ) → place ≡ position_or_len (λ x. nat_lt h.row.id x.row.id) holds → place ≤ length holds
+    → InOrder holds → InOrder (insert holds place h)
+InOrder-insert holds h place at le order =
+    let greater : Hold → Bool = λ x. nat_lt h.row.id x.row.id in
+    IsNonDecreasingBy-insert (λ x. x.row.id) holds place h order le
+    (λ k d before. let fails : greater (get_or holds k d) ≡ false = fails_before_first greater holds k d (omega arith) in grind (arith, nat_tests))
+    (λ k d after lt.
+    let passes : greater (get_or holds (position_or_len greater holds) d) ≡ true = passes_at_first greater holds d (omega arith) in
+    let first : h.row.id < (get_or holds (position_or_len greater holds) d).row.id = grind (arith, nat_tests) in
+    let later = order (position_or_len greater holds) k d (omega arith) lt in
+    omega (arith, later))
+
+-- the holds after an `insert` that may have found no memory
+pub InOrder-tried : (holds new : List Hold) (h : Hold) (place : ℕ) (done : Bool) → new ≡ (if done then insert holds place h else holds)
+    → place ≡ position_or_len (λ x. nat_lt h.row.id x.row.id) holds → place ≤ length holds → InOrder holds → InOrder new
+InOrder-tried holds new h place true is at le order = subst InOrder (sym is) (InOrder-insert holds h place at le order)
+InOrder-tried holds new h place false is at le order = subst InOrder (sym is) order

@@ -1,0 +1,15 @@
+use Rattle.std.proofs.Common.{arith}
+use Rattle.std.proofs.lemmas.Result.{on_ok_weaker}
+use Rattle.cc_holds.specs.Holds.{written}
+use Rattle.cc_holds.proofs.Changes.{found-within, found-changes}
+use Rattle.cc_holds.proofs.holds.Holds.touch.Goals as goal
+
+pub index_mut-requires : goal.index_mut-requires
+index_mut-requires c = omega (arith, found-within c.self.inside.holds.items _ _ c.args.id c.place_of-place.result c.place_of-place.ensures.value c.deref.ensures.value c.self.view_is c.requires)
+
+pub returns-clause-ok : goal.returns-clause-ok
+returns-clause-ok c =
+    on_ok_weaker c.write.result
+    (found-changes c.self.inside.holds.items _ _ c.args.id c.place_of-place.result c.place_of-place.ensures.value c.deref.ensures.value c.self.view_is c.requires
+    c.index_mut.result.now _ (written c.args.span) c.index_mut.ensures.value)
+    c.write.ensures.ok

@@ -1,0 +1,202 @@
+//! The open holds of a stream by id, each with the pages that were written through it and not set dirty since.
+
+ghost use Rattle.std.specs.Prelude.{◌≡◌, ◌+◌, ◌<◌, [], ◌∷◌, ◌++◌, All, OnOk, OnErr, IsSome, IsTrue, true, min};
+ghost use Rattle.std.specs.Option.{option_copied, option_map};
+ghost use Rattle.cc_holds.specs.Holds.{hold_of, without, inserted, Changes, opened, written, cleaned, pinned, overlaps, conflicts, is_unstamped, ends_past, first_id, IsLeast, active_blocks};
+
+use crate::block_counts::count_blocks;
+use crate::lookup::{
+    first_conflict, first_of, first_overlapping, first_past, first_unstamped, place_after, place_of,
+};
+use crate::ranges::widened;
+use crate::touched::TouchedPages;
+use cc_entry::{HoldKind, HoldRow, NoMemory, Span};
+use std::alloc::Global;
+use std::marker::Model;
+
+/// A hold, and the pages that were written through it since its last set-dirty.
+#[derive(Debug, Drop)]
+pub struct Hold {
+    pub row: HoldRow,
+    pub touched: TouchedPages,
+}
+
+impl Hold {
+    ghost use Rattle.std.specs.Prelude.{◌≡◌, OnOk, OnErr};
+    ghost use Rattle.cc_holds.specs.Holds.{written, cleaned, pinned};
+
+    fn write(&mut self, span: Span) -> Result<(), NoMemory>
+        ensures ok { OnOk result (self.new ≡ written span self.old) }
+        ensures err { OnErr result (self.new ≡ self.old) }
+    {
+        self.touched.touch(span)?;
+        self.row.written = widened(self.row.written, span);
+        Ok(())
+    }
+
+    fn clean(&mut self)
+        ensures { self.new ≡ cleaned self.old }
+    {
+        self.touched.clear();
+        self.row.written = None;
+    }
+
+    fn pin(&mut self, exclusive: bool)
+        ensures { self.new ≡ pinned exclusive self.old }
+    {
+        self.row.kind = HoldKind::Pin;
+        self.row.exclusive = exclusive;
+    }
+}
+
+/// The open holds of a stream, by id.
+#[derive(Drop)]
+pub struct Holds {
+    holds: Vec<Hold>,
+    alloc: Global,
+}
+
+impl Model for Holds {
+    ghost use Rattle.std.specs.Prelude.{List};
+    ghost use Rattle.cc_holds.specs.declared.holds.Hold.{Hold};
+    ghost use Rattle.std.specs.List.Sorted.{IsNonDecreasingBy};
+
+    ghost Value = { List Hold };
+
+    ghost view = { λ h. h.holds.items };
+
+    ghost invariant = { λ h. IsNonDecreasingBy (λ hold. hold.row.id) h.holds.items };
+}
+
+impl Holds {
+    /// No open hold. The allocator is kept for the holds to come.
+    pub fn new(alloc: Global) -> Holds
+        ensures { result ≡ [] }
+    {
+        Holds {
+            holds: Vec::new(alloc),
+            alloc,
+        }
+    }
+
+    /// The holds, by id.
+    pub fn all(&self) -> &[Hold]
+        ensures { result.now ≡ self.now }
+    {
+        &self.holds
+    }
+
+    /// The row of the open hold of an id, where there is one.
+    pub fn get(&self, id: u64) -> Option<&HoldRow>
+        ensures { option_copied result ≡ option_map (λ h. h.row) (hold_of self.now id) }
+    {
+        self.holds
+            .iter()
+            .find(|hold| hold.row.id == id)
+            .map(|hold| &hold.row)
+    }
+
+    /// Opens a hold. Where its row has a written span, the pages of that span are touched. Answers `NoMemory`, and then
+    /// nothing has changed.
+    pub fn add(&mut self, hold: HoldRow) -> Result<(), NoMemory>
+        ensures ok { OnOk result (self.new ≡ inserted self.old (opened hold)) }
+        ensures err { OnErr result (self.new ≡ self.old) }
+    {
+        let mut touched = TouchedPages::new(self.alloc);
+        if let Some(span) = hold.written {
+            touched.touch(span)?;
+        }
+        let place = place_after(&self.holds, hold.id);
+        self.holds
+            .insert(place, Hold { row: hold, touched })
+            .map_err(|_| NoMemory)
+    }
+
+    /// Ends the hold of an id.
+    pub fn remove(&mut self, id: u64) -> Option<HoldRow>
+        ensures row { result ≡ option_map (λ h. h.row) (hold_of self.old id) }
+        ensures rest { self.new ≡ without self.old id }
+    {
+        let place = place_of(&self.holds, id);
+        if place == self.holds.len() {
+            return None;
+        }
+        let Hold { row, touched: _ } = self.holds.remove(place);
+        Some(row)
+    }
+
+    /// Notes a write through the hold of an id. Answers `NoMemory`, and then nothing has changed.
+    pub fn touch(&mut self, id: u64, span: Span) -> Result<(), NoMemory>
+        requires { IsSome (hold_of self.old id) }
+        ensures ok { OnOk result (Changes self.old self.new id (written span)) }
+        ensures err { OnErr result (self.new ≡ self.old) }
+    {
+        let place = place_of(&self.holds, id);
+        self.holds[place].write(span)
+    }
+
+    /// Notes a set-dirty of the hold of an id.
+    pub fn stamp(&mut self, id: u64)
+        requires { IsSome (hold_of self.old id) }
+        ensures { Changes self.old self.new id cleaned }
+    {
+        let place = place_of(&self.holds, id);
+        self.holds[place].clean();
+    }
+
+    /// Makes the mapped hold of an id a pin.
+    pub fn pin(&mut self, id: u64, exclusive: bool)
+        requires { IsSome (hold_of self.old id) }
+        ensures { Changes self.old self.new id (pinned exclusive) }
+    {
+        let place = place_of(&self.holds, id);
+        self.holds[place].pin(exclusive);
+    }
+
+    /// The least id of a hold that shares a page with the span.
+    pub fn overlapping(&self, span: Span) -> Option<u64>
+        ensures first { result ≡ first_id (overlaps span) self.now }
+        ensures least { IsLeast (overlaps span) self.now result }
+    {
+        first_overlapping(&self.holds, span)
+    }
+
+    /// The least id of a pin that forbids a pin on the span: one of the two is exclusive.
+    pub fn pin_conflict(&self, span: Span, exclusive: bool) -> Option<u64>
+        ensures first { result ≡ first_id (conflicts span exclusive) self.now }
+        ensures least { IsLeast (conflicts span exclusive) self.now result }
+    {
+        first_conflict(&self.holds, span, exclusive)
+    }
+
+    /// The least id of a pin through which the page was written, with no set-dirty since.
+    pub fn unstamped(&self, page: u64) -> Option<u64>
+        ensures first { result ≡ first_id (is_unstamped page) self.now }
+        ensures least { IsLeast (is_unstamped page) self.now result }
+    {
+        first_unstamped(&self.holds, page)
+    }
+
+    /// The least id of a hold that ends past a size.
+    pub fn ending_past(&self, size: u64) -> Option<u64>
+        ensures first { result ≡ first_id (ends_past size) self.now }
+        ensures least { IsLeast (ends_past size) self.now result }
+    {
+        first_past(&self.holds, size)
+    }
+
+    /// The least id of a hold.
+    pub fn first(&self) -> Option<u64>
+        ensures first { result ≡ first_id (λ _. true) self.now }
+        ensures least { IsLeast (λ _. true) self.now result }
+    {
+        first_of(&self.holds)
+    }
+
+    /// How many view blocks have a byte of a hold, at most `u32::MAX`.
+    pub fn active_blocks(&self) -> u32
+        ensures { result ≡ min (active_blocks self.now) u32.MAX }
+    {
+        count_blocks(&self.holds)
+    }
+}

@@ -1,0 +1,87 @@
+//! Where the first hold stands that passes a test.
+
+ghost use Rattle.std.specs.Prelude.{◌≡◌, ◌≤◌, nat_lt, length, true};
+ghost use Rattle.std.specs.List.{position_or_len};
+ghost use Rattle.cc_holds.specs.Holds.{overlaps, conflicts, is_unstamped, ends_past, first_id, has_id};
+ghost use Rattle.cc_entry.specs.Kinds.{is_pin};
+
+use crate::holds::Hold;
+use crate::ranges::{end_of, overlaps};
+use cc_entry::{HoldKind, Span};
+
+/// The place of the hold of an id, the length where there is none.
+pub(crate) fn place_of(holds: &[Hold], id: u64) -> usize
+    ensures value { result ≡ position_or_len (has_id id) holds.now }
+    ensures within { result ≤ length holds.now }
+{
+    for (place, hold) in holds.iter().enumerate() {
+        if hold.row.id == id {
+            return place;
+        }
+    }
+    holds.len()
+}
+
+/// The place before the first hold of a greater id.
+pub(crate) fn place_after(holds: &[Hold], id: u64) -> usize
+    ensures value { result ≡ position_or_len (λ h. nat_lt id h.row.id) holds.now }
+    ensures within { result ≤ length holds.now }
+{
+    for (place, hold) in holds.iter().enumerate() {
+        if id < hold.row.id {
+            return place;
+        }
+    }
+    holds.len()
+}
+
+pub(crate) fn first_of(holds: &[Hold]) -> Option<u64>
+    ensures { result ≡ first_id (λ _. true) holds.now }
+{
+    holds.iter().next().map(|hold| hold.row.id)
+}
+
+pub(crate) fn first_overlapping(holds: &[Hold], span: Span) -> Option<u64>
+    ensures { result ≡ first_id (overlaps span) holds.now }
+{
+    holds
+        .iter()
+        .find(|hold| overlaps(&hold.row, span))
+        .map(|hold| hold.row.id)
+}
+
+pub(crate) fn first_conflict(holds: &[Hold], span: Span, exclusive: bool) -> Option<u64>
+    ensures { result ≡ first_id (conflicts span exclusive) holds.now }
+{
+    holds
+        .iter()
+        .find(|hold| {
+            is_pin(hold.row.kind) && (exclusive || hold.row.exclusive) && overlaps(&hold.row, span)
+        })
+        .map(|hold| hold.row.id)
+}
+
+pub(crate) fn first_unstamped(holds: &[Hold], page: u64) -> Option<u64>
+    ensures { result ≡ first_id (is_unstamped page) holds.now }
+{
+    holds
+        .iter()
+        .find(|hold| is_pin(hold.row.kind) && hold.touched.contains(page))
+        .map(|hold| hold.row.id)
+}
+
+pub(crate) fn first_past(holds: &[Hold], size: u64) -> Option<u64>
+    ensures { result ≡ first_id (ends_past size) holds.now }
+{
+    let size = u128::from(size);
+    holds
+        .iter()
+        .find(|hold| size < end_of(&hold.row))
+        .map(|hold| hold.row.id)
+}
+
+fn is_pin(kind: HoldKind) -> bool
+    ensures { result ≡ is_pin kind }
+{
+    matches!(kind, HoldKind::Pin)
+}

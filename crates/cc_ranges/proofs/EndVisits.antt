@@ -1,0 +1,264 @@
+-- The visit in which a noncached write ends.
+use Rattle.std.specs.Prelude.{◌≡◌, ℕ, suc, ◌+◌, ◌-◌, ◌<◌, Bool, true, false, List, [], ◌∷◌, ◌++◌, None, Some, refl, if◌then◌else◌}
+use Rattle.std.specs.List.{AllByRecursion}
+use Rattle.std.proofs.Common.{ap, sym, ◌∙◌, subst, arith}
+use Rattle.std.proofs.lemmas.Bool.{eq-eqb}
+use Rattle.cc_entry.specs.Place.{File, Page}
+use Rattle.cc_entry.specs.declared.call.Call.{Call}
+use Rattle.cc_entry.specs.declared.call.Call.TheVariants as call
+use Rattle.cc_entry.specs.declared.entry.Entry.{Entry}
+use Rattle.cc_entry.specs.declared.entry.Entry.TheVariants as entry
+use Rattle.cc_entry.specs.declared.error.CcError.{CcError}
+use Rattle.cc_entry.specs.declared.error.CcError.TheVariants as error
+use Rattle.cc_entry.specs.declared.reply.Outcome.TheVariants as outcome
+use Rattle.cc_entry.specs.declared.reply.Reply.{Reply}
+use Rattle.cc_entry.specs.declared.reply.Reply.TheVariants as reply
+use Rattle.cc_book.specs.Book.{BookState, BookStands, Gains, GoesOn, failed}
+use Rattle.cc_journal.specs.Calls.{owed_end, owes_store}
+use Rattle.cc_journal.specs.Journal.{JournalState}
+use Rattle.cc_laws.proofs.HoldSteps.{changes_holds}
+use Rattle.cc_laws.proofs.HistorySteps.{history-page_out, history-done, history-call_failed}
+use Rattle.cc_laws.proofs.ImageSteps.{open_of-done, open_of-went_out}
+use Rattle.cc_laws.proofs.TurnSteps.{is_quiet-append, is_quiet-none, is_quiet-unneeded}
+use Rattle.cc_model.specs.Conditions.{MayFinish}
+use Rattle.cc_model.specs.History.{history}
+use Rattle.cc_model.specs.Images.{open_of}
+use Rattle.cc_model.specs.Passes.{up_to_call, calls_of}
+use Rattle.cc_model.specs.Room.{reserved_in}
+use Rattle.cc_model.specs.Turns.{Turn, is_quiet}
+use Rattle.cc_step.specs.Step.{StandUnder, is_answered}
+use Rattle.cc_step.proofs.Reserved.{reserved-done, reserved-failed}
+use Rattle.cc_turns.specs.Standing.{Standing, holds}
+use Rattle.cc_turns.specs.Journal.{JournalStands}
+use Rattle.cc_turns.specs.Takes.{Adds, without_journal, may_be_of}
+use Rattle.cc_writes.specs.Hands.{HasBook, IsAtRest, WentWith}
+use Rattle.cc_writes.proofs.Owing.{reserved-page_out}
+use Rattle.cc_writes.proofs.Placing.{unneeded-call}
+use Rattle.cc_writes.proofs.Visits.{Visiting, Visited, visited, went-held}
+use Rattle.cc_writes.proofs.Quiet.{history-kept, stands-same, book-after}
+use Rattle.cc_writes.proofs.Placed.{quiet-page}
+use Rattle.cc_ranges.specs.Ends.{MayFinishHere, IsOut, IsEnded, HasFinished, HasFailedSince, HasFailedWrite, MayFailHere, write_done, write_failed}
+use Rattle.cc_ranges.proofs.WriteFinishing.{good-unwritten, stored-owes, finish-others, fails-others}
+
+-- the next call of a pass that owes the end of a write gives that place back
+owes-one : (past : List Entry) (pass : ℕ) → owes_store past pass ≡ true → owed_end past pass ≡ 1
+owes-one past pass owes = ap (λ (b : Bool). if b then 1 else 0) owes
+
+one-less : (owed after before : ℕ) → owed ≡ 1 → owed + after ≡ before → before ≡ suc after
+one-less owed after before one is = omega (arith, one, is)
+
+after-store : (past : List Entry) (pass nth stream : ℕ) (it : Call) (r : Reply) → is_answered it ≡ true → changes_holds it ≡ false → owes_store past pass ≡ true → reserved_in past ≡ suc (reserved_in (entry.Call pass nth (Some stream) it (outcome.Done r) ∷ past))
+after-store past pass nth stream it r here kept owes = one-less _ _ _ (owes-one past pass owes) (reserved-done past pass nth stream it r here kept)
+
+after-failure : (past : List Entry) (pass nth stream : ℕ) (it : Call) (e : CcError) → is_answered it ≡ true → owes_store past pass ≡ true → reserved_in past ≡ suc (reserved_in (entry.Call pass nth (Some stream) it (outcome.Failed e) ∷ past))
+after-failure past pass nth stream it e here owes = one-less _ _ _ (owes-one past pass owes) (reserved-failed past pass nth stream it e here)
+
+-- a page that goes out leaves what is reserved, and no transfer
+out-reserved : (pass : ℕ) (page : Page) (tidied past : List Entry) → IsOut pass page tidied → reserved_in (tidied ++ past) ≡ reserved_in past
+out-reserved pass page [] past only = refl
+out-reserved pass page (e ∷ []) past only = ap (λ (x : Entry). reserved_in (x ∷ past)) only ∙ reserved-page_out pass page past
+out-reserved pass page (e ∷ (other ∷ more)) past only = absurd only
+
+out-rest : (pass : ℕ) (page : Page) (tidied past : List Entry) → IsOut pass page tidied → open_of (history past page.stream) ≡ None → open_of (history (tidied ++ past) page.stream) ≡ None
+out-rest pass page [] past only none = none
+out-rest pass page (e ∷ []) past only none =
+    ap (λ (x : Entry). open_of (history (x ∷ past) page.stream)) only
+    ∙ (ap open_of (history-page_out pass page past page.stream (eq-eqb page.stream page.stream refl))
+    ∙ (open_of-went_out pass page.page (history past page.stream) ∙ none))
+out-rest pass page (e ∷ (other ∷ more)) past only none = absurd only
+
+out-owes : (pass : ℕ) (page : Page) (tidied past : List Entry) → IsOut pass page tidied → owes_store past pass ≡ true → owes_store (tidied ++ past) pass ≡ true
+unfolding up_to_call
+out-owes pass page [] past only owes = owes
+out-owes pass page (e ∷ []) past only owes = subst (λ (x : Entry). owes_store (x ∷ past) pass ≡ true) (sym only) owes
+out-owes pass page (e ∷ (other ∷ more)) past only owes = absurd only
+
+out-own : (pass : ℕ) (page : Page) (tidied : List Entry) (me : ℕ) → pass ≡ me → IsOut pass page tidied → AllByRecursion (λ e. may_be_of me e ≡ true) tidied
+out-own pass page [] me same only = tt
+out-own pass page (e ∷ []) me same only = (subst (λ (x : Entry). may_be_of me x ≡ true) (sym only) (eq-eqb pass me same), tt)
+out-own pass page (e ∷ (other ∷ more)) me same only = absurd only
+
+-- What the pass gives after the end, and how it goes on.
+pub record EndVisit {Q : Type 0} (posted : Q → Bool) (w v : Standing) (file : File) (page : Page) (c : BookState) (k : JournalState Q) (Left : Type 0) : Type 0 where
+  pub adds : Adds v k.entries
+  pub journal : JournalStands posted (without_journal k v) k
+  pub book : HasBook (without_journal k v) page.stream c
+  pub rest : IsAtRest (without_journal k v) page.stream
+  pub went : WentWith w.in_flight w (without_journal k v)
+  pub left : Left
+
+module _ {Q : Type 0} (posted : Q → Bool) (w v : Standing) (file : File) (page : Page) (b : BookState) (j : JournalState Q)
+    (has : HasBook w page.stream b) (rest : IsAtRest w page.stream) (here : file.stream ≡ page.stream) (vis : Visiting posted w v j) where
+  abbrev the_book : w.held.book ≡ Some page.stream
+  the_book = ap (λ h. h.book) has.held
+
+  abbrev its : Call
+  its = call.NcWrite file page.page
+
+  same : history j.entries page.stream ≡ history w.seen page.stream
+  same = history-kept w page.stream j.entries the_book rest.device vis.grows
+
+  at_rest : open_of (history j.entries page.stream) ≡ None
+  at_rest = ap open_of same ∙ rest.no_transfer
+
+  setup_is : v.setup ≡ w.setup
+  setup_is = ap (λ x. x.setup) vis.taken.same
+
+  stand : StandUnder w.setup b j
+  stand = record {
+    good = vis.good;
+    stands = subst (λ (n : ℕ). BookStands (w.setup.opening n) j.entries b) (sym has.stream)
+        (stands-same (w.setup.opening page.stream) w.seen j.entries b (subst (λ (n : ℕ). history j.entries n ≡ history w.seen n) (sym has.stream) same) has.stands);
+    logs_are = ap (λ u. u.logs) (sym setup_is) ∙ sym vis.journal.logs_are;
+    threshold_is = ap (λ u. u.threshold) (sym setup_is) ∙ sym vis.journal.threshold_is;
+  }
+
+  some : (n owed less mine others : ℕ) → n ≡ owed + mine + others → owed ≡ suc less → 0 < n
+  some n owed less mine others is one = omega (arith, is, one)
+
+  less-one : (n owed rest mine others : ℕ) → n ≡ owed + mine + others → owed ≡ suc rest → n - 1 ≡ rest + mine + others
+  less-one n owed rest mine others is one = omega (arith, is, one)
+
+  rest-after : (pass nth : ℕ) (k : JournalState Q) (went : WentWith w.in_flight w (without_journal k v)) → open_of (history k.entries page.stream) ≡ None → IsAtRest (without_journal k v) page.stream
+  rest-after pass nth k went none = record { device = ap (λ h. h.device) (went-held w.in_flight w (without_journal k v) went) ∙ rest.device; no_transfer = none }
+
+  module _ (pass : ℕ) (me : pass ≡ w.number) where
+    -- the write of a page that is on the disk
+    module _ (finishes : MayFinish w.seen w.number page.stream page.page) where
+      finishes-now : MayFinish j.entries pass page.stream page.page
+      finishes-now =
+          subst (λ (n : ℕ). MayFinish j.entries n page.stream page.page) (sym me)
+          (subst (λ (past : List Entry). MayFinish past w.number page.stream page.page) (sym vis.grows.grew) (finish-others w.number page.stream page.page vis.grows.later w.seen vis.grows.others finishes))
+
+      owes : owes_store j.entries pass ≡ true
+      owes = stored-owes (record { stream = page.stream; page = page.page }) (up_to_call j.entries pass) finishes-now.stored
+
+      pub may-finish-visit : MayFinishHere w.setup pass file page b j
+      may-finish-visit = record {
+        stand = stand;
+        here = here;
+        rest = at_rest;
+        finishes = finishes-now;
+        reserved = some j.reserved (reserved_in j.entries) (reserved_in (write_done pass file page j.entries ∷ j.entries)) w.in_flight v.others vis.reserved_is
+            (after-store j.entries pass (suc (calls_of j.entries pass)) page.stream its reply.Unit refl refl owes);
+      }
+
+      module _ (c : BookState) (k : JournalState Q) (stream : c.stream ≡ b.stream) (is : IsEnded w.setup pass file page c j k) where
+        abbrev front : List Entry
+        front = is.tidied ++ j.entries
+
+        abbrev last : Entry
+        last = write_done pass file page front
+
+        entries : k.entries ≡ last ∷ front
+        entries = ap (λ x. x.entries) is.placed
+
+        owed : reserved_in j.entries ≡ suc (reserved_in (last ∷ front))
+        owed = sym (out-reserved pass page is.tidied j.entries is.only)
+            ∙ after-store front pass (suc (calls_of front pass)) page.stream its reply.Unit refl refl (out-owes pass page is.tidied j.entries is.only owes)
+
+        out-quiet : (tidied : List Entry) → IsOut pass page tidied → (t : Turn) → holds (record w.held { journal = true }) t ≡ false → is_quiet t tidied ≡ true
+        out-quiet [] only t free = is_quiet-none t
+        out-quiet (e ∷ []) only t free =
+            subst (λ (x : Entry). is_quiet t (x ∷ []) ≡ true) (sym only)
+            (quiet-page (record w.held { journal = true }) page (entry.PageOut pass page) (λ t. refl) the_book rest.device refl t free)
+        out-quiet (e ∷ (other ∷ more)) only t free = absurd only
+
+        quiet : (t : Turn) → holds (record w.held { journal = true }) t ≡ false → is_quiet t (last ∷ is.tidied) ≡ true
+        quiet t free =
+            is_quiet-append t (last ∷ []) is.tidied
+            (is_quiet-unneeded t last [] (unneeded-call w.held pass (suc (calls_of front pass)) page.stream its (outcome.Done reply.Unit) refl the_book t free) ∙ is_quiet-none t)
+            (out-quiet is.tidied is.only t free)
+
+        given : Visited posted w v w.in_flight k
+        given = visited posted w v w.in_flight (last ∷ is.tidied) j k (ap (λ h. h.journal) has.held) vis (record {
+          kept = is.placed ∙ ap (λ (n : ℕ). record j { entries = last ∷ front; reserved = n; rows = k.rows }) (sym (ap (λ x. x.reserved) is.placed));
+          good = is.stand.good;
+          own = (eq-eqb pass w.number me, out-own pass page is.tidied w.number me is.only);
+          held = quiet;
+          reserved = ap (λ x. x.reserved) is.placed
+              ∙ (less-one j.reserved (reserved_in j.entries) (reserved_in (last ∷ front)) w.in_flight v.others vis.reserved_is owed
+              ∙ ap (λ (n : ℕ). n + w.in_flight + v.others) (sym (ap reserved_in entries)));
+        })
+
+        pub finishing : EndVisit posted w v file page c k (HasFinished w file page k.entries)
+        finishing = record {
+          adds = given.adds;
+          journal = given.journal;
+          book = book-after w.in_flight w (without_journal k v) page.stream b c has given.went (stream ∙ has.stream)
+              (subst (λ (n : ℕ). BookStands (w.setup.opening n) k.entries c) (stream ∙ has.stream) is.stand.stands) given.good;
+          rest = rest-after pass (suc (calls_of front pass)) k given.went
+              (ap (λ past. open_of (history past page.stream)) entries
+              ∙ (ap open_of (history-done pass (suc (calls_of front pass)) page.stream its reply.Unit front page.stream (eq-eqb page.stream page.stream refl))
+              ∙ (open_of-done pass its reply.Unit (history front page.stream) ∙ out-rest pass page is.tidied j.entries is.only at_rest)));
+          went = given.went;
+          left = record {
+            front = j.entries;
+            grows = vis.grows;
+            tidied = is.tidied;
+            only = subst (λ (n : ℕ). IsOut n page is.tidied) me is.only;
+            placed = entries ∙ ap (λ (n : ℕ). write_done n file page front ∷ front) me;
+          };
+        }
+
+    -- the write of a page whose transfer failed
+    module _ (fails : HasFailedSince w.seen w.number page) where
+      fails-now : HasFailedSince j.entries pass page
+      fails-now =
+          subst (λ (n : ℕ). HasFailedSince j.entries n page) (sym me)
+          (subst (λ (past : List Entry). HasFailedSince past w.number page) (sym vis.grows.grew) (fails-others w.number page vis.grows.later w.seen vis.grows.others fails))
+
+      owes-failed : owes_store j.entries pass ≡ true
+      owes-failed = stored-owes page (up_to_call j.entries pass) fails-now.stored
+
+      owed-failed : reserved_in j.entries ≡ suc (reserved_in (write_failed pass file page j.entries ∷ j.entries))
+      owed-failed = after-failure j.entries pass (suc (calls_of j.entries pass)) page.stream its (error.WriteFault page.page) refl owes-failed
+
+      pub may-fail-visit : MayFailHere w.setup pass file page b j
+      may-fail-visit = record {
+        stand = stand;
+        here = here;
+        fails = fails-now;
+        reserved = some j.reserved (reserved_in j.entries) (reserved_in (write_failed pass file page j.entries ∷ j.entries)) w.in_flight v.others vis.reserved_is owed-failed;
+      }
+
+      module _ (c : BookState) (k : JournalState Q) (same_book : c ≡ b) (gains : Gains (failed pass j.entries b.stream its (error.WriteFault page.page)) j k) (goes : GoesOn j.entries k.entries b c) where
+        abbrev end : Entry
+        end = write_failed pass file page j.entries
+
+        placed : k ≡ record j { entries = end ∷ j.entries; reserved = j.reserved - 1; rows = k.rows }
+        placed = gains ∙ ap (λ (n : ℕ). record j { entries = failed pass j.entries n its (error.WriteFault page.page) ∷ j.entries; reserved = j.reserved - 1; rows = k.rows }) has.stream
+
+        entries-failed : k.entries ≡ end ∷ j.entries
+        entries-failed = ap (λ x. x.entries) placed
+
+        quiet-failed : (t : Turn) → holds (record w.held { journal = true }) t ≡ false → is_quiet t (end ∷ []) ≡ true
+        quiet-failed t free = is_quiet-unneeded t end [] (unneeded-call w.held pass (suc (calls_of j.entries pass)) page.stream its (outcome.Failed (error.WriteFault page.page)) tt the_book t free) ∙ is_quiet-none t
+
+        given-failed : Visited posted w v w.in_flight k
+        given-failed = visited posted w v w.in_flight (end ∷ []) j k (ap (λ h. h.journal) has.held) vis (record {
+          kept = placed ∙ ap (λ (n : ℕ). record j { entries = end ∷ j.entries; reserved = n; rows = k.rows }) (sym (ap (λ x. x.reserved) placed));
+          good = rw entries-failed (good-unwritten w.setup j.entries pass file page vis.good here fails-now);
+          own = (eq-eqb pass w.number me, tt);
+          held = quiet-failed;
+          reserved = ap (λ x. x.reserved) placed
+              ∙ (less-one j.reserved (reserved_in j.entries) (reserved_in (end ∷ j.entries)) w.in_flight v.others vis.reserved_is owed-failed
+              ∙ ap (λ (n : ℕ). n + w.in_flight + v.others) (sym (ap reserved_in entries-failed)));
+        })
+
+        pub failing : EndVisit posted w v file page c k (HasFailedWrite w file page k.entries)
+        failing = record {
+          adds = given-failed.adds;
+          journal = given-failed.journal;
+          book = book-after w.in_flight w (without_journal k v) page.stream b c has given-failed.went (ap (λ x. x.stream) same_book ∙ has.stream)
+              (goes (w.setup.opening page.stream) (subst (λ (n : ℕ). BookStands (w.setup.opening n) j.entries b) has.stream stand.stands)) given-failed.good;
+          rest = rest-after pass (suc (calls_of j.entries pass)) k given-failed.went
+              (ap (λ past. open_of (history past page.stream)) entries-failed
+              ∙ (ap open_of (history-call_failed pass (suc (calls_of j.entries pass)) (Some page.stream) its (error.WriteFault page.page) j.entries page.stream) ∙ at_rest));
+          went = given-failed.went;
+          left = record {
+            front = j.entries;
+            grows = vis.grows;
+            placed = entries-failed ∙ ap (λ (n : ℕ). write_failed n file page j.entries ∷ j.entries) me;
+          };
+        }

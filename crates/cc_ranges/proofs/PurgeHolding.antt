@@ -1,0 +1,137 @@
+-- A purge with the disk and the book of its stream in hand: its rounds, and how they go on.
+use Rattle.std.specs.Prelude.{◌≡◌, ℕ, ◌<◌, ◌≤◌, ◌^◌, true, ◌==◌, Result, Ok, Err, Some, None, List, refl}
+use Rattle.std.specs.declared.option.Option.{Option}
+use Rattle.std.proofs.Common.{ap, sym, ◌∙◌, subst}
+use Rattle.std.proofs.lemmas.Bool.{and_from, eq-eqb}
+use Rattle.cc_entry.specs.Place.{File, Range}
+use Rattle.cc_entry.specs.declared.call.Call.{Call}
+use Rattle.cc_entry.specs.declared.call.Call.TheVariants as call
+use Rattle.cc_entry.specs.declared.entry.Entry.{Entry}
+use Rattle.cc_entry.specs.declared.error.CcError.{CcError}
+use Rattle.cc_entry.specs.declared.error.CcError.TheVariants as error
+use Rattle.cc_entry.specs.declared.reply.Outcome.{Outcome}
+use Rattle.cc_entry.specs.declared.reply.Outcome.TheVariants as outcome
+use Rattle.cc_traits.specs.Disk.{Disk}
+use Rattle.cc_book.specs.Book.{BookState}
+use Rattle.cc_effects.specs.Asked.{Calls, may_write}
+use Rattle.cc_effects.specs.Calls.{CallLeft, IsUnderWay}
+use Rattle.cc_model.specs.Ranges.{span_has}
+use Rattle.cc_model.specs.Setup.{Setup}
+use Rattle.cc_turns.specs.Standing.{Standing}
+use Rattle.cc_writes.specs.Hands.{Went, WentWith}
+use Rattle.cc_writes.specs.Calls.{MayFaultInWriting, PageLeft}
+use Rattle.cc_writes.specs.Writes.{HasBoth}
+use Rattle.cc_writes.proofs.Halting.{no-memory}
+use Rattle.cc_writes.proofs.Visits.{went-then}
+use Rattle.cc_writes.specs.Ways.{IsFull}
+use Rattle.cc_ranges.specs.Flush.{outcome_of}
+use Rattle.cc_ranges.specs.Purge.{RoundLeft, IsFullRound, ended_of, round_of}
+use Rattle.cc_ranges.specs.declared.purge.Round.{Round}
+use Rattle.cc_ranges.specs.declared.purge.Round.TheVariants as round
+
+-- a purge may answer each fault of the writing of a page
+pub may-fault : (file : File) (span : Option Range) → MayFaultInWriting (call.Purge file span)
+may-fault file span = record { disk = λ page. refl; log = λ handle. refl }
+
+-- a page of its span may be written for it
+pub asks-page : (file : File) (span : Option Range) (s page : ℕ) (past : List Entry) → s ≡ file.stream → span_has span page ≡ true → may_write (Calls (call.Purge file span)) (record { stream = s; page = page }) past ≡ true
+asks-page file span s page past here has = and_from (file.stream == s) (span_has span page) (eq-eqb file.stream s (sym here)) has
+
+-- a page was written for it, or it failed
+round-left : (u : Setup) (me : ℕ) (file : File) (span : Option Range) (page : ℕ) (written : Result Call CcError) (begun new : List Entry) → PageLeft u me (call.Purge file span) written begun new → RoundLeft u me file span (round_of written page) begun new
+round-left u me file span page (Ok again) begun new left = left.1
+round-left u me file span page (Err e) begun new left = left
+
+-- the same where the pass is said to stand as it did before the step
+pub round-wrote : (w v : Standing) (file : File) (span : Option Range) (page : ℕ) (written : Result Call CcError) (new : List Entry) → Went w v → ((begun : List Entry) → IsUnderWay v.number (call.Purge file span) begun v.seen → PageLeft v.setup v.number (call.Purge file span) written begun new) → (begun : List Entry) → IsUnderWay w.number (call.Purge file span) begun v.seen → RoundLeft w.setup w.number file span (round_of written page) begun new
+round-wrote w v file span page written new went left begun way =
+    round-left w.setup w.number file span page written begun new
+    (subst (λ (m : ℕ). PageLeft w.setup m (call.Purge file span) written begun new) number
+    (subst (λ (u : Setup). PageLeft u v.number (call.Purge file span) written begun new) (ap (λ (x : Standing). x.setup) went.same)
+    (left begun (subst (λ (m : ℕ). IsUnderWay m (call.Purge file span) begun v.seen) (sym number) way))))
+  where
+    number : v.number ≡ w.number
+    number = ap (λ (x : Standing). x.number) went.same
+
+-- a round that did not end the purge left it under way
+pub still-left : (u : Setup) (me : ℕ) (file : File) (span : Option Range) (came : Round) (begun new : List Entry) → ended_of came ≡ None → RoundLeft u me file span came begun new → IsUnderWay me (call.Purge file span) begun new
+still-left u me file span (round.Ended answer) begun new none left = absurd (cc)
+still-left u me file span (round.CameTo to) begun new none left = left
+still-left u me file span round.GoesOn begun new none left = left
+
+-- one that ended it left what it answers
+pub ended-left : (u : Setup) (me : ℕ) (file : File) (span : Option Range) (came : Round) (answer : Result (Unit {0}) CcError) (begun new : List Entry) → ended_of came ≡ Some answer → RoundLeft u me file span came begun new → CallLeft u me (call.Purge file span) (outcome_of answer) begun new
+ended-left u me file span (round.Ended other) answer begun new is left = subst (λ (a : Option (Result (Unit {0}) CcError)). Left a) is left
+  where
+    Left : Option (Result (Unit {0}) CcError) → Type 0
+    Left (Some a) = CallLeft u me (call.Purge file span) (outcome_of a) begun new
+    Left None = Unit {0}
+ended-left u me file span (round.CameTo to) answer begun new is left = absurd (cc)
+ended-left u me file span round.GoesOn answer begun new is left = absurd (cc)
+
+pub ended-full : (asked : ℕ) (w : Standing) (came : Round) (answer : Result (Unit {0}) CcError) → ended_of came ≡ Some answer → IsFullRound asked w came → IsFull asked w answer
+ended-full asked w (round.Ended other) answer is full = subst (λ (a : Option (Result (Unit {0}) CcError)). Full a) is full
+  where
+    Full : Option (Result (Unit {0}) CcError) → Type 0
+    Full (Some a) = IsFull asked w a
+    Full None = Unit {0}
+ended-full asked w (round.CameTo to) answer is full = absurd (cc)
+ended-full asked w round.GoesOn answer is full = absurd (cc)
+
+-- where the rounds end without its end it leaves nothing but what it placed
+pub spent : (u : Setup) (me : ℕ) (file : File) (span : Option Range) (begun new : List Entry) → IsUnderWay me (call.Purge file span) begun new → CallLeft u me (call.Purge file span) (outcome.Failed error.NoMemory) begun new
+spent u me file span begun new way = no-memory me (call.Purge file span) begun new refl refl way
+
+-- How the rounds go on: what is in hand stands, and a purge that was under way as they began is still.
+pub record ComesOn {D : Type 0} (told : D → Option Disk) (faults : D → ℕ) (w v : Standing) (file : File) (span : Option Range)
+    (from : ℕ) (b : BookState) (disk : D) : Type 0 where
+  pub stream : b.stream ≡ file.stream
+  pub known : b.stream < v.streams
+  pub both : HasBoth told faults v b.stream b disk
+  pub none : v.in_flight ≡ 0
+  pub went : Went w v
+  pub left : (begun : List Entry) → IsUnderWay w.number (call.Purge file span) begun w.seen → IsUnderWay w.number (call.Purge file span) begun v.seen
+  pub within : from ≤ 2 ^ 51
+
+module _ {D : Type 0} (told : D → Option Disk) (faults : D → ℕ) (w v x : Standing) (file : File) (span : Option Range) (from : ℕ)
+    (b c : BookState) (disk now : D) (on : ComesOn told faults w v file span from b disk) where
+  number_on : v.number ≡ w.number
+  number_on = ap (λ (y : Standing). y.number) on.went.same
+
+  setup_on : v.setup ≡ w.setup
+  setup_on = ap (λ (y : Standing). y.setup) on.went.same
+
+  way_on : (begun : List Entry) → IsUnderWay w.number (call.Purge file span) begun w.seen → IsUnderWay v.number (call.Purge file span) begun v.seen
+  way_on begun way = subst (λ (n : ℕ). IsUnderWay n (call.Purge file span) begun v.seen) (sym number_on) (on.left begun way)
+
+  -- what a round left of it
+  pub round-on : (came : Round) → ((begun : List Entry) → IsUnderWay v.number (call.Purge file span) begun v.seen → RoundLeft v.setup v.number file span came begun x.seen) → (begun : List Entry) → IsUnderWay w.number (call.Purge file span) begun w.seen → RoundLeft w.setup w.number file span came begun x.seen
+  round-on came left begun way =
+      subst (λ (n : ℕ). RoundLeft w.setup n file span came begun x.seen) number_on
+      (subst (λ (u : Setup). RoundLeft u v.number file span came begun x.seen) setup_on (left begun (way_on begun way)))
+
+  -- it goes on, from this page
+  module _ (both : HasBoth told faults x b.stream c now) (went : Went v x) where
+    pub comes-on : (to : ℕ) → to ≤ 2 ^ 51 → ((begun : List Entry) → IsUnderWay w.number (call.Purge file span) begun w.seen → IsUnderWay w.number (call.Purge file span) begun x.seen) → ComesOn told faults w x file span to c now
+    comes-on to within left = record {
+      stream = both.book.stream ∙ on.stream;
+      known = subst (λ (n : ℕ). n < x.streams) (sym both.book.stream) (subst (λ (n : ℕ). b.stream < n) (sym (ap (λ (y : Standing). y.streams) went.same)) on.known);
+      both = subst (λ (n : ℕ). HasBoth told faults x n c now) (sym both.book.stream) both;
+      none = ap (λ (y : Standing). y.in_flight) went.same ∙ on.none;
+      went = subst (λ (n : ℕ). WentWith n w x) flight (went-then w.in_flight v.in_flight w v x on.went went);
+      left = left;
+      within = within;
+    }
+      where
+        flight : v.in_flight ≡ w.in_flight
+        flight = ap (λ (y : Standing). y.in_flight) on.went.same
+
+  -- what is left of it since then is left since the rounds began
+  pub ended-on : (ended : Outcome) (new : List Entry) → ((begun : List Entry) → IsUnderWay x.number (call.Purge file span) begun x.seen → CallLeft x.setup x.number (call.Purge file span) ended begun new) → Went v x → ((begun : List Entry) → IsUnderWay w.number (call.Purge file span) begun w.seen → IsUnderWay w.number (call.Purge file span) begun x.seen) → (begun : List Entry) → IsUnderWay w.number (call.Purge file span) begun w.seen → CallLeft w.setup w.number (call.Purge file span) ended begun new
+  ended-on ended new left went still begun way =
+      subst (λ (n : ℕ). CallLeft w.setup n (call.Purge file span) ended begun new) number
+      (subst (λ (u : Setup). CallLeft u x.number (call.Purge file span) ended begun new) (ap (λ (y : Standing). y.setup) went.same ∙ setup_on)
+      (left begun (subst (λ (n : ℕ). IsUnderWay n (call.Purge file span) begun x.seen) (sym number) (still begun way))))
+    where
+      number : x.number ≡ w.number
+      number = ap (λ (y : Standing). y.number) went.same ∙ number_on

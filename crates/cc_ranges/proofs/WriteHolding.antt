@@ -1,0 +1,119 @@
+-- The write of a page with the disk and the book of its stream in hand: its rounds, and how they go on.
+use Rattle.std.specs.Prelude.{◌≡◌, ℕ, ◌<◌, true, Result, Ok, Err, IfErr, IfOk, List, refl}
+use Rattle.std.specs.declared.option.Option.{Option}
+use Rattle.std.proofs.Common.{ap, sym, ◌∙◌, subst, inl}
+use Rattle.cc_entry.specs.Place.{File, Page}
+use Rattle.cc_entry.specs.declared.call.Call.{Call}
+use Rattle.cc_entry.specs.declared.call.Call.TheVariants as call
+use Rattle.cc_entry.specs.declared.entry.Entry.{Entry}
+use Rattle.cc_entry.specs.declared.error.CcError.{CcError}
+use Rattle.cc_entry.specs.declared.error.CcError.TheVariants as error
+use Rattle.cc_traits.specs.Disk.{Disk}
+use Rattle.cc_book.specs.Book.{BookState}
+use Rattle.cc_effects.specs.Asked.{Calls, asks_write, is_in_the_way, may_write}
+use Rattle.cc_effects.specs.Calls.{IsUnderWay}
+use Rattle.cc_model.specs.Setup.{Setup}
+use Rattle.cc_turns.specs.Standing.{Standing}
+use Rattle.cc_writes.specs.Hands.{Went, WentWith}
+use Rattle.cc_writes.specs.Ways.{IsAtWork, IsReason}
+use Rattle.cc_writes.specs.Calls.{KeepsWork, MayFaultInWriting, PageLeft}
+use Rattle.cc_writes.specs.Writes.{HasBoth}
+use Rattle.cc_writes.proofs.Halting.{no-memory}
+use Rattle.cc_writes.proofs.Visits.{went-then}
+use Rattle.cc_writes.proofs.Works.{either}
+use Rattle.cc_ranges.specs.WriteHeld.{RoundLeft, round_of}
+use Rattle.cc_ranges.specs.WriteHeld.{PageLeft as PageLeftBy}
+use Rattle.cc_ranges.specs.WriteVisits.{IsTurnedAway, IsWriting, page_in}
+use Rattle.cc_ranges.specs.declared.write_held.Round.{Round}
+use Rattle.cc_ranges.proofs.Misshapen.{unshaped}
+
+-- a page in the way may be written for the write, and for its store
+pub may-fault : (file : File) (page : ℕ) → MayFaultInWriting (call.NcWrite file page)
+may-fault file page = record { disk = λ other. refl; log = λ handle. refl }
+
+pub way-asked : (it : Call) (page : Page) (past : List Entry) → is_in_the_way it page past ≡ true → may_write (Calls it) page past ≡ true
+way-asked it page past way = either (is_in_the_way it page past) (asks_write it page past) way
+
+-- a page was written for it, or it failed
+module _ (w v : Standing) (file : File) (page dirty s : ℕ) (seen : List Entry) (here : s ≡ file.stream) (went : Went w v)
+    (way : is_in_the_way (call.NcWrite file page) (page_in file dirty) v.seen ≡ true) where
+  abbrev it : Call
+  it = call.NcWrite file page
+
+  number : v.number ≡ w.number
+  number = ap (λ (x : Standing). x.number) went.same
+
+  setup : v.setup ≡ w.setup
+  setup = ap (λ (x : Standing). x.setup) went.same
+
+  stored-on : (bytes : List ℕ) (begun : List Entry) → KeepsWork v (record { stream = s; page = dirty }) seen → IsAtWork w.number (Calls (call.NcStore file page bytes)) begun v.seen → IsAtWork w.number (Calls (call.NcStore file page bytes)) begun seen
+  stored-on bytes begun keeps is =
+      subst (λ (n : ℕ). IsAtWork n (Calls (call.NcStore file page bytes)) begun seen) number
+      (keeps (Calls (call.NcStore file page bytes)) begun
+      (subst (λ (n : ℕ). may_write (Calls (call.NcStore file page bytes)) (record { stream = n; page = dirty }) v.seen ≡ true) (sym here)
+      (way-asked (call.NcStore file page bytes) (page_in file dirty) v.seen way))
+      (subst (λ (n : ℕ). IsAtWork n (Calls (call.NcStore file page bytes)) begun v.seen) (sym number) is))
+
+  pub round-wrote : (r : Result Call CcError) → ((begun : List Entry) → IsUnderWay v.number it begun v.seen → PageLeft v.setup v.number it r begun seen) → IfErr r (IsReason v.setup s it) → IfOk r (λ again. KeepsWork v (record { stream = s; page = dirty }) seen) → (begun : List Entry) → IsWriting w.number file page begun v.seen → RoundLeft w.setup w.number file page (round_of r) begun seen
+  round-wrote (Ok again) left reason keeps begun is = record {
+    way = subst (λ (n : ℕ). IsUnderWay n it begun seen) number (left begun (subst (λ (n : ℕ). IsUnderWay n it begun v.seen) (sym number) is.way)).1;
+    stores = λ bytes. stored-on bytes begun keeps (is.stores bytes);
+  }
+  round-wrote (Err e) left reason keeps begun is =
+      subst (λ (n : ℕ). IsTurnedAway w.setup n file page e begun seen) number
+      (subst (λ (u : Setup). IsTurnedAway u v.number file page e begun seen) setup
+      (unshaped v.setup s it e tt reason, left begun (subst (λ (n : ℕ). IsUnderWay n it begun v.seen) (sym number) is.way)))
+
+-- where the rounds end without a room for its page, the write leaves nothing but what it placed
+pub spent : (u : Setup) (me : ℕ) (file : File) (page : ℕ) (begun new : List Entry) → IsWriting me file page begun new → IsTurnedAway u me file page error.NoMemory begun new
+spent u me file page begun new is = (refl, no-memory me (call.NcWrite file page) begun new refl refl is.way)
+
+-- How the rounds go on: what is in hand stands, and a write that was under way as they began is still.
+pub record ComesOn {D : Type 0} (told : D → Option Disk) (faults : D → ℕ) (w v : Standing) (file : File) (page : ℕ) (b : BookState) (disk : D)
+    : Type 0 where
+  pub stream : b.stream ≡ file.stream
+  pub known : b.stream < v.streams
+  pub both : HasBoth told faults v b.stream b disk
+  pub none : v.in_flight ≡ 0
+  pub went : Went w v
+  pub left : (begun : List Entry) → IsWriting w.number file page begun w.seen → IsWriting w.number file page begun v.seen
+
+module _ {D : Type 0} (told : D → Option Disk) (faults : D → ℕ) (w v x : Standing) (file : File) (page : ℕ) (b c : BookState) (disk now : D)
+    (on : ComesOn told faults w v file page b disk) where
+  number_on : v.number ≡ w.number
+  number_on = ap (λ (y : Standing). y.number) on.went.same
+
+  setup_on : v.setup ≡ w.setup
+  setup_on = ap (λ (y : Standing). y.setup) on.went.same
+
+  way_on : (begun : List Entry) → IsWriting w.number file page begun w.seen → IsWriting v.number file page begun v.seen
+  way_on begun is = subst (λ (n : ℕ). IsWriting n file page begun v.seen) (sym number_on) (on.left begun is)
+
+  -- what a round left of it
+  pub round-on : (came : Round) → ((begun : List Entry) → IsWriting v.number file page begun v.seen → RoundLeft v.setup v.number file page came begun x.seen) → (begun : List Entry) → IsWriting w.number file page begun w.seen → RoundLeft w.setup w.number file page came begun x.seen
+  round-on came left begun is =
+      subst (λ (n : ℕ). RoundLeft w.setup n file page came begun x.seen) number_on
+      (subst (λ (u : Setup). RoundLeft u v.number file page came begun x.seen) setup_on (left begun (way_on begun is)))
+
+  pub went-on : Went v x → Went w x
+  went-on went = subst (λ (n : ℕ). WentWith n w x) (ap (λ (y : Standing). y.in_flight) on.went.same) (went-then w.in_flight v.in_flight w v x on.went went)
+
+  pub comes-on : HasBoth told faults x b.stream c now → Went v x → ((begun : List Entry) → IsWriting w.number file page begun w.seen → IsWriting w.number file page begun x.seen) → ComesOn told faults w x file page c now
+  comes-on both went left = record {
+    stream = both.book.stream ∙ on.stream;
+    known = subst (λ (n : ℕ). n < x.streams) (sym both.book.stream) (subst (λ (n : ℕ). b.stream < n) (sym (ap (λ (y : Standing). y.streams) went.same)) on.known);
+    both = subst (λ (n : ℕ). HasBoth told faults x n c now) (sym both.book.stream) both;
+    none = ap (λ (y : Standing). y.in_flight) went.same ∙ on.none;
+    went = went-on went;
+    left = left;
+  }
+
+-- The page is ready, and what the rest leaves the write leaves; or it was turned away.
+pub ready-left : (w x : Standing) (file : File) (page : ℕ) (bytes : List ℕ) (answer : Result ℕ CcError) (begun seen : List Entry) → Went w x → IsWriting w.number file page begun x.seen → ((begun : List Entry) → IsWriting x.number file page begun x.seen → PageLeftBy x.setup x.number file page bytes answer begun seen) → PageLeftBy w.setup w.number file page bytes answer begun seen
+ready-left w x file page bytes answer begun seen went is left =
+    subst (λ (n : ℕ). PageLeftBy w.setup n file page bytes answer begun seen) (ap (λ (y : Standing). y.number) went.same)
+    (subst (λ (u : Setup). PageLeftBy u x.number file page bytes answer begun seen) (ap (λ (y : Standing). y.setup) went.same)
+    (left begun (subst (λ (n : ℕ). IsWriting n file page begun x.seen) (sym (ap (λ (y : Standing). y.number) went.same)) is)))
+
+pub turned-left : (u : Setup) (me : ℕ) (file : File) (page : ℕ) (bytes : List ℕ) (e : CcError) (begun seen : List Entry) → IsTurnedAway u me file page e begun seen → PageLeftBy u me file page bytes (Err e) begun seen
+turned-left u me file page bytes e begun seen turned = inl turned

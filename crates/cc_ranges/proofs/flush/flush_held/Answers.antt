@@ -1,0 +1,61 @@
+-- The page that the flush came to rises; each round leaves a flush under way, its sync or its end.
+use Rattle.std.specs.Prelude.{List}
+use Rattle.std.proofs.Common.{subst}
+use Rattle.cc_entry.specs.declared.entry.Entry.{Entry}
+use Rattle.cc_effects.proofs.Starts.{begins}
+use Rattle.cc_entry.specs.declared.call.Call.TheVariants as call
+use Rattle.cc_ranges.specs.Flush.{IsFlushing, IsRising, RoundLeft, RoundWent, outcome_of}
+use Rattle.cc_ranges.specs.declared.flush.Round.{Round}
+use Rattle.cc_ranges.specs.declared.flush.Round.TheVariants as round
+use Rattle.cc_ranges.proofs.FlushHolding.{some-flushing, round-on, comes-on, at-sync-on, ended-on}
+use Rattle.cc_ranges.proofs.flush.flush_held.Goals as goal
+
+pub write_next-now-requires-clause-flushing : goal.write_next-now-requires-clause-flushing
+write_next-now-requires-clause-flushing g c κs within =
+    let w = g.T.Turns.standing c.args.turns.now in
+    let v = g.T.Turns.standing c.pages.turns in
+    some-flushing g.T.Disk.Told.told g.T.Disk.Told.faults w v v c.args.file c.args.span c.pages.from c.pages.book c.pages.book c.pages.disk c.pages.disk c.pages.invariant
+
+pub returns-in-Ended-clause-left : goal.returns-in-Ended-clause-left
+returns-in-Ended-clause-left g c begun way =
+    let w = g.T.Turns.standing c.args.turns.now in
+    let v = g.T.Turns.standing c.pages.turns in
+    let x = g.T.Turns.standing c.write_next-now.new.turns in
+    let left = subst (λ (r : Round). (begun : List Entry) → IsFlushing v.number c.args.file c.args.span c.pages.from begun v.seen → RoundLeft v.setup v.number c.args.file c.args.span r begun x.seen) c.in-Ended.is c.write_next-now.ensures.left in
+    round-on g.T.Disk.Told.told g.T.Disk.Told.faults w v x c.args.file c.args.span c.pages.from c.pages.book c.write_next-now.result.0 c.pages.disk c.write_next-now.new.disk c.pages.invariant
+    (round.Ended c.in-Ended.error) left begun way
+
+pub pages-preserved : goal.pages-preserved
+pages-preserved g c =
+    let w = g.T.Turns.standing c.args.turns.now in
+    let v = g.T.Turns.standing c.pages.turns in
+    let x = g.T.Turns.standing c.write_next-now.new.turns in
+    let left = subst (λ (r : Round). (begun : List Entry) → IsFlushing v.number c.args.file c.args.span c.pages.from begun v.seen → RoundLeft v.setup v.number c.args.file c.args.span r begun x.seen) c.in-CameTo.is c.write_next-now.ensures.left in
+    let went = subst (λ (r : Round). RoundWent r v x) c.in-CameTo.is c.write_next-now.ensures.went in
+    let rising = subst (λ (r : Round). IsRising r c.pages.from) c.in-CameTo.is c.write_next-now.ensures.rising in
+    comes-on g.T.Disk.Told.told g.T.Disk.Told.faults w v x c.args.file c.args.span c.pages.from c.pages.book c.write_next-now.result.0 c.pages.disk c.write_next-now.new.disk c.pages.invariant
+    c.in-CameTo.page c.write_next-now.ensures.both went rising.1 left
+
+pub sync_held-requires-clause-at : goal.sync_held-requires-clause-at
+sync_held-requires-clause-at g c κs within =
+    let w = g.T.Turns.standing c.args.turns.now in
+    let v = g.T.Turns.standing c.pages.turns in
+    let x = g.T.Turns.standing c.write_next-now.new.turns in
+    let left = subst (λ (r : Round). (begun : List Entry) → IsFlushing v.number c.args.file c.args.span c.pages.from begun v.seen → RoundLeft v.setup v.number c.args.file c.args.span r begun x.seen) c.in-Syncs.is c.write_next-now.ensures.left in
+    let went = subst (λ (r : Round). RoundWent r v x) c.in-Syncs.is c.write_next-now.ensures.went in (
+      w.seen,
+      at-sync-on g.T.Disk.Told.told g.T.Disk.Told.faults w v x c.args.file c.args.span c.pages.from c.pages.book c.write_next-now.result.0 c.pages.disk c.write_next-now.new.disk c.pages.invariant
+          1 went left w.seen (begins w.number (call.Flush c.args.file c.args.span) w.seen),
+    )
+
+pub returns-in-Syncs-clause-left : goal.returns-in-Syncs-clause-left
+returns-in-Syncs-clause-left g c begun way =
+    let w = g.T.Turns.standing c.args.turns.now in
+    let v = g.T.Turns.standing c.pages.turns in
+    let x = g.T.Turns.standing c.write_next-now.new.turns in
+    let left = subst (λ (r : Round). (begun : List Entry) → IsFlushing v.number c.args.file c.args.span c.pages.from begun v.seen → RoundLeft v.setup v.number c.args.file c.args.span r begun x.seen) c.in-Syncs.is c.write_next-now.ensures.left in
+    let went = subst (λ (r : Round). RoundWent r v x) c.in-Syncs.is c.write_next-now.ensures.went in
+    ended-on g.T.Disk.Told.told g.T.Disk.Told.faults w v x c.args.file c.args.span c.pages.from c.pages.book c.write_next-now.result.0 c.pages.disk c.write_next-now.new.disk c.pages.invariant 1 went
+    (outcome_of c.sync_held.result.1) begun (g.T.Turns.standing c.sync_held.new.turns).seen
+    (c.sync_held.ensures.left begun
+    (at-sync-on g.T.Disk.Told.told g.T.Disk.Told.faults w v x c.args.file c.args.span c.pages.from c.pages.book c.write_next-now.result.0 c.pages.disk c.write_next-now.new.disk c.pages.invariant 1 went left begun way))

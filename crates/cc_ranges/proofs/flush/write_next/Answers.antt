@@ -1,0 +1,65 @@
+-- The page that the step names is dirty, and the flush admitted; so it may be written, and the round is what it left.
+use Rattle.std.specs.Prelude.{◌≡◌, ℕ, None}
+use Rattle.std.proofs.Common.{ap, sym, ◌∙◌, subst}
+use Rattle.cc_entry.specs.declared.call.Call.TheVariants as call
+use Rattle.cc_model.specs.History.{history}
+use Rattle.cc_model.specs.Refusals.{refusal}
+use Rattle.cc_model.specs.Setup.{Setup}
+use Rattle.cc_turns.specs.Standing.{Standing}
+use Rattle.cc_writes.specs.Writes.{HasBoth, IsToWrite}
+use Rattle.cc_writes.proofs.Disks.{still_of}
+use Rattle.cc_ranges.specs.Flush.{RoundLeft}
+use Rattle.cc_ranges.specs.declared.flush.Round.{Round}
+use Rattle.cc_ranges.proofs.FlushHolding.{asks-page, round-wrote}
+use Rattle.cc_ranges.proofs.flush.write_next.Goals as goal
+
+pub write_for-book-requires-clause-both : goal.write_for-book-requires-clause-both
+write_for-book-requires-clause-both g c κs within =
+    let w = g.T.Turns.standing c.args.turns.now in
+    let v = g.T.Turns.standing c.next_at.new.turns in
+    subst (λ (n : ℕ). HasBoth g.T.Disk.Told.told g.T.Disk.Told.faults v n c.next_at.new.book c.args.disk.now) (c.requires.stream ∙ sym c.next_at.ensures.book.stream)
+    (still_of g.T.Disk.Told.told g.T.Disk.Told.faults w.in_flight w v c.args.book.stream c.args.file.stream c.args.book c.next_at.new.book c.args.disk.now
+    (sym c.requires.stream) c.requires.both c.next_at.ensures.book c.next_at.ensures.rest c.in-Writes.ensures.went c.next_at.ensures.disk)
+
+pub write_for-book-requires-clause-admitted : goal.write_for-book-requires-clause-admitted
+write_for-book-requires-clause-admitted g c κs within =
+    let v = g.T.Turns.standing c.next_at.new.turns in
+    let it = call.Flush c.args.file c.args.span.now in
+    let at = c.in-Writes.ensures.left c.requires.flushing.0 c.requires.flushing.1 in
+    subst (λ (n : ℕ). refusal v.setup v.seen (history v.seen n) it ≡ None) (sym c.next_at.ensures.book.stream)
+    (subst (λ (u : Setup). refusal u v.seen (history v.seen c.args.file.stream) it ≡ None) (sym (ap (λ (x : Standing). x.setup) c.in-Writes.ensures.went.same)) at.admitted)
+
+pub write_for-book-requires-clause-asked : goal.write_for-book-requires-clause-asked
+write_for-book-requires-clause-asked g c κs within =
+    let v = g.T.Turns.standing c.next_at.new.turns in
+    let at = c.in-Writes.ensures.left c.requires.flushing.0 c.requires.flushing.1 in
+    asks-page c.args.file c.args.span.now c.next_at.new.book.stream c.in-Writes.page v.seen c.next_at.ensures.book.stream at.in_span
+
+pub write_for-book-requires-clause-to_write : goal.write_for-book-requires-clause-to_write
+write_for-book-requires-clause-to_write g c κs within =
+    let v = g.T.Turns.standing c.next_at.new.turns in
+    let at = c.in-Writes.ensures.left c.requires.flushing.0 c.requires.flushing.1 in
+    subst (λ (n : ℕ). IsToWrite (record { stream = n; page = c.in-Writes.page }) v.seen) (sym c.next_at.ensures.book.stream) at.to_write
+
+pub returns-in-Ended-clause-both : goal.returns-in-Ended-clause-both
+returns-in-Ended-clause-both g c =
+    let w = g.T.Turns.standing c.args.turns.now in
+    let v = g.T.Turns.standing c.next_at.new.turns in
+    still_of g.T.Disk.Told.told g.T.Disk.Told.faults w.in_flight w v c.args.book.stream c.args.file.stream c.args.book c.next_at.new.book c.args.disk.now
+    (sym c.requires.stream) c.requires.both c.next_at.ensures.book c.next_at.ensures.rest c.in-Ended.ensures.went c.next_at.ensures.disk
+
+pub returns-in-Syncs-clause-both : goal.returns-in-Syncs-clause-both
+returns-in-Syncs-clause-both g c =
+    let w = g.T.Turns.standing c.args.turns.now in
+    let v = g.T.Turns.standing c.next_at.new.turns in
+    still_of g.T.Disk.Told.told g.T.Disk.Told.faults 1 w v c.args.book.stream c.args.file.stream c.args.book c.next_at.new.book c.args.disk.now
+    (sym c.requires.stream) c.requires.both c.next_at.ensures.book c.next_at.ensures.rest c.in-Syncs.ensures.went c.next_at.ensures.disk
+
+pub returns-in-Writes-clause-left : goal.returns-in-Writes-clause-left
+returns-in-Writes-clause-left g c begun is =
+    let w = g.T.Turns.standing c.args.turns.now in
+    let v = g.T.Turns.standing c.next_at.new.turns in
+    let x = g.T.Turns.standing c.write_for-book.new.turns in
+    subst (λ (r : Round). RoundLeft w.setup w.number c.args.file c.args.span.now r begun x.seen) (sym c.round_of.ensures)
+    (round-wrote w v w.in_flight c.next_at.new.book.stream c.args.file c.args.span.now c.in-Writes.page c.write_for-book.result.1 x.seen c.in-Writes.ensures.went
+    c.next_at.ensures.book.stream c.write_for-book.ensures.left c.write_for-book.ensures.written begun (c.in-Writes.ensures.left begun is))

@@ -1,0 +1,74 @@
+-- By the step: a page in the way is dirty, and the write admitted, so it may be written for it, and the round is what
+-- that left; any other step is the round.
+use Rattle.std.specs.Prelude.{◌≡◌, ℕ, true, None}
+use Rattle.std.proofs.Common.{ap, sym, ◌∙◌, subst}
+use Rattle.cc_entry.specs.declared.call.Call.TheVariants as call
+use Rattle.cc_effects.specs.Asked.{Calls, may_write}
+use Rattle.cc_model.specs.History.{history}
+use Rattle.cc_model.specs.Refusals.{refusal}
+use Rattle.cc_model.specs.Setup.{Setup}
+use Rattle.cc_turns.specs.Standing.{Standing}
+use Rattle.cc_writes.specs.Writes.{HasBoth, IsToWrite}
+use Rattle.cc_writes.proofs.Disks.{still_of}
+use Rattle.cc_ranges.specs.WriteHeld.{RoundLeft}
+use Rattle.cc_ranges.specs.WriteVisits.{page_in}
+use Rattle.cc_ranges.specs.declared.write_held.Round.{Round}
+use Rattle.cc_ranges.proofs.WriteHolding.{round-wrote, way-asked}
+use Rattle.cc_ranges.proofs.write_held.advance.Goals as goal
+
+pub write_for-book-requires-clause-both : goal.write_for-book-requires-clause-both
+write_for-book-requires-clause-both g c κs within =
+    let w = g.T.Turns.standing c.args.turns.now in
+    let v = g.T.Turns.standing c.next_at.new.turns in
+    subst (λ (n : ℕ). HasBoth g.T.Disk.Told.told g.T.Disk.Told.faults v n c.next_at.new.book c.args.disk.now) (c.requires.stream ∙ sym c.next_at.ensures.book.stream)
+    (still_of g.T.Disk.Told.told g.T.Disk.Told.faults w.in_flight w v c.args.book.stream c.args.file.stream c.args.book c.next_at.new.book c.args.disk.now
+    (sym c.requires.stream) c.requires.both c.next_at.ensures.book c.next_at.ensures.rest c.next_at.ensures.went c.next_at.ensures.disk)
+
+pub write_for-book-requires-clause-admitted : goal.write_for-book-requires-clause-admitted
+write_for-book-requires-clause-admitted g c κs within =
+    let v = g.T.Turns.standing c.next_at.new.turns in
+    let it = call.NcWrite c.args.file c.args.page in
+    subst (λ (n : ℕ). refusal v.setup v.seen (history v.seen n) it ≡ None) (sym c.next_at.ensures.book.stream)
+    (subst (λ (u : Setup). refusal u v.seen (history v.seen c.args.file.stream) it ≡ None) (sym (ap (λ (x : Standing). x.setup) c.next_at.ensures.went.same)) c.in-Writes.ensures.asking.admitted)
+
+pub write_for-book-requires-clause-asked : goal.write_for-book-requires-clause-asked
+write_for-book-requires-clause-asked g c κs within =
+    let v = g.T.Turns.standing c.next_at.new.turns in
+    let it = call.NcWrite c.args.file c.args.page in
+    subst (λ (n : ℕ). may_write (Calls it) (record { stream = n; page = c.in-Writes.dirty }) v.seen ≡ true) (sym c.next_at.ensures.book.stream)
+    (way-asked it (page_in c.args.file c.in-Writes.dirty) v.seen c.in-Writes.ensures.asking.in_the_way)
+
+pub write_for-book-requires-clause-to_write : goal.write_for-book-requires-clause-to_write
+write_for-book-requires-clause-to_write g c κs within =
+    let v = g.T.Turns.standing c.next_at.new.turns in
+    subst (λ (n : ℕ). IsToWrite (record { stream = n; page = c.in-Writes.dirty }) v.seen) (sym c.next_at.ensures.book.stream) c.in-Writes.ensures.asking.to_write
+
+pub returns-in-Ended-clause-both : goal.returns-in-Ended-clause-both
+returns-in-Ended-clause-both g c =
+    let w = g.T.Turns.standing c.args.turns.now in
+    let v = g.T.Turns.standing c.next_at.new.turns in
+    still_of g.T.Disk.Told.told g.T.Disk.Told.faults w.in_flight w v c.args.book.stream c.args.file.stream c.args.book c.next_at.new.book c.args.disk.now
+    (sym c.requires.stream) c.requires.both c.next_at.ensures.book c.next_at.ensures.rest c.next_at.ensures.went c.next_at.ensures.disk
+
+pub returns-in-Ready-clause-both : goal.returns-in-Ready-clause-both
+returns-in-Ready-clause-both g c =
+    let w = g.T.Turns.standing c.args.turns.now in
+    let v = g.T.Turns.standing c.next_at.new.turns in
+    still_of g.T.Disk.Told.told g.T.Disk.Told.faults w.in_flight w v c.args.book.stream c.args.file.stream c.args.book c.next_at.new.book c.args.disk.now
+    (sym c.requires.stream) c.requires.both c.next_at.ensures.book c.next_at.ensures.rest c.next_at.ensures.went c.next_at.ensures.disk
+
+pub returns-in-GoesOn-clause-both : goal.returns-in-GoesOn-clause-both
+returns-in-GoesOn-clause-both g c =
+    let w = g.T.Turns.standing c.args.turns.now in
+    let v = g.T.Turns.standing c.next_at.new.turns in
+    still_of g.T.Disk.Told.told g.T.Disk.Told.faults w.in_flight w v c.args.book.stream c.args.file.stream c.args.book c.next_at.new.book c.args.disk.now
+    (sym c.requires.stream) c.requires.both c.next_at.ensures.book c.next_at.ensures.rest c.next_at.ensures.went c.next_at.ensures.disk
+
+pub returns-in-Writes-clause-left : goal.returns-in-Writes-clause-left
+returns-in-Writes-clause-left g c begun is =
+    let w = g.T.Turns.standing c.args.turns.now in
+    let v = g.T.Turns.standing c.next_at.new.turns in
+    let x = g.T.Turns.standing c.write_for-book.new.turns in
+    subst (λ (r : Round). RoundLeft w.setup w.number c.args.file c.args.page r begun x.seen) (sym c.round_of.ensures)
+    (round-wrote w v c.args.file c.args.page c.in-Writes.dirty c.next_at.new.book.stream x.seen c.next_at.ensures.book.stream c.next_at.ensures.went c.in-Writes.ensures.asking.in_the_way
+    c.write_for-book.result.1 c.write_for-book.ensures.left c.write_for-book.ensures.reason c.write_for-book.ensures.works begun (c.in-Writes.ensures.left begun is))

@@ -1,0 +1,31 @@
+-- How a noncached call tells how far it came.
+use Rattle.std.specs.Prelude.{◌≡◌, ℕ, ◌*◌, ◌≤◌, Result, Ok, Err, List, length, take, drop}
+use Rattle.cc_entry.specs.declared.error.CcError.{CcError}
+use Rattle.cc_turns.specs.Standing.{Standing}
+use Rattle.cc_writes.specs.Ways.{IsFullError}
+use Rattle.cc_ranges.specs.declared.error.NcError.{NcError}
+
+-- how many pages were finished, and why the next one was refused
+abbrev pub refused_of : NcError → ℕ × CcError
+refused_of e = (e.done, e.cause)
+
+-- what a read answers: its bytes, in the front of what the caller handed in, or its refusal
+abbrev pub read_of : Result ℕ NcError → List ℕ → Result (List ℕ) (ℕ × CcError)
+read_of (Ok n) out = Ok (take n out)
+read_of (Err e) out = Err (refused_of e)
+
+-- what a write answers: how many bytes its stores changed, or its refusal
+abbrev pub write_of : Result ℕ NcError → Result ℕ (ℕ × CcError)
+write_of (Ok count) = Ok count
+write_of (Err e) = Err (refused_of e)
+
+-- What the caller handed in is as it was beyond the answer, or beyond the pages that were read.
+abbrev pub KeepsRest : Result ℕ NcError → List ℕ → List ℕ → Type 0
+KeepsRest (Ok n) was now = (n ≤ length was) × (drop n now ≡ drop n was)
+KeepsRest (Err e) was now = drop (4096 * e.done) now ≡ drop (4096 * e.done) was
+
+-- A noncached call that finds the journal full has so many entries, and no room for so many more: a store asks its
+-- place, that of its begin, and those of their two ends.
+abbrev pub IsFullAfter : Standing → Result ℕ NcError → Type 0
+IsFullAfter w (Ok n) = Unit {0}
+IsFullAfter w (Err e) = IsFullError 4 w e.cause

@@ -1,0 +1,21 @@
+-- What the contracts cite.
+pub mod Settled
+pub mod Crash
+pub mod Dirty
+pub mod FlushSteps
+pub mod Flush
+pub mod Residents
+pub mod PurgeSteps
+pub mod Purge
+pub mod Answers
+pub mod Shapes
+pub mod ReadSteps
+pub mod ReadVisits
+pub mod Reads
+pub mod Stores
+pub mod Ends
+pub mod Pages
+pub mod WriteSteps
+pub mod WriteVisits
+pub mod WriteHeld
+pub mod Writes

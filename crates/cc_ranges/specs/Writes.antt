@@ -1,0 +1,43 @@
+-- What a noncached write leaves.
+use Rattle.std.specs.Prelude.{ℕ, ◌/◌, ◌<◌, Result, Ok, Err, List, length}
+use Rattle.cc_entry.specs.Place.{File}
+use Rattle.cc_entry.specs.declared.error.CcError.{CcError}
+use Rattle.cc_effects.specs.Moments.{Between}
+use Rattle.cc_effects.specs.Noncached.{NcWriteLeft, PagesWritten, PageWritesRefused}
+use Rattle.cc_model.specs.Good.{IsGood}
+use Rattle.cc_model.specs.Setup.{Setup}
+use Rattle.cc_turns.specs.Standing.{Standing}
+use Rattle.cc_writes.specs.Ways.{IsFull}
+use Rattle.cc_writes.specs.Fetch.{WentOn}
+use Rattle.cc_ranges.specs.Answers.{IsFullAfter, write_of}
+use Rattle.cc_ranges.specs.WriteHeld.{PageLeft}
+use Rattle.cc_ranges.specs.declared.error.NcError.{NcError}
+
+-- A write of these bytes was answered so: it left what explains its answer, page by page; a journal that is full is
+-- full; the pass goes on as it stood, and what it has seen stays good. Where a transfer failed or found no memory, the
+-- store of its page stands.
+pub record NcWriteEnds (old new : Standing) (file : File) (at : ℕ) (piece : List ℕ) (answer : Result ℕ NcError) : Type 0 where
+  pub left : NcWriteLeft old.setup old.number file at piece (write_of answer) old.seen new.seen
+  pub full : IsFullAfter new answer
+  pub goes_on : WentOn old new
+  pub good : IsGood old.setup old.seen → IsGood old.setup new.seen
+
+-- what the writes of so many pages leave, from this one on
+abbrev pub PagesLeft : Setup → ℕ → File → ℕ → ℕ → List ℕ → Result ℕ (ℕ × CcError) → Between
+PagesLeft u me file first count bytes (Ok changed) old new = PagesWritten me file first count bytes changed old new
+PagesLeft u me file first count bytes (Err failed) old new =
+    (failed.0 < count) × PageWritesRefused u me file first failed.0 bytes failed.1 old new
+
+-- The same of a write whose place and length are in order, from the number of its first page on.
+pub record PagesWriteEnds (old new : Standing) (file : File) (first : ℕ) (piece : List ℕ) (answer : Result ℕ NcError) : Type 0 where
+  pub left : PagesLeft old.setup old.number file first (length piece / 4096) piece (write_of answer) old.seen new.seen
+  pub full : IsFullAfter new answer
+  pub goes_on : WentOn old new
+  pub good : IsGood old.setup old.seen → IsGood old.setup new.seen
+
+-- The same of one page.
+pub record PageWriteEnds (old new : Standing) (file : File) (page : ℕ) (bytes : List ℕ) (answer : Result ℕ CcError) : Type 0 where
+  pub left : PageLeft old.setup old.number file page bytes answer old.seen new.seen
+  pub full : IsFull 4 new answer
+  pub goes_on : WentOn old new
+  pub good : IsGood old.setup new.seen

@@ -1,0 +1,142 @@
+-- What is known of a call that waits for a page.
+use Rattle.std.specs.Prelude.{◌≡◌, ℕ, ◌+◌, ◌*◌, ◌≤◌, Bool, true, false, not, ◌==◌, nat_lt, min, List, length, if◌then◌else◌, refl}
+use Rattle.std.specs.declared.option.Option.{Option}
+use Rattle.std.specs.declared.option.Option.TheVariants.{Some, None}
+use Rattle.std.proofs.Common.{ap, sym, ◌∙◌, arith}
+use Rattle.std.proofs.lemmas.Bool.{or_left, eq-eqb, ltb-false, not-false}
+use Rattle.cc_entry.specs.Place.{File, Range}
+use Rattle.cc_entry.specs.Pages.{has_page, pages_of}
+use Rattle.cc_entry.specs.declared.call.Call.{Call}
+use Rattle.cc_entry.specs.declared.call.Call.TheVariants as call
+use Rattle.cc_entry.specs.declared.entry.Entry.{Entry}
+use Rattle.cc_effects.specs.Asked.{is_of, brings_in, makes_room}
+use Rattle.cc_images.proofs.Found.{found-passes}
+use Rattle.cc_holds.proofs.PagesOwed.{among-pages_of}
+use Rattle.cc_laws.proofs.Lists1.{among-not_empty}
+use Rattle.cc_laws.proofs.UnrefusedCalls.{unrefused, refuse_if-none}
+use Rattle.cc_model.specs.Acts.{file_of}
+use Rattle.cc_model.specs.Filing.{IsFiled}
+use Rattle.cc_model.specs.History.{Effect, history}
+use Rattle.cc_model.specs.Holds.{Hold}
+use Rattle.cc_model.specs.Numbers.{is_empty}
+use Rattle.cc_model.specs.Objects.{objects}
+use Rattle.cc_model.specs.Ranges.{range_of}
+use Rattle.cc_model.specs.Reasons.{not_cached, cached_file, past_size, beyond_size}
+use Rattle.cc_model.specs.Refusals.{refusal}
+use Rattle.cc_model.specs.Residency.{is_resident}
+use Rattle.cc_model.specs.Setup.{Setup}
+use Rattle.cc_model.specs.Sizes.{stored_range}
+use Rattle.cc_model.specs.Touches.{size_of, is_mapped}
+use Rattle.cc_model.specs.Views.{viewed}
+use Rattle.cc_step.specs.Step.{is_answered, least_absent}
+use Rattle.cc_step.specs.Room.{IsWaiting}
+use Rattle.cc_step.proofs.Found.{not-true, found-among}
+
+-- the range that a waiting call needs, which has the page
+pub record Needs (h : List Effect) (it : Call) (page : ℕ) : Type 0 where
+  pub range : Range
+  pub range_is : range_of (size_of h) it ≡ Some range
+  pub has : has_page range page ≡ true
+  pub absent : is_resident h page ≡ false
+
+pub needs : (u : Setup) (past : List Entry) (s : ℕ) (it : Call) (page : ℕ) → IsWaiting u past s it page → Needs (history past s) it page
+needs u past s it page waits = go (range_of (size_of h) it) refl waits.least
+  where
+    h : List Effect
+    h = history past s
+
+    go : (o : Option Range) → range_of (size_of h) it ≡ o → least_absent h o ≡ Some page → Needs h it page
+    go None is least = absurd (cc)
+    go (Some r) is least = record {
+      range = r;
+      range_is = is;
+      has = sym (among-pages_of r page) ∙ found-among (λ p. not (is_resident h p)) (pages_of r) page least;
+      absent = not-true (is_resident h page) (found-passes (λ p. not (is_resident h p)) (pages_of r) page least);
+    }
+
+not-past : (size end : ℕ) → past_size size end ≡ None → end ≤ size
+not-past size end none = ltb-false size end (refuse_if-none (nat_lt size end) _ none)
+
+-- the bytes of a page, as far as the size
+stored-within : (page size : ℕ) → (stored_range page size).to ≤ size
+stored-within page size = go (nat_lt (4096 * page) size)
+  where
+    go : (b : Bool) → (if b then min (4096 * page + 4096) size else 0) ≤ size
+    go true = omega arith
+    go false = omega arith
+
+-- the range of a call for which room is made, and that nothing refuses, ends within the size
+pub range-within : (size : ℕ) (it : Call) (r : Range) → is_answered it ≡ true → makes_room it ≡ true → beyond_size size it ≡ None → range_of size it ≡ Some r → r.to ≤ size
+range-within size it r answered room none is = go it answered room none is
+  where
+    same : (a : Range) → Some a ≡ Some r → a.to ≤ size → r.to ≤ size
+    same a e within = let equal : a ≡ r = cc in rw (sym equal) within
+
+    go : (c : Call) → is_answered c ≡ true → makes_room c ≡ true → beyond_size size c ≡ None → range_of size c ≡ Some r → r.to ≤ size
+    go (call.CopyRead file at len wait) answered room none is = same _ is (omega arith)
+    go (call.CopyWrite file at bytes) answered room none is = same _ is (not-past size (at + length bytes) none)
+    go (call.Zero file span) answered room none is = same _ is (not-past size span.to none)
+    go (call.Map file at len) answered room none is = same _ is (not-past size (at + len) none)
+    go (call.PinRead file at len exclusive) answered room none is = same _ is (not-past size (at + len) none)
+    go (call.PreparePin file at len zero exclusive) answered room none is = same _ is (not-past size (at + len) none)
+    go (call.MdlRead file at len) answered room none is = same _ is (not-past size (at + len) none)
+    go (call.MdlWrite file at len) answered room none is = same _ is (not-past size (at + len) none)
+    go (call.NcWrite file page) answered room none is = same _ is (stored-within page size)
+    go other answered room none is = absurd (cc)
+
+-- such a call names a file object that is cached
+opened : (h : List Effect) (it : Call) → is_answered it ≡ true → makes_room it ≡ true → not_cached h (cached_file it (file_of it)) ≡ None → is_empty (objects h) ≡ false
+opened h (call.CopyRead file at len wait) answered room none = open-file h file none
+  where
+    open-file : (h : List Effect) (file : File) → not_cached h (Some file) ≡ None → is_empty (objects h) ≡ false
+    open-file h file none = among-not_empty file.object (objects h) (not-false _ (refuse_if-none _ _ none))
+opened h (call.CopyWrite file at bytes) answered room none = among-not_empty file.object (objects h) (not-false _ (refuse_if-none _ _ none))
+opened h (call.Zero file span) answered room none = among-not_empty file.object (objects h) (not-false _ (refuse_if-none _ _ none))
+opened h (call.Map file at len) answered room none = among-not_empty file.object (objects h) (not-false _ (refuse_if-none _ _ none))
+opened h (call.PinRead file at len exclusive) answered room none = among-not_empty file.object (objects h) (not-false _ (refuse_if-none _ _ none))
+opened h (call.PreparePin file at len zero exclusive) answered room none = among-not_empty file.object (objects h) (not-false _ (refuse_if-none _ _ none))
+opened h (call.MdlRead file at len) answered room none = among-not_empty file.object (objects h) (not-false _ (refuse_if-none _ _ none))
+opened h (call.MdlWrite file at len) answered room none = among-not_empty file.object (objects h) (not-false _ (refuse_if-none _ _ none))
+opened h (call.NcWrite file page) answered room none = among-not_empty file.object (objects h) (not-false _ (refuse_if-none _ _ none))
+opened h other answered room none = absurd (cc)
+
+-- so its stream has a shared map
+pub waiting-mapped : (u : Setup) (past : List Entry) (h : List Effect) (it : Call) → is_answered it ≡ true → makes_room it ≡ true → refusal u past h it ≡ None → is_mapped h ≡ true
+waiting-mapped u past h it answered room none =
+    or_left (not (is_empty (objects h))) _ (ap not (opened h it answered room (unrefused u past h it none).cached))
+
+pub waiting-within : (u : Setup) (past : List Entry) (h : List Effect) (it : Call) (r : Range) → is_answered it ≡ true → makes_room it ≡ true → refusal u past h it ≡ None → range_of (size_of h) it ≡ Some r → r.to ≤ size_of h
+waiting-within u past h it r answered room none is = range-within (size_of h) it r answered room (unrefused u past h it none).within_size is
+
+-- such a call is filed under the stream of its file
+pub filed-of : (holds : List Hold) (pass s page : ℕ) (it : Call) → is_answered it ≡ true → makes_room it ≡ true → IsFiled holds pass (Some s) it (file_of it) → is_of (file_of it) (record { stream = s; page = page }) ≡ true
+filed-of holds pass s page it answered room filed = go it answered room filed
+  where
+    same : (t : ℕ) → Some s ≡ Some t → (t == s) ≡ true
+    same t e = let equal : s ≡ t = cc in eq-eqb t s (sym equal)
+
+    go : (c : Call) → is_answered c ≡ true → makes_room c ≡ true → IsFiled holds pass (Some s) c (file_of c) → is_of (file_of c) (record { stream = s; page = page }) ≡ true
+    go (call.CopyRead file at len wait) answered room filed = same file.stream filed
+    go (call.CopyWrite file at bytes) answered room filed = same file.stream filed
+    go (call.Zero file span) answered room filed = same file.stream filed
+    go (call.Map file at len) answered room filed = same file.stream filed
+    go (call.PinRead file at len exclusive) answered room filed = same file.stream filed
+    go (call.PreparePin file at len zero exclusive) answered room filed = same file.stream filed
+    go (call.MdlRead file at len) answered room filed = same file.stream filed
+    go (call.MdlWrite file at len) answered room filed = same file.stream filed
+    go (call.NcWrite file page) answered room filed = same file.stream filed
+    go other answered room filed = absurd (cc)
+
+-- a call that brings pages in may give a block up
+pub brings-room : (it : Call) → brings_in it ≡ true → makes_room it ≡ true
+brings-room (call.NcStore file page bytes) brings = refl
+brings-room (call.NcWrite file page) brings = refl
+brings-room other brings = brings
+
+-- the blocks of its range have to be mapped
+pub room-viewed : (h : List Effect) (it : Call) (r : Option Range) → is_answered it ≡ true → makes_room it ≡ true → viewed h it r ≡ r
+room-viewed h (call.CopyRead file at len true) r answered room = refl
+room-viewed h (call.CopyRead file at len false) r answered room = absurd (cc)
+room-viewed h (call.AheadStep request) r answered room = absurd (cc)
+room-viewed h (call.NcRead file page) r answered room = absurd (cc)
+room-viewed h other r answered room = refl

@@ -1,0 +1,143 @@
+-- A call that may bring pages in: what it does next on its book, and how a page that was looked for lands there.
+use Rattle.std.specs.Prelude.{◌≡◌, ℕ, ◌+◌, ◌-◌, ◌≤◌, ◌⊎◌, Bool, true, false, List, Result, Ok, Err}
+use Rattle.std.specs.declared.option.Option.{Option}
+use Rattle.std.specs.declared.option.Option.TheVariants.{Some, None}
+use Rattle.cc_entry.specs.Place.{Page}
+use Rattle.cc_entry.specs.declared.call.Call.{Call}
+use Rattle.cc_entry.specs.declared.entry.Entry.{Entry}
+use Rattle.cc_entry.specs.declared.entry.Entry.TheVariants as entry
+use Rattle.cc_entry.specs.declared.error.NoMemory.{NoMemory}
+use Rattle.cc_entry.specs.declared.reply.Reply.{Reply}
+use Rattle.cc_book.specs.Book.{BookState, Gains, page_in}
+use Rattle.cc_content.specs.Filling.{IsReadFrom}
+use Rattle.cc_effects.specs.Asked.{reaches, is_in_the_way, makes_way}
+use Rattle.cc_effects.specs.Places.{is_on_disk_alone}
+use Rattle.cc_journal.specs.Journal.{JournalState}
+use Rattle.cc_model.specs.History.{history}
+use Rattle.cc_model.specs.Images.{open_of}
+use Rattle.cc_model.specs.Ranges.{range_of}
+use Rattle.cc_model.specs.Refusals.{refusal}
+use Rattle.cc_model.specs.Residency.{is_resident, mapped_blocks_with}
+use Rattle.cc_model.specs.Settings.{quota_of}
+use Rattle.cc_model.specs.Setup.{Setup}
+use Rattle.cc_model.specs.Stamps.{is_unstamped}
+use Rattle.cc_model.specs.Touches.{size_of, is_dirty}
+use Rattle.cc_step.specs.Step.{StandUnder, MayStep, least_absent, most_asked, Adds, AttemptDone, AttemptRefused, IsStop, FoundNone}
+use Rattle.cc_step.specs.declared.ways.Next.{Next}
+use Rattle.cc_step.specs.declared.ways.Next.TheVariants as next
+
+-- What a pass asks of a book for such a call: it may step there, and no transfer of the stream is under way.
+pub record MayFill {Q : Type 0} (u : Setup) (pass : ℕ) (it : Call) (b : BookState) (j : JournalState Q) : Type 0 where
+  pub may : MayStep u pass it b j
+  pub no_transfer : open_of (history j.entries b.stream) ≡ None
+
+-- a page of a book's stream
+abbrev pub page_of : BookState → ℕ → Page
+page_of b page = record { stream = b.stream; page = page }
+
+-- A page went out to make room for the call, the next of the block to give up.
+pub record MadeWay {Q : Type 0} (u : Setup) (pass : ℕ) (it again : Call)
+    (b c : BookState) (j k : JournalState Q) : Type 0 where
+  pub call_is : again ≡ it
+  pub page : ℕ
+  pub next : makes_way it (page_of b page) j.entries ≡ true
+  pub placed : Adds (entry.PageOut pass (page_of b page)) j k
+  pub stand : StandUnder u c k
+  pub stream : c.stream ≡ b.stream
+
+-- A page of the block to give up is dirty, and no pin owes it a stamp; nothing refuses the call, and nothing changed.
+pub record HasToWrite {Q : Type 0} (u : Setup) (page : ℕ) (it again : Call)
+    (b c : BookState) (j k : JournalState Q) : Type 0 where
+  pub call_is : again ≡ it
+  pub admitted : refusal u j.entries (history j.entries b.stream) it ≡ None
+  pub in_the_way : is_in_the_way it (page_of b page) j.entries ≡ true
+  pub dirty : is_dirty (history j.entries b.stream) page ≡ true
+  pub stamped : is_unstamped (history j.entries b.stream) page ≡ false
+  pub same_book : c ≡ b
+  pub same_journal : k ≡ j
+
+-- The call, which nothing refuses, waits for a page, for which the quota has room; one place more is reserved.
+pub record HasToRead {Q : Type 0} (u : Setup) (page : ℕ) (it again : Call)
+    (b c : BookState) (j k : JournalState Q) : Type 0 where
+  pub call_is : again ≡ it
+  pub admitted : refusal u j.entries (history j.entries b.stream) it ≡ None
+  pub least : least_absent (history j.entries b.stream) (range_of (size_of (history j.entries b.stream)) it) ≡ Some page
+  pub in_quota : mapped_blocks_with (history j.entries b.stream) page ≤ quota_of (history j.entries b.stream)
+  pub same_book : c ≡ b
+  pub reserved : k ≡ record j { reserved = j.reserved + 1 }
+
+-- What such a call did next, by cases.
+abbrev pub NextLeft : {Q : Type 0} → Setup → ℕ → Call → Next
+    → BookState → BookState → JournalState Q → JournalState Q → Type 0
+NextLeft u pass it next.Done b c j k = (r : Reply) × AttemptDone u pass it r b c j k
+NextLeft u pass it (next.Refused e) b c j k = AttemptRefused u pass it e b c j k
+NextLeft u pass it (next.WentOut again) b c j k = MadeWay u pass it again b c j k
+NextLeft u pass it (next.Writes page again) b c j k = HasToWrite u page it again b c j k
+NextLeft u pass it (next.Reads page again) b c j k = HasToRead u page it again b c j k
+NextLeft u pass it (next.Stopped e) b c j k = IsStop (most_asked it) e j × FoundNone u b c j k
+
+-- Room is made: a page went out, or one is to be written before, or the journal's room or memory was wanting.
+abbrev pub MakesWay : Next → Type 0
+MakesWay next.Done = ⊥
+MakesWay (next.Refused e) = ⊥
+MakesWay (next.WentOut again) = Unit {0}
+MakesWay (next.Writes page again) = Unit {0}
+MakesWay (next.Reads page again) = ⊥
+MakesWay (next.Stopped e) = Unit {0}
+
+-- What was read of a page, where it was read, is what its stream's disk has of it, if the page is not resident.
+abbrev pub IsRead : Setup → List Entry → ℕ → ℕ → Option (List ℕ) → Type 0
+IsRead u past s page None = Unit {0}
+IsRead u past s page (Some bytes) =
+    is_resident (history past s) page ≡ false → IsReadFrom (u.opening s) (history past s) page bytes
+
+-- What a pass asks of a book on which a page that was looked for is to land.
+pub record MayLand {Q : Type 0} (u : Setup) (pass : ℕ) (it : Call) (page : ℕ) (raw : Option (List ℕ)) (b : BookState)
+    (j : JournalState Q) : Type 0 where
+  pub may : MayFill u pass it b j
+  pub read : IsRead u j.entries b.stream page raw
+
+-- one place that was reserved is given back
+abbrev pub GivesBack : {Q : Type 0} → JournalState Q → JournalState Q → Type 0
+GivesBack j k = k ≡ record j { reserved = j.reserved - 1 }
+
+-- the page, one of the call's range, came in
+pub record Landed {Q : Type 0} (u : Setup) (pass : ℕ) (it : Call) (page : ℕ)
+    (b c : BookState) (j k : JournalState Q) : Type 0 where
+  pub reached : reaches it (page_of b page) j.entries ≡ true
+  pub placed : Gains (page_in pass (page_of b page) b) j k
+  pub stand : StandUnder u c k
+  pub stream : c.stream ≡ b.stream
+
+-- nothing came in
+pub record NotLanded {Q : Type 0} (b c : BookState) (j k : JournalState Q) : Type 0 where
+  pub given_back : GivesBack j k
+  pub same : c ≡ b
+
+-- there was no memory
+pub record FoundNoRoom {Q : Type 0} (u : Setup) (b c : BookState) (j k : JournalState Q) : Type 0 where
+  pub given_back : GivesBack j k
+  pub stand : StandUnder u c k
+  pub stream : c.stream ≡ b.stream
+
+-- What a page that was looked for leaves as it lands.
+abbrev pub LandLeft : {Q : Type 0} → Setup → ℕ → Call → ℕ → Result (Unit {0}) NoMemory
+    → BookState → BookState → JournalState Q → JournalState Q → Type 0
+LandLeft u pass it page (Ok done) b c j k = Landed u pass it page b c j k ⊎ NotLanded b c j k
+LandLeft u pass it page (Err e) b c j k = FoundNoRoom u b c j k
+
+-- the entry says that the disk failed to read the page, which is on the disk alone
+pub record ToldUnread {Q : Type 0} (u : Setup) (pass page : ℕ) (b : BookState) (j k : JournalState Q) : Type 0 where
+  pub on_disk : is_on_disk_alone (page_of b page) j.entries ≡ true
+  pub placed : Gains (entry.FillFailed pass (page_of b page)) j k
+  pub stand : StandUnder u b k
+
+-- the page is not on the disk alone any more, and nothing was placed
+pub record NotUnread {Q : Type 0} (page : ℕ) (b : BookState) (j k : JournalState Q) : Type 0 where
+  pub not_on_disk : is_on_disk_alone (page_of b page) j.entries ≡ false
+  pub given_back : GivesBack j k
+
+-- What a page that the disk failed to read leaves, by whether its entry was placed.
+abbrev pub UnreadLeft : {Q : Type 0} → Setup → ℕ → ℕ → Bool → BookState → JournalState Q → JournalState Q → Type 0
+UnreadLeft u pass page true b j k = ToldUnread u pass page b j k
+UnreadLeft u pass page false b j k = NotUnread page b j k

@@ -1,5 +1,0 @@
-use Rattle.cc_steps.proofs.Happened.{has-happened}
-use Rattle.cc_steps.proofs.happening.happen.Goals as goal
-
-pub returns : goal.returns
-returns g c = has-happened _ _ _ _ _ c.journal-journal.ensures.rests c.step.ensures

@@ -1,2 +1,0 @@
--- What the contracts cite beside the definitions.
-pub mod Stamped

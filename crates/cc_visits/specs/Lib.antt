@@ -1,5 +1,0 @@
--- What the contracts cite.
-pub mod Hands
-pub mod Ways
-pub mod Visits
-pub mod Told

@@ -1,0 +1,102 @@
+-- What the visits of a pass to the journal leave of a call.
+use Rattle.std.specs.Prelude.{◌≡◌, ℕ, suc, Bool, true, false, List, ◌∷◌, Option}
+use Rattle.std.specs.declared.option.Option.TheVariants.{Some, None}
+use Rattle.cc_entry.specs.declared.call.Call.{Call}
+use Rattle.cc_entry.specs.declared.error.CcError.TheVariants as error
+use Rattle.cc_entry.specs.declared.entry.Entry.{Entry}
+use Rattle.cc_entry.specs.declared.entry.Entry.TheVariants as entry
+use Rattle.cc_content.specs.Filling.{IsReadFrom}
+use Rattle.cc_effects.specs.Asked.{is_in_the_way}
+use Rattle.cc_effects.specs.Calls.{IsUnderWay}
+use Rattle.cc_model.specs.Acts.{file_of}
+use Rattle.cc_model.specs.Filing.{IsFiled}
+use Rattle.cc_model.specs.History.{history}
+use Rattle.cc_model.specs.Holds.{Hold, holds_of}
+use Rattle.cc_model.specs.Ranges.{range_of}
+use Rattle.cc_model.specs.Refusals.{refusal}
+use Rattle.cc_model.specs.Residency.{is_resident}
+use Rattle.cc_model.specs.Setup.{Setup}
+use Rattle.cc_model.specs.Stamps.{is_unstamped}
+use Rattle.cc_model.specs.Touches.{is_dirty, size_of}
+use Rattle.cc_step.specs.Step.{least_absent, most_asked}
+use Rattle.cc_turns.specs.Standing.{Standing}
+use Rattle.cc_turns.specs.Takes.{Grows}
+use Rattle.cc_writes.specs.Hands.{SameDisk, Went, WentWith}
+use Rattle.cc_writes.specs.Ways.{EndedSo, IsFull, IsHalted}
+use Rattle.cc_writes.specs.declared.visits.Tried.{Tried}
+use Rattle.cc_writes.specs.declared.visits.Tried.TheVariants as tried
+use Rattle.cc_writes.specs.declared.visits.Step.{Step}
+use Rattle.cc_writes.specs.declared.visits.Step.TheVariants as step
+
+-- the call is filed under the stream, whatever holds are open
+abbrev pub IsOf : Call → ℕ → Type 0
+IsOf it s = (holds : List Hold) (pass : ℕ) → IsFiled holds pass (Some s) it (file_of it)
+
+-- The call is filed under the stream, as the pass has seen it: one that names a hold is filed where that hold is open
+-- there, was made by the pass, and serves.
+abbrev pub IsFiledNow : Standing → ℕ → Call → Type 0
+IsFiledNow w s it = IsFiled (holds_of (history w.seen s)) w.number (Some s) it (file_of it)
+
+-- Nothing refuses a call, and this is the least page that it needs and that is not resident.
+pub record IsWaitedFor (u : Setup) (s : ℕ) (it : Call) (page : ℕ) (past : List Entry) : Type 0 where
+  pub admitted : refusal u past (history past s) it ≡ None
+  pub least : least_absent (history past s) (range_of (size_of (history past s)) it) ≡ Some page
+
+-- A page is to be written so that its block can be given up for a call, which nothing refuses.
+pub record IsToBeWritten (u : Setup) (s : ℕ) (it : Call) (page : ℕ) (past : List Entry) : Type 0 where
+  pub admitted : refusal u past (history past s) it ≡ None
+  pub in_the_way : is_in_the_way it (record { stream = s; page = page }) past ≡ true
+  pub dirty : is_dirty (history past s) page ≡ true
+  pub stamped : is_unstamped (history past s) page ≡ false
+
+-- What an attempt at a call that was under way leaves, by cases over how it ended.
+abbrev pub TriedLeft : Setup → ℕ → ℕ → Call → Tried → List Entry → List Entry → List ℕ → List ℕ → Type 0
+TriedLeft u me s it (tried.Ended answer) old new was now = EndedSo u me it answer old new was now
+TriedLeft u me s it (tried.Waits page again) old new was now =
+    (again ≡ it) × IsUnderWay me it old new × IsWaitedFor u s it page new × (now ≡ was)
+
+-- What the next step of a call that was under way leaves, by cases over it.
+abbrev pub StepLeft : Setup → ℕ → ℕ → Call → Step → List Entry → List Entry → List ℕ → List ℕ → Type 0
+StepLeft u me s it (step.Ended answer) old new was now = EndedSo u me it answer old new was now
+StepLeft u me s it (step.WentOut again) old new was now = (again ≡ it) × IsUnderWay me it old new × (now ≡ was)
+StepLeft u me s it (step.Writes page again) old new was now =
+    (again ≡ it) × IsUnderWay me it old new × IsToBeWritten u s it page new × (now ≡ was)
+StepLeft u me s it (step.Reads page again) old new was now =
+    (again ≡ it) × IsUnderWay me it old new × IsWaitedFor u s it page new × (now ≡ was)
+
+-- an attempt at a call that stopped for want of room, or ended otherwise
+abbrev pub IsFullTried : Standing → Call → Tried → Type 0
+IsFullTried w it (tried.Ended answer) = IsFull (most_asked it) w answer
+IsFullTried w it (tried.Waits page again) = Unit {0}
+
+-- the same of a step of a call that may bring pages in, each of which asks a place too
+abbrev pub IsFullStep : Standing → Call → Step → Type 0
+IsFullStep w it (step.Ended answer) = IsFull (most_asked it) w answer
+IsFullStep w it other = Unit {0}
+
+-- The pass goes on as it stood; with a page that is to be read it has a place reserved for the entry.
+abbrev pub StepWent : Step → Standing → Standing → Type 0
+StepWent (step.Reads page again) old new = WentWith (suc old.in_flight) old new
+StepWent other old new = Went old new
+
+-- A page that is to come in was read from what the disk is known to hold, if it was read.
+abbrev pub WasReadFor : Standing → ℕ → ℕ → Option (List ℕ) → Type 0
+WasReadFor w s page None = Unit {0}
+WasReadFor w s page (Some raw) =
+    is_resident (history w.seen s) page ≡ false → IsReadFrom (w.setup.opening s) (history w.seen s) page raw
+
+-- Others went on, and then the pass placed this entry.
+pub record HasPlaced (w : Standing) (e : Entry) (new : List Entry) : Type 0 where
+  pub front : List Entry
+  pub grows : Grows w front
+  pub placed : new ≡ e ∷ front
+
+-- What the failure of a read left: its entry, or nothing of the pass.
+abbrev pub UnreadPlaced : Standing → Standing → ℕ → ℕ → Bool → Type 0
+UnreadPlaced old new s page true = HasPlaced old (entry.FillFailed old.number (record { stream = s; page = page })) new.seen
+UnreadPlaced old new s page false = SameDisk old.seen new.seen s
+
+-- Where the entry stands the call was halted by it, else it is under way.
+abbrev pub UnreadLeft : Setup → ℕ → ℕ → Call → ℕ → Bool → List Entry → List Entry → Type 0
+UnreadLeft u me s it page true old new = IsHalted u me s it (error.ReadFault page) old new
+UnreadLeft u me s it page false old new = IsUnderWay me it old new

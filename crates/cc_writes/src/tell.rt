@@ -1,0 +1,84 @@
+//! What a caller is told of a reply.
+
+ghost use Rattle.std.specs.Prelude.{◌≡◌, ◌≤◌, take, drop, length};
+ghost use Rattle.std.specs.Option.{option_copied};
+ghost use Rattle.cc_writes.specs.Told.{FitsLast, FitsReply, ToldLast, reply_of};
+ghost use Rattle.cc_writes.specs.Ways.{IsTold};
+
+use cc_entry::{Bytes, Entry, FileState, Lsn, Outcome, Reply};
+use cc_journal::Journal;
+
+/// What a call that was done returns to its caller.
+#[derive(Clone, Copy, Debug)]
+pub enum Returned {
+    /// So many bytes, which stand in the front of what the caller handed in.
+    Bytes(usize),
+    /// The id of a hold.
+    Hold(u64),
+    /// Whether it is so: of an uninitialise, whether the shared map went.
+    Flag(bool),
+    /// The least and the greatest LSN stamped on dirty pages of a stream, where there is one.
+    Lsns(Option<(Lsn, Lsn)>),
+    /// The sizes and the log of a stream.
+    State(FileState),
+    /// Nothing more.
+    Nothing,
+}
+
+/// Tells the journal's last reply: its bytes are copied into the front of `out`.
+pub fn tell_last<Q>(journal: &Journal<Q>, out: &mut [u8]) -> Returned
+    requires fits { FitsLast journal.now.entries out.old }
+    ensures { ToldLast journal.now.entries result out.old out.new }
+{
+    match journal.entries().last() {
+        Some(entry) => match reply_of(entry) {
+            Some(reply) => told(reply, out),
+            None => Returned::Nothing,
+        },
+        None => Returned::Nothing,
+    }
+}
+
+// The reply of an entry whose call was done.
+fn reply_of(entry: &Entry) -> Option<&Reply>
+    ensures { option_copied result ≡ reply_of entry.now }
+{
+    match entry {
+        Entry::Call {
+            outcome: Outcome::Done(reply),
+            ..
+        } => Some(reply),
+        _ => None,
+    }
+}
+
+// Tells a reply.
+fn told(reply: &Reply, out: &mut [u8]) -> Returned
+    requires fits { FitsReply reply.now out.old }
+    ensures { IsTold reply.now result out.old out.new }
+{
+    match reply {
+        Reply::Read(bytes) => Returned::Bytes(copy(bytes, out)),
+        Reply::Hold(id) => Returned::Hold(*id),
+        Reply::Flag(flag) => Returned::Flag(*flag),
+        Reply::Lsns(lsns) => Returned::Lsns(*lsns),
+        Reply::State(state) => Returned::State(*state),
+        _ => Returned::Nothing,
+    }
+}
+
+// Copies bytes into the front of a slice, and says how many they are.
+fn copy(bytes: &Bytes, out: &mut [u8]) -> usize
+    requires { length bytes.now ≤ length out.old }
+    ensures count { result ≡ length bytes.now }
+    ensures front { take result out.new ≡ bytes.now }
+    ensures rest { drop result out.new ≡ drop result out.old }
+{
+    let mut told = 0;
+    for run in bytes.runs() {
+        let end = told + run.count as usize;
+        out[told..end].fill(run.byte);
+        told = end;
+    }
+    told
+}
