@@ -10,7 +10,7 @@ use cc_entry::{FileId, Request};
 use std::marker::Model;
 
 /// The bytes that a copied read answered, one at least: from `from` up to, and without, `to`.
-#[derive(Clone, Copy, Debug)]
+#[derive(Clone, Copy)]
 pub(crate) struct KeptRead {
     from: u64,
     to: u128,
@@ -43,7 +43,7 @@ impl KeptRead {
 }
 
 /// The last reads of an object that are kept, two at most.
-#[derive(Clone, Copy, Debug)]
+#[derive(Clone, Copy)]
 pub(crate) enum Reads {
     Empty,
     One(KeptRead),
@@ -51,7 +51,7 @@ pub(crate) enum Reads {
 }
 
 /// The granularity of an object in bytes, and its last reads.
-#[derive(Clone, Copy, Debug)]
+#[derive(Clone, Copy)]
 pub(crate) struct PrivateMap {
     granularity: u64,
     reads: Reads,

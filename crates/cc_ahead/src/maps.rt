@@ -15,7 +15,7 @@ use cc_entry::{Call, FileId, Reply, Request};
 use std::marker::Model;
 
 /// The private maps of a stream's sixteen objects.
-#[derive(Debug, Drop)]
+#[derive(Drop)]
 pub struct PrivateMaps {
     maps: [PrivateMap; 16],
 }

@@ -14,7 +14,7 @@ use std::alloc::Global;
 use std::marker::Model;
 
 /// Bytes of a stream that are held to be read. Dropping it leaves its hold open.
-#[derive(Debug, Drop)]
+#[derive(Drop)]
 pub struct ReadChain {
     held: Held,
 }
@@ -36,7 +36,7 @@ impl Hold for ReadChain {
 }
 
 /// Bytes of a stream that are held to be stored into. Dropping it leaves its hold open.
-#[derive(Debug, Drop)]
+#[derive(Drop)]
 pub struct WriteChain {
     held: Held,
 }

@@ -17,7 +17,7 @@ use std::alloc::Global;
 use std::marker::Model;
 
 /// Bytes of a stream that are mapped. Dropping it leaves its hold open.
-#[derive(Debug, Drop)]
+#[derive(Drop)]
 pub struct Mapped {
     held: Held,
 }

@@ -15,7 +15,7 @@ use std::alloc::Global;
 use std::marker::Model;
 
 /// Bytes of a stream that are pinned. Dropping it leaves its hold open.
-#[derive(Debug, Drop)]
+#[derive(Drop)]
 pub struct Pinned {
     held: Held,
 }

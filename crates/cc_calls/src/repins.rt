@@ -18,7 +18,7 @@ use std::alloc::Global;
 use std::marker::Model;
 
 /// The bytes of a pin, held once more. It bars no other pin, and owes no set-dirty. Dropping it leaves its hold open.
-#[derive(Debug, Drop)]
+#[derive(Drop)]
 pub struct Repinned {
     held: Held,
 }

@@ -6,4 +6,3 @@ pub mod Lsns
 pub mod Parts
 pub mod Runs
 pub mod Errors
-pub mod Same

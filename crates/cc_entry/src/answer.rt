@@ -7,7 +7,7 @@ use crate::reply::Reply;
 
 /// What one tick of the lazy writer did: the pages that it picked, and how many of them were written,
 /// skipped, and not written because the disk or the log failed.
-#[derive(Debug, Drop, PartialEq)]
+#[derive(Drop)]
 pub struct Tick {
     pub picked: Pages,
     pub written: u32,
@@ -16,14 +16,14 @@ pub struct Tick {
 }
 
 /// A read-ahead request that was served, and whether every page of it is resident.
-#[derive(Clone, Copy, Debug, PartialEq, Eq)]
+#[derive(Clone, Copy)]
 pub struct AheadDone {
     pub request: Request,
     pub whole: bool,
 }
 
 /// The answer of a line.
-#[derive(Debug, Drop, PartialEq)]
+#[derive(Drop)]
 pub enum Answer {
     /// The call was done.
     Given(Reply),
@@ -53,7 +53,7 @@ pub enum Answer {
 }
 
 /// The answer of the script's line of this number, counted from 1.
-#[derive(Debug, Drop, PartialEq)]
+#[derive(Drop)]
 pub struct LineReply {
     pub line: u32,
     pub answer: Answer,

@@ -14,7 +14,7 @@ use std::alloc::Global;
 use std::marker::Model;
 
 /// A list of bytes, of fewer than 2^64.
-#[derive(Debug, Drop)]
+#[derive(Drop)]
 pub struct Bytes {
     parts: Vec<Part>,
     len: u64,
@@ -32,7 +32,7 @@ impl Model for Bytes {
 }
 
 /// Room for a list of bytes of a greatest length, so that no memory is taken as they come.
-#[derive(Debug, Drop)]
+#[derive(Drop)]
 pub struct BytesRoom {
     parts: Vec<Part>,
     most: usize,

@@ -5,7 +5,7 @@ use crate::place::{FileId, FileSizes, Lsn, Quota, Request, Span};
 
 /// A call with its arguments, as its entry in the journal keeps them. A hold is its id; `at`, `len` and
 /// sizes are in bytes, `page` is the page's number in the file's stream.
-#[derive(Debug, Drop, PartialEq)]
+#[derive(Drop)]
 pub enum Call {
     /// `CcInitializeCacheMap`.
     Initialise {

@@ -7,7 +7,7 @@ use crate::place::{FileId, Lsn, PageId, StreamId};
 use crate::reply::Outcome;
 
 /// How a transfer or a sync ended.
-#[derive(Clone, Copy, Debug, PartialEq, Eq)]
+#[derive(Clone, Copy)]
 pub enum End {
     Good,
     /// The disk failed.
@@ -17,7 +17,7 @@ pub enum End {
 }
 
 /// One event. `pass` is the number of the caller, `handle` that of a log.
-#[derive(Debug, Drop, PartialEq)]
+#[derive(Drop)]
 pub enum Entry {
     /// A call that ended; `nth` counts the pass's calls from 1. The stream is that of the call's file
     /// or hold.

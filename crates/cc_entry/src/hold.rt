@@ -3,7 +3,7 @@
 use crate::place::{FileId, Span};
 
 /// What a hold may be used for.
-#[derive(Clone, Copy, Debug, PartialEq, Eq)]
+#[derive(Clone, Copy, PartialEq, Eq)]
 pub enum HoldKind {
     /// A mapped range (`CcMapData`): it is read.
     Map,
@@ -18,7 +18,7 @@ pub enum HoldKind {
 }
 
 /// An open hold: a range of `len` bytes of the file object's stream from `at` on.
-#[derive(Clone, Copy, Debug, PartialEq, Eq)]
+#[derive(Clone, Copy)]
 pub struct HoldRow {
     pub id: u64,
     pub file: FileId,
@@ -32,7 +32,7 @@ pub struct HoldRow {
 }
 
 /// A deferred write in the throttle's queue.
-#[derive(Clone, Copy, Debug, PartialEq, Eq)]
+#[derive(Clone, Copy)]
 pub struct Deferral {
     pub id: u64,
     pub file: FileId,

@@ -6,7 +6,7 @@ use crate::place::{DirtyRow, PageId};
 use std::marker::Model;
 
 /// A list of pages.
-#[derive(Debug, Drop)]
+#[derive(Drop)]
 pub struct Pages {
     items: Vec<PageId>,
 }
@@ -44,23 +44,8 @@ impl Pages {
     }
 }
 
-impl PartialEq for Pages {
-    ghost use Rattle.std.specs.Cmp.Lexicographic.{pointwise, lists_per};
-    ghost use Rattle.std.specs.Cmp.Rules.{comparing};
-    ghost use Rattle.std.proofs.Common.{rules};
-    ghost use Rattle.cc_entry.specs.Same.{page_eq};
-
-    ghost eq = { pointwise page_eq };
-
-    ghost laws = { lists_per (Prim.search (comparing, rules)) };
-
-    fn eq(&self, other: &Pages) -> bool {
-        self.items == other.items
-    }
-}
-
 /// Rows of the dirty page table.
-#[derive(Debug, Drop)]
+#[derive(Drop)]
 pub struct Rows {
     items: Vec<DirtyRow>,
 }
@@ -98,23 +83,8 @@ impl Rows {
     }
 }
 
-impl PartialEq for Rows {
-    ghost use Rattle.std.specs.Cmp.Lexicographic.{pointwise, lists_per};
-    ghost use Rattle.std.specs.Cmp.Rules.{comparing};
-    ghost use Rattle.std.proofs.Common.{rules};
-    ghost use Rattle.cc_entry.specs.Same.{row_eq};
-
-    ghost eq = { pointwise row_eq };
-
-    ghost laws = { lists_per (Prim.search (comparing, rules)) };
-
-    fn eq(&self, other: &Rows) -> bool {
-        self.items == other.items
-    }
-}
-
 /// Numbers of deferred writes.
-#[derive(Debug, Drop)]
+#[derive(Drop)]
 pub struct Ids {
     items: Vec<u64>,
 }
@@ -148,19 +118,5 @@ impl Ids {
     {
         let Ids { items } = self;
         items
-    }
-}
-
-impl PartialEq for Ids {
-    ghost use Rattle.std.specs.Prelude.{nat_eq};
-    ghost use Rattle.std.specs.Cmp.Lexicographic.{pointwise, nat_list_eq_equiv};
-    ghost use Rattle.std.specs.Cmp.{partial_equiv_from_equiv};
-
-    ghost eq = { pointwise nat_eq };
-
-    ghost laws = { partial_equiv_from_equiv nat_list_eq_equiv };
-
-    fn eq(&self, other: &Ids) -> bool {
-        self.items == other.items
     }
 }

@@ -6,7 +6,7 @@ use crate::error::NoMemory;
 use std::marker::Model;
 
 /// How the bytes are kept.
-#[derive(Clone, Copy, Debug)]
+#[derive(Clone, Copy)]
 enum Kind {
     /// The first `len` of these.
     Few { len: u8, bytes: [u8; 14] },
@@ -15,7 +15,7 @@ enum Kind {
 }
 
 /// A part has one byte at least.
-#[derive(Debug, Drop)]
+#[derive(Drop)]
 pub(crate) struct Part {
     kind: Kind,
 }

@@ -96,7 +96,7 @@ impl FileId {
 }
 
 /// A page of a stream, of 4096 bytes; its number lies below 2^51.
-#[derive(Clone, Copy, Debug, PartialEq, Eq)]
+#[derive(Clone, Copy, PartialEq, Eq)]
 pub struct PageId {
     stream: StreamId,
     page: u64,
@@ -187,7 +187,7 @@ impl Lsn {
 }
 
 /// The bytes of a stream from `from` up to, and without, `to`.
-#[derive(Clone, Copy, Debug, PartialEq, Eq)]
+#[derive(Clone, Copy)]
 pub struct Span {
     from: u64,
     to: u64,
@@ -238,7 +238,7 @@ impl Span {
 }
 
 /// How many view blocks of a stream may be mapped, 8 to 64.
-#[derive(Clone, Copy, Debug, PartialEq, Eq)]
+#[derive(Clone, Copy)]
 pub struct Quota {
     blocks: u8,
 }
@@ -280,7 +280,7 @@ impl Quota {
 
 /// The three sizes of a stream in bytes: what is allocated, its end, and the valid data length, past
 /// which every byte reads as zero.
-#[derive(Clone, Copy, Debug, PartialEq, Eq)]
+#[derive(Clone, Copy)]
 pub struct FileSizes {
     pub allocation: u64,
     pub size: u64,
@@ -288,7 +288,7 @@ pub struct FileSizes {
 }
 
 /// What a stream's `file_state` answers: its sizes and the log it writes to.
-#[derive(Clone, Copy, Debug, PartialEq, Eq)]
+#[derive(Clone, Copy)]
 pub struct FileState {
     pub sizes: FileSizes,
     pub log: Option<u8>,
@@ -303,7 +303,7 @@ pub struct Request {
 }
 
 /// A row of the dirty page table: a page, and the least and greatest LSN not yet written to it.
-#[derive(Clone, Copy, Debug, PartialEq, Eq)]
+#[derive(Clone, Copy)]
 pub struct DirtyRow {
     pub page: PageId,
     pub oldest: Lsn,

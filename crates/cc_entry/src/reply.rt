@@ -6,7 +6,7 @@ use crate::lists::Rows;
 use crate::place::{FileState, Lsn, Request};
 
 /// What a call that is done answers.
-#[derive(Debug, Drop, PartialEq)]
+#[derive(Drop)]
 pub enum Reply {
     Unit,
     /// The bytes that were read.
@@ -26,7 +26,7 @@ pub enum Reply {
 }
 
 /// How a call ended.
-#[derive(Debug, Drop, PartialEq)]
+#[derive(Drop)]
 pub enum Outcome {
     Done(Reply),
     Failed(CcError),

@@ -9,7 +9,7 @@ use crate::part::Part;
 use std::marker::Model;
 
 /// `count` bytes of one value.
-#[derive(Clone, Copy, Debug, PartialEq, Eq)]
+#[derive(Clone, Copy, PartialEq, Eq)]
 pub struct Run {
     pub byte: u8,
     pub count: u64,

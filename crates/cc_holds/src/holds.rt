@@ -15,7 +15,7 @@ use std::alloc::Global;
 use std::marker::Model;
 
 /// A hold, and the pages that were written through it since its last set-dirty.
-#[derive(Debug, Drop)]
+#[derive(Drop)]
 pub struct Hold {
     pub row: HoldRow,
     pub touched: TouchedPages,

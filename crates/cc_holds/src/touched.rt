@@ -13,7 +13,7 @@ use std::marker::Model;
 const PAGE_SIZE: u64 = 4096;
 
 /// Numbers of pages, each once.
-#[derive(Debug, Drop)]
+#[derive(Drop)]
 pub struct TouchedPages {
     pages: Vec<u64>,
 }

@@ -12,7 +12,7 @@ use std::marker::Model;
 use std::mem::replace;
 
 /// What a word of a caller names.
-#[derive(Debug, Drop)]
+#[derive(Drop)]
 pub enum Named {
     Map(Mapped),
     Pin(Pinned),
@@ -41,7 +41,7 @@ impl Named {
 
 /// What the words of a caller name, in the order in which its lines bind them: nothing where the hold was not made, or
 /// was ended.
-#[derive(Debug, Drop)]
+#[derive(Drop)]
 pub struct Names {
     named: Vec<Option<Named>>,
 }

@@ -3,7 +3,7 @@
 use cc_entry::NoMemory;
 
 /// Why a line, or a word of it, is not read.
-#[derive(Clone, Copy, Debug, PartialEq, Eq)]
+#[derive(Clone, Copy, PartialEq, Eq)]
 pub(crate) enum LineFault {
     /// It is not in the grammar.
     Syntax,

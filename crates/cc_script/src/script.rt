@@ -15,14 +15,14 @@ use std::marker::Model;
 use thiserror::Error;
 
 /// What the lines of a script are: calls of callers, or events in their order.
-#[derive(Clone, Copy, Debug, PartialEq, Eq)]
+#[derive(Clone, Copy, PartialEq, Eq)]
 pub enum Mode {
     Run,
     Steps,
 }
 
 /// A stream of the script, numbered by its place in the list.
-#[derive(Debug, Drop)]
+#[derive(Drop)]
 pub struct StreamLine {
     pub line: u32,
     pub name: Name,
@@ -34,7 +34,7 @@ pub struct StreamLine {
 }
 
 /// The streams of a script, at most 16.
-#[derive(Debug, Drop)]
+#[derive(Drop)]
 pub struct StreamLines {
     items: Vec<StreamLine>,
 }
@@ -125,7 +125,7 @@ fn place_of(streams: &[StreamLine], name: &[u8]) -> Option<usize>
 }
 
 /// What a line asks for, with the values of its words.
-#[derive(Debug, Drop)]
+#[derive(Drop)]
 pub enum Action {
     /// An open of a file object, with any three sizes: where they are out of order, the call is refused.
     Initialise {
@@ -394,7 +394,7 @@ impl Action {
 
 /// An action with its line, its phase and its caller, all counted from 1, and whether it is to fail by a fault that its
 /// caller met.
-#[derive(Debug, Drop)]
+#[derive(Drop)]
 pub struct ActionLine {
     pub line: u32,
     pub phase: u32,
@@ -404,7 +404,7 @@ pub struct ActionLine {
 }
 
 /// The actions of a script, in the order of their lines.
-#[derive(Debug, Drop)]
+#[derive(Drop)]
 pub struct ActionLines {
     items: Vec<ActionLine>,
 }
@@ -469,7 +469,7 @@ impl ActionLines {
 
 /// A script: what its header lines set, its streams and its actions. What a script doesn't set is a
 /// journal of 1048576 entries and a cache threshold of 1024 pages.
-#[derive(Debug, Drop)]
+#[derive(Drop)]
 pub struct Script {
     pub journal: u32,
     pub threshold: u32,

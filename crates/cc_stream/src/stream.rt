@@ -16,7 +16,7 @@ use cc_entry::Call;
 use std::marker::Model;
 
 /// What is kept of one stream beside its pages and its holds.
-#[derive(Clone, Copy, Debug)]
+#[derive(Clone, Copy)]
 pub struct StreamState {
     opened: [bool; 16],
     had_map: bool,

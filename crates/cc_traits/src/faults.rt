@@ -8,7 +8,7 @@ use std::marker::Model;
 
 /// The count of faults of an object outside. It never falls. At its end it stands still, and the
 /// object answers [`Stop::NoMemory`] in place of a failure that it could not count.
-#[derive(Debug, Drop)]
+#[derive(Drop)]
 pub struct Faults {
     count: u64,
 }

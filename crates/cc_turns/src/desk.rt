@@ -22,7 +22,7 @@ use std::marker::Model;
 use std::snapshot::Snapshot;
 
 /// The turns that are out.
-#[derive(Clone, Copy, Debug)]
+#[derive(Clone, Copy)]
 pub(crate) struct Held {
     pub(crate) device: Option<StreamId>,
     pub(crate) book: Option<StreamId>,

@@ -23,7 +23,7 @@ use cc_log::LogTurn;
 use cc_turns::Turns;
 
 /// How the flush of a log ended.
-#[derive(Clone, Copy, Debug)]
+#[derive(Clone, Copy)]
 pub enum LogFlush {
     /// The log is flushed to the LSN, or there is none to flush to.
     Reached,

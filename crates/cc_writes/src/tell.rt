@@ -9,7 +9,7 @@ use cc_entry::{Bytes, Entry, FileState, Lsn, Outcome, Reply};
 use cc_journal::Journal;
 
 /// What a call that was done returns to its caller.
-#[derive(Clone, Copy, Debug)]
+#[derive(Clone, Copy)]
 pub enum Returned {
     /// So many bytes, which stand in the front of what the caller handed in.
     Bytes(usize),
