@@ -7,7 +7,7 @@ ghost use Rattle.cc_calls.specs.declared.held.Held.{Held};
 use cc_entry::FileId;
 
 /// A hold as its caller keeps it: the file object that it was made for, its id, and its range, in bytes.
-#[derive(Clone, Copy, PartialEq, Eq)]
+#[derive(Clone, Copy)]
 pub struct Held {
     pub file: FileId,
     pub id: u64,

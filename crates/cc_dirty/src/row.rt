@@ -7,14 +7,14 @@ ghost use Rattle.cc_dirty.specs.Order.{precedes, same_page, is_from, is_between}
 use cc_entry::{Lsn, PageId, StreamId};
 
 /// What is unwritten of a page: whether it was touched, and the least and greatest LSN of its stamps.
-#[derive(Clone, Copy, PartialEq, Eq)]
+#[derive(Clone, Copy)]
 pub struct Unwritten {
     pub touched: bool,
     pub lsns: Option<(Lsn, Lsn)>,
 }
 
 /// A page that is dirty: what an open WriteBegin took of it, and what was touched since.
-#[derive(Clone, Copy, PartialEq, Eq)]
+#[derive(Clone, Copy)]
 pub struct Row {
     pub page: PageId,
     pub begun: Unwritten,

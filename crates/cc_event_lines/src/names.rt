@@ -12,7 +12,7 @@ use std::alloc::Global;
 use std::marker::Model;
 
 /// A hold that a word of a caller names.
-#[derive(Clone, Copy, PartialEq, Eq)]
+#[derive(Clone, Copy)]
 pub(crate) struct Named {
     pub(crate) caller: u32,
     /// The word's number among those that the caller binds.

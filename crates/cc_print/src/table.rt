@@ -10,7 +10,7 @@ use cc_script::StreamLine;
 use std::alloc::AllocError;
 
 /// A dirty page, and the least and greatest LSN not yet written to it, where it is stamped.
-#[derive(Clone, Copy, PartialEq, Eq)]
+#[derive(Clone, Copy)]
 pub struct TableRow {
     pub page: PageId,
     pub oldest: Option<Lsn>,

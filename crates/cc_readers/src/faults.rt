@@ -9,7 +9,7 @@ ghost use Rattle.cc_readers.specs.FaultReads.{fault_in};
 use cc_entry::{Call, End, Entry, Outcome};
 
 /// What a device or a log failed to do.
-#[derive(Clone, Copy, PartialEq, Eq)]
+#[derive(Clone, Copy)]
 pub enum Fault {
     /// To read the page of this number.
     Read(u64),

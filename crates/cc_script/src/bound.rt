@@ -11,7 +11,7 @@ use std::alloc::Global;
 use std::marker::Model;
 
 /// The hold that a word names: its kind, its bytes, and whether a line ended it.
-#[derive(Clone, Copy, PartialEq, Eq)]
+#[derive(Clone, Copy)]
 pub struct Bound {
     pub kind: HoldKind,
     pub file: FileId,
@@ -21,7 +21,7 @@ pub struct Bound {
 }
 
 /// Which kinds of hold serve a verb.
-#[derive(Clone, Copy, PartialEq, Eq)]
+#[derive(Clone, Copy)]
 pub enum Need {
     Map,
     Pin,

@@ -3,7 +3,7 @@
 use cc_entry::NoMemory;
 
 /// Why a line, or a word of it, is not read.
-#[derive(Clone, Copy, PartialEq, Eq)]
+#[derive(Clone, Copy)]
 pub(crate) enum LineFault {
     /// It is not in the grammar.
     Syntax,

@@ -15,7 +15,7 @@ use std::marker::Model;
 use thiserror::Error;
 
 /// What the lines of a script are: calls of callers, or events in their order.
-#[derive(Clone, Copy, PartialEq, Eq)]
+#[derive(Clone, Copy)]
 pub enum Mode {
     Run,
     Steps,

@@ -4,7 +4,7 @@ use crate::hold_word::HoldWord;
 use cc_entry::FileId;
 
 /// So many bytes of a file, from a place on, under a word.
-#[derive(Clone, Copy, PartialEq, Eq)]
+#[derive(Clone, Copy)]
 pub(crate) struct Stretch {
     pub(crate) file: FileId,
     pub(crate) at: u64,

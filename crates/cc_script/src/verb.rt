@@ -8,7 +8,7 @@ ghost use Rattle.cc_script.specs.declared.script.Mode.TheVariants as mode;
 use crate::script::Mode;
 
 /// The first word of a line, after a caller word.
-#[derive(Clone, Copy, PartialEq, Eq)]
+#[derive(Clone, Copy)]
 pub(crate) enum Verb {
     Stream,
     Journal,

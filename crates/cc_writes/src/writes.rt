@@ -19,7 +19,7 @@ use cc_pages::Frame;
 use cc_turns::Turns;
 
 /// What became of a page that was to be written.
-#[derive(Clone, Copy, PartialEq, Eq)]
+#[derive(Clone, Copy)]
 pub enum PageWrite {
     Written,
     /// The disk failed.
