@@ -1,0 +1,163 @@
+//! A case: what is handed in to a run of the program, and what has to come of it.
+
+use crate::stage::Event;
+use crate::trouble::{Device, Kind, Trouble};
+use anyhow::Result;
+use std::alloc::Global;
+
+/// A case. Disks, logs and post routines are those of each run.
+#[derive(Drop)]
+pub struct Case {
+    pub title: String,
+    pub words: Vec<String>,
+    pub script: Script,
+    pub disks: Vec<DiskPlan>,
+    pub logs: Vec<LogPlan>,
+    pub routines: u64,
+    /// How many bytes the source gives in a call, above 0, and the sink takes.
+    pub gives: usize,
+    pub takes: usize,
+    pub troubles: Vec<Trouble>,
+    pub orders: Vec<(Event, Event)>,
+    pub sweep: Option<Sweep>,
+    /// What has to hold in each run.
+    pub wants: Vec<Want>,
+    /// What has to hold, besides, in the one run of a sweep that has this trouble.
+    pub at: Vec<(Trouble, Vec<Want>)>,
+}
+
+impl Case {
+    /// A case that says nothing yet: `run s` with no script over a disk of 5A and 16 routines.
+    pub fn new(alloc: Global, title: &str) -> Result<Case> {
+        let disk = DiskPlan {
+            fill: 0x5A,
+            tells: true,
+            pages: Vec::new(alloc),
+        };
+        Ok(Case {
+            title: String::from_str(alloc, title)?,
+            words: vec![in alloc;
+                String::from_str(alloc, "run")?,
+                String::from_str(alloc, "s")?,
+            ]?,
+            script: Script::Lines(String::new(alloc)),
+            disks: vec![in alloc; disk]?,
+            logs: Vec::new(alloc),
+            routines: 16,
+            gives: 4096,
+            takes: 4096,
+            troubles: Vec::new(alloc),
+            orders: Vec::new(alloc),
+            sweep: None,
+            wants: Vec::new(alloc),
+            at: Vec::new(alloc),
+        })
+    }
+
+    /// Adds what has to come of each run, or of the run that the last line of one names.
+    pub fn add(&mut self, want: Want) -> Result<()> {
+        match self.at.last_mut() {
+            Some((_, wants)) => wants.push(want)?,
+            None => self.wants.push(want)?,
+        }
+        Ok(())
+    }
+}
+
+/// A script: its text, or the file that has it.
+#[derive(Drop)]
+pub enum Script {
+    Lines(String),
+    File(String),
+}
+
+/// A disk as it is handed in.
+#[derive(Drop)]
+pub struct DiskPlan {
+    pub fill: u8,
+    pub tells: bool,
+    pub pages: Vec<(u64, Vec<u8>)>,
+}
+
+/// A log as it is handed in.
+#[derive(Drop)]
+pub struct LogPlan {
+    pub entries: Vec<(u64, Vec<u8>)>,
+}
+
+/// The runs of a case that is no single one.
+#[derive(Clone, Copy, PartialEq, Eq)]
+pub enum Sweep {
+    /// Each call on each disk and each log fails once.
+    Fails,
+    /// Each of them but a log's flush finds no memory once.
+    NoMemory,
+    /// The disks and logs stop together after each number of calls.
+    StopsTogether,
+    /// Each of them stops after each number of its calls.
+    StopsAlone,
+}
+
+/// A number that a run leaves.
+#[derive(Clone, Copy, Debug)]
+pub enum Count {
+    /// The exit status.
+    Status,
+    /// Lines of the text.
+    Lines,
+    Replies,
+    Entries,
+    Ticks,
+    Aheads,
+    /// Calls that failed, on everything that was handed in.
+    Faults,
+    /// Calls on a device.
+    Made(Device, Kind),
+}
+
+/// A part of a text.
+#[derive(Clone, Copy)]
+pub enum Part {
+    Whole,
+    Front,
+    End,
+    Inside,
+    Nowhere,
+}
+
+/// What has to come of a run.
+#[derive(Drop)]
+pub enum Want {
+    Text(Part, String),
+    /// Each line of the text from one to another has one of these forms, a line each.
+    Each {
+        from: usize,
+        to: usize,
+        forms: String,
+    },
+    Count(Count, u64),
+    /// The numbers of the routines that were posted.
+    Posted(Vec<u64>),
+    /// The page of a disk begins with these bytes, and has the disk's fill byte behind them.
+    Holds {
+        disk: usize,
+        page: u64,
+        bytes: Vec<u8>,
+    },
+    /// The contents of a page that a crash may leave, oldest first.
+    MayHold {
+        disk: usize,
+        page: u64,
+        contents: Vec<Vec<u8>>,
+    },
+    /// The entries of a log.
+    Logged {
+        log: usize,
+        entries: Vec<(u64, Vec<u8>)>,
+    },
+    /// The LSN up to which a log is on its medium.
+    Durable {
+        log: usize,
+        lsn: u64,
+    },
+}

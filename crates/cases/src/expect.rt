@@ -1,0 +1,351 @@
+//! Whether a run left what a case wants.
+
+use crate::case::{Case, Count, Part, Want};
+use crate::devices::{Calls, CaseDisk, CaseLog, Routine};
+use crate::run::{Left, whole_page};
+use crate::stage::Stage;
+use crate::trouble::{Device, Trouble};
+use anyhow::{Context, Error, Result, anyhow, bail, ensure};
+use std::alloc::Global;
+
+/// Whether a trouble came.
+pub fn was_reached(trouble: Trouble, stage: &Stage, left: &Left) -> bool {
+    match trouble {
+        Trouble::Fails(place) | Trouble::NoMemory(place) => match left.calls(place.device) {
+            Some(calls) => place.number <= calls.made(place.kind),
+            None => false,
+        },
+        Trouble::Stops(device, after) => match left.calls(device) {
+            Some(calls) => after < calls.all(),
+            None => false,
+        },
+        Trouble::AllStop(after) => after < stage.calls(),
+    }
+}
+
+/// What has to hold in every run: each trouble came and each fault was counted, nothing waited in vain, and what was handed
+/// in is back in its order.
+pub fn check_run(case: &Case, stage: &Stage, left: &Left) -> Result<()> {
+    for trouble in stage.troubles.iter() {
+        ensure!(
+            was_reached(*trouble, stage, left),
+            "never reached: {trouble}"
+        );
+    }
+    ensure!(
+        stage.orders.iter().all(|order| order.was_kept()),
+        "something waited in vain, or never came"
+    );
+    ensure!(
+        left.disks.len() == case.disks.len() && left.logs.len() == case.logs.len(),
+        "{} disks and {} logs are back",
+        left.disks.len(),
+        left.logs.len()
+    );
+    check_devices(left)?;
+    check_routines(case.routines, &left.posts)?;
+    let posted = left.posts.iter().filter(|routine| routine.posted).count();
+    ensure!(
+        posted == left.posted,
+        "{posted} routines were posted, and {} entries tell of one",
+        left.posted
+    );
+    Ok(())
+}
+
+/// The disks and the logs are back in their order, and each failure was counted.
+fn check_devices(left: &Left) -> Result<()> {
+    for (nth, disk) in left.disks.iter().enumerate() {
+        check_calls(Device::Disk(nth), &disk.calls, disk.inner.faults())?;
+    }
+    for (nth, log) in left.logs.iter().enumerate() {
+        check_calls(Device::Log(nth), &log.calls, log.inner.faults())?;
+    }
+    check_calls(
+        Device::Source,
+        &left.source.calls,
+        left.source.faults.count(),
+    )?;
+    check_calls(Device::Sink, &left.sink.calls, left.sink.faults.count())
+}
+
+/// A device is at its place, and each of its failures was counted.
+fn check_calls(device: Device, calls: &Calls, faults: u64) -> Result<()> {
+    let back = calls.device();
+    ensure!(back == device, "{back} is back as {device}");
+    let failed = calls.failed();
+    ensure!(
+        failed == faults,
+        "{device} counts {faults} faults of {failed}"
+    );
+    Ok(())
+}
+
+/// The routines are back in their order.
+fn check_routines(many: u64, posts: &[Routine]) -> Result<()> {
+    ensure!(
+        posts.len() as u64 == many,
+        "{} routines are back",
+        posts.len()
+    );
+    for (nth, routine) in posts.iter().enumerate() {
+        let number = routine.number;
+        ensure!(
+            number == (nth as u64).saturating_add(1),
+            "routine {number} is back in another place"
+        );
+    }
+    Ok(())
+}
+
+/// What has to hold in a run of a sweep in which one call was made to fail, or to find no memory: the journal tells of as
+/// many failures, and of no other.
+pub fn check_failures(faults: u64, left: &Left) -> Result<()> {
+    let counted = count_of(Count::Faults, left);
+    ensure!(
+        counted == faults,
+        "{counted} faults are counted, wanted {faults}"
+    );
+    let told = left.failures as u64;
+    ensure!(
+        told == faults,
+        "the journal tells of {told} faults, wanted {faults}"
+    );
+    Ok(())
+}
+
+/// The exit status is that which is wanted last, or 0.
+pub fn check_status(wants: &[Want], more: &[Want], left: &Left) -> Result<()> {
+    let wanted = wants
+        .iter()
+        .chain(more.iter())
+        .fold(0, |last, want| match want {
+            Want::Count(Count::Status, wanted) => *wanted,
+            _ => last,
+        });
+    let status = u64::from(left.status);
+    ensure!(status == wanted, "the status is {status}, wanted {wanted}");
+    Ok(())
+}
+
+/// A run left what is wanted beside the status.
+pub fn check_wants(alloc: Global, wants: &[Want], case: &Case, left: &Left) -> Result<()> {
+    for want in wants {
+        check_want(alloc, want, case, left)?;
+    }
+    Ok(())
+}
+
+/// A run left this.
+fn check_want(alloc: Global, want: &Want, case: &Case, left: &Left) -> Result<()> {
+    match want {
+        Want::Text(part, wanted) => check_text(alloc, *part, wanted, &left.text),
+        Want::Each { from, to, forms } => check_each(*from, *to, forms, &left.text),
+        Want::Count(Count::Status, _) => Ok(()),
+        Want::Count(count, wanted) => check_count(*count, *wanted, left),
+        Want::Posted(numbers) => check_posted(numbers, &left.posts),
+        Want::Holds { disk, page, bytes } => {
+            let plan = case.disks.get(*disk).ok_or(anyhow!("no such disk"))?;
+            let wanted = whole_page(plan.fill, bytes);
+            check_page(*page, &disk_of(left, *disk)?.inner.page(*page), &wanted)
+        }
+        Want::MayHold {
+            disk,
+            page,
+            contents,
+        } => {
+            let plan = case.disks.get(*disk).ok_or(anyhow!("no such disk"))?;
+            let may = disk_of(left, *disk)?.inner.may(*page)?;
+            check_contents(*page, plan.fill, &may, contents)
+        }
+        Want::Logged { log, entries } => {
+            check_entries(log_of(left, *log)?.inner.entries(), entries)
+        }
+        Want::Durable { log, lsn } => {
+            let durable = log_of(left, *log)?.inner.durable();
+            ensure!(
+                durable == *lsn,
+                "log {log} is durable up to {durable}, wanted {lsn}"
+            );
+            Ok(())
+        }
+    }
+}
+
+/// A disk that is back.
+fn disk_of<'l, 'a>(left: &'l Left<'a>, disk: usize) -> Result<&'l CaseDisk<'a>> {
+    left.disks
+        .get(disk)
+        .ok_or(anyhow!("there is no disk {disk}"))
+}
+
+/// A log that is back.
+fn log_of<'l, 'a>(left: &'l Left<'a>, log: usize) -> Result<&'l CaseLog<'a>> {
+    left.logs.get(log).ok_or(anyhow!("there is no log {log}"))
+}
+
+/// The number that a run left.
+fn count_of(count: Count, left: &Left) -> u64 {
+    match count {
+        Count::Status => u64::from(left.status),
+        Count::Lines => left.text.lines().count() as u64,
+        Count::Replies => left.replies as u64,
+        Count::Entries => left.entries as u64,
+        Count::Ticks => left.ticks as u64,
+        Count::Aheads => left.aheads as u64,
+        Count::Faults => faults(left),
+        Count::Made(device, kind) => match left.calls(device) {
+            Some(calls) => calls.made(kind),
+            None => 0,
+        },
+    }
+}
+
+/// How many calls failed, on everything that was handed in.
+fn faults(left: &Left) -> u64 {
+    let mut sum = left.source.faults.count();
+    sum = sum.saturating_add(left.sink.faults.count());
+    for disk in left.disks.iter() {
+        sum = sum.saturating_add(disk.inner.faults());
+    }
+    for log in left.logs.iter() {
+        sum = sum.saturating_add(log.inner.faults());
+    }
+    sum
+}
+
+/// A run left this number.
+fn check_count(count: Count, wanted: u64, left: &Left) -> Result<()> {
+    let was = count_of(count, left);
+    ensure!(was == wanted, "{count:?}: {was}, wanted {wanted}");
+    Ok(())
+}
+
+/// These routines were posted, and no others.
+fn check_posted(wanted: &[u64], posts: &[Routine]) -> Result<()> {
+    for routine in posts {
+        let number = routine.number;
+        ensure!(
+            routine.posted == wanted.contains(&number),
+            "routine {number} was posted, or was not"
+        );
+    }
+    Ok(())
+}
+
+/// A page holds these bytes.
+fn check_page(page: u64, was: &[u8; 4096], wanted: &[u8; 4096]) -> Result<()> {
+    for (at, (one, other)) in was.iter().zip(wanted.iter()).enumerate() {
+        ensure!(
+            one == other,
+            "byte {at} of page {page} is {one:02X}, wanted {other:02X}"
+        );
+    }
+    Ok(())
+}
+
+/// A crash may leave these contents of a page.
+fn check_contents(page: u64, fill: u8, may: &[[u8; 4096]], wanted: &[Vec<u8>]) -> Result<()> {
+    ensure!(
+        may.len() == wanted.len(),
+        "page {page} may hold {} contents, wanted {}",
+        may.len(),
+        wanted.len()
+    );
+    for (was, bytes) in may.iter().zip(wanted.iter()) {
+        check_page(page, was, &whole_page(fill, bytes))?;
+    }
+    Ok(())
+}
+
+/// A log has these entries.
+fn check_entries(was: &[(u64, Vec<u8>)], wanted: &[(u64, Vec<u8>)]) -> Result<()> {
+    ensure!(
+        was.len() == wanted.len(),
+        "a log has {} entries, wanted {}",
+        was.len(),
+        wanted.len()
+    );
+    for (one, other) in was.iter().zip(wanted.iter()) {
+        ensure!(
+            one.0 == other.0 && one.1 == other.1,
+            "an entry has LSN {} or other bytes, wanted LSN {}",
+            one.0,
+            other.0
+        );
+    }
+    Ok(())
+}
+
+/// The text has these lines at this part.
+fn check_text(alloc: Global, part: Part, wanted: &str, text: &str) -> Result<()> {
+    let is_right = match part {
+        Part::Whole => text == wanted,
+        Part::Front => text.starts_with(wanted),
+        Part::End => is_within(alloc, text, wanted, true)?,
+        Part::Inside => is_within(alloc, text, wanted, false)?,
+        Part::Nowhere => !is_within(alloc, text, wanted, false)?,
+    };
+    if is_right {
+        return Ok(());
+    }
+    let first = wanted.lines().next().unwrap_or("");
+    match part {
+        Part::Whole | Part::Front => Err(difference(wanted, text)),
+        Part::End => bail!("the text does not end with the lines from `{first}` on"),
+        Part::Inside => bail!("the text lacks the lines from `{first}` on"),
+        Part::Nowhere => bail!("the text has the lines from `{first}` on"),
+    }
+}
+
+/// Whether a text has, or ends with, these lines. The first need not begin a line where two dots stand before it.
+fn is_within(alloc: Global, text: &str, wanted: &str, at_end: bool) -> Result<bool> {
+    let behind_feed = format!(in alloc; "\n{wanted}")?;
+    let sought = match wanted.strip_prefix("..") {
+        Some(rest) => rest,
+        None => behind_feed.as_str(),
+    };
+    if at_end {
+        return Ok(text == wanted || text.ends_with(sought));
+    }
+    Ok(text.starts_with(wanted) || text.contains(sought))
+}
+
+/// Each line of the text from one to another has one of these forms.
+fn check_each(from: usize, to: usize, forms: &str, text: &str) -> Result<()> {
+    for number in from..=to {
+        let line = text.lines().nth(number.saturating_sub(1)).unwrap_or("");
+        ensure!(
+            forms.lines().any(|form| has_form(line, form)),
+            "line {number} of the text is `{line}`"
+        );
+    }
+    Ok(())
+}
+
+/// Whether a line has a form: two dots at an end of it stand for whatever is there.
+fn has_form(line: &str, form: &str) -> bool {
+    let behind = form.strip_prefix("..");
+    let rest = behind.unwrap_or(form);
+    match (behind, rest.strip_suffix("..")) {
+        (Some(_), Some(inner)) => line.contains(inner),
+        (Some(_), None) => line.ends_with(rest),
+        (None, Some(front)) => line.starts_with(front),
+        (None, None) => line == form,
+    }
+}
+
+/// Where two texts differ first.
+fn difference(wanted: &str, text: &str) -> Error {
+    let same = wanted
+        .lines()
+        .zip(text.lines())
+        .take_while(|(one, other)| one == other)
+        .count();
+    let one = text.lines().nth(same).unwrap_or("nothing more");
+    let other = wanted.lines().nth(same).unwrap_or("nothing more");
+    anyhow!("it is `{one}`").context(format_args!(
+        "line {} of the text: wanted `{other}`",
+        same.saturating_add(1)
+    ))
+}

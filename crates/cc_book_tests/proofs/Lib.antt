@@ -1,3 +1,0 @@
-mod Opened
-mod Goodness
-mod LifeSteps

@@ -1,2 +1,0 @@
--- What the tests' contracts cite.
-pub mod Life

@@ -1,1 +1,0 @@
--- Nor lemmas.

@@ -1,1 +1,0 @@
--- The tests cite no definitions of their own.

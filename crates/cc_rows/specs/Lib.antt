@@ -1,2 +1,0 @@
--- What the contracts of the tests cite.
-pub mod Routines
