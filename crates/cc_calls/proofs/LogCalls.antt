@@ -25,7 +25,7 @@ use Rattle.cc_writes.specs.Ways.{IsFull}
 use Rattle.cc_writes.specs.Logs.{LogLeft}
 use Rattle.cc_writes.specs.declared.log.LogFlush.{LogFlush}
 use Rattle.cc_writes.specs.declared.log.LogFlush.TheVariants as flush
-use Rattle.cc_writes.proofs.Visits.{went-then}
+use Rattle.cc_writes.proofs.OneVisit.{went-then}
 use Rattle.cc_calls.specs.Answers.{IsFree}
 use Rattle.cc_calls.specs.Pages.{StaysGood}
 use Rattle.cc_calls.specs.Logs.{IsNotFull, LogEnds, NoPlace, PlaceLeft}

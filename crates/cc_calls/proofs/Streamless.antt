@@ -47,7 +47,7 @@ use Rattle.cc_turns.specs.Takes.{Takes, with_journal, without_journal}
 use Rattle.cc_writes.specs.Ways.{IsFull}
 use Rattle.cc_writes.proofs.Others.{under_way-on}
 use Rattle.cc_writes.proofs.Replies.{full-stopped}
-use Rattle.cc_writes.proofs.Visits.{Visiting, Visited, visited, visiting, stepping-none}
+use Rattle.cc_writes.proofs.OneVisit.{Visiting, Visited, visited, visiting, stepping-none}
 use Rattle.cc_calls.specs.Answers.{CallEnds, IsFree}
 use Rattle.cc_calls.specs.Pages.{StaysGood}
 use Rattle.cc_calls.specs.Streamless.{HasEnded, PlacesStreamless, StreamlessLeft, is_streamless, streamless}

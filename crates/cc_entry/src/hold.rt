@@ -3,7 +3,7 @@
 use crate::place::{FileId, Span};
 
 /// What a hold may be used for.
-#[derive(Clone, Copy, PartialEq, Eq)]
+#[derive(Clone, Copy)]
 pub enum HoldKind {
     /// A mapped range (`CcMapData`): it is read.
     Map,

@@ -34,7 +34,7 @@ use Rattle.cc_turns.specs.Takes.{Adds, without_journal, may_be_of}
 use Rattle.cc_writes.specs.Hands.{HasBook, IsAtRest, WentWith}
 use Rattle.cc_writes.proofs.Owing.{reserved-page_out}
 use Rattle.cc_writes.proofs.Placing.{unneeded-call}
-use Rattle.cc_writes.proofs.Visits.{Visiting, Visited, visited, went-held}
+use Rattle.cc_writes.proofs.OneVisit.{Visiting, Visited, visited, went-held}
 use Rattle.cc_writes.proofs.Quiet.{history-kept, stands-same, book-after}
 use Rattle.cc_writes.proofs.Placed.{quiet-page}
 use Rattle.cc_ranges.specs.Ends.{MayFinishHere, IsOut, IsEnded, HasFinished, HasFailedSince, HasFailedWrite, MayFailHere, write_done, write_failed}

@@ -27,7 +27,7 @@ use Rattle.cc_turns.specs.Standing.{Standing}
 use Rattle.cc_writes.specs.Hands.{WentWith}
 use Rattle.cc_writes.specs.Ways.{IsAtWork}
 use Rattle.cc_writes.specs.Transfers.{IsFinished}
-use Rattle.cc_writes.proofs.Visits.{went-number}
+use Rattle.cc_writes.proofs.OneVisit.{went-number}
 use Rattle.cc_writes.proofs.Works.{work-grown}
 use Rattle.cc_ranges.specs.Ends.{IsOut, HasFinished, write_done, write_failed}
 use Rattle.cc_ranges.specs.Pages.{FinishedLeft, PutLeft, IsUnwritten}

@@ -42,7 +42,7 @@ use Rattle.cc_writes.proofs.Resting.{is-held}
 use Rattle.cc_writes.specs.Calls.{MayFaultInWriting, PageLeft}
 use Rattle.cc_writes.specs.Writes.{HasBoth, HasTransferred, WantedMemory}
 use Rattle.cc_writes.proofs.Halting.{given-up}
-use Rattle.cc_writes.proofs.Visits.{went-then}
+use Rattle.cc_writes.proofs.OneVisit.{went-then}
 use Rattle.cc_ranges.specs.Flush.{IsFlushing, IsAtPage, IsAtSync, IsAtEnd, IsSyncTold, RoundLeft, round_of}
 use Rattle.cc_ranges.specs.declared.flush.Round.{Round}
 use Rattle.cc_ranges.specs.declared.flush.Round.TheVariants as round

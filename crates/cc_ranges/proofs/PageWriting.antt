@@ -37,7 +37,7 @@ use Rattle.cc_writes.specs.Transfers.{IsUnderWay, IsFinished}
 use Rattle.cc_writes.specs.Writes.{HasBoth}
 use Rattle.cc_writes.proofs.Flushing.{disk-grown}
 use Rattle.cc_writes.proofs.Quiet.{history-kept, flushed_to-grows, logged-kept}
-use Rattle.cc_writes.proofs.Visits.{went-number, went-held}
+use Rattle.cc_writes.proofs.OneVisit.{went-number, went-held}
 use Rattle.cc_writes.proofs.Writing.{opening-kept, disks-kept}
 use Rattle.cc_ranges.specs.Ends.{IsOut, HasFinished, HasFailedSince, HasFailedWrite, write_done, write_failed}
 use Rattle.cc_ranges.specs.Stores.{IsReadyToStore, HasStored, stored_byte}

@@ -28,7 +28,7 @@ use Rattle.cc_step.proofs.Placed.{so-far}
 use Rattle.cc_turns.specs.Standing.{Standing, Held, holds, nothing}
 use Rattle.cc_writes.specs.Visits.{HasPlaced}
 use Rattle.cc_writes.proofs.Resting.{disk-held, rest-same}
-use Rattle.cc_writes.proofs.Visits.{Visiting, Visited, visited}
+use Rattle.cc_writes.proofs.OneVisit.{Visiting, Visited, visited}
 use Rattle.cc_ranges.proofs.FlushStepping.{nothing_owed}
 
 -- a good journal stays good with it, where no transfer is under way

@@ -22,7 +22,7 @@ use Rattle.cc_writes.specs.Hands.{Went, WentWith}
 use Rattle.cc_writes.specs.Calls.{MayFaultInWriting, PageLeft}
 use Rattle.cc_writes.specs.Writes.{HasBoth}
 use Rattle.cc_writes.proofs.Halting.{no-memory}
-use Rattle.cc_writes.proofs.Visits.{went-then}
+use Rattle.cc_writes.proofs.OneVisit.{went-then}
 use Rattle.cc_writes.specs.Ways.{IsFull}
 use Rattle.cc_ranges.specs.Flush.{outcome_of}
 use Rattle.cc_ranges.specs.Purge.{RoundLeft, IsFullRound, ended_of, round_of}

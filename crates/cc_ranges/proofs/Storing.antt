@@ -34,7 +34,7 @@ use Rattle.cc_writes.specs.Ways.{IsFull}
 use Rattle.cc_writes.proofs.Replies.{full-stopped}
 use Rattle.cc_writes.specs.Logs.{IsStopAt}
 use Rattle.cc_writes.proofs.Beginning.{want-stop}
-use Rattle.cc_writes.proofs.Visits.{Visiting, Visited, visited, stepping-none}
+use Rattle.cc_writes.proofs.OneVisit.{Visiting, Visited, visited, stepping-none}
 use Rattle.cc_writes.proofs.Quiet.{holds_no_journal, holds_the_book, history-kept, stands-same, flushed_to-grows, logged-kept, book-after}
 use Rattle.cc_writes.proofs.Placed.{quiet-page}
 use Rattle.cc_ranges.specs.Stores.{IsReadyToStore, MayStoreHere, IsStored, IsUnstored, StoredLeft, HasStored, StoreLeft, with_store}

@@ -19,7 +19,7 @@ use Rattle.cc_writes.specs.Ways.{IsAtWork, IsReason}
 use Rattle.cc_writes.specs.Calls.{KeepsWork, MayFaultInWriting, PageLeft}
 use Rattle.cc_writes.specs.Writes.{HasBoth}
 use Rattle.cc_writes.proofs.Halting.{no-memory}
-use Rattle.cc_writes.proofs.Visits.{went-then}
+use Rattle.cc_writes.proofs.OneVisit.{went-then}
 use Rattle.cc_writes.proofs.Works.{either}
 use Rattle.cc_ranges.specs.WriteHeld.{RoundLeft, round_of}
 use Rattle.cc_ranges.specs.WriteHeld.{PageLeft as PageLeftBy}

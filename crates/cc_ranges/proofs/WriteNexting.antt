@@ -26,7 +26,7 @@ use Rattle.cc_writes.proofs.Attempting.{number-is, visited-refused, visited-same
 use Rattle.cc_writes.proofs.VisitDisks.{disk-same, disk-call, disk-page_out}
 use Rattle.cc_writes.proofs.Others.{under_way-on}
 use Rattle.cc_writes.proofs.Owing.{reserved-page_out}
-use Rattle.cc_writes.proofs.Pages.{takes_out}
+use Rattle.cc_writes.proofs.PagesPlaced.{takes_out}
 use Rattle.cc_writes.proofs.Placing.{has-book, stepping-adds, unneeded-page}
 use Rattle.cc_writes.proofs.Refusals.{stops-free}
 use Rattle.cc_writes.proofs.VisitStepping.{disk-grew, fill-as}

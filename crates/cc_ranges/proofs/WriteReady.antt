@@ -42,7 +42,7 @@ use Rattle.cc_writes.proofs.Explained.{both-flushed}
 use Rattle.cc_writes.proofs.Flushing.{flush-history, work-reached, work-unlogged}
 use Rattle.cc_writes.proofs.Halting.{at-work, given-up, halted-since, no-memory, under-way}
 use Rattle.cc_writes.proofs.Quiet.{holds_both}
-use Rattle.cc_writes.proofs.Visits.{went-number}
+use Rattle.cc_writes.proofs.OneVisit.{went-number}
 use Rattle.cc_writes.proofs.Works.{work-grown}
 use Rattle.cc_ranges.specs.Pages.{PutLeft}
 use Rattle.cc_ranges.specs.WriteHeld.{IsReadyAfter, PageLeft}

@@ -23,7 +23,7 @@ use Rattle.cc_model.specs.Ranges.{range_of}
 use Rattle.cc_model.specs.Refusals.{refusal}
 use Rattle.cc_model.specs.Replies.{IsReply}
 use Rattle.cc_model.specs.Residency.{is_resident}
-use Rattle.cc_model.specs.Room.{reserved_in, owes_set_dirty}
+use Rattle.cc_model.specs.Room.{owes_set_dirty, places_asked, reserved_in}
 use Rattle.cc_model.specs.Setup.{Setup}
 use Rattle.cc_model.specs.Touches.{size_of}
 use Rattle.cc_step.specs.declared.steps.Stepped.{Stepped}

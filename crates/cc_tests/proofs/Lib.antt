@@ -1,2 +1,5 @@
 mod Desks
 mod LightSteps
+mod Opened
+mod Goodness
+mod LifeSteps

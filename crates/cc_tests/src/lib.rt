@@ -1,23 +1,34 @@
 //! Tests of public calls: each on its happy path with ample memory, and what no clause can say.
 //!
-//! A clause can't forbid want of memory, so a body that always answers it is proved under any contract; here
-//! such calls of the lower crates are made once and the answer compared. The expected values come from the formats and rules
-//! that docs/ states, none from the program. The tests of a crate stand here so that the crate itself is
-//! proved once. Scripts that run whole are cases (`cases`). Nothing stands on this crate.
+//! A clause can't forbid want of memory, so a body that always answers it is proved under any contract, and one
+//! whose `requires` no journal meets is proved whatever it does; here most such calls are made once and the answer
+//! compared. The expected values come from the formats, rules and definitions that docs/ states, none from the
+//! program. The tests of a crate stand here so that the crate itself is proved once. Scripts that run whole are
+//! tested in `cases`. Nothing stands on this crate.
 #![tactic(auto)]
 
 #[cfg(test)]
 mod ahead;
 #[cfg(test)]
-mod bcb;
-#[cfg(test)]
 mod board;
+#[cfg(test)]
+mod book;
+#[cfg(test)]
+mod container;
+#[cfg(test)]
+mod contents;
 #[cfg(test)]
 mod desk;
 #[cfg(test)]
 mod devices;
 #[cfg(test)]
 mod dirty;
+#[cfg(test)]
+mod events;
+#[cfg(test)]
+mod files;
+#[cfg(test)]
+mod holds;
 #[cfg(test)]
 mod journal;
 #[cfg(test)]
@@ -26,6 +37,8 @@ mod log;
 mod pages;
 #[cfg(test)]
 mod readers;
+#[cfg(test)]
+mod refusal;
 #[cfg(test)]
 mod resident;
 #[cfg(test)]

@@ -20,6 +20,32 @@ t16 isdirty
 isdirty
 t2 isdirty
 isdirty
+isdirty
+isdirty
+isdirty
+isdirty
+isdirty
+isdirty
+isdirty
+isdirty
+isdirty
+isdirty
+isdirty
+isdirty
+isdirty
+isdirty
+isdirty
+isdirty
+isdirty
+isdirty
+isdirty
+isdirty
+isdirty
+isdirty
+isdirty
+isdirty
+isdirty
+isdirty
 ";
 
 /// Whether a run of the script is printed as a text.
@@ -106,7 +132,12 @@ fn stepped(request: Request, whole: bool) -> Answer {
     Answer::Stepped(Some(AheadDone { request, whole }))
 }
 
-fn answers(alloc: Global, places: &Places) -> Result<[(Answer, &'static str); 28], Fail> {
+/// An answer of the first caller.
+fn told(line: u32, answer: Answer) -> LineReply {
+    LineReply { line, answer }
+}
+
+fn answers(alloc: Global, places: &Places) -> Result<[LineReply; 28], Fail> {
     let bytes = Bytes::of(alloc, b"\x5A\x0B\xB0\x0B\x0B\xFF\xFF\xFF\x00")
         .ok()
         .ok_or("bytes")?;
@@ -121,74 +152,85 @@ fn answers(alloc: Global, places: &Places) -> Result<[(Answer, &'static str); 28
     };
     let fault = CcError::ReadFault { page: 6 };
     Ok([
-        (Answer::Given(Reply::Unit), "ok"),
-        (
-            Answer::Given(Reply::Read(bytes)),
-            "ok 5A,0B,B0,0Bx2,FFx3,00",
-        ),
-        (Answer::Given(Reply::Read(Bytes::new(alloc))), "ok -"),
-        (Answer::Given(Reply::Hold(7)), "ok hold 7"),
-        (Answer::Given(Reply::Flag(true)), "ok true"),
-        (Answer::Given(Reply::Flag(false)), "ok false"),
-        (
-            Answer::Given(Reply::Rows(rows)),
-            "ok rows 2; a 0 2 4611686018427387904; bee 7 2 2",
-        ),
-        (
+        told(7, Answer::Given(Reply::Unit)),
+        told(8, Answer::Given(Reply::Read(bytes))),
+        told(9, Answer::Given(Reply::Read(Bytes::new(alloc)))),
+        told(10, Answer::Given(Reply::Hold(7))),
+        told(11, Answer::Given(Reply::Flag(true))),
+        told(12, Answer::Given(Reply::Flag(false))),
+        told(13, Answer::Given(Reply::Rows(rows))),
+        told(
+            14,
             Answer::Given(Reply::Rows(Rows::from_vec(Vec::new(alloc)))),
-            "ok rows 0",
         ),
-        (
+        told(
+            15,
             Answer::Given(Reply::Lsns(Some((places.lsn, places.last)))),
-            "ok lsns 2 4611686018427387904",
         ),
-        (Answer::Given(Reply::Lsns(None)), "ok none"),
-        (state(places.sizes, None), "ok state 8192 20 10 -"),
-        (state(places.sizes, Some(3)), "ok state 8192 20 10 3"),
-        (
-            Answer::Given(Reply::Ahead(Some(places.request))),
-            "ok ahead a:3 4096 10",
-        ),
-        (Answer::Given(Reply::Ahead(None)), "ok none"),
-        (stepped(places.request, true), "ok ahead a:3 4096 10 whole"),
-        (stepped(places.request, false), "ok ahead a:3 4096 10 part"),
-        (Answer::Stepped(None), "ok none"),
-        (Answer::Count(4096), "ok count 4096"),
-        (Answer::NewLsn(places.lsn), "ok lsn 2"),
-        (
-            Answer::Ticked(tick),
-            "ok tick picked 1 written 2 skipped 3 failed 4",
-        ),
-        (Answer::Posts(Ids::from_vec(ids)), "ok posted 5 16"),
-        (Answer::Posts(Ids::from_vec(Vec::new(alloc))), "ok posted -"),
-        (Answer::Deferred(9), "ok deferred 9"),
-        (Answer::Levels(2), "ok levels 2"),
-        (
+        told(16, Answer::Given(Reply::Lsns(None))),
+        told(17, state(places.sizes, None)),
+        told(18, state(places.sizes, Some(3))),
+        told(19, Answer::Given(Reply::Ahead(Some(places.request)))),
+        told(20, Answer::Given(Reply::Ahead(None))),
+        told(21, stepped(places.request, true)),
+        told(22, stepped(places.request, false)),
+        told(23, Answer::Stepped(None)),
+        told(24, Answer::Count(4096)),
+        told(25, Answer::NewLsn(places.lsn)),
+        told(26, Answer::Ticked(tick)),
+        told(27, Answer::Posts(Ids::from_vec(ids))),
+        told(28, Answer::Posts(Ids::from_vec(Vec::new(alloc)))),
+        told(29, Answer::Deferred(9)),
+        told(30, Answer::Levels(2)),
+        told(
+            31,
             Answer::NcRefused {
                 done: 4,
                 cause: fault,
             },
-            "error 14 ReadFault 6 done 4",
         ),
-        (Answer::NoHold, "no hold"),
-        (Answer::NotNow, "not now"),
-        (Answer::Faulted, "faulted"),
+        told(32, Answer::NoHold),
+        told(33, Answer::NotNow),
+        told(34, Answer::Faulted),
     ])
 }
 
-/// Whether an answer is printed as a text: here that of line 7, alone under its caller.
-fn is_answer(alloc: Global, answer: Answer, text: &str) -> Result<bool, Fail> {
-    let replies = [LineReply { line: 7, answer }];
-    let text = format!(in alloc; "caller t1\n7 {text}\n")?;
-    is_text(alloc, &replies, &[], &[], text.as_str())
-}
+const ANSWERS: &str = "caller t1
+7 ok
+8 ok 5A,0B,B0,0Bx2,FFx3,00
+9 ok -
+10 ok hold 7
+11 ok true
+12 ok false
+13 ok rows 2; a 0 2 4611686018427387904; bee 7 2 2
+14 ok rows 0
+15 ok lsns 2 4611686018427387904
+16 ok none
+17 ok state 8192 20 10 -
+18 ok state 8192 20 10 3
+19 ok ahead a:3 4096 10
+20 ok none
+21 ok ahead a:3 4096 10 whole
+22 ok ahead a:3 4096 10 part
+23 ok none
+24 ok count 4096
+25 ok lsn 2
+26 ok tick picked 1 written 2 skipped 3 failed 4
+27 ok posted 5 16
+28 ok posted -
+29 ok deferred 9
+30 ok levels 2
+31 error 14 ReadFault 6 done 4
+32 no hold
+33 not now
+34 faulted
+";
 
 #[test]
 fn prints_answers(rt: HostRuntime) -> Result<(), Fail> {
     let places = some_places().ok_or("places")?;
-    for (answer, text) in answers(rt.alloc(), &places)? {
-        assert!(rt; is_answer(rt.alloc(), answer, text)?, "{text}");
-    }
+    let replies = answers(rt.alloc(), &places)?;
+    assert!(rt; is_text(rt.alloc(), &replies, &[], &[], ANSWERS)?);
     Ok(())
 }
 
@@ -231,12 +273,29 @@ const REFUSALS: [(CcError, &str); 24] = [
 #[test]
 fn prints_refusals(rt: HostRuntime) -> Result<(), Fail> {
     for (error, text) in REFUSALS {
+        let text = format!(in rt.alloc(); "caller t1\n7 {text}\n")?;
+        let replies = [told(7, Answer::Refused(error))];
         assert!(rt;
-            is_answer(rt.alloc(), Answer::Refused(error), text)?,
+            is_text(rt.alloc(), &replies, &[], &[], text.as_str())?,
             "{text}"
         );
     }
     Ok(())
+}
+
+fn ended(pass: u32, nth: u32, call: Call, outcome: Outcome) -> Entry {
+    Entry::Call {
+        pass,
+        nth,
+        stream: None,
+        call,
+        outcome,
+    }
+}
+
+/// A call that was done.
+fn called(call: Call) -> Entry {
+    ended(3, 2, call, Outcome::Done(Reply::Unit))
 }
 
 fn opened(places: &Places, temporary: bool) -> Call {
@@ -285,204 +344,182 @@ fn attributes(file: FileId, no_read_ahead: bool, no_write_behind: bool) -> Call 
 }
 
 /// The calls on a file that carry no bytes.
-fn file_calls(places: &Places) -> [(Call, &'static str); 35] {
+fn file_calls(places: &Places) -> [Entry; 35] {
     let file = places.file;
     let (at, len) = (1, 2);
     [
-        (opened(places, false), "init a:3 8192 20 10 quota 8"),
-        (
-            opened(places, true),
-            "init a:3 8192 20 10 quota 8 temporary",
-        ),
-        (
-            Call::Uninitialise {
-                file,
-                truncate: None,
-            },
-            "uninit a:3",
-        ),
-        (
-            Call::Uninitialise {
-                file,
-                truncate: Some(4),
-            },
-            "uninit a:3 4",
-        ),
-        (copied(file, true), "cread a:3 1 2"),
-        (copied(file, false), "cread a:3 1 2 nowait"),
-        (
-            Call::Zero {
-                file,
-                span: places.span,
-            },
-            "zero a:3 3 9",
-        ),
-        (Call::Map { file, at, len }, "map a:3 1 2"),
-        (pinned(file, false), "pin a:3 1 2"),
-        (pinned(file, true), "pin a:3 1 2 excl"),
-        (prepared(file, false, false), "prepare a:3 1 2"),
-        (prepared(file, true, false), "prepare a:3 1 2 zero"),
-        (prepared(file, true, true), "prepare a:3 1 2 zero excl"),
-        (Call::MdlRead { file, at, len }, "mdlread a:3 1 2"),
-        (Call::MdlWrite { file, at, len }, "mdlwrite a:3 1 2"),
-        (Call::NcRead { file, page: 6 }, "ncread a:3 6"),
-        (Call::NcWrite { file, page: 6 }, "ncwrite a:3 6"),
-        (
-            Call::SetSizes {
-                file,
-                allocation: 8192,
-                size: 20,
-            },
-            "sizes a:3 8192 20",
-        ),
-        (Call::State { file }, "state a:3"),
-        (Call::Flush { file, span: None }, "flush a:3"),
-        (
-            Call::Flush {
-                file,
-                span: Some(places.span),
-            },
-            "flush a:3 3 9",
-        ),
-        (Call::Purge { file, span: None }, "purge a:3"),
-        (
-            Call::Purge {
-                file,
-                span: Some(places.span),
-            },
-            "purge a:3 3 9",
-        ),
-        (Call::Discard { file, span: None }, "discard a:3"),
-        (
-            Call::Discard {
-                file,
-                span: Some(places.span),
-            },
-            "discard a:3 3 9",
-        ),
-        (Call::SetLog { file, handle: 2 }, "setlog a:3 2"),
-        (Call::LsnForFile { file }, "lsns a:3"),
-        (
-            Call::SetGranularity { file, bytes: 4096 },
-            "granularity a:3 4096",
-        ),
-        (attributes(file, true, false), "attributes a:3 1 0"),
-        (attributes(file, false, true), "attributes a:3 0 1"),
-        (Call::SetThreshold { file, pages: 30 }, "fthreshold a:3 30"),
-        (Call::AskAhead { file, at, len }, "ask a:3 1 2"),
-        (
-            Call::AheadStep {
-                request: places.request,
-            },
-            "ahead a:3 4096 10",
-        ),
-        (Call::CanWrite { file, bytes: 5000 }, "canwrite a:3 5000"),
-        (Call::DirtyPages { handle: 2 }, "dirty 2"),
+        called(opened(places, false)),
+        called(opened(places, true)),
+        called(Call::Uninitialise {
+            file,
+            truncate: None,
+        }),
+        called(Call::Uninitialise {
+            file,
+            truncate: Some(4),
+        }),
+        called(copied(file, true)),
+        called(copied(file, false)),
+        called(Call::Zero {
+            file,
+            span: places.span,
+        }),
+        called(Call::Map { file, at, len }),
+        called(pinned(file, false)),
+        called(pinned(file, true)),
+        called(prepared(file, false, false)),
+        called(prepared(file, true, false)),
+        called(prepared(file, true, true)),
+        called(Call::MdlRead { file, at, len }),
+        called(Call::MdlWrite { file, at, len }),
+        called(Call::NcRead { file, page: 6 }),
+        called(Call::NcWrite { file, page: 6 }),
+        called(Call::SetSizes {
+            file,
+            allocation: 8192,
+            size: 20,
+        }),
+        called(Call::State { file }),
+        called(Call::Flush { file, span: None }),
+        called(Call::Flush {
+            file,
+            span: Some(places.span),
+        }),
+        called(Call::Purge { file, span: None }),
+        called(Call::Purge {
+            file,
+            span: Some(places.span),
+        }),
+        called(Call::Discard { file, span: None }),
+        called(Call::Discard {
+            file,
+            span: Some(places.span),
+        }),
+        called(Call::SetLog { file, handle: 2 }),
+        called(Call::LsnForFile { file }),
+        called(Call::SetGranularity { file, bytes: 4096 }),
+        called(attributes(file, true, false)),
+        called(attributes(file, false, true)),
+        called(Call::SetThreshold { file, pages: 30 }),
+        called(Call::AskAhead { file, at, len }),
+        called(Call::AheadStep {
+            request: places.request,
+        }),
+        called(Call::CanWrite { file, bytes: 5000 }),
+        called(Call::DirtyPages { handle: 2 }),
     ]
 }
 
+const FILE_CALLS: &str = "journal
+1 call 3 2 init a:3 8192 20 10 quota 8 = ok
+2 call 3 2 init a:3 8192 20 10 quota 8 temporary = ok
+3 call 3 2 uninit a:3 = ok
+4 call 3 2 uninit a:3 4 = ok
+5 call 3 2 cread a:3 1 2 = ok
+6 call 3 2 cread a:3 1 2 nowait = ok
+7 call 3 2 zero a:3 3 9 = ok
+8 call 3 2 map a:3 1 2 = ok
+9 call 3 2 pin a:3 1 2 = ok
+10 call 3 2 pin a:3 1 2 excl = ok
+11 call 3 2 prepare a:3 1 2 = ok
+12 call 3 2 prepare a:3 1 2 zero = ok
+13 call 3 2 prepare a:3 1 2 zero excl = ok
+14 call 3 2 mdlread a:3 1 2 = ok
+15 call 3 2 mdlwrite a:3 1 2 = ok
+16 call 3 2 ncread a:3 6 = ok
+17 call 3 2 ncwrite a:3 6 = ok
+18 call 3 2 sizes a:3 8192 20 = ok
+19 call 3 2 state a:3 = ok
+20 call 3 2 flush a:3 = ok
+21 call 3 2 flush a:3 3 9 = ok
+22 call 3 2 purge a:3 = ok
+23 call 3 2 purge a:3 3 9 = ok
+24 call 3 2 discard a:3 = ok
+25 call 3 2 discard a:3 3 9 = ok
+26 call 3 2 setlog a:3 2 = ok
+27 call 3 2 lsns a:3 = ok
+28 call 3 2 granularity a:3 4096 = ok
+29 call 3 2 attributes a:3 1 0 = ok
+30 call 3 2 attributes a:3 0 1 = ok
+31 call 3 2 fthreshold a:3 30 = ok
+32 call 3 2 ask a:3 1 2 = ok
+33 call 3 2 ahead a:3 4096 10 = ok
+34 call 3 2 canwrite a:3 5000 = ok
+35 call 3 2 dirty 2 = ok
+";
+
 /// The calls on a hold, those that carry bytes, and the one without arguments.
-fn other_calls(alloc: Global, places: &Places) -> Result<[(Call, &'static str); 14], Fail> {
+fn other_calls(alloc: Global, places: &Places) -> Result<[Entry; 14], Fail> {
     let file = places.file;
     let (hold, at, len) = (7, 1, 2);
     let written = Bytes::of(alloc, b"\xAB\x00\x00").ok().ok_or("bytes")?;
     let stored = Bytes::of(alloc, b"\x01\x01").ok().ok_or("bytes")?;
     Ok([
-        (
-            Call::PinMapped {
-                hold,
-                exclusive: false,
-            },
-            "pinmapped #7",
-        ),
-        (
-            Call::PinMapped {
-                hold,
-                exclusive: true,
-            },
-            "pinmapped #7 excl",
-        ),
-        (Call::MappedRead { hold, at, len }, "hread #7 1 2"),
-        (Call::PinnedRead { hold, at, len }, "hread #7 1 2"),
-        (Call::SetDirty { hold, lsn: None }, "stamp #7"),
-        (
-            Call::SetDirty {
-                hold,
-                lsn: Some(places.lsn),
-            },
-            "stamp #7 2",
-        ),
-        (Call::EndHold { hold }, "unpin #7"),
-        (Call::Repin { hold }, "repin #7"),
-        (Call::MdlBytes { hold, at, len }, "mdlget #7 1 2"),
-        (
-            Call::MdlStore {
-                hold,
-                at,
-                bytes: Bytes::new(alloc),
-            },
-            "mdlput #7 1 -",
-        ),
-        (
-            Call::PinnedWrite {
-                hold,
-                at,
-                bytes: Bytes::new(alloc),
-            },
-            "pwrite #7 1 -",
-        ),
-        (
-            Call::CopyWrite {
-                file,
-                at: 5,
-                bytes: written,
-            },
-            "cwrite a:3 5 AB,00x2",
-        ),
-        (
-            Call::NcStore {
-                file,
-                page: 6,
-                bytes: stored,
-            },
-            "ncstore a:3 6 01x2",
-        ),
-        (Call::IsDirtyData, "isdirty"),
+        called(Call::PinMapped {
+            hold,
+            exclusive: false,
+        }),
+        called(Call::PinMapped {
+            hold,
+            exclusive: true,
+        }),
+        called(Call::MappedRead { hold, at, len }),
+        called(Call::PinnedRead { hold, at, len }),
+        called(Call::SetDirty { hold, lsn: None }),
+        called(Call::SetDirty {
+            hold,
+            lsn: Some(places.lsn),
+        }),
+        called(Call::EndHold { hold }),
+        called(Call::Repin { hold }),
+        called(Call::MdlBytes { hold, at, len }),
+        called(Call::MdlStore {
+            hold,
+            at,
+            bytes: Bytes::new(alloc),
+        }),
+        called(Call::PinnedWrite {
+            hold,
+            at,
+            bytes: Bytes::new(alloc),
+        }),
+        called(Call::CopyWrite {
+            file,
+            at: 5,
+            bytes: written,
+        }),
+        called(Call::NcStore {
+            file,
+            page: 6,
+            bytes: stored,
+        }),
+        called(Call::IsDirtyData),
     ])
 }
 
-/// Whether an entry is printed as a text: here the first line of the journal, and these of the trace.
-fn is_entry(alloc: Global, entry: Entry, text: &str, trace: &str) -> Result<bool, Fail> {
-    let text = format!(in alloc; "journal\n1 {text}\n{trace}")?;
-    is_text(alloc, &[], &[entry], &[], text.as_str())
-}
-
-fn ended(pass: u32, nth: u32, call: Call, outcome: Outcome) -> Entry {
-    Entry::Call {
-        pass,
-        nth,
-        stream: None,
-        call,
-        outcome,
-    }
-}
-
-/// Whether a call is printed as a text: here as the second one of pass 3, done.
-fn is_call(alloc: Global, call: Call, text: &str) -> Result<bool, Fail> {
-    let entry = ended(3, 2, call, Outcome::Done(Reply::Unit));
-    let text = format!(in alloc; "call 3 2 {text} = ok")?;
-    is_entry(alloc, entry, text.as_str(), "")
-}
+const OTHER_CALLS: &str = "journal
+1 call 3 2 pinmapped #7 = ok
+2 call 3 2 pinmapped #7 excl = ok
+3 call 3 2 hread #7 1 2 = ok
+4 call 3 2 hread #7 1 2 = ok
+5 call 3 2 stamp #7 = ok
+6 call 3 2 stamp #7 2 = ok
+7 call 3 2 unpin #7 = ok
+8 call 3 2 repin #7 = ok
+9 call 3 2 mdlget #7 1 2 = ok
+10 call 3 2 mdlput #7 1 - = ok
+11 call 3 2 pwrite #7 1 - = ok
+12 call 3 2 cwrite a:3 5 AB,00x2 = ok
+13 call 3 2 ncstore a:3 6 01x2 = ok
+14 call 3 2 isdirty = ok
+";
 
 #[test]
 fn prints_calls(rt: HostRuntime) -> Result<(), Fail> {
     let places = some_places().ok_or("places")?;
-    for (call, text) in file_calls(&places) {
-        assert!(rt; is_call(rt.alloc(), call, text)?, "{text}");
-    }
-    for (call, text) in other_calls(rt.alloc(), &places)? {
-        assert!(rt; is_call(rt.alloc(), call, text)?, "{text}");
-    }
+    assert!(rt; is_text(rt.alloc(), &[], &file_calls(&places), &[], FILE_CALLS)?);
+    let journal = other_calls(rt.alloc(), &places)?;
+    assert!(rt; is_text(rt.alloc(), &[], &journal, &[], OTHER_CALLS)?);
     Ok(())
 }
 
@@ -520,191 +557,151 @@ fn deferred(file: FileId, retrying: bool) -> Entry {
     }
 }
 
-/// The entries of pages, disks, logs and the throttle, each with its lines of the trace.
-fn steps(
-    alloc: Global,
-    places: &Places,
-) -> Result<[(Entry, &'static str, &'static str); 20], Fail> {
+/// The entries of pages, disks, logs and the throttle.
+fn steps(alloc: Global, places: &Places) -> Result<[Entry; 20], Fail> {
     let page = places.page;
     let bytes = Bytes::of(alloc, b"\x01\x02").ok().ok_or("bytes")?;
     let picked = Pages::from_vec(vec![in alloc; page, places.first]?);
     Ok([
-        (came_in(page, true), "in bee 7 disk", "trace\nread bee 7\n"),
-        (came_in(page, false), "in bee 7 zero", ""),
-        (Entry::PageOut { pass: 2, page }, "out bee 7", ""),
-        (
-            Entry::PageOut {
-                pass: 2,
-                page: places.unnamed,
-            },
-            "out  7",
-            "",
-        ),
-        (
-            Entry::FillFailed { pass: 2, page },
-            "fillfailed 2 bee 7",
-            "trace\nread bee 7 failed\n",
-        ),
-        (
-            Entry::WriteBegin { pass: 17, page },
-            "begin 17 bee 7",
-            "trace\nwrite bee 7 begin\n",
-        ),
-        (
-            transferred(page, End::Good),
-            "end 17 bee 7 ok",
-            "trace\nwrite bee 7 ok\n",
-        ),
-        (
-            transferred(page, End::Failed),
-            "end 17 bee 7 failed",
-            "trace\nwrite bee 7 failed\n",
-        ),
-        (
-            transferred(page, End::NoMemory),
-            "end 17 bee 7 nomemory",
-            "trace\nwrite bee 7 nomemory\n",
-        ),
-        (
-            synced(page, End::Good),
-            "sync 17 bee ok",
-            "trace\nsync bee ok\n",
-        ),
-        (
-            synced(page, End::Failed),
-            "sync 17 bee failed",
-            "trace\nsync bee failed\n",
-        ),
-        (
-            synced(page, End::NoMemory),
-            "sync 17 bee nomemory",
-            "trace\nsync bee nomemory\n",
-        ),
-        (
-            Entry::Append {
-                pass: 2,
-                handle: 3,
-                lsn: places.lsn,
-                bytes,
-            },
-            "append 2 3 2 01,02",
-            "trace\nlog 3 append 2\n",
-        ),
-        (
-            Entry::Flushed {
-                pass: 2,
-                handle: 3,
-                to: places.lsn,
-            },
-            "flushed 3 2",
-            "trace\nlog 3 flush 2\n",
-        ),
-        (
-            Entry::LogFailed { pass: 2, handle: 3 },
-            "logfailed 2 3",
-            "trace\nlog 3 failed\n",
-        ),
-        (deferred(places.file, false), "defer 2 4 a 5", ""),
-        (deferred(places.file, true), "defer 2 4 a 5 retry", ""),
-        (Entry::Posted { id: 4 }, "posted 4", ""),
-        (Entry::Scan { pass: 17, picked }, "scan 17; bee 7; a 0", ""),
-        (
-            Entry::Scan {
-                pass: 17,
-                picked: Pages::from_vec(Vec::new(alloc)),
-            },
-            "scan 17",
-            "",
-        ),
+        came_in(page, true),
+        came_in(page, false),
+        Entry::PageOut { pass: 2, page },
+        Entry::PageOut {
+            pass: 2,
+            page: places.unnamed,
+        },
+        Entry::FillFailed { pass: 2, page },
+        Entry::WriteBegin { pass: 17, page },
+        transferred(page, End::Good),
+        transferred(page, End::Failed),
+        transferred(page, End::NoMemory),
+        synced(page, End::Good),
+        synced(page, End::Failed),
+        synced(page, End::NoMemory),
+        Entry::Append {
+            pass: 2,
+            handle: 3,
+            lsn: places.lsn,
+            bytes,
+        },
+        Entry::Flushed {
+            pass: 2,
+            handle: 3,
+            to: places.lsn,
+        },
+        Entry::LogFailed { pass: 2, handle: 3 },
+        deferred(places.file, false),
+        deferred(places.file, true),
+        Entry::Posted { id: 4 },
+        Entry::Scan { pass: 17, picked },
+        Entry::Scan {
+            pass: 17,
+            picked: Pages::from_vec(Vec::new(alloc)),
+        },
     ])
 }
 
+const STEPS: &str = "journal
+1 in bee 7 disk
+2 in bee 7 zero
+3 out bee 7
+4 out  7
+5 fillfailed 2 bee 7
+6 begin 17 bee 7
+7 end 17 bee 7 ok
+8 end 17 bee 7 failed
+9 end 17 bee 7 nomemory
+10 sync 17 bee ok
+11 sync 17 bee failed
+12 sync 17 bee nomemory
+13 append 2 3 2 01,02
+14 flushed 3 2
+15 logfailed 2 3
+16 defer 2 4 a 5
+17 defer 2 4 a 5 retry
+18 posted 4
+19 scan 17; bee 7; a 0
+20 scan 17
+trace
+read bee 7
+read bee 7 failed
+write bee 7 begin
+write bee 7 ok
+write bee 7 failed
+write bee 7 nomemory
+sync bee ok
+sync bee failed
+sync bee nomemory
+log 3 append 2
+log 3 flush 2
+log 3 failed
+";
+
 /// Calls that answered something, or were refused. Of these a noncached read alone reads the disk, and
 /// only where it answered a byte.
-fn answered(
-    alloc: Global,
-    places: &Places,
-) -> Result<[(Entry, &'static str, &'static str); 6], Fail> {
+fn answered(alloc: Global, places: &Places) -> Result<[Entry; 6], Fail> {
     let file = places.file;
     let bytes = Bytes::of(alloc, b"\x00\x00").ok().ok_or("bytes")?;
     let more = Bytes::of(alloc, b"\x5A").ok().ok_or("bytes")?;
     let none = Bytes::new(alloc);
     let fault = CcError::ReadFault { page: 6 };
     Ok([
-        (
-            ended(
-                1,
-                1,
-                Call::NcRead { file, page: 6 },
-                Outcome::Done(Reply::Read(bytes)),
-            ),
-            "call 1 1 ncread a:3 6 = ok 00x2",
-            "trace\nread a 6\n",
+        ended(
+            1,
+            1,
+            Call::NcRead { file, page: 6 },
+            Outcome::Done(Reply::Read(bytes)),
         ),
-        (
-            ended(
-                1,
-                2,
-                Call::NcRead { file, page: 9 },
-                Outcome::Done(Reply::Read(none)),
-            ),
-            "call 1 2 ncread a:3 9 = ok -",
-            "",
+        ended(
+            1,
+            2,
+            Call::NcRead { file, page: 9 },
+            Outcome::Done(Reply::Read(none)),
         ),
-        (
-            ended(1, 3, Call::NcRead { file, page: 6 }, Outcome::Failed(fault)),
-            "call 1 3 ncread a:3 6 = error 14 ReadFault 6",
-            "",
+        ended(1, 3, Call::NcRead { file, page: 6 }, Outcome::Failed(fault)),
+        ended(1, 4, copied(file, true), Outcome::Done(Reply::Read(more))),
+        ended(
+            18,
+            1,
+            Call::AheadStep {
+                request: places.request,
+            },
+            Outcome::Done(Reply::Whole(true)),
         ),
-        (
-            ended(1, 4, copied(file, true), Outcome::Done(Reply::Read(more))),
-            "call 1 4 cread a:3 1 2 = ok 5A",
-            "",
-        ),
-        (
-            ended(
-                18,
-                1,
-                Call::AheadStep {
-                    request: places.request,
-                },
-                Outcome::Done(Reply::Whole(true)),
-            ),
-            "call 18 1 ahead a:3 4096 10 = ok whole",
-            "",
-        ),
-        (
-            ended(
-                18,
-                2,
-                Call::AheadStep {
-                    request: places.request,
-                },
-                Outcome::Done(Reply::Whole(false)),
-            ),
-            "call 18 2 ahead a:3 4096 10 = ok part",
-            "",
+        ended(
+            18,
+            2,
+            Call::AheadStep {
+                request: places.request,
+            },
+            Outcome::Done(Reply::Whole(false)),
         ),
     ])
 }
 
+const ANSWERED: &str = "journal
+1 call 1 1 ncread a:3 6 = ok 00x2
+2 call 1 2 ncread a:3 9 = ok -
+3 call 1 3 ncread a:3 6 = error 14 ReadFault 6
+4 call 1 4 cread a:3 1 2 = ok 5A
+5 call 18 1 ahead a:3 4096 10 = ok whole
+6 call 18 2 ahead a:3 4096 10 = ok part
+trace
+read a 6
+";
+
 #[test]
 fn prints_entries(rt: HostRuntime) -> Result<(), Fail> {
     let places = some_places().ok_or("places")?;
-    for (entry, text, trace) in steps(rt.alloc(), &places)? {
-        assert!(rt; is_entry(rt.alloc(), entry, text, trace)?, "{text}");
-    }
-    for (entry, text, trace) in answered(rt.alloc(), &places)? {
-        assert!(rt; is_entry(rt.alloc(), entry, text, trace)?, "{text}");
-    }
+    let journal = steps(rt.alloc(), &places)?;
+    assert!(rt; is_text(rt.alloc(), &[], &journal, &[], STEPS)?);
+    let journal = answered(rt.alloc(), &places)?;
+    assert!(rt; is_text(rt.alloc(), &[], &journal, &[], ANSWERED)?);
     Ok(())
 }
 
 fn given(line: u32, reply: Reply) -> LineReply {
-    LineReply {
-        line,
-        answer: Answer::Given(reply),
-    }
+    told(line, Answer::Given(reply))
 }
 
 const SECTIONS: &str = "setup

@@ -23,7 +23,7 @@ use Rattle.cc_writes.specs.Hands.{HasBook, IsAtRest, WentWith}
 use Rattle.cc_writes.specs.Visits.{HasPlaced}
 use Rattle.cc_writes.specs.Logs.{IsWant, IsStopAt}
 use Rattle.cc_writes.specs.Transfers.{BeginLeft, IsBegun, IsUnbegun, BegunLeft}
-use Rattle.cc_writes.proofs.Visits.{Visiting, Visited, visited, stepping-none}
+use Rattle.cc_writes.proofs.OneVisit.{Visiting, Visited, visited, stepping-none}
 use Rattle.cc_writes.proofs.Quiet.{holds_no_journal, holds_the_book, history-kept, stands-same, flushed_to-grows, logged-kept, book-after}
 use Rattle.cc_writes.proofs.Placed.{may_begin, good-begun, quiet-page}
 use Rattle.cc_turns.proofs.Rooms.{reserved-begun}

@@ -18,7 +18,7 @@ use Rattle.cc_turns.specs.Journal.{JournalStands}
 use Rattle.cc_turns.specs.Takes.{Adds, without_journal}
 use Rattle.cc_writes.specs.Hands.{HasBook, WentWith}
 use Rattle.cc_writes.specs.Visits.{HasPlaced}
-use Rattle.cc_writes.proofs.Visits.{Visiting, Visited, visited}
+use Rattle.cc_writes.proofs.OneVisit.{Visiting, Visited, visited}
 use Rattle.cc_writes.proofs.Quiet.{holds_no_journal, holds_the_book, history-kept, stands-same, book-after}
 use Rattle.cc_writes.proofs.Placed.{good-ended, quiet-page}
 use Rattle.cc_turns.proofs.Rooms.{reserved-ended}

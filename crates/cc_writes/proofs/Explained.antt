@@ -24,7 +24,7 @@ use Rattle.cc_writes.specs.declared.log.LogFlush.{LogFlush}
 use Rattle.cc_writes.specs.declared.log.LogFlush.TheVariants as flush
 use Rattle.cc_writes.specs.declared.writes.PageWrite.{PageWrite}
 use Rattle.cc_writes.specs.declared.writes.PageWrite.TheVariants as write
-use Rattle.cc_writes.proofs.Visits.{went-number}
+use Rattle.cc_writes.proofs.OneVisit.{went-number}
 use Rattle.cc_writes.proofs.Quiet.{holds_both, history-both, rest-kept}
 use Rattle.cc_writes.proofs.Works.{either, may_write-same, work-grown, work-written, work-not_written, work-wanted}
 use Rattle.cc_writes.proofs.Flushing.{flush-history, flush-disk, work-grows, work-reached, work-unlogged}

@@ -32,7 +32,7 @@ use Rattle.cc_writes.specs.Ways.{IsAtWork, HasFailed}
 use Rattle.cc_writes.specs.Logs.{HoldsBoth, IsDue, HasFlushed, LogLeft, FlushLeft, ReachedBy, IsWant, newest_on}
 use Rattle.cc_writes.specs.declared.log.LogFlush.{LogFlush}
 use Rattle.cc_writes.specs.declared.log.LogFlush.TheVariants as flush
-use Rattle.cc_writes.proofs.Visits.{went-number, went-holds}
+use Rattle.cc_writes.proofs.OneVisit.{went-number, went-holds}
 use Rattle.cc_writes.proofs.Quiet.{is_held, history-both, book-kept}
 use Rattle.cc_writes.proofs.Works.{asks-log-same, asks_log, work-grown, work-flushed, work-log_failed}
 use Rattle.cc_writes.proofs.Logging.{left-turn}

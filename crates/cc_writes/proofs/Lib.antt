@@ -12,13 +12,13 @@ pub mod Placing
 pub mod VisitEnding
 pub mod Replies
 pub mod Attempting
-pub mod Pages
+pub mod PagesPlaced
 pub mod VisitStepping
 pub mod VisitHalting
 pub mod Landing
 pub mod Failing
 pub mod Releasing
-pub mod Visits
+pub mod OneVisit
 pub mod Quiet
 pub mod Placed
 pub mod Works

@@ -30,7 +30,7 @@ use Rattle.cc_writes.specs.Visits.{HasPlaced}
 use Rattle.cc_writes.specs.Logs.{MayLog, HasLogged, LogLeft, ReservedLeft}
 use Rattle.cc_writes.specs.declared.log.LogFlush.{LogFlush}
 use Rattle.cc_writes.specs.declared.log.LogFlush.TheVariants as flush
-use Rattle.cc_writes.proofs.Visits.{Visiting, Visited, visited, stepping-none, grows-then, placed-then}
+use Rattle.cc_writes.proofs.OneVisit.{Visiting, Visited, visited, stepping-none, grows-then, placed-then}
 use Rattle.cc_writes.proofs.Quiet.{is_held, floor_of-held, flushed_to-grows, flushed_to-held, next_lsn-held}
 use Rattle.cc_writes.proofs.Placed.{good-appended, good-flushed, good-log_failed, quiet-log}
 use Rattle.cc_turns.proofs.Rooms.{reserved-appended, reserved-flushed, reserved-log_failed}

@@ -18,7 +18,7 @@ use Rattle.cc_turns.specs.Standing.{Standing, Held, is_the, nothing}
 use Rattle.cc_turns.specs.Takes.{Grows}
 use Rattle.cc_writes.specs.Hands.{HasBook, IsAtRest, WentWith}
 use Rattle.cc_writes.specs.Logs.{HoldsBoth}
-use Rattle.cc_writes.proofs.Visits.{went-held}
+use Rattle.cc_writes.proofs.OneVisit.{went-held}
 
 pub is_held : (n : ℕ) (held : Option ℕ) → held ≡ Some n → is_the n held ≡ true
 is_held n held is = rw is (eq-eqb n n refl)

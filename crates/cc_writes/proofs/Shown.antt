@@ -22,7 +22,7 @@ use Rattle.cc_writes.specs.declared.log.LogFlush.{LogFlush}
 use Rattle.cc_writes.specs.declared.log.LogFlush.TheVariants as flush
 use Rattle.cc_writes.specs.declared.writes.PageWrite.{PageWrite}
 use Rattle.cc_writes.specs.declared.writes.PageWrite.TheVariants as write
-use Rattle.cc_writes.proofs.Visits.{went-number}
+use Rattle.cc_writes.proofs.OneVisit.{went-number}
 
 -- before the transfer the pass placed nothing, or that the log was flushed
 before-grown : (w : Standing) (seen : List Entry) → Grows w seen → IsBefore w seen

@@ -27,7 +27,7 @@ use Rattle.cc_writes.specs.declared.visits.Step.{Step}
 use Rattle.cc_writes.proofs.Attempting.{may-step, number-is, way-on, last-done, fits-done, visited-done, visited-refused, visited-same, left-done, left-refused, left-stopped, full-refused, full-stop}
 use Rattle.cc_writes.proofs.VisitDisks.{disk-same, disk-then, disk-call, disk-page_out}
 use Rattle.cc_writes.proofs.Owing.{reserved-page_out}
-use Rattle.cc_writes.proofs.Pages.{takes_out}
+use Rattle.cc_writes.proofs.PagesPlaced.{takes_out}
 use Rattle.cc_writes.proofs.Placing.{has-book, diskless, stepping-none, stepping-adds, unneeded-page}
 use Rattle.cc_writes.proofs.Refusals.{brings-free, stops-free}
 use Rattle.cc_writes.proofs.Resting.{disk-held, rest-same}

@@ -33,7 +33,7 @@ use Rattle.cc_writes.specs.Writes.{HasBoth}
 use Rattle.cc_writes.specs.Transfers.{HasBegun, GrowsBeside, IsCarried, IsUnderWay, IsFinished, FinishLeft, IsTransferred, PutLeft, answer_of}
 use Rattle.cc_writes.specs.declared.writes.PageWrite.{PageWrite}
 use Rattle.cc_writes.specs.declared.writes.PageWrite.TheVariants as write
-use Rattle.cc_writes.proofs.Visits.{went-number, went-held}
+use Rattle.cc_writes.proofs.OneVisit.{went-number, went-held}
 use Rattle.cc_writes.proofs.Quiet.{is_held, holds_the_book, history-kept, rest-kept}
 use Rattle.cc_writes.proofs.Flushing.{disk-grown}
 

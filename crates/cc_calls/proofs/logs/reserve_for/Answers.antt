@@ -1,5 +1,5 @@
 use Rattle.std.proofs.Common.{suc}
-use Rattle.cc_writes.proofs.Visits.{grows-then, went-holds, went-number}
+use Rattle.cc_writes.proofs.OneVisit.{grows-then, went-holds, went-number}
 use Rattle.cc_calls.proofs.logs.reserve_for.Goals as goal
 
 pub returns-then-logs-handle-clause-grows : goal.returns-then-logs-handle-clause-grows

@@ -4,7 +4,7 @@ use Rattle.std.proofs.Common.{◌≡◌, ap, sym, ◌∙◌, subst, arith}
 use Rattle.cc_turns.specs.Standing.{Standing}
 use Rattle.cc_writes.specs.Hands.{HasBook, IsAtRest, WentWith}
 use Rattle.cc_writes.proofs.Visiting.{few-left}
-use Rattle.cc_writes.proofs.Visits.{visiting}
+use Rattle.cc_writes.proofs.OneVisit.{visiting}
 use Rattle.cc_ranges.specs.Ends.{HasFailedWrite}
 use Rattle.cc_ranges.proofs.WriteFinishing.{may-fail}
 use Rattle.cc_ranges.proofs.EndVisits.{may-fail-visit, failing}

@@ -6,7 +6,7 @@ use Rattle.cc_turns.specs.Standing.{Standing}
 use Rattle.cc_writes.specs.Hands.{WentWith}
 use Rattle.cc_writes.specs.Visits.{HasPlaced}
 use Rattle.cc_writes.proofs.Visiting.{few-left}
-use Rattle.cc_writes.proofs.Visits.{visiting}
+use Rattle.cc_writes.proofs.OneVisit.{visiting}
 use Rattle.cc_ranges.proofs.Placing.{sync-pushed, sync-reserved, sync-placed, sync-given}
 use Rattle.cc_ranges.proofs.flush_visits.place_sync.Goals as goal
 

@@ -8,7 +8,7 @@ use Rattle.cc_effects.specs.Asked.{Calls}
 use Rattle.cc_model.specs.History.{history}
 use Rattle.cc_model.specs.Touches.{size_of}
 use Rattle.cc_writes.specs.Ways.{IsAtWork}
-use Rattle.cc_writes.proofs.Visits.{grows-none}
+use Rattle.cc_writes.proofs.OneVisit.{grows-none}
 use Rattle.cc_writes.proofs.Writing.{both-grown}
 use Rattle.cc_ranges.specs.Pages.{FinishedLeft, PutLeft}
 use Rattle.cc_ranges.proofs.Explained.{put-left}

@@ -5,7 +5,7 @@ use Rattle.cc_turns.specs.Standing.{Standing}
 use Rattle.cc_writes.specs.Hands.{HasBook, WentWith}
 use Rattle.cc_writes.specs.Ways.{IsFull}
 use Rattle.cc_writes.proofs.Visiting.{few-left}
-use Rattle.cc_writes.proofs.Visits.{visiting}
+use Rattle.cc_writes.proofs.OneVisit.{visiting}
 use Rattle.cc_ranges.specs.Stores.{StoreLeft}
 use Rattle.cc_ranges.proofs.Storing.{may-visit, stores}
 use Rattle.cc_ranges.proofs.stores.store_at.Goals as goal

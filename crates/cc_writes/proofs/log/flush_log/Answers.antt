@@ -2,7 +2,7 @@
 use Rattle.std.proofs.Common.{◌≡◌, Some, None, ℕ, sym, ◌∙◌, subst, inl}
 use Rattle.cc_model.specs.History.{history}
 use Rattle.cc_model.specs.Settings.{log_of}
-use Rattle.cc_writes.proofs.Visits.{grows-none}
+use Rattle.cc_writes.proofs.OneVisit.{grows-none}
 use Rattle.cc_writes.proofs.Quiet.{holds_both}
 use Rattle.cc_turns.proofs.Handles.{handle-below}
 use Rattle.cc_writes.proofs.Flushing.{flush-book, logged-logless}

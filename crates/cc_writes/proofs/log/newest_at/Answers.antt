@@ -3,7 +3,7 @@ use Rattle.std.proofs.Common.{ap, ◌∙◌}
 use Rattle.cc_model.specs.History.{history}
 use Rattle.cc_model.specs.Images.{open_of}
 use Rattle.cc_writes.proofs.Visiting.{few-left}
-use Rattle.cc_writes.proofs.Visits.{visiting}
+use Rattle.cc_writes.proofs.OneVisit.{visiting}
 use Rattle.cc_writes.proofs.Logging.{flight_after, few-after, newest-visited, rest-there}
 use Rattle.cc_writes.proofs.log.newest_at.Goals as goal
 

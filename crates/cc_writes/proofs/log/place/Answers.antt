@@ -4,7 +4,7 @@ use Rattle.cc_model.specs.Good.{IsGood}
 use Rattle.cc_turns.specs.Standing.{Standing}
 use Rattle.cc_writes.specs.Hands.{WentWith}
 use Rattle.cc_writes.proofs.Visiting.{few-left}
-use Rattle.cc_writes.proofs.Visits.{visiting}
+use Rattle.cc_writes.proofs.OneVisit.{visiting}
 use Rattle.cc_writes.proofs.Logging.{may_log-pushed, logged}
 use Rattle.cc_writes.proofs.log.place.Goals as goal
 

@@ -4,7 +4,7 @@ use Rattle.cc_turns.specs.Standing.{Standing}
 use Rattle.cc_writes.specs.Hands.{HasBook, WentWith}
 use Rattle.cc_writes.specs.Transfers.{BeginLeft}
 use Rattle.cc_writes.proofs.Visiting.{few-left}
-use Rattle.cc_writes.proofs.Visits.{visiting}
+use Rattle.cc_writes.proofs.OneVisit.{visiting}
 use Rattle.cc_writes.proofs.Beginning.{may_be_begun, beginning}
 use Rattle.cc_writes.proofs.transfers.begin_at.Goals as goal
 

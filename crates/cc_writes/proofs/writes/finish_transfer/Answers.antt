@@ -1,6 +1,6 @@
 -- The transfer is open still after it was carried, since its disk was in hand; so it may end.
 use Rattle.std.proofs.Common.{ap, ◌∙◌}
-use Rattle.cc_writes.proofs.Visits.{went-held, went-then}
+use Rattle.cc_writes.proofs.OneVisit.{went-held, went-then}
 use Rattle.cc_writes.proofs.Quiet.{holds_the_book}
 use Rattle.cc_writes.proofs.Writing.{still_begun, finished, both-finished}
 use Rattle.cc_writes.proofs.writes.finish_transfer.Goals as goal
