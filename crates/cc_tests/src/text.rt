@@ -46,6 +46,7 @@ isdirty
 isdirty
 isdirty
 isdirty
+isdirty
 ";
 
 /// Whether a run of the script is printed as a text.
@@ -152,78 +153,78 @@ fn answers(alloc: Global, places: &Places) -> Result<[LineReply; 28], Fail> {
     };
     let fault = CcError::ReadFault { page: 6 };
     Ok([
-        told(7, Answer::Given(Reply::Unit)),
-        told(8, Answer::Given(Reply::Read(bytes))),
-        told(9, Answer::Given(Reply::Read(Bytes::new(alloc)))),
-        told(10, Answer::Given(Reply::Hold(7))),
-        told(11, Answer::Given(Reply::Flag(true))),
-        told(12, Answer::Given(Reply::Flag(false))),
-        told(13, Answer::Given(Reply::Rows(rows))),
+        told(9, Answer::Given(Reply::Unit)),
+        told(10, Answer::Given(Reply::Read(bytes))),
+        told(11, Answer::Given(Reply::Read(Bytes::new(alloc)))),
+        told(12, Answer::Given(Reply::Hold(7))),
+        told(13, Answer::Given(Reply::Flag(true))),
+        told(14, Answer::Given(Reply::Flag(false))),
+        told(15, Answer::Given(Reply::Rows(rows))),
         told(
-            14,
+            16,
             Answer::Given(Reply::Rows(Rows::from_vec(Vec::new(alloc)))),
         ),
         told(
-            15,
+            17,
             Answer::Given(Reply::Lsns(Some((places.lsn, places.last)))),
         ),
-        told(16, Answer::Given(Reply::Lsns(None))),
-        told(17, state(places.sizes, None)),
-        told(18, state(places.sizes, Some(3))),
-        told(19, Answer::Given(Reply::Ahead(Some(places.request)))),
-        told(20, Answer::Given(Reply::Ahead(None))),
-        told(21, stepped(places.request, true)),
-        told(22, stepped(places.request, false)),
-        told(23, Answer::Stepped(None)),
-        told(24, Answer::Count(4096)),
-        told(25, Answer::NewLsn(places.lsn)),
-        told(26, Answer::Ticked(tick)),
-        told(27, Answer::Posts(Ids::from_vec(ids))),
-        told(28, Answer::Posts(Ids::from_vec(Vec::new(alloc)))),
-        told(29, Answer::Deferred(9)),
-        told(30, Answer::Levels(2)),
+        told(18, Answer::Given(Reply::Lsns(None))),
+        told(19, state(places.sizes, None)),
+        told(20, state(places.sizes, Some(3))),
+        told(21, Answer::Given(Reply::Ahead(Some(places.request)))),
+        told(22, Answer::Given(Reply::Ahead(None))),
+        told(23, stepped(places.request, true)),
+        told(24, stepped(places.request, false)),
+        told(25, Answer::Stepped(None)),
+        told(26, Answer::Count(4096)),
+        told(27, Answer::NewLsn(places.lsn)),
+        told(28, Answer::Ticked(tick)),
+        told(29, Answer::Posts(Ids::from_vec(ids))),
+        told(30, Answer::Posts(Ids::from_vec(Vec::new(alloc)))),
+        told(31, Answer::Deferred(9)),
+        told(32, Answer::Levels(2)),
         told(
-            31,
+            33,
             Answer::NcRefused {
                 done: 4,
                 cause: fault,
             },
         ),
-        told(32, Answer::NoHold),
-        told(33, Answer::NotNow),
-        told(34, Answer::Faulted),
+        told(34, Answer::NoHold),
+        told(35, Answer::NotNow),
+        told(36, Answer::Faulted),
     ])
 }
 
 const ANSWERS: &str = "caller t1
-7 ok
-8 ok 5A,0B,B0,0Bx2,FFx3,00
-9 ok -
-10 ok hold 7
-11 ok true
-12 ok false
-13 ok rows 2; a 0 2 4611686018427387904; bee 7 2 2
-14 ok rows 0
-15 ok lsns 2 4611686018427387904
-16 ok none
-17 ok state 8192 20 10 -
-18 ok state 8192 20 10 3
-19 ok ahead a:3 4096 10
-20 ok none
-21 ok ahead a:3 4096 10 whole
-22 ok ahead a:3 4096 10 part
-23 ok none
-24 ok count 4096
-25 ok lsn 2
-26 ok tick picked 1 written 2 skipped 3 failed 4
-27 ok posted 5 16
-28 ok posted -
-29 ok deferred 9
-30 ok levels 2
-31 error 14 ReadFault 6 done 4
-32 no hold
-33 not now
-34 faulted
+9 ok
+10 ok 5A,0B,B0,0Bx2,FFx3,00
+11 ok -
+12 ok hold 7
+13 ok true
+14 ok false
+15 ok rows 2; a 0 2 4611686018427387904; bee 7 2 2
+16 ok rows 0
+17 ok lsns 2 4611686018427387904
+18 ok none
+19 ok state 8192 20 10 -
+20 ok state 8192 20 10 3
+21 ok ahead a:3 4096 10
+22 ok none
+23 ok ahead a:3 4096 10 whole
+24 ok ahead a:3 4096 10 part
+25 ok none
+26 ok count 4096
+27 ok lsn 2
+28 ok tick picked 1 written 2 skipped 3 failed 4
+29 ok posted 5 16
+30 ok posted -
+31 ok deferred 9
+32 ok levels 2
+33 error 14 ReadFault 6 done 4
+34 no hold
+35 not now
+36 faulted
 ";
 
 #[test]
