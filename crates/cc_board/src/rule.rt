@@ -18,7 +18,7 @@ pub struct View<D, L> {
     /// What the run was made from.
     pub disks: LinkedList<D>,
     pub logs: LinkedList<L>,
-    pub capacity: u32,
+    pub capacity: u64,
     pub threshold: u32,
     /// Whether it was not joined yet.
     pub live: bool,

@@ -23,7 +23,7 @@ pub enum Entry {
     /// or hold.
     Call {
         pass: u32,
-        nth: u32,
+        nth: u64,
         stream: Option<StreamId>,
         call: Call,
         outcome: Outcome,

@@ -1,5 +1,5 @@
 -- How all that the journal keeps beside its entries steps.
-use Rattle.std.specs.Prelude.{◌≡◌, ℕ, suc, ◌+◌, ◌≤◌, ◌==◌, ◌&&◌, ◌||◌, nat_lt, Bool, true, false, List, [], ◌∷◌, length, Option, if◌then◌else◌, refl}
+use Rattle.std.specs.Prelude.{◌≡◌, ℕ, suc, ◌+◌, ◌^◌, ◌≤◌, ◌==◌, ◌&&◌, ◌||◌, nat_lt, Bool, true, false, List, [], ◌∷◌, length, Option, if◌then◌else◌, refl}
 use Rattle.std.proofs.Common.{ap, ◌∙◌, arith}
 use Rattle.cc_entry.specs.Place.{Page, File}
 use Rattle.cc_entry.specs.declared.entry.Entry.{Entry}
@@ -41,8 +41,8 @@ kept_none states places table counts waiting total last streams calls queue scan
   short = rw none (omega arith);
 }
 
-pub memory_none : (capacity entry_room place_room count_room : ℕ) → HasMemory capacity 0 0 entry_room place_room count_room
-memory_none capacity entry_room place_room count_room = record { within = omega arith; for_entries = omega arith; for_places = omega arith; for_counts = omega arith }
+pub memory_none : (capacity entry_room place_room count_room : ℕ) → capacity ≤ 2 ^ 63 → HasMemory capacity 0 0 entry_room place_room count_room
+memory_none capacity entry_room place_room count_room limit = record { within = omega arith; countable = limit; for_entries = omega arith; for_places = omega arith; for_counts = omega arith }
 
 -- at most one hold is made by each entry
 pub made_by : (e : Entry) → holds_made_by e ≤ 1

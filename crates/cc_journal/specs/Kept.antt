@@ -1,5 +1,5 @@
 -- What the journal keeps beside its entries, standing for them.
-use Rattle.std.specs.Prelude.{◌≡◌, ℕ, ◌+◌, ◌≤◌, List, length, Option}
+use Rattle.std.specs.Prelude.{◌≡◌, ℕ, ◌+◌, ◌^◌, ◌≤◌, List, length, Option}
 use Rattle.cc_entry.specs.Place.{Page}
 use Rattle.cc_entry.specs.declared.entry.Entry.{Entry}
 use Rattle.cc_dirty.specs.Table.{Table}
@@ -24,9 +24,10 @@ pub record Kept {Q : Type 0} (past : List Entry) (states : List Stream) (places 
   pub capacity : 16384 ≤ table.capacity
   pub short : length waiting.writes ≤ 64
 
--- there is memory for what is reserved
+-- There is memory for what is reserved, within a capacity whose entries can be counted.
 pub record HasMemory (capacity entries reserved : ℕ) (entry_room place_room count_room : ℕ) : Type 0 where
   pub within : entries + reserved ≤ capacity
+  pub countable : capacity ≤ 2 ^ 63
   pub for_entries : reserved ≤ entry_room
   pub for_places : reserved ≤ place_room
   pub for_counts : reserved ≤ count_room

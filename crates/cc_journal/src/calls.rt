@@ -17,7 +17,7 @@ use std::alloc::Global;
 #[derive(Clone, Copy)]
 pub(crate) struct PassCalls {
     // How many calls it has ended.
-    count: u32,
+    count: u64,
     // Whether the last of them is a noncached store that was done: the end of that write has a place reserved.
     owes: bool,
 }
@@ -39,7 +39,7 @@ impl CallCounts {
     }
 
     /// How many calls of the pass have ended.
-    pub(crate) fn of(&self, pass: u32) -> u32
+    pub(crate) fn of(&self, pass: u32) -> u64
         ensures { result ≡ count_in self.now.counts.entries pass }
     {
         match self.counts.get(&pass) {
@@ -70,7 +70,7 @@ impl CallCounts {
     /// Counts one more ended call of the pass, which is a done noncached store or is none.
     pub(crate) fn count(&mut self, pass: u32, owes: bool)
         requires room { 0 < spare self.old.counts }
-        requires few { count_in self.old.counts.entries pass < 2 ^ 32 - 1 }
+        requires few { count_in self.old.counts.entries pass < 2 ^ 64 - 1 }
         ensures counted { (past : List Entry) (nth : ℕ) (stream : Option ℕ) (call : Call) (ended : Outcome) →
             owes ≡ is_store call ended → CountsCalls past self.old.counts.entries →
             CountsCalls (entry.Call pass nth stream call ended ∷ past) self.new.counts.entries }
@@ -83,7 +83,7 @@ impl CallCounts {
     /// Follows an entry.
     pub(crate) fn follow(&mut self, entry: &Entry)
         requires room { 0 < spare self.old.counts }
-        requires few { (pass : ℕ) → count_in self.old.counts.entries pass < 2 ^ 32 - 1 }
+        requires few { (pass : ℕ) → count_in self.old.counts.entries pass < 2 ^ 64 - 1 }
         ensures counted { (past : List Entry) → CountsCalls past self.old.counts.entries →
             CountsCalls (entry.now ∷ past) self.new.counts.entries }
         ensures room { spare self.old.counts ≤ spare self.new.counts + 1 }

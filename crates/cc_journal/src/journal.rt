@@ -36,13 +36,13 @@ use std::marker::Model;
 #[derive(Drop)]
 pub struct Journal<Q = Box<dyn PostRoutine + Send>> {
     alloc: Global,
-    capacity: u32,
+    capacity: u64,
     threshold: u32,
     logs: u8,
     /// The oldest first.
     entries: Vec<Entry>,
     /// How many entries more are promised a place; there is memory for them.
-    reserved: u32,
+    reserved: u64,
     streams: Streams,
     calls: CallCounts,
     /// How many holds were ever made.
@@ -81,10 +81,11 @@ impl<Q: PostRoutine> Journal<Q> {
     /// where memory is wanting.
     pub fn new(
         alloc: Global,
-        capacity: u32,
+        capacity: u64,
         threshold: u32,
         logs: u8,
     ) -> Result<Journal<Q>, NoMemory>
+        requires limit { capacity ≤ 2 ^ 63 }
         ensures limits { IfOk result (λ j. (j.capacity ≡ capacity) × (j.threshold ≡ threshold) × (j.logs ≡ logs)) }
         ensures empty { IfOk result (λ j. (j.entries ≡ []) × (j.reserved ≡ 0) × (j.rows ≡ []) × (j.queue ≡ [])) }
     {
@@ -178,16 +179,16 @@ impl<Q> Journal<Q> {
     }
 
     /// How many entries more may be reserved.
-    pub fn room(&self) -> u32
+    pub fn room(&self) -> u64
         ensures { result ≡ room_of self.now }
     {
-        self.capacity - self.entries.len() as u32 - self.reserved
+        self.capacity - self.entries.len() as u64 - self.reserved
     }
 
     /// Promises a place to so many entries, and takes the memory for them.
     ///
     /// `JournalFull` exactly where there is less room, with the number of entries; `NoMemory`.
-    pub fn reserve(&mut self, n: u32) -> Result<(), CcError>
+    pub fn reserve(&mut self, n: u64) -> Result<(), CcError>
         ensures full { IsErrOf result (error.JournalFull (length self.old.entries)) ↔ (room_of self.old < n) }
         ensures causes { IfErr result (λ e. (e ≡ error.JournalFull (length self.old.entries)) ⊎ (e ≡ error.NoMemory)) }
         ensures reserved { OnOk result (self.new ≡ record self.old { reserved = self.old.reserved + n }) }
@@ -207,7 +208,7 @@ impl<Q> Journal<Q> {
     }
 
     /// Takes the promise of so many entries back.
-    pub fn release(&mut self, n: u32)
+    pub fn release(&mut self, n: u64)
         requires { n ≤ self.old.reserved }
         ensures { self.new ≡ record self.old { reserved = self.old.reserved - n } }
     {
@@ -248,28 +249,26 @@ impl<Q> Journal<Q> {
     }
 
     /// How many calls of a pass have ended.
-    pub fn calls_of(&self, pass: u32) -> u32
+    pub fn calls_of(&self, pass: u32) -> u64
         ensures { result ≡ calls_of self.now.entries pass }
     {
         self.calls.of(pass)
     }
 
     /// The number of a pass's next call, for whose entry a place is reserved.
-    pub fn next_call(&self, pass: u32) -> u32
+    pub fn next_call(&self, pass: u32) -> u64
         requires { 0 < self.now.reserved }
         ensures { result ≡ suc (calls_of self.now.entries pass) }
     {
-        // The capacity is what bounds the number.
-        let _most = self.capacity;
         self.calls.of(pass) + 1
     }
 
     /// How many places are reserved for the end of a noncached write of a pass: one, where its last call is the store of
     /// that write. The pass's next call has no use for it, unless it is that end.
-    pub fn owed_end(&self, pass: u32) -> u32
+    pub fn owed_end(&self, pass: u32) -> u64
         ensures { result ≡ owed_end self.now.entries pass }
     {
-        u32::from(self.calls.owes(pass))
+        u64::from(self.calls.owes(pass))
     }
 
     /// The id of the next hold.

@@ -38,7 +38,7 @@ pub(crate) fn end_text(how: End) -> &'static str
 fn push_called(
     text: &mut String,
     streams: &[StreamLine],
-    number: (u32, u32),
+    number: (u32, u64),
     call: &Call,
     outcome: &Outcome,
 ) -> Result<(), AllocError>

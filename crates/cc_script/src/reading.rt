@@ -90,7 +90,7 @@ impl Reading {
         if !self.script.lines.is_empty() || self.has_journal {
             return Err(LineFault::Syntax);
         }
-        self.script.journal = capacity;
+        self.script.journal = u64::from(capacity);
         self.has_journal = true;
         Ok(())
     }

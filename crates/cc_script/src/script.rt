@@ -471,7 +471,7 @@ impl ActionLines {
 /// journal of 1048576 entries and a cache threshold of 1024 pages.
 #[derive(Drop)]
 pub struct Script {
-    pub journal: u32,
+    pub journal: u64,
     pub threshold: u32,
     pub ticks: u32,
     pub aheads: u32,

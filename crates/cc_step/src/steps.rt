@@ -89,7 +89,7 @@ fn place_new<Q>(
     journal: &mut Journal<Q>,
     pass: u32,
     call: Call,
-    more: u32,
+    more: u64,
 ) -> Stepped
     requires stepped { is_stepped call ≡ true }
     requires may { (u : Setup) × MayStep u pass call book.old journal.old
@@ -152,7 +152,7 @@ fn step<Q>(
     journal: &mut Journal<Q>,
     pass: u32,
     call: Call,
-    more: u32,
+    more: u64,
 ) -> Stepped
     requires stepped { is_stepped call ≡ true }
     requires reserved { 0 < journal.old.reserved }
@@ -177,7 +177,7 @@ fn admitted<Q>(
     journal: &mut Journal<Q>,
     pass: u32,
     call: Call,
-    more: u32,
+    more: u64,
 ) -> Stepped
     requires stepped { is_stepped call ≡ true }
     requires reserved { 0 < journal.old.reserved }
@@ -200,7 +200,7 @@ fn finish<Q>(
     journal: &mut Journal<Q>,
     pass: u32,
     call: Call,
-    more: u32,
+    more: u64,
 ) -> Stepped
     requires stepped { is_stepped call ≡ true }
     requires reserved { 0 < journal.old.reserved }
@@ -228,7 +228,7 @@ fn place<Q>(
     pass: u32,
     call: Call,
     answer: Reply,
-    more: u32,
+    more: u64,
 ) -> Stepped
     requires stepped { is_stepped call ≡ true }
     requires reserved { more < journal.old.reserved }
@@ -282,7 +282,7 @@ fn absent_below(book: &Book, at: u64, len: u64) -> Option<u64>
 }
 
 /// How many places a call asks that is done, with that of its entry.
-pub fn places_asked(book: &Book, call: &Call) -> u32
+pub fn places_asked(book: &Book, call: &Call) -> u64
     ensures { (opening : Option (ℕ → List ℕ)) (past : List Entry) → BookStands opening past book.now →
         result ≡ asked_now past book.now.stream call.now }
 {
@@ -301,12 +301,12 @@ pub fn places_asked(book: &Book, call: &Call) -> u32
 }
 
 /// How many reserved places a call gives back beside that of its entry.
-pub fn places_spared(book: &Book, call: &Call) -> u32
+pub fn places_spared(book: &Book, call: &Call) -> u64
     ensures { (opening : Option (ℕ → List ℕ)) (past : List Entry) → BookStands opening past book.now →
         result ≡ places_spared (holds_of (history past book.now.stream)) call.now }
 {
     match call {
-        Call::EndHold { hold } => u32::from(book.owes_set_dirty(*hold)),
+        Call::EndHold { hold } => u64::from(book.owes_set_dirty(*hold)),
         _ => 0,
     }
 }

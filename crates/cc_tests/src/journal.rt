@@ -1,6 +1,6 @@
 //! Tests of the journal.
 
-ghost use Rattle.std.specs.Prelude.{◌≡◌, suc, ◌-◌, ◌<◌, true, [], length, IfOk};
+ghost use Rattle.std.specs.Prelude.{◌≡◌, suc, ◌-◌, ◌^◌, ◌<◌, ◌≤◌, true, [], length, IfOk};
 ghost use Rattle.cc_model.specs.Acts.{act_of};
 ghost use Rattle.cc_tests.specs.Light.{is_light_act, is_light, IsLight};
 
@@ -15,7 +15,7 @@ use std::alloc::Global;
 use std::test::Fail;
 
 /// A call of the first pass that was done.
-fn done(nth: u32, file: FileId, call: Call, reply: Reply) -> Entry
+fn done(nth: u64, file: FileId, call: Call, reply: Reply) -> Entry
     ensures { is_light result ≡ is_light_act (act_of call) }
 {
     Entry::Call {
@@ -56,7 +56,8 @@ fn transfer(journal: &mut Journal, page: PageId)
 }
 
 /// An empty journal, all of whose room is reserved.
-fn empty(alloc: Global, capacity: u32) -> Result<Journal, Fail>
+fn empty(alloc: Global, capacity: u64) -> Result<Journal, Fail>
+    requires { capacity ≤ 2 ^ 63 }
     ensures past { IfOk result (λ j. IsLight j.entries) }
     ensures count { IfOk result (λ j. length j.entries ≡ 0) }
     ensures reserved { IfOk result (λ j. j.reserved ≡ capacity) }

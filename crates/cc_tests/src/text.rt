@@ -284,7 +284,7 @@ fn prints_refusals(rt: HostRuntime) -> Result<(), Fail> {
     Ok(())
 }
 
-fn ended(pass: u32, nth: u32, call: Call, outcome: Outcome) -> Entry {
+fn ended(pass: u32, nth: u64, call: Call, outcome: Outcome) -> Entry {
     Entry::Call {
         pass,
         nth,

@@ -200,7 +200,7 @@ pub(crate) fn done<Q>(
 }
 
 // How many places a call asks that may be done, with that of its entry. The end of a noncached write has its place.
-fn asked(book: &Book, call: &Call) -> u32
+fn asked(book: &Book, call: &Call) -> u64
     ensures { (opening : Option (ℕ → List ℕ)) (past : List Entry) → BookStands opening past book.now →
         result ≡ asked_on (holds_of (history past book.now.stream)) call.now }
 {
@@ -212,7 +212,7 @@ fn asked(book: &Book, call: &Call) -> u32
 
 // How many reserved places a call gives back that is done, beside that of its entry: that of a set-dirty, where it ends a
 // pin that owes one, and that of the end of a noncached write that the pass owed, where it is not that end.
-fn spared<Q>(book: &Book, journal: &Journal<Q>, pass: u32, call: &Call) -> u32
+fn spared<Q>(book: &Book, journal: &Journal<Q>, pass: u32, call: &Call) -> u64
     requires { (opening : Option (ℕ → List ℕ)) × BookStands opening journal.now.entries book.now }
     ensures { result ≡ spared_on journal.now.entries pass book.now.stream call.now }
 {

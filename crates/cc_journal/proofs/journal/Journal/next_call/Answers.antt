@@ -15,6 +15,7 @@ overflow_add-result g c =
       calls_within past c.args.pass,
       length-reverse c.self.inside.entries.items,
       c.self.invariant.1.within,
+      c.self.invariant.1.countable,
       c.requires,
       ap (λ j. j.reserved) c.self.view_is,
     )

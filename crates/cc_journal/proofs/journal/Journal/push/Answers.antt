@@ -20,12 +20,12 @@ follow-requires-clause-rows g c =
 pub follow-requires-2-clause-few : goal.follow-requires-2-clause-few
 follow-requires-2-clause-few g c pass =
     let past : List Entry = reverse c.self.inside.entries.items in
-    omega (arith, c.self.invariant.0.calls.count pass, calls_within past pass, length-reverse c.self.inside.entries.items, c.self.invariant.1.within, c.requires.reserved, ap (λ j. j.reserved) c.self.view_is)
+    omega (arith, c.self.invariant.0.calls.count pass, calls_within past pass, length-reverse c.self.inside.entries.items, c.self.invariant.1.within, c.self.invariant.1.countable, c.requires.reserved, ap (λ j. j.reserved) c.self.view_is)
 
 pub overflow_add-self : goal.overflow_add-self
 overflow_add-self g c =
     let past : List Entry = reverse c.self.inside.entries.items in
-    omega (arith, c.self.invariant.0.made, holds_within past, length-reverse c.self.inside.entries.items, c.self.invariant.1.within, c.holds_made_by.ensures, made_by c.args.entry)
+    omega (arith, c.self.invariant.0.made, holds_within past, length-reverse c.self.inside.entries.items, c.self.invariant.1.within, c.self.invariant.1.countable, c.holds_made_by.ensures, made_by c.args.entry)
 
 pub invariant_of-self : goal.invariant_of-self
 invariant_of-self g c =
@@ -45,6 +45,7 @@ invariant_of-self g c =
           c.holds_made_by.ensures scans),
       record {
         within = omega (arith, memory.within, c.push_reserved.ensures.len, c.requires.reserved, reserved);
+        countable = memory.countable;
         for_entries = omega (arith, memory.for_entries, c.push_reserved.ensures.len, c.push_reserved.ensures.capacity);
         for_places = omega (arith, memory.for_places, c.follow.ensures.room);
         for_counts = omega (arith, memory.for_counts, c.follow-2.ensures.room);

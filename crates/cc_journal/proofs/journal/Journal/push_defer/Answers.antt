@@ -11,7 +11,7 @@ use Rattle.cc_journal.proofs.journal.Journal.push_defer.Goals as goal
 pub defer-id-requires-clause-few : goal.defer-id-requires-clause-few
 defer-id-requires-clause-few g c =
     let past : List Entry = reverse c.self.inside.entries.items in
-    omega (arith, c.self.invariant.0.queue.1, deferred_within past, length-reverse c.self.inside.entries.items, c.self.invariant.1.within)
+    omega (arith, c.self.invariant.0.queue.1, deferred_within past, length-reverse c.self.inside.entries.items, c.self.invariant.1.within, c.self.invariant.1.countable)
 
 pub invariant_of-self : goal.invariant_of-self
 invariant_of-self g c =
@@ -31,6 +31,7 @@ invariant_of-self g c =
           c.self.inside.waiting c.defer-id.new.self c.self.inside.scans.total c.self.inside.scans.cursor kept refl (λ me. refl) refl refl stands short),
       record {
         within = omega (arith, memory.within, c.push_reserved.ensures.len, c.requires.reserved, reserved);
+        countable = memory.countable;
         for_entries = omega (arith, memory.for_entries, c.push_reserved.ensures.len, c.push_reserved.ensures.capacity);
         for_places = omega (arith, memory.for_places);
         for_counts = omega (arith, memory.for_counts);

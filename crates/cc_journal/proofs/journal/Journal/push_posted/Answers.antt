@@ -21,6 +21,7 @@ invariant_of-self g c =
           c.self.inside.waiting c.post-posted.new.self c.self.inside.scans.total c.self.inside.scans.cursor kept refl (λ me. refl) refl refl (c.post-posted.ensures.stands past kept.queue) short),
       record {
         within = omega (arith, memory.within, c.push_reserved.ensures.len, c.requires.reserved, reserved);
+        countable = memory.countable;
         for_entries = omega (arith, memory.for_entries, c.push_reserved.ensures.len, c.push_reserved.ensures.capacity);
         for_places = omega (arith, memory.for_places);
         for_counts = omega (arith, memory.for_counts);
