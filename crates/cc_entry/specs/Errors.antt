@@ -33,6 +33,7 @@ number_of (error.NoLog _) = 21
 number_of (error.Unsettled _) = 22
 number_of (error.Grown _) = 23
 number_of (error.GapTooLong _) = 24
+number_of (error.LockConflict _) = 25
 
 -- the name of a refusal
 abbrev pub name_of : CcError → List ℕ
@@ -60,3 +61,4 @@ name_of (error.NoLog _) = codes "NoLog"
 name_of (error.Unsettled _) = codes "Unsettled"
 name_of (error.Grown _) = codes "Grown"
 name_of (error.GapTooLong _) = codes "GapTooLong"
+name_of (error.LockConflict _) = codes "LockConflict"

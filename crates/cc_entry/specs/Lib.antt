@@ -6,3 +6,4 @@ pub mod Lsns
 pub mod Parts
 pub mod Runs
 pub mod Errors
+pub mod Locks

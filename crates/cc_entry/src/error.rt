@@ -101,6 +101,9 @@ pub enum CcError {
     /// A write starts further past the valid data length than the limit.
     #[error("the write starts more than {limit} bytes past the valid data length")]
     GapTooLong { limit: u64 },
+    /// A lock of bytes conflicts with the range; the least such id.
+    #[error("lock {id} conflicts with the range")]
+    LockConflict { id: u64 },
 }
 
 impl CcError {
@@ -133,6 +136,7 @@ impl CcError {
             CcError::Unsettled { .. } => 22,
             CcError::Grown { .. } => 23,
             CcError::GapTooLong { .. } => 24,
+            CcError::LockConflict { .. } => 25,
         }
     }
 
@@ -165,6 +169,7 @@ impl CcError {
             CcError::Unsettled { .. } => "Unsettled",
             CcError::Grown { .. } => "Grown",
             CcError::GapTooLong { .. } => "GapTooLong",
+            CcError::LockConflict { .. } => "LockConflict",
         }
     }
 }

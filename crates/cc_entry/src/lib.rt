@@ -16,6 +16,7 @@ pub mod entry;
 pub mod error;
 pub mod hold;
 pub mod lists;
+pub mod lock;
 mod part;
 pub mod place;
 pub mod reply;
@@ -28,6 +29,7 @@ pub use entry::{End, Entry};
 pub use error::{CcError, NoMemory};
 pub use hold::{Deferral, HoldKind, HoldRow};
 pub use lists::{Ids, Pages, Rows};
+pub use lock::{Lock, LockCall};
 pub use place::{
     DirtyRow, FileId, FileSizes, FileState, Lsn, PageId, Quota, Request, Span, StreamId,
 };

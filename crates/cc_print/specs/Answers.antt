@@ -43,6 +43,7 @@ error_numbers (error.NoLog n) = codes " " & decimal n
 error_numbers (error.Unsettled n) = codes " " & decimal n
 error_numbers (error.Grown n) = codes " " & decimal n
 error_numbers (error.GapTooLong n) = codes " " & decimal n
+error_numbers (error.LockConflict n) = codes " " & decimal n
 
 -- a refusal: its number, its name, then its numbers
 abbrev pub error_text : CcError → List ℕ

@@ -35,7 +35,8 @@ fn push_error_numbers(text: &mut String, error: CcError) -> Result<(), AllocErro
         | CcError::NoLog { handle: n }
         | CcError::Unsettled { page: n }
         | CcError::Grown { page: n }
-        | CcError::GapTooLong { limit: n } => write!(text, " {n}"),
+        | CcError::GapTooLong { limit: n }
+        | CcError::LockConflict { id: n } => write!(text, " {n}"),
     }
 }
 

@@ -235,7 +235,7 @@ fn prints_answers(rt: HostRuntime) -> Result<(), Fail> {
     Ok(())
 }
 
-const REFUSALS: [(CcError, &str); 24] = [
+const REFUSALS: [(CcError, &str); 25] = [
     (CcError::NotCached, "error 1 NotCached"),
     (CcError::BeyondSize { size: 8 }, "error 2 BeyondSize 8"),
     (CcError::BeyondValid { valid: 8 }, "error 3 BeyondValid 8"),
@@ -269,6 +269,7 @@ const REFUSALS: [(CcError, &str); 24] = [
     (CcError::Unsettled { page: 8 }, "error 22 Unsettled 8"),
     (CcError::Grown { page: 8 }, "error 23 Grown 8"),
     (CcError::GapTooLong { limit: 8 }, "error 24 GapTooLong 8"),
+    (CcError::LockConflict { id: 8 }, "error 25 LockConflict 8"),
 ];
 
 #[test]
