@@ -118,8 +118,10 @@ pub fn run_once<'a, R: Threads + Wait + Sync>(
 /// Whether an entry says that a device failed.
 fn is_failure(entry: &Entry) -> bool {
     match entry {
-        Entry::FillFailed { .. } | Entry::LogFailed { .. } => true,
-        Entry::WriteEnd { how, .. } | Entry::Sync { how, .. } => matches!(how, End::Failed),
+        Entry::FillFailed { .. } | Entry::LogFailed { .. } | Entry::RecordFailed { .. } => true,
+        Entry::WriteEnd { how, .. } | Entry::Sync { how, .. } | Entry::Record { how, .. } => {
+            matches!(how, End::Failed)
+        }
         _ => false,
     }
 }

@@ -56,6 +56,11 @@ not-mine me other (entry.LogFailed pass handle) apart is = not-of-other pass me 
 not-mine me other (entry.Defer pass id file pages retrying) apart is = not-of-other pass me other apart is
 not-mine me other (entry.Posted id) apart is = refl
 not-mine me other (entry.Scan pass picked) apart is = not-of-other pass me other apart is
+not-mine me other (entry.Record pass stream size valid how) apart is = not-of-other pass me other apart is
+not-mine me other (entry.RecordFailed pass stream) apart is = not-of-other pass me other apart is
+not-mine me other (entry.Locked pass file span exclusive granted id) apart is = not-of-other pass me other apart is
+not-mine me other (entry.Unlocked pass file id gone) apart is = not-of-other pass me other apart is
+not-mine me other (entry.Tested pass file span write conflict) apart is = not-of-other pass me other apart is
 
 -- so all that a pass placed is others' to each other pass
 others-added : (me other : ℕ) (added : List Entry) → other ≢ me → AllByRecursion (λ e. may_be_of me e ≡ true) added → Others other added

@@ -32,6 +32,11 @@ needs-journal (entry.LogFailed pass handle) = refl
 needs-journal (entry.Defer pass id file pages retrying) = refl
 needs-journal (entry.Posted id) = refl
 needs-journal (entry.Scan pass picked) = refl
+needs-journal (entry.Record pass stream size valid how) = refl
+needs-journal (entry.RecordFailed pass stream) = refl
+needs-journal (entry.Locked pass file span exclusive granted id) = refl
+needs-journal (entry.Unlocked pass file id gone) = refl
+needs-journal (entry.Tested pass file span write conflict) = refl
 
 -- so nothing was placed where no entry needs it
 pub none_later : (later : List Entry) → is_quiet Journal later ≡ true → later ≡ []

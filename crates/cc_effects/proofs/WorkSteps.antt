@@ -33,6 +33,11 @@ may-place-before me work older gap past (entry.Append pass handle lsn bytes) may
 may-place-before me work older gap past (entry.Defer pass id file pages retrying) may = may
 may-place-before me work older gap past (entry.Posted id) may = may
 may-place-before me work older gap past (entry.Scan pass picked) may = may
+may-place-before me work older gap past (entry.Record pass stream size valid how) may = may
+may-place-before me work older gap past (entry.RecordFailed pass stream) may = may
+may-place-before me work older gap past (entry.Locked pass file span exclusive granted id) may = may
+may-place-before me work older gap past (entry.Unlocked pass file id gone) may = may
+may-place-before me work older gap past (entry.Tested pass file span write conflict) may = may
 may-place-before me work older gap past (entry.Call pass nth stream call ended) may = may
 
 -- others' entries alone are such work
@@ -85,7 +90,17 @@ whole-append (Some after) (entry.Defer pass id file pages retrying ∷ xs) ys a 
 whole-append None (entry.Posted id ∷ xs) ys a b = whole-append None xs ys a b
 whole-append (Some after) (entry.Posted id ∷ xs) ys a b = absurd (cc)
 whole-append None (entry.Scan pass picked ∷ xs) ys a b = whole-append None xs ys a b
+whole-append None (entry.Record pass stream size valid how ∷ xs) ys a b = whole-append None xs ys a b
+whole-append None (entry.RecordFailed pass stream ∷ xs) ys a b = whole-append None xs ys a b
+whole-append None (entry.Locked pass file span exclusive granted id ∷ xs) ys a b = whole-append None xs ys a b
+whole-append None (entry.Unlocked pass file id gone ∷ xs) ys a b = whole-append None xs ys a b
+whole-append None (entry.Tested pass file span write conflict ∷ xs) ys a b = whole-append None xs ys a b
 whole-append (Some after) (entry.Scan pass picked ∷ xs) ys a b = absurd (cc)
+whole-append (Some after) (entry.Record pass stream size valid how ∷ xs) ys a b = absurd (cc)
+whole-append (Some after) (entry.RecordFailed pass stream ∷ xs) ys a b = absurd (cc)
+whole-append (Some after) (entry.Locked pass file span exclusive granted id ∷ xs) ys a b = absurd (cc)
+whole-append (Some after) (entry.Unlocked pass file id gone ∷ xs) ys a b = absurd (cc)
+whole-append (Some after) (entry.Tested pass file span write conflict ∷ xs) ys a b = absurd (cc)
 whole-append None (entry.Call pass nth stream call ended ∷ xs) ys a b = whole-append None xs ys a b
 whole-append (Some after) (entry.Call pass nth stream call ended ∷ xs) ys a b = absurd (cc)
 

@@ -9,6 +9,8 @@ abbrev pub is_failure : ℕ → Entry → Bool
 is_failure s (entry.FillFailed pass page) = page.stream == s
 is_failure s (entry.WriteEnd pass page how) = page.stream == s && is_failed how
 is_failure s (entry.Sync pass stream how) = stream == s && is_failed how
+is_failure s (entry.Record pass stream size valid how) = stream == s && is_failed how
+is_failure s (entry.RecordFailed pass stream) = stream == s
 is_failure s other = false
 
 -- how many entries show it

@@ -67,6 +67,11 @@ MayPlace me work old past (entry.Append pass handle lsn bytes) = ⊥
 MayPlace me work old past (entry.Defer pass id file pages retrying) = ⊥
 MayPlace me work old past (entry.Posted id) = ⊥
 MayPlace me work old past (entry.Scan pass picked) = ⊥
+MayPlace me work old past (entry.Record pass stream size valid how) = ⊥
+MayPlace me work old past (entry.RecordFailed pass stream) = ⊥
+MayPlace me work old past (entry.Locked pass file span exclusive granted id) = ⊥
+MayPlace me work old past (entry.Unlocked pass file id gone) = ⊥
+MayPlace me work old past (entry.Tested pass file span write conflict) = ⊥
 MayPlace me work old past (entry.Call pass nth stream call ended) = ⊥
 
 abbrev pub is_sync : Entry → Bool

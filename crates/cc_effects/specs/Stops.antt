@@ -21,9 +21,11 @@ stops (entry.FillFailed pass page) = true
 stops (entry.WriteEnd pass page how) = not (ended_ok how)
 stops (entry.Sync pass stream how) = not (ended_ok how)
 stops (entry.LogFailed pass handle) = true
+stops (entry.Record pass stream size valid how) = not (ended_ok how)
+stops (entry.RecordFailed pass stream) = true
 stops other = false
 
--- whether a transfer or a sync found no memory
+-- whether a transfer, a sync or the write of a record found no memory
 abbrev pub is_want : End → Bool
 is_want how.Good = false
 is_want how.Failed = false
@@ -32,6 +34,7 @@ is_want how.NoMemory = true
 abbrev pub found_no_memory : Entry → Bool
 found_no_memory (entry.WriteEnd pass page how) = is_want how
 found_no_memory (entry.Sync pass stream how) = is_want how
+found_no_memory (entry.Record pass stream size valid how) = is_want how
 found_no_memory other = false
 
 -- nothing stopped the pass in a stretch

@@ -1,8 +1,9 @@
 //! What a line of a script is answered.
 
+use crate::bytes::Bytes;
 use crate::error::CcError;
 use crate::lists::{Ids, Pages};
-use crate::place::{Lsn, Request};
+use crate::place::{FileId, Lsn, Request};
 use crate::reply::Reply;
 
 /// What one tick of the lazy writer did: the pages that it picked, and how many of them were written,
@@ -20,6 +21,31 @@ pub struct Tick {
 pub struct AheadDone {
     pub request: Request,
     pub whole: bool,
+}
+
+/// The number of a queued read: the `n`-th that its pass queued, counted from 1.
+#[derive(Clone, Copy)]
+pub struct AsyncId {
+    pub pass: u32,
+    pub n: u64,
+}
+
+/// What `CcAsyncCopyRead` answers at once: the bytes, where every page was resident, or the number under
+/// which the read was queued.
+#[derive(Drop)]
+pub enum AsyncStart {
+    Ready(Bytes),
+    Queued(AsyncId),
+}
+
+/// A queued read that was completed: what was asked for, `len` bytes from `at` on, and its answer.
+#[derive(Drop)]
+pub struct AsyncDone {
+    pub id: AsyncId,
+    pub file: FileId,
+    pub at: u64,
+    pub len: u64,
+    pub answer: Result<Bytes, CcError>,
 }
 
 /// The answer of a line.
@@ -44,6 +70,14 @@ pub enum Answer {
     Levels(u8),
     /// The read-ahead request that was served, where there was one.
     Stepped(Option<AheadDone>),
+    /// A read that was answered at once, or queued.
+    Started(AsyncStart),
+    /// The queued read that was completed, where there was one.
+    Completed(Option<AsyncDone>),
+    /// The update records of the log that a restart found.
+    Restarted(u64),
+    /// The id of a lock of a range.
+    LockId(u64),
     /// The hold that the line names was never made, or not of the kind needed.
     NoHold,
     /// The event may not happen now.

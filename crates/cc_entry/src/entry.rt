@@ -3,7 +3,7 @@
 use crate::bytes::Bytes;
 use crate::call::Call;
 use crate::lists::Pages;
-use crate::place::{FileId, Lsn, PageId, StreamId};
+use crate::place::{FileId, Lsn, PageId, Span, StreamId};
 use crate::reply::Outcome;
 
 /// How a transfer or a sync ended.
@@ -95,5 +95,42 @@ pub enum Entry {
     Scan {
         pass: u32,
         picked: Pages,
+    },
+    /// The write of a stream's record to its disk ended, of a size and a valid data length in bytes.
+    Record {
+        pass: u32,
+        stream: StreamId,
+        size: u64,
+        valid: u64,
+        how: End,
+    },
+    /// The disk failed to read a stream's record.
+    RecordFailed {
+        pass: u32,
+        stream: StreamId,
+    },
+    /// A lock of a range was asked for: `id` is that of the new lock, or else of the least lock in its way.
+    Locked {
+        pass: u32,
+        file: FileId,
+        span: Span,
+        exclusive: bool,
+        granted: bool,
+        id: u64,
+    },
+    /// A lock was to be given back: `gone` says whether the object had that lock.
+    Unlocked {
+        pass: u32,
+        file: FileId,
+        id: u64,
+        gone: bool,
+    },
+    /// A range was tested for locks before it was read or written; `conflict` is the least lock in the way.
+    Tested {
+        pass: u32,
+        file: FileId,
+        span: Span,
+        write: bool,
+        conflict: Option<u64>,
     },
 }

@@ -22,7 +22,7 @@ pub mod place;
 pub mod reply;
 pub mod runs;
 
-pub use answer::{AheadDone, Answer, LineReply, Tick};
+pub use answer::{AheadDone, Answer, AsyncDone, AsyncId, AsyncStart, LineReply, Tick};
 pub use bytes::{Bytes, BytesRoom};
 pub use call::Call;
 pub use entry::{End, Entry};

@@ -169,7 +169,12 @@ pub fn event_on(entry: &Entry, stream: StreamId) -> Event
         | Entry::LogFailed { .. }
         | Entry::Defer { .. }
         | Entry::Posted { .. }
-        | Entry::Scan { .. } => Event::Rests,
+        | Entry::Scan { .. }
+        | Entry::Record { .. }
+        | Entry::RecordFailed { .. }
+        | Entry::Locked { .. }
+        | Entry::Unlocked { .. }
+        | Entry::Tested { .. } => Event::Rests,
     }
 }
 

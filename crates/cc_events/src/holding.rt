@@ -115,6 +115,11 @@ pub fn holding_on(entry: &Entry, stream: StreamId) -> Holding
         | Entry::LogFailed { .. }
         | Entry::Defer { .. }
         | Entry::Posted { .. }
-        | Entry::Scan { .. } => Holding::Rests,
+        | Entry::Scan { .. }
+        | Entry::Record { .. }
+        | Entry::RecordFailed { .. }
+        | Entry::Locked { .. }
+        | Entry::Unlocked { .. }
+        | Entry::Tested { .. } => Holding::Rests,
     }
 }

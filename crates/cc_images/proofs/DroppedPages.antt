@@ -83,6 +83,11 @@ drops-entry u past (entry.LogFailed pass handle) s legal = tt
 drops-entry u past (entry.Defer pass id file pages retrying) s legal = tt
 drops-entry u past (entry.Posted id) s legal = tt
 drops-entry u past (entry.Scan pass picked) s legal = tt
+drops-entry u past (entry.Record pass stream size valid how) s legal = tt
+drops-entry u past (entry.RecordFailed pass stream) s legal = tt
+drops-entry u past (entry.Locked pass file span exclusive granted id) s legal = tt
+drops-entry u past (entry.Unlocked pass file id gone) s legal = tt
+drops-entry u past (entry.Tested pass file span write conflict) s legal = tt
 
 drops-legal : (u : Setup) (past : List Entry) (s : ℕ) → IsLegal u past → DropsNone (history past s)
 unfolding IsLegal history

@@ -80,6 +80,11 @@ keeps-stands u past (entry.LogFailed pass handle) stands s = tt
 keeps-stands u past (entry.Defer pass id file pages retrying) stands s = tt
 keeps-stands u past (entry.Posted id) stands s = tt
 keeps-stands u past (entry.Scan pass picked) stands s = tt
+keeps-stands u past (entry.Record pass stream size valid how) stands s = tt
+keeps-stands u past (entry.RecordFailed pass stream) stands s = tt
+keeps-stands u past (entry.Locked pass file span exclusive granted id) stands s = tt
+keeps-stands u past (entry.Unlocked pass file id gone) stands s = tt
+keeps-stands u past (entry.Tested pass file span write conflict) stands s = tt
 
 keeps-allowed : (u : Setup) (past : List Entry) (e : Entry)
     → IsAllowedSoFar u (e ∷ past) → KeepsTransfersIn past e

@@ -64,6 +64,11 @@ made_by (entry.LogFailed pass handle) = omega arith
 made_by (entry.Defer pass id file pages retrying) = omega arith
 made_by (entry.Posted id) = omega arith
 made_by (entry.Scan pass picked) = omega arith
+made_by (entry.Record pass stream size valid how) = omega arith
+made_by (entry.RecordFailed pass stream) = omega arith
+made_by (entry.Locked pass file span exclusive granted id) = omega arith
+made_by (entry.Unlocked pass file id gone) = omega arith
+made_by (entry.Tested pass file span write conflict) = omega arith
 
 pub holds_within : (past : List Entry) → holds_made past ≤ length past
 unfolding holds_made

@@ -155,3 +155,8 @@ room_for (entry.LogFailed pass handle) past states places table sound stands few
 room_for (entry.Defer pass id file pages retrying) past states places table sound stands few capacity may = tt
 room_for (entry.Posted id) past states places table sound stands few capacity may = tt
 room_for (entry.Scan pass picked) past states places table sound stands few capacity may = tt
+room_for (entry.Record pass stream size valid how) past states places table sound stands few capacity may = tt
+room_for (entry.RecordFailed pass stream) past states places table sound stands few capacity may = tt
+room_for (entry.Locked pass file span exclusive granted id) past states places table sound stands few capacity may = tt
+room_for (entry.Unlocked pass file id gone) past states places table sound stands few capacity may = tt
+room_for (entry.Tested pass file span write conflict) past states places table sound stands few capacity may = tt

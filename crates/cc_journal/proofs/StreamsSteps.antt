@@ -98,6 +98,11 @@ left_effect (entry.LogFailed pass handle) s left = (refl, refl)
 left_effect (entry.Defer pass id file pages retrying) s left = (refl, refl)
 left_effect (entry.Posted id) s left = (refl, refl)
 left_effect (entry.Scan pass picked) s left = (refl, refl)
+left_effect (entry.Record pass stream size valid how) s left = (refl, refl)
+left_effect (entry.RecordFailed pass stream) s left = (refl, refl)
+left_effect (entry.Locked pass file span exclusive granted id) s left = (refl, refl)
+left_effect (entry.Unlocked pass file id gone) s left = (refl, refl)
+left_effect (entry.Tested pass file span write conflict) s left = (refl, refl)
 
 pub stands_left : (e : Entry) (past : List Entry) (states : List Stream) (places : Places) (rows : List Row) → leaves_streams e ≡ true → StreamsStand past states places rows → StreamsStand (e ∷ past) states places rows
 stands_left e past states places rows left stands =

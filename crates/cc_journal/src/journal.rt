@@ -404,7 +404,12 @@ fn holds_made_by(entry: &Entry) -> u64
         | Entry::LogFailed { .. }
         | Entry::Defer { .. }
         | Entry::Posted { .. }
-        | Entry::Scan { .. } => 0,
+        | Entry::Scan { .. }
+        | Entry::Record { .. }
+        | Entry::RecordFailed { .. }
+        | Entry::Locked { .. }
+        | Entry::Unlocked { .. }
+        | Entry::Tested { .. } => 0,
     }
 }
 

@@ -254,7 +254,12 @@ impl Streams {
             | Entry::LogFailed { .. }
             | Entry::Defer { .. }
             | Entry::Posted { .. }
-            | Entry::Scan { .. } => unreachable!(),
+            | Entry::Scan { .. }
+            | Entry::Record { .. }
+            | Entry::RecordFailed { .. }
+            | Entry::Locked { .. }
+            | Entry::Unlocked { .. }
+            | Entry::Tested { .. } => unreachable!(),
         }
     }
 
@@ -360,7 +365,12 @@ fn leaves_streams(entry: &Entry) -> bool
         | Entry::LogFailed { .. }
         | Entry::Defer { .. }
         | Entry::Posted { .. }
-        | Entry::Scan { .. } => true,
+        | Entry::Scan { .. }
+        | Entry::Record { .. }
+        | Entry::RecordFailed { .. }
+        | Entry::Locked { .. }
+        | Entry::Unlocked { .. }
+        | Entry::Tested { .. } => true,
     }
 }
 

@@ -75,6 +75,11 @@ effect_of-unneeded (entry.LogFailed pass handle) s b d = refl
 effect_of-unneeded (entry.Defer pass id file pages retrying) s b d = refl
 effect_of-unneeded (entry.Posted id) s b d = refl
 effect_of-unneeded (entry.Scan pass picked) s b d = refl
+effect_of-unneeded (entry.Record pass stream size valid how) s b d = refl
+effect_of-unneeded (entry.RecordFailed pass stream) s b d = refl
+effect_of-unneeded (entry.Locked pass file span exclusive granted id) s b d = refl
+effect_of-unneeded (entry.Unlocked pass file id gone) s b d = refl
+effect_of-unneeded (entry.Tested pass file span write conflict) s b d = refl
 
 -- an entry that does not need the book of the stream has no effect on it, or that of a sync
 pub effect_of-bookless : (e : Entry) (s : ℕ) → needs e (Book s) ≡ false → none_or is_sync (effect_of e s) ≡ true
@@ -97,6 +102,11 @@ effect_of-bookless (entry.LogFailed pass handle) s b = refl
 effect_of-bookless (entry.Defer pass id file pages retrying) s b = refl
 effect_of-bookless (entry.Posted id) s b = refl
 effect_of-bookless (entry.Scan pass picked) s b = refl
+effect_of-bookless (entry.Record pass stream size valid how) s b = refl
+effect_of-bookless (entry.RecordFailed pass stream) s b = refl
+effect_of-bookless (entry.Locked pass file span exclusive granted id) s b = refl
+effect_of-bookless (entry.Unlocked pass file id gone) s b = refl
+effect_of-bookless (entry.Tested pass file span write conflict) s b = refl
 
 -- a done call without the turn of the stream's disk has no effect on the stream, or does not need the disk
 call_needs-device : (pass stream : ℕ) (call : Call) (reply : Reply) (s : ℕ) → call_needs (Some stream) call (outcome.Done reply) (Device s) ≡ false → none_or is_cached_call (if stream == s then Some (Did pass call reply) else None) ≡ true
@@ -127,6 +137,11 @@ effect_of-deviceless (entry.LogFailed pass handle) s d = refl
 effect_of-deviceless (entry.Defer pass id file pages retrying) s d = refl
 effect_of-deviceless (entry.Posted id) s d = refl
 effect_of-deviceless (entry.Scan pass picked) s d = refl
+effect_of-deviceless (entry.Record pass stream size valid how) s d = refl
+effect_of-deviceless (entry.RecordFailed pass stream) s d = refl
+effect_of-deviceless (entry.Locked pass file span exclusive granted id) s d = refl
+effect_of-deviceless (entry.Unlocked pass file id gone) s d = refl
+effect_of-deviceless (entry.Tested pass file span write conflict) s d = refl
 
 -- one effect more, or none, all of which pass a test
 cons_option-passes : (test : Effect → Bool) (o : Option Effect) (effects : List Effect) → none_or test o ≡ true → list_all test effects ≡ true → list_all test (cons_option o effects) ≡ true

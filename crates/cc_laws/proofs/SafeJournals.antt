@@ -36,6 +36,11 @@ entry-safe u past (entry.LogFailed pass handle) s legal stands before = before
 entry-safe u past (entry.Defer pass id file pages retrying) s legal stands before = before
 entry-safe u past (entry.Posted id) s legal stands before = before
 entry-safe u past (entry.Scan pass picked) s legal stands before = before
+entry-safe u past (entry.Record pass stream size valid how) s legal stands before = before
+entry-safe u past (entry.RecordFailed pass stream) s legal stands before = before
+entry-safe u past (entry.Locked pass file span exclusive granted id) s legal stands before = before
+entry-safe u past (entry.Unlocked pass file id gone) s legal stands before = before
+entry-safe u past (entry.Tested pass file span write conflict) s legal stands before = before
 
 history-safe : (u : Setup) (past : List Entry) (s : ℕ) → IsLegal u past → IsAllowedSoFar u past → IsSafe (history past s)
 unfolding IsLegal IsAllowedSoFar IsSafe history

@@ -53,6 +53,11 @@ IsSteadyOption-entry u past (entry.LogFailed pass handle) s legal stands = tt
 IsSteadyOption-entry u past (entry.Defer pass id file pages retrying) s legal stands = tt
 IsSteadyOption-entry u past (entry.Posted id) s legal stands = tt
 IsSteadyOption-entry u past (entry.Scan pass picked) s legal stands = tt
+IsSteadyOption-entry u past (entry.Record pass stream size valid how) s legal stands = tt
+IsSteadyOption-entry u past (entry.RecordFailed pass stream) s legal stands = tt
+IsSteadyOption-entry u past (entry.Locked pass file span exclusive granted id) s legal stands = tt
+IsSteadyOption-entry u past (entry.Unlocked pass file id gone) s legal stands = tt
+IsSteadyOption-entry u past (entry.Tested pass file span write conflict) s legal stands = tt
 
 IsSteady-allowed : (u : Setup) (past : List Entry) (s : ℕ) → IsLegal u past → IsAllowedSoFar u past → IsSteady (history past s)
 unfolding IsLegal IsAllowedSoFar history

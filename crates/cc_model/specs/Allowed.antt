@@ -26,6 +26,10 @@ use Rattle.cc_model.specs.Passes.{calls_of}
 use Rattle.cc_model.specs.Legal.{stream_history, IsFailure}
 use Rattle.cc_model.specs.Conditions.{MayComeIn, MayGoOut, MayBegin, MayDefer, MayPost, IsFilled, IsReadyIn}
 use Rattle.cc_model.specs.Filing.{IsFiled}
+use Rattle.cc_model.specs.Records.{MayRecord}
+use Rattle.cc_model.specs.Locks.{locks_of, conflict_of}
+use Rattle.cc_entry.specs.Locks.{IsAnswered}
+use Rattle.cc_entry.specs.declared.lock.LockCall.TheVariants as lock_call
 
 -- whether a refusal is a fault of a device or a log
 abbrev pub is_fault : CcError → Bool
@@ -63,6 +67,13 @@ MayStand u past (entry.LogFailed pass handle) = Unit {0}
 MayStand u past (entry.Defer pass id file pages retrying) = MayDefer past id file
 MayStand u past (entry.Posted id) = MayPost u past id (queue past)
 MayStand u past (entry.Scan pass picked) = picked ≡ pick u past
+MayStand u past (entry.Record pass stream size valid how) = MayRecord (history past stream) size valid
+MayStand u past (entry.RecordFailed pass stream) = Unit {0}
+MayStand u past (entry.Locked pass file span exclusive granted id) =
+    IsAnswered (locks_of past file.stream) (lock_call.Lock file span exclusive granted id)
+MayStand u past (entry.Unlocked pass file id gone) = IsAnswered (locks_of past file.stream) (lock_call.Unlock file id gone)
+MayStand u past (entry.Tested pass file span write conflict) =
+    conflict ≡ conflict_of (locks_of past file.stream).locks write file span
 
 -- the begin that has to follow a done noncached store at once
 abbrev pub begin_after : ℕ → Option ℕ → Call → Outcome → Option Entry

@@ -46,6 +46,11 @@ effect_of (entry.LogFailed pass handle) s = None
 effect_of (entry.Defer pass id file pages retrying) s = None
 effect_of (entry.Posted id) s = None
 effect_of (entry.Scan pass picked) s = None
+effect_of (entry.Record pass stream size valid how) s = None
+effect_of (entry.RecordFailed pass stream) s = None
+effect_of (entry.Locked pass file span exclusive granted id) s = None
+effect_of (entry.Unlocked pass file id gone) s = None
+effect_of (entry.Tested pass file span write conflict) s = None
 
 -- what a past means to the stream s, newest first
 unfoldable pub history : List Entry → ℕ → List Effect

@@ -31,6 +31,8 @@ pub mod Covered
 pub mod Flushed
 pub mod Filing
 pub mod Conditions
+pub mod Records
+pub mod Locks
 pub mod Allowed
 pub mod Good
 pub mod Room

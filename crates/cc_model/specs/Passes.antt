@@ -27,6 +27,11 @@ pass_of (entry.LogFailed pass handle) = Some pass
 pass_of (entry.Defer pass id file pages retrying) = Some pass
 pass_of (entry.Posted id) = None
 pass_of (entry.Scan pass picked) = Some pass
+pass_of (entry.Record pass stream size valid how) = Some pass
+pass_of (entry.RecordFailed pass stream) = Some pass
+pass_of (entry.Locked pass file span exclusive granted id) = Some pass
+pass_of (entry.Unlocked pass file id gone) = Some pass
+pass_of (entry.Tested pass file span write conflict) = Some pass
 
 abbrev pub is_pass : ℕ → Option ℕ → Bool
 is_pass me None = false

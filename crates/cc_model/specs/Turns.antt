@@ -58,6 +58,11 @@ needs (entry.LogFailed pass handle) turn = is_journal turn || is_log_turn handle
 needs (entry.Defer pass id file pages retrying) turn = is_journal turn || is_book file.stream turn
 needs (entry.Posted id) turn = is_journal turn
 needs (entry.Scan pass picked) turn = is_journal turn
+needs (entry.Record pass stream size valid how) turn = is_journal turn || (is_book stream turn || is_device stream turn)
+needs (entry.RecordFailed pass stream) turn = is_journal turn || is_device stream turn
+needs (entry.Locked pass file span exclusive granted id) turn = is_journal turn
+needs (entry.Unlocked pass file id gone) turn = is_journal turn
+needs (entry.Tested pass file span write conflict) turn = is_journal turn
 
 -- whether none of the entries needs the turn
 unfoldable pub is_quiet : Turn → List Entry → Bool

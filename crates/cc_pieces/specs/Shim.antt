@@ -1,6 +1,6 @@
 -- Lines of the file system shim: lists of calls, each call with the entry of its own, which answer the first
 -- refusal; the calls before it stand.
-use Rattle.std.specs.Prelude.{◌≡◌, ℕ, zero, suc, ◌+◌, ◌-◌, ◌*◌, ◌/◌, ◌%◌, ◌<◌, ◌≤◌, Bool, true, false, ◌||◌, nat_lt, List, [], ◌∷◌, ◌++◌, length, map, min, max, Result, Ok, Err, ◌⊎◌, if◌then◌else◌}
+use Rattle.std.specs.Prelude.{◌≡◌, ℕ, ◌+◌, ◌-◌, ◌*◌, ◌/◌, ◌%◌, ◌<◌, ◌≤◌, Bool, true, false, ◌||◌, nat_lt, List, [], ◌∷◌, ◌++◌, length, map, min, max, Result, Ok, Err, ◌⊎◌, if◌then◌else◌}
 use Rattle.std.specs.declared.option.Option.{Option}
 use Rattle.std.specs.declared.option.Option.TheVariants.{Some, None}
 use Rattle.std.specs.List.{range_with_len}
@@ -18,6 +18,7 @@ use Rattle.cc_entry.specs.declared.answer.Answer.TheVariants as answer
 use Rattle.cc_entry.specs.declared.entry.Entry.{Entry}
 use Rattle.cc_model.specs.Setup.{Setup}
 use Rattle.cc_model.specs.Ranges.{cut_range}
+use Rattle.cc_model.specs.Records.{little_endian}
 use Rattle.cc_effects.specs.Moments.{IsIdle, Between}
 use Rattle.cc_effects.specs.Calls.{CallLeft}
 use Rattle.cc_effects.specs.LogCalls.{AppendLeft}
@@ -215,11 +216,6 @@ WriteAnswered u me file at bytes (answer.Given reply.Unit) old new =
     WriteTested u me file at bytes (nat_lt 1048576 (length bytes)) (Ok tt) old new
 WriteAnswered u me file at bytes (answer.Refused e) old new = WriteTested u me file at bytes (nat_lt 1048576 (length bytes)) (Err e) old new
 WriteAnswered u me file at bytes other old new = ⊥
-
--- n bytes of a number, the least first
-abbrev pub little_endian : ℕ → ℕ → List ℕ
-little_endian zero n = []
-little_endian (suc count) n = (n % 256) ∷ little_endian count (n / 256)
 
 -- the log's record of an update: the stream, the place, the length and the bytes
 abbrev pub update_record : File → ℕ → List ℕ → List ℕ

@@ -1,5 +1,5 @@
 -- Answers as they are printed.
-use Rattle.std.specs.Prelude.{ℕ, Bool, true, false, List, [], ◌∷◌, ◌++◌, Option, Some, None, codes, decimal, length}
+use Rattle.std.specs.Prelude.{ℕ, Bool, true, false, List, [], ◌∷◌, ◌++◌, Option, Some, None, Result, Ok, Err, codes, decimal, length}
 use Rattle.std.specs.List.{flat_map}
 use Rattle.cc_entry.specs.Errors.{number_of, name_of}
 use Rattle.cc_entry.specs.declared.error.CcError.{CcError}
@@ -8,6 +8,9 @@ use Rattle.cc_entry.specs.declared.place.DirtyRow.{DirtyRow}
 use Rattle.cc_entry.specs.declared.place.FileState.{FileState}
 use Rattle.cc_entry.specs.declared.place.Request.{Request}
 use Rattle.cc_entry.specs.declared.answer.AheadDone.{AheadDone}
+use Rattle.cc_entry.specs.declared.answer.AsyncStart.{AsyncStart}
+use Rattle.cc_entry.specs.declared.answer.AsyncStart.TheVariants as start
+use Rattle.cc_entry.specs.declared.answer.AsyncDone.{AsyncDone}
 use Rattle.cc_entry.specs.declared.answer.Tick.{Tick}
 use Rattle.cc_entry.specs.declared.answer.Answer.{Answer}
 use Rattle.cc_entry.specs.declared.answer.Answer.TheVariants as answer
@@ -127,6 +130,21 @@ tick_text tick =
     & codes " skipped " & decimal tick.skipped
     & codes " failed " & decimal tick.failed
 
+-- a queued read's bytes or refusal
+abbrev pub read_text : Result (List ℕ) CcError → List ℕ
+read_text (Ok bytes) = codes "ok " & bytes_text bytes
+read_text (Err e) = error_text e
+
+-- a read that was answered at once, or its number in the queue
+abbrev pub started_text : AsyncStart → List ℕ
+started_text (start.Ready bytes) = codes "ok " & bytes_text bytes
+started_text (start.Queued id) = codes "ok queued " & decimal id.n
+
+-- a queued read that was completed: who queued it, its number, and its answer
+abbrev pub completed_text : Option AsyncDone → List ℕ
+completed_text (Some done) = codes "ok done t" & decimal done.id.pass & codes " " & decimal done.id.n & codes " " & read_text done.answer
+completed_text None = codes "ok none"
+
 -- the answer of a line
 abbrev pub answer_text : List StreamLine → Answer → List ℕ
 answer_text streams (answer.Given r) = reply_text streams r
@@ -139,6 +157,10 @@ answer_text streams (answer.Posts ids) = ids_text ids
 answer_text streams (answer.Deferred id) = codes "ok deferred " & decimal id
 answer_text streams (answer.Levels levels) = codes "ok levels " & decimal levels
 answer_text streams (answer.Stepped stepped) = stepped_text streams stepped
+answer_text streams (answer.Started started) = started_text started
+answer_text streams (answer.Completed completed) = completed_text completed
+answer_text streams (answer.Restarted updates) = codes "ok restart " & decimal updates
+answer_text streams (answer.LockId id) = codes "ok lock " & decimal id
 answer_text streams answer.NoHold = codes "no hold"
 answer_text streams answer.NotNow = codes "not now"
 answer_text streams answer.Faulted = codes "faulted"

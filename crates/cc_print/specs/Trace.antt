@@ -5,6 +5,8 @@ use Rattle.cc_entry.specs.declared.call.Call.TheVariants as call
 use Rattle.cc_entry.specs.declared.reply.Reply.TheVariants as reply
 use Rattle.cc_entry.specs.declared.reply.Outcome.{Outcome}
 use Rattle.cc_entry.specs.declared.reply.Outcome.TheVariants as outcome
+use Rattle.cc_entry.specs.declared.entry.End.{End}
+use Rattle.cc_entry.specs.declared.entry.End.TheVariants as end
 use Rattle.cc_entry.specs.declared.entry.Entry.{Entry}
 use Rattle.cc_entry.specs.declared.entry.Entry.TheVariants as entry
 use Rattle.cc_script.specs.declared.script.StreamLine.{StreamLine}
@@ -33,6 +35,12 @@ abbrev pub trace_call : List StreamLine → Call → Outcome → List ℕ
 trace_call streams (call.NcRead file page) outcome = if has_read outcome then read_line streams file.stream page else []
 trace_call streams _ outcome = []
 
+-- what a record says that was written, or how its write ended
+abbrev pub record_trace : ℕ → ℕ → End → List ℕ
+record_trace size valid end.Good = codes " " & decimal size & codes " " & decimal valid
+record_trace size valid end.Failed = codes " failed"
+record_trace size valid end.NoMemory = codes " nomemory"
+
 -- the line of an entry, with its line feed; nothing where the entry has none
 abbrev pub trace_line : List StreamLine → Entry → List ℕ
 trace_line streams (entry.Call pass nth stream call outcome) = trace_call streams call outcome
@@ -48,3 +56,8 @@ trace_line streams (entry.LogFailed pass handle) = codes "log " & decimal handle
 trace_line streams (entry.Defer pass id file pages retrying) = []
 trace_line streams (entry.Posted id) = []
 trace_line streams (entry.Scan pass picked) = []
+trace_line streams (entry.Record pass stream size valid how) = codes "record " & name_at streams stream & record_trace size valid how & newline
+trace_line streams (entry.RecordFailed pass stream) = []
+trace_line streams (entry.Locked pass file span exclusive granted id) = []
+trace_line streams (entry.Unlocked pass file id gone) = []
+trace_line streams (entry.Tested pass file span write conflict) = []

@@ -1,10 +1,13 @@
 //! What a line was answered, as it is printed.
 
-ghost use Rattle.std.specs.Prelude.{◌≡◌, ◌++◌, OnOk, string_bytes};
-ghost use Rattle.cc_print.specs.Answers.{error_numbers, error_text, row_text, rows_text, counted_rows, lsns_text, number_or_dash, state_text, request_text, ahead_text, whole_word, stepped_text, reply_text, ids_text, more_ids, tick_text, answer_text};
+ghost use Rattle.std.specs.Prelude.{◌≡◌, ◌++◌, OnOk, codes, string_bytes};
+ghost use Rattle.cc_print.specs.Words.{bytes_text};
+ghost use Rattle.cc_print.specs.Answers.{error_numbers, error_text, row_text, rows_text, counted_rows, lsns_text, number_or_dash, state_text, request_text, ahead_text, whole_word, stepped_text, reply_text, ids_text, more_ids, tick_text, started_text, completed_text, answer_text};
 
 use crate::words::{push_bytes, push_file, push_page};
-use cc_entry::{AheadDone, Answer, CcError, DirtyRow, FileState, Lsn, Reply, Request, Tick};
+use cc_entry::{
+    AheadDone, Answer, AsyncDone, AsyncStart, Bytes, CcError, DirtyRow, FileState, Lsn, Reply, Request, Tick,
+};
 use cc_script::StreamLine;
 use std::alloc::AllocError;
 
@@ -202,10 +205,7 @@ pub(crate) fn push_reply(
 {
     match reply {
         Reply::Unit => text.push_str("ok"),
-        Reply::Read(bytes) => {
-            text.push_str("ok ")?;
-            push_bytes(text, bytes)
-        }
+        Reply::Read(bytes) => push_read(text, bytes),
         Reply::Hold(id) => write!(text, "ok hold {id}"),
         Reply::Flag(true) => text.push_str("ok true"),
         Reply::Flag(false) => text.push_str("ok false"),
@@ -252,6 +252,44 @@ fn push_tick(text: &mut String, tick: &Tick) -> Result<(), AllocError>
     )
 }
 
+fn push_read(text: &mut String, bytes: &Bytes) -> Result<(), AllocError>
+    ensures { OnOk result
+        (string_bytes text.new ≡ string_bytes text.old ++ (codes "ok " ++ bytes_text bytes.now)) }
+{
+    text.push_str("ok ")?;
+    push_bytes(text, bytes)
+}
+
+// A read that was answered at once, or its number in the queue.
+fn push_started(text: &mut String, started: &AsyncStart) -> Result<(), AllocError>
+    ensures { OnOk result (string_bytes text.new ≡ string_bytes text.old ++ started_text started.now) }
+{
+    match started {
+        AsyncStart::Ready(bytes) => push_read(text, bytes),
+        AsyncStart::Queued(id) => {
+            let n = id.n;
+            write!(text, "ok queued {n}")
+        }
+    }
+}
+
+// A queued read that was completed, with its answer.
+fn push_completed(text: &mut String, completed: Option<&AsyncDone>) -> Result<(), AllocError>
+    ensures { OnOk result (string_bytes text.new ≡ string_bytes text.old ++ completed_text completed) }
+{
+    let done = match completed {
+        Some(done) => done,
+        None => return text.push_str("ok none"),
+    };
+    let pass = done.id.pass;
+    let n = done.id.n;
+    write!(text, "ok done t{pass} {n} ")?;
+    match &done.answer {
+        Ok(bytes) => push_read(text, bytes),
+        Err(error) => push_error(text, *error),
+    }
+}
+
 /// The answer of a line.
 pub(crate) fn push_answer(
     text: &mut String,
@@ -278,6 +316,10 @@ pub(crate) fn push_answer(
         Answer::Deferred(id) => write!(text, "ok deferred {id}"),
         Answer::Levels(levels) => write!(text, "ok levels {levels}"),
         Answer::Stepped(stepped) => push_stepped(text, streams, *stepped),
+        Answer::Started(started) => push_started(text, started),
+        Answer::Completed(completed) => push_completed(text, completed.as_ref()),
+        Answer::Restarted(updates) => write!(text, "ok restart {updates}"),
+        Answer::LockId(id) => write!(text, "ok lock {id}"),
         Answer::NoHold => text.push_str("no hold"),
         Answer::NotNow => text.push_str("not now"),
         Answer::Faulted => text.push_str("faulted"),

@@ -1,12 +1,13 @@
 //! Entries of the journal as they are printed.
 
-ghost use Rattle.std.specs.Prelude.{◌≡◌, ◌++◌, OnOk, string_bytes};
-ghost use Rattle.cc_print.specs.Entries.{outcome_text, end_text, pages_text, scan_text, called_text, appended_text, deferred_text, entry_text};
+ghost use Rattle.std.specs.Prelude.{◌≡◌, ◌++◌, OnOk, codes, string_bytes};
+ghost use Rattle.cc_print.specs.Words.{word_if};
+ghost use Rattle.cc_print.specs.Entries.{outcome_text, end_text, pages_text, scan_text, called_text, appended_text, deferred_text, range_text, granted_text, access_text, conflict_text, entry_text};
 
 use crate::answer::{push_error, push_reply};
 use crate::call::push_call;
-use crate::words::{name_of, push_bytes, push_page, word_if};
-use cc_entry::{Bytes, Call, End, Entry, FileId, Lsn, Outcome, PageId};
+use crate::words::{name_of, push_bytes, push_file, push_page, word_if};
+use cc_entry::{Bytes, Call, End, Entry, FileId, Lsn, Outcome, PageId, Span};
 use cc_script::StreamLine;
 use std::alloc::AllocError;
 
@@ -110,6 +111,47 @@ fn push_scan(
     push_pages(text, streams, picked)
 }
 
+// A range of a file object, behind a verb and the pass.
+fn push_range(
+    text: &mut String,
+    streams: &[StreamLine],
+    verb: (&str, u32),
+    file: FileId,
+    span: Span,
+) -> Result<(), AllocError>
+    ensures { OnOk result
+        (string_bytes text.new ≡ string_bytes text.old ++ range_text streams.now verb.0.now verb.1 file span) }
+{
+    let (verb, pass) = verb;
+    write!(text, "{verb} {pass} ")?;
+    push_file(text, streams, file)?;
+    let from = span.from();
+    let to = span.to();
+    write!(text, " {from} {to}")
+}
+
+// How a lock was asked for, and its id or that of the lock in its way.
+fn push_granted(text: &mut String, exclusive: bool, granted: bool, id: u64) -> Result<(), AllocError>
+    ensures { OnOk result
+        (string_bytes text.new ≡ string_bytes text.old ++ (word_if exclusive (codes " excl") ++ granted_text granted id)) }
+{
+    let excl = word_if(exclusive, " excl");
+    let how = if granted { "ok" } else { "conflict" };
+    write!(text, "{excl} {how} {id}")
+}
+
+// What a range was tested for, and the lock in the way.
+fn push_test(text: &mut String, write: bool, conflict: Option<u64>) -> Result<(), AllocError>
+    ensures { OnOk result
+        (string_bytes text.new ≡ string_bytes text.old ++ (access_text write ++ conflict_text conflict)) }
+{
+    text.push_str(if write { " write" } else { " read" })?;
+    match conflict {
+        Some(id) => write!(text, " conflict {id}"),
+        None => Ok(()),
+    }
+}
+
 /// One entry of the journal.
 pub(crate) fn push_entry(
     text: &mut String,
@@ -180,5 +222,51 @@ pub(crate) fn push_entry(
         } => { push_deferred(text, streams, (*pass, *id), *file, *pages, *retrying) }
         Entry::Posted { id } => write!(text, "posted {id}"),
         Entry::Scan { pass, picked } => push_scan(text, streams, *pass, picked.as_slice()),
+        Entry::Record {
+            pass,
+            stream,
+            size,
+            valid,
+            how,
+        } => {
+            let name = name_of(streams, *stream);
+            let how = end_text(*how);
+            write!(text, "record {pass} {name} {size} {valid} {how}")
+        }
+        Entry::RecordFailed { pass, stream } => {
+            let name = name_of(streams, *stream);
+            write!(text, "recordfailed {pass} {name}")
+        }
+        Entry::Locked {
+            pass,
+            file,
+            span,
+            exclusive,
+            granted,
+            id,
+        } => {
+            push_range(text, streams, ("locked", *pass), *file, *span)?;
+            push_granted(text, *exclusive, *granted, *id)
+        }
+        Entry::Unlocked {
+            pass,
+            file,
+            id,
+            gone,
+        } => {
+            write!(text, "unlocked {pass} ")?;
+            push_file(text, streams, *file)?;
+            write!(text, " {id} {gone}")
+        }
+        Entry::Tested {
+            pass,
+            file,
+            span,
+            write,
+            conflict,
+        } => {
+            push_range(text, streams, ("tested", *pass), *file, *span)?;
+            push_test(text, *write, *conflict)
+        }
     }
 }

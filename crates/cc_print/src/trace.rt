@@ -1,11 +1,11 @@
 //! The trace: what the disks and the logs did, from the journal's entries in order.
 
 ghost use Rattle.std.specs.Prelude.{◌≡◌, ◌++◌, OnOk, string_bytes};
-ghost use Rattle.cc_print.specs.Trace.{read_line, has_read, trace_call, trace_line};
+ghost use Rattle.cc_print.specs.Trace.{read_line, has_read, trace_call, record_trace, trace_line};
 
 use crate::entry::end_text;
 use crate::words::{name_of, push_page};
-use cc_entry::{Call, Entry, Outcome, Reply, StreamId};
+use cc_entry::{Call, End, Entry, Outcome, Reply, StreamId};
 use cc_script::StreamLine;
 use std::alloc::AllocError;
 
@@ -49,6 +49,18 @@ fn push_trace_call(
             *page,
         ),
         _ => Ok(()),
+    }
+}
+
+// What a record says that was written, or how its write ended.
+fn push_record(text: &mut String, size: u64, valid: u64, how: End) -> Result<(), AllocError>
+    ensures { OnOk result
+        (string_bytes text.new ≡ string_bytes text.old ++ record_trace size valid how) }
+{
+    match how {
+        End::Good => write!(text, " {size} {valid}"),
+        End::Failed => text.push_str(" failed"),
+        End::NoMemory => text.push_str(" nomemory"),
     }
 }
 
@@ -98,6 +110,18 @@ pub(crate) fn push_trace_line(
             write!(text, "log {handle} flush {to}\n")
         }
         Entry::LogFailed { handle, .. } => write!(text, "log {handle} failed\n"),
+        Entry::Record {
+            stream,
+            size,
+            valid,
+            how,
+            ..
+        } => {
+            let name = name_of(streams, *stream);
+            write!(text, "record {name}")?;
+            push_record(text, *size, *valid, *how)?;
+            text.push_str("\n")
+        }
         Entry::PageIn {
             from_disk: false,
             ..
@@ -105,6 +129,10 @@ pub(crate) fn push_trace_line(
         | Entry::PageOut { .. }
         | Entry::Defer { .. }
         | Entry::Posted { .. }
-        | Entry::Scan { .. } => Ok(()),
+        | Entry::Scan { .. }
+        | Entry::RecordFailed { .. }
+        | Entry::Locked { .. }
+        | Entry::Unlocked { .. }
+        | Entry::Tested { .. } => Ok(()),
     }
 }

@@ -90,6 +90,11 @@ undone-placed me work old past (entry.LogFailed pass handle) s may = refl
 undone-placed me work old past (entry.Defer pass id file pages retrying) s may = refl
 undone-placed me work old past (entry.Posted id) s may = refl
 undone-placed me work old past (entry.Scan pass picked) s may = refl
+undone-placed me work old past (entry.Record pass stream size valid how) s may = refl
+undone-placed me work old past (entry.RecordFailed pass stream) s may = refl
+undone-placed me work old past (entry.Locked pass file span exclusive granted id) s may = refl
+undone-placed me work old past (entry.Unlocked pass file id gone) s may = refl
+undone-placed me work old past (entry.Tested pass file span write conflict) s may = refl
 
 -- so what all touches of a page passed before the work, they pass in it
 pass-option : (test : Touch → Bool) (o : Option Effect) (h : List Effect) (p : ℕ) → none_or is_undone o ≡ true → list_all test (touches false h p) ≡ true → list_all test (touches false (cons_option o h) p) ≡ true

@@ -215,6 +215,11 @@ holds-entry u (entry.LogFailed pass handle) stands k = holds-longer (entry.LogFa
 holds-entry u (entry.Defer pass id file pages retrying) stands k = holds-longer (entry.Defer pass id file pages retrying) k
 holds-entry u (entry.Posted id) stands k = holds-longer (entry.Posted id) k
 holds-entry u (entry.Scan pass picked) stands k = holds-longer (entry.Scan pass picked) k
+holds-entry u (entry.Record pass stream size valid how) stands k = holds-longer (entry.Record pass stream size valid how) k
+holds-entry u (entry.RecordFailed pass stream) stands k = holds-longer (entry.RecordFailed pass stream) k
+holds-entry u (entry.Locked pass file span exclusive granted id) stands k = holds-longer (entry.Locked pass file span exclusive granted id) k
+holds-entry u (entry.Unlocked pass file id gone) stands k = holds-longer (entry.Unlocked pass file id gone) k
+holds-entry u (entry.Tested pass file span write conflict) stands k = holds-longer (entry.Tested pass file span write conflict) k
 
 -- and at the sync
 holds-at_sync : (pages : ℕ → List ℕ) (me s p : ℕ) (bytes : List ℕ) (before : List Entry) → open_of (history before s) ≡ None → image pages (history before s) p ≡ Some bytes → HoldsSince pages s p bytes [] (entry.Sync me s how.Good ∷ before) (history (entry.Sync me s how.Good ∷ before) s)

@@ -221,7 +221,12 @@ fn change_on(entry: &Entry, stream: StreamId, size: u64, i: u64) -> Option<u8>
         | Entry::LogFailed { .. }
         | Entry::Defer { .. }
         | Entry::Posted { .. }
-        | Entry::Scan { .. } => None,
+        | Entry::Scan { .. }
+        | Entry::Record { .. }
+        | Entry::RecordFailed { .. }
+        | Entry::Locked { .. }
+        | Entry::Unlocked { .. }
+        | Entry::Tested { .. } => None,
     }
 }
 

@@ -58,7 +58,12 @@ fn quota_by(entry: &Entry, stream: StreamId) -> Option<u8>
         | Entry::LogFailed { .. }
         | Entry::Defer { .. }
         | Entry::Posted { .. }
-        | Entry::Scan { .. } => None,
+        | Entry::Scan { .. }
+        | Entry::Record { .. }
+        | Entry::RecordFailed { .. }
+        | Entry::Locked { .. }
+        | Entry::Unlocked { .. }
+        | Entry::Tested { .. } => None,
     }
 }
 

@@ -58,6 +58,11 @@ same-stores (entry.LogFailed pass handle ∷ past) seen other same = same-stores
 same-stores (entry.Defer pass id file pages retrying ∷ past) seen other same = same-stores past seen other same
 same-stores (entry.Posted id ∷ past) seen other same = same-stores past seen other same
 same-stores (entry.Scan pass picked ∷ past) seen other same = same-stores past seen other same
+same-stores (entry.Record pass stream size valid how ∷ past) seen other same = same-stores past seen other same
+same-stores (entry.RecordFailed pass stream ∷ past) seen other same = same-stores past seen other same
+same-stores (entry.Locked pass file span exclusive granted id ∷ past) seen other same = same-stores past seen other same
+same-stores (entry.Unlocked pass file id gone ∷ past) seen other same = same-stores past seen other same
+same-stores (entry.Tested pass file span write conflict ∷ past) seen other same = same-stores past seen other same
 
 swap : (a b n : ℕ) → a + (b + n) ≡ b + (a + n)
 swap a b n = omega arith
@@ -138,6 +143,11 @@ skip (entry.LogFailed pass handle ∷ past) me seen other same out = skip past m
 skip (entry.Defer pass id file pages retrying ∷ past) me seen other same out = skip past me seen other same out
 skip (entry.Posted id ∷ past) me seen other same out = skip past me seen other same out
 skip (entry.Scan pass picked ∷ past) me seen other same out = skip past me seen other same out
+skip (entry.Record pass stream size valid how ∷ past) me seen other same out = skip past me seen other same out
+skip (entry.RecordFailed pass stream ∷ past) me seen other same out = skip past me seen other same out
+skip (entry.Locked pass file span exclusive granted id ∷ past) me seen other same out = skip past me seen other same out
+skip (entry.Unlocked pass file id gone ∷ past) me seen other same out = skip past me seen other same out
+skip (entry.Tested pass file span write conflict ∷ past) me seen other same out = skip past me seen other same out
 
 -- sums over the same terms are the same
 pub sum-same : (f g : ℕ → ℕ) (ns : List ℕ) → ((n : ℕ) → f n ≡ g n) → sum_by f ns ≡ sum_by g ns

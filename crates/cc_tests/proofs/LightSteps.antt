@@ -69,6 +69,11 @@ effect_of-light (entry.LogFailed pass handle) s light = refl
 effect_of-light (entry.Defer pass id file pages retrying) s light = absurd (cc)
 effect_of-light (entry.Posted id) s light = absurd (cc)
 effect_of-light (entry.Scan pass picked) s light = refl
+effect_of-light (entry.Record pass stream size valid how) s light = refl
+effect_of-light (entry.RecordFailed pass stream) s light = refl
+effect_of-light (entry.Locked pass file span exclusive granted id) s light = refl
+effect_of-light (entry.Unlocked pass file id gone) s light = refl
+effect_of-light (entry.Tested pass file span write conflict) s light = refl
 
 -- the same pages, or the first one more
 short-same : (pages : List ℕ) (n : ℕ) → IsShort pages n → IsShort pages (suc n)

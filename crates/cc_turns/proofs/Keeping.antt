@@ -69,6 +69,11 @@ effect_of-images (entry.LogFailed pass handle) s left = refl
 effect_of-images (entry.Defer pass id file pages retrying) s left = refl
 effect_of-images (entry.Posted id) s left = refl
 effect_of-images (entry.Scan pass picked) s left = refl
+effect_of-images (entry.Record pass stream size valid how) s left = refl
+effect_of-images (entry.RecordFailed pass stream) s left = refl
+effect_of-images (entry.Locked pass file span exclusive granted id) s left = refl
+effect_of-images (entry.Unlocked pass file id gone) s left = refl
+effect_of-images (entry.Tested pass file span write conflict) s left = refl
 
 is_failure-left : (e : Entry) (s : ℕ) → leaves_disk s e ≡ true → is_failure s e ≡ false
 is_failure-left (entry.FillFailed pass page) s left = not-true _ left

@@ -24,6 +24,8 @@ pub mod Untold
 pub mod Discards
 pub mod DiscardRefusals
 pub mod Crashes
+pub mod Records
+pub mod Locks
 pub mod Room
 pub mod Seen
 pub mod PiecesReads

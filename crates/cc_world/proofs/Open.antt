@@ -43,6 +43,11 @@ by-effect (entry.LogFailed pass handle) s h left = refl
 by-effect (entry.Defer pass id file pages retrying) s h left = refl
 by-effect (entry.Posted id) s h left = refl
 by-effect (entry.Scan pass picked) s h left = refl
+by-effect (entry.Record pass stream size valid how) s h left = refl
+by-effect (entry.RecordFailed pass stream) s h left = refl
+by-effect (entry.Locked pass file span exclusive granted id) s h left = refl
+by-effect (entry.Unlocked pass file id gone) s h left = refl
+by-effect (entry.Tested pass file span write conflict) s h left = refl
 
 pub open-kept : (e : Entry) (past : List Entry) (s : ℕ) → leaves_open s e ≡ true → open_of (history (e ∷ past) s) ≡ open_of (history past s)
 open-kept e past s left = ap open_of (history-effect e past s (effect_of e s) refl) ∙ by-effect e s (history past s) left

@@ -48,6 +48,11 @@ by-effect (entry.LogFailed pass handle) past s plain = refl
 by-effect (entry.Defer pass id file pages retrying) past s plain = refl
 by-effect (entry.Posted id) past s plain = refl
 by-effect (entry.Scan pass picked) past s plain = refl
+by-effect (entry.Record pass stream size valid how) past s plain = refl
+by-effect (entry.RecordFailed pass stream) past s plain = refl
+by-effect (entry.Locked pass file span exclusive granted id) past s plain = refl
+by-effect (entry.Unlocked pass file id gone) past s plain = refl
+by-effect (entry.Tested pass file span write conflict) past s plain = refl
 
 owed-same : (e : Entry) (past : List Entry) (s : ℕ) → owes_nothing e ≡ true → owed_by_stream (history (e ∷ past) s) ≡ owed_by_stream (history past s)
 owed-same e past s plain = ap owed_by_stream (history-effect e past s (effect_of e s) refl) ∙ by-effect e past s plain
