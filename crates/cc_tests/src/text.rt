@@ -3,8 +3,9 @@
 //! The wanted texts are written from the format.
 
 use cc_entry::{
-    AheadDone, Answer, Bytes, Call, CcError, DirtyRow, End, Entry, FileId, FileSizes, FileState,
-    Ids, LineReply, Lsn, Outcome, PageId, Pages, Quota, Reply, Request, Rows, Span, StreamId, Tick,
+    AheadDone, Answer, AsyncDone, AsyncId, AsyncStart, Bytes, Call, CcError, DirtyRow, End, Entry,
+    FileId, FileSizes, FileState, Ids, LineReply, Lsn, Outcome, PageId, Pages, Quota, Reply, Request,
+    Rows, Span, StreamId, Tick,
 };
 use cc_print::{TableRow, text_of};
 use cc_script::{Mode, read_script};
@@ -138,6 +139,42 @@ fn told(line: u32, answer: Answer) -> LineReply {
     LineReply { line, answer }
 }
 
+/// The answers of queued reads, of restarts and of locks.
+fn later_answers(alloc: Global, places: &Places) -> Result<[LineReply; 7], Fail> {
+    let id = AsyncId { pass: 2, n: 6 };
+    let ready = Bytes::of(alloc, b"\x5A\x5A").ok().ok_or("bytes")?;
+    let read = Bytes::of(alloc, b"\xAB").ok().ok_or("bytes")?;
+    Ok([
+        told(9, Answer::Started(AsyncStart::Ready(ready))),
+        told(10, Answer::Started(AsyncStart::Queued(id))),
+        told(11, completed(id, places.file, Ok(read))),
+        told(12, completed(id, places.file, Err(CcError::NotCached))),
+        told(13, Answer::Completed(None)),
+        told(14, Answer::Restarted(3)),
+        told(15, Answer::LockId(4)),
+    ])
+}
+
+fn completed(id: AsyncId, file: FileId, answer: Result<Bytes, CcError>) -> Answer {
+    Answer::Completed(Some(AsyncDone {
+        id,
+        file,
+        at: 0,
+        len: 1,
+        answer,
+    }))
+}
+
+const LATER_ANSWERS: &str = "caller t1
+9 ok 5Ax2
+10 ok queued 6
+11 ok done t2 6 ok AB
+12 ok done t2 6 error 1 NotCached
+13 ok none
+14 ok restart 3
+15 ok lock 4
+";
+
 fn answers(alloc: Global, places: &Places) -> Result<[LineReply; 28], Fail> {
     let bytes = Bytes::of(alloc, b"\x5A\x0B\xB0\x0B\x0B\xFF\xFF\xFF\x00")
         .ok()
@@ -232,6 +269,8 @@ fn prints_answers(rt: HostRuntime) -> Result<(), Fail> {
     let places = some_places().ok_or("places")?;
     let replies = answers(rt.alloc(), &places)?;
     assert!(rt; is_text(rt.alloc(), &replies, &[], &[], ANSWERS)?);
+    let replies = later_answers(rt.alloc(), &places)?;
+    assert!(rt; is_text(rt.alloc(), &replies, &[], &[], LATER_ANSWERS)?);
     Ok(())
 }
 
@@ -691,6 +730,94 @@ const ANSWERED: &str = "journal
 trace
 read a 6
 ";
+
+fn recorded(page: PageId, how: End) -> Entry {
+    Entry::Record {
+        pass: 2,
+        stream: page.stream(),
+        size: 8192,
+        valid: 5001,
+        how,
+    }
+}
+
+fn locked(file: FileId, span: Span, exclusive: bool) -> Entry {
+    Entry::Locked {
+        pass: 2,
+        file,
+        span,
+        exclusive,
+        granted: exclusive,
+        id: 4,
+    }
+}
+
+fn unlocked(file: FileId, gone: bool) -> Entry {
+    Entry::Unlocked {
+        pass: 2,
+        file,
+        id: 4,
+        gone,
+    }
+}
+
+/// The entries of records and of locks.
+fn records_and_locks(places: &Places, span: Span) -> [Entry; 10] {
+    let file = places.file;
+    [
+        recorded(places.page, End::Good),
+        recorded(places.page, End::Failed),
+        recorded(places.page, End::NoMemory),
+        Entry::RecordFailed {
+            pass: 2,
+            stream: places.page.stream(),
+        },
+        locked(file, span, true),
+        locked(file, span, false),
+        unlocked(file, true),
+        unlocked(file, false),
+        Entry::Tested {
+            pass: 2,
+            file,
+            span,
+            write: true,
+            conflict: Some(4),
+        },
+        Entry::Tested {
+            pass: 2,
+            file,
+            span,
+            write: false,
+            conflict: None,
+        },
+    ]
+}
+
+const RECORDS_AND_LOCKS: &str = "journal
+1 record 2 bee 8192 5001 ok
+2 record 2 bee 8192 5001 failed
+3 record 2 bee 8192 5001 nomemory
+4 recordfailed 2 bee
+5 locked 2 a:3 5 20 excl ok 4
+6 locked 2 a:3 5 20 conflict 4
+7 unlocked 2 a:3 4 true
+8 unlocked 2 a:3 4 false
+9 tested 2 a:3 5 20 write conflict 4
+10 tested 2 a:3 5 20 read
+trace
+record bee 8192 5001
+record bee failed
+record bee nomemory
+";
+
+#[test]
+fn prints_records_and_locks(rt: HostRuntime) -> Result<(), Fail> {
+    let places = some_places().ok_or("places")?;
+    let span = Span::new(5, 20).ok_or("span")?;
+    let journal = records_and_locks(&places, span);
+    assert!(rt; is_text(rt.alloc(), &[], &journal, &[], RECORDS_AND_LOCKS)?);
+    Ok(())
+}
 
 #[test]
 fn prints_entries(rt: HostRuntime) -> Result<(), Fail> {
