@@ -1,6 +1,10 @@
 -- A look-up after an element went in or out.
-use Rattle.std.proofs.Common.{◌≡◌, ◌≢◌, ℕ, zero, suc, ◌<◌, ◌≤◌, Bool, true, false, cond, List, [], ◌∷◌, None, Some, length, get_or, set, insert, remove, refl, ap, subst, arith}
+use Rattle.std.proofs.Common.{◌≡◌, ◌≢◌, ℕ, zero, suc, ◌<◌, ◌≤◌, Bool, true, false, not, cond, List, [], ◌∷◌, Option, None, Some, is_some, length, get_or, set, insert, remove, refl, ap, subst, arith}
 use Rattle.std.specs.List.{find, filter, slice_get}
+
+pub is_some-none : {X : Type 0} (o : Option X) → is_some o ≡ false → o ≡ None
+is_some-none None h = refl
+is_some-none (Some x) h = absurd (cc)
 
 module _ {X : Type 0} (p : X → Bool) where
   pub find-none : (xs : List X) → ((k : ℕ) (d : X) → k < length xs → p (get_or xs k d) ≡ false) → find p xs ≡ None
@@ -74,3 +78,8 @@ module _ {X : Type 0} (p : X → Bool) where
       go true false e f rest = rw f rest
       go false true e f rest = rw (f, e) rest
       go false false e f rest = rw f rest
+
+  -- where none is found, a filter of the others lets all through
+  pub find-filter_all : (xs : List X) → find p xs ≡ None → filter (λ x. not (p x)) xs ≡ xs
+  find-filter_all [] none = refl
+  find-filter_all (x ∷ xs) none = let parts = none-head x xs (p x) refl none in rw (parts.0) (ap (λ ys. x ∷ ys) (find-filter_all xs parts.1))

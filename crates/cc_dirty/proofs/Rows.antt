@@ -7,7 +7,7 @@ use Rattle.std.proofs.lemmas.List.Quantifiers.{all_pairs_remove}
 use Rattle.std.proofs.lemmas.Option.{slice_get_within, slice_get-get_or}
 use Rattle.std.proofs.lemmas.List.Elements.{All-filter}
 use Rattle.std.proofs.lemmas.List.Kept.{AllPairs-filter}
-use Rattle.std.specs.List.{slice_get, filter}
+use Rattle.std.specs.List.{slice_get, filter, find}
 use Rattle.std.specs.Option.{IsSomeAnd}
 use Rattle.cc_entry.specs.Place.{Page}
 use Rattle.cc_dirty.specs.Order.{precedes, same_page, IsAscending, SplitsAt, is_from, is_between}
@@ -40,29 +40,86 @@ differs-sym a b h = grind (arith, nat_tests)
 same-refl : (a : Page) → same_page a a ≡ true
 same-refl a = grind (arith, nat_tests)
 
+-- The first row whose page is picked, where no page is picked that precedes the place's page.
+module _ (rows : List Row) (page : Page) (place : ℕ) (split : SplitsAt rows page place) (picks : Page → Bool) (before : (q : Page) → precedes q page ≡ true → picks q ≡ false) where
+  fails-before : (k : ℕ) (d : Row) → k < place → picks (get_or rows k d).page ≡ false
+  fails-before k d lt = before (get_or rows k d).page (split.before k d lt)
+
+  pub first-at : (r : Row) → slice_get rows place ≡ Some r → picks r.page ≡ true → find (λ x. picks x.page) rows ≡ Some r
+  first-at r at pass = find-at (λ x. picks x.page) rows place r at pass fails-before
+
+  pub first-past : length rows ≤ place → find (λ x. picks x.page) rows ≡ None
+  first-past past = find-none (λ x. picks x.page) rows (λ k d lt. fails-before k d (omega arith))
+
+  -- the row at the place is not picked, nor is a page that it precedes
+  pub first-none : (r : Row) → IsAscending rows → r ≡ get_or rows place r → place < length rows → picks r.page ≡ false
+      → ((q : Page) → precedes r.page q ≡ true → picks q ≡ false) → find (λ x. picks x.page) rows ≡ None
+  first-none r up at within other after = find-none (λ x. picks x.page) rows fails
+    where
+      here : (k : ℕ) (d : Row) → k ≡ place → get_or rows k d ≡ r
+      here k d e = read-at rows k place r d at within e
+
+      fails : (k : ℕ) (d : Row) → k < length rows → picks (get_or rows k d).page ≡ false
+      fails k d lt = elim (cases_lt k place) [
+        | inl less ↦ fails-before k d less
+        | inr from ↦ elim (cases_lt place k) [
+          | inl more ↦ after (get_or rows k d).page (subst (λ (x : Row). precedes x.page (get_or rows k d).page ≡ true) (here place d refl) (up place k d more lt))
+          | inr same ↦ subst (λ (x : Row). picks x.page ≡ false) (sym (here k d (omega arith))) other
+        ]
+      ]
+
 pub row-present : (rows : List Row) (page : Page) (place : ℕ) (r : Row) → SplitsAt rows page place → slice_get rows place ≡ Some r → same_page r.page page ≡ true → row_of rows page ≡ Some r
-row-present rows page place r split at same =
-    find-at (λ x. same_page x.page page) rows place r at same (λ k d lt. differs-before (get_or rows k d).page page (split.before k d lt))
+row-present rows page place r split = first-at rows page place split (λ q. same_page q page) (λ q h. differs-before q page h) r
 
 pub row-past : (rows : List Row) (page : Page) (place : ℕ) → SplitsAt rows page place → length rows ≤ place → row_of rows page ≡ None
-row-past rows page place split past =
-    find-none (λ x. same_page x.page page) rows (λ k d lt. differs-before (get_or rows k d).page page (split.before k d (omega arith)))
+row-past rows page place split = first-past rows page place split (λ q. same_page q page) (λ q h. differs-before q page h)
+
+not-before : (rows : List Row) (page : Page) (place : ℕ) (r : Row) → SplitsAt rows page place → r ≡ get_or rows place r → place < length rows → precedes r.page page ≡ false
+not-before rows page place r split at within = subst (λ (x : Row). precedes x.page page ≡ false) (read-at rows place place r r at within refl) (split.after place r (omega arith) within)
 
 pub row-absent : (rows : List Row) (page : Page) (place : ℕ) (r : Row) → IsAscending rows → SplitsAt rows page place → r ≡ get_or rows place r → place < length rows
     → same_page r.page page ≡ false → row_of rows page ≡ None
-row-absent rows page place r up split at within other = find-none (λ x. same_page x.page page) rows differs
-  where
-    here : (k : ℕ) (d : Row) → k ≡ place → same_page (get_or rows k d).page page ≡ false
-    here k d e = subst (λ (x : Row). same_page x.page page ≡ false) (sym (read-at rows k place r d at within e)) other
+row-absent rows page place r up split at within other =
+    first-none rows page place split (λ q. same_page q page) (λ q h. differs-before q page h) r up at within other
+    (λ q h. differs-after r.page page q h (not-before rows page place r split at within))
 
-    differs : (k : ℕ) (d : Row) → k < length rows → same_page (get_or rows k d).page page ≡ false
-    differs k d lt = elim (cases_lt k place) [
-      | inl less ↦ differs-before (get_or rows k d).page page (split.before k d less)
-      | inr from ↦ elim (cases_lt place k) [
-        | inl more ↦ differs-after (get_or rows place d).page page (get_or rows k d).page (up place k d more lt) (split.after place d (omega arith) within)
-        | inr same ↦ here k d (omega arith)
-      ]
-    ]
+-- the first row of a stream's pages from a number on
+before-from : (q : Page) (stream from : ℕ) → precedes q (record { stream = stream; page = from }) ≡ true → is_from stream from q ≡ false
+before-from q stream from h = grind (arith, nat_tests)
+
+after-from : (p q : Page) (stream from : ℕ) → precedes p (record { stream = stream; page = from }) ≡ false → is_from stream from p ≡ false → precedes p q ≡ true → is_from stream from q ≡ false
+after-from p q stream from place other h = grind (arith, nat_tests)
+
+module _ (rows : List Row) (stream from place : ℕ) (split : SplitsAt rows (record { stream = stream; page = from }) place) where
+  pub from-at : (r : Row) → slice_get rows place ≡ Some r → is_from stream from r.page ≡ true → find (λ x. is_from stream from x.page) rows ≡ Some r
+  from-at = first-at rows (record { stream = stream; page = from }) place split (is_from stream from) (λ q h. before-from q stream from h)
+
+  pub from-past : length rows ≤ place → find (λ x. is_from stream from x.page) rows ≡ None
+  from-past = first-past rows (record { stream = stream; page = from }) place split (is_from stream from) (λ q h. before-from q stream from h)
+
+  pub from-none : (r : Row) → IsAscending rows → r ≡ get_or rows place r → place < length rows → is_from stream from r.page ≡ false → find (λ x. is_from stream from x.page) rows ≡ None
+  from-none r up at within other =
+      first-none rows (record { stream = stream; page = from }) place split (is_from stream from) (λ q h. before-from q stream from h) r up at within other
+      (λ q h. after-from r.page q stream from (not-before rows (record { stream = stream; page = from }) place r split at within) other h)
+
+-- the first of them below another number
+before-between : (q : Page) (stream from to : ℕ) → precedes q (record { stream = stream; page = from }) ≡ true → is_between stream from to q ≡ false
+before-between q stream from to h = grind (arith, nat_tests)
+
+after-between : (p q : Page) (stream from to : ℕ) → precedes p (record { stream = stream; page = from }) ≡ false → is_between stream from to p ≡ false → precedes p q ≡ true → is_between stream from to q ≡ false
+after-between p q stream from to place other h = grind (arith, nat_tests)
+
+module _ (rows : List Row) (stream from to place : ℕ) (split : SplitsAt rows (record { stream = stream; page = from }) place) where
+  pub between-at : (r : Row) → slice_get rows place ≡ Some r → is_between stream from to r.page ≡ true → find (λ x. is_between stream from to x.page) rows ≡ Some r
+  between-at = first-at rows (record { stream = stream; page = from }) place split (is_between stream from to) (λ q h. before-between q stream from to h)
+
+  pub between-past : length rows ≤ place → find (λ x. is_between stream from to x.page) rows ≡ None
+  between-past = first-past rows (record { stream = stream; page = from }) place split (is_between stream from to) (λ q h. before-between q stream from to h)
+
+  pub between-none : (r : Row) → IsAscending rows → r ≡ get_or rows place r → place < length rows → is_between stream from to r.page ≡ false → find (λ x. is_between stream from to x.page) rows ≡ None
+  between-none r up at within other =
+      first-none rows (record { stream = stream; page = from }) place split (is_between stream from to) (λ q h. before-between q stream from to h) r up at within other
+      (λ q h. after-between r.page q stream from to (not-before rows (record { stream = stream; page = from }) place r split at within) other h)
 
 some-of : {X : Type 0} (o : Option X) (P : X → Type 0) → IsSomeAnd o P → (x : X) × (o ≡ Some x) × P x
 some-of None P h = absurd h

@@ -4,7 +4,7 @@ use Rattle.std.proofs.lemmas.Bool.{cases_lt}
 use Rattle.std.proofs.lemmas.Bool.Decides.{nat_tests}
 use Rattle.std.proofs.lemmas.List.{get_or_default}
 use Rattle.cc_entry.specs.Place.{Page}
-use Rattle.cc_dirty.specs.Order.{precedes, same_page, IsAscending}
+use Rattle.cc_dirty.specs.Order.{precedes, same_page, IsAscending, SplitsAt}
 use Rattle.cc_dirty.specs.declared.row.Row.{Row}
 
 pub precedes-trans : (a b c : Page) → precedes a b ≡ true → precedes b c ≡ true → precedes a c ≡ true
@@ -59,3 +59,12 @@ Between-lower rows page low high middle r up b lo hi at fail = record {
   where
     fails : (k : ℕ) (d : Row) → k ≡ middle → precedes (get_or rows k d).page page ≡ false
     fails k d e = subst (λ (x : Row). precedes x.page page ≡ false) (sym (read-at rows k middle r d at (omega (arith, b.within)) e)) fail
+
+-- a split at a page that has this stream and this number
+pub split-at : (rows : List Row) (page : Page) (stream number place : ℕ) → stream ≡ page.stream → number ≡ page.page
+    → SplitsAt rows (record { stream = stream; page = number }) place → SplitsAt rows page place
+split-at rows page stream number place is_stream is_number split = record { before = λ k d lt. here.before k d lt; after = λ k d le lt. here.after k d le lt }
+  where
+    here : SplitsAt rows (record { stream = page.stream; page = page.page }) place
+    here = subst (λ (n : ℕ). SplitsAt rows (record { stream = page.stream; page = n }) place) is_number
+        (subst (λ (s : ℕ). SplitsAt rows (record { stream = s; page = number }) place) is_stream split)

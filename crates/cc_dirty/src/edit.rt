@@ -5,7 +5,7 @@ ghost use Rattle.cc_dirty.specs.Order.{same_page, is_from, is_between, SplitsAt}
 ghost use Rattle.cc_dirty.specs.Unwritten.{is_touched};
 ghost use Rattle.cc_dirty.specs.Table.{row_of, KeepsOthers, Sound};
 
-use crate::find::place_of;
+use crate::find::{first_between, first_from, place_of};
 use crate::row::{Row, Unwritten, is_between, is_from, same_page};
 use cc_entry::{PageId, StreamId};
 
@@ -20,9 +20,10 @@ pub(crate) fn find(rows: &[Row], page: PageId) -> (usize, Option<Row>)
     ensures touched { IfSome result.1 (λ r. is_touched r ≡ true) }
     ensures numbered { page.stream < 16 }
 {
-    // The stream's number is what says that it is below 16.
-    let _stream = page.stream().number();
-    let place = place_of(rows, page);
+    let stream = page.stream();
+    // Its number is what says that it is below 16.
+    let _number = stream.number();
+    let place = place_of(rows, stream, page.page());
     if place == rows.len() {
         return (place, None);
     }
@@ -86,23 +87,30 @@ pub(crate) fn remove(rows: &mut Vec<Row>, place: usize, page: PageId)
     rows.remove(place);
 }
 
-/// Takes out the rows of a stream's pages from this number on.
+/// Takes out the rows of a stream's pages from this number on. Where there is none, it looks through no row.
 pub(crate) fn drop_from(rows: &mut Vec<Row>, stream: StreamId, page: u64)
+    requires { Sound rows.old.items }
     ensures rows { rows.new.items ≡ filter (λ r. not (is_from stream page r.page)) rows.old.items }
     ensures len { vec_len rows.new ≤ vec_len rows.old }
     ensures capacity { vec_capacity rows.new ≡ vec_capacity rows.old }
 {
-    rows.retain(|row| !is_from(row.page, stream, page));
+    if first_from(rows, stream, page).is_some() {
+        rows.retain(|row| !is_from(row.page, stream, page));
+    }
 }
 
-/// Takes out the rows of a stream's pages from `from` up to, and without, `to`.
+/// Takes out the rows of a stream's pages from `from` up to, and without, `to`. Where there is none, it looks through no
+/// row.
 pub(crate) fn drop_between(rows: &mut Vec<Row>, stream: StreamId, from: u64, to: u64)
+    requires { Sound rows.old.items }
     ensures rows { rows.new.items
         ≡ filter (λ r. not (is_between stream from to r.page)) rows.old.items }
     ensures len { vec_len rows.new ≤ vec_len rows.old }
     ensures capacity { vec_capacity rows.new ≡ vec_capacity rows.old }
 {
-    rows.retain(|row| !is_between(row.page, stream, from, to));
+    if first_between(rows, stream, from, to).is_some() {
+        rows.retain(|row| !is_between(row.page, stream, from, to));
+    }
 }
 
 // An insert where there is room, which can't fail.

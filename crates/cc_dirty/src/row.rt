@@ -141,12 +141,12 @@ pub(crate) fn same_page(a: PageId, b: PageId) -> bool
     a.stream().number() == b.stream().number() && a.page() == b.page()
 }
 
-/// Whether a page stands before another one.
-pub(crate) fn precedes(a: PageId, b: PageId) -> bool
-    ensures { result ≡ precedes a b }
+/// Whether a page stands before the one of this stream and number.
+pub(crate) fn precedes(page: PageId, stream: StreamId, number: u64) -> bool
+    ensures { result ≡ precedes page (record { stream = stream; page = number }) }
 {
-    let (stream, other) = (a.stream().number(), b.stream().number());
-    stream < other || (stream == other && a.page() < b.page())
+    let (own, other) = (page.stream().number(), stream.number());
+    own < other || (own == other && page.page() < number)
 }
 
 /// Whether a page is of this stream and not below this number.

@@ -1,12 +1,13 @@
 //! The dirty page table: its rows by stream and page, and how touches, transfers and cuts change them.
 
-ghost use Rattle.std.specs.Prelude.{◌≡◌, ◌+◌, ◌<◌, ◌≤◌, ◌⊎◌, [], All, true, length, Some, IsSome, OnOk, OnErr, count_by};
+ghost use Rattle.std.specs.Prelude.{◌≡◌, ◌+◌, ◌<◌, ◌≤◌, ◌⊎◌, [], All, true, length, Some, IsSome, find, OnOk, OnErr, count_by};
 ghost use Rattle.std.specs.Option.{option_map, option_and_then};
 ghost use Rattle.cc_dirty.specs.Order.{IsAscending, is_from, is_between};
 ghost use Rattle.cc_dirty.specs.Unwritten.{touched_row, begun_row, ended_row, kept_row, is_touched};
 ghost use Rattle.cc_dirty.specs.Table.{row_of, new_rows, KeepsOthers, DropsPages, is_of, Sound};
 
 use crate::edit::{drop_between, drop_from, find, insert, remove, replace};
+use crate::find::{first_between, first_from};
 use crate::row::Row;
 use cc_entry::{Lsn, NoMemory, PageId, StreamId};
 use std::alloc::Global;
@@ -56,6 +57,30 @@ impl DirtyTable {
         ensures sound { Sound result.now }
     {
         &self.rows
+    }
+
+    /// The row of a page, where the page is dirty.
+    pub fn row_of(&self, page: PageId) -> Option<Row>
+        ensures row { result ≡ row_of self.now.rows page }
+        ensures sound { Sound self.now.rows }
+    {
+        find(&self.rows, page).1
+    }
+
+    /// The first row of a stream's pages from this number on.
+    pub fn first_from(&self, stream: StreamId, from: u64) -> Option<Row>
+        ensures first { result ≡ find (λ r. is_from stream from r.page) self.now.rows }
+        ensures sound { Sound self.now.rows }
+    {
+        first_from(&self.rows, stream, from)
+    }
+
+    /// The first row of a stream's pages from `from` up to, and without, `to`.
+    pub fn first_between(&self, stream: StreamId, from: u64, to: u64) -> Option<Row>
+        ensures first { result ≡ find (λ r. is_between stream from to r.page) self.now.rows }
+        ensures sound { Sound self.now.rows }
+    {
+        first_between(&self.rows, stream, from, to)
     }
 
     /// How many pages of a stream are dirty.
