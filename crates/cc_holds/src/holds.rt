@@ -90,10 +90,11 @@ impl Holds {
     pub fn get(&self, id: u64) -> Option<&HoldRow>
         ensures { option_copied result ≡ option_map (λ h. h.row) (hold_of self.now id) }
     {
-        self.holds
-            .iter()
-            .find(|hold| hold.row.id == id)
-            .map(|hold| &hold.row)
+        let place = place_of(&self.holds, id);
+        if place == self.holds.len() {
+            return None;
+        }
+        Some(&self.holds[place].row)
     }
 
     /// Opens a hold. Where its row has a written span, the pages of that span are touched. Answers `NoMemory`, and then

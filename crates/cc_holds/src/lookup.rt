@@ -1,7 +1,8 @@
-//! Where the first hold stands that passes a test.
+//! Where the first hold stands that passes a test; by binary search, where the test is of its id.
 
 ghost use Rattle.std.specs.Prelude.{◌≡◌, ◌≤◌, nat_lt, length, true};
 ghost use Rattle.std.specs.List.{position_or_len};
+ghost use Rattle.std.specs.List.Sorted.{IsNonDecreasingBy};
 ghost use Rattle.cc_holds.specs.Holds.{overlaps, conflicts, is_unstamped, ends_past, first_id, has_id};
 ghost use Rattle.cc_entry.specs.Kinds.{is_pin};
 
@@ -11,28 +12,29 @@ use cc_entry::{HoldKind, Span};
 
 /// The place of the hold of an id, the length where there is none.
 pub(crate) fn place_of(holds: &[Hold], id: u64) -> usize
+    requires { IsNonDecreasingBy (λ h. h.row.id) holds.now }
     ensures value { result ≡ position_or_len (has_id id) holds.now }
     ensures within { result ≤ length holds.now }
 {
-    for (place, hold) in holds.iter().enumerate() {
-        if hold.row.id == id {
-            return place;
-        }
+    let place = holds.partition_point(|hold| hold.row.id < id);
+    if place == holds.len() {
+        return place;
     }
-    holds.len()
+    let hold = &holds[place];
+    if hold.row.id == id {
+        place
+    } else {
+        holds.len()
+    }
 }
 
 /// The place before the first hold of a greater id.
 pub(crate) fn place_after(holds: &[Hold], id: u64) -> usize
+    requires { IsNonDecreasingBy (λ h. h.row.id) holds.now }
     ensures value { result ≡ position_or_len (λ h. nat_lt id h.row.id) holds.now }
     ensures within { result ≤ length holds.now }
 {
-    for (place, hold) in holds.iter().enumerate() {
-        if id < hold.row.id {
-            return place;
-        }
-    }
-    holds.len()
+    holds.partition_point(|hold| hold.row.id <= id)
 }
 
 pub(crate) fn first_of(holds: &[Hold]) -> Option<u64>

@@ -71,6 +71,6 @@ impl HoldPlaces {
         ensures sets { Sets self.old.places.entries self.new.places.entries stream id None }
         ensures room { spare self.old.places ≤ spare self.new.places }
     {
-        self.places.shift_remove(&(stream.number(), id));
+        self.places.swap_remove(&(stream.number(), id));
     }
 }

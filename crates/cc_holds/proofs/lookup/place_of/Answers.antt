@@ -1,12 +1,27 @@
-use Rattle.std.proofs.Common.{arith}
+-- By the place of the search: past the last hold, at the hold of the id, or at one of a greater id.
+use Rattle.std.proofs.Common.{◌≡◌, ◌<◌, ◌∙◌, length, nat_lt, sym, rules, arith}
 use Rattle.std.proofs.lemmas.Bool.Decides.{nat_tests}
-use Rattle.cc_holds.specs.Holds.{has_id}
-use Rattle.cc_holds.proofs.Places.{place-found, place-end}
+use Rattle.std.proofs.lemmas.List.Sorted.{IsPartitionPoint-from_clause, IsPartitionedBy-ltb}
+use Rattle.cc_holds.specs.declared.holds.Hold.{Hold}
+use Rattle.cc_holds.proofs.Places.{place-found, place-other, place-past}
 use Rattle.cc_holds.proofs.lookup.place_of.Goals as goal
+
+pub returns-then-place-holds-clause-value : goal.returns-then-place-holds-clause-value
+returns-then-place-holds-clause-value c =
+    let point = IsPartitionPoint-from_clause (λ (h : Hold). nat_lt h.row.id c.args.id) _ _ c.partition_point-place.ensures.partitioned
+    (IsPartitionedBy-ltb (λ (h : Hold). h.row.id) _ c.args.id c.requires) (λ a r q k. search rules) in
+    place-past c.args.holds.now c.args.id c.partition_point-place.result point (omega arith)
 
 pub returns-then-hold-id-clause-value : goal.returns-then-hold-id-clause-value
 returns-then-hold-id-clause-value c =
-    place-found (has_id c.args.id) c.args.holds.now c.loop-place.place c.index-holds-place.result c.index-holds-place.is c.loop-place-test.true (grind (arith, nat_tests)) c.loop-place.invariant
+    let point = IsPartitionPoint-from_clause (λ (h : Hold). nat_lt h.row.id c.args.id) _ _ c.partition_point-place.ensures.partitioned
+    (IsPartitionedBy-ltb (λ (h : Hold). h.row.id) _ c.args.id c.requires) (λ a r q k. search rules) in
+    place-found c.args.holds.now c.args.id c.partition_point-place.result c.index-holds-place.result point c.index-holds-place.is
+    (omega (arith, c.partition_point-place.ensures.bound)) (grind (arith, nat_tests))
 
-pub returns-clause-value : goal.returns-clause-value
-returns-clause-value c = place-end (has_id c.args.id) c.args.holds.now c.loop-place.place c.loop-place-test.false c.loop-place.invariant
+pub returns-else-hold-id-clause-value : goal.returns-else-hold-id-clause-value
+returns-else-hold-id-clause-value c =
+    let point = IsPartitionPoint-from_clause (λ (h : Hold). nat_lt h.row.id c.args.id) _ _ c.partition_point-place.ensures.partitioned
+    (IsPartitionedBy-ltb (λ (h : Hold). h.row.id) _ c.args.id c.requires) (λ a r q k. search rules) in
+    place-other c.args.holds.now c.args.id c.partition_point-place.result c.index-holds-place.result c.requires point c.index-holds-place.is
+    (omega (arith, c.partition_point-place.ensures.bound)) (grind (arith, nat_tests))
