@@ -2,6 +2,7 @@
 pub mod LowSteps
 pub mod DroppedPages
 pub mod GrownPages
+mod GrownPlaces
 pub mod FirstBytes
 pub mod Lists
 pub mod Standing

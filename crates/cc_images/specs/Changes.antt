@@ -1,5 +1,5 @@
 -- What entries do to the pages that have grown, and to those whose image is not known.
-use Rattle.std.specs.Prelude.{ℕ, ◌+◌, ◌-◌, ◌*◌, ◌/◌, ◌==◌, Bool, not, nat_lt, nat_le, ◌&&◌, max, List, [], ◌∷◌, ◌++◌, map, filter, if◌then◌else◌}
+use Rattle.std.specs.Prelude.{◌≡◌, ℕ, ◌+◌, ◌-◌, ◌*◌, ◌/◌, ◌<◌, ◌==◌, Bool, true, not, nat_lt, nat_le, ◌&&◌, max, List, [], ◌∷◌, ◌++◌, length, slice_index_or, map, filter, if◌then◌else◌}
 use Rattle.std.specs.List.{list_any, range_with_len}
 use Rattle.cc_model.specs.Numbers.{is_among}
 
@@ -22,6 +22,10 @@ raised bytes was now = with_page_of bytes was ++ starts (was / 4096 + 1) ((now -
 -- it fell
 abbrev pub lowered : List ℕ → ℕ → List ℕ
 lowered bytes now = filter (λ byte. nat_lt byte now) bytes
+
+-- a byte of the page stands at this place
+abbrev pub IsByteOf : List ℕ → ℕ → ℕ → Type 0
+IsByteOf bytes page place = (place < length bytes) × ((slice_index_or bytes place 0 / 4096 == page) ≡ true)
 
 -- whether a byte of the page, not valid at this least length, is valid now
 abbrev pub grew_past : ℕ → ℕ → ℕ → Bool

@@ -1,11 +1,11 @@
 //! The pages that have grown, each by its first byte that became valid since the disk took the page.
 
-ghost use Rattle.std.specs.Prelude.{◌≡◌, ◌+◌, ◌-◌, ◌*◌, ◌/◌, ◌<◌, ◌≤◌, ◌^◌, [], ◌∷◌, ◌++◌, length, vec_capacity, Option};
+ghost use Rattle.std.specs.Prelude.{◌≡◌, ◌==◌, ◌+◌, ◌-◌, ◌*◌, ◌/◌, ◌<◌, ◌≤◌, ◌^◌, false, max, [], ◌∷◌, ◌++◌, length, slice_set, slice_index_or, vec_capacity, All, Option, None, IfSome};
 ghost use Rattle.std.specs.List.{find, AllByRecursion};
 ghost use Rattle.std.specs.Option.{option_map};
 ghost use Rattle.cc_model.specs.Ranges.{span_has};
 ghost use Rattle.cc_images.specs.Images.{AscendsByPage};
-ghost use Rattle.cc_images.specs.Changes.{has_page_of, with_page_of, starts, raised, lowered, grew_past, moved_up, regrown, without_page, written};
+ghost use Rattle.cc_images.specs.Changes.{has_page_of, with_page_of, starts, raised, lowered, grew_past, IsByteOf, written};
 
 use crate::reserved::push_reserved;
 use cc_entry::Span;
@@ -73,13 +73,45 @@ pub(crate) fn lower(bytes: &mut Vec<u64>, now: u64)
 
 /// The disk took a page; `low` is the least valid data length since its transfer began.
 pub(crate) fn write(bytes: &mut Vec<u64>, page: u64, low: u64, valid: u64)
+    requires { AscendsByPage bytes.old.items }
+    ensures bytes { bytes.new.items ≡ written bytes.old.items page low valid }
+    ensures capacity { vec_capacity bytes.new ≡ vec_capacity bytes.old }
+{
+    match place_of(bytes, page) {
+        Some(place) => write_at(bytes, place, page, low, valid),
+        None => (),
+    }
+}
+
+// Where the byte of a page stands, by binary search.
+fn place_of(bytes: &[u64], page: u64) -> Option<usize>
+    requires { AscendsByPage bytes.now }
+    ensures some { IfSome result (λ place. IsByteOf bytes.now page place) }
+    ensures none { result ≡ None → All (λ byte. (byte / 4096 == page) ≡ false) bytes.now }
+{
+    let place = bytes.partition_point(|byte| *byte / 4096 < page);
+    if place == bytes.len() {
+        return None;
+    }
+    let byte = bytes[place];
+    if byte / 4096 == page {
+        Some(place)
+    } else {
+        None
+    }
+}
+
+// The disk took the page whose byte stands at a place.
+fn write_at(bytes: &mut Vec<u64>, place: usize, page: u64, low: u64, valid: u64)
+    requires in_order { AscendsByPage bytes.old.items }
+    requires place { IsByteOf bytes.old.items page place }
     ensures bytes { bytes.new.items ≡ written bytes.old.items page low valid }
     ensures capacity { vec_capacity bytes.new ≡ vec_capacity bytes.old }
 {
     if grew_past(page, low, valid) {
-        regrow(bytes, page, low);
+        regrow(bytes, place, low);
     } else {
-        bytes.retain(|byte| byte / 4096 != page);
+        bytes.remove(place);
     }
 }
 
@@ -90,24 +122,13 @@ fn grew_past(page: u64, low: u64, valid: u64) -> bool
     low < valid && low / 4096 <= page
 }
 
-// The page has grown from this place on.
-fn regrow(bytes: &mut [u64], page: u64, low: u64)
-    ensures { bytes.new ≡ regrown bytes.old page low }
+// The page whose byte stands at a place has grown from `low` on.
+fn regrow(bytes: &mut [u64], place: usize, low: u64)
+    requires { place < length bytes.old }
+    ensures { bytes.new ≡ slice_set bytes.old place (max (slice_index_or bytes.old place 0) low) }
 {
-    for byte in bytes.iter_mut() {
-        *byte = moved_up(page, low, *byte);
-    }
-}
-
-// A byte, at this place or past it where it is of the page.
-fn moved_up(page: u64, low: u64, byte: u64) -> u64
-    ensures { result ≡ moved_up page low byte }
-{
-    if byte / 4096 == page {
-        max(byte, low)
-    } else {
-        byte
-    }
+    let byte = bytes[place];
+    bytes[place] = max(byte, low);
 }
 
 /// The first page of a span that has grown.

@@ -11,6 +11,11 @@ forget-requires c =
     let k = c.requires.may in
     room-may (subst (λ (i : Images). MayEnd k.u k.past k.pass (record { stream = k.s; page = c.args.page }) c.args.how i c.args.valid) (sym c.self.view_is) k.may)
 
+pub write-requires : goal.write-requires
+write-requires c =
+    let k = c.requires.may in
+    (subst (λ (i : Images). MayEnd k.u k.past k.pass (record { stream = k.s; page = c.args.page }) c.args.how i c.args.valid) (sym c.self.view_is) k.may).stands.in_order
+
 pub returns-in-Good : goal.returns-in-Good
 returns-in-Good c = λ u past pass s may.
     let was = subst (λ (i : Images). MayEnd u past pass (record { stream = s; page = c.args.page }) c.args.how i c.args.valid) (sym c.self.view_is) may in
