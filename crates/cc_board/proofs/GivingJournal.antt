@@ -321,7 +321,7 @@ pub gives_journal_at : {D L Q : Type 0} (tells : Tells D L Q) (begun : Begun D L
     (λ _. GivesTurn journal_at (step (slots_of begun) (suc slot) 0 0 none) (v, (slot, Some (place.Journal j)) ∷ carried) 0)
 gives_journal_at tells begun at id v carried turns j slot is live run journal other few adds stands =
     gives_journal tells begun id v carried turns j slot is live run journal other few
-    (record { added = adds.added; grew = adds.grew; held = adds.held; own = adds.own })
+    (record { added = adds.added; grew = adds.grew; event = adds.event; held = adds.held; own = adds.own })
     (record {
       entries_are = stands.entries_are;
       good = stands.good;

@@ -234,6 +234,7 @@ module _ {Q : Type 0} (posted : Q → Bool) (w v : Standing) (it : Call) (j k : 
       kept = has.placed ∙ ap (λ (n : ℕ). record j { entries = streamless w.number j.entries it ended ∷ j.entries; reserved = n; rows = k.rows }) (sym (ap (λ (x : JournalState Q). x.reserved) has.placed));
       good = subst (λ (past : List Entry). IsGood w.setup past) (sym entries-are)
           (good-streamless w.setup j.entries w.number it ended alone (has.is w.setup logs) vis.good);
+      event = tt;
       own = (eq-eqb w.number w.number refl, tt);
       held = quiet-streamless (record w.held { journal = true }) w.number j.entries it ended refl;
       reserved =

@@ -17,9 +17,9 @@ use Rattle.cc_book.specs.Book.{BookState, BookStands, Gains, GoesOn, failed}
 use Rattle.cc_journal.specs.Calls.{owed_end, owes_store}
 use Rattle.cc_journal.specs.Journal.{JournalState}
 use Rattle.cc_laws.proofs.HoldSteps.{changes_holds}
-use Rattle.cc_laws.proofs.HistorySteps.{history-page_out, history-done, history-call_failed}
-use Rattle.cc_laws.proofs.ImageSteps.{open_of-done, open_of-went_out}
-use Rattle.cc_laws.proofs.TurnSteps.{is_quiet-append, is_quiet-none, is_quiet-unneeded}
+use Rattle.cc_laws.proofs.HistorySteps.{history-done, history-call_failed}
+use Rattle.cc_laws.proofs.ImageSteps.{open_of-done}
+use Rattle.cc_laws.proofs.TurnSteps.{is_quiet-none, is_quiet-unneeded}
 use Rattle.cc_model.specs.Conditions.{MayFinish}
 use Rattle.cc_model.specs.History.{history}
 use Rattle.cc_model.specs.Images.{open_of}
@@ -30,14 +30,14 @@ use Rattle.cc_step.specs.Step.{StandUnder, is_answered}
 use Rattle.cc_step.proofs.Reserved.{reserved-done, reserved-failed}
 use Rattle.cc_turns.specs.Standing.{Standing, holds}
 use Rattle.cc_turns.specs.Journal.{JournalStands}
-use Rattle.cc_turns.specs.Takes.{Adds, without_journal, may_be_of}
+use Rattle.cc_turns.specs.Takes.{Adds, IsOneEvent, without_journal, may_be_of}
 use Rattle.cc_writes.specs.Hands.{HasBook, IsAtRest, WentWith}
 use Rattle.cc_writes.proofs.Owing.{reserved-page_out}
 use Rattle.cc_writes.proofs.Placing.{unneeded-call}
 use Rattle.cc_writes.proofs.OneVisit.{Visiting, Visited, visited, went-held}
 use Rattle.cc_writes.proofs.Quiet.{history-kept, stands-same, book-after}
 use Rattle.cc_writes.proofs.Placed.{quiet-page}
-use Rattle.cc_ranges.specs.Ends.{MayFinishHere, IsOut, IsEnded, HasFinished, HasFailedSince, HasFailedWrite, MayFailHere, write_done, write_failed}
+use Rattle.cc_ranges.specs.Ends.{MayFinishHere, IsOut, IsTidied, IsEnded, HasTidied, HasEndedWrite, HasFailedSince, HasFailedWrite, MayFailHere, write_done, write_failed}
 use Rattle.cc_ranges.proofs.WriteFinishing.{good-unwritten, stored-owes, finish-others, fails-others}
 
 -- the next call of a pass that owes the end of a write gives that place back
@@ -53,25 +53,17 @@ after-store past pass nth stream it r here kept owes = one-less _ _ _ (owes-one 
 after-failure : (past : List Entry) (pass nth stream : ℕ) (it : Call) (e : CcError) → is_answered it ≡ true → owes_store past pass ≡ true → reserved_in past ≡ suc (reserved_in (entry.Call pass nth (Some stream) it (outcome.Failed e) ∷ past))
 after-failure past pass nth stream it e here owes = one-less _ _ _ (owes-one past pass owes) (reserved-failed past pass nth stream it e here)
 
--- a page that goes out leaves what is reserved, and no transfer
+-- a page that goes out leaves what is reserved
 out-reserved : (pass : ℕ) (page : Page) (tidied past : List Entry) → IsOut pass page tidied → reserved_in (tidied ++ past) ≡ reserved_in past
 out-reserved pass page [] past only = refl
 out-reserved pass page (e ∷ []) past only = ap (λ (x : Entry). reserved_in (x ∷ past)) only ∙ reserved-page_out pass page past
 out-reserved pass page (e ∷ (other ∷ more)) past only = absurd only
 
-out-rest : (pass : ℕ) (page : Page) (tidied past : List Entry) → IsOut pass page tidied → open_of (history past page.stream) ≡ None → open_of (history (tidied ++ past) page.stream) ≡ None
-out-rest pass page [] past only none = none
-out-rest pass page (e ∷ []) past only none =
-    ap (λ (x : Entry). open_of (history (x ∷ past) page.stream)) only
-    ∙ (ap open_of (history-page_out pass page past page.stream (eq-eqb page.stream page.stream refl))
-    ∙ (open_of-went_out pass page.page (history past page.stream) ∙ none))
-out-rest pass page (e ∷ (other ∷ more)) past only none = absurd only
-
-out-owes : (pass : ℕ) (page : Page) (tidied past : List Entry) → IsOut pass page tidied → owes_store past pass ≡ true → owes_store (tidied ++ past) pass ≡ true
-unfolding up_to_call
-out-owes pass page [] past only owes = owes
-out-owes pass page (e ∷ []) past only owes = subst (λ (x : Entry). owes_store (x ∷ past) pass ≡ true) (sym only) owes
-out-owes pass page (e ∷ (other ∷ more)) past only owes = absurd only
+-- it is one event
+out-event : (pass : ℕ) (page : Page) (tidied : List Entry) → IsOut pass page tidied → IsOneEvent tidied
+out-event pass page [] only = tt
+out-event pass page (e ∷ []) only = tt
+out-event pass page (e ∷ (other ∷ more)) only = absurd only
 
 out-own : (pass : ℕ) (page : Page) (tidied : List Entry) (me : ℕ) → pass ≡ me → IsOut pass page tidied → AllByRecursion (λ e. may_be_of me e ≡ true) tidied
 out-own pass page [] me same only = tt
@@ -119,8 +111,8 @@ module _ {Q : Type 0} (posted : Q → Bool) (w v : Standing) (file : File) (page
   less-one : (n owed rest mine others : ℕ) → n ≡ owed + mine + others → owed ≡ suc rest → n - 1 ≡ rest + mine + others
   less-one n owed rest mine others is one = omega (arith, is, one)
 
-  rest-after : (pass nth : ℕ) (k : JournalState Q) (went : WentWith w.in_flight w (without_journal k v)) → open_of (history k.entries page.stream) ≡ None → IsAtRest (without_journal k v) page.stream
-  rest-after pass nth k went none = record { device = ap (λ h. h.device) (went-held w.in_flight w (without_journal k v) went) ∙ rest.device; no_transfer = none }
+  rest-after : (k : JournalState Q) (went : WentWith w.in_flight w (without_journal k v)) → open_of (history k.entries page.stream) ≡ None → IsAtRest (without_journal k v) page.stream
+  rest-after k went none = record { device = ap (λ h. h.device) (went-held w.in_flight w (without_journal k v) went) ∙ rest.device; no_transfer = none }
 
   module _ (pass : ℕ) (me : pass ≡ w.number) where
     -- the write of a page that is on the disk
@@ -143,61 +135,91 @@ module _ {Q : Type 0} (posted : Q → Bool) (w v : Standing) (file : File) (page
             (after-store j.entries pass (suc (calls_of j.entries pass)) page.stream its reply.Unit refl refl owes);
       }
 
+      out-quiet : (tidied : List Entry) → IsOut pass page tidied → (t : Turn) → holds (record w.held { journal = true }) t ≡ false → is_quiet t tidied ≡ true
+      out-quiet [] only t free = is_quiet-none t
+      out-quiet (e ∷ []) only t free =
+          subst (λ (x : Entry). is_quiet t (x ∷ []) ≡ true) (sym only)
+          (quiet-page (record w.held { journal = true }) page (entry.PageOut pass page) (λ t. refl) the_book rest.device refl t free)
+      out-quiet (e ∷ (other ∷ more)) only t free = absurd only
+
+      -- its page went out where it could
+      module _ (c : BookState) (k : JournalState Q) (stream : c.stream ≡ b.stream) (is : IsTidied w.setup pass file page c j k) where
+        entries-tidied : k.entries ≡ is.tidied ++ j.entries
+        entries-tidied = ap (λ x. x.entries) is.placed
+
+        given-tidied : Visited posted w v w.in_flight k
+        given-tidied = visited posted w v w.in_flight is.tidied j k (ap (λ h. h.journal) has.held) vis (record {
+          kept = is.placed ∙ ap (λ (n : ℕ). record j { entries = is.tidied ++ j.entries; reserved = n; rows = k.rows }) (sym (ap (λ x. x.reserved) is.placed));
+          good = is.may.stand.good;
+          event = out-event pass page is.tidied is.only;
+          own = out-own pass page is.tidied w.number me is.only;
+          held = out-quiet is.tidied is.only;
+          reserved = ap (λ x. x.reserved) is.placed
+              ∙ (vis.reserved_is
+              ∙ ap (λ (n : ℕ). n + w.in_flight + v.others) (sym (ap reserved_in entries-tidied ∙ out-reserved pass page is.tidied j.entries is.only)));
+        })
+
+        pub tidying : EndVisit posted w v file page c k (HasTidied w page k.entries × MayFinish k.entries w.number page.stream page.page)
+        tidying = record {
+          adds = given-tidied.adds;
+          journal = given-tidied.journal;
+          book = book-after w.in_flight w (without_journal k v) page.stream b c has given-tidied.went (stream ∙ has.stream)
+              (subst (λ (n : ℕ). BookStands (w.setup.opening n) k.entries c) (stream ∙ has.stream) is.may.stand.stands) given-tidied.good;
+          rest = rest-after k given-tidied.went is.may.rest;
+          went = given-tidied.went;
+          left = (
+            record {
+              front = j.entries;
+              grows = vis.grows;
+              tidied = is.tidied;
+              only = subst (λ (n : ℕ). IsOut n page is.tidied) me is.only;
+              placed = entries-tidied;
+            },
+            subst (λ (n : ℕ). MayFinish k.entries n page.stream page.page) me is.may.finishes,
+          );
+        }
+
+      -- and it was done
       module _ (c : BookState) (k : JournalState Q) (stream : c.stream ≡ b.stream) (is : IsEnded w.setup pass file page c j k) where
-        abbrev front : List Entry
-        front = is.tidied ++ j.entries
-
         abbrev last : Entry
-        last = write_done pass file page front
+        last = write_done pass file page j.entries
 
-        entries : k.entries ≡ last ∷ front
+        entries : k.entries ≡ last ∷ j.entries
         entries = ap (λ x. x.entries) is.placed
 
-        owed : reserved_in j.entries ≡ suc (reserved_in (last ∷ front))
-        owed = sym (out-reserved pass page is.tidied j.entries is.only)
-            ∙ after-store front pass (suc (calls_of front pass)) page.stream its reply.Unit refl refl (out-owes pass page is.tidied j.entries is.only owes)
+        owed : reserved_in j.entries ≡ suc (reserved_in (last ∷ j.entries))
+        owed = after-store j.entries pass (suc (calls_of j.entries pass)) page.stream its reply.Unit refl refl owes
 
-        out-quiet : (tidied : List Entry) → IsOut pass page tidied → (t : Turn) → holds (record w.held { journal = true }) t ≡ false → is_quiet t tidied ≡ true
-        out-quiet [] only t free = is_quiet-none t
-        out-quiet (e ∷ []) only t free =
-            subst (λ (x : Entry). is_quiet t (x ∷ []) ≡ true) (sym only)
-            (quiet-page (record w.held { journal = true }) page (entry.PageOut pass page) (λ t. refl) the_book rest.device refl t free)
-        out-quiet (e ∷ (other ∷ more)) only t free = absurd only
-
-        quiet : (t : Turn) → holds (record w.held { journal = true }) t ≡ false → is_quiet t (last ∷ is.tidied) ≡ true
-        quiet t free =
-            is_quiet-append t (last ∷ []) is.tidied
-            (is_quiet-unneeded t last [] (unneeded-call w.held pass (suc (calls_of front pass)) page.stream its (outcome.Done reply.Unit) refl the_book t free) ∙ is_quiet-none t)
-            (out-quiet is.tidied is.only t free)
+        quiet : (t : Turn) → holds (record w.held { journal = true }) t ≡ false → is_quiet t (last ∷ []) ≡ true
+        quiet t free = is_quiet-unneeded t last [] (unneeded-call w.held pass (suc (calls_of j.entries pass)) page.stream its (outcome.Done reply.Unit) refl the_book t free) ∙ is_quiet-none t
 
         given : Visited posted w v w.in_flight k
-        given = visited posted w v w.in_flight (last ∷ is.tidied) j k (ap (λ h. h.journal) has.held) vis (record {
-          kept = is.placed ∙ ap (λ (n : ℕ). record j { entries = last ∷ front; reserved = n; rows = k.rows }) (sym (ap (λ x. x.reserved) is.placed));
+        given = visited posted w v w.in_flight (last ∷ []) j k (ap (λ h. h.journal) has.held) vis (record {
+          kept = is.placed ∙ ap (λ (n : ℕ). record j { entries = last ∷ j.entries; reserved = n; rows = k.rows }) (sym (ap (λ x. x.reserved) is.placed));
           good = is.stand.good;
-          own = (eq-eqb pass w.number me, out-own pass page is.tidied w.number me is.only);
+          event = tt;
+          own = (eq-eqb pass w.number me, tt);
           held = quiet;
           reserved = ap (λ x. x.reserved) is.placed
-              ∙ (less-one j.reserved (reserved_in j.entries) (reserved_in (last ∷ front)) w.in_flight v.others vis.reserved_is owed
+              ∙ (less-one j.reserved (reserved_in j.entries) (reserved_in (last ∷ j.entries)) w.in_flight v.others vis.reserved_is owed
               ∙ ap (λ (n : ℕ). n + w.in_flight + v.others) (sym (ap reserved_in entries)));
         })
 
-        pub finishing : EndVisit posted w v file page c k (HasFinished w file page k.entries)
+        pub finishing : EndVisit posted w v file page c k (HasEndedWrite w file page k.entries)
         finishing = record {
           adds = given.adds;
           journal = given.journal;
           book = book-after w.in_flight w (without_journal k v) page.stream b c has given.went (stream ∙ has.stream)
               (subst (λ (n : ℕ). BookStands (w.setup.opening n) k.entries c) (stream ∙ has.stream) is.stand.stands) given.good;
-          rest = rest-after pass (suc (calls_of front pass)) k given.went
+          rest = rest-after k given.went
               (ap (λ past. open_of (history past page.stream)) entries
-              ∙ (ap open_of (history-done pass (suc (calls_of front pass)) page.stream its reply.Unit front page.stream (eq-eqb page.stream page.stream refl))
-              ∙ (open_of-done pass its reply.Unit (history front page.stream) ∙ out-rest pass page is.tidied j.entries is.only at_rest)));
+              ∙ (ap open_of (history-done pass (suc (calls_of j.entries pass)) page.stream its reply.Unit j.entries page.stream (eq-eqb page.stream page.stream refl))
+              ∙ (open_of-done pass its reply.Unit (history j.entries page.stream) ∙ at_rest)));
           went = given.went;
           left = record {
             front = j.entries;
             grows = vis.grows;
-            tidied = is.tidied;
-            only = subst (λ (n : ℕ). IsOut n page is.tidied) me is.only;
-            placed = entries ∙ ap (λ (n : ℕ). write_done n file page front ∷ front) me;
+            placed = entries ∙ ap (λ (n : ℕ). write_done n file page j.entries ∷ j.entries) me;
           };
         }
 
@@ -239,6 +261,7 @@ module _ {Q : Type 0} (posted : Q → Bool) (w v : Standing) (file : File) (page
         given-failed = visited posted w v w.in_flight (end ∷ []) j k (ap (λ h. h.journal) has.held) vis (record {
           kept = placed ∙ ap (λ (n : ℕ). record j { entries = end ∷ j.entries; reserved = n; rows = k.rows }) (sym (ap (λ x. x.reserved) placed));
           good = rw entries-failed (good-unwritten w.setup j.entries pass file page vis.good here fails-now);
+          event = tt;
           own = (eq-eqb pass w.number me, tt);
           held = quiet-failed;
           reserved = ap (λ x. x.reserved) placed
@@ -252,7 +275,7 @@ module _ {Q : Type 0} (posted : Q → Bool) (w v : Standing) (file : File) (page
           journal = given-failed.journal;
           book = book-after w.in_flight w (without_journal k v) page.stream b c has given-failed.went (ap (λ x. x.stream) same_book ∙ has.stream)
               (goes (w.setup.opening page.stream) (subst (λ (n : ℕ). BookStands (w.setup.opening n) j.entries b) has.stream stand.stands)) given-failed.good;
-          rest = rest-after pass (suc (calls_of j.entries pass)) k given-failed.went
+          rest = rest-after k given-failed.went
               (ap (λ past. open_of (history past page.stream)) entries-failed
               ∙ (ap open_of (history-call_failed pass (suc (calls_of j.entries pass)) (Some page.stream) its (error.WriteFault page.page) j.entries page.stream) ∙ at_rest));
           went = given-failed.went;

@@ -17,7 +17,7 @@ use Rattle.cc_book.specs.Stored.{store_done}
 use Rattle.cc_effects.specs.Asked.{Calls, makes_way, may_take_out}
 use Rattle.cc_effects.specs.Moments.{own, Others, EachOwn}
 use Rattle.cc_effects.specs.Noncached.{IsTransferred, IsPageWritten, TakesOut, TransferRefused, bytes_stored}
-use Rattle.cc_effects.proofs.Stretches.{each-others, own-others}
+use Rattle.cc_effects.proofs.Stretches.{each-append, each-others, own-append, own-others}
 use Rattle.cc_model.specs.Conditions.{MayFinish}
 use Rattle.cc_model.specs.History.{history}
 use Rattle.cc_model.specs.Passes.{calls_of, is_the_page, store_of, is_written_since}
@@ -29,7 +29,7 @@ use Rattle.cc_writes.specs.Ways.{IsAtWork}
 use Rattle.cc_writes.specs.Transfers.{IsFinished}
 use Rattle.cc_writes.proofs.OneVisit.{went-number}
 use Rattle.cc_writes.proofs.Works.{work-grown}
-use Rattle.cc_ranges.specs.Ends.{IsOut, HasFinished, write_done, write_failed}
+use Rattle.cc_ranges.specs.Ends.{IsOut, HasTidied, HasFinished, write_done, write_failed}
 use Rattle.cc_ranges.specs.Pages.{FinishedLeft, PutLeft, IsUnwritten}
 use Rattle.cc_ranges.specs.Stores.{HasStored}
 use Rattle.cc_ranges.proofs.WriteFinishing.{finish-others}
@@ -129,24 +129,39 @@ module _ (n : ℕ) (w x : Standing) (file : File) (page : Page) (bytes : List �
       ended = z.seen;
       transferred = transferred-so how.Good z.seen is;
       counted = counted ∙ (ap (λ (s : ℕ). bytes_stored s page.page stored.front) (sym here) ∙ ap (bytes_stored file.stream page.page) at.grew);
-      nth = suc (calls_of (ended.tidied ++ ended.front) me);
+      nth = suc (calls_of ended.ended.front me);
       later = [];
-      tidied = ended.tidied ++ ended.grows.later;
-      goes_out = out-each ended.tidied ended.grows.later only others;
-      once = out-once ended.tidied ended.grows.later only others;
+      tidied = ended.ended.grows.later ++ (out.tidied ++ out.grows.later);
+      goes_out = each-append me (TakesOut me file page.page z.seen) ended.ended.grows.later (out.tidied ++ out.grows.later) z.seen
+          (each-others me (TakesOut me file page.page z.seen) ended.ended.grows.later ((out.tidied ++ out.grows.later) ++ z.seen) others-after)
+          (out-each out.tidied out.grows.later only others);
+      once = rw (own-append me ended.ended.grows.later (out.tidied ++ out.grows.later), own-others me ended.ended.grows.later others-after) (out-once out.tidied out.grows.later only others);
       quiet = tt;
-      grew = ended.placed
-          ∙ (ap (λ (k : ℕ). write_done k file page (ended.tidied ++ ended.front) ∷ (ended.tidied ++ ended.front)) number-is
-          ∙ (ap (λ (s : ℕ). entry.Call me (suc (calls_of (ended.tidied ++ ended.front) me)) (Some s) (call.NcWrite file page.page) (outcome.Done reply.Unit) ∷ (ended.tidied ++ ended.front)) (sym here)
-          ∙ ap (λ (past : List Entry). entry.Call me (suc (calls_of (ended.tidied ++ ended.front) me)) (Some file.stream) (call.NcWrite file page.page) (outcome.Done reply.Unit) ∷ past)
-          (ap (λ past. ended.tidied ++ past) ended.grows.grew ∙ sym (append_assoc ended.tidied ended.grows.later z.seen))));
+      grew = ended.ended.placed
+          ∙ (ap (λ (k : ℕ). write_done k file page ended.ended.front ∷ ended.ended.front) number-then
+          ∙ (ap (λ (s : ℕ). entry.Call me (suc (calls_of ended.ended.front me)) (Some s) (call.NcWrite file page.page) (outcome.Done reply.Unit) ∷ ended.ended.front) (sym here)
+          ∙ ap (λ (past : List Entry). entry.Call me (suc (calls_of ended.ended.front me)) (Some file.stream) (call.NcWrite file page.page) (outcome.Done reply.Unit) ∷ past)
+          (ended.ended.grows.grew
+          ∙ (ap (λ past. ended.ended.grows.later ++ past) (out.placed ∙ (ap (λ past. out.tidied ++ past) out.grows.grew ∙ sym (append_assoc out.tidied out.grows.later z.seen)))
+          ∙ sym (append_assoc ended.ended.grows.later (out.tidied ++ out.grows.later) z.seen)))));
     }
       where
-        only : IsOut me page ended.tidied
-        only = subst (λ (k : ℕ). IsOut k page ended.tidied) number-is ended.only
+        -- the page went out where it could
+        out : HasTidied z page ended.then_was.seen
+        out = ended.tidied
 
-        others : Others me ended.grows.later
-        others = subst (λ (k : ℕ). Others k ended.grows.later) number-is ended.grows.others
+        only : IsOut me page out.tidied
+        only = subst (λ (k : ℕ). IsOut k page out.tidied) number-is out.only
+
+        others : Others me out.grows.later
+        others = subst (λ (k : ℕ). Others k out.grows.later) number-is out.grows.others
+
+        -- and then others went on, before the entry of the write
+        number-then : ended.then_was.number ≡ me
+        number-then = went-number z.in_flight z ended.then_was ended.went ∙ number-is
+
+        others-after : Others me ended.ended.grows.later
+        others-after = subst (λ (k : ℕ). Others k ended.ended.grows.later) number-then ended.ended.grows.others
 
   -- the write told that its transfer failed
   pub page-unwritten : (seen : List Entry) → IsUnwritten x file page seen → TransferRefused me file page.page bytes (error.WriteFault page.page) begun seen

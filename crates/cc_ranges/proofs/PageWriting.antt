@@ -39,7 +39,7 @@ use Rattle.cc_writes.proofs.Flushing.{disk-grown}
 use Rattle.cc_writes.proofs.Quiet.{history-kept, flushed_to-grows, logged-kept}
 use Rattle.cc_writes.proofs.OneVisit.{went-number, went-held}
 use Rattle.cc_writes.proofs.Writing.{opening-kept, disks-kept}
-use Rattle.cc_ranges.specs.Ends.{IsOut, HasFinished, HasFailedSince, HasFailedWrite, write_done, write_failed}
+use Rattle.cc_ranges.specs.Ends.{IsOut, HasTidied, HasFinished, HasFailedSince, HasFailedWrite, write_done, write_failed}
 use Rattle.cc_ranges.specs.Stores.{IsReadyToStore, HasStored, stored_byte}
 use Rattle.cc_ranges.proofs.WriteFinishing.{store-others}
 use Rattle.cc_ranges.proofs.Goods.{open-stored, bytes-with_store}
@@ -94,12 +94,21 @@ module _ {D : Type 0} (told : D → Option Disk) (faults : D → ℕ) (n : ℕ) 
     opening = opening-kept n w x page.stream went both.opening;
   }
 
+  -- as its page went out where it could
+  tidied : (seen : List Entry) → HasTidied w page seen → DiskStands told faults (w.disks page.stream) seen page.stream disk
+  tidied seen is =
+      subst (λ (past : List Entry). DiskStands told faults (w.disks page.stream) past page.stream disk) (sym is.placed)
+      (disk_still told faults (w.disks page.stream) is.front (is.tidied ++ is.front) page.stream disk (out-disk w.number page is.tidied is.front page.stream is.only) (grown is.front is.grows))
+
   pub both-done : HasFinished w file page x.seen → HasBoth told faults x page.stream c disk
   both-done is =
-      hands (subst (λ (past : List Entry). DiskStands told faults (w.disks page.stream) past page.stream disk) (sym is.placed)
-      (disk_still told faults (w.disks page.stream) (is.tidied ++ is.front) (write_done w.number file page (is.tidied ++ is.front) ∷ (is.tidied ++ is.front)) page.stream disk
-      (disk-call w.number (suc (calls_of (is.tidied ++ is.front) w.number)) (Some page.stream) (call.NcWrite file page.page) (outcome.Done reply.Unit) (is.tidied ++ is.front) page.stream)
-      (disk_still told faults (w.disks page.stream) is.front (is.tidied ++ is.front) page.stream disk (out-disk w.number page is.tidied is.front page.stream is.only) (grown is.front is.grows))))
+      let y = is.then_was in
+      let front = is.ended.front in
+      hands (subst (λ (past : List Entry). DiskStands told faults (w.disks page.stream) past page.stream disk) (sym is.ended.placed)
+      (disk_still told faults (w.disks page.stream) front (write_done y.number file page front ∷ front) page.stream disk
+      (disk-call y.number (suc (calls_of front y.number)) (Some page.stream) (call.NcWrite file page.page) (outcome.Done reply.Unit) front page.stream)
+      (disk-grown told faults (w.disks page.stream) y page.stream disk (ap (λ h. h.device) (went-held w.in_flight w y is.went) ∙ both.rest.device)
+      (tidied y.seen is.tidied) front is.ended.grows)))
 
   pub both-told : HasFailedWrite w file page x.seen → HasBoth told faults x page.stream c disk
   both-told is =

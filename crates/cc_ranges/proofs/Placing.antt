@@ -100,6 +100,7 @@ module _ {Q : Type 0} (posted : Q → Bool) (w v : Standing) (s : ℕ) (how : En
     sync-given = visited posted w v 0 (entry.Sync pass s how ∷ []) j k (ap (λ (h : Held). h.journal) held) vis (record {
       kept = placed ∙ ap (λ (n : ℕ). record j { entries = entry.Sync pass s how ∷ j.entries; reserved = n; rows = k.rows }) (sym (ap (λ (x : JournalState Q). x.reserved) placed));
       good = subst (λ (past : List Entry). IsGood w.setup past) (sym (ap (λ (x : JournalState Q). x.entries) placed)) good;
+      event = tt;
       own = (eq-eqb pass w.number me, tt);
       held = quiet-sync (record w.held { journal = true }) pass s how device refl;
       reserved = ap (λ (x : JournalState Q). x.reserved) placed

@@ -40,6 +40,7 @@ module _ {Q : Type 0} (posted : Q → Bool) (w v : Standing) (file : File) (page
     kept = owing ∙ ap (λ (m : ℕ). record j { entries = e ∷ j.entries; reserved = m; rows = k.rows }) (sym is);
     stand = stand;
     stream = stream;
+    event = tt;
     own = (eq-eqb w.number w.number refl, tt);
     held = λ t away. is_quiet-unneeded t e [] (unneeded t away) ∙ is_quiet-none t;
     reserved = count k.reserved j.reserved (reserved_in k.entries) (reserved_in (e ∷ j.entries)) (reserved_in j.entries) w.in_flight v.others

@@ -194,6 +194,7 @@ module _ {Q : Type 0} (posted : Q → Bool) (w v : Standing) (file : File) (page
       given = visited posted w v w.in_flight (begin ∷ store ∷ []) j k (holds_no_journal w page.stream b has) vis (record {
         kept = is.placed ∙ ap (λ (n : ℕ). record j { entries = with_store pass file page bytes j.entries; reserved = n; rows = k.rows }) (sym (ap (λ x. x.reserved) is.placed));
         good = is.stand.good;
+        event = refl;
         own = (eq-eqb pass w.number me, (eq-eqb pass w.number me, tt));
         held = quiet;
         reserved = ap (λ x. x.reserved) is.placed

@@ -133,22 +133,19 @@ module _ {Q : Type 0} (u : Setup) (pass : ℕ) (file : File) (page : Page) (b : 
     stands = may.stand.stands;
   }
 
--- the write was done, behind what was tidied
-pub ended : {Q : Type 0} (u : Setup) (pass : ℕ) (file : File) (page : Page) (c d : BookState) (j x k : JournalState Q) → page.stream ≡ c.stream → IsTidied u pass file page c j x → Gains (done pass x.entries c.stream (call.NcWrite file page.page) reply.Unit) x k → BookStands (u.opening c.stream) k.entries d → d.stream ≡ c.stream → IsEnded u pass file page d j k
-ended {Q = Q} u pass file page c d j x k inside tidy gains stands stream =
+-- the write was done
+pub ended : {Q : Type 0} (u : Setup) (pass : ℕ) (file : File) (page : Page) (c d : BookState) (j k : JournalState Q) → page.stream ≡ c.stream → MayFinishHere u pass file page c j → Gains (done pass j.entries c.stream (call.NcWrite file page.page) reply.Unit) j k → BookStands (u.opening c.stream) k.entries d → d.stream ≡ c.stream → IsEnded u pass file page d j k
+ended {Q = Q} u pass file page c d j k inside may gains stands stream =
     let it = call.NcWrite file page.page in
-    let there : k ≡ record x { entries = write_done pass file page x.entries ∷ x.entries; reserved = x.reserved - 1; rows = k.rows } =
-    gains ∙ ap (λ (n : ℕ). record x { entries = done pass x.entries n it reply.Unit ∷ x.entries; reserved = x.reserved - 1; rows = k.rows }) (sym inside) in
+    let there : k ≡ record j { entries = write_done pass file page j.entries ∷ j.entries; reserved = j.reserved - 1; rows = k.rows } =
+    gains ∙ ap (λ (n : ℕ). record j { entries = done pass j.entries n it reply.Unit ∷ j.entries; reserved = j.reserved - 1; rows = k.rows }) (sym inside) in
     record {
-      tidied = tidy.tidied;
-      only = tidy.only;
-      placed = there
-          ∙ ap (λ (y : JournalState Q). record y { entries = write_done pass file page y.entries ∷ y.entries; reserved = y.reserved - 1; rows = k.rows }) tidy.placed;
+      placed = there;
       stand = record {
-        good = rw (ap (λ y. y.entries) there) (good-finished u x.entries pass file page tidy.may.stand.good tidy.may.here tidy.may.finishes);
+        good = rw (ap (λ y. y.entries) there) (good-finished u j.entries pass file page may.stand.good may.here may.finishes);
         stands = subst (λ (n : ℕ). BookStands (u.opening n) k.entries d) (sym stream) stands;
-        logs_are = tidy.may.stand.logs_are ∙ sym (ap (λ y. y.logs) there);
-        threshold_is = tidy.may.stand.threshold_is ∙ sym (ap (λ y. y.threshold) there);
+        logs_are = may.stand.logs_are ∙ sym (ap (λ y. y.logs) there);
+        threshold_is = may.stand.threshold_is ∙ sym (ap (λ y. y.threshold) there);
       };
     }
 

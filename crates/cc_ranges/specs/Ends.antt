@@ -22,6 +22,7 @@ use Rattle.cc_model.specs.Touches.{is_dirty}
 use Rattle.cc_step.specs.Step.{StandUnder}
 use Rattle.cc_turns.specs.Standing.{Standing}
 use Rattle.cc_turns.specs.Takes.{Grows}
+use Rattle.cc_writes.specs.Hands.{Went}
 
 -- What a pass asks of a book and a journal in hand for the end of a write: the two stand under the setup, no transfer of
 -- the stream is under way, the pass's last call stored the page, which is on the disk, and the end has its place.
@@ -51,25 +52,36 @@ pub record IsTidied {Q : Type 0} (u : Setup) (pass : ℕ) (file : File) (page : 
 abbrev pub write_done : ℕ → File → Page → List Entry → Entry
 write_done pass file page past = done pass past page.stream (call.NcWrite file page.page) reply.Unit
 
--- The page went out where it could, and then the write was done.
+-- The write was done.
 pub record IsEnded {Q : Type 0} (u : Setup) (pass : ℕ) (file : File) (page : Page) (c : BookState) (j k : JournalState Q)
     : Type 0 where
-  pub tidied : List Entry
-  pub only : IsOut pass page tidied
   pub placed : k ≡ record j {
-    entries = write_done pass file page (tidied ++ j.entries) ∷ (tidied ++ j.entries);
+    entries = write_done pass file page j.entries ∷ j.entries;
     reserved = j.reserved - 1;
     rows = k.rows;
   }
   pub stand : StandUnder u c k
 
--- Others went on, and then the pass took the page out where it could, and placed the entry of the write.
-pub record HasFinished (w : Standing) (file : File) (page : Page) (seen : List Entry) : Type 0 where
+-- Others went on, and then the pass took the page out where it could.
+pub record HasTidied (w : Standing) (page : Page) (seen : List Entry) : Type 0 where
   pub front : List Entry
   pub grows : Grows w front
   pub tidied : List Entry
   pub only : IsOut w.number page tidied
-  pub placed : seen ≡ write_done w.number file page (tidied ++ front) ∷ (tidied ++ front)
+  pub placed : seen ≡ tidied ++ front
+
+-- Others went on, and then the pass placed the entry of the write.
+pub record HasEndedWrite (w : Standing) (file : File) (page : Page) (seen : List Entry) : Type 0 where
+  pub front : List Entry
+  pub grows : Grows w front
+  pub placed : seen ≡ write_done w.number file page front ∷ front
+
+-- The pass took the page out where it could, and then placed the entry of the write; others went on before each.
+pub record HasFinished (w : Standing) (file : File) (page : Page) (seen : List Entry) : Type 0 where
+  pub then_was : Standing
+  pub went : Went w then_was
+  pub tidied : HasTidied w page then_was.seen
+  pub ended : HasEndedWrite then_was file page seen
 
 -- the entry of a noncached write of a page whose transfer failed
 abbrev pub write_failed : ℕ → File → Page → List Entry → Entry

@@ -6,7 +6,8 @@ ghost use Rattle.cc_model.specs.History.{history};
 ghost use Rattle.cc_model.specs.Setup.{Setup};
 ghost use Rattle.cc_step.specs.Step.{StandUnder};
 ghost use Rattle.cc_writes.specs.Hands.{HasBook, IsAtRest, Went};
-ghost use Rattle.cc_ranges.specs.Ends.{MayFinishHere, IsTidied, IsEnded, IsIdlePage, HasFinished, HasFailedSince, HasFailedWrite};
+ghost use Rattle.cc_ranges.specs.Ends.{MayFinishHere, IsTidied, IsEnded, IsIdlePage, HasTidied, HasEndedWrite, HasFinished};
+ghost use Rattle.cc_ranges.specs.Ends.{HasFailedSince, HasFailedWrite};
 
 use crate::dirty_page::is_dirty;
 use cc_book::Book;
@@ -16,7 +17,7 @@ use cc_turns::Turns;
 use std::alloc::Global;
 
 /// Ends a noncached write whose page is on the disk: the page goes out where it is resident and clean, no hold has it,
-/// and the journal has room, and then the write is done.
+/// and the journal has room, and then the write is done. Each is an event of its own, with the book kept between them.
 pub(crate) fn finish_at<T: Turns>(
     alloc: Global,
     turns: &mut T,
@@ -34,11 +35,48 @@ pub(crate) fn finish_at<T: Turns>(
     ensures went { Went (T.standing turns.old) (T.standing turns.new) }
     ensures left { HasFinished (T.standing turns.old) file page (T.standing turns.new).seen }
 {
+    tidy_at(turns, book, file, page);
+    done_at(alloc, turns, book, file, page);
+}
+
+// Takes the page out where it may go.
+fn tidy_at<T: Turns>(turns: &mut T, book: &mut Book, file: FileId, page: PageId)
+    requires book { HasBook (T.standing turns.old) page.stream book.old }
+    requires rest { IsAtRest (T.standing turns.old) page.stream }
+    requires none { (T.standing turns.old).in_flight ≡ 0 }
+    requires here { file.stream ≡ page.stream }
+    requires finishes { MayFinish (T.standing turns.old).seen (T.standing turns.old).number page.stream page.page }
+    ensures book { HasBook (T.standing turns.new) page.stream book.new }
+    ensures rest { IsAtRest (T.standing turns.new) page.stream }
+    ensures went { Went (T.standing turns.old) (T.standing turns.new) }
+    ensures finishes { MayFinish (T.standing turns.new).seen (T.standing turns.new).number page.stream page.page }
+    ensures left { HasTidied (T.standing turns.old) page (T.standing turns.new).seen }
+{
     // The stream's number is what says that the journal counts what the stream owes.
     let _stream = page.stream().number();
     let mut journal = turns.take_journal();
     let pass = turns.me();
-    finish(alloc, book, &mut journal, pass, file, page);
+    tidy(book, &mut journal, pass, file, page);
+    turns.give_journal(journal);
+}
+
+// Places the entry of the write. Its place is reserved.
+fn done_at<T: Turns>(alloc: Global, turns: &mut T, book: &mut Book, file: FileId, page: PageId)
+    requires book { HasBook (T.standing turns.old) page.stream book.old }
+    requires rest { IsAtRest (T.standing turns.old) page.stream }
+    requires none { (T.standing turns.old).in_flight ≡ 0 }
+    requires here { file.stream ≡ page.stream }
+    requires finishes { MayFinish (T.standing turns.old).seen (T.standing turns.old).number page.stream page.page }
+    ensures book { HasBook (T.standing turns.new) page.stream book.new }
+    ensures rest { IsAtRest (T.standing turns.new) page.stream }
+    ensures went { Went (T.standing turns.old) (T.standing turns.new) }
+    ensures left { HasEndedWrite (T.standing turns.old) file page (T.standing turns.new).seen }
+{
+    // The stream's number is what says that the journal counts what the stream owes.
+    let _stream = page.stream().number();
+    let mut journal = turns.take_journal();
+    let pass = turns.me();
+    end(alloc, book, &mut journal, pass, file, page);
     turns.give_journal(journal);
 }
 
@@ -71,8 +109,8 @@ pub(crate) fn fail_at<T: Turns>(turns: &mut T, book: &mut Book, file: FileId, pa
     turns.give_journal(journal);
 }
 
-// Takes the page out where it may go, and places the entry of the write.
-fn finish<Q>(
+// Places the entry of the write.
+fn end<Q>(
     alloc: Global,
     book: &mut Book,
     journal: &mut Journal<Q>,
@@ -86,7 +124,6 @@ fn finish<Q>(
         IsEnded u pass file page book.new journal.old journal.new }
     ensures stream { book.new.stream ≡ book.old.stream }
 {
-    tidy(book, journal, pass, file, page);
     let call = Call::NcWrite {
         file,
         page: page.page(),

@@ -1,10 +1,11 @@
 -- How a pass takes turns, and gives them.
-use Rattle.std.specs.Prelude.{◌≡◌, ℕ, suc, ◌+◌, ◌-◌, ◌^◌, Bool, true, false, min, List, ◌++◌}
+use Rattle.std.specs.Prelude.{◌≡◌, ℕ, suc, ◌+◌, ◌-◌, ◌^◌, Bool, true, false, min, List, [], ◌∷◌, ◌++◌}
 use Rattle.std.specs.declared.option.Option.TheVariants.{Some, None}
 use Rattle.std.specs.List.{AllByRecursion}
 use Rattle.cc_entry.specs.declared.entry.Entry.{Entry}
 use Rattle.cc_entry.specs.declared.entry.Entry.TheVariants as entry
 use Rattle.cc_journal.specs.Journal.{JournalState}
+use Rattle.cc_model.specs.Allowed.{owed_begin}
 use Rattle.cc_model.specs.Good.{IsGood}
 use Rattle.cc_model.specs.Passes.{is_mine}
 use Rattle.cc_model.specs.Room.{reserved_in}
@@ -63,10 +64,18 @@ abbrev pub may_be_of : ℕ → Entry → Bool
 may_be_of me (entry.Posted id) = true
 may_be_of me other = is_mine me other
 
--- The pass placed entries of its own, none of which needs a turn that it does not hold.
+-- Entries that are one event, newest first: none, one, or a noncached store with the begin that has to follow it at once.
+abbrev pub IsOneEvent : List Entry → Type 0
+IsOneEvent [] = Unit {0}
+IsOneEvent (e ∷ []) = Unit {0}
+IsOneEvent (begin ∷ (store ∷ [])) = owed_begin (store ∷ []) ≡ Some begin
+IsOneEvent (e ∷ (other ∷ (third ∷ more))) = ⊥
+
+-- The pass placed one event, of entries of its own, none of which needs a turn that it does not hold.
 pub record Adds (w : Standing) (seen : List Entry) : Type 0 where
   pub added : List Entry
   pub grew : seen ≡ added ++ w.seen
+  pub event : IsOneEvent added
   pub held : (t : Turn) → holds w.held t ≡ false → is_quiet t added ≡ true
   pub own : AllByRecursion (λ e. may_be_of w.number e ≡ true) added
 

@@ -100,8 +100,9 @@ pub trait Turns {
         ensures took { Takes with_journal (standing self.old) (standing self.new) }
         ensures stands { JournalStands Self.Post.posted (standing self.new) result };
 
-    /// Gives the turn of the journal, with the entries of the pass that it was given since. Each stands where the turns
-    /// that it needs are held. The pass has one entry at most reserved for what it has under way.
+    /// Gives the turn of the journal, with one event of the pass at most: an entry, or a noncached store with the begin of
+    /// its transfer. So others may see the journal between any two events. Each entry stands where the turns that it needs
+    /// are held. The pass has one entry at most reserved for what it has under way.
     fn give_journal(&mut self, journal: Journal<Self::Post>)
         requires held { (standing self.old).held.journal ≡ true }
         requires adds { Adds (standing self.old) journal.entries }

@@ -85,6 +85,7 @@ module _ {Q : Type 0} (posted : Q → Bool) (w v : Standing) (page : Page) (b : 
       given = visited posted w v w.in_flight (entry.WriteBegin pass page ∷ []) j k (holds_no_journal w page.stream b has) vis (record {
         kept = begun.placed ∙ ap (λ (n : ℕ). record j { entries = entry.WriteBegin pass page ∷ j.entries; reserved = n; rows = k.rows }) (sym (ap (λ x. x.reserved) begun.placed));
         good = subst (λ (past : List Entry). IsGood w.setup past) (sym (ap (λ x. x.entries) begun.placed)) (good pass);
+        event = tt;
         own = (eq-eqb pass w.number me, tt);
         held = quiet-page (record w.held { journal = true }) page (entry.WriteBegin pass page) (λ t. refl) (holds_the_book w page.stream b has) rest.device refl;
         reserved = ap (λ x. x.reserved) begun.placed

@@ -71,6 +71,7 @@ module _ {Q : Type 0} (posted : Q → Bool) (w v : Standing) (page : Page) (how 
     given = visited posted w v w.in_flight (entry.WriteEnd pass page how ∷ []) j k (holds_no_journal w page.stream b has) vis (record {
       kept = gains ∙ ap (λ (n : ℕ). record j { entries = entry.WriteEnd pass page how ∷ j.entries; reserved = n; rows = k.rows }) (sym (ap (λ x. x.reserved) gains));
       good = subst (λ (past : List Entry). IsGood w.setup past) (sym (ap (λ x. x.entries) gains)) good;
+      event = tt;
       own = (eq-eqb pass w.number me, tt);
       held = quiet-page (record w.held { journal = true }) page (entry.WriteEnd pass page how) (λ t. refl) (holds_the_book w page.stream b has) device refl;
       reserved = ap (λ x. x.reserved) gains

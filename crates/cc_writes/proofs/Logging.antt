@@ -76,6 +76,7 @@ pub logged : {Q : Type 0} (posted : Q → Bool) (w v : Standing) (e : Entry) (j 
 logged {Q = Q} posted w v e j k away reserved may vis placed = visited posted w v 0 (e ∷ []) j k away vis (record {
   kept = placed ∙ ap (λ (n : ℕ). record j { entries = e ∷ j.entries; reserved = n; rows = k.rows }) (sym (ap (λ x. x.reserved) placed));
   good = subst (λ (past : List Entry). IsGood w.setup past) (sym (ap (λ x. x.entries) placed)) (may_log-good w e j.entries may vis.grows vis.good);
+  event = tt;
   own = (may_log-own w e may, tt);
   held = may_log-quiet w e may;
   reserved = ap (λ x. x.reserved) placed

@@ -13,7 +13,7 @@ use Rattle.cc_model.specs.Room.{reserved_in}
 use Rattle.cc_model.specs.Turns.{Turn, is_quiet}
 use Rattle.cc_turns.specs.Standing.{Standing, Held, holds}
 use Rattle.cc_turns.specs.Journal.{JournalStands}
-use Rattle.cc_turns.specs.Takes.{Grows, Takes, Adds, with_journal, without_journal, may_be_of}
+use Rattle.cc_turns.specs.Takes.{Grows, Takes, Adds, IsOneEvent, with_journal, without_journal, may_be_of}
 use Rattle.cc_writes.specs.Hands.{WentWith}
 use Rattle.cc_writes.specs.Visits.{HasPlaced}
 
@@ -34,11 +34,12 @@ visiting posted w v j t js = record {
   reserved_is = js.reserved_is ∙ (ap (λ past. reserved_in past + v.in_flight + v.others) (sym js.entries_are) ∙ ap (λ (n : ℕ). reserved_in j.entries + n + v.others) (ap (λ x. x.in_flight) t.same));
 }
 
--- What a step on the journal left, so that it may be given: it added these entries, which are the pass's own and need no
--- turn that it does not hold, and so much is under way.
+-- What a step on the journal left, so that it may be given: it added these entries, which are one event, the pass's own,
+-- and need no turn that it does not hold; and so much is under way.
 pub record Stepping {Q : Type 0} (w v : Standing) (flight : ℕ) (added : List Entry) (j k : JournalState Q) : Type 0 where
   pub kept : k ≡ record j { entries = added ++ j.entries; reserved = k.reserved; rows = k.rows }
   pub good : IsGood w.setup k.entries
+  pub event : IsOneEvent added
   pub own : AllByRecursion (λ e. may_be_of w.number e ≡ true) added
   pub held : (t : Turn) → holds (record w.held { journal = true }) t ≡ false → is_quiet t added ≡ true
   pub reserved : k.reserved ≡ reserved_in k.entries + flight + v.others
@@ -55,6 +56,7 @@ visited {Q = Q} posted w v flight added j k away vis step = record {
   adds = record {
     added = added;
     grew = ap (λ x. x.entries) step.kept ∙ ap (λ past. added ++ past) vis.journal.entries_are;
+    event = step.event;
     held = λ t free. step.held t (subst (λ (h : Held). holds h t ≡ false) (ap (λ x. x.held) vis.taken.same) free);
     own = subst (λ (n : ℕ). AllByRecursion (λ e. may_be_of n e ≡ true) added) (sym (ap (λ x. x.number) vis.taken.same)) step.own;
   };
@@ -89,6 +91,7 @@ pub stepping-none : {Q : Type 0} (posted : Q → Bool) (w v : Standing) (flight 
 stepping-none {Q = Q} posted w v flight reserved j k vis same is = record {
   kept = subst (λ (x : JournalState Q). x ≡ record j { reserved = x.reserved; rows = x.rows }) (sym same) refl;
   good = subst (λ (x : JournalState Q). IsGood w.setup x.entries) (sym same) vis.good;
+  event = tt;
   own = tt;
   held = λ t free. is_quiet-none t;
   reserved = ap (λ x. x.reserved) same ∙ (is ∙ ap (λ (x : JournalState Q). reserved_in x.entries + flight + v.others) (sym same));

@@ -95,6 +95,7 @@ module _ {Q : Type 0} (posted : Q → Bool) (w v : Standing) (b c : BookState) (
     kept = same ∙ ap (λ (x : JournalState Q). record j { reserved = k.reserved; rows = x.rows }) (sym same);
     stand = stand;
     stream = stream;
+    event = tt;
     own = tt;
     held = λ t away. is_quiet-none t;
     reserved =
@@ -112,6 +113,7 @@ module _ {Q : Type 0} (posted : Q → Bool) (w v : Standing) (b c : BookState) (
     kept = placed;
     stand = stand;
     stream = stream;
+    event = tt;
     own = (own, tt);
     held = λ t away. is_quiet-unneeded t e [] (unneeded t away) ∙ is_quiet-none t;
     reserved =
@@ -139,6 +141,7 @@ module _ {Q : Type 0} (posted : Q → Bool) (w v : Standing) (b c : BookState) (
     kept = kept;
     stand = stand;
     stream = stream;
+    event = tt;
     own = (eq-eqb w.number w.number refl, tt);
     held = λ t away. is_quiet-unneeded t placed [] (unneeded t away) ∙ is_quiet-none t;
     reserved =

@@ -13,7 +13,7 @@ use Rattle.cc_model.specs.Turns.{Turn, is_quiet}
 use Rattle.cc_step.specs.Step.{StandUnder}
 use Rattle.cc_turns.specs.Standing.{Standing, Held, nothing, holds}
 use Rattle.cc_turns.specs.Journal.{JournalStands}
-use Rattle.cc_turns.specs.Takes.{Grows, Takes, Adds, with_journal, without_journal, may_be_of}
+use Rattle.cc_turns.specs.Takes.{Grows, Takes, Adds, IsOneEvent, with_journal, without_journal, may_be_of}
 use Rattle.cc_turns.proofs.Taking.{book_kept}
 use Rattle.cc_writes.specs.Hands.{HasBook, WentWith}
 
@@ -54,12 +54,13 @@ visiting posted w v s b j has t js = record {
   journal = js;
 }
 
--- What a step on the book and the journal left, so that both may be given: it added these entries, which are the pass's
--- own and need no turn that it does not hold, and so much is under way.
+-- What a step on the book and the journal left, so that both may be given: it added these entries, which are one event,
+-- the pass's own, and need no turn that it does not hold; and so much is under way.
 pub record Stepping {Q : Type 0} (w v : Standing) (s flight : ℕ) (added : List Entry) (c : BookState) (j k : JournalState Q) : Type 0 where
   pub kept : k ≡ record j { entries = added ++ j.entries; reserved = k.reserved; rows = k.rows }
   pub stand : StandUnder w.setup c k
   pub stream : c.stream ≡ s
+  pub event : IsOneEvent added
   pub own : AllByRecursion (λ e. may_be_of w.number e ≡ true) added
   pub held : (t : Turn) → holds (record w.held { journal = true }) t ≡ false → is_quiet t added ≡ true
   pub reserved : k.reserved ≡ reserved_in k.entries + flight + v.others
@@ -76,6 +77,7 @@ visited {Q = Q} posted w v s flight added b c j k has vis step = record {
   adds = record {
     added = added;
     grew = ap (λ x. x.entries) step.kept ∙ ap (λ past. added ++ past) vis.front_is;
+    event = step.event;
     held = λ t free. step.held t (subst (λ (h : Held). holds h t ≡ false) vis.held_is free);
     own = subst (λ (n : ℕ). AllByRecursion (λ e. may_be_of n e ≡ true) added) (sym vis.number_is) step.own;
   };

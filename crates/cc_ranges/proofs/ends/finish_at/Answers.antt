@@ -1,114 +1,26 @@
--- One visit: a write whose page is on the disk may end on the journal that was taken, and what its end placed is good
--- and is given with it.
-use Rattle.std.proofs.Common.{◌≡◌, ap, sym, ◌∙◌, subst, arith}
+-- The page goes out, and then the write ends: the pass goes on as it stood over both.
+use Rattle.std.specs.Prelude.{ℕ}
+use Rattle.std.proofs.Common.{ap, ◌∙◌, subst}
 use Rattle.cc_turns.specs.Standing.{Standing}
-use Rattle.cc_writes.specs.Hands.{HasBook, IsAtRest, WentWith}
-use Rattle.cc_writes.proofs.Visiting.{few-left}
-use Rattle.cc_writes.proofs.OneVisit.{visiting}
-use Rattle.cc_ranges.specs.Ends.{HasFinished}
-use Rattle.cc_ranges.proofs.EndVisits.{may-finish-visit, finishing}
+use Rattle.cc_writes.specs.Hands.{WentWith}
+use Rattle.cc_writes.proofs.OneVisit.{went-then}
 use Rattle.cc_ranges.proofs.ends.finish_at.Goals as goal
 
-pub finish-requires-clause-may : goal.finish-requires-clause-may
-finish-requires-clause-may g c =
-    let w = g.T.Turns.standing c.args.turns.now in
-    let v = g.T.Turns.standing c.take_journal-journal.new.self in
-    let posted = g.T.Post.PostRoutine.posted in
-    let j = c.take_journal-journal.result in
-    let vis = visiting posted w v j c.take_journal-journal.ensures.took c.take_journal-journal.ensures.stands in
-    let me : c.me-pass.result ≡ w.number = c.me-pass.ensures ∙ ap (λ (y : Standing). y.number) c.take_journal-journal.ensures.took.same in
-    (w.setup, may-finish-visit posted w v c.args.file c.args.page c.args.book.now j c.requires.book c.requires.rest c.requires.here vis c.me-pass.result me c.requires.finishes)
-
-pub finish-requires-clause-stream : goal.finish-requires-clause-stream
-finish-requires-clause-stream g c =
-    let w = g.T.Turns.standing c.args.turns.now in
-    let v = g.T.Turns.standing c.take_journal-journal.new.self in
-    let posted = g.T.Post.PostRoutine.posted in
-    let j = c.take_journal-journal.result in
-    let vis = visiting posted w v j c.take_journal-journal.ensures.took c.take_journal-journal.ensures.stands in
-    let me : c.me-pass.result ≡ w.number = c.me-pass.ensures ∙ ap (λ (y : Standing). y.number) c.take_journal-journal.ensures.took.same in
-    sym c.requires.book.stream
-
-pub give_journal-requires-clause-adds : goal.give_journal-requires-clause-adds
-give_journal-requires-clause-adds g c =
-    let w = g.T.Turns.standing c.args.turns.now in
-    let v = g.T.Turns.standing c.take_journal-journal.new.self in
-    let posted = g.T.Post.PostRoutine.posted in
-    let j = c.take_journal-journal.result in
-    let vis = visiting posted w v j c.take_journal-journal.ensures.took c.take_journal-journal.ensures.stands in
-    let me : c.me-pass.result ≡ w.number = c.me-pass.ensures ∙ ap (λ (y : Standing). y.number) c.take_journal-journal.ensures.took.same in
-    let e = finishing posted w v c.args.file c.args.page c.args.book.now j c.requires.book c.requires.rest c.requires.here vis c.me-pass.result me c.requires.finishes
-    c.finish.new.book c.finish.new.journal c.finish.ensures.stream (c.finish.ensures.ended w.setup (may-finish-visit posted w v c.args.file c.args.page c.args.book.now j c.requires.book c.requires.rest c.requires.here vis c.me-pass.result me c.requires.finishes)) in
-    e.adds
-
-pub give_journal-requires-clause-stands : goal.give_journal-requires-clause-stands
-give_journal-requires-clause-stands g c =
-    let w = g.T.Turns.standing c.args.turns.now in
-    let v = g.T.Turns.standing c.take_journal-journal.new.self in
-    let posted = g.T.Post.PostRoutine.posted in
-    let j = c.take_journal-journal.result in
-    let vis = visiting posted w v j c.take_journal-journal.ensures.took c.take_journal-journal.ensures.stands in
-    let me : c.me-pass.result ≡ w.number = c.me-pass.ensures ∙ ap (λ (y : Standing). y.number) c.take_journal-journal.ensures.took.same in
-    let e = finishing posted w v c.args.file c.args.page c.args.book.now j c.requires.book c.requires.rest c.requires.here vis c.me-pass.result me c.requires.finishes
-    c.finish.new.book c.finish.new.journal c.finish.ensures.stream (c.finish.ensures.ended w.setup (may-finish-visit posted w v c.args.file c.args.page c.args.book.now j c.requires.book c.requires.rest c.requires.here vis c.me-pass.result me c.requires.finishes)) in
-    e.journal
-
-pub give_journal-requires-clause-few : goal.give_journal-requires-clause-few
-give_journal-requires-clause-few g c =
-    let w = g.T.Turns.standing c.args.turns.now in
-    let v = g.T.Turns.standing c.take_journal-journal.new.self in
-    let posted = g.T.Post.PostRoutine.posted in
-    let j = c.take_journal-journal.result in
-    let vis = visiting posted w v j c.take_journal-journal.ensures.took c.take_journal-journal.ensures.stands in
-    let me : c.me-pass.result ≡ w.number = c.me-pass.ensures ∙ ap (λ (y : Standing). y.number) c.take_journal-journal.ensures.took.same in
-    let e = finishing posted w v c.args.file c.args.page c.args.book.now j c.requires.book c.requires.rest c.requires.here vis c.me-pass.result me c.requires.finishes
-    c.finish.new.book c.finish.new.journal c.finish.ensures.stream (c.finish.ensures.ended w.setup (may-finish-visit posted w v c.args.file c.args.page c.args.book.now j c.requires.book c.requires.rest c.requires.here vis c.me-pass.result me c.requires.finishes)) in
-    few-left w.in_flight e.went (omega (arith, c.requires.none))
-
-pub returns-clause-book : goal.returns-clause-book
-returns-clause-book g c =
-    let w = g.T.Turns.standing c.args.turns.now in
-    let v = g.T.Turns.standing c.take_journal-journal.new.self in
-    let posted = g.T.Post.PostRoutine.posted in
-    let j = c.take_journal-journal.result in
-    let vis = visiting posted w v j c.take_journal-journal.ensures.took c.take_journal-journal.ensures.stands in
-    let me : c.me-pass.result ≡ w.number = c.me-pass.ensures ∙ ap (λ (y : Standing). y.number) c.take_journal-journal.ensures.took.same in
-    let e = finishing posted w v c.args.file c.args.page c.args.book.now j c.requires.book c.requires.rest c.requires.here vis c.me-pass.result me c.requires.finishes
-    c.finish.new.book c.finish.new.journal c.finish.ensures.stream (c.finish.ensures.ended w.setup (may-finish-visit posted w v c.args.file c.args.page c.args.book.now j c.requires.book c.requires.rest c.requires.here vis c.me-pass.result me c.requires.finishes)) in
-    subst (λ (x : Standing). HasBook x c.args.page.stream c.finish.new.book) (sym c.give_journal.ensures) e.book
-
-pub returns-clause-rest : goal.returns-clause-rest
-returns-clause-rest g c =
-    let w = g.T.Turns.standing c.args.turns.now in
-    let v = g.T.Turns.standing c.take_journal-journal.new.self in
-    let posted = g.T.Post.PostRoutine.posted in
-    let j = c.take_journal-journal.result in
-    let vis = visiting posted w v j c.take_journal-journal.ensures.took c.take_journal-journal.ensures.stands in
-    let me : c.me-pass.result ≡ w.number = c.me-pass.ensures ∙ ap (λ (y : Standing). y.number) c.take_journal-journal.ensures.took.same in
-    let e = finishing posted w v c.args.file c.args.page c.args.book.now j c.requires.book c.requires.rest c.requires.here vis c.me-pass.result me c.requires.finishes
-    c.finish.new.book c.finish.new.journal c.finish.ensures.stream (c.finish.ensures.ended w.setup (may-finish-visit posted w v c.args.file c.args.page c.args.book.now j c.requires.book c.requires.rest c.requires.here vis c.me-pass.result me c.requires.finishes)) in
-    subst (λ (x : Standing). IsAtRest x c.args.page.stream) (sym c.give_journal.ensures) e.rest
+pub done_at-requires-clause-none : goal.done_at-requires-clause-none
+done_at-requires-clause-none g c κs within = ap (λ (y : Standing). y.in_flight) c.tidy_at.ensures.went.same ∙ c.requires.none
 
 pub returns-clause-went : goal.returns-clause-went
 returns-clause-went g c =
     let w = g.T.Turns.standing c.args.turns.now in
-    let v = g.T.Turns.standing c.take_journal-journal.new.self in
-    let posted = g.T.Post.PostRoutine.posted in
-    let j = c.take_journal-journal.result in
-    let vis = visiting posted w v j c.take_journal-journal.ensures.took c.take_journal-journal.ensures.stands in
-    let me : c.me-pass.result ≡ w.number = c.me-pass.ensures ∙ ap (λ (y : Standing). y.number) c.take_journal-journal.ensures.took.same in
-    let e = finishing posted w v c.args.file c.args.page c.args.book.now j c.requires.book c.requires.rest c.requires.here vis c.me-pass.result me c.requires.finishes
-    c.finish.new.book c.finish.new.journal c.finish.ensures.stream (c.finish.ensures.ended w.setup (may-finish-visit posted w v c.args.file c.args.page c.args.book.now j c.requires.book c.requires.rest c.requires.here vis c.me-pass.result me c.requires.finishes)) in
-    subst (λ (x : Standing). WentWith w.in_flight w x) (sym c.give_journal.ensures) e.went
+    let x = g.T.Turns.standing c.tidy_at.new.turns in
+    let y = g.T.Turns.standing c.done_at.new.turns in
+    subst (λ (n : ℕ). WentWith n w y) (ap (λ (z : Standing). z.in_flight) c.tidy_at.ensures.went.same)
+    (went-then w.in_flight x.in_flight w x y c.tidy_at.ensures.went c.done_at.ensures.went)
 
 pub returns-clause-left : goal.returns-clause-left
-returns-clause-left g c =
-    let w = g.T.Turns.standing c.args.turns.now in
-    let v = g.T.Turns.standing c.take_journal-journal.new.self in
-    let posted = g.T.Post.PostRoutine.posted in
-    let j = c.take_journal-journal.result in
-    let vis = visiting posted w v j c.take_journal-journal.ensures.took c.take_journal-journal.ensures.stands in
-    let me : c.me-pass.result ≡ w.number = c.me-pass.ensures ∙ ap (λ (y : Standing). y.number) c.take_journal-journal.ensures.took.same in
-    let e = finishing posted w v c.args.file c.args.page c.args.book.now j c.requires.book c.requires.rest c.requires.here vis c.me-pass.result me c.requires.finishes
-    c.finish.new.book c.finish.new.journal c.finish.ensures.stream (c.finish.ensures.ended w.setup (may-finish-visit posted w v c.args.file c.args.page c.args.book.now j c.requires.book c.requires.rest c.requires.here vis c.me-pass.result me c.requires.finishes)) in
-    subst (λ (x : Standing). HasFinished w c.args.file c.args.page x.seen) (sym c.give_journal.ensures) e.left
+returns-clause-left g c = record {
+  then_was = g.T.Turns.standing c.tidy_at.new.turns;
+  went = c.tidy_at.ensures.went;
+  tidied = c.tidy_at.ensures.left;
+  ended = c.done_at.ensures.left;
+}
