@@ -2,5 +2,5 @@ pub mod LineSteps
 pub mod PlainReads
 pub mod PlainPages
 pub mod ClosedMaps
-pub mod OneCaller
+pub mod AskedLines
 pub mod Words

@@ -3,6 +3,7 @@
 use Rattle.std.specs.Prelude.{ℕ, List, []}
 use Rattle.cc_entry.specs.declared.call.Call.TheVariants as call
 use Rattle.cc_entry.specs.declared.answer.Answer.{Answer}
+use Rattle.cc_entry.specs.declared.answer.Answer.TheVariants as answer
 use Rattle.cc_script.specs.declared.script.Action.{Action}
 use Rattle.cc_script.specs.declared.script.Action.TheVariants as action
 use Rattle.cc_model.specs.Setup.{Setup}
@@ -61,102 +62,21 @@ Served u me bindings other told old new = ⊥
 
 -- the caller's bindings after the line
 abbrev pub bindings_after : Action → Answer → List Binding → List Binding
-bindings_after (action.Initialise file sizes quota temporary) told bindings = bindings
-bindings_after (action.Uninitialise file truncate) told bindings = bindings
-bindings_after (action.CopyRead file at len wait) told bindings = bindings
-bindings_after (action.CopyWrite file at bytes) told bindings = bindings
-bindings_after (action.Zero file span) told bindings = bindings
 bindings_after (action.Map file at len word) told bindings = bound word kind.Map told bindings
 bindings_after (action.PinRead file at len word exclusive) told bindings = bound word kind.Pin told bindings
 bindings_after (action.PinMapped word exclusive) told bindings = pinned word told bindings
 bindings_after (action.PreparePin file at len word zero exclusive) told bindings = bound word kind.Pin told bindings
-bindings_after (action.HeldRead word at len) told bindings = bindings
-bindings_after (action.PinnedWrite word at bytes) told bindings = bindings
-bindings_after (action.SetDirty word lsn) told bindings = bindings
-bindings_after (action.Unpin word) told bindings = bindings
 bindings_after (action.Repin word made) told bindings = bound made kind.Repin told bindings
-bindings_after (action.UnpinRepinned word through) told bindings = bindings
 bindings_after (action.MdlRead file at len word) told bindings = bound word kind.ReadChain told bindings
 bindings_after (action.MdlWrite file at len word) told bindings = bound word kind.WriteChain told bindings
-bindings_after (action.MdlBytes word at len) told bindings = bindings
-bindings_after (action.MdlStore word at bytes) told bindings = bindings
-bindings_after (action.MdlDone word) told bindings = bindings
-bindings_after (action.MdlAbort word) told bindings = bindings
-bindings_after (action.SetSizes file allocation size) told bindings = bindings
-bindings_after (action.State file) told bindings = bindings
-bindings_after (action.Flush file span) told bindings = bindings
-bindings_after (action.Purge file span) told bindings = bindings
-bindings_after (action.NcRead file at len) told bindings = bindings
-bindings_after (action.NcWrite file at bytes) told bindings = bindings
-bindings_after action.IsDirtyData told bindings = bindings
-bindings_after (action.DirtyPages handle) told bindings = bindings
-bindings_after (action.LsnForFile file) told bindings = bindings
-bindings_after (action.SetLog file handle) told bindings = bindings
-bindings_after (action.Append handle bytes) told bindings = bindings
-bindings_after (action.LogFlush handle lsn) told bindings = bindings
-bindings_after (action.SetGranularity file bytes) told bindings = bindings
-bindings_after (action.SetAttributes file no_read_ahead no_write_behind) told bindings = bindings
-bindings_after (action.SetThreshold file pages) told bindings = bindings
-bindings_after (action.NcReadPage file page) told bindings = bindings
-bindings_after (action.NcStorePage file page bytes) told bindings = bindings
-bindings_after (action.NcWritePage file page) told bindings = bindings
-bindings_after (action.Fill page) told bindings = bindings
-bindings_after (action.Drop page) told bindings = bindings
-bindings_after (action.WriteBegin page) told bindings = bindings
-bindings_after (action.WriteEnd page) told bindings = bindings
-bindings_after (action.Sync stream) told bindings = bindings
-bindings_after action.Scan told bindings = bindings
-bindings_after (action.CanWrite file bytes) told bindings = bindings
-bindings_after (action.Defer file bytes retrying) told bindings = bindings
-bindings_after action.Post told bindings = bindings
+bindings_after other told bindings = bindings
+
+-- the deferred writes that an answer names
+abbrev pub ids_posted : Answer → List ℕ
+ids_posted (answer.Posts ids) = ids
+ids_posted other = []
 
 -- the deferred writes that the line posted
 abbrev pub posted_by : Action → Answer → List ℕ
-posted_by (action.Initialise file sizes quota temporary) told = []
-posted_by (action.Uninitialise file truncate) told = []
-posted_by (action.CopyRead file at len wait) told = []
-posted_by (action.CopyWrite file at bytes) told = []
-posted_by (action.Zero file span) told = []
-posted_by (action.Map file at len word) told = []
-posted_by (action.PinRead file at len word exclusive) told = []
-posted_by (action.PinMapped word exclusive) told = []
-posted_by (action.PreparePin file at len word zero exclusive) told = []
-posted_by (action.HeldRead word at len) told = []
-posted_by (action.PinnedWrite word at bytes) told = []
-posted_by (action.SetDirty word lsn) told = []
-posted_by (action.Unpin word) told = []
-posted_by (action.Repin word made) told = []
-posted_by (action.UnpinRepinned word through) told = []
-posted_by (action.MdlRead file at len word) told = []
-posted_by (action.MdlWrite file at len word) told = []
-posted_by (action.MdlBytes word at len) told = []
-posted_by (action.MdlStore word at bytes) told = []
-posted_by (action.MdlDone word) told = []
-posted_by (action.MdlAbort word) told = []
-posted_by (action.SetSizes file allocation size) told = []
-posted_by (action.State file) told = []
-posted_by (action.Flush file span) told = []
-posted_by (action.Purge file span) told = []
-posted_by (action.NcRead file at len) told = []
-posted_by (action.NcWrite file at bytes) told = []
-posted_by action.IsDirtyData told = []
-posted_by (action.DirtyPages handle) told = []
-posted_by (action.LsnForFile file) told = []
-posted_by (action.SetLog file handle) told = []
-posted_by (action.Append handle bytes) told = []
-posted_by (action.LogFlush handle lsn) told = []
-posted_by (action.SetGranularity file bytes) told = []
-posted_by (action.SetAttributes file no_read_ahead no_write_behind) told = []
-posted_by (action.SetThreshold file pages) told = []
-posted_by (action.NcReadPage file page) told = []
-posted_by (action.NcStorePage file page bytes) told = []
-posted_by (action.NcWritePage file page) told = []
-posted_by (action.Fill page) told = []
-posted_by (action.Drop page) told = []
-posted_by (action.WriteBegin page) told = []
-posted_by (action.WriteEnd page) told = []
-posted_by (action.Sync stream) told = []
-posted_by action.Scan told = []
-posted_by (action.CanWrite file bytes) told = []
-posted_by (action.Defer file bytes retrying) told = []
-posted_by action.Post told = []
+posted_by action.Post told = ids_posted told
+posted_by other told = []

@@ -26,7 +26,7 @@ use Rattle.cc_pieces.specs.Phases.{is_of_phase}
 use Rattle.cc_pieces.specs.Rooms.{is_alone}
 use Rattle.cc_pieces.specs.Runs.{Ran, asked_of, bindings_of}
 use Rattle.cc_pieces.proofs.LineSteps.{ran-idle}
-use Rattle.cc_pieces.proofs.OneCaller.{asked-none}
+use Rattle.cc_pieces.proofs.AskedLines.{asked-none}
 use Rattle.cc_turns.specs.Desk.{DeskState, Tells, tells_of, standing_of}
 use Rattle.cc_turns.specs.Places.{IsRoomFor}
 use Rattle.cc_turns.specs.Slots.{setup_in}

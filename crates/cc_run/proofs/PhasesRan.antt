@@ -7,6 +7,8 @@ use Rattle.std.proofs.lemmas.List.Folds.{list_all-append}
 use Rattle.cc_entry.specs.declared.answer.LineReply.{LineReply}
 use Rattle.cc_entry.specs.declared.entry.Entry.{Entry}
 use Rattle.cc_script.specs.declared.script.ActionLine.{ActionLine}
+use Rattle.cc_script.specs.declared.script.Mode.TheVariants as mode
+use Rattle.cc_script.specs.Modes.{IsOfMode}
 use Rattle.cc_script.specs.declared.script.Script.{Script}
 use Rattle.cc_script.specs.Within.{IsLineWithin, IsWithin}
 use Rattle.cc_model.specs.Setup.{Setup}
@@ -15,7 +17,7 @@ use Rattle.cc_pieces.specs.Rooms.{is_alone, room_limit}
 use Rattle.cc_pieces.specs.Runs.{Ran, asked_of}
 use Rattle.cc_pieces.specs.Phases.{Plan, PhaseRan, PhasesRan, is_before_phase, is_of_phase, lines_before}
 use Rattle.cc_pieces.specs.Explained.{IsExplained}
-use Rattle.cc_pieces.proofs.OneCaller.{asked-none, posted-none}
+use Rattle.cc_pieces.proofs.AskedLines.{asked-none, posted-none}
 use Rattle.cc_run.specs.Lines.{StreamsOpened, after_lines, asked_by, given_of, lines_answered}
 use Rattle.cc_run.specs.Phases.{PhaseLeft, PhasesLeft, PhasesServed}
 use Rattle.cc_run.proofs.Lists.{all-map, all-front, all-back, all-join}
@@ -183,9 +185,9 @@ module _ (u : Setup) (all : List ActionLine) (answers : List LineReply) (few : A
       (phases-ran n 0 all [] answers [] old new new (sym (append-nil all)) (sym (append-nil answers)) tt left (refl, refl, refl))
 
 -- What the streams and the phases of a script left, one after the other, explains all answers.
-explained : (u : Setup) (script : Script) (between replies : List LineReply) (begun past : List Entry) → IsWithin script → StreamsOpened u 0 script.streams [] between [] begun → ((me : ℕ) → me ≢ 0 → IsIdle me [] begun) → PhasesServed u script.phases script.lines between replies begun past → IsExplained u (given_of script) (lines_answered replies) past
+explained : (u : Setup) (script : Script) (between replies : List LineReply) (begun past : List Entry) → IsWithin script → IsOfMode mode.Run script → StreamsOpened u 0 script.streams [] between [] begun → ((me : ℕ) → me ≢ 0 → IsIdle me [] begun) → PhasesServed u script.phases script.lines between replies begun past → IsExplained u (given_of script) (lines_answered replies) past
 unfolding IsDistinct
-explained u script between replies begun past within opened alone served = record {
+explained u script between replies begun past within of_mode opened alone served = record {
   setup = opened.answers;
   answers = served.answers;
   begun = begun;
@@ -198,9 +200,9 @@ explained u script between replies begun past within opened alone served = recor
       rw (within.header.no_ticks, within.header.no_aheads) (all-ran u script.lines served.answers
       (all-map (IsLineWithin script.streams script.phases) (λ line. line.caller ≤ 16) script.lines (λ line is. is.last_caller) within.lines)
       script.phases begun past served.left);
-  posted_once = rw (posted-none (asked_of (λ line. true) script.lines served.answers)) tt;
+  posted_once = rw (posted-none script.lines served.answers of_mode.lines) tt;
 }
 
-pub run-explained : (u v : Setup) (script : Script) (first between replies : List LineReply) (start begun past : List Entry) → IsWithin script → first ≡ [] → start ≡ [] → v ≡ u → StreamsOpened u 0 script.streams first between start begun → ((me : ℕ) → me ≢ 0 → IsIdle me start begun) → PhasesServed v script.phases script.lines between replies begun past → IsExplained u (given_of script) (lines_answered replies) past
-run-explained u v script first between replies start begun past within none empty same opened alone served =
-    explained u script between replies begun past within (rw (none, empty) at opened) (rw empty at alone) (rw same at served)
+pub run-explained : (u v : Setup) (script : Script) (first between replies : List LineReply) (start begun past : List Entry) → IsWithin script → IsOfMode mode.Run script → first ≡ [] → start ≡ [] → v ≡ u → StreamsOpened u 0 script.streams first between start begun → ((me : ℕ) → me ≢ 0 → IsIdle me start begun) → PhasesServed v script.phases script.lines between replies begun past → IsExplained u (given_of script) (lines_answered replies) past
+run-explained u v script first between replies start begun past within of_mode none empty same opened alone served =
+    explained u script between replies begun past within of_mode (rw (none, empty) at opened) (rw empty at alone) (rw same at served)

@@ -63,5 +63,5 @@ returns-clause-table g c =
 pub returns-clause-explained : goal.returns-clause-explained
 returns-clause-explained g c =
     rw c.end-disks.ensures.journal (run-explained _ _ c.args.script.now c.args.replies.items c.open_streams.new.replies.items c.serve_phases-desk.new.replies.items c.args.desk.last.entries c.open_streams.new.desk.last.entries c.serve_phases-desk.result.last.entries
-    c.requires.within c.requires.none c.requires.fresh.journal_is.empty.0 c.open_streams.ensures.run.setup (rw c.as_slice.ensures.same at c.open_streams.ensures.opened) c.open_streams.ensures.alone
+    c.requires.within c.requires.of_mode c.requires.none c.requires.fresh.journal_is.empty.0 c.open_streams.ensures.run.setup (rw c.as_slice.ensures.same at c.open_streams.ensures.opened) c.open_streams.ensures.alone
     (rw c.as_slice-2.ensures at c.serve_phases-desk.ensures.served))
