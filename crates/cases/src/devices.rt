@@ -145,6 +145,15 @@ impl<'a> LogFile for CaseLog<'a> {
         }
         self.inner.flush(lsn)
     }
+
+    fn entry(&mut self, n: u64, out: &mut Vec<u8>) -> Result<Option<u64>, Stop> {
+        match self.calls.next(Kind::Entry) {
+            Fate::Good => self.inner.stop_after(u64::MAX),
+            Fate::Fails => self.inner.stop_after(0),
+            Fate::NoMemory => return Err(Stop::NoMemory),
+        }
+        self.inner.entry(n, out)
+    }
 }
 
 /// A source of a script's bytes.

@@ -181,6 +181,7 @@ fn logs<'a>(
         let fails = LogFails {
             appends: Vec::new(alloc),
             flushes: Vec::new(alloc),
+            reads: Vec::new(alloc),
         };
         logs.push(CaseLog {
             calls: Calls::new(Device::Log(number), stage),

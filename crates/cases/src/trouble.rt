@@ -12,6 +12,8 @@ pub enum Kind {
     Sync,
     Append,
     Flush,
+    /// The read of a log's entry.
+    Entry,
     Take,
     Put,
 }
@@ -21,7 +23,7 @@ impl Kind {
     pub const OF_DISK: [Kind; 3] = [Kind::Read, Kind::Write, Kind::Sync];
 
     /// The kinds of a log's calls.
-    pub const OF_LOG: [Kind; 2] = [Kind::Append, Kind::Flush];
+    pub const OF_LOG: [Kind; 3] = [Kind::Append, Kind::Flush, Kind::Entry];
 
     /// The kind that a word names.
     pub fn named(word: &str) -> Option<Kind> {
@@ -31,6 +33,7 @@ impl Kind {
             "sync" => Some(Kind::Sync),
             "append" => Some(Kind::Append),
             "flush" => Some(Kind::Flush),
+            "entry" => Some(Kind::Entry),
             "take" => Some(Kind::Take),
             "put" => Some(Kind::Put),
             _ => None,
@@ -44,7 +47,7 @@ impl Kind {
         match self {
             Kind::Read | Kind::Append | Kind::Take | Kind::Put => 0,
             Kind::Write | Kind::Flush => 1,
-            Kind::Sync => 2,
+            Kind::Sync | Kind::Entry => 2,
         }
     }
 }
@@ -57,6 +60,7 @@ impl fmt::Display for Kind {
             Kind::Sync => "sync",
             Kind::Append => "append",
             Kind::Flush => "flush",
+            Kind::Entry => "entry",
             Kind::Take => "take",
             Kind::Put => "put",
         };
@@ -78,7 +82,7 @@ impl Device {
     pub fn has(self, kind: Kind) -> bool {
         match self {
             Device::Disk(_) => matches!(kind, Kind::Read | Kind::Write | Kind::Sync),
-            Device::Log(_) => matches!(kind, Kind::Append | Kind::Flush),
+            Device::Log(_) => matches!(kind, Kind::Append | Kind::Flush | Kind::Entry),
             Device::Source => kind == Kind::Take,
             Device::Sink => kind == Kind::Put,
         }

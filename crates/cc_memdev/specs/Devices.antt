@@ -18,6 +18,7 @@ pub record LogState : Type 0 where
   pub log : Log
   pub appends : CallPlan
   pub flushes : CallPlan
+  pub reads : CallPlan
   pub stop : StopPlan
   pub faults : ℕ
 

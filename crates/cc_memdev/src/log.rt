@@ -1,7 +1,8 @@
 //! A log in memory, of which chosen calls fail.
 
-ghost use Rattle.std.specs.Prelude.{◌≡◌, ◌+◌, ◌-◌, ◌^◌, ◌↔◌, true, false, max, map, [], ◌∷◌, ◌++◌, Some, None, IsOk, OnOk, OnErr};
+ghost use Rattle.std.specs.Prelude.{◌≡◌, ◌+◌, ◌-◌, ◌^◌, ◌↔◌, true, false, max, map, [], ◌∷◌, ◌++◌, Some, None, IfOk, IsOk, OnOk, OnErr};
 ghost use Rattle.cc_traits.specs.Stop.{faults_in, OnFailed, OnNoMemory};
+ghost use Rattle.cc_traits.specs.Log.{Holds};
 ghost use Rattle.cc_memdev.specs.Calls.{after_call, after_any_call, fails_next};
 ghost use Rattle.cc_memdev.specs.Devices.{LogState, entries_of, greatest_lsn};
 
@@ -15,6 +16,8 @@ use std::marker::Model;
 pub struct LogFails {
     pub appends: Vec<u64>,
     pub flushes: Vec<u64>,
+    /// Reads of an entry.
+    pub reads: Vec<u64>,
 }
 
 /// A log in memory.
@@ -25,6 +28,7 @@ pub struct MemLog {
     durable: u64,
     appends: Calls,
     flushes: Calls,
+    reads: Calls,
     all: AllCalls,
     faults: Faults,
 }
@@ -36,6 +40,7 @@ impl Model for MemLog {
       log = record { entries = entries_of l.entries.items; durable = l.durable };
       appends = l.appends;
       flushes = l.flushes;
+      reads = l.reads;
       stop = l.all;
       faults = l.faults;
     } };
@@ -58,6 +63,7 @@ impl MemLog {
         ensures log { result.log ≡ record { entries = []; durable = 0 } }
         ensures appends { result.appends ≡ record { fails = fails.appends.items; made = 0 } }
         ensures flushes { result.flushes ≡ record { fails = fails.flushes.items; made = 0 } }
+        ensures reads { result.reads ≡ record { fails = fails.reads.items; made = 0 } }
         ensures no_stop { result.stop ≡ record { after = None; made = 0 } }
         ensures no_fault { result.faults ≡ 0 }
     {
@@ -71,6 +77,7 @@ impl MemLog {
         ensures durable { result.log.durable ≡ greatest_lsn 0 (entries_of entries.items) }
         ensures appends { result.appends ≡ record { fails = fails.appends.items; made = 0 } }
         ensures flushes { result.flushes ≡ record { fails = fails.flushes.items; made = 0 } }
+        ensures reads { result.reads ≡ record { fails = fails.reads.items; made = 0 } }
         ensures no_stop { result.stop ≡ record { after = None; made = 0 } }
         ensures no_fault { result.faults ≡ 0 }
     {
@@ -81,6 +88,7 @@ impl MemLog {
             durable,
             appends: Calls::new(fails.appends),
             flushes: Calls::new(fails.flushes),
+            reads: Calls::new(fails.reads),
             all: AllCalls::new(),
             faults: Faults::new(),
         }
@@ -165,5 +173,30 @@ impl LogFile for MemLog {
         }
         self.durable = self.durable.max(lsn);
         Ok(())
+    }
+
+    fn entry(&mut self, n: u64, out: &mut Vec<u8>) -> Result<Option<u64>, Stop>
+        ensures held { IfOk result (λ lsn. Holds n lsn out.new.items self.old.log) }
+        ensures state { self.new ≡ record self.old {
+          reads = after_call self.old.reads;
+          stop = after_any_call self.old.stop;
+          faults = self.old.faults + faults_in result;
+        } }
+        ensures ok_unplanned { OnOk result (fails_next self.old.reads self.old.stop ≡ false) }
+        ensures failed_planned { OnFailed result (fails_next self.old.reads self.old.stop ≡ true) }
+    {
+        let listed = self.reads.is_next_listed();
+        let stopped = self.all.is_next_stopped();
+        if listed || stopped {
+            return Err(self.faults.raise());
+        }
+        match self.entries.get(n as usize) {
+            Some(entry) => {
+                out.clear();
+                out.extend_from_slice(&entry.1)?;
+                Ok(Some(entry.0))
+            }
+            None => Ok(None),
+        }
     }
 }

@@ -26,6 +26,7 @@ fn log(alloc: Global) -> MemLog {
     let fails = LogFails {
         appends: Vec::new(alloc),
         flushes: Vec::new(alloc),
+        reads: Vec::new(alloc),
     };
     MemLog::new(alloc, fails)
 }

@@ -56,6 +56,7 @@ fn a_log_takes_5000_appends(rt: HostRuntime) -> Result<(), Fail> {
     let fails = LogFails {
         appends: vec![in rt.alloc(); 5001]?,
         flushes: Vec::new(rt.alloc()),
+        reads: vec![in rt.alloc(); 3]?,
     };
     let mut log = MemLog::new(rt.alloc(), fails);
     for lsn in 1..5001 {
@@ -68,6 +69,11 @@ fn a_log_takes_5000_appends(rt: HostRuntime) -> Result<(), Fail> {
     );
     let mut boxed: Box<dyn LogFile + Send> = Box::new(rt.alloc(), log)?;
     assert_eq!(rt; append_and_flush(&mut boxed, 5002), Ok(()));
+    let mut bytes = Vec::new(rt.alloc());
+    assert_eq!(rt; boxed.entry(5000, &mut bytes), Ok(Some(5002)));
+    assert_eq!(rt; bytes.as_slice(), b"ab");
+    assert_eq!(rt; boxed.entry(5001, &mut bytes), Ok(None));
+    assert_eq!(rt; boxed.entry(0, &mut bytes), Err(Stop::Failed));
     Ok(())
 }
 

@@ -10,6 +10,7 @@ fn a_log_gives_lsns_until_none_is_left(rt: HostRuntime) -> Result<(), Fail> {
     let fails = LogFails {
         appends: Vec::new(rt.alloc()),
         flushes: vec![in rt.alloc(); 1]?,
+        reads: Vec::new(rt.alloc()),
     };
     let mut log = LogTurn::new(2, MemLog::new(rt.alloc(), fails));
     let last = Lsn::new(1 << 62).ok_or("no last LSN")?;

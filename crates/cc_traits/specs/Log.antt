@@ -1,5 +1,5 @@
 -- What a log in memory tells: its entries, and up to which LSN they are on the medium.
-use Rattle.std.specs.Prelude.{◌≡◌, ℕ, ◌≤◌, List, [], ◌∷◌, ◌++◌}
+use Rattle.std.specs.Prelude.{◌≡◌, ℕ, ◌≤◌, List, [], ◌∷◌, ◌++◌, Option, Some, None, slice_get}
 
 -- one entry of a log
 pub record LogEntry : Type 0 where
@@ -26,3 +26,12 @@ pub record Flushed (lsn : ℕ) (old new : Log) : Type 0 where
   pub entries : new.entries ≡ old.entries
   pub durable : old.durable ≤ new.durable
   pub reached : lsn ≤ new.durable
+
+-- an entry has this LSN and these bytes; where there is none, there is no LSN
+abbrev pub IsRead : Option LogEntry → Option ℕ → List ℕ → Type 0
+IsRead (Some entry) lsn bytes = (lsn ≡ Some entry.lsn) × (bytes ≡ entry.bytes)
+IsRead None lsn bytes = lsn ≡ None
+
+-- the n-th entry, counted from 0, has this LSN and these bytes, or there is none
+abbrev pub Holds : ℕ → Option ℕ → List ℕ → Log → Type 0
+Holds n lsn bytes log = IsRead (slice_get log.entries n) lsn bytes

@@ -1,9 +1,9 @@
 //! Logs: what one tells of its entries, and what its calls promise.
 
-ghost use Rattle.std.specs.Prelude.{◌≡◌, ℕ, ◌+◌, ◌-◌, ◌^◌, Option, OnOk, OnErr};
+ghost use Rattle.std.specs.Prelude.{◌≡◌, ℕ, ◌+◌, ◌-◌, ◌^◌, Option, IfOk, OnOk, OnErr};
 ghost use Rattle.cc_traits.specs.Stop.{faults_in, OnFailed, OnNoMemory};
-ghost use Rattle.cc_traits.specs.Told.{Both};
-ghost use Rattle.cc_traits.specs.Log.{Log, Appended, Kept, Flushed};
+ghost use Rattle.cc_traits.specs.Told.{Both, IfTold};
+ghost use Rattle.cc_traits.specs.Log.{Log, Appended, Kept, Flushed, Holds};
 
 use crate::Stop;
 
@@ -31,6 +31,13 @@ pub trait LogFile: Drop {
         ensures no_memory { OnNoMemory result (told self.new ≡ told self.old) }
         ensures takes_no_memory { OnNoMemory result (faults self.old ≡ 2 ^ 64 - 1) }
         ensures counted { faults self.new ≡ faults self.old + faults_in result };
+
+    /// Reads the `n`-th entry, counted from 0. Answers its LSN, and `out` has its bytes then; or `None`, where
+    /// there is no such entry.
+    fn entry(&mut self, n: u64, out: &mut Vec<u8>) -> Result<Option<u64>, Stop>
+        ensures held { IfOk result (λ lsn. IfTold (told self.old) (Holds n lsn out.new.items)) }
+        ensures stays { told self.new ≡ told self.old }
+        ensures counted { faults self.new ≡ faults self.old + faults_in result };
 }
 
 impl LogFile for Box<dyn LogFile + Send> {
@@ -44,5 +51,9 @@ impl LogFile for Box<dyn LogFile + Send> {
 
     fn flush(&mut self, lsn: u64) -> Result<(), Stop> {
         (**self).flush(lsn)
+    }
+
+    fn entry(&mut self, n: u64, out: &mut Vec<u8>) -> Result<Option<u64>, Stop> {
+        (**self).entry(n, out)
     }
 }

@@ -22,6 +22,7 @@ new_log =
       log = record { entries = []; durable = 0 };
       appends = record { fails = []; made = 0 };
       flushes = record { fails = []; made = 0 };
+      reads = record { fails = []; made = 0 };
       stop = record { after = None; made = 0 };
       faults = 0;
     }
