@@ -35,7 +35,7 @@ use Rattle.cc_model.specs.Replies.{IsReply}
 use Rattle.cc_model.specs.Room.{places_asked}
 use Rattle.cc_model.specs.Setup.{Setup}
 use Rattle.cc_model.specs.Throttle.{deferred, may_go, pages_for, queue}
-use Rattle.cc_model.specs.Touches.{valid_of}
+use Rattle.cc_model.specs.Touches.{size_of, valid_of}
 use Rattle.cc_effects.specs.declared.events.Event.{Event}
 use Rattle.cc_effects.specs.declared.events.Event.TheVariants as event
 use Rattle.cc_effects.specs.declared.events.StepReply.{StepReply}
@@ -285,6 +285,29 @@ faulted_by past (event.LogFlush pass handle to) =
 faulted_by past (event.Scan pass) = None
 faulted_by past (event.Defer pass file bytes retrying routine) = None
 faulted_by past (event.Post pass) = None
+
+-- A call goes to the disk, whose failure it may tell: the noncached read of a page that starts below the size, where nothing
+-- refuses it.
+abbrev pub MayFaultCall : Setup → List Entry → Call → Type 0
+MayFaultCall u past (call.NcRead file page) =
+    (reason_of u past (call.NcRead file page) ≡ None) × (4096 * page < size_of (history past file.stream))
+MayFaultCall u past other = ⊥
+
+-- An event goes to its device or its log, whose failure it may tell. A page comes in from the disk where it has a byte below
+-- the valid data length. A log is one that there is: an append finds an LSN left, and a flush goes past what was flushed.
+abbrev pub MayFault : {Q : Type 0} → Setup → List Entry → Event Q → Type 0
+MayFault u past (event.Fill pass page) = 4096 * page.page < valid_of (history past page.stream)
+MayFault u past (event.Drop page) = ⊥
+MayFault u past (event.WriteBegin pass page) = ⊥
+MayFault u past (event.WriteEnd page) = Unit {0}
+MayFault u past (event.Sync pass stream) = Unit {0}
+MayFault u past (event.Do pass it) = MayFaultCall u past it
+MayFault u past (event.Fail pass it) = ⊥
+MayFault u past (event.Append pass handle bytes) = (handle < u.logs) × (floor_of past handle < 2 ^ 62)
+MayFault u past (event.LogFlush pass handle to) = (handle < u.logs) × (flushed_to past handle < to)
+MayFault u past (event.Scan pass) = ⊥
+MayFault u past (event.Defer pass file bytes retrying routine) = ⊥
+MayFault u past (event.Post pass) = ⊥
 
 -- What an event placed that found no memory: the end of a transfer, or a sync, whose disk found none; or nothing.
 abbrev pub IsWanting : {Q : Type 0} → List Entry → Event Q → List Entry → Type 0

@@ -17,7 +17,7 @@ use Rattle.cc_model.specs.Setup.{Setup}
 use Rattle.cc_turns.specs.Desk.{Begun, Tells}
 use Rattle.cc_world.specs.Journals.{refused_plainly}
 use Rattle.cc_pieces.specs.Moments.{EventLeft}
-use Rattle.cc_effects.specs.Events.{Answers, IsWanting, MayHappen, Where, OnStream, OnLog, OnJournal, Nowhere, asked_by, faulted_by, place_of}
+use Rattle.cc_effects.specs.Events.{Answers, IsWanting, MayFault, MayHappen, Where, OnStream, OnLog, OnJournal, Nowhere, asked_by, faulted_by, place_of}
 use Rattle.cc_world.specs.World.{Faulted, Happened, JournalRests, Stepped, WentAt, WorldState, setup_of}
 use Rattle.cc_effects.specs.declared.events.Event.{Event}
 use Rattle.cc_effects.specs.declared.events.Event.TheVariants as event
@@ -81,6 +81,20 @@ fault-without past (event.LogFlush pass handle to) = refl
 fault-without past (event.Scan pass) = refl
 fault-without past (event.Defer pass file bytes retrying routine) = refl
 fault-without past (event.Post pass) = refl
+
+may_fault-without : {Q : Type 0} (u : Setup) (past : List Entry) (it : Event Q) → MayFault u past it → MayFault u past (without_routine it)
+may_fault-without u past (event.Fill pass page) may = may
+may_fault-without u past (event.Drop page) may = may
+may_fault-without u past (event.WriteBegin pass page) may = may
+may_fault-without u past (event.WriteEnd page) may = may
+may_fault-without u past (event.Sync pass stream) may = may
+may_fault-without u past (event.Do pass it) may = may
+may_fault-without u past (event.Fail pass it) may = may
+may_fault-without u past (event.Append pass handle bytes) may = may
+may_fault-without u past (event.LogFlush pass handle to) may = may
+may_fault-without u past (event.Scan pass) may = may
+may_fault-without u past (event.Defer pass file bytes retrying routine) may = may
+may_fault-without u past (event.Post pass) may = may
 
 wanting-without : {Q : Type 0} (past : List Entry) (it : Event Q) (added : List Entry) → IsWanting past it added → IsWanting past (without_routine it) added
 wanting-without past (event.Fill pass page) added wants = wants
@@ -214,15 +228,19 @@ left-of tells it w v rests (step.Refused error.NoMemory) h = (
 left-of tells it w v rests (step.Refused e) h = left-so tells it w v rests (step.Refused e) h
 left-of tells it w v rests (step.Kept routine e) h = absurd (kept-none (setup_of tells w.begun) w.journal.entries it routine e h.2.0 h.2.1)
 left-of tells it w v rests step.Faulted h =
-    let f = faulted-at tells (place_of (setup_of tells w.begun) w.journal.entries it) (faulted_by w.journal.entries it) w v h.2 in
-    (may-without (setup_of tells w.begun) w.journal.entries it h.0, (f.0, fault-without w.journal.entries it ∙ f.1, f.2))
+    let f = faulted-at tells (place_of (setup_of tells w.begun) w.journal.entries it) (faulted_by w.journal.entries it) w v h.2.1 in (
+      may-without (setup_of tells w.begun) w.journal.entries it h.0,
+      omega (arith, h.1, room-same tells w.begun w.journal rests, asked-without (setup_of tells w.begun) w.journal.entries it),
+      may_fault-without (setup_of tells w.begun) w.journal.entries it h.2.0,
+      (f.0, fault-without w.journal.entries it ∙ f.1, f.2),
+    )
 left-of tells it w v rests step.NotNow h =
     (λ may. h.0 (may-with (setup_of tells w.begun) w.journal.entries it may), ap (λ x. x.journal.entries) h.1)
 
 begun-of : {D L Q : Type 0} (tells : Tells D L Q) (it : Event Q) (w v : WorldState D L Q) (r : StepReply Q) → Happened tells it r w v → v.begun ≡ w.begun
 begun-of tells it w v (step.Refused (error.JournalFull entries)) h = ap (λ x. x.begun) h.3
 begun-of tells it w v (step.Refused error.NoMemory) h = begun-at tells (place_of (setup_of tells w.begun) w.journal.entries it) 0 h.0 w v h.2
-begun-of tells it w v step.Faulted h = faulted-begun tells (place_of (setup_of tells w.begun) w.journal.entries it) (faulted_by w.journal.entries it) w v h.2
+begun-of tells it w v step.Faulted h = faulted-begun tells (place_of (setup_of tells w.begun) w.journal.entries it) (faulted_by w.journal.entries it) w v h.2.1
 begun-of tells it w v step.NotNow h = ap (λ x. x.begun) h.1
 begun-of tells it w v other h = begun-at tells (place_of (setup_of tells w.begun) w.journal.entries it) 0 h.2.0 w v h.2.2
 

@@ -150,7 +150,7 @@ wanting-others past (event.Post pass) added plain wants = absurd plain
 pub quiet-left : {Q : Type 0} (u : Setup) (it : Event Q) (r : StepReply (Unit {0})) (old new : List Entry) → IsPlain it → EventLeft u (without_routine it) r old new → IsQuiet old new
 quiet-left u it step.NotNow old new plain left = quiet-none old new left.1
 quiet-left u it step.Faulted old new plain left =
-    quiet-as (left.1.0 ∷ []) old new left.1.2 (fault-other old it left.1.0 plain left.1.1, tt)
+    quiet-as (left.3.0 ∷ []) old new left.3.2 (fault-other old it left.3.0 plain left.3.1, tt)
 quiet-left u it (step.Refused (error.JournalFull entries)) old new plain left = quiet-none old new left.3
 quiet-left u it (step.Refused error.NoMemory) old new plain left =
     quiet-as left.0 old new left.2 (wanting-others old it left.0 plain left.1)

@@ -36,3 +36,4 @@ pub mod PiecesLines
 pub mod PiecesShim
 pub mod PiecesRuns
 pub mod PiecesAnswered
+pub mod PiecesEvents

@@ -49,7 +49,7 @@ book-unread opening pass page past b stands =
 -- what is replied to a sync, by how it ended
 pub sync-replied : {D Q : Type 0} (told : D → Option Disk) (faults : D → ℕ) (u : Setup) (first : DiskAtFirst) (pass stream : ℕ) (how : End) (row now : Row D) (j k : JournalState Q) → RowWent told faults u first (faults_by how) (entry.Sync pass stream how ∷ []) row now j k → RowEnded told faults u first (event.Sync pass stream) (reply_to how) row now j k
 sync-replied told faults u first pass stream how.Good row now j k went = (entry.Sync pass stream how.Good ∷ [], refl, went)
-sync-replied told faults u first pass stream how.Failed row now j k went = went
+sync-replied told faults u first pass stream how.Failed row now j k went = (tt, went)
 sync-replied told faults u first pass stream how.NoMemory row now j k went = (entry.Sync pass stream how.NoMemory ∷ [], inl refl, went)
 
 -- an event that may happen, and for which there is room, leaves what it ended with

@@ -123,7 +123,7 @@ log-left-by : {L Q : Type 0} (n : ℕ) (told : L → Option Log) (faults : L →
 log-left-by n told faults u first it step.NotNow old new j k room ended = absurd ended
 log-left-by n told faults u first it (step.Refused (error.JournalFull entries)) old new j k room ended = absurd ended
 log-left-by n told faults u first it step.Faulted old new j k room ended =
-    (room, log-faulted-from n told faults u first (faulted_by j.entries it) old new j k ended)
+    (room, (ended.0, log-faulted-from n told faults u first (faulted_by j.entries it) old new j k ended.1))
 log-left-by n told faults u first it (step.Refused error.NoMemory) old new j k room ended =
     (ended.0, ended.1, log-from n told faults u first 0 ended.0 old new j k ended.2)
 log-left-by n told faults u first it other old new j k room ended =

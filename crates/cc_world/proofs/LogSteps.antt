@@ -140,10 +140,10 @@ module _ {D L Q : Type 0} (tells : Tells D L Q) (w : WorldState D L Q) (stands :
       let u = setup_of tells w.begun in
       let past = w.journal.entries in
       let o = faulted_by past it in
-      let all = log-faulted o now k (λ e is. fault-on-log u past it e handle at is) left.1 in (
+      let all = log-faulted o now k (λ e is. fault-on-log u past it e handle at is) left.1.1 in (
         all.0,
         (
-          (may, left.0, subst (λ (p : Where). Faulted tells p o w (record w { logs = slice_set w.logs handle now; journal = k })) (sym at) all.1),
+          (may, left.0, (left.1.0, subst (λ (p : Where). Faulted tells p o w (record w { logs = slice_set w.logs handle now; journal = k })) (sym at) all.1)),
           queue-left tells.posted it step.Faulted w.journal.queue k.queue (log-leaves u past it handle at) refl all.2,
         ),
       )

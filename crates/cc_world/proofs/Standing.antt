@@ -240,7 +240,7 @@ pub ended-since : {D Q : Type 0} (told : D → Option Disk) (faults : D → ℕ)
 ended-since told faults u first it step.NotNow old mid new j k stream counted ended = absurd ended
 ended-since told faults u first it (step.Refused (error.JournalFull entries)) old mid new j k stream counted ended = absurd ended
 ended-since told faults u first it step.Faulted old mid new j k stream counted ended =
-    faulted-since told faults u first (faulted_by j.entries it) old mid new j k stream counted ended
+    (ended.0, faulted-since told faults u first (faulted_by j.entries it) old mid new j k stream counted ended.1)
 ended-since told faults u first it (step.Refused error.NoMemory) old mid new j k stream counted ended =
     (ended.0, ended.1, went-since told faults u first 0 ended.0 old mid new j k stream counted ended.2)
 ended-since told faults u first it other old mid new j k stream counted ended =
@@ -250,7 +250,7 @@ left-by : {D Q : Type 0} (n : ℕ) (told : D → Option Disk) (faults : D → �
 left-by n told faults u first it step.NotNow old new j k may room ended = absurd ended
 left-by n told faults u first it (step.Refused (error.JournalFull entries)) old new j k may room ended = absurd ended
 left-by n told faults u first it step.Faulted old new j k may room ended =
-    (may, room, faulted-from n told faults u first (faulted_by j.entries it) old new j k ended)
+    (may, room, (ended.0, faulted-from n told faults u first (faulted_by j.entries it) old new j k ended.1))
 left-by n told faults u first it (step.Refused error.NoMemory) old new j k may room ended =
     (ended.0, ended.1, went-from n told faults u first 0 ended.0 old new j k ended.2)
 left-by n told faults u first it other old new j k may room ended =

@@ -229,10 +229,10 @@ module _ {D L Q : Type 0} (tells : Tells D L Q) (w : WorldState D L Q) (stands :
       let u = setup_of tells w.begun in
       let past = w.journal.entries in
       let o = faulted_by past it in
-      let all = faulted o now k (λ e is. fault-within u past it e s at is) left.2 in (
+      let all = faulted o now k (λ e is. fault-within u past it e s at is) left.2.1 in (
         all.0,
         (
-          (left.0, left.1, subst (λ (p : Where). Faulted tells p o w (record w { rows = slice_set w.rows s now; journal = k })) (sym at) all.1),
+          (left.0, left.1, (left.2.0, subst (λ (p : Where). Faulted tells p o w (record w { rows = slice_set w.rows s now; journal = k })) (sym at) all.1)),
           queue-left tells.posted it step.Faulted w.journal.queue k.queue (stream-leaves u past it s at) refl all.2,
         ),
       )

@@ -44,7 +44,7 @@ begun-carries told faults first past s disk pass page bytes stream rest whole by
 -- what is replied to the end of a transfer, by how it ended
 pub end-replied : {D Q : Type 0} (told : D → Option Disk) (faults : D → ℕ) (u : Setup) (first : DiskAtFirst) (page : Page) (how : End) (row now : Row D) (j k : JournalState Q) → RowWent told faults u first (faults_by how) (write_end j.entries page how ∷ []) row now j k → RowEnded told faults u first (event.WriteEnd page) (reply_to how) row now j k
 end-replied told faults u first page how.Good row now j k went = (write_end j.entries page how.Good ∷ [], refl, went)
-end-replied told faults u first page how.Failed row now j k went = went
+end-replied told faults u first page how.Failed row now j k went = (tt, went)
 end-replied told faults u first page how.NoMemory row now j k went = (write_end j.entries page how.NoMemory ∷ [], refl, went)
 
 -- an end asks no room

@@ -13,7 +13,7 @@ use Rattle.cc_model.specs.Room.{reserved_in}
 use Rattle.cc_model.specs.Setup.{Setup}
 use Rattle.cc_turns.specs.Log.{LogStands}
 use Rattle.cc_turns.specs.Standing.{LogAtFirst}
-use Rattle.cc_effects.specs.Events.{Answers, IsWanting, asked_by, faulted_by}
+use Rattle.cc_effects.specs.Events.{Answers, IsWanting, MayFault, asked_by, faulted_by}
 use Rattle.cc_effects.specs.declared.events.Event.{Event}
 use Rattle.cc_effects.specs.declared.events.StepReply.{StepReply}
 use Rattle.cc_effects.specs.declared.events.StepReply.TheVariants as step
@@ -50,7 +50,8 @@ LogFaulted told faults u first (Some e) old new j k = LogWent told faults u firs
 abbrev pub LogEnded : {L Q : Type 0} → (L → Option Log) → (L → ℕ) → Setup → LogAtFirst → Event Q → StepReply Q
     → LogState L → LogState L → JournalState Q → JournalState Q → Type 0
 LogEnded told faults u first it step.NotNow old new j k = ⊥
-LogEnded told faults u first it step.Faulted old new j k = LogFaulted told faults u first (faulted_by j.entries it) old new j k
+LogEnded told faults u first it step.Faulted old new j k =
+    MayFault u j.entries it × LogFaulted told faults u first (faulted_by j.entries it) old new j k
 LogEnded told faults u first it (step.Refused (error.JournalFull entries)) old new j k = ⊥
 LogEnded told faults u first it (step.Refused error.NoMemory) old new j k =
     (added : List Entry) × IsWanting j.entries it added × LogWent told faults u first 0 added old new j k

@@ -22,7 +22,7 @@ use Rattle.cc_model.specs.Touches.{valid_of}
 use Rattle.cc_turns.specs.Transfers.{IsUnderWay}
 use Rattle.cc_turns.specs.Disk.{DiskStands, opening_of}
 use Rattle.cc_turns.specs.Standing.{DiskAtFirst}
-use Rattle.cc_effects.specs.Events.{Answers, IsWanting, MayHappen, asked_by, faulted_by}
+use Rattle.cc_effects.specs.Events.{Answers, IsWanting, MayFault, MayHappen, asked_by, faulted_by}
 use Rattle.cc_effects.specs.declared.events.Event.{Event}
 use Rattle.cc_effects.specs.declared.events.StepReply.{StepReply}
 use Rattle.cc_effects.specs.declared.events.StepReply.TheVariants as step
@@ -85,7 +85,8 @@ RowFaulted told faults u first (Some e) old new j k = RowWent told faults u firs
 abbrev pub RowEnded : {D Q : Type 0} → (D → Option Disk) → (D → ℕ) → Setup → DiskAtFirst → Event Q → StepReply Q
     → Row D → Row D → JournalState Q → JournalState Q → Type 0
 RowEnded told faults u first it step.NotNow old new j k = ⊥
-RowEnded told faults u first it step.Faulted old new j k = RowFaulted told faults u first (faulted_by j.entries it) old new j k
+RowEnded told faults u first it step.Faulted old new j k =
+    MayFault u j.entries it × RowFaulted told faults u first (faulted_by j.entries it) old new j k
 RowEnded told faults u first it (step.Refused (error.JournalFull entries)) old new j k = ⊥
 RowEnded told faults u first it (step.Refused error.NoMemory) old new j k =
     (added : List Entry) × IsWanting j.entries it added × RowWent told faults u first 0 added old new j k

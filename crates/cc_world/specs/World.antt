@@ -19,7 +19,7 @@ use Rattle.cc_turns.specs.Log.{FileStands}
 use Rattle.cc_turns.specs.Places.{IsRoomFor}
 use Rattle.cc_world.specs.Journals.{HasPlaced, Queued, refused_plainly}
 use Rattle.cc_world.specs.Rows.{DiskIsUsed, RowStands}
-use Rattle.cc_effects.specs.Events.{Answers, IsWanting, MayHappen, Where, OnStream, OnLog, OnJournal, Nowhere, asked_by, faulted_by, place_of}
+use Rattle.cc_effects.specs.Events.{Answers, IsWanting, MayFault, MayHappen, Where, OnStream, OnLog, OnJournal, Nowhere, asked_by, faulted_by, place_of}
 use Rattle.cc_effects.specs.declared.events.Event.{Event}
 use Rattle.cc_effects.specs.declared.events.StepReply.{StepReply}
 use Rattle.cc_effects.specs.declared.events.StepReply.TheVariants as step
@@ -141,7 +141,8 @@ IsNoLogReply handle w other = ⊥
 abbrev pub Ended : {D L Q : Type 0} → Tells D L Q → Event Q → StepReply Q → WorldState D L Q → WorldState D L Q → Type 0
 Ended tells it step.NotNow old new = ⊥
 Ended tells it step.Faulted old new =
-    Faulted tells (place_of (setup_of tells old.begun) old.journal.entries it) (faulted_by old.journal.entries it) old new
+    MayFault (setup_of tells old.begun) old.journal.entries it
+    × Faulted tells (place_of (setup_of tells old.begun) old.journal.entries it) (faulted_by old.journal.entries it) old new
 Ended tells it (step.Refused (error.JournalFull entries)) old new = ⊥
 Ended tells it (step.Refused error.NoMemory) old new =
     (added : List Entry) × IsWanting old.journal.entries it added
@@ -152,7 +153,7 @@ Ended tells it other old new =
 
 -- What an event leaves, its routine aside. It is not now exactly where the law forbids its entry, which is tested before
 -- all else, and refused for want of room exactly where there is less than it asks; then nothing changed. A disk's
--- failure, or a log's, is told only where its count rose. Memory may be wanting at any time.
+-- failure, or a log's, is told only where the event goes to it and its count rose. Memory may be wanting at any time.
 abbrev pub Happened : {D L Q : Type 0} → Tells D L Q → Event Q → StepReply Q → WorldState D L Q → WorldState D L Q → Type 0
 Happened tells it step.NotNow old new =
     (MayHappen (setup_of tells old.begun) old.journal.entries it → ⊥) × (new ≡ old)

@@ -24,8 +24,14 @@ one-more a b is = omega arith
 left-lsn : (floor lsn : ℕ) → floor ≤ 2 ^ 62 → lsn ≡ floor + 1 → (floor ≡ 2 ^ 62 → ⊥) → lsn ≤ 2 ^ 62
 left-lsn floor lsn least next apart = omega (arith, least, next, apart)
 
+below-all : (floor : ℕ) → floor ≤ 2 ^ 62 → (floor ≡ 2 ^ 62 → ⊥) → floor < 2 ^ 62
+below-all floor least apart = omega (arith, least, apart)
+
 no-full : (lsn : ℕ) (e : CcError) → IsErrOf {T = ℕ} {E = CcError} (Ok lsn) e → ⊥
 no-full lsn e is = absurd (cc)
+
+not-full : (x : CcError) (handle other : ℕ) → x ≡ error.LogFault handle → IsErrOf {T = ℕ} {E = CcError} (Err x) (error.LogFull other) → ⊥
+not-full x handle other is full = absurd (cc (is, full))
 
 as-err : (x y : CcError) → x ≡ y → IsErrOf {T = ℕ} {E = CcError} (Err x) y
 as-err x y is =
@@ -82,12 +88,18 @@ returns-in-LogFault g c u first stand =
     let e : Entry = entry.LogFailed c.args.pass c.args.handle in
     let k = c.push-in-LogFault.new.self in
     let is : c.append.result ≡ Err (error.LogFault c.in-LogFault.handle) = c.in-Err.is ∙ ap (λ (e : CcError). Err e) c.in-LogFault.is in
-    log-went-one g.L.LogFile.told g.L.LogFile.faults u first 1 log j stand 1 e c.append.new.self k refl refl tt
-    (gained-so j.reserved e j j k refl c.push-in-LogFault.ensures.placed)
-    (back _ _ _ (ap (λ x. x.reserved) c.push-in-LogFault.ensures.placed) stand.reserved) c.append.ensures.handle
-    (told-by g.L.LogFile.told first.told j.entries c.append.new.self _ (Some e) (rw (is, c.requires.handle) refl) (c.append.ensures.stands first.told j.entries c.args.pass stand.log_is.stands))
-    (failures-failed c.args.pass c.args.handle log.handle j.entries (sym c.requires.handle))
-    (rw is at c.append.ensures.counted)
+    let below = below-all log.floor c.append.ensures.within (λ top. not-full c.in-Err.error c.in-LogFault.handle log.handle c.in-LogFault.is (c.in-Err.ensures.full.1 top)) in (
+      (
+        subst (λ (h : ℕ). h < u.logs) c.requires.handle stand.known,
+        subst (λ (n : ℕ). n < 2 ^ 62) (floor-of g.L.LogFile.told g.L.LogFile.faults u first 1 log j c.args.handle stand c.requires.handle) below,
+      ),
+      log-went-one g.L.LogFile.told g.L.LogFile.faults u first 1 log j stand 1 e c.append.new.self k refl refl tt
+          (gained-so j.reserved e j j k refl c.push-in-LogFault.ensures.placed)
+          (back _ _ _ (ap (λ x. x.reserved) c.push-in-LogFault.ensures.placed) stand.reserved) c.append.ensures.handle
+          (told-by g.L.LogFile.told first.told j.entries c.append.new.self _ (Some e) (rw (is, c.requires.handle) refl) (c.append.ensures.stands first.told j.entries c.args.pass stand.log_is.stands))
+          (failures-failed c.args.pass c.args.handle log.handle j.entries (sym c.requires.handle))
+          (rw is at c.append.ensures.counted),
+    )
 
 pub returns : goal.returns
 returns g c u first stand =

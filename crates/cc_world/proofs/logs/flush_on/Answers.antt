@@ -57,14 +57,16 @@ returns-in-LogFault g c u first stand =
     let log = c.args.log.now in
     let e : Entry = entry.LogFailed c.args.pass c.args.handle in
     let k = c.push-in-LogFault.new.self in
-    let is : c.flush.result ≡ Err (error.LogFault c.in-LogFault.handle) = c.in-Err.is ∙ ap (λ (e : CcError). Err e) c.in-LogFault.is in
-    flush-fails g.L.LogFile.told g.L.LogFile.faults u first c.args.pass c.args.handle c.args.to log c.flush.new.self j k c.requires.standing.1
-    (log-went-one g.L.LogFile.told g.L.LogFile.faults u first 1 log j stand 1 e c.flush.new.self k refl refl tt
-    (gained-so j.reserved e j j k refl c.push-in-LogFault.ensures.placed)
-    (back _ _ _ (ap (λ x. x.reserved) c.push-in-LogFault.ensures.placed) stand.reserved) c.flush.ensures.handle
-    (told-by g.L.LogFile.told first.told j.entries c.flush.new.self _ (Some e) (rw (is, c.requires.handle) refl) (c.flush.ensures.stands first.told j.entries c.args.pass stand.log_is.stands))
-    (failures-failed c.args.pass c.args.handle log.handle j.entries (sym c.requires.handle))
-    (rw is at c.flush.ensures.counted))
+    let is : c.flush.result ≡ Err (error.LogFault c.in-LogFault.handle) = c.in-Err.is ∙ ap (λ (e : CcError). Err e) c.in-LogFault.is in (
+      (subst (λ (h : ℕ). h < u.logs) c.requires.handle stand.known, c.requires.standing.1),
+      flush-fails g.L.LogFile.told g.L.LogFile.faults u first c.args.pass c.args.handle c.args.to log c.flush.new.self j k c.requires.standing.1
+          (log-went-one g.L.LogFile.told g.L.LogFile.faults u first 1 log j stand 1 e c.flush.new.self k refl refl tt
+          (gained-so j.reserved e j j k refl c.push-in-LogFault.ensures.placed)
+          (back _ _ _ (ap (λ x. x.reserved) c.push-in-LogFault.ensures.placed) stand.reserved) c.flush.ensures.handle
+          (told-by g.L.LogFile.told first.told j.entries c.flush.new.self _ (Some e) (rw (is, c.requires.handle) refl) (c.flush.ensures.stands first.told j.entries c.args.pass stand.log_is.stands))
+          (failures-failed c.args.pass c.args.handle log.handle j.entries (sym c.requires.handle))
+          (rw is at c.flush.ensures.counted)),
+    )
 
 pub returns-in_default : goal.returns-in_default
 returns-in_default g c u first stand =

@@ -1,7 +1,8 @@
 -- A page with no byte below the valid data length lands without a read, any other with what was read; a disk that
 -- failed leaves the entry of that, and one that found no memory none.
-use Rattle.std.specs.Prelude.{◌≡◌, ℕ, ◌+◌, ◌-◌, ◌*◌, nat_lt, false, is_some, None, [], ◌∷◌, refl}
+use Rattle.std.specs.Prelude.{◌≡◌, ℕ, ◌+◌, ◌-◌, ◌*◌, ◌<◌, nat_lt, false, is_some, None, [], ◌∷◌, refl}
 use Rattle.std.proofs.Common.{ap, sym, ◌∙◌, subst, arith}
+use Rattle.std.proofs.lemmas.Bool.{ltb-true}
 use Rattle.cc_entry.specs.Place.{Page}
 use Rattle.cc_entry.specs.declared.entry.Entry.{Entry}
 use Rattle.cc_entry.specs.declared.entry.Entry.TheVariants as entry
@@ -84,11 +85,15 @@ returns-in-Err-Failed g c u first stand =
     let failed : DiskStands g.D.Told.told g.D.Told.faults first (e ∷ past) s c.read.new.disk =
     subst (λ (p : Page). DiskStands g.D.Told.told g.D.Told.faults first (entry.FillFailed c.args.pass p ∷ past) s c.read.new.disk) this
     ((rw c.in-Err-Failed.field-0-is at c.in-Err-Failed.ensures.failed) first past s c.args.pass rest.stands) in
-    went-one g.D.Told.told g.D.Told.faults u first 1 row j stand 1 e (record row { disk = c.read.new.disk }) c.push.new.self refl refl tt (gained-so j.reserved e j j c.push.new.self refl c.push.ensures.placed)
-    (back _ _ _ (ap (λ x. x.reserved) c.push.ensures.placed) stand.reserved) refl
-    (book-unread (opening_of first.told) c.args.pass c.args.page past row.book stand.row_is.book)
-    (rests-as g.D.Told.told g.D.Told.faults first (e ∷ past) s c.read.new.disk row.kept idle failed (open-kept e past s refl ∙ rest.no_transfer))
-    (rw c.in-Err-Failed.field-0-is at c.in-Err-Failed.ensures.counted)
+    let below : 4096 * c.args.page.page < valid_of (history past s) =
+    ltb-true (4096 * c.args.page.page) (valid_of (history past s)) (sym (c.has_valid_byte.ensures (opening_of first.told) past stand.row_is.book) ∙ c.if-not-has_valid_byte.false) in (
+      subst (λ (n : ℕ). 4096 * c.args.page.page < valid_of (history past n)) (sym c.requires.stream) below,
+      went-one g.D.Told.told g.D.Told.faults u first 1 row j stand 1 e (record row { disk = c.read.new.disk }) c.push.new.self refl refl tt (gained-so j.reserved e j j c.push.new.self refl c.push.ensures.placed)
+          (back _ _ _ (ap (λ x. x.reserved) c.push.ensures.placed) stand.reserved) refl
+          (book-unread (opening_of first.told) c.args.pass c.args.page past row.book stand.row_is.book)
+          (rests-as g.D.Told.told g.D.Told.faults first (e ∷ past) s c.read.new.disk row.kept idle failed (open-kept e past s refl ∙ rest.no_transfer))
+          (rw c.in-Err-Failed.field-0-is at c.in-Err-Failed.ensures.counted),
+    )
 
 pub returns-in-Err-NoMemory : goal.returns-in-Err-NoMemory
 returns-in-Err-NoMemory g c u first stand =

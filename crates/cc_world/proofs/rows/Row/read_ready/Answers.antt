@@ -13,7 +13,7 @@ use Rattle.cc_effects.specs.declared.events.Event.TheVariants as event
 use Rattle.cc_world.proofs.PageBytes.{lies-below, lies-past}
 use Rattle.cc_world.proofs.Standing.{ended-since, may-push}
 use Rattle.cc_world.proofs.Stores.{numbered}
-use Rattle.cc_world.proofs.UncachedCalls.{read-failed, read-wanting, ready-read, was-read}
+use Rattle.cc_world.proofs.UncachedCalls.{read-failed, read-here, read-wanting, ready-read, was-read}
 use Rattle.cc_world.proofs.rows.Row.read_ready.Goals as goal
 
 no-more : (a b : ℕ) → a ≡ b + 0 → a ≡ b
@@ -79,9 +79,19 @@ returns-in-Ok g c u first ready =
 
 pub returns-in-Err-Failed : goal.returns-in-Err-Failed
 returns-in-Err-Failed g c u first ready =
-    read-failed g.D.Told.told g.D.Told.faults u first c.args.pass c.args.file c.args.page c.args.self.now c.args.journal.now ready c.read.new.disk c.in-Err-Failed.ensures.kept c.page_id-page.result c.push.new.self
-    (c.page_id-page.ensures ∙ ap (λ (n : ℕ). let p : Page = record { stream = n; page = c.args.page } in p) c.stream.ensures)
-    (rw c.in-Err-Failed.field-0-is at c.in-Err-Failed.ensures.failed) (rw c.in-Err-Failed.field-0-is at c.in-Err-Failed.ensures.counted) c.push.ensures.placed
+    let row = c.args.self.now in
+    let j = c.args.journal.now in
+    let below : 4096 * c.args.page < size_of (history j.entries row.book.stream) =
+    lies-below c.size.result (size_of (history j.entries row.book.stream)) c.args.page (c.size.ensures (opening_of first.told) j.entries ready.made.stands.row_is.book)
+    (subst (λ (n : ℕ). c.args.page < n) c.div_ceil.ensures c.if-div_ceil-page.false) in (
+      (
+        ready.made.admitted,
+        subst (λ (n : ℕ). 4096 * c.args.page < size_of (history j.entries n)) (sym (read-here g.D.Told.told g.D.Told.faults u first 1 c.args.pass c.args.file c.args.page row j ready.made)) below,
+      ),
+      read-failed g.D.Told.told g.D.Told.faults u first c.args.pass c.args.file c.args.page c.args.self.now c.args.journal.now ready c.read.new.disk c.in-Err-Failed.ensures.kept c.page_id-page.result c.push.new.self
+          (c.page_id-page.ensures ∙ ap (λ (n : ℕ). let p : Page = record { stream = n; page = c.args.page } in p) c.stream.ensures)
+          (rw c.in-Err-Failed.field-0-is at c.in-Err-Failed.ensures.failed) (rw c.in-Err-Failed.field-0-is at c.in-Err-Failed.ensures.counted) c.push.ensures.placed,
+    )
 
 pub returns-in-Err-NoMemory : goal.returns-in-Err-NoMemory
 returns-in-Err-NoMemory g c u first ready = (
