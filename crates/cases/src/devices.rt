@@ -6,7 +6,7 @@ ghost use Rattle.cc_traits.specs.declared.stop.Stop.TheVariants.{NoMemory};
 use crate::stage::Stage;
 use crate::trouble::{Device, Fate, Kind, Place};
 use cc_memdev::{MemDisk, MemLog, MemSource};
-use cc_traits::{Faults, LogFile, PageDisk, PostRoutine, Sink, Source, Stop, Told};
+use cc_traits::{Faults, LogFile, PageDisk, PostRoutine, Sink, Source, Stop, Told, is_end};
 
 /// The calls that were made on a device.
 #[derive(Drop)]
@@ -161,6 +161,7 @@ impl<'a> LogFile for CaseLog<'a> {
 pub struct CaseSource<'a> {
     pub calls: Calls<'a>,
     pub inner: MemSource,
+    pub ended: bool,
     pub faults: Faults,
 }
 
@@ -169,11 +170,18 @@ impl<'a> Source for CaseSource<'a> {
 
     ghost faults = { λ source. source.faults + source.inner.faults };
 
-    ghost taken = { λ source. source.inner.taken };
+    ghost given = { λ source. source.inner.given };
+
+    ghost ended = { λ source. source.ended };
 
     fn take(&mut self, buf: &mut [u8]) -> Result<usize, Stop> {
+        self.ended = false;
         match self.calls.next(Kind::Take) {
-            Fate::Good => self.inner.take(buf),
+            Fate::Good => {
+                let given = self.inner.take(buf)?;
+                self.ended = is_end(buf, given);
+                Ok(given)
+            }
             Fate::Fails => Err(self.faults.raise()),
             Fate::NoMemory => Err(Stop::NoMemory),
         }

@@ -65,6 +65,7 @@ pub fn run_once<'a, R: Threads + Wait + Sync>(
             case.gives.max(1),
             Vec::new(alloc),
         ),
+        ended: false,
         faults: Faults::new(),
     };
     let mut sink = CaseSink {

@@ -1,9 +1,8 @@
 //! The file of the script as a source of bytes, opened as its first bytes are taken.
 
-ghost use Rattle.std.specs.Prelude.{◌≡◌, ◌+◌, None};
-ghost use Rattle.cc_traits.specs.Stop.{faults_in, taken_in};
+ghost use Rattle.std.specs.Prelude.{◌≡◌, false, [], None};
 
-use cc_traits::{Faults, Source, Stop};
+use cc_traits::{Faults, Given, Source, Stop, is_end};
 use std::fs::Files;
 use std::io::Read;
 use std::{fs, io};
@@ -37,20 +36,23 @@ impl<'a, R: Files> Place for PlaceOf<'a, R> {
 pub struct ScriptFile<P: Place> {
     place: P,
     file: Option<P::File>,
-    taken: u64,
+    given: Given,
+    ended: bool,
     faults: Faults,
 }
 
 impl<P: Place> ScriptFile<P> {
-    /// The file at a place, which is not open yet: no byte was taken of it, and no call has failed.
+    /// The file at a place, which is not open yet: it gave no byte, and no call has failed.
     pub fn new(place: P) -> ScriptFile<P>
-        ensures none_taken { result.taken ≡ 0 }
+        ensures none_given { result.given ≡ [] }
+        ensures not_ended { result.ended ≡ false }
         ensures no_fault { result.faults ≡ 0 }
     {
         ScriptFile {
             place,
             file: None,
-            taken: 0,
+            given: Given::new(),
+            ended: false,
             faults: Faults::new(),
         }
     }
@@ -61,28 +63,28 @@ impl<P: Place> Source for ScriptFile<P> {
 
     ghost faults = { λ source. source.faults };
 
-    ghost taken = { λ source. source.taken };
+    ghost given = { λ source. source.given };
+
+    ghost ended = { λ source. source.ended };
 
     fn take(&mut self, buf: &mut [u8]) -> Result<usize, Stop> {
-        // A count at its end cannot rise.
-        if self.taken > u64::MAX - buf.len() as u64 {
-            return Err(Stop::NoMemory);
-        }
-        if self.file.is_none() {
-            match self.place.open() {
-                Ok(file) => self.file = Some(file),
+        self.ended = false;
+        let mut file = match self.file.take() {
+            Some(file) => file,
+            None => match self.place.open() {
+                Ok(file) => file,
                 Err(_) => return Err(self.faults.raise()),
-            }
-        }
-        match &mut self.file {
-            Some(file) => match file.read(buf) {
-                Ok(n) => {
-                    self.taken += n as u64;
-                    Ok(n)
-                }
-                Err(_) => Err(self.faults.raise()),
             },
-            None => Ok(0),
+        };
+        let read = file.read(buf);
+        self.file = Some(file);
+        match read {
+            Ok(n) => {
+                self.given.note(&buf[..n]);
+                self.ended = is_end(buf, n);
+                Ok(n)
+            }
+            Err(_) => Err(self.faults.raise()),
         }
     }
 }

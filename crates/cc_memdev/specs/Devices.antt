@@ -1,5 +1,5 @@
 -- What clauses see of each memory device.
-use Rattle.std.specs.Prelude.{ℕ, max, map, List, [], ◌∷◌}
+use Rattle.std.specs.Prelude.{ℕ, Bool, max, map, List, [], ◌∷◌}
 use Rattle.std.specs.declared.vec.Vec.{Vec}
 use Rattle.std.specs.Global.{Global}
 use Rattle.cc_traits.specs.Disk.{Disk}
@@ -22,10 +22,12 @@ pub record LogState : Type 0 where
   pub stop : StopPlan
   pub faults : ℕ
 
--- the bytes that are left, how many were taken, and how many a call gives at most
+-- the bytes that are left, those that were given, whether the last call answered the end, and how many bytes a call gives
+-- at most
 pub record SourceState : Type 0 where
   pub left : List ℕ
-  pub taken : ℕ
+  pub given : List ℕ
+  pub ended : Bool
   pub chunk : ℕ
   pub takes : CallPlan
   pub faults : ℕ

@@ -1,12 +1,12 @@
 //! A source and a sink of bytes in memory.
 
 ghost use Rattle.std.specs.Prelude.{◌≡◌, ◌+◌, ◌-◌, ◌^◌, ◌<◌, ◌≤◌, ◌↔◌, true, false, min, length, take, drop, vec_len, [], ◌++◌, Some, IsOk, IfOk, OnOk, OnErr};
-ghost use Rattle.cc_traits.specs.Stop.{faults_in, taken_in, OnFailed, OnNoMemory};
+ghost use Rattle.cc_traits.specs.Stop.{faults_in, given_in, is_end, OnFailed, OnNoMemory};
 ghost use Rattle.cc_memdev.specs.Calls.{after_call, is_listed};
 ghost use Rattle.cc_memdev.specs.Devices.{SourceState, SinkState};
 
 use crate::calls::Calls;
-use cc_traits::{Faults, Sink, Source, Stop};
+use cc_traits::{Faults, Sink, Source, Stop, is_end};
 use std::alloc::Global;
 use std::marker::Model;
 
@@ -15,6 +15,7 @@ use std::marker::Model;
 pub struct MemSource {
     bytes: Vec<u8>,
     at: usize,
+    ended: bool,
     chunk: usize,
     takes: Calls,
     faults: Faults,
@@ -25,7 +26,8 @@ impl Model for MemSource {
 
     ghost view = { λ s. record {
       left = drop s.at s.bytes.items;
-      taken = s.at;
+      given = take s.at s.bytes.items;
+      ended = s.ended;
       chunk = s.chunk;
       takes = s.takes;
       faults = s.faults;
@@ -40,7 +42,8 @@ impl MemSource {
     pub fn new(bytes: Vec<u8>, chunk: usize, fails: Vec<u64>) -> MemSource
         requires { 0 < chunk }
         ensures left { result.left ≡ bytes.items }
-        ensures none_taken { result.taken ≡ 0 }
+        ensures none_given { result.given ≡ [] }
+        ensures not_ended { result.ended ≡ false }
         ensures chunk { result.chunk ≡ chunk }
         ensures takes { result.takes ≡ record { fails = fails.items; made = 0 } }
         ensures no_fault { result.faults ≡ 0 }
@@ -48,6 +51,7 @@ impl MemSource {
         MemSource {
             bytes,
             at: 0,
+            ended: false,
             chunk,
             takes: Calls::new(fails),
             faults: Faults::new(),
@@ -67,7 +71,9 @@ impl Source for MemSource {
 
     ghost faults = { λ s. s.faults };
 
-    ghost taken = { λ s. s.taken };
+    ghost given = { λ s. s.given };
+
+    ghost ended = { λ s. s.ended };
 
     fn take(&mut self, buf: &mut [u8]) -> Result<usize, Stop>
         ensures amount { IfOk result
@@ -75,16 +81,20 @@ impl Source for MemSource {
         ensures given { IfOk result (λ n. self.old.left ≡ take n buf.new ++ self.new.left) }
         ensures end { IfOk result (λ n. n ≡ 0 → 0 < length buf.old → self.old.left ≡ []) }
         ensures err { OnErr result (self.new.left ≡ self.old.left) }
-        ensures none_lost { self.new.taken + length self.new.left ≡ self.old.taken + length self.old.left }
+        ensures none_lost { self.new.given ++ self.new.left ≡ self.old.given ++ self.old.left }
+        ensures noted { self.new.given ≡ self.old.given ++ given_in buf.new result }
+        ensures at_end { self.new.ended ≡ is_end buf.new result }
         ensures state { self.new ≡ record self.old {
           left = self.new.left;
-          taken = self.old.taken + taken_in result;
+          given = self.new.given;
+          ended = self.new.ended;
           takes = after_call self.old.takes;
           faults = self.old.faults + faults_in result;
         } }
         ensures planned { IsOk result ↔ (is_listed self.old.takes ≡ false) }
         ensures full { OnNoMemory result (self.old.faults ≡ 2 ^ 64 - 1) }
     {
+        self.ended = false;
         if self.takes.is_next_listed() {
             return Err(self.faults.raise());
         }
@@ -92,6 +102,7 @@ impl Source for MemSource {
         let n = self.chunk.min(buf.len().min(left));
         buf[..n].copy_from_slice(&self.bytes[self.at..self.at + n]);
         self.at += n;
+        self.ended = is_end(buf, n);
         Ok(n)
     }
 }

@@ -1,5 +1,6 @@
 -- What each exit status says, and when it comes.
 use Rattle.std.proofs.Common.{◌≡◌, ◌≢◌, ℕ, ◌<◌, ◌≤◌, true, false, List, [], ◌++◌, length, length-append, append-nil, reverse, is_some, IfSome, Option, Some, None, Result, Ok, Err, ◌⊎◌, inl, inr, refl, sym, subst, ◌∙◌, ap, arith}
+use Rattle.std.proofs.lemmas.List.{append_cancel_left}
 use Rattle.cc_entry.specs.declared.answer.LineReply.{LineReply}
 use Rattle.cc_entry.specs.declared.entry.Entry.{Entry}
 use Rattle.cc_traits.specs.Told.{Both, IfTold, Gave}
@@ -8,7 +9,7 @@ use Rattle.cc_script.specs.Grammar.{script_of}
 use Rattle.cc_print.specs.Text.{text_of}
 use Rattle.cc_pieces.specs.Table.{table_of}
 use Rattle.cc_run.specs.Words.{is_command, mode_in}
-use Rattle.cc_run.specs.Ends.{Input, Output, status_of, IsCause, IsRead, IsWrong, WasTaken, TookMany, HasTooFewDevices, HasFailed, Spells, IsPut, IsRun, IsEnded, has_devices}
+use Rattle.cc_run.specs.Ends.{Input, Output, status_of, GaveAll, IsCause, IsRead, IsWrong, WasTaken, TookMany, HasTooFewDevices, HasFailed, Spells, IsPut, IsRun, IsEnded, has_devices}
 use Rattle.cc_run.specs.Complete.{Comes}
 use Rattle.cc_run.specs.declared.no_run.NoRun.{NoRun}
 use Rattle.cc_run.specs.declared.no_run.NoRun.TheVariants as no_run
@@ -34,19 +35,37 @@ taken-count (Some l) (Some a) told bytes is gave =
     let same : l ≡ told = cc is in
     omega (arith, ap length (sym same ∙ gave), length-append bytes a)
 
--- a source that was read to its end told few bytes
-read-few : (i : Input) (told : List ℕ) → WasTaken i.left i.left_after i.taken i.taken_after → i.left ≡ Some told → IsRead i → length told ≤ 16777216
-read-few i told w is read = omega (arith, read-count i.left i.left_after told w.bytes is w.front read.end, w.count, read.few)
+module _ (i : Input) (w : WasTaken i.left i.left_after i.given i.given_after) where
+  -- how many bytes were taken
+  count : length i.given_after ≡ length i.given + length w.bytes
+  count = ap length w.gave ∙ length-append i.given w.bytes
 
--- where many bytes were taken, a source told many
-many-told : (i : Input) (told : List ℕ) → WasTaken i.left i.left_after i.taken i.taken_after → i.left ≡ Some told → TookMany i → 16777216 < length told
-many-told i told w is many = omega (arith, taken-count i.left i.left_after told w.bytes is w.front, w.count, many)
+  -- a source that was read to its end told few bytes
+  read-few : (told : List ℕ) → i.left ≡ Some told → IsRead i → length told ≤ 16777216
+  read-few told is read = omega (arith, read-count i.left i.left_after told w.bytes is w.front read.end, count, read.few)
 
-wrong-is : (words : List (List ℕ)) (left : Option (List ℕ)) (told : List ℕ) (line : ℕ) → left ≡ Some told → IsWrong words left line → script_of (mode_in words) told ≡ Err line
-wrong-is words left told line is w = rw (told-same left told w.bytes is w.all) at w.wrong
+  -- where many bytes were taken, a source told many
+  many-told : (told : List ℕ) → i.left ≡ Some told → TookMany i → 16777216 < length told
+  many-told told is many = omega (arith, taken-count i.left i.left_after told w.bytes is w.front, count, many)
 
-spells-is : (words : List (List ℕ)) (left : Option (List ℕ)) (told : List ℕ) (script : Script) → left ≡ Some told → Spells words left script → script_of (mode_in words) told ≡ Ok script
-spells-is words left told script is w = rw (told-same left told w.bytes is w.all) at w.spelled
+  -- of a source from which few bytes come, few are taken
+  not-many : (bytes : List ℕ) → Comes i bytes → TookMany i → ⊥
+  not-many bytes comes many = go comes.come
+    where
+      go : (i.left ≡ Some bytes) ⊎ GaveAll i bytes → ⊥
+      go (inl told) = absurd (omega (arith, many-told bytes told many, comes.short))
+      go (inr all) = absurd (omega (arith, ap length all.gave, length-append i.given bytes, many, comes.short))
+
+-- all bytes that the source gave are those that come
+same-bytes : (i : Input) (bytes given : List ℕ) → (i.left ≡ Some bytes) ⊎ GaveAll i bytes → GaveAll i given → given ≡ bytes
+same-bytes i bytes given (inl told) all = told-same i.left bytes given told all.all
+same-bytes i bytes given (inr come) all = append_cancel_left i.given given bytes (sym all.gave ∙ come.gave)
+
+wrong-is : (i : Input) (bytes : List ℕ) (line : ℕ) → Comes i bytes → IsWrong i line → script_of (mode_in i.words) bytes ≡ Err line
+wrong-is i bytes line comes w = rw (same-bytes i bytes w.bytes comes.come w.given) at w.wrong
+
+spells-is : (i : Input) (bytes : List ℕ) (script : Script) → Comes i bytes → Spells i script → script_of (mode_in i.words) bytes ≡ Ok script
+spells-is i bytes script comes w = rw (same-bytes i bytes w.bytes comes.come w.given) at w.spelled
 
 not-both : (r : Result Script ℕ) (script : Script) (line : ℕ) → r ≡ Ok script → r ≡ Err line → ⊥
 not-both r script line ok err = absurd (cc (ok, err))
@@ -81,10 +100,10 @@ module _ (i : Input) (o : Output) (script : Option Script) (replies : List LineR
       by no_run.Usage is cause = cause
       by other is cause = absurd (cc is)
 
-  pub syntax-at : status ≡ 2 → (line : ℕ) × IsWrong i.words i.left line
-  syntax-at = cause-at 2 ((line : ℕ) × IsWrong i.words i.left line) by (λ e. absurd (cc e)) (λ e. absurd (cc e)) (λ e. absurd (cc e))
+  pub syntax-at : status ≡ 2 → (line : ℕ) × IsWrong i line
+  syntax-at = cause-at 2 ((line : ℕ) × IsWrong i line) by (λ e. absurd (cc e)) (λ e. absurd (cc e)) (λ e. absurd (cc e))
     where
-      by : (why : NoRun) → 2 ≡ status_of why → IsCause i why → (line : ℕ) × IsWrong i.words i.left line
+      by : (why : NoRun) → 2 ≡ status_of why → IsCause i why → (line : ℕ) × IsWrong i line
       by (no_run.Syntax line) is cause = (line, cause.1)
       by other is cause = absurd (cc is)
 
@@ -155,10 +174,10 @@ module _ (i : Input) (o : Output) (script : Option Script) (replies : List LineR
       go None e at' = none e.2.why e.2.status_is at'
       go (Some one) e at' = refl
 
-  pub spelled-at : IfSome script (Spells i.words i.left)
+  pub spelled-at : IfSome script (Spells i)
   spelled-at = go script ended
     where
-      go : (s : Option Script) → IsEnded i o s replies journal status → IfSome s (Spells i.words i.left)
+      go : (s : Option Script) → IsEnded i o s replies journal status → IfSome s (Spells i)
       go None e = tt
       go (Some one) e = e.spelled
 
@@ -188,25 +207,25 @@ module _ (i : Input) (o : Output) (script : Option Script) (replies : List LineR
       go None e = at e.2.why e.2.status_is (by e.2.why e.2.cause)
       go (Some one) e = run one e
 
-  pub syntax-always : WasTaken i.left i.left_after i.taken i.taken_after → (bytes : List ℕ) (line : ℕ) → Comes i bytes → script_of (mode_in i.words) bytes ≡ Err line → (status ≡ 2) ⊎ (status ≡ 6)
+  pub syntax-always : WasTaken i.left i.left_after i.given i.given_after → (bytes : List ℕ) (line : ℕ) → Comes i bytes → script_of (mode_in i.words) bytes ≡ Err line → (status ≡ 2) ⊎ (status ≡ 6)
   syntax-always w bytes line comes wrong = refused-at 2 by run
     where
       by : (why : NoRun) → IsCause i why → (status_of why ≡ 2) ⊎ (status_of why ≡ 6)
       by no_run.Usage cause = absurd (cc (cause, comes.words))
       by (no_run.Syntax l) cause = inl refl
       by no_run.ReadFault cause = absurd (omega (arith, cause.1, comes.no_fault))
-      by no_run.TooLong cause = absurd (omega (arith, many-told i bytes w comes.told cause.1, comes.short))
+      by no_run.TooLong cause = absurd (not-many i w bytes comes cause.1)
       by no_run.NoMemory cause = inr refl
-      by no_run.TooFewDevices cause = absurd (not-both _ cause.1.script line (spells-is i.words i.left bytes cause.1.script comes.told cause.1.spelled) wrong)
+      by no_run.TooFewDevices cause = absurd (not-both _ cause.1.script line (spells-is i bytes cause.1.script comes cause.1.spelled) wrong)
 
       run : (made : Script) → IsRun i o made replies journal status → (status ≡ 2) ⊎ (status ≡ 6)
-      run made e = absurd (not-both _ made line (spells-is i.words i.left bytes made comes.told e.spelled) wrong)
+      run made e = absurd (not-both _ made line (spells-is i bytes made comes e.spelled) wrong)
 
-  pub too_long-always : (is_command i.words ≡ false → i.taken_after ≡ i.taken) → TookMany i → (status ≡ 5) ⊎ (status ≡ 6)
+  pub too_long-always : (is_command i.words ≡ false → i.given_after ≡ i.given) → TookMany i → (status ≡ 5) ⊎ (status ≡ 6)
   too_long-always untouched many = refused-at 5 by run
     where
       by : (why : NoRun) → IsCause i why → (status_of why ≡ 5) ⊎ (status_of why ≡ 6)
-      by no_run.Usage cause = absurd (omega (arith, untouched cause, many))
+      by no_run.Usage cause = absurd (omega (arith, ap length (untouched cause), many))
       by (no_run.Syntax l) cause = absurd (omega (arith, cause.0.few, many))
       by no_run.ReadFault cause = absurd (omega (arith, cause.2, many))
       by no_run.TooLong cause = inl refl
@@ -216,47 +235,47 @@ module _ (i : Input) (o : Output) (script : Option Script) (replies : List LineR
       run : (made : Script) → IsRun i o made replies journal status → (status ≡ 5) ⊎ (status ≡ 6)
       run made e = absurd (omega (arith, e.read.few, many))
 
-  pub too_long-told : WasTaken i.left i.left_after i.taken i.taken_after → (bytes : List ℕ) → is_command i.words ≡ true → i.left ≡ Some bytes → i.faults_after ≡ i.faults → 16777216 < length bytes → (status ≡ 5) ⊎ (status ≡ 6)
+  pub too_long-told : WasTaken i.left i.left_after i.given i.given_after → (bytes : List ℕ) → is_command i.words ≡ true → i.left ≡ Some bytes → i.faults_after ≡ i.faults → 16777216 < length bytes → (status ≡ 5) ⊎ (status ≡ 6)
   too_long-told w bytes words told no_fault many = refused-at 5 by run
     where
       by : (why : NoRun) → IsCause i why → (status_of why ≡ 5) ⊎ (status_of why ≡ 6)
       by no_run.Usage cause = absurd (cc (cause, words))
-      by (no_run.Syntax l) cause = absurd (omega (arith, read-few i bytes w told cause.0, many))
+      by (no_run.Syntax l) cause = absurd (omega (arith, read-few i w bytes told cause.0, many))
       by no_run.ReadFault cause = absurd (omega (arith, cause.1, no_fault))
       by no_run.TooLong cause = inl refl
       by no_run.NoMemory cause = inr refl
-      by no_run.TooFewDevices cause = absurd (omega (arith, read-few i bytes w told cause.0, many))
+      by no_run.TooFewDevices cause = absurd (omega (arith, read-few i w bytes told cause.0, many))
 
       run : (made : Script) → IsRun i o made replies journal status → (status ≡ 5) ⊎ (status ≡ 6)
-      run made e = absurd (omega (arith, read-few i bytes w told e.read, many))
+      run made e = absurd (omega (arith, read-few i w bytes told e.read, many))
 
-  pub too_few-always : WasTaken i.left i.left_after i.taken i.taken_after → (bytes : List ℕ) (made : Script) → Comes i bytes → script_of (mode_in i.words) bytes ≡ Ok made → has_devices i.disks i.logs i.posts made ≡ false → (status ≡ 7) ⊎ (status ≡ 6)
+  pub too_few-always : WasTaken i.left i.left_after i.given i.given_after → (bytes : List ℕ) (made : Script) → Comes i bytes → script_of (mode_in i.words) bytes ≡ Ok made → has_devices i.disks i.logs i.posts made ≡ false → (status ≡ 7) ⊎ (status ≡ 6)
   too_few-always w bytes made comes spelled few = refused-at 7 by run
     where
       by : (why : NoRun) → IsCause i why → (status_of why ≡ 7) ⊎ (status_of why ≡ 6)
       by no_run.Usage cause = absurd (cc (cause, comes.words))
-      by (no_run.Syntax l) cause = absurd (not-both _ made l spelled (wrong-is i.words i.left bytes l comes.told cause.1))
+      by (no_run.Syntax l) cause = absurd (not-both _ made l spelled (wrong-is i bytes l comes cause.1))
       by no_run.ReadFault cause = absurd (omega (arith, cause.1, comes.no_fault))
-      by no_run.TooLong cause = absurd (omega (arith, many-told i bytes w comes.told cause.1, comes.short))
+      by no_run.TooLong cause = absurd (not-many i w bytes comes cause.1)
       by no_run.NoMemory cause = inr refl
       by no_run.TooFewDevices cause = inl refl
 
       run : (one : Script) → IsRun i o one replies journal status → (status ≡ 7) ⊎ (status ≡ 6)
       run one e =
-          let same : one ≡ made = one-script _ one made (spells-is i.words i.left bytes one comes.told e.spelled) spelled in
+          let same : one ≡ made = one-script _ one made (spells-is i bytes one comes e.spelled) spelled in
           absurd (cc (few, subst (λ s. has_devices i.disks i.logs i.posts s ≡ true) same e.enough))
 
-  pub complete : WasTaken i.left i.left_after i.taken i.taken_after → (bytes : List ℕ) (made : Script) → Comes i bytes → script_of (mode_in i.words) bytes ≡ Ok made → has_devices i.disks i.logs i.posts made ≡ true → o.faults_after ≡ o.faults → o.stalls_after ≡ o.stalls → (status ≡ 0) ⊎ (status ≡ 6)
+  pub complete : WasTaken i.left i.left_after i.given i.given_after → (bytes : List ℕ) (made : Script) → Comes i bytes → script_of (mode_in i.words) bytes ≡ Ok made → has_devices i.disks i.logs i.posts made ≡ true → o.faults_after ≡ o.faults → o.stalls_after ≡ o.stalls → (status ≡ 0) ⊎ (status ≡ 6)
   complete w bytes made comes spelled enough calm steady = refused-at 0 by run
     where
       by : (why : NoRun) → IsCause i why → (status_of why ≡ 0) ⊎ (status_of why ≡ 6)
       by no_run.Usage cause = absurd (cc (cause, comes.words))
-      by (no_run.Syntax l) cause = absurd (not-both _ made l spelled (wrong-is i.words i.left bytes l comes.told cause.1))
+      by (no_run.Syntax l) cause = absurd (not-both _ made l spelled (wrong-is i bytes l comes cause.1))
       by no_run.ReadFault cause = absurd (omega (arith, cause.1, comes.no_fault))
-      by no_run.TooLong cause = absurd (omega (arith, many-told i bytes w comes.told cause.1, comes.short))
+      by no_run.TooLong cause = absurd (not-many i w bytes comes cause.1)
       by no_run.NoMemory cause = inr refl
       by no_run.TooFewDevices cause =
-          let same : cause.1.script ≡ made = one-script _ cause.1.script made (spells-is i.words i.left bytes cause.1.script comes.told cause.1.spelled) spelled in
+          let same : cause.1.script ≡ made = one-script _ cause.1.script made (spells-is i bytes cause.1.script comes cause.1.spelled) spelled in
           absurd (cc (enough, subst (λ s. has_devices i.disks i.logs i.posts s ≡ false) same cause.1.few))
 
       at : (status ≡ 0) ⊎ ((status ≡ 4) ⊎ (status ≡ 6)) → (status ≡ 4 → HasFailed o) → (status ≡ 0) ⊎ (status ≡ 6)

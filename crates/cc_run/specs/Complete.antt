@@ -1,15 +1,15 @@
--- When each exit status is sure to come: that status, or 6 for want of memory. A source that tells nothing
--- says so of the count of its bytes alone.
+-- When each exit status is sure to come: that status, or 6 for want of memory.
 use Rattle.std.specs.Prelude.{◌≡◌, ◌<◌, ◌≤◌, ◌⊎◌, true, false, List, ℕ, length, Some, Result, Ok, Err}
 use Rattle.cc_script.specs.declared.script.Script.{Script}
 use Rattle.cc_script.specs.Grammar.{script_of}
 use Rattle.cc_run.specs.Words.{is_command, mode_in}
-use Rattle.cc_run.specs.Ends.{Input, Output, TookMany, has_devices}
+use Rattle.cc_run.specs.Ends.{Input, Output, GaveAll, TookMany, has_devices}
 
--- The words are right, and these bytes, no more than a script may have, come from a source without a fault.
+-- The words are right, and these bytes, no more than a script may have, come from a source without a fault: it told that
+-- they are left, or it gave them up to its end.
 pub record Comes (i : Input) (bytes : List ℕ) : Type 0 where
   pub words : is_command i.words ≡ true
-  pub told : i.left ≡ Some bytes
+  pub come : (i.left ≡ Some bytes) ⊎ GaveAll i bytes
   pub short : length bytes ≤ 16777216
   pub no_fault : i.faults_after ≡ i.faults
 

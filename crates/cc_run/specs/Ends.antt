@@ -43,31 +43,34 @@ fault_text no_run.NoMemory = []
 fault_text no_run.TooFewDevices = codes "too few devices" ++ line_feed
 
 -- What went into the program: its words; of the source, before and after, what it told of the bytes that
--- were left, its count of faults and how many bytes were taken from it; and the numbers of disks, of logs and of post
--- routines.
+-- were left, its count of faults and the bytes that it ever gave, and whether its last call answered the end; and the
+-- numbers of disks, of logs and of post routines.
 pub record Input : Type 0 where
   pub words : List (List ℕ)
   pub left : Option (List ℕ)
   pub left_after : Option (List ℕ)
   pub faults : ℕ
   pub faults_after : ℕ
-  pub taken : ℕ
-  pub taken_after : ℕ
+  pub given : List ℕ
+  pub given_after : List ℕ
+  pub ended : Bool
   pub disks : ℕ
   pub logs : ℕ
   pub posts : ℕ
 
 -- the input of a source that tells so
-abbrev pub input : {S : Type 0} → (S → Option (List ℕ)) → (S → ℕ) → (S → ℕ) → List (List ℕ) → S → S → ℕ → ℕ → ℕ → Input
-input told faults taken words old new disks logs posts =
+abbrev pub input : {S : Type 0} → (S → Option (List ℕ)) → (S → ℕ) → (S → List ℕ) → (S → Bool) → List (List ℕ) → S → S
+    → ℕ → ℕ → ℕ → Input
+input told faults given ended words old new disks logs posts =
     record {
       words = words;
       left = told old;
       left_after = told new;
       faults = faults old;
       faults_after = faults new;
-      taken = taken old;
-      taken_after = taken new;
+      given = given old;
+      given_after = given new;
+      ended = ended new;
       disks = disks;
       logs = logs;
       posts = posts;
@@ -95,35 +98,41 @@ output told faults stalls old new =
       stalls_after = stalls new;
     }
 
--- Some bytes were taken: the front of those that were left, where the source told them.
-pub record WasTaken (left left_after : Option (List ℕ)) (taken taken_after : ℕ) : Type 0 where
+-- Some bytes were taken: those that the source gave, and the front of those that were left, where it told them.
+pub record WasTaken (left left_after : Option (List ℕ)) (given given_after : List ℕ) : Type 0 where
   pub bytes : List ℕ
-  pub count : taken_after ≡ taken + length bytes
+  pub gave : given_after ≡ given ++ bytes
   pub front : Both left left_after (Gave bytes)
 
--- some bytes, all that were left where the source told them, spell the script in the mode of the words
-pub record Spells (words : List (List ℕ)) (left : Option (List ℕ)) (script : Script) : Type 0 where
-  pub bytes : List ℕ
-  pub all : IfTold left (λ told. bytes ≡ told)
-  pub spelled : script_of (mode_in words) bytes ≡ Ok script
+-- The source gave these bytes and then answered its end: they are all of its bytes, also where it told none of them.
+pub record GaveAll (i : Input) (bytes : List ℕ) : Type 0 where
+  pub gave : i.given_after ≡ i.given ++ bytes
+  pub ended : i.ended ≡ true
+  pub all : IfTold i.left (λ told. bytes ≡ told)
 
--- some bytes, all that were left where the source told them, have this line as their first wrong one
-pub record IsWrong (words : List (List ℕ)) (left : Option (List ℕ)) (line : ℕ) : Type 0 where
+-- all of the source's bytes spell the script in the mode of the words
+pub record Spells (i : Input) (script : Script) : Type 0 where
   pub bytes : List ℕ
-  pub all : IfTold left (λ told. bytes ≡ told)
-  pub wrong : script_of (mode_in words) bytes ≡ Err line
+  pub given : GaveAll i bytes
+  pub spelled : script_of (mode_in i.words) bytes ≡ Ok script
+
+-- all of the source's bytes have this line as their first wrong one
+pub record IsWrong (i : Input) (line : ℕ) : Type 0 where
+  pub bytes : List ℕ
+  pub given : GaveAll i bytes
+  pub wrong : script_of (mode_in i.words) bytes ≡ Err line
 
 -- no more bytes were taken than a script may have
 abbrev pub TookFew : Input → Type 0
-TookFew i = i.taken_after ≤ i.taken + 16777216
+TookFew i = length i.given_after ≤ length i.given + 16777216
 
 -- more were taken
 abbrev pub TookMany : Input → Type 0
-TookMany i = i.taken + 16777216 < i.taken_after
+TookMany i = length i.given + 16777216 < length i.given_after
 
 -- never more than one byte more is taken
 abbrev pub TookNoMore : Input → Type 0
-TookNoMore i = i.taken_after ≤ i.taken + 16777217
+TookNoMore i = length i.given_after ≤ length i.given + 16777217
 
 -- whether a log is one of so many, where one is named
 abbrev pub has_log : ℕ → Option ℕ → Bool
@@ -137,11 +146,11 @@ has_devices disks logs posts script =
     nat_le (length script.streams) disks
     && (list_all (λ stream. has_log logs stream.log) script.streams && nat_le (defer_lines script.lines) posts)
 
--- a script of the bytes has more streams than there are disks, names a log that there is not, or defers more writes than
--- there are routines
+-- the script of the source's bytes has more streams than there are disks, names a log that there is not, or defers more
+-- writes than there are routines
 pub record HasTooFewDevices (i : Input) : Type 0 where
   pub script : Script
-  pub spelled : Spells i.words i.left script
+  pub spelled : Spells i script
   pub few : has_devices i.disks i.logs i.posts script ≡ false
 
 -- the words were right, and the source was taken to its end without a fault
@@ -154,7 +163,7 @@ pub record IsRead (i : Input) : Type 0 where
 -- why no run was made; want of memory may come at any point
 abbrev pub IsCause : Input → NoRun → Type 0
 IsCause i no_run.Usage = is_command i.words ≡ false
-IsCause i (no_run.Syntax line) = IsRead i × IsWrong i.words i.left line
+IsCause i (no_run.Syntax line) = IsRead i × IsWrong i line
 IsCause i no_run.ReadFault = (is_command i.words ≡ true) × (i.faults < i.faults_after) × TookFew i
 IsCause i no_run.TooLong = (is_command i.words ≡ true) × TookMany i
 IsCause i no_run.NoMemory = Unit {0}
@@ -200,10 +209,10 @@ pub record IsPrinted (o : Output) (text : List ℕ) (status : ℕ) : Type 0 wher
   pub part : IsPartPut o text
   pub failed : status ≡ 4 → HasFailed o
 
--- a run was made of the script that the bytes spell
+-- a run was made of the script that the source's bytes spell
 pub record IsRun (i : Input) (o : Output) (script : Script) (replies : List LineReply) (journal : List Entry) (status : ℕ) : Type 0 where
   pub read : IsRead i
-  pub spelled : Spells i.words i.left script
+  pub spelled : Spells i script
   pub enough : has_devices i.disks i.logs i.posts script ≡ true
   pub printed : IsPrinted o (text_of script replies journal (table_of (reverse journal))) status
 

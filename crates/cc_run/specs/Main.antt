@@ -20,6 +20,6 @@ pub record HasMain (i : Input) (o : Output) (script : Option Script) (replies : 
   pub too_long_told : TooLongTold i status
   pub too_few : TooFewAlways i status
   pub complete : Completes i o status
-  -- how much of the source was taken: the front of what it told, and at most one byte more than a script may have
-  pub given : WasTaken i.left i.left_after i.taken i.taken_after
+  -- what was taken of the source: the front of what it told, and at most one byte more than a script may have
+  pub given : WasTaken i.left i.left_after i.given i.given_after
   pub bounded : TookNoMore i

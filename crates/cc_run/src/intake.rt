@@ -1,6 +1,6 @@
 //! The bytes of the script, from the source.
 
-ghost use Rattle.std.specs.Prelude.{◌≡◌, ◌<◌, ◌≤◌, ◌+◌, [], IfOk, OnOk, IsErrOf, vec_len};
+ghost use Rattle.std.specs.Prelude.{◌≡◌, ◌<◌, ◌≤◌, ◌+◌, true, [], ◌++◌, length, IfOk, OnOk, IsErrOf, vec_len};
 ghost use Rattle.cc_traits.specs.Told.{IfTold};
 ghost use Rattle.cc_run.specs.Ends.{WasTaken};
 ghost use Rattle.cc_run.specs.declared.intake.IntakeError.TheVariants as unread;
@@ -31,14 +31,17 @@ pub enum IntakeError {
 /// `Failed` where the source failed, `TooLong` where there are more than 16777216 bytes, `NoMemory`.
 pub fn take_all<S: Source>(alloc: Global, source: &mut S) -> Result<Vec<u8>, IntakeError>
     ensures all { IfOk result (λ bytes. IfTold (S.told source.old) (λ left. bytes.items ≡ left)) }
+    ensures gave { IfOk result (λ bytes. S.given source.new ≡ S.given source.old ++ bytes.items) }
+    ensures ended { OnOk result (S.ended source.new ≡ true) }
     ensures end { OnOk result (IfTold (S.told source.new) (λ rest. rest ≡ [])) }
     ensures no_fault { OnOk result (S.faults source.new ≡ S.faults source.old) }
     ensures failed { IsErrOf result IntakeError.Failed → S.faults source.old < S.faults source.new }
-    ensures few { OnOk result (S.taken source.new ≤ S.taken source.old + 16777216) }
-    ensures few_at_fault { IsErrOf result IntakeError.Failed → S.taken source.new ≤ S.taken source.old + 16777216 }
-    ensures long { IsErrOf result IntakeError.TooLong → S.taken source.old + 16777216 < S.taken source.new }
-    ensures bounded { S.taken source.new ≤ S.taken source.old + 16777217 }
-    ensures given { WasTaken (S.told source.old) (S.told source.new) (S.taken source.old) (S.taken source.new) }
+    ensures few { OnOk result (length (S.given source.new) ≤ length (S.given source.old) + 16777216) }
+    ensures few_at_fault { IsErrOf result IntakeError.Failed →
+        length (S.given source.new) ≤ length (S.given source.old) + 16777216 }
+    ensures long { IsErrOf result IntakeError.TooLong → length (S.given source.old) + 16777216 < length (S.given source.new) }
+    ensures bounded { length (S.given source.new) ≤ length (S.given source.old) + 16777217 }
+    ensures given { WasTaken (S.told source.old) (S.told source.new) (S.given source.old) (S.given source.new) }
 {
     let mut bytes = Vec::new(alloc);
     let mut buffer = [0; 4096];

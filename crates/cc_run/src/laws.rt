@@ -15,7 +15,7 @@ pub fn statuses_have_causes()
     ensures usage { (i : Input) (o : Output) (script : Option Script) (replies : List LineReply) (journal : List Entry)
         (status : ℕ) → IsEnded i o script replies journal status → status ≡ 1 → is_command i.words ≡ false }
     ensures syntax { (i : Input) (o : Output) (script : Option Script) (replies : List LineReply) (journal : List Entry)
-        (status : ℕ) → IsEnded i o script replies journal status → status ≡ 2 → (line : ℕ) × IsWrong i.words i.left line }
+        (status : ℕ) → IsEnded i o script replies journal status → status ≡ 2 → (line : ℕ) × IsWrong i line }
     ensures read_fault { (i : Input) (o : Output) (script : Option Script) (replies : List LineReply) (journal : List Entry)
         (status : ℕ) → IsEnded i o script replies journal status → status ≡ 3 → i.faults < i.faults_after }
     ensures write_fault { (i : Input) (o : Output) (script : Option Script) (replies : List LineReply) (journal : List Entry)
@@ -26,13 +26,13 @@ pub fn statuses_have_causes()
         (status : ℕ) → IsEnded i o script replies journal status → status ≡ 7 → HasTooFewDevices i }
 {}
 
-/// A run was made at the statuses 0 and 4, of the script that the bytes spell, and at 0 all of its text was written.
+/// A run was made at the statuses 0 and 4, of the script that all bytes of the source spell, and at 0 all of its text was written.
 /// Where none was made the journal is empty.
 pub fn runs_are_of_the_script()
     ensures made { (i : Input) (o : Output) (script : Option Script) (replies : List LineReply) (journal : List Entry)
         (status : ℕ) → IsEnded i o script replies journal status → (status ≡ 0) ⊎ (status ≡ 4) → is_some script ≡ true }
     ensures spelled { (i : Input) (o : Output) (script : Option Script) (replies : List LineReply) (journal : List Entry)
-        (status : ℕ) → IsEnded i o script replies journal status → IfSome script (Spells i.words i.left) }
+        (status : ℕ) → IsEnded i o script replies journal status → IfSome script (Spells i) }
     ensures printed { (i : Input) (o : Output) (script : Option Script) (replies : List LineReply) (journal : List Entry)
         (status : ℕ) → IsEnded i o script replies journal status → status ≡ 0 →
         IfSome script (λ made. IsPut o (the_text_of made replies journal (table_of (reverse journal)))) }

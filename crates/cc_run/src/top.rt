@@ -129,17 +129,18 @@ fn prepare<S: Source>(
     logs: usize,
     posts: usize,
 ) -> Result<Prepared, NoRun>
-    ensures read { OnOk result (IsRead (input S.told S.faults S.taken (map string_bytes words.now) source.old source.new
+    ensures read { OnOk result (IsRead (input S.told S.faults S.given S.ended (map string_bytes words.now) source.old source.new
         disks logs posts)) }
     ensures mode { IfOk result (λ prepared. prepared.mode ≡ mode_in (map string_bytes words.now)) }
-    ensures spelled { IfOk result (λ prepared. Spells (map string_bytes words.now) (S.told source.old) prepared.script) }
+    ensures spelled { IfOk result (λ prepared. Spells (input S.told S.faults S.given S.ended (map string_bytes words.now)
+        source.old source.new disks logs posts) prepared.script) }
     ensures untouched { is_command (map string_bytes words.now) ≡ false → source.new ≡ source.old }
-    ensures given { WasTaken (S.told source.old) (S.told source.new) (S.taken source.old) (S.taken source.new) }
-    ensures bounded { S.taken source.new ≤ S.taken source.old + 16777217 }
+    ensures given { WasTaken (S.told source.old) (S.told source.new) (S.given source.old) (S.given source.new) }
+    ensures bounded { length (S.given source.new) ≤ length (S.given source.old) + 16777217 }
     ensures within { IfOk result (λ prepared. IsWithin prepared.script) }
     ensures of_mode { IfOk result (λ prepared. IsOfMode prepared.mode prepared.script) }
     ensures enough { IfOk result (λ prepared. has_devices disks logs posts prepared.script ≡ true) }
-    ensures cause { IfErr result (IsCause (input S.told S.faults S.taken (map string_bytes words.now) source.old source.new
+    ensures cause { IfErr result (IsCause (input S.told S.faults S.given S.ended (map string_bytes words.now) source.old source.new
         disks logs posts)) }
 {
     let Some(mode) = mode_of(words) else {
@@ -213,7 +214,7 @@ fn conduct<
     ensures good { (u : Setup) → IsSetupOf D.told D.faults result.script disks.items logs.items u →
         IsGood u (reverse result.journal.items) }
     ensures ended { IsEnded
-        (input S.told S.faults S.taken (map string_bytes words.now) source.old source.new
+        (input S.told S.faults S.given S.ended (map string_bytes words.now) source.old source.new
         (length disks.items) (length logs.items) (length posts.items))
         (output K.told K.faults K.stalls out.old out.new)
         result.script result.replies.items result.journal.items result.status }
@@ -221,8 +222,8 @@ fn conduct<
         (setup_of D.told D.faults made disks.items logs.items) made
         (lines_answered result.replies.items) (reverse result.journal.items)) }
     ensures untouched { is_command (map string_bytes words.now) ≡ false → source.new ≡ source.old }
-    ensures given { WasTaken (S.told source.old) (S.told source.new) (S.taken source.old) (S.taken source.new) }
-    ensures bounded { S.taken source.new ≤ S.taken source.old + 16777217 }
+    ensures given { WasTaken (S.told source.old) (S.told source.new) (S.given source.old) (S.given source.new) }
+    ensures bounded { length (S.given source.new) ≤ length (S.given source.old) + 16777217 }
     ensures disks { DisksLeft D.told D.faults (reverse result.journal.items) disks.items result.disks.items }
     ensures logs { LogsLeft L.told L.faults (reverse result.journal.items) logs.items result.logs.items }
     ensures posts { PostsLeft Q.posted (deferrals_in result.script result.replies.items) (reverse result.journal.items)
@@ -299,10 +300,10 @@ pub fn cache_main<
         (setup_of D.told D.faults made disks.items logs.items) made
         (record { replies = result.replies.items; ticked = result.ticks.items; stepped = result.aheads.items })
         (reverse result.journal.items)) }
-    // How the program ended, with a run and without: the script, what was printed, the status and its cause, which
-    // statuses are sure to come, and how much of the source was taken.
+    // How the program ended, with a run and without: the script, which all bytes of the source spell, what was printed,
+    // the status and its cause, which statuses are sure to come, and what was taken of the source.
     ensures ended { HasMain
-        (input S.told S.faults S.taken (map string_bytes words.now) script.old script.new
+        (input S.told S.faults S.given S.ended (map string_bytes words.now) script.old script.new
         (length disks.items) (length logs.items) (length posts.items))
         (output K.told K.faults K.stalls out.old out.new)
         result.script result.replies.items result.journal.items result.status }

@@ -1,5 +1,5 @@
 -- How a call on an object outside ends, and what the object's count of faults makes of it.
-use Rattle.std.specs.Prelude.{ℕ, zero, List, ◌∷◌, Result, Ok, Err}
+use Rattle.std.specs.Prelude.{ℕ, zero, Bool, true, false, List, [], ◌∷◌, take, Result, Ok, Err}
 use Rattle.cc_traits.specs.declared.stop.Stop.{Stop}
 use Rattle.cc_traits.specs.declared.stop.Stop.TheVariants.{Failed, NoMemory}
 
@@ -30,7 +30,12 @@ abbrev pub stalls_in : List ℕ → Result ℕ Stop → ℕ
 stalls_in (byte ∷ bytes) (Ok zero) = 1
 stalls_in bytes taken = 0
 
--- how many bytes a call on a source took from it
-abbrev pub taken_in : Result ℕ Stop → ℕ
-taken_in (Ok n) = n
-taken_in (Err stop) = 0
+-- the bytes that a call on a source gave: the front of its buffer, as the call leaves it
+abbrev pub given_in : List ℕ → Result ℕ Stop → List ℕ
+given_in buffer (Ok n) = take n buffer
+given_in buffer (Err stop) = []
+
+-- whether a call on a source answered the end: no byte, for a buffer that is not empty
+abbrev pub is_end : List ℕ → Result ℕ Stop → Bool
+is_end (byte ∷ bytes) (Ok zero) = true
+is_end buffer given = false

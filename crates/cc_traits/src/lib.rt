@@ -2,9 +2,9 @@
 //! and the gate that callers pass.
 //!
 //! Each trait says what a call may do to its object. An object in memory tells what it holds, as
-//! plain data that clauses see; one over a real file tells nothing. Each object that can fail has a
-//! count of faults, which rises by one exactly where a call answers [`Stop::Failed`], so that whoever
-//! is above can show that a fault it reports did happen.
+//! plain data that clauses see; one over a real file tells nothing, but a source always what it gave.
+//! Each object that can fail has a count of faults, which rises by one exactly where a call answers
+//! [`Stop::Failed`], so that whoever is above can show that a fault it reports did happen.
 //!
 //! This crate stands on std and the kit's `thiserror` alone. The devices implement these traits, and the
 //! cache is written over them.
@@ -13,6 +13,7 @@
 mod disk;
 mod faults;
 mod gate;
+mod given;
 mod log;
 mod post;
 mod setup;
@@ -22,8 +23,9 @@ mod stream;
 pub use disk::{PageDisk, Told};
 pub use faults::Faults;
 pub use gate::Gate;
+pub use given::Given;
 pub use log::LogFile;
 pub use post::{PostRoutine, PostedRoutine};
 pub use setup::Setup;
 pub use stop::Stop;
-pub use stream::{Sink, Source};
+pub use stream::{Sink, Source, is_end};

@@ -1,7 +1,7 @@
 //! Streams of bytes: a source that a script comes from, a sink that a text goes to.
 
-ghost use Rattle.std.specs.Prelude.{◌≡◌, ℕ, ◌+◌, ◌<◌, ◌≤◌, Option, List, [], length, take, IfOk, OnErr};
-ghost use Rattle.cc_traits.specs.Stop.{faults_in, stalls_in, taken_in};
+ghost use Rattle.std.specs.Prelude.{◌≡◌, ℕ, ◌+◌, ◌<◌, ◌≤◌, Bool, Option, List, [], ◌++◌, length, take, Ok, IfOk, OnErr};
+ghost use Rattle.cc_traits.specs.Stop.{faults_in, stalls_in, given_in, is_end};
 ghost use Rattle.cc_traits.specs.Told.{Both, IfTold, Gave, Took};
 
 use crate::Stop;
@@ -14,8 +14,11 @@ pub trait Source {
     // How many calls failed, a number below 2 ^ 64.
     ghost faults: { Self → ℕ };
 
-    // How many bytes were ever taken from it, also where it tells none of them.
-    ghost taken: { Self → ℕ };
+    // The bytes that it ever gave, the first one first, also where it tells nothing of those that are left.
+    ghost given: { Self → List ℕ };
+
+    // Whether the last call on it answered the end.
+    ghost ended: { Self → Bool };
 
     /// Takes the next bytes into the front of `buf` and answers how many they are. 0 for a buffer
     /// that is not empty is the end. What the rest of the buffer has, and all of it where the call
@@ -27,7 +30,15 @@ pub trait Source {
             (λ n. n ≡ 0 → 0 < length buf.old → IfTold (told self.old) (λ left. left ≡ [])) }
         ensures err { OnErr result (told self.new ≡ told self.old) }
         ensures counted { faults self.new ≡ faults self.old + faults_in result }
-        ensures measured { taken self.new ≡ taken self.old + taken_in result };
+        ensures noted { given self.new ≡ given self.old ++ given_in buf.new result }
+        ensures at_end { ended self.new ≡ is_end buf.new result };
+}
+
+/// Whether a source that gave so many bytes into a buffer answered its end.
+pub fn is_end(buf: &[u8], given: usize) -> bool
+    ensures { result ≡ is_end buf.now (Ok given) }
+{
+    given == 0 && !buf.is_empty()
 }
 
 /// Bytes that go out, as those of a printed text.

@@ -75,7 +75,7 @@ fn run<R: Threads + Wait + Sync, S: Source, K: Sink>(
     out: &mut K,
 ) -> Result<u8, AllocError>
     ensures { IfOk result (HasEnded
-        (input S.told S.faults S.taken (map string_bytes words.now) script.old script.new 16 4 64)
+        (input S.told S.faults S.given S.ended (map string_bytes words.now) script.old script.new 16 4 64)
         (output K.told K.faults K.stalls out.old out.new)) }
 {
     let disks = devices(alloc)?;

@@ -1,4 +1,4 @@
-use Rattle.std.proofs.Common.{◌≡◌, ◌+◌, ◌≤◌, vec_len}
+use Rattle.std.proofs.Common.{◌≡◌, ◌≤◌, ◌++◌, vec_len}
 use Rattle.cc_run.proofs.Told.{HasGiven}
 use Rattle.cc_run.proofs.intake.take_all.Given as goal
 
@@ -6,6 +6,6 @@ abbrev pub invariant-loop : goal.invariant-loop
 invariant-loop g l = record {
   few : vec_len l.bytes ≤ 16777216;
   faults : g.S.Source.faults l.source ≡ g.S.Source.faults l.initial.source;
-  taken : g.S.Source.taken l.source ≡ g.S.Source.taken l.initial.source + vec_len l.bytes;
+  noted : g.S.Source.given l.source ≡ g.S.Source.given l.initial.source ++ l.bytes.items;
   given : HasGiven l.bytes.items (g.S.Source.told l.initial.source) (g.S.Source.told l.source);
 }
