@@ -1,5 +1,1 @@
 mod Desks
-mod LightSteps
-mod Opened
-mod Goodness
-mod LifeSteps

@@ -1,4 +1,2 @@
 -- What the tests' contracts cite.
-pub mod Light
 pub mod Boards
-pub mod Life

@@ -1,10 +1,10 @@
-//! Tests of public calls: each on its happy path with ample memory, and what no clause can say.
+//! Tests of public calls that no script makes: each on its happy path with ample memory, and what no clause can say.
 //!
 //! A clause can't forbid want of memory, so a body that always answers it is proved under any contract, and one
 //! whose `requires` no journal meets is proved whatever it does; here most such calls are made once and the answer
 //! compared. The expected values come from the formats, rules and definitions that docs/ states, none from the
 //! program. The tests of a crate stand here so that the crate itself is proved once. Scripts that run whole are
-//! tested in `cases`. Nothing stands on this crate.
+//! tested in `cases`, and with them the calls that they make. Nothing stands on this crate.
 #![tactic(auto)]
 
 #[cfg(test)]
@@ -12,46 +12,22 @@ mod ahead;
 #[cfg(test)]
 mod board;
 #[cfg(test)]
-mod book;
-#[cfg(test)]
-mod container;
-#[cfg(test)]
-mod contents;
-#[cfg(test)]
 mod desk;
 #[cfg(test)]
 mod devices;
 #[cfg(test)]
-mod dirty;
-#[cfg(test)]
-mod events;
-#[cfg(test)]
 mod files;
-#[cfg(test)]
-mod holds;
-#[cfg(test)]
-mod journal;
 #[cfg(test)]
 mod log;
 #[cfg(test)]
-mod pages;
-#[cfg(test)]
 mod readers;
-#[cfg(test)]
-mod refusal;
-#[cfg(test)]
-mod resident;
 #[cfg(test)]
 mod script;
 #[cfg(test)]
 mod sent;
-#[cfg(test)]
-mod stream;
 #[cfg(test)]
 mod text;
 #[cfg(test)]
 mod vacb;
 #[cfg(test)]
 mod values;
-#[cfg(test)]
-mod views;
