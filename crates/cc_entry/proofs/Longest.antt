@@ -1,9 +1,11 @@
 -- The longest runs of equal bytes spell the bytes, and one more stands before those of the bytes behind it.
-use Rattle.std.proofs.Common.{◌≡◌, ◌≢◌, ℕ, suc, zero, ◌+◌, ◌==◌, Bool, true, false, List, [], ◌∷◌, ◌++◌, replicate, refl, ap, sym, ◌∙◌, arith, slice_get, Option, Some, None, subst, nat_eq, ◌&&◌, Decides}
+use Rattle.std.proofs.Common.{◌≡◌, ◌≢◌, ℕ, suc, zero, ◌+◌, ◌<◌, ◌==◌, Bool, true, false, List, [], ◌∷◌, ◌++◌, replicate, length, map, take, drop, get_or, append_assoc, refl, ap, sym, ◌∙◌, arith, slice_get, Option, Some, None, subst, nat_eq, ◌&&◌, Decides}
+use Rattle.std.proofs.lemmas.List.{drop_more, take_more, map-append}
+use Rattle.std.proofs.lemmas.Option.{get_or_from_slice_get}
 use Rattle.std.proofs.lemmas.Bool.Decides.{nat_tests, Decides-eqb, Decides-like, Decides-and, same_from_decides}
 use Rattle.std.specs.Cmp.Lexicographic.{pointwise, pointwise_decides, bytes_decides}
 use Rattle.cc_entry.specs.declared.runs.Run.{Run}
-use Rattle.cc_entry.specs.Runs.{spelled, joined, runs_of, AreLongest}
+use Rattle.cc_entry.specs.Runs.{spelled, joined, runs_of, alone, AreLongest}
 
 -- a byte before the longest runs leaves them the longest
 joined-longest : (x : ℕ) (rs : List Run) → AreLongest rs → AreLongest (joined x rs)
@@ -42,9 +44,9 @@ spelled-runs_of [] = refl
 spelled-runs_of (x ∷ bs) = spelled-joined x (runs_of bs) ∙ ap (x ∷◌) (spelled-runs_of bs)
 
 -- one byte is a run of its own before bytes that begin with another
-alone : (b : ℕ) (bs : List ℕ) → slice_get bs 0 ≢ Some b → runs_of (b ∷ bs) ≡ record { byte = b; count = 1 } ∷ runs_of bs
-alone b [] other = refl
-alone b (x ∷ bs) other = before (runs_of bs)
+alone_first : (b : ℕ) (bs : List ℕ) → slice_get bs 0 ≢ Some b → runs_of (b ∷ bs) ≡ record { byte = b; count = 1 } ∷ runs_of bs
+alone_first b [] other = refl
+alone_first b (x ∷ bs) other = before (runs_of bs)
   where
     differs : (x == b) ≡ false
     differs = either (x == b) refl
@@ -65,7 +67,7 @@ alone b (x ∷ bs) other = before (runs_of bs)
 
 -- bytes of one value are the first run where another byte follows, or none
 pub runs_of-first : (b n : ℕ) (bs : List ℕ) → slice_get bs 0 ≢ Some b → runs_of (replicate (suc n) b ++ bs) ≡ record { byte = b; count = suc n } ∷ runs_of bs
-runs_of-first b zero bs other = alone b bs other
+runs_of-first b zero bs other = alone_first b bs other
 runs_of-first b (suc n) bs other =
     let same : (b == b) ≡ true = (Decides-eqb b b).1 refl in let more : suc n + 1 ≡ suc (suc n) = omega arith in
     rw (runs_of-first b n bs other) (simp (same, more))
@@ -74,6 +76,17 @@ runs_of-first b (suc n) bs other =
 pub first_run : (b n : ℕ) (bs all : List ℕ) → replicate n b ++ bs ≡ all → slice_get all 0 ≡ Some b → slice_get bs 0 ≢ Some b → runs_of all ≡ record { byte = b; count = n } ∷ runs_of bs
 first_run b zero bs all e first other = absurd (other (ap (λ bytes. slice_get bytes 0) e ∙ first))
 first_run b (suc n) bs all e first other = ap runs_of (sym e) ∙ runs_of-first b n bs other
+
+-- a byte that another one follows is one more run of one byte
+pub alone_more : (bytes behind : List ℕ) (n : ℕ) → n + 1 < length bytes → (get_or bytes n 0 ≡ get_or bytes (n + 1) 0 → ⊥) → runs_of (bytes ++ behind) ≡ map alone (take n bytes) ++ runs_of (drop n bytes ++ behind) → runs_of (bytes ++ behind) ≡ map alone (take (n + 1) bytes) ++ runs_of (drop (n + 1) bytes ++ behind)
+alone_more bytes behind n h other e =
+    let b = get_or bytes n 0 in let rest = drop (n + 1) bytes ++ behind in let before = map alone (take n bytes) in
+    let next : drop (n + 1) bytes ≡ get_or bytes (n + 1) 0 ∷ drop (n + 1 + 1) bytes = drop_more bytes (n + 1) 0 h in
+    let follows : slice_get rest 0 ≢ Some b =
+    λ same. other (sym (get_or_from_slice_get rest 0 b 0 same) ∙ ap (λ bs. get_or (bs ++ behind) 0 0) next) in
+    e ∙ ap (λ bs. before ++ runs_of (bs ++ behind)) (drop_more bytes n 0 (omega arith)) ∙ ap (before ++◌) (alone_first b rest follows)
+    ∙ sym (append_assoc before (alone b ∷ []) (runs_of rest))
+    ∙ ap (λ rs. rs ++ runs_of rest) (sym (ap (map alone) (take_more bytes n 0 (omega arith)) ∙ map-append alone (take n bytes) (b ∷ [])))
 
 -- no byte is first only where there is none
 pub no_run : (bs : List ℕ) → slice_get bs 0 ≡ None → runs_of bs ≡ []

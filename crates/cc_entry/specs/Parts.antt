@@ -1,24 +1,13 @@
--- Bytes as parts that are kept in one of two ways.
-use Rattle.std.specs.Prelude.{ℕ, ◌^◌, ◌≡◌, ◌<◌, List, [], ◌∷◌, length, take, replicate}
-use Rattle.cc_entry.specs.declared.part.Kind.{Kind}
-use Rattle.cc_entry.specs.declared.part.Kind.TheVariants.{Few, Run}
+-- Bytes as parts: of each some bytes as they are, which one list keeps for all parts, and then more of one value.
+use Rattle.std.specs.Prelude.{ℕ, ◌+◌, List, [], ◌∷◌, ◌++◌, take, drop, replicate}
+use Rattle.cc_entry.specs.declared.part.Part.{Part}
 
--- the bytes of a part
-abbrev pub bytes_in : Kind → List ℕ
-bytes_in (Few len bytes) = take len bytes
-bytes_in (Run byte count) = replicate count byte
+-- the bytes of parts, of which these are kept as they are
+abbrev pub bytes_in : List Part → List ℕ → List ℕ
+bytes_in [] plain = []
+bytes_in (part ∷ parts) plain = take part.plain plain ++ (replicate part.count part.byte ++ bytes_in parts (drop part.plain plain))
 
--- how many they are
-abbrev pub len_in : Kind → ℕ
-len_in (Few len bytes) = len
-len_in (Run byte count) = count
-
--- the most that a part kept so can have
-abbrev pub most_in : Kind → ℕ
-most_in (Few len bytes) = 14
-most_in (Run byte count) = 2 ^ 64
-
--- a place within the first part; 0 where there is none
-abbrev pub IsInFirst : ℕ → List (List ℕ) → Type 0
-IsInFirst read [] = read ≡ 0
-IsInFirst read (part ∷ parts) = read < length part
+-- how many are kept as they are
+abbrev pub plain_in : List Part → ℕ
+plain_in [] = 0
+plain_in (part ∷ parts) = part.plain + plain_in parts

@@ -19,6 +19,10 @@ abbrev pub runs_of : List ℕ → List Run
 runs_of [] = []
 runs_of (byte ∷ bytes) = joined byte (runs_of bytes)
 
+-- one byte as a run
+abbrev pub alone : ℕ → Run
+alone byte = record { byte = byte; count = 1 }
+
 -- no run is empty, and neighbours have different bytes
 abbrev pub AreLongest : List Run → Type 0
 AreLongest [] = ⊤

@@ -21,6 +21,7 @@ mod part;
 pub mod place;
 pub mod reply;
 pub mod runs;
+mod scan;
 
 pub use answer::{AheadDone, Answer, AsyncDone, AsyncId, AsyncStart, LineReply, Tick};
 pub use bytes::{Bytes, BytesRoom};
