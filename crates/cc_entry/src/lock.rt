@@ -24,7 +24,11 @@ pub enum LockCall {
         id: u64,
     },
     /// The lock is gone where the file object owned it.
-    Unlock { file: FileId, id: u64, gone: bool },
+    Unlock {
+        file: FileId,
+        id: u64,
+        gone: bool,
+    },
 }
 
 impl Lock {

@@ -18,6 +18,12 @@ mod devices;
 #[cfg(test)]
 mod files;
 #[cfg(test)]
+mod holds;
+#[cfg(test)]
+mod journal;
+#[cfg(test)]
+mod locks;
+#[cfg(test)]
 mod log;
 #[cfg(test)]
 mod readers;

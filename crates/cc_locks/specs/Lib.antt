@@ -1,0 +1,5 @@
+-- What the contracts cite.
+pub mod Past
+pub mod Asked
+pub mod Place
+pub mod Locks
