@@ -62,11 +62,11 @@ scans_none_ran total last e past other stood = scans_stand_other total last e pa
   where
     no_scan : (e : Entry) → ((pass : ℕ) (picked : List Page) → e ≡ entry.Scan pass picked → ⊥) → is_scan e ≡ false
     no_scan (entry.Scan pass picked) other = absurd (other pass picked refl)
-    no_scan (entry.Record pass stream size valid how) other = absurd (other pass picked refl)
-    no_scan (entry.RecordFailed pass stream) other = absurd (other pass picked refl)
-    no_scan (entry.Locked pass file span exclusive granted id) other = absurd (other pass picked refl)
-    no_scan (entry.Unlocked pass file id gone) other = absurd (other pass picked refl)
-    no_scan (entry.Tested pass file span write conflict) other = absurd (other pass picked refl)
+    no_scan (entry.Record pass stream size valid how) other = refl
+    no_scan (entry.RecordFailed pass stream) other = refl
+    no_scan (entry.Locked pass file span exclusive granted id) other = refl
+    no_scan (entry.Unlocked pass file id gone) other = refl
+    no_scan (entry.Tested pass file span write conflict) other = refl
     no_scan (entry.Call pass nth stream call ended) other = refl
     no_scan (entry.PageIn pass page from_disk) other = refl
     no_scan (entry.PageOut pass page) other = refl

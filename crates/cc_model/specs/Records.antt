@@ -19,9 +19,9 @@ first_valid (Did pass call reply ∷ h) =
     elim (had_map h) [
       | true ↦ first_valid h
       | false ↦ elim (act_of call) [
-          | Opens file sizes quota temporary ↦ sizes.valid
-          | _ ↦ 0
-        ]
+        | Opens file sizes quota temporary ↦ sizes.valid
+        | _ ↦ 0
+      ]
     ]
 first_valid (other ∷ h) = first_valid h
 

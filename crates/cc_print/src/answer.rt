@@ -6,7 +6,8 @@ ghost use Rattle.cc_print.specs.Answers.{error_numbers, error_text, row_text, ro
 
 use crate::words::{push_bytes, push_file, push_page};
 use cc_entry::{
-    AheadDone, Answer, AsyncDone, AsyncStart, Bytes, CcError, DirtyRow, FileState, Lsn, Reply, Request, Tick,
+    AheadDone, Answer, AsyncDone, AsyncStart, Bytes, CcError, DirtyRow, FileState, Lsn, Reply,
+    Request, Tick,
 };
 use cc_script::StreamLine;
 use std::alloc::AllocError;
@@ -274,8 +275,8 @@ fn push_started(text: &mut String, started: &AsyncStart) -> Result<(), AllocErro
 }
 
 // A queued read that was completed, with its answer.
-fn push_completed(text: &mut String, completed: Option<&AsyncDone>) -> Result<(), AllocError>
-    ensures { OnOk result (string_bytes text.new ≡ string_bytes text.old ++ completed_text completed) }
+fn push_completed(text: &mut String, completed: &Option<AsyncDone>) -> Result<(), AllocError>
+    ensures { OnOk result (string_bytes text.new ≡ string_bytes text.old ++ completed_text completed.now) }
 {
     let done = match completed {
         Some(done) => done,
@@ -317,7 +318,7 @@ pub(crate) fn push_answer(
         Answer::Levels(levels) => write!(text, "ok levels {levels}"),
         Answer::Stepped(stepped) => push_stepped(text, streams, *stepped),
         Answer::Started(started) => push_started(text, started),
-        Answer::Completed(completed) => push_completed(text, completed.as_ref()),
+        Answer::Completed(completed) => push_completed(text, completed),
         Answer::Restarted(updates) => write!(text, "ok restart {updates}"),
         Answer::LockId(id) => write!(text, "ok lock {id}"),
         Answer::NoHold => text.push_str("no hold"),

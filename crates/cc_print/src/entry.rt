@@ -115,14 +115,14 @@ fn push_scan(
 fn push_range(
     text: &mut String,
     streams: &[StreamLine],
-    verb: (&str, u32),
+    verb: &str,
+    pass: u32,
     file: FileId,
     span: Span,
 ) -> Result<(), AllocError>
     ensures { OnOk result
-        (string_bytes text.new ≡ string_bytes text.old ++ range_text streams.now verb.0.now verb.1 file span) }
+        (string_bytes text.new ≡ string_bytes text.old ++ range_text streams.now verb.now pass file span) }
 {
-    let (verb, pass) = verb;
     write!(text, "{verb} {pass} ")?;
     push_file(text, streams, file)?;
     let from = span.from();
@@ -131,7 +131,12 @@ fn push_range(
 }
 
 // How a lock was asked for, and its id or that of the lock in its way.
-fn push_granted(text: &mut String, exclusive: bool, granted: bool, id: u64) -> Result<(), AllocError>
+fn push_granted(
+    text: &mut String,
+    exclusive: bool,
+    granted: bool,
+    id: u64,
+) -> Result<(), AllocError>
     ensures { OnOk result
         (string_bytes text.new ≡ string_bytes text.old ++ (word_if exclusive (codes " excl") ++ granted_text granted id)) }
 {
@@ -245,7 +250,7 @@ pub(crate) fn push_entry(
             granted,
             id,
         } => {
-            push_range(text, streams, ("locked", *pass), *file, *span)?;
+            push_range(text, streams, "locked", *pass, *file, *span)?;
             push_granted(text, *exclusive, *granted, *id)
         }
         Entry::Unlocked {
@@ -265,7 +270,7 @@ pub(crate) fn push_entry(
             write,
             conflict,
         } => {
-            push_range(text, streams, ("tested", *pass), *file, *span)?;
+            push_range(text, streams, "tested", *pass, *file, *span)?;
             push_test(text, *write, *conflict)
         }
     }

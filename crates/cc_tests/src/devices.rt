@@ -71,7 +71,7 @@ fn a_log_takes_5000_appends(rt: HostRuntime) -> Result<(), Fail> {
     assert_eq!(rt; append_and_flush(&mut boxed, 5002), Ok(()));
     let mut bytes = Vec::new(rt.alloc());
     assert_eq!(rt; boxed.entry(5000, &mut bytes), Ok(Some(5002)));
-    assert_eq!(rt; bytes.as_slice(), b"ab");
+    assert_eq!(rt; bytes.as_slice(), b"ab".as_slice());
     assert_eq!(rt; boxed.entry(5001, &mut bytes), Ok(None));
     assert_eq!(rt; boxed.entry(0, &mut bytes), Err(Stop::Failed));
     Ok(())

@@ -18,10 +18,6 @@ mod devices;
 #[cfg(test)]
 mod files;
 #[cfg(test)]
-mod holds;
-#[cfg(test)]
-mod journal;
-#[cfg(test)]
 mod locks;
 #[cfg(test)]
 mod log;

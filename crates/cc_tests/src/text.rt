@@ -4,8 +4,8 @@
 
 use cc_entry::{
     AheadDone, Answer, AsyncDone, AsyncId, AsyncStart, Bytes, Call, CcError, DirtyRow, End, Entry,
-    FileId, FileSizes, FileState, Ids, LineReply, Lsn, Outcome, PageId, Pages, Quota, Reply, Request,
-    Rows, Span, StreamId, Tick,
+    FileId, FileSizes, FileState, Ids, LineReply, Lsn, Outcome, PageId, Pages, Quota, Reply,
+    Request, Rows, Span, StreamId, Tick,
 };
 use cc_print::{TableRow, text_of};
 use cc_script::{Mode, read_script};

@@ -22,6 +22,8 @@ is_failure-unneeded : (e : Entry) (s : ℕ) → needs e (Device s) ≡ false →
 is_failure-unneeded (entry.FillFailed pass page) s unneeded = eqb-swapped s page.stream unneeded
 is_failure-unneeded (entry.WriteEnd pass page how) s unneeded = rw (eqb-swapped s page.stream unneeded) refl
 is_failure-unneeded (entry.Sync pass stream how) s unneeded = rw (eqb-swapped s stream unneeded) refl
+is_failure-unneeded (entry.Record pass stream size valid how) s unneeded = rw (eqb-swapped s stream unneeded) refl
+is_failure-unneeded (entry.RecordFailed pass stream) s unneeded = eqb-swapped s stream unneeded
 is_failure-unneeded other s unneeded = refl
 
 -- entries that do not need the disk show no failure of it

@@ -30,6 +30,8 @@ leaves_disk s (entry.FillFailed pass page) = not (page.stream == s)
 leaves_disk s (entry.WriteBegin pass page) = not (page.stream == s)
 leaves_disk s (entry.WriteEnd pass page how) = not (page.stream == s)
 leaves_disk s (entry.Sync pass stream how) = not (stream == s) || not (ended_ok how || is_failed how)
+leaves_disk s (entry.Record pass stream size valid how) = not (stream == s)
+leaves_disk s (entry.RecordFailed pass stream) = not (stream == s)
 leaves_disk s other = true
 
 -- whether an effect leaves the transfers of its stream, its images and what a crash may leave
@@ -85,6 +87,8 @@ is_failure-left (entry.Sync pass stream how) s left = go (stream == s) how left
     go true end.Good left = refl
     go true end.Failed left = sym left
     go true end.NoMemory left = refl
+is_failure-left (entry.Record pass stream size valid how) s left = rw (not-true _ left) refl
+is_failure-left (entry.RecordFailed pass stream) s left = not-true _ left
 is_failure-left other s left = refl
 
 -- what no such effect changes is kept where there is one alone, or none

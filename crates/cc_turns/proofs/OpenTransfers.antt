@@ -107,6 +107,8 @@ leaves_disk-unneeded (entry.FillFailed pass page) s unneeded = rw (eqb-swapped s
 leaves_disk-unneeded (entry.WriteBegin pass page) s unneeded = rw (eqb-swapped s page.stream unneeded) refl
 leaves_disk-unneeded (entry.WriteEnd pass page how) s unneeded = rw (eqb-swapped s page.stream unneeded) refl
 leaves_disk-unneeded (entry.Sync pass stream how) s unneeded = rw (eqb-swapped s stream unneeded) refl
+leaves_disk-unneeded (entry.Record pass stream size valid how) s unneeded = rw (eqb-swapped s stream unneeded) refl
+leaves_disk-unneeded (entry.RecordFailed pass stream) s unneeded = rw (eqb-swapped s stream unneeded) refl
 leaves_disk-unneeded other s unneeded = refl
 
 pub IsUnderWay-grown : {D : Type 0} (told : D → Option Disk) (faults : D → ℕ) (first : DiskAtFirst) (added past : List Entry) (pass s page : ℕ) (bytes : List ℕ) (disk : D) → is_quiet (Device s) added ≡ true → IsUnderWay told faults first past pass s page bytes disk → IsUnderWay told faults first (added ++ past) pass s page bytes disk

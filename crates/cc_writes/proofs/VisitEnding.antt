@@ -79,6 +79,7 @@ wants-none false how.NoMemory shown fault is = absurd (cc)
 no-want : (me : ℕ) (stop : Entry) (fault : Fault) → fault_of me stop ≡ Some fault → found_no_memory stop ≡ false
 no-want me (entry.WriteEnd pass page end) fault is = wants-none (pass == me) end (WriteFailed page.page) fault is
 no-want me (entry.Sync pass stream end) fault is = wants-none (pass == me) end SyncFailed fault is
+no-want me (entry.Record pass stream size valid how) fault is = absurd (cc)
 no-want me other fault is = refl
 
 module _ (u : Setup) (me s : ℕ) (it : Call) (here : is_answered it ≡ true) (nth : ℕ) (begun front : List Entry) (filed : IsFiled (holds_of (history front s)) me (Some s) it (file_of it)) where
