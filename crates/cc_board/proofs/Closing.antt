@@ -91,6 +91,7 @@ module _ {D L Q : Type 0} (tells : Tells D L Q) (begun : Begun D L) (s : State (
       counted = sym long ∙ r.sized.1;
       few = r.few;
       good = r.good;
+      within = r.within;
       each = λ turn has. let h = all_home turn has in
           record { place = h.place; there = found_at slots (slot_of begun turn) (Some h.place) (same (slot_of begun turn) (Some h.place) h.there); fits = h.fits };
     }

@@ -180,6 +180,7 @@ module _ {D L Q : Type 0} (tells : Tells D L Q) (run : Begun D L) (t : Turn) (pl
   after c = record {
     past = r.past;
     good = r.good;
+    within = r.within;
     few = r.few;
     sized = (length-set s.words (word_of run t) 0 ∙ r.sized.0, length-set s.homes (slot_of run t) (some (Some place)) ∙ r.sized.1);
     home = home;

@@ -27,6 +27,7 @@ use Rattle.cc_turns.specs.Slots.{slot_of, slots_of, HasTurn, setup_in, Fits}
 use Rattle.cc_turns.specs.Takes.{Adds, may_be_of, without_journal}
 use Rattle.cc_turns.specs.declared.slots.Place.{Place}
 use Rattle.cc_turns.specs.declared.slots.Place.TheVariants as place
+use Rattle.cc_turns.proofs.Capacity.{journal_within}
 use Rattle.cc_board.specs.declared.rule.View.{View}
 use Rattle.cc_board.specs.View.{run_of, held_of, standing_of, without_turn, standing_at}
 use Rattle.cc_board.specs.Plays.{GivesTurn, journal_at}
@@ -80,7 +81,7 @@ slot-else begun t known other same = let is = ap is_journal (slot-apart begun t 
 
 -- A pass of the board, not the first, holds the journal, and gives it with what it added; it has one entry under way at
 -- most then.
-module _ {D L Q : Type 0} (tells : Tells D L Q) (begun : Begun D L) (s : State (Option (Place D L Q)) (View D L)) (id : ℕ) (v : View D L) (turns : ℕ) (j : JournalState Q) (rule : IsBoard tells begun s) (at : get_elem? s.views id ≡ some v) (live : v.live ≡ true) (journal : v.journal ≡ true) (other : v.number ≢ 0) (few : j.reserved - (reserved_in j.entries + v.others) ≤ 1) (adds : Adds (standing_of tells v turns) j.entries) where
+module _ {D L Q : Type 0} (tells : Tells D L Q) (begun : Begun D L) (s : State (Option (Place D L Q)) (View D L)) (id : ℕ) (v : View D L) (turns : ℕ) (j : JournalState Q) (rule : IsBoard tells begun s) (at : get_elem? s.views id ≡ some v) (live : v.live ≡ true) (journal : v.journal ≡ true) (other : v.number ≢ 0) (few : j.reserved - (reserved_in j.entries + v.others) ≤ 1) (room : length j.entries + j.reserved ≤ j.capacity) (adds : Adds (standing_of tells v turns) j.entries) where
   -- what the pass knows then, and the words, the slots and the views
   abbrev after : View D L
   after = without_turn Journal (place.Journal j) v
@@ -287,6 +288,7 @@ module _ {D L Q : Type 0} (tells : Tells D L Q) (begun : Begun D L) (s : State (
   kept run stands = let numbers = numbers-after in record {
     past = j.entries;
     good = subst (λ (b : Begun D L). IsGood (setup_in tells b) j.entries) run stands.good;
+    within = journal_within j begun.capacity adds.added rule.past now-is adds.event (stands.capacity_is ∙ ap (λ (b : Begun D L). b.capacity) run) (let is = stands.reserved_is in omega (arith, is)) room rule.within;
     few = rule.few;
     sized = (length-set s.words (word_of begun Journal) 0 ∙ rule.sized.0, length-set s.homes (slot_of begun Journal) (some (Some (place.Journal j))) ∙ rule.sized.1);
     home = home-after run stands;
@@ -299,28 +301,28 @@ module _ {D L Q : Type 0} (tells : Tells D L Q) (begun : Begun D L) (s : State (
   }
 
 -- A pass may give the journal back with what it added.
-pub gives_journal : {D L Q : Type 0} (tells : Tells D L Q) (begun : Begun D L) (id : ℕ) (v : View D L) (carried : List (ℕ × Option (Place D L Q))) (turns : ℕ) (j : JournalState Q) (slot : ℕ) → slot ≡ slot_of begun Journal → v.live ≡ true → run_of v ≡ begun → v.journal ≡ true → v.number ≢ 0 → j.reserved - (reserved_in j.entries + v.others) ≤ 1 →
+pub gives_journal : {D L Q : Type 0} (tells : Tells D L Q) (begun : Begun D L) (id : ℕ) (v : View D L) (carried : List (ℕ × Option (Place D L Q))) (turns : ℕ) (j : JournalState Q) (slot : ℕ) → slot ≡ slot_of begun Journal → v.live ≡ true → run_of v ≡ begun → v.journal ≡ true → v.number ≢ 0 → j.reserved - (reserved_in j.entries + v.others) ≤ 1 → length j.entries + j.reserved ≤ j.capacity →
     Adds (standing_of tells v turns) j.entries → JournalStands tells.posted (without_journal j (standing_of tells v turns)) j →
     Allows (IsBoard tells begun) (slots_of begun) id (v, (slot, Some (place.Journal j)) ∷ carried) (suc slot) (λ _. 0)
     (λ _. GivesTurn journal_at (step (slots_of begun) (suc slot) 0 0 none) (v, (slot, Some (place.Journal j)) ∷ carried) 0)
-gives_journal {D} {L} {Q} tells begun id v carried turns j slot is live run journal other few adds stands =
+gives_journal {D} {L} {Q} tells begun id v carried turns j slot is live run journal other few room adds stands =
     subst (λ (n : ℕ). Allows (IsBoard tells begun) (slots_of begun) id (v, (n, Some (place.Journal j)) ∷ carried) (suc n) (λ _. 0)
     (λ _. GivesTurn journal_at (step (slots_of begun) (suc n) 0 0 none) (v, (n, Some (place.Journal j)) ∷ carried) 0)) (sym is)
     (λ s rule sized at small. (
       without_turn Journal (place.Journal j) v,
       gives,
       tt,
-      kept tells begun s id v turns j rule at live journal other few adds run stands,
+      kept tells begun s id v turns j rule at live journal other few room adds run stands,
       refl,
     ))
 
 -- the same, of a pass whose standing names its board
-pub gives_journal_at : {D L Q : Type 0} (tells : Tells D L Q) (begun : Begun D L) (at : TableId) (id : ℕ) (v : View D L) (carried : List (ℕ × Option (Place D L Q))) (turns : ℕ) (j : JournalState Q) (slot : ℕ) → slot ≡ slot_of begun Journal → v.live ≡ true → run_of v ≡ begun → v.journal ≡ true → v.number ≢ 0 → j.reserved - (reserved_in j.entries + v.others) ≤ 1 →
+pub gives_journal_at : {D L Q : Type 0} (tells : Tells D L Q) (begun : Begun D L) (at : TableId) (id : ℕ) (v : View D L) (carried : List (ℕ × Option (Place D L Q))) (turns : ℕ) (j : JournalState Q) (slot : ℕ) → slot ≡ slot_of begun Journal → v.live ≡ true → run_of v ≡ begun → v.journal ≡ true → v.number ≢ 0 → j.reserved - (reserved_in j.entries + v.others) ≤ 1 → length j.entries + j.reserved ≤ j.capacity →
     Adds (standing_at tells at v turns) j.entries → JournalStands tells.posted (without_journal j (standing_at tells at v turns)) j →
     Allows (IsBoard tells begun) (slots_of begun) id (v, (slot, Some (place.Journal j)) ∷ carried) (suc slot) (λ _. 0)
     (λ _. GivesTurn journal_at (step (slots_of begun) (suc slot) 0 0 none) (v, (slot, Some (place.Journal j)) ∷ carried) 0)
-gives_journal_at tells begun at id v carried turns j slot is live run journal other few adds stands =
-    gives_journal tells begun id v carried turns j slot is live run journal other few
+gives_journal_at tells begun at id v carried turns j slot is live run journal other few room adds stands =
+    gives_journal tells begun id v carried turns j slot is live run journal other few room
     (record { added = adds.added; grew = adds.grew; event = adds.event; held = adds.held; own = adds.own })
     (record {
       entries_are = stands.entries_are;

@@ -92,6 +92,7 @@ module _ {D L Q : Type 0} (tells : Tells D L Q) (key : Key D L Q) (turns : ℕ) 
     opened = record {
       past = past;
       good = are.good;
+      within = are.within;
       few = are.few;
       sized = (ap suc (length-replicate {A = ℕ} turns 0 ∙ counted), length-map slots some ∙ are.counted);
       home = λ turn has free. first_home turn has;

@@ -76,6 +76,7 @@ module _ {D L Q : Type 0} (tells : Tells D L Q) (begun : Begun D L) where
     board_still are first numbers = record {
       past = r.past;
       good = r.good;
+      within = r.within;
       few = r.few;
       sized = (same_word.counted ∙ r.sized.0, r.sized.1);
       home = home_still;

@@ -196,6 +196,7 @@ module _ {D L Q : Type 0} (tells : Tells D L Q) (t : Turn) (id : ℕ) (v : View 
   after c = record {
     past = r.past;
     good = r.good;
+    within = r.within;
     few = r.few;
     sized = (length-set s.words (word_of run t) 1 ∙ r.sized.0, length-set s.homes (slot_of run t) none ∙ r.sized.1);
     home = home;

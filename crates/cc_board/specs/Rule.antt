@@ -7,6 +7,7 @@ use lib.ListN.{get_elem?}
 use Rattle.atomic_table.specs.Table.{State}
 use Rattle.cc_entry.specs.declared.entry.Entry.{Entry}
 use Rattle.cc_effects.specs.Moments.{IsIdle}
+use Rattle.cc_journal.specs.Capacity.{IsWithinCapacity}
 use Rattle.cc_model.specs.Good.{IsGood}
 use Rattle.cc_model.specs.Turns.{Turn}
 use Rattle.cc_turns.specs.Standing.{holds, nothing}
@@ -93,12 +94,13 @@ pub record AreNumbered {D L : Type 0} (past : List Entry) (words : List ℕ) (vi
   pub unmade : (number : ℕ) → given_numbers first ≤ number → IsIdle number first.seen past
   pub counted : living views + length first.ended ≡ given_numbers first
 
--- The rule. There is one past, which is good. What a free turn is of is at home and stands for it, and a turn that is
--- not free is held by a pass; each pass knows a part of the past; no turn is held twice; and who holds the journal
--- knows what all others have under way.
+-- The rule. There is one past, which is good, and was always within the capacity. What a free turn is of is at home and
+-- stands for it, and a turn that is not free is held by a pass; each pass knows a part of the past; no turn is held twice;
+-- and who holds the journal knows what all others have under way.
 pub record IsBoard {D L Q : Type 0} (tells : Tells D L Q) (begun : Begun D L) (s : State (Option (Place D L Q)) (View D L)) : Type 0 where
   pub past : List Entry
   pub good : IsGood (setup_in tells begun) past
+  pub within : IsWithinCapacity begun.capacity past
   pub few : (length begun.disks ≤ 16) × (length begun.logs ≤ 4)
   pub sized : (length s.words ≡ suc (slots_of begun)) × (length s.homes ≡ slots_of begun)
   pub home : (turn : Turn) → HasTurn begun turn → slice_index s.words (word_of begun turn) ≡ 0 →

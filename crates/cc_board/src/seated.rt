@@ -208,6 +208,7 @@ impl<'b, R: Wait, D: PageDisk, L: LogFile, Q: PostRoutine> Turns for Seated<'b, 
         ensures { seated_standing (tells_of D.told D.faults L.told L.faults Q.posted) self.new
             ≡ without_journal journal (seated_standing (tells_of D.told D.faults L.told L.faults Q.posted) self.old) }
     {
+        journal.note_capacity();
         let slot = 2 * self.board.streams() as usize + self.board.logs() as usize;
         self.board
             .give::<GivesJournal>(&mut self.seat, slot, Place::Journal(journal));

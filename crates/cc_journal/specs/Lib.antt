@@ -9,4 +9,5 @@ pub mod Queue
 pub mod Scans
 pub mod Journal
 pub mod Kept
+pub mod Capacity
 pub mod Stamped

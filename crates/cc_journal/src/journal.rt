@@ -178,6 +178,14 @@ impl<Q> Journal<Q> {
         &self.entries
     }
 
+    /// Notes that the entries and the reserved places are within the capacity.
+    pub fn note_capacity(&self)
+        ensures { length self.now.entries + self.now.reserved ≤ self.now.capacity }
+    {
+        // What is true of each journal is known where a field is used.
+        let _capacity = self.capacity;
+    }
+
     /// How many entries more may be reserved.
     pub fn room(&self) -> u64
         ensures { result ≡ room_of self.now }

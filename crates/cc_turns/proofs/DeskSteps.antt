@@ -1,5 +1,5 @@
 -- How the turns of one thread go on, by what is taken and given.
-use Rattle.std.specs.Prelude.{◌≡◌, ℕ, ◌+◌, ◌-◌, ◌<◌, Bool, true, false, List, [], ◌∷◌, ◌++◌, length, slice_get, slice_set, slice_index_or, if◌then◌else◌}
+use Rattle.std.specs.Prelude.{◌≡◌, ℕ, ◌+◌, ◌-◌, ◌<◌, ◌≤◌, Bool, true, false, List, [], ◌∷◌, ◌++◌, length, slice_get, slice_set, slice_index_or, if◌then◌else◌}
 use Rattle.std.specs.declared.option.Option.{Option}
 use Rattle.std.specs.declared.option.Option.TheVariants.{Some, None}
 use Rattle.std.specs.List.{AllByRecursion}
@@ -9,6 +9,7 @@ use Rattle.std.proofs.lemmas.Option.{slice_get_read, slice_get_within}
 use Rattle.cc_traits.specs.Disk.{Disk}
 use Rattle.cc_traits.specs.Log.{Log}
 use Rattle.cc_book.specs.Book.{BookState}
+use Rattle.cc_journal.specs.Capacity.{IsWithinCapacity}
 use Rattle.cc_journal.specs.Journal.{JournalState}
 use Rattle.cc_log.specs.Turn.{LogState}
 use Rattle.cc_model.specs.Good.{IsGood}
@@ -20,6 +21,7 @@ use Rattle.cc_turns.specs.Journal.{JournalStands}
 use Rattle.cc_turns.specs.Takes.{Takes, Adds, HasActed, may_be_of, without_journal}
 use Rattle.cc_turns.specs.Places.{AreHome}
 use Rattle.cc_turns.specs.Desk.{DeskState, DeskStands, Tells, DiskIsHome, BookIsHome, LogIsHome, openings, disk_at_first, log_at_first, standing_of}
+use Rattle.cc_turns.proofs.Capacity.{journal_within}
 use Rattle.cc_turns.proofs.BookGrows.{book_grows}
 use Rattle.cc_turns.proofs.DiskGrows.{disk_grows, open_of-quiet}
 use Rattle.cc_turns.proofs.LogGrows.{log_grows}
@@ -37,6 +39,10 @@ takes_alone now old new is same good = subst (λ w. Takes now old w) (sym is) (r
 pub seen_good : {D L Q : Type 0} (tells : Tells D L Q) (d old : DeskState D L Q) (disks : List (Option D)) (books : List (Option BookState)) (logs : List (Option (LogState L))) (journal : Option (JournalState Q)) → d ≡ old → DeskStands tells d disks books logs journal → IsGood (standing_of tells.disk tells.disk_faults tells.log tells.log_faults old).setup (standing_of tells.disk tells.disk_faults tells.log tells.log_faults old).seen
 seen_good tells d old disks books logs journal is stands =
     subst (λ x. IsGood (standing_of tells.disk tells.disk_faults tells.log tells.log_faults x).setup x.last.entries) is stands.journal_was.good
+
+-- which was always within the capacity
+pub seen_within : {D L Q : Type 0} (tells : Tells D L Q) (d old : DeskState D L Q) (disks : List (Option D)) (books : List (Option BookState)) (logs : List (Option (LogState L))) (journal : Option (JournalState Q)) → d ≡ old → DeskStands tells d disks books logs journal → IsWithinCapacity old.begun.capacity old.last.entries
+seen_within tells d old disks books logs journal is stands = subst (λ x. IsWithinCapacity x.begun.capacity x.last.entries) is stands.within
 
 -- the journal stands for all that knows as much of it
 pub journal_as : {Q : Type 0} (posted : Q → Bool) (w v : Standing) (j : JournalState Q) → v.setup ≡ w.setup → v.seen ≡ w.seen → v.in_flight ≡ w.in_flight → v.others ≡ w.others → JournalStands posted w j → JournalStands posted v j
@@ -106,6 +112,7 @@ module _ {D L Q : Type 0} (tells : Tells D L Q) (d : DeskState D L Q) (disks : L
     few = stands.few;
     journal_was = journal_as tells.posted _ _ d.last refl refl refl refl stands.journal_was;
     journal_is = stands.journal_is;
+    within = stands.within;
     acted = record { added = []; grew = sym is; own = tt };
   }
 
@@ -118,6 +125,7 @@ module _ {D L Q : Type 0} (tells : Tells D L Q) (d : DeskState D L Q) (disks : L
     few = stands.few;
     journal_was = journal_as tells.posted _ _ d.last refl refl refl refl stands.journal_was;
     journal_is = stands.journal_is;
+    within = stands.within;
     acted = stands.acted;
   }
 
@@ -129,6 +137,7 @@ module _ {D L Q : Type 0} (tells : Tells D L Q) (d : DeskState D L Q) (disks : L
     few = stands.few;
     journal_was = journal_as tells.posted _ _ d.last refl refl refl refl stands.journal_was;
     journal_is = stands.journal_is;
+    within = stands.within;
     acted = stands.acted;
   }
 
@@ -141,6 +150,7 @@ module _ {D L Q : Type 0} (tells : Tells D L Q) (d : DeskState D L Q) (disks : L
     few = stands.few;
     journal_was = journal_as tells.posted _ _ d.last refl refl refl refl stands.journal_was;
     journal_is = stands.journal_is;
+    within = stands.within;
     acted = stands.acted;
   }
 
@@ -152,6 +162,7 @@ module _ {D L Q : Type 0} (tells : Tells D L Q) (d : DeskState D L Q) (disks : L
     few = stands.few;
     journal_was = journal_as tells.posted _ _ d.last refl refl refl refl stands.journal_was;
     journal_is = stands.journal_is;
+    within = stands.within;
     acted = stands.acted;
   }
 
@@ -164,6 +175,7 @@ module _ {D L Q : Type 0} (tells : Tells D L Q) (d : DeskState D L Q) (disks : L
     few = stands.few;
     journal_was = journal_as tells.posted _ _ d.last refl refl refl refl stands.journal_was;
     journal_is = stands.journal_is;
+    within = stands.within;
     acted = stands.acted;
   }
 
@@ -175,6 +187,7 @@ module _ {D L Q : Type 0} (tells : Tells D L Q) (d : DeskState D L Q) (disks : L
     few = stands.few;
     journal_was = journal_as tells.posted _ _ d.last refl refl refl refl stands.journal_was;
     journal_is = stands.journal_is;
+    within = stands.within;
     acted = stands.acted;
   }
 
@@ -187,6 +200,7 @@ module _ {D L Q : Type 0} (tells : Tells D L Q) (d : DeskState D L Q) (disks : L
     few = stands.few;
     journal_was = journal_as tells.posted _ _ d.last refl refl refl refl stands.journal_was;
     journal_is = none;
+    within = stands.within;
     acted = stands.acted;
   }
 
@@ -203,8 +217,8 @@ module _ {D L Q : Type 0} (tells : Tells D L Q) (d : DeskState D L Q) (disks : L
       at_home t is = rw is refl
 
   -- The journal comes home with what the pass placed: all that is not held goes on standing.
-  pub journal_given : (j last : JournalState Q) → last ≡ j → Adds (standing_of tells.disk tells.disk_faults tells.log tells.log_faults d) j.entries → JournalStands tells.posted (without_journal j (standing_of tells.disk tells.disk_faults tells.log tells.log_faults d)) j → DeskStands tells d disks books logs journal → DeskStands tells (record d { last = last; held = record d.held { journal = false } }) disks books logs (Some j)
-  journal_given j last same adds stood stands = subst (λ l. DeskStands tells (record d { last = l; held = record d.held { journal = false } }) disks books logs (Some j)) (sym same) (record {
+  pub journal_given : (j last : JournalState Q) → last ≡ j → length j.entries + j.reserved ≤ j.capacity → Adds (standing_of tells.disk tells.disk_faults tells.log tells.log_faults d) j.entries → JournalStands tells.posted (without_journal j (standing_of tells.disk tells.disk_faults tells.log tells.log_faults d)) j → DeskStands tells d disks books logs journal → DeskStands tells (record d { last = last; held = record d.held { journal = false } }) disks books logs (Some j)
+  journal_given j last same fits adds stood stands = subst (λ l. DeskStands tells (record d { last = l; held = record d.held { journal = false } }) disks books logs (Some j)) (sym same) (record {
     disks_are = grow (length d.begun.disks) d.held.device disks (λ s disk free home. rw adds.grew (record {
       stands = disk_grows tells.disk tells.disk_faults (disk_at_first tells.disk tells.disk_faults (slice_get d.begun.disks s)) adds.added d.last.entries s disk (adds.held (Device s) free) home.stands;
       at_rest = open_of-quiet adds.added d.last.entries s (adds.held (Device s) free) ∙ home.at_rest;
@@ -220,6 +234,7 @@ module _ {D L Q : Type 0} (tells : Tells D L Q) (d : DeskState D L Q) (disks : L
     few = stands.few;
     journal_was = journal_as tells.posted _ _ j refl refl (same_rest j.reserved (reserved_in j.entries)) refl stood;
     journal_is = refl;
+    within = journal_within j d.begun.capacity adds.added d.last.entries adds.grew adds.event stood.capacity_is (omega (arith, stood.reserved_is)) fits stands.within;
     acted = acted-more d.pass d.since d.last.entries j.entries adds.added adds.grew adds.own stands.acted;
   })
     where

@@ -30,6 +30,7 @@ use Rattle.cc_turns.specs.Disk.{HasGone}
 use Rattle.cc_turns.specs.Log.{FileStands, log_failures}
 use Rattle.cc_turns.specs.Places.{AreHome, IsRoomFor}
 use Rattle.cc_turns.specs.Desk.{Begun, DeskState, DeskStands, Tells, DiskIsHome, BookIsHome, LogIsHome, DisksEnded, LogsEnded, IsNew, made_from, openings, log_at_first}
+use Rattle.cc_turns.proofs.Capacity.{within_none}
 use Rattle.cc_turns.proofs.RowSteps.{all_at_home}
 
 -- the empty journal is good, and owes nothing
@@ -91,6 +92,7 @@ fresh_stands {D} {L} {Q} tells begun j last disks books logs few_disks few_logs 
     unposted = rw new.empty.2 (All-nil _);
   };
   journal_is = refl;
+  within = rw new.empty.0 (within_none begun.capacity);
   acted = record { added = []; grew = refl; own = tt };
 })
 

@@ -1,4 +1,5 @@
 -- Lemmas of turns, and of reads, transfers and syncs, each before those that cite it.
+pub mod Capacity
 pub mod BookGrows
 pub mod DiskGrows
 pub mod LogGrows

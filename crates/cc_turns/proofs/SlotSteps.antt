@@ -272,6 +272,7 @@ module _ {D L Q : Type 0} (tells : Tells D L Q) (d : DeskState D L Q) (disks : L
     counted = omega (arith, before_journal stands, longer all_slots ((device_slots ++ book_slots) ++ log_slots) (Some (place.Journal j)) refl);
     few = stands.few;
     good = stands.journal_was.good;
+    within = stands.within;
     each = each_in_slot free (the_journal d.held.journal journal j d.last (ap (λ held. held.journal) free) stands.journal_is there) stands;
   })
 
@@ -522,6 +523,7 @@ put_together tells d begun past under_way slots disks books logs j are sorted be
         unposted = rw (last_is, same) sorted.home.unposted;
       };
       journal_is = rw (held_is, last_is) refl;
+      within = rw (begun_is, entries) are.within;
       acted = record { added = []; grew = ap (λ l. l.entries) last_is ∙ sym since_is; own = tt };
     }
 

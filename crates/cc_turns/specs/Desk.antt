@@ -5,6 +5,7 @@ use Rattle.std.specs.declared.option.Option.TheVariants.{Some, None}
 use Rattle.cc_book.specs.Book.{BookState, BookStands}
 use Rattle.cc_traits.specs.Disk.{Disk}
 use Rattle.cc_traits.specs.Log.{Log}
+use Rattle.cc_journal.specs.Capacity.{IsWithinCapacity}
 use Rattle.cc_journal.specs.Journal.{JournalState}
 use Rattle.cc_log.specs.Turn.{LogState}
 use Rattle.cc_model.specs.History.{history}
@@ -134,7 +135,8 @@ tells_of told faults log_told log_faults posted = record {
 }
 
 -- What the turns of one thread keep: all that is not held is at home, and stands for the journal as it was last at
--- home; the journal is at home itself, or held; and what was placed since the desk acts as its pass is that pass's.
+-- home; the journal is at home itself, or held; it was always within the capacity; and what was placed since the desk
+-- acts as its pass is that pass's.
 pub record DeskStands {D L Q : Type 0} (tells : Tells D L Q) (d : DeskState D L Q) (disks : List (Option D))
     (books : List (Option BookState)) (logs : List (Option (LogState L))) (journal : Option (JournalState Q)) : Type 0 where
   pub disks_are : AreHome (length d.begun.disks) d.held.device
@@ -147,6 +149,7 @@ pub record DeskStands {D L Q : Type 0} (tells : Tells D L Q) (d : DeskState D L 
   pub journal_was : JournalStands tells.posted
       (standing_of tells.disk tells.disk_faults tells.log tells.log_faults d) d.last
   pub journal_is : journal ≡ (if d.held.journal then None else Some d.last)
+  pub within : IsWithinCapacity d.begun.capacity d.last.entries
   pub acted : HasActed d.pass d.since d.last.entries
 
 -- Rows have room for all that a run is made from, and its journal is empty.

@@ -3,6 +3,7 @@ use Rattle.std.specs.Prelude.{◌≡◌, ℕ, ◌+◌, ◌-◌, ◌*◌, ◌≤�
 use Rattle.std.specs.declared.option.Option.{Option}
 use Rattle.std.specs.declared.option.Option.TheVariants.{Some}
 use Rattle.cc_entry.specs.declared.entry.Entry.{Entry}
+use Rattle.cc_journal.specs.Capacity.{IsWithinCapacity}
 use Rattle.cc_journal.specs.Journal.{JournalState}
 use Rattle.cc_journal.specs.Queue.{AllUnposted}
 use Rattle.cc_model.specs.Good.{IsGood}
@@ -70,12 +71,13 @@ pub record IsInSlot {D L Q : Type 0} (tells : Tells D L Q) (begun : Begun D L) (
   pub there : slice_get slots (slot_of begun turn) ≡ Some (Some place)
   pub fits : Fits tells begun past under_way turn place
 
--- What all turns of a run are of is in the slots, and stands for a good past.
+-- What all turns of a run are of is in the slots, and stands for a good past, which was always within the capacity.
 pub record AreInSlots {D L Q : Type 0} (tells : Tells D L Q) (begun : Begun D L) (past : List Entry) (under_way : ℕ)
     (slots : List (Option (Place D L Q))) : Type 0 where
   pub counted : length slots ≡ slots_of begun
   pub few : (length begun.disks ≤ 16) × (length begun.logs ≤ 4)
   pub good : IsGood (setup_in tells begun) past
+  pub within : IsWithinCapacity begun.capacity past
   pub each : (turn : Turn) → HasTurn begun turn → IsInSlot tells begun past under_way slots turn
 
 -- what the pass of a desk has under way

@@ -2,6 +2,7 @@
 
 ghost use Rattle.std.specs.Prelude.{◌≡◌, ℕ, List, length, reverse, map, IfOk, IfErr, Some, true, false};
 ghost use Rattle.cc_entry.specs.declared.error.CcError.TheVariants as error;
+ghost use Rattle.cc_journal.specs.Capacity.{IsWithinCapacity};
 ghost use Rattle.cc_model.specs.Good.{IsGood};
 ghost use Rattle.cc_model.specs.Throttle.{queue};
 ghost use Rattle.cc_turns.specs.Standing.{Standing, nothing};
@@ -179,6 +180,7 @@ impl<D: PageDisk, L: LogFile, Q: PostRoutine> Desk<D, L, Q> {
         requires { self.held ≡ nothing }
         ensures journal { reverse result.journal.items ≡ self.last.entries }
         ensures good { IsGood (standing_of D.told D.faults L.told L.faults self).setup self.last.entries }
+        ensures within { IsWithinCapacity self.begun.capacity self.last.entries }
         ensures disks { DisksEnded D.told D.faults self result.disks.items }
         ensures logs { LogsEnded L.told L.faults self result.logs.items }
         ensures queued { map (λ waiting. waiting.0) result.queued.items
@@ -287,6 +289,7 @@ impl<D: PageDisk, L: LogFile, Q: PostRoutine> Turns for Desk<D, L, Q> {
         ensures { standing_of D.told D.faults L.told L.faults self.new
             ≡ without_journal journal (standing_of D.told D.faults L.told L.faults self.old) }
     {
+        journal.note_capacity();
         self.last = Snapshot::of(&journal);
         self.journal = Some(journal);
         self.held.journal = false;

@@ -6,8 +6,8 @@
 //! stand in `specs`, oldest entry first; the stretches of `Pieces*` have the newest first, since each stands on a past.
 //! Of a piece, `Leaves line told past piece` says that it stands in the relation of its line, and `CallDone` and
 //! `CallFailed` that it stands in that of a call: a right one does, and no wrong one. `proofs/Opened` names all that
-//! has to be unfolded to compute them. Below are the definitions of `cc_model`, `cc_effects` and `cc_pieces`; nothing
-//! stands above this crate.
+//! has to be unfolded to compute them. Below are the definitions of `cc_model`, `cc_effects`, `cc_journal` and
+//! `cc_pieces`; nothing stands above this crate.
 #![tactic(auto, unfolding(crate::proofs::Opened::opened))]
 
 pub mod callers;

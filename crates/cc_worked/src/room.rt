@@ -5,6 +5,7 @@ ghost use Rattle.cc_model.specs.Legal.{IsLegal};
 ghost use Rattle.cc_model.specs.Allowed.{IsAllowed};
 ghost use Rattle.cc_model.specs.Covered.{IsCovered};
 ghost use Rattle.cc_model.specs.Room.{asked_by, asked_by_all, room_in};
+ghost use Rattle.cc_journal.specs.Capacity.{FitsIn, IsWithinCapacity};
 ghost use Rattle.cc_entry.specs.declared.call.Call.TheVariants.{Map, PinMapped, PreparePin, Repin, NcWrite};
 ghost use Rattle.cc_entry.specs.declared.reply.Reply.TheVariants.{Hold};
 ghost use Rattle.cc_entry.specs.declared.error.CcError.TheVariants.{BeyondSize, WriteFault};
@@ -73,4 +74,16 @@ pub fn full_journal_has_no_room()
     ensures full_by_owed { room_in (with_capacity 64) (reads_after 58 owing) 0 ≡ 0 }
     ensures stamp_in_place { asked_by (reads_after 58 owing) (stamp 3) ≡ 0 }
     ensures full_after_stamp { room_in (with_capacity 64) (stamp 3 ∷ reads_after 58 owing) 0 ≡ 0 }
+{}
+
+/// Over each front the entries and what they owe are within the capacity. A pin whose write owes a stamp owes two places,
+/// which its end gives up; so the whole may fit where a front of it doesn't.
+pub fn each_front_is_within_capacity()
+    ensures within { IsWithinCapacity 6 (end_of_pin 3 ∷ owing) }
+    ensures whole_fits { FitsIn 5 (end_of_pin 3 ∷ owing) }
+    ensures front_does_not { IsWithinCapacity 5 (end_of_pin 3 ∷ owing) → ⊥ }
+    ensures transfer { IsWithinCapacity 8 begun }
+    ensures no_place_for_its_end { IsWithinCapacity 7 begun → ⊥ }
+    ensures store_and_begin { IsWithinCapacity 10 transferred }
+    ensures no_place_for_the_write { IsWithinCapacity 9 transferred → ⊥ }
 {}

@@ -14,7 +14,7 @@ use Rattle.cc_board.proofs.seated.SeatedTurns.give_journal.Goals as goal
 pub give-requires-clause-allowed : goal.give-requires-clause-allowed
 give-requires-clause-allowed g c = gives_journal_at (tells_of g.D.Told.told g.D.Told.faults g.L.LogFile.told g.L.LogFile.faults g.Q.PostRoutine.posted)
     c.self.inside.board.now.begun c.self.inside.board.now.id c.self.inside.seat.id c.self.inside.seat.me.0 _ c.self.inside.device_turns c.args.journal _
-    (search rules) (search rules) (search rules) (search rules) c.self.invariant.6.is_other (search rules) (search rules) (search rules)
+    (search rules) (search rules) (search rules) (search rules) c.self.invariant.6.is_other (search rules) c.note_capacity.ensures (search rules) (search rules)
 
 pub invariant_of-self : goal.invariant_of-self
 invariant_of-self g c =

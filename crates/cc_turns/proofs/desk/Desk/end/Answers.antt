@@ -2,7 +2,7 @@
 use Rattle.std.proofs.Common.{subst, ap, ◌∙◌}
 use Rattle.cc_turns.specs.Desk.{DisksEnded, LogsEnded}
 use Rattle.cc_turns.proofs.RowSteps.{all_home}
-use Rattle.cc_turns.proofs.DeskSteps.{seen_good}
+use Rattle.cc_turns.proofs.DeskSteps.{seen_good, seen_within}
 use Rattle.cc_turns.proofs.Fresh.{disks_end, logs_end}
 use Rattle.cc_turns.proofs.desk.Desk.end.Goals as goal
 
@@ -26,3 +26,6 @@ returns-clause-logs g c =
 
 pub returns-clause-good : goal.returns-clause-good
 returns-clause-good g c = seen_good _ _ _ _ _ _ _ c.self.view_is c.self.invariant.0
+
+pub returns-clause-within : goal.returns-clause-within
+returns-clause-within g c = seen_within _ _ _ _ _ _ _ c.self.view_is c.self.invariant.0
