@@ -93,7 +93,7 @@ none-alone added is = subst (λ (x : List Entry). AreAlone x) (sym is) alone-non
 done-within : (past : List Entry) (pass : ℕ) (it : Call) (r : Reply) (s : ℕ) → filed_under past it ≡ Some s → AreWithin s (entries_done past pass it r)
 done-within past pass (call.NcStore file page bytes) r s filed =
     let e : Entry = call_entry past pass (call.NcStore file page bytes) (outcome.Done r) in
-    within-more s (entry.WriteBegin pass (record { stream = file.stream; page = page })) (e ∷ []) (same-stream file.stream s (ap place_on filed)) (within-one s e filed)
+    within-more s (entry.WriteBegin pass (record { stream = file.stream; page = page })) (e ∷ []) (same-stream file.stream s (ap place_on filed)) refl (within-one s e filed)
 done-within past pass other r s filed = within-one s (call_entry past pass other (outcome.Done r)) filed
 
 done-alone : (past : List Entry) (pass : ℕ) (it : Call) (r : Reply) → filed_under past it ≡ None → AreAlone (entries_done past pass it r)

@@ -12,6 +12,7 @@ use Rattle.cc_traits.specs.Disk.{Disk, page_of}
 use Rattle.cc_traits.specs.Told.{Both}
 use Rattle.cc_traits.specs.declared.setup.Setup.{Setup as Begins}
 use Rattle.cc_effects.specs.Failures.{failures}
+use Rattle.cc_journal.specs.Capacity.{IsWithinCapacity}
 use Rattle.cc_journal.specs.Journal.{JournalState}
 use Rattle.cc_log.specs.Turn.{LogState}
 use Rattle.cc_model.specs.Allowed.{IsAllowed, IsAllowedSoFar}
@@ -29,6 +30,7 @@ use Rattle.cc_turns.specs.Disk.{HasGone}
 use Rattle.cc_turns.specs.Log.{FileStands}
 use Rattle.cc_turns.specs.Places.{IsRoomFor}
 use Rattle.cc_world.specs.Rows.{DiskIsUsed, IsAtRest}
+use Rattle.cc_turns.proofs.Capacity.{within_none}
 use Rattle.cc_world.specs.World.{AreAt, DisksEnded, IsNewRow, LogsEnded, RowIsHome, WorldStands, WorldState, setup_of, world_of}
 use Rattle.cc_world.specs.declared.rows.Kept.{Kept}
 use Rattle.cc_world.specs.declared.rows.Row.{Row}
@@ -105,6 +107,7 @@ fresh-stands {D} {L} {Q} tells setup rows logs j few_disks few_logs new rows_are
         unposted = rw new.empty.2 (All-nil _);
         strange = λ handle beyond. ap (λ (past : List Entry). flushed_to past handle) empty ∙ flushed-none handle;
         no_stream = λ s beyond. ap (λ (past : List Entry). history past s) empty ∙ history-none s;
+        within = subst (λ (past : List Entry). IsWithinCapacity setup.journal past) (sym empty) (within_none setup.journal);
       };
       few = (few_disks, few_logs);
     }

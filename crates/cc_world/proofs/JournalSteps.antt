@@ -1,6 +1,6 @@
 -- Whatever an event did to the journal alone, all of the World goes on standing.
-use Rattle.std.specs.Prelude.{◌≡◌, ℕ, ◌≤◌, List, ◌++◌, slice_get, refl}
-use Rattle.std.proofs.Common.{sym, subst, ap, ◌∙◌}
+use Rattle.std.specs.Prelude.{◌≡◌, ℕ, ◌+◌, ◌≤◌, List, ◌++◌, length, slice_get, refl}
+use Rattle.std.proofs.Common.{sym, subst, ap, ◌∙◌, arith}
 use Rattle.cc_entry.specs.declared.entry.Entry.{Entry}
 use Rattle.cc_entry.specs.declared.error.CcError.TheVariants as error
 use Rattle.cc_journal.specs.Journal.{JournalState}
@@ -20,6 +20,7 @@ use Rattle.cc_effects.specs.declared.events.Event.{Event}
 use Rattle.cc_effects.specs.declared.events.StepReply.{StepReply}
 use Rattle.cc_effects.specs.declared.events.StepReply.TheVariants as step
 use Rattle.cc_world.specs.declared.rows.Row.{Row}
+use Rattle.cc_turns.proofs.Capacity.{journal_within}
 use Rattle.cc_world.proofs.Belonging.{answers-alone, wanting-alone}
 use Rattle.cc_world.proofs.Quiet.{AreAlone}
 use Rattle.cc_world.proofs.Steps.{used-grows}
@@ -62,8 +63,8 @@ module _ {D L Q : Type 0} (tells : Tells D L Q) (w : WorldState D L Q) (stands :
           (log_grows tells.log tells.log_faults (log_at_first tells.log tells.log_faults (slice_get w.begun.logs handle)) added w.journal.entries log (alone.log log.handle) there.stands);
     }
 
-    world-stands-alone : WorldStands tells (record w { journal = k })
-    world-stands-alone = record {
+    world-stands-alone : length k.entries + k.reserved ≤ k.capacity → WorldStands tells (record w { journal = k })
+    world-stands-alone fits = record {
       rows = record { counted = stands.rows.counted; each = λ s r is. each-row s r (stands.rows.each s r is) };
       logs = record { counted = stands.logs.counted; each = λ handle log is. each-log handle log (stands.logs.each handle log is) };
       journal = record {
@@ -79,9 +80,13 @@ module _ {D L Q : Type 0} (tells : Tells D L Q) (w : WorldState D L Q) (stands :
             ∙ (flushed_to-quiet added w.journal.entries handle (alone.log handle) ∙ stands.journal.strange handle beyond);
         no_stream = λ s beyond. ap (λ (p : List Entry). history p s) grown
             ∙ (alone.same w.journal.entries s ∙ stands.journal.no_stream s beyond);
+        within = journal_within k w.begun.capacity added w.journal.entries grown alone.event (ap (λ x. x.capacity) gone.placed ∙ stands.journal.limits.0) (owed _ _ gone.stands.reserved) fits stands.journal.within;
       };
       few = stands.few;
     }
+      where
+        owed : (a b : ℕ) → a ≡ b → b ≤ a
+        owed a b same = omega arith
 
     went-alone : WentAlone added w (record w { journal = k })
     went-alone = record { same = refl; placed = gone.placed }
@@ -92,29 +97,29 @@ module _ {D L Q : Type 0} (tells : Tells D L Q) (w : WorldState D L Q) (stands :
   at-home : (v : WorldState D L Q) → v ≡ w → WorldStands tells v
   at-home v same = subst (λ (x : WorldState D L Q). WorldStands tells x) (sym same) stands
 
-  happened : (it : Event Q) (answer : StepReply Q) (k : JournalState Q) → place_of (setup_of tells w.begun) w.journal.entries it ≡ OnJournal → JournalEnded tells.posted (setup_of tells w.begun) it answer w.journal k → WorldStands tells (record w { journal = k }) × Happened tells it answer w (record w { journal = k })
-  happened it step.NotNow k at left =
+  happened : (it : Event Q) (answer : StepReply Q) (k : JournalState Q) → length k.entries + k.reserved ≤ k.capacity → place_of (setup_of tells w.begun) w.journal.entries it ≡ OnJournal → JournalEnded tells.posted (setup_of tells w.begun) it answer w.journal k → WorldStands tells (record w { journal = k }) × Happened tells it answer w (record w { journal = k })
+  happened it step.NotNow k fits at left =
       let same = unmoved k left.1 in
       (at-home _ same, (left.0, same))
-  happened it step.Faulted k at left = absurd left
-  happened it (step.Refused (error.JournalFull entries)) k at left =
+  happened it step.Faulted k fits at left = absurd left
+  happened it (step.Refused (error.JournalFull entries)) k fits at left =
       let same = unmoved k left.3 in
       (at-home _ same, (left.0, left.1, left.2, same))
-  happened it (step.Refused error.NoMemory) k at left =
+  happened it (step.Refused error.NoMemory) k fits at left =
       let added : List Entry = left.0 in
       let alone = wanting-alone (setup_of tells w.begun) w.journal.entries it added at left.1 in (
-        world-stands-alone added k alone left.2,
+        world-stands-alone added k alone left.2 fits,
         (added, left.1, subst (λ (p : Where). WentAt tells p 0 added w (record w { journal = k })) (sym at) (went-alone added k alone left.2)),
       )
-  happened it other k at left =
+  happened it other k fits at left =
       let added : List Entry = left.2.0 in
       let alone = answers-alone (setup_of tells w.begun) w.journal.entries it other added at left.2.1 in (
-        world-stands-alone added k alone left.2.2,
+        world-stands-alone added k alone left.2.2 fits,
         (left.0, left.1, (added, left.2.1, subst (λ (p : Where). WentAt tells p 0 added w (record w { journal = k })) (sym at) (went-alone added k alone left.2.2))),
       )
 
   -- What an event leaves of the journal it leaves of the World.
-  pub journal-stepped : (it : Event Q) (answer : StepReply Q) (k : JournalState Q) → place_of (setup_of tells w.begun) w.journal.entries it ≡ OnJournal → JournalLeft tells.posted (setup_of tells w.begun) it answer w.journal k → WorldStands tells (record w { journal = k }) × Stepped tells it answer w (record w { journal = k })
-  journal-stepped it answer k at left =
-      let both = happened it (refused_plainly answer) k at left.0 in
+  pub journal-stepped : (it : Event Q) (answer : StepReply Q) (k : JournalState Q) → length k.entries + k.reserved ≤ k.capacity → place_of (setup_of tells w.begun) w.journal.entries it ≡ OnJournal → JournalLeft tells.posted (setup_of tells w.begun) it answer w.journal k → WorldStands tells (record w { journal = k }) × Stepped tells it answer w (record w { journal = k })
+  journal-stepped it answer k fits at left =
+      let both = happened it (refused_plainly answer) k fits at left.0 in
       (both.0, (both.1, left.1))

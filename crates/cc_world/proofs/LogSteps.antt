@@ -26,6 +26,7 @@ use Rattle.cc_effects.specs.declared.events.Event.{Event}
 use Rattle.cc_effects.specs.declared.events.StepReply.{StepReply}
 use Rattle.cc_effects.specs.declared.events.StepReply.TheVariants as step
 use Rattle.cc_world.specs.declared.rows.Row.{Row}
+use Rattle.cc_turns.proofs.Capacity.{journal_within}
 use Rattle.cc_world.proofs.Belonging.{answers-on-log, fault-on-log, is-on-log, log-leaves, never-kept, queue-left, wanting-on-log}
 use Rattle.cc_world.proofs.Quiet.{AreOnLog, IsOnLog, on-log-one}
 use Rattle.cc_world.proofs.Steps.{at-put, has-placed, put-same, used-grows}
@@ -75,8 +76,8 @@ module _ {D L Q : Type 0} (tells : Tells D L Q) (w : WorldState D L Q) (stands :
           (on.log other.handle (ap (λ (h : ℕ). h == handle) there.handle_is ∙ apart)) there.stands);
     }
 
-    log-world-stands : WorldStands tells (record w { logs = slice_set w.logs handle now; journal = k })
-    log-world-stands = record {
+    log-world-stands : length k.entries + k.reserved ≤ k.capacity → WorldStands tells (record w { logs = slice_set w.logs handle now; journal = k })
+    log-world-stands fits = record {
       rows = record { counted = stands.rows.counted; each = λ s r is. each-row s r (stands.rows.each s r is) };
       logs = at-put (length w.begun.logs) handle w.logs now (slice_get_within w.logs handle log there) other-log
           (record { handle_is = gone.handle ∙ home.handle_is; stands = gone.stands.log_is }) stands.logs;
@@ -93,12 +94,16 @@ module _ {D L Q : Type 0} (tells : Tells D L Q) (w : WorldState D L Q) (stands :
             ∙ (flushed_to-quiet added w.journal.entries m (on.log m (apart m beyond)) ∙ stands.journal.strange m beyond);
         no_stream = λ s beyond. ap (λ (p : List Entry). history p s) grown
             ∙ (history-quiet added w.journal.entries s (on.book s) (on.device s) ∙ stands.journal.no_stream s beyond);
+        within = journal_within k w.begun.capacity added w.journal.entries grown on.event (ap (λ x. x.capacity) gone.placed ∙ stands.journal.limits.0) (owed _ _ gone.stands.reserved) fits stands.journal.within;
       };
       few = stands.few;
     }
       where
         nothing-less : (a b : ℕ) → a ≡ b + 0 → a ≡ b
         nothing-less a b same = omega arith
+
+        owed : (a b : ℕ) → a ≡ b + 0 → b ≤ a
+        owed a b same = omega arith
 
         within : handle < length w.begun.logs
         within = subst (λ (n : ℕ). handle < n) stands.logs.counted (slice_get_within w.logs handle log there)
@@ -118,16 +123,16 @@ module _ {D L Q : Type 0} (tells : Tells D L Q) (w : WorldState D L Q) (stands :
   log-same-queue : (n : ℕ) (added : List Entry) (now : LogState L) (k : JournalState Q) → LogWent tells.log tells.log_faults (setup_of tells w.begun) (log_at_first tells.log tells.log_faults (slice_get w.begun.logs handle)) n added log now w.journal k → k.queue ≡ w.journal.queue
   log-same-queue n added now k gone = ap (λ (x : JournalState Q). x.queue) gone.placed
 
-  log-faulted : (o : Option Entry) (now : LogState L) (k : JournalState Q) → ((e : Entry) → o ≡ Some e → IsOnLog handle e) → LogFaulted tells.log tells.log_faults (setup_of tells w.begun) (log_at_first tells.log tells.log_faults (slice_get w.begun.logs handle)) o log now w.journal k → WorldStands tells (record w { logs = slice_set w.logs handle now; journal = k }) × Faulted tells (OnLog handle) o w (record w { logs = slice_set w.logs handle now; journal = k }) × (k.queue ≡ w.journal.queue)
-  log-faulted None now k on gone = absurd gone
-  log-faulted (Some e) now k on gone =
+  log-faulted : (o : Option Entry) (now : LogState L) (k : JournalState Q) → length k.entries + k.reserved ≤ k.capacity → ((e : Entry) → o ≡ Some e → IsOnLog handle e) → LogFaulted tells.log tells.log_faults (setup_of tells w.begun) (log_at_first tells.log tells.log_faults (slice_get w.begun.logs handle)) o log now w.journal k → WorldStands tells (record w { logs = slice_set w.logs handle now; journal = k }) × Faulted tells (OnLog handle) o w (record w { logs = slice_set w.logs handle now; journal = k }) × (k.queue ≡ w.journal.queue)
+  log-faulted None now k fits on gone = absurd gone
+  log-faulted (Some e) now k fits on gone =
       let own = on-log-one handle e (on e refl) in
-      (log-world-stands 1 (e ∷ []) now k own gone, log-world-went 1 (e ∷ []) now k own gone, log-same-queue 1 (e ∷ []) now k gone)
+      (log-world-stands 1 (e ∷ []) now k own gone fits, log-world-went 1 (e ∷ []) now k own gone, log-same-queue 1 (e ∷ []) now k gone)
 
   -- What an event leaves of the log it leaves of the World.
-  pub log-stepped : (it : Event Q) (answer : StepReply Q) (now : LogState L) (k : JournalState Q) → place_of (setup_of tells w.begun) w.journal.entries it ≡ OnLog handle → MayHappen (setup_of tells w.begun) w.journal.entries it → LogLeft tells.log tells.log_faults (setup_of tells w.begun) (log_at_first tells.log tells.log_faults (slice_get w.begun.logs handle)) it answer log now w.journal k → WorldStands tells (record w { logs = slice_set w.logs handle now; journal = k }) × Stepped tells it answer w (record w { logs = slice_set w.logs handle now; journal = k })
-  log-stepped it step.NotNow now k at may left = absurd left.1
-  log-stepped it (step.Refused (error.JournalFull entries)) now k at may left =
+  pub log-stepped : (it : Event Q) (answer : StepReply Q) (now : LogState L) (k : JournalState Q) → length k.entries + k.reserved ≤ k.capacity → place_of (setup_of tells w.begun) w.journal.entries it ≡ OnLog handle → MayHappen (setup_of tells w.begun) w.journal.entries it → LogLeft tells.log tells.log_faults (setup_of tells w.begun) (log_at_first tells.log tells.log_faults (slice_get w.begun.logs handle)) it answer log now w.journal k → WorldStands tells (record w { logs = slice_set w.logs handle now; journal = k }) × Stepped tells it answer w (record w { logs = slice_set w.logs handle now; journal = k })
+  log-stepped it step.NotNow now k fits at may left = absurd left.1
+  log-stepped it (step.Refused (error.JournalFull entries)) now k fits at may left =
       let same = unchanged now k left.2 left.3 in
       let leaves = log-leaves (setup_of tells w.begun) w.journal.entries it handle at in (
         subst (λ (x : WorldState D L Q). WorldStands tells x) (sym same) stands,
@@ -136,36 +141,36 @@ module _ {D L Q : Type 0} (tells : Tells D L Q) (w : WorldState D L Q) (stands :
           queue-left tells.posted it (step.Refused (error.JournalFull entries)) w.journal.queue k.queue leaves refl (ap (λ (x : JournalState Q). x.queue) left.3),
         ),
       )
-  log-stepped it step.Faulted now k at may left =
+  log-stepped it step.Faulted now k fits at may left =
       let u = setup_of tells w.begun in
       let past = w.journal.entries in
       let o = faulted_by past it in
-      let all = log-faulted o now k (λ e is. fault-on-log u past it e handle at is) left.1.1 in (
+      let all = log-faulted o now k fits (λ e is. fault-on-log u past it e handle at is) left.1.1 in (
         all.0,
         (
           (may, left.0, (left.1.0, subst (λ (p : Where). Faulted tells p o w (record w { logs = slice_set w.logs handle now; journal = k })) (sym at) all.1)),
           queue-left tells.posted it step.Faulted w.journal.queue k.queue (log-leaves u past it handle at) refl all.2,
         ),
       )
-  log-stepped it (step.Refused error.NoMemory) now k at may left =
+  log-stepped it (step.Refused error.NoMemory) now k fits at may left =
       let u = setup_of tells w.begun in
       let past = w.journal.entries in
       let added : List Entry = left.0 in
       let on = wanting-on-log u past it added handle at left.1 in (
-        log-world-stands 0 added now k on left.2,
+        log-world-stands 0 added now k on left.2 fits,
         (
           (added, left.1, subst (λ (p : Where). WentAt tells p 0 added w (record w { logs = slice_set w.logs handle now; journal = k })) (sym at) (log-world-went 0 added now k on left.2)),
           queue-left tells.posted it (step.Refused error.NoMemory) w.journal.queue k.queue (log-leaves u past it handle at) refl (log-same-queue 0 added now k left.2),
         ),
       )
-  log-stepped it (step.Kept routine e) now k at may left =
+  log-stepped it (step.Kept routine e) now k fits at may left =
       absurd (never-kept (setup_of tells w.begun) w.journal.entries it routine e left.1.0 left.1.1)
-  log-stepped it other now k at may left =
+  log-stepped it other now k fits at may left =
       let u = setup_of tells w.begun in
       let past = w.journal.entries in
       let added : List Entry = left.1.0 in
       let on = answers-on-log u past it other added handle at left.1.1 in (
-        log-world-stands 0 added now k on left.1.2,
+        log-world-stands 0 added now k on left.1.2 fits,
         (
           (may, left.0, (added, left.1.1, subst (λ (p : Where). WentAt tells p 0 added w (record w { logs = slice_set w.logs handle now; journal = k })) (sym at) (log-world-went 0 added now k on left.1.2))),
           queue-left tells.posted it other w.journal.queue k.queue (log-leaves u past it handle at) refl (log-same-queue 0 added now k left.1.2),

@@ -1,5 +1,6 @@
 -- Entries of one stream need no turn of another stream, nor of a log. Entries of one log need no turn of a stream, nor of
--- another log. Those of the journal alone need no turn of a disk or a log, and mean nothing to a stream.
+-- another log. Those of the journal alone need no turn of a disk or a log, and mean nothing to a stream. What is placed at
+-- once is one event.
 use Rattle.std.specs.Prelude.{◌≡◌, ℕ, true, false, ◌==◌, List, [], ◌∷◌, ◌++◌, refl}
 use Rattle.std.specs.declared.option.Option.{Option}
 use Rattle.std.specs.declared.option.Option.TheVariants.{Some, None}
@@ -16,6 +17,7 @@ use Rattle.cc_book.specs.Book.{BookState, BookStands}
 use Rattle.cc_book.proofs.BookSteps.{goes_on_none}
 use Rattle.cc_model.specs.History.{effect_of, history}
 use Rattle.cc_model.specs.Turns.{Device, Book, Log, call_needs, needs, is_quiet}
+use Rattle.cc_turns.specs.Takes.{IsOneEvent}
 
 -- an entry is of a call of the stream, of a page of it, or of a sync of its disk
 abbrev pub IsOn : ℕ → Entry → Type 0
@@ -28,11 +30,12 @@ IsOn s (entry.WriteEnd pass page how) = page.stream ≡ s
 IsOn s (entry.Sync pass stream how) = stream ≡ s
 IsOn s other = ⊥
 
--- Entries need no turn of another stream, nor of a log.
+-- Entries are one event, which needs no turn of another stream, nor of a log.
 pub record AreWithin (s : ℕ) (added : List Entry) : Type 0 where
   pub device : (t : ℕ) → (t == s) ≡ false → is_quiet (Device t) added ≡ true
   pub book : (t : ℕ) → (t == s) ≡ false → is_quiet (Book t) added ≡ true
   pub log : (handle : ℕ) → is_quiet (Log handle) added ≡ true
+  pub event : IsOneEvent added
 
 call-device : (s t : ℕ) (it : Call) (ended : Outcome) → (t == s) ≡ false → call_needs (Some s) it ended (Device t) ≡ false
 call-device s t (call.NcStore file page bytes) (outcome.Done reply) away = away
@@ -87,17 +90,19 @@ within-none s = record {
   device = λ t away. is_quiet-none (Device t);
   book = λ t away. is_quiet-none (Book t);
   log = λ handle. is_quiet-none (Log handle);
+  event = tt;
 }
 
-pub within-more : (s : ℕ) (e : Entry) (added : List Entry) → IsOn s e → AreWithin s added → AreWithin s (e ∷ added)
-within-more s e added on within = record {
+pub within-more : (s : ℕ) (e : Entry) (added : List Entry) → IsOn s e → IsOneEvent (e ∷ added) → AreWithin s added → AreWithin s (e ∷ added)
+within-more s e added on event within = record {
   device = λ t away. is_quiet-unneeded (Device t) e added (device-away e s t on away) ∙ within.device t away;
   book = λ t away. is_quiet-unneeded (Book t) e added (book-away e s t on away) ∙ within.book t away;
   log = λ handle. is_quiet-unneeded (Log handle) e added (log-away e s handle on) ∙ within.log handle;
+  event = event;
 }
 
 pub within-one : (s : ℕ) (e : Entry) → IsOn s e → AreWithin s (e ∷ [])
-within-one s e on = within-more s e [] on (within-none s)
+within-one s e on = within-more s e [] on tt (within-none s)
 
 -- an entry is of this log
 abbrev pub IsOnLog : ℕ → Entry → Type 0
@@ -106,11 +111,12 @@ IsOnLog n (entry.Flushed pass handle to) = handle ≡ n
 IsOnLog n (entry.LogFailed pass handle) = handle ≡ n
 IsOnLog n other = ⊥
 
--- Entries need no turn of a stream, nor of another log.
+-- Entries are one event, which needs no turn of a stream, nor of another log.
 pub record AreOnLog (n : ℕ) (added : List Entry) : Type 0 where
   pub device : (s : ℕ) → is_quiet (Device s) added ≡ true
   pub book : (s : ℕ) → is_quiet (Book s) added ≡ true
   pub log : (handle : ℕ) → (handle == n) ≡ false → is_quiet (Log handle) added ≡ true
+  pub event : IsOneEvent added
 
 log-device : (e : Entry) (n s : ℕ) → IsOnLog n e → needs e (Device s) ≡ false
 log-device (entry.Append pass handle lsn bytes) n s on = refl
@@ -135,6 +141,7 @@ on-log-none n = record {
   device = λ s. is_quiet-none (Device s);
   book = λ s. is_quiet-none (Book s);
   log = λ handle away. is_quiet-none (Log handle);
+  event = tt;
 }
 
 pub on-log-one : (n : ℕ) (e : Entry) → IsOnLog n e → AreOnLog n (e ∷ [])
@@ -142,6 +149,7 @@ on-log-one n e on = record {
   device = λ s. is_quiet-unneeded (Device s) e [] (log-device e n s on) ∙ is_quiet-none (Device s);
   book = λ s. is_quiet-unneeded (Book s) e [] (log-book e n s on) ∙ is_quiet-none (Book s);
   log = λ handle away. is_quiet-unneeded (Log handle) e [] (log-other e n handle on away) ∙ is_quiet-none (Log handle);
+  event = tt;
 }
 
 -- an entry is of the journal alone: of a scan, a deferral or a post, or of a call that is filed under no stream
@@ -152,12 +160,14 @@ IsAlone (entry.Posted id) = Unit {0}
 IsAlone (entry.Scan pass picked) = Unit {0}
 IsAlone other = ⊥
 
--- Entries need no turn of a disk, nor of a log, and leave the history of each stream, and what its book stands for.
+-- Entries are one event, which needs no turn of a disk, nor of a log, and leaves the history of each stream, and what its
+-- book stands for.
 pub record AreAlone (added : List Entry) : Type 0 where
   pub device : (s : ℕ) → is_quiet (Device s) added ≡ true
   pub log : (handle : ℕ) → is_quiet (Log handle) added ≡ true
   pub same : (past : List Entry) (s : ℕ) → history (added ++ past) s ≡ history past s
   pub book : (opening : Option (ℕ → List ℕ)) (past : List Entry) (b : BookState) → BookStands opening past b → BookStands opening (added ++ past) b
+  pub event : IsOneEvent added
 
 alone-device : (e : Entry) (s : ℕ) → IsAlone e → needs e (Device s) ≡ false
 alone-device (entry.Call pass nth stream it ended) s alone = rw alone refl
@@ -186,6 +196,7 @@ alone-none = record {
   log = λ handle. is_quiet-none (Log handle);
   same = λ past s. refl;
   book = λ opening past b stands. stands;
+  event = tt;
 }
 
 pub alone-one : (e : Entry) → IsAlone e → AreAlone (e ∷ [])
@@ -194,4 +205,5 @@ alone-one e alone = record {
   log = λ handle. is_quiet-unneeded (Log handle) e [] (alone-log e handle alone) ∙ is_quiet-none (Log handle);
   same = λ past s. history-no_effect e past s (alone-effect e s alone);
   book = λ opening past b stands. goes_on_none e past b opening (alone-effect e b.stream alone) stands;
+  event = tt;
 }

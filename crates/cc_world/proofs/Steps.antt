@@ -38,6 +38,7 @@ use Rattle.cc_world.specs.declared.rows.Kept.{Kept}
 use Rattle.cc_world.specs.declared.rows.Row.{Row}
 use Rattle.cc_world.proofs.Belonging.{answers-within, fault-within, never-kept, queue-left, stream-leaves, wanting-within}
 use Rattle.cc_world.proofs.Quiet.{AreWithin, IsOn, within-one}
+use Rattle.cc_turns.proofs.Capacity.{journal_within}
 
 pub one : {A : Type 0} (a b : A) → Some a ≡ Some b → a ≡ b
 one a b is = cc
@@ -156,8 +157,8 @@ module _ {D L Q : Type 0} (tells : Tells D L Q) (w : WorldState D L Q) (stands :
           (log_grows tells.log tells.log_faults (log_at_first tells.log tells.log_faults (slice_get w.begun.logs handle)) added w.journal.entries log (within.log log.handle) there.stands);
     }
 
-    pub world-stands : WorldStands tells (record w { rows = slice_set w.rows s now; journal = k })
-    world-stands = record {
+    pub world-stands : length k.entries + k.reserved ≤ k.capacity → WorldStands tells (record w { rows = slice_set w.rows s now; journal = k })
+    world-stands fits = record {
       rows = at-put (length w.begun.disks) s w.rows now (slice_get_within w.rows s row there) other-row (record { stream = gone.stream ∙ home.stream; stands = gone.stands.row_is }) stands.rows;
       logs = record { counted = stands.logs.counted; each = λ handle log is. each-log handle log (stands.logs.each handle log is) };
       journal = record {
@@ -173,12 +174,16 @@ module _ {D L Q : Type 0} (tells : Tells D L Q) (w : WorldState D L Q) (stands :
             ∙ (flushed_to-quiet added w.journal.entries handle (within.log handle) ∙ stands.journal.strange handle beyond);
         no_stream = λ t beyond. ap (λ (p : List Entry). history p t) grown
             ∙ (history-quiet added w.journal.entries t (within.book t (apart t beyond)) (within.device t (apart t beyond)) ∙ stands.journal.no_stream t beyond);
+        within = journal_within k w.begun.capacity added w.journal.entries grown within.event (ap (λ x. x.capacity) gone.placed ∙ stands.journal.limits.0) (owed _ _ gone.stands.reserved) fits stands.journal.within;
       };
       few = stands.few;
     }
       where
         nothing-less : (a b : ℕ) → a ≡ b + 0 → a ≡ b
         nothing-less a b same = omega arith
+
+        owed : (a b : ℕ) → a ≡ b + 0 → b ≤ a
+        owed a b same = omega arith
 
         known : s < length w.begun.disks
         known = subst (λ (n : ℕ). s < n) stands.rows.counted (slice_get_within w.rows s row there)
@@ -205,18 +210,18 @@ module _ {D L Q : Type 0} (tells : Tells D L Q) (w : WorldState D L Q) (stands :
   same-queue : (n : ℕ) (added : List Entry) (now : Row D) (k : JournalState Q) → RowWent tells.disk tells.disk_faults (setup_of tells w.begun) (disk_at_first tells.disk tells.disk_faults (slice_get w.begun.disks s)) n added row now w.journal k → k.queue ≡ w.journal.queue
   same-queue n added now k gone = ap (λ (x : JournalState Q). x.queue) gone.placed
 
-  faulted : (o : Option Entry) (now : Row D) (k : JournalState Q) → ((e : Entry) → o ≡ Some e → IsOn s e) → RowFaulted tells.disk tells.disk_faults (setup_of tells w.begun) (disk_at_first tells.disk tells.disk_faults (slice_get w.begun.disks s)) o row now w.journal k → WorldStands tells (record w { rows = slice_set w.rows s now; journal = k }) × Faulted tells (OnStream s) o w (record w { rows = slice_set w.rows s now; journal = k }) × (k.queue ≡ w.journal.queue)
-  faulted None now k on gone = absurd gone
-  faulted (Some e) now k on gone =
+  faulted : (o : Option Entry) (now : Row D) (k : JournalState Q) → length k.entries + k.reserved ≤ k.capacity → ((e : Entry) → o ≡ Some e → IsOn s e) → RowFaulted tells.disk tells.disk_faults (setup_of tells w.begun) (disk_at_first tells.disk tells.disk_faults (slice_get w.begun.disks s)) o row now w.journal k → WorldStands tells (record w { rows = slice_set w.rows s now; journal = k }) × Faulted tells (OnStream s) o w (record w { rows = slice_set w.rows s now; journal = k }) × (k.queue ≡ w.journal.queue)
+  faulted None now k fits on gone = absurd gone
+  faulted (Some e) now k fits on gone =
       let within = within-one s e (on e refl) in
-      (world-stands 1 (e ∷ []) now k within gone, world-went 1 (e ∷ []) now k within gone, same-queue 1 (e ∷ []) now k gone)
+      (world-stands 1 (e ∷ []) now k within gone fits, world-went 1 (e ∷ []) now k within gone, same-queue 1 (e ∷ []) now k gone)
 
-  pub stepped : (it : Event Q) (answer : StepReply Q) (now : Row D) (k : JournalState Q) → place_of (setup_of tells w.begun) w.journal.entries it ≡ OnStream s → RowLeft tells.disk tells.disk_faults (setup_of tells w.begun) (disk_at_first tells.disk tells.disk_faults (slice_get w.begun.disks s)) it answer row now w.journal k → Both it answer now k
-  stepped it step.NotNow now k at left =
+  pub stepped : (it : Event Q) (answer : StepReply Q) (now : Row D) (k : JournalState Q) → length k.entries + k.reserved ≤ k.capacity → place_of (setup_of tells w.begun) w.journal.entries it ≡ OnStream s → RowLeft tells.disk tells.disk_faults (setup_of tells w.begun) (disk_at_first tells.disk tells.disk_faults (slice_get w.begun.disks s)) it answer row now w.journal k → Both it answer now k
+  stepped it step.NotNow now k fits at left =
       let same = unchanged now k left.1 left.2 in
       let leaves = stream-leaves (setup_of tells w.begun) w.journal.entries it s at in
       (still _ same, ((left.0, same), queue-left tells.posted it step.NotNow w.journal.queue k.queue leaves refl (ap (λ (x : JournalState Q). x.queue) left.2)))
-  stepped it (step.Refused (error.JournalFull entries)) now k at left =
+  stepped it (step.Refused (error.JournalFull entries)) now k fits at left =
       let same = unchanged now k left.3 left.4 in
       let leaves = stream-leaves (setup_of tells w.begun) w.journal.entries it s at in (
         still _ same,
@@ -225,36 +230,36 @@ module _ {D L Q : Type 0} (tells : Tells D L Q) (w : WorldState D L Q) (stands :
           queue-left tells.posted it (step.Refused (error.JournalFull entries)) w.journal.queue k.queue leaves refl (ap (λ (x : JournalState Q). x.queue) left.4),
         ),
       )
-  stepped it step.Faulted now k at left =
+  stepped it step.Faulted now k fits at left =
       let u = setup_of tells w.begun in
       let past = w.journal.entries in
       let o = faulted_by past it in
-      let all = faulted o now k (λ e is. fault-within u past it e s at is) left.2.1 in (
+      let all = faulted o now k fits (λ e is. fault-within u past it e s at is) left.2.1 in (
         all.0,
         (
           (left.0, left.1, (left.2.0, subst (λ (p : Where). Faulted tells p o w (record w { rows = slice_set w.rows s now; journal = k })) (sym at) all.1)),
           queue-left tells.posted it step.Faulted w.journal.queue k.queue (stream-leaves u past it s at) refl all.2,
         ),
       )
-  stepped it (step.Refused error.NoMemory) now k at left =
+  stepped it (step.Refused error.NoMemory) now k fits at left =
       let u = setup_of tells w.begun in
       let past = w.journal.entries in
       let added : List Entry = left.0 in
       let within = wanting-within u past it added s at left.1 in (
-        world-stands 0 added now k within left.2,
+        world-stands 0 added now k within left.2 fits,
         (
           (added, left.1, subst (λ (p : Where). WentAt tells p 0 added w (record w { rows = slice_set w.rows s now; journal = k })) (sym at) (world-went 0 added now k within left.2)),
           queue-left tells.posted it (step.Refused error.NoMemory) w.journal.queue k.queue (stream-leaves u past it s at) refl (same-queue 0 added now k left.2),
         ),
       )
-  stepped it (step.Kept routine e) now k at left =
+  stepped it (step.Kept routine e) now k fits at left =
       absurd (never-kept (setup_of tells w.begun) w.journal.entries it routine e left.2.0 left.2.1)
-  stepped it other now k at left =
+  stepped it other now k fits at left =
       let u = setup_of tells w.begun in
       let past = w.journal.entries in
       let added : List Entry = left.2.0 in
       let within = answers-within u past it other added s at left.2.1 in (
-        world-stands 0 added now k within left.2.2,
+        world-stands 0 added now k within left.2.2 fits,
         (
           (left.0, left.1, (added, left.2.1, subst (λ (p : Where). WentAt tells p 0 added w (record w { rows = slice_set w.rows s now; journal = k })) (sym at) (world-went 0 added now k within left.2.2))),
           queue-left tells.posted it other w.journal.queue k.queue (stream-leaves u past it s at) refl (same-queue 0 added now k left.2.2),

@@ -6,6 +6,7 @@ use Rattle.cc_entry.specs.declared.entry.Entry.{Entry}
 use Rattle.cc_entry.specs.declared.error.CcError.TheVariants as error
 use Rattle.cc_traits.specs.declared.setup.Setup.{Setup as Begins}
 use Rattle.cc_book.specs.Book.{BookStands}
+use Rattle.cc_journal.specs.Capacity.{IsWithinCapacity}
 use Rattle.cc_journal.specs.Journal.{JournalState, room_of}
 use Rattle.cc_journal.specs.Queue.{AllUnposted}
 use Rattle.cc_log.specs.Turn.{LogState}
@@ -60,7 +61,8 @@ pub record AreAt {A : Type 0} (count : ℕ) (IsAt : ℕ → A → Type 0) (thing
   pub each : (n : ℕ) (a : A) → slice_get things n ≡ Some a → IsAt n a
 
 -- The journal is good, has the limits of the setup, has reserved just what its entries owe, no routine that waits was
--- posted, no log was flushed that there is not, and nothing happened to a stream that there is not.
+-- posted, no log was flushed that there is not, nothing happened to a stream that there is not, and it was always within
+-- the capacity.
 pub record JournalRests {D L Q : Type 0} (tells : Tells D L Q) (begun : Begun D L) (j : JournalState Q) : Type 0 where
   pub good : IsGood (setup_of tells begun) j.entries
   pub limits : (j.capacity ≡ begun.capacity) × (j.threshold ≡ begun.threshold) × (j.logs ≡ length begun.logs)
@@ -68,6 +70,7 @@ pub record JournalRests {D L Q : Type 0} (tells : Tells D L Q) (begun : Begun D 
   pub unposted : AllUnposted tells.posted j.queue
   pub strange : (handle : ℕ) → length begun.logs ≤ handle → flushed_to j.entries handle ≡ 0
   pub no_stream : (s : ℕ) → length begun.disks ≤ s → history j.entries s ≡ []
+  pub within : IsWithinCapacity begun.capacity j.entries
 
 -- What the World keeps, whatever happened: rows, logs and journal stand.
 pub record WorldStands {D L Q : Type 0} (tells : Tells D L Q) (w : WorldState D L Q) : Type 0 where

@@ -2,6 +2,7 @@
 
 ghost use Rattle.std.specs.Prelude.{◌≡◌, ◌<◌, ◌≤◌, false, IfOk, IfErr, List, length, map, reverse};
 ghost use Rattle.cc_entry.specs.declared.error.CcError.TheVariants as error;
+ghost use Rattle.cc_journal.specs.Capacity.{IsWithinCapacity};
 ghost use Rattle.cc_journal.specs.Queue.{routines_of};
 ghost use Rattle.cc_model.specs.Acts.{file_of};
 ghost use Rattle.cc_model.specs.Good.{IsGood};
@@ -135,7 +136,11 @@ impl<D: PageDisk, L: LogFile, Q: PostRoutine> World<D, L, Q> {
             Event::LogFlush { pass, handle, to } => self.flush_log(pass, handle, to),
             Event::Do { pass, call } => self.do_call(pass, call),
             Event::Fail { pass, call } => self.fail_call(pass, call),
-            Event::Scan { pass } => scan(&mut self.journal, pass),
+            Event::Scan { pass } => {
+                let reply = scan(&mut self.journal, pass);
+                self.journal.note_capacity();
+                reply
+            }
             Event::Defer {
                 pass,
                 file,
@@ -143,7 +148,11 @@ impl<D: PageDisk, L: LogFile, Q: PostRoutine> World<D, L, Q> {
                 retrying,
                 routine,
             } => self.defer(pass, file, bytes, retrying, routine),
-            Event::Post { pass } => post(&mut self.journal, pass),
+            Event::Post { pass } => {
+                let reply = post(&mut self.journal, pass);
+                self.journal.note_capacity();
+                reply
+            }
         }
     }
 
@@ -156,9 +165,15 @@ impl<D: PageDisk, L: LogFile, Q: PostRoutine> World<D, L, Q> {
         match filing_of(&self.rows, &call) {
             Filing::Stream(stream) => {
                 let row = &mut self.rows[usize::from(stream.number())];
-                row.do_call(self.alloc, &self.logs, &mut self.journal, pass, call)
+                let reply = row.do_call(self.alloc, &self.logs, &mut self.journal, pass, call);
+                self.journal.note_capacity();
+                reply
             }
-            Filing::Journal => do_unfiled(self.alloc, &mut self.journal, pass, call),
+            Filing::Journal => {
+                let reply = do_unfiled(self.alloc, &mut self.journal, pass, call);
+                self.journal.note_capacity();
+                reply
+            }
             Filing::NoHold => StepReply::NotNow,
         }
     }
@@ -172,9 +187,15 @@ impl<D: PageDisk, L: LogFile, Q: PostRoutine> World<D, L, Q> {
         match filing_of(&self.rows, &call) {
             Filing::Stream(stream) => {
                 let row = &mut self.rows[usize::from(stream.number())];
-                row.fail_call(self.alloc, &mut self.journal, pass, call)
+                let reply = row.fail_call(self.alloc, &mut self.journal, pass, call);
+                self.journal.note_capacity();
+                reply
             }
-            Filing::Journal => fail_unfiled(&mut self.journal, pass, call),
+            Filing::Journal => {
+                let reply = fail_unfiled(&mut self.journal, pass, call);
+                self.journal.note_capacity();
+                reply
+            }
             Filing::NoHold => StepReply::NotNow,
         }
     }
@@ -194,7 +215,7 @@ impl<D: PageDisk, L: LogFile, Q: PostRoutine> World<D, L, Q> {
             (event.Defer pass file bytes retrying routine) result self.old self.new }
     {
         let row = &self.rows[usize::from(file.stream().number())];
-        defer(
+        let reply = defer(
             &row.book,
             &mut self.journal,
             pass,
@@ -202,7 +223,9 @@ impl<D: PageDisk, L: LogFile, Q: PostRoutine> World<D, L, Q> {
             bytes,
             retrying,
             routine,
-        )
+        );
+        self.journal.note_capacity();
+        reply
     }
 
     // A page comes in.
@@ -212,7 +235,9 @@ impl<D: PageDisk, L: LogFile, Q: PostRoutine> World<D, L, Q> {
             self.old self.new }
     {
         let row = &mut self.rows[usize::from(page.stream().number())];
-        row.fill(&mut self.journal, pass, page)
+        let reply = row.fill(&mut self.journal, pass, page);
+        self.journal.note_capacity();
+        reply
     }
 
     // A page goes out.
@@ -222,7 +247,9 @@ impl<D: PageDisk, L: LogFile, Q: PostRoutine> World<D, L, Q> {
             self.old self.new }
     {
         let row = &mut self.rows[usize::from(page.stream().number())];
-        row.drop_page(&mut self.journal, page)
+        let reply = row.drop_page(&mut self.journal, page);
+        self.journal.note_capacity();
+        reply
     }
 
     // The transfer of a page begins.
@@ -232,7 +259,9 @@ impl<D: PageDisk, L: LogFile, Q: PostRoutine> World<D, L, Q> {
             self.old self.new }
     {
         let row = &mut self.rows[usize::from(page.stream().number())];
-        row.begin(&self.logs, &mut self.journal, pass, page)
+        let reply = row.begin(&self.logs, &mut self.journal, pass, page);
+        self.journal.note_capacity();
+        reply
     }
 
     // The transfer of a page ends.
@@ -242,7 +271,9 @@ impl<D: PageDisk, L: LogFile, Q: PostRoutine> World<D, L, Q> {
             self.old self.new }
     {
         let row = &mut self.rows[usize::from(page.stream().number())];
-        row.end(&mut self.journal, page)
+        let reply = row.end(&mut self.journal, page);
+        self.journal.note_capacity();
+        reply
     }
 
     // The disk of a stream is synced.
@@ -252,7 +283,9 @@ impl<D: PageDisk, L: LogFile, Q: PostRoutine> World<D, L, Q> {
             self.old self.new }
     {
         let row = &mut self.rows[usize::from(stream.number())];
-        row.sync(&mut self.journal, pass, stream)
+        let reply = row.sync(&mut self.journal, pass, stream);
+        self.journal.note_capacity();
+        reply
     }
 
     // An entry is appended to a log.
@@ -264,7 +297,9 @@ impl<D: PageDisk, L: LogFile, Q: PostRoutine> World<D, L, Q> {
             return self.no_log(handle);
         }
         let log = &mut self.logs[usize::from(handle)];
-        append(self.alloc, log, &mut self.journal, pass, handle, bytes)
+        let reply = append(self.alloc, log, &mut self.journal, pass, handle, bytes);
+        self.journal.note_capacity();
+        reply
     }
 
     // A log is flushed.
@@ -278,7 +313,9 @@ impl<D: PageDisk, L: LogFile, Q: PostRoutine> World<D, L, Q> {
             return self.no_log(handle);
         }
         let log = &mut self.logs[usize::from(handle)];
-        flush(log, &mut self.journal, pass, handle, to)
+        let reply = flush(log, &mut self.journal, pass, handle, to);
+        self.journal.note_capacity();
+        reply
     }
 
     // What is replied to an event on a log that there is not. Room for its entry is asked first.
@@ -296,7 +333,8 @@ impl<D: PageDisk, L: LogFile, Q: PostRoutine> World<D, L, Q> {
         })
     }
 
-    /// The journal, which is good, has the limits of the setup, and has reserved just what its entries owe.
+    /// The journal, which is good, has the limits of the setup, has reserved just what its entries owe, and was always within
+    /// the capacity.
     pub fn journal(&self) -> &Journal<Q>
         ensures same { result.now ≡ self.now.journal }
         ensures rests { JournalRests (tells_of D.told D.faults L.told L.faults Q.posted) self.now.begun
@@ -310,6 +348,7 @@ impl<D: PageDisk, L: LogFile, Q: PostRoutine> World<D, L, Q> {
         ensures journal { reverse result.journal.items ≡ self.journal.entries }
         ensures good { IsGood (setup_of (tells_of D.told D.faults L.told L.faults Q.posted) self.begun)
             self.journal.entries }
+        ensures within { IsWithinCapacity self.begun.capacity self.journal.entries }
         ensures disks { DisksEnded (tells_of D.told D.faults L.told L.faults Q.posted) self result.disks.items }
         ensures logs { LogsEnded (tells_of D.told D.faults L.told L.faults Q.posted) self result.logs.items }
         ensures queued { map (λ waiting. waiting.0) result.queued.items

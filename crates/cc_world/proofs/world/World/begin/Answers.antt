@@ -15,15 +15,15 @@ index_mut-row-requires g c =
     let known : c.args.page.stream < length c.self.inside.begun.value.disks.items = subst (λ w. c.args.page.stream < length w.begun.disks) (sym c.self.view_is) c.requires in
     omega (arith, c.from.ensures, c.number.ensures.same, c.self.inside.rows.ok.0, c.self.invariant.0.rows.counted, known)
 
-pub begin-requires-clause-stream : goal.begin-requires-clause-stream
-begin-requires-clause-stream g c lifetimes met =
+pub begin-reply-requires-clause-stream : goal.begin-reply-requires-clause-stream
+begin-reply-requires-clause-stream g c lifetimes met =
     let known : c.args.page.stream < length c.self.inside.begun.value.disks.items = subst (λ w. c.args.page.stream < length w.begun.disks) (sym c.self.view_is) c.requires in
     let within : c.from.result < length c.self.inside.rows.items = omega (arith, c.from.ensures, c.number.ensures.same, c.self.invariant.0.rows.counted, known) in
     let there = read-there c.self.inside.rows.items c.from.result c.index_mut-row.result.now within c.index_mut-row.ensures.value in
     sym (row-stream _ _ c.self.invariant.0 c.from.result c.index_mut-row.result.now there ∙ (c.from.ensures ∙ (c.number.ensures.same ∙ c.stream.ensures)))
 
-pub begin-requires-clause-standing : goal.begin-requires-clause-standing
-begin-requires-clause-standing g c lifetimes met =
+pub begin-reply-requires-clause-standing : goal.begin-reply-requires-clause-standing
+begin-reply-requires-clause-standing g c lifetimes met =
     let known : c.args.page.stream < length c.self.inside.begun.value.disks.items = subst (λ w. c.args.page.stream < length w.begun.disks) (sym c.self.view_is) c.requires in
     let within : c.from.result < length c.self.inside.rows.items = omega (arith, c.from.ensures, c.number.ensures.same, c.self.invariant.0.rows.counted, known) in
     let there = read-there c.self.inside.rows.items c.from.result c.index_mut-row.result.now within c.index_mut-row.ensures.value in
@@ -34,8 +34,8 @@ invariant_of-self g c =
     let known : c.args.page.stream < length c.self.inside.begun.value.disks.items = subst (λ w. c.args.page.stream < length w.begun.disks) (sym c.self.view_is) c.requires in
     let within : c.from.result < length c.self.inside.rows.items = omega (arith, c.from.ensures, c.number.ensures.same, c.self.invariant.0.rows.counted, known) in
     let there = read-there c.self.inside.rows.items c.from.result c.index_mut-row.result.now within c.index_mut-row.ensures.value in
-    let both = stepped _ _ c.self.invariant.0 c.from.result c.index_mut-row.result.now there (event.WriteBegin c.args.pass c.args.page) c.begin.result c.begin.new.self c.begin.new.journal (ap (λ (n : ℕ). OnStream n) (sym (c.from.ensures ∙ (c.number.ensures.same ∙ c.stream.ensures))))
-    (c.begin.ensures _ _ (row-stands _ _ c.self.invariant.0 c.from.result c.index_mut-row.result.now there)) in
+    let both = stepped _ _ c.self.invariant.0 c.from.result c.index_mut-row.result.now there (event.WriteBegin c.args.pass c.args.page) c.begin-reply.result c.begin-reply.new.self c.begin-reply.new.journal c.note_capacity.ensures (ap (λ (n : ℕ). OnStream n) (sym (c.from.ensures ∙ (c.number.ensures.same ∙ c.stream.ensures))))
+    (c.begin-reply.ensures _ _ (row-stands _ _ c.self.invariant.0 c.from.result c.index_mut-row.result.now there)) in
     (both.0, c.self.invariant.1, c.self.invariant.2)
 
 pub returns : goal.returns
@@ -43,13 +43,13 @@ returns g c =
     let known : c.args.page.stream < length c.self.inside.begun.value.disks.items = subst (λ w. c.args.page.stream < length w.begun.disks) (sym c.self.view_is) c.requires in
     let within : c.from.result < length c.self.inside.rows.items = omega (arith, c.from.ensures, c.number.ensures.same, c.self.invariant.0.rows.counted, known) in
     let there = read-there c.self.inside.rows.items c.from.result c.index_mut-row.result.now within c.index_mut-row.ensures.value in
-    let both = stepped _ _ c.self.invariant.0 c.from.result c.index_mut-row.result.now there (event.WriteBegin c.args.pass c.args.page) c.begin.result c.begin.new.self c.begin.new.journal (ap (λ (n : ℕ). OnStream n) (sym (c.from.ensures ∙ (c.number.ensures.same ∙ c.stream.ensures))))
-    (c.begin.ensures _ _ (row-stands _ _ c.self.invariant.0 c.from.result c.index_mut-row.result.now there)) in
-    subst (λ w. Stepped (tells_of g.D.Told.told g.D.Told.faults g.L.LogFile.told g.L.LogFile.faults g.Q.PostRoutine.posted) (event.WriteBegin c.args.pass c.args.page) c.begin.result w
-    (world_of c.self.inside.begun.value (slice_set c.self.inside.rows.items c.from.result c.begin.new.self) c.self.inside.logs.items c.begin.new.journal)) c.self.view_is both.1
+    let both = stepped _ _ c.self.invariant.0 c.from.result c.index_mut-row.result.now there (event.WriteBegin c.args.pass c.args.page) c.begin-reply.result c.begin-reply.new.self c.begin-reply.new.journal c.note_capacity.ensures (ap (λ (n : ℕ). OnStream n) (sym (c.from.ensures ∙ (c.number.ensures.same ∙ c.stream.ensures))))
+    (c.begin-reply.ensures _ _ (row-stands _ _ c.self.invariant.0 c.from.result c.index_mut-row.result.now there)) in
+    subst (λ w. Stepped (tells_of g.D.Told.told g.D.Told.faults g.L.LogFile.told g.L.LogFile.faults g.Q.PostRoutine.posted) (event.WriteBegin c.args.pass c.args.page) c.begin-reply.result w
+    (world_of c.self.inside.begun.value (slice_set c.self.inside.rows.items c.from.result c.begin-reply.new.self) c.self.inside.logs.items c.begin-reply.new.journal)) c.self.view_is both.1
 
-pub begin-requires-clause-logs : goal.begin-requires-clause-logs
-begin-requires-clause-logs g c lifetimes met =
+pub begin-reply-requires-clause-logs : goal.begin-reply-requires-clause-logs
+begin-reply-requires-clause-logs g c lifetimes met =
     let known : c.args.page.stream < length c.self.inside.begun.value.disks.items = subst (λ w. c.args.page.stream < length w.begun.disks) (sym c.self.view_is) c.requires in
     let within : c.from.result < length c.self.inside.rows.items = omega (arith, c.from.ensures, c.number.ensures.same, c.self.invariant.0.rows.counted, known) in
     let there = read-there c.self.inside.rows.items c.from.result c.index_mut-row.result.now within c.index_mut-row.ensures.value in

@@ -1,6 +1,7 @@
 use Rattle.std.proofs.Common.{subst}
 use Rattle.cc_turns.specs.Desk.{tells_of}
 use Rattle.cc_world.specs.World.{DisksEnded, LogsEnded, setup_of}
+use Rattle.cc_journal.specs.Capacity.{IsWithinCapacity}
 use Rattle.cc_model.specs.Good.{IsGood}
 use Rattle.cc_world.proofs.Fresh.{disks-end, logs-end}
 use Rattle.cc_world.proofs.world.World.end.Goals as goal
@@ -18,3 +19,6 @@ returns-clause-logs g c =
 pub returns-clause-good : goal.returns-clause-good
 returns-clause-good g c =
     subst (λ w. IsGood (setup_of (tells_of g.D.Told.told g.D.Told.faults g.L.LogFile.told g.L.LogFile.faults g.Q.PostRoutine.posted) w.begun) w.journal.entries) c.self.view_is c.self.invariant.0.journal.good
+
+pub returns-clause-within : goal.returns-clause-within
+returns-clause-within g c = subst (λ w. IsWithinCapacity w.begun.capacity w.journal.entries) c.self.view_is c.self.invariant.0.journal.within

@@ -13,15 +13,15 @@ index_mut-row-requires g c =
     let known : c.args.page.stream < length c.self.inside.begun.value.disks.items = subst (λ w. c.args.page.stream < length w.begun.disks) (sym c.self.view_is) c.requires in
     omega (arith, c.from.ensures, c.number.ensures.same, c.self.inside.rows.ok.0, c.self.invariant.0.rows.counted, known)
 
-pub end-requires-clause-stream : goal.end-requires-clause-stream
-end-requires-clause-stream g c lifetimes met =
+pub end-reply-requires-clause-stream : goal.end-reply-requires-clause-stream
+end-reply-requires-clause-stream g c lifetimes met =
     let known : c.args.page.stream < length c.self.inside.begun.value.disks.items = subst (λ w. c.args.page.stream < length w.begun.disks) (sym c.self.view_is) c.requires in
     let within : c.from.result < length c.self.inside.rows.items = omega (arith, c.from.ensures, c.number.ensures.same, c.self.invariant.0.rows.counted, known) in
     let there = read-there c.self.inside.rows.items c.from.result c.index_mut-row.result.now within c.index_mut-row.ensures.value in
     sym (row-stream _ _ c.self.invariant.0 c.from.result c.index_mut-row.result.now there ∙ (c.from.ensures ∙ (c.number.ensures.same ∙ c.stream.ensures)))
 
-pub end-requires-clause-standing : goal.end-requires-clause-standing
-end-requires-clause-standing g c lifetimes met =
+pub end-reply-requires-clause-standing : goal.end-reply-requires-clause-standing
+end-reply-requires-clause-standing g c lifetimes met =
     let known : c.args.page.stream < length c.self.inside.begun.value.disks.items = subst (λ w. c.args.page.stream < length w.begun.disks) (sym c.self.view_is) c.requires in
     let within : c.from.result < length c.self.inside.rows.items = omega (arith, c.from.ensures, c.number.ensures.same, c.self.invariant.0.rows.counted, known) in
     let there = read-there c.self.inside.rows.items c.from.result c.index_mut-row.result.now within c.index_mut-row.ensures.value in
@@ -32,8 +32,8 @@ invariant_of-self g c =
     let known : c.args.page.stream < length c.self.inside.begun.value.disks.items = subst (λ w. c.args.page.stream < length w.begun.disks) (sym c.self.view_is) c.requires in
     let within : c.from.result < length c.self.inside.rows.items = omega (arith, c.from.ensures, c.number.ensures.same, c.self.invariant.0.rows.counted, known) in
     let there = read-there c.self.inside.rows.items c.from.result c.index_mut-row.result.now within c.index_mut-row.ensures.value in
-    let both = stepped _ _ c.self.invariant.0 c.from.result c.index_mut-row.result.now there (event.WriteEnd c.args.page) c.end.result c.end.new.self c.end.new.journal (ap (λ (n : ℕ). OnStream n) (sym (c.from.ensures ∙ (c.number.ensures.same ∙ c.stream.ensures))))
-    (c.end.ensures _ _ (row-stands _ _ c.self.invariant.0 c.from.result c.index_mut-row.result.now there)) in
+    let both = stepped _ _ c.self.invariant.0 c.from.result c.index_mut-row.result.now there (event.WriteEnd c.args.page) c.end-reply.result c.end-reply.new.self c.end-reply.new.journal c.note_capacity.ensures (ap (λ (n : ℕ). OnStream n) (sym (c.from.ensures ∙ (c.number.ensures.same ∙ c.stream.ensures))))
+    (c.end-reply.ensures _ _ (row-stands _ _ c.self.invariant.0 c.from.result c.index_mut-row.result.now there)) in
     (both.0, c.self.invariant.1, c.self.invariant.2)
 
 pub returns : goal.returns
@@ -41,7 +41,7 @@ returns g c =
     let known : c.args.page.stream < length c.self.inside.begun.value.disks.items = subst (λ w. c.args.page.stream < length w.begun.disks) (sym c.self.view_is) c.requires in
     let within : c.from.result < length c.self.inside.rows.items = omega (arith, c.from.ensures, c.number.ensures.same, c.self.invariant.0.rows.counted, known) in
     let there = read-there c.self.inside.rows.items c.from.result c.index_mut-row.result.now within c.index_mut-row.ensures.value in
-    let both = stepped _ _ c.self.invariant.0 c.from.result c.index_mut-row.result.now there (event.WriteEnd c.args.page) c.end.result c.end.new.self c.end.new.journal (ap (λ (n : ℕ). OnStream n) (sym (c.from.ensures ∙ (c.number.ensures.same ∙ c.stream.ensures))))
-    (c.end.ensures _ _ (row-stands _ _ c.self.invariant.0 c.from.result c.index_mut-row.result.now there)) in
-    subst (λ w. Stepped (tells_of g.D.Told.told g.D.Told.faults g.L.LogFile.told g.L.LogFile.faults g.Q.PostRoutine.posted) (event.WriteEnd c.args.page) c.end.result w
-    (world_of c.self.inside.begun.value (slice_set c.self.inside.rows.items c.from.result c.end.new.self) c.self.inside.logs.items c.end.new.journal)) c.self.view_is both.1
+    let both = stepped _ _ c.self.invariant.0 c.from.result c.index_mut-row.result.now there (event.WriteEnd c.args.page) c.end-reply.result c.end-reply.new.self c.end-reply.new.journal c.note_capacity.ensures (ap (λ (n : ℕ). OnStream n) (sym (c.from.ensures ∙ (c.number.ensures.same ∙ c.stream.ensures))))
+    (c.end-reply.ensures _ _ (row-stands _ _ c.self.invariant.0 c.from.result c.index_mut-row.result.now there)) in
+    subst (λ w. Stepped (tells_of g.D.Told.told g.D.Told.faults g.L.LogFile.told g.L.LogFile.faults g.Q.PostRoutine.posted) (event.WriteEnd c.args.page) c.end-reply.result w
+    (world_of c.self.inside.begun.value (slice_set c.self.inside.rows.items c.from.result c.end-reply.new.self) c.self.inside.logs.items c.end-reply.new.journal)) c.self.view_is both.1

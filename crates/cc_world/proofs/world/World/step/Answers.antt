@@ -9,30 +9,30 @@ use Rattle.cc_world.proofs.world.World.step.Goals as goal
 
 pub invariant_of-self : goal.invariant_of-self
 invariant_of-self g c =
-    let both = journal-stepped _ _ c.self.invariant.0 (event.Scan c.in-Scan.pass) c.scan.result c.scan.new.journal refl
-    (c.scan.ensures _ (journal-stands _ _ c.self.invariant.0)) in
+    let both = journal-stepped _ _ c.self.invariant.0 (event.Scan c.in-Scan.pass) c.scan-reply.result c.scan-reply.new.journal c.note_capacity.ensures refl
+    (c.scan-reply.ensures _ (journal-stands _ _ c.self.invariant.0)) in
     (both.0, c.self.invariant.1, c.self.invariant.2)
 
 pub invariant_of-self-in-Post : goal.invariant_of-self-in-Post
 invariant_of-self-in-Post g c =
-    let both = journal-stepped _ _ c.self-in-Post.invariant.0 (event.Post c.in-Post.pass) c.post.result c.post.new.journal refl
-    (c.post.ensures _ (journal-stands _ _ c.self-in-Post.invariant.0)) in
+    let both = journal-stepped _ _ c.self-in-Post.invariant.0 (event.Post c.in-Post.pass) c.post-reply.result c.post-reply.new.journal c.note_capacity-in-Post.ensures refl
+    (c.post-reply.ensures _ (journal-stands _ _ c.self-in-Post.invariant.0)) in
     (both.0, c.self-in-Post.invariant.1, c.self-in-Post.invariant.2)
 
 pub returns-in-Scan : goal.returns-in-Scan
 returns-in-Scan g c =
-    let both = journal-stepped _ _ c.self.invariant.0 (event.Scan c.in-Scan.pass) c.scan.result c.scan.new.journal refl
-    (c.scan.ensures _ (journal-stands _ _ c.self.invariant.0)) in
-    subst (λ it. Stepped (tells_of g.D.Told.told g.D.Told.faults g.L.LogFile.told g.L.LogFile.faults g.Q.PostRoutine.posted) it c.scan.result c.args.self.now
-    (world_of c.self.inside.begun.value c.self.inside.rows.items c.self.inside.logs.items c.scan.new.journal)) (sym c.in-Scan.is)
-    (subst (λ w. Stepped (tells_of g.D.Told.told g.D.Told.faults g.L.LogFile.told g.L.LogFile.faults g.Q.PostRoutine.posted) (event.Scan c.in-Scan.pass) c.scan.result w
-    (world_of c.self.inside.begun.value c.self.inside.rows.items c.self.inside.logs.items c.scan.new.journal)) c.self.view_is both.1)
+    let both = journal-stepped _ _ c.self.invariant.0 (event.Scan c.in-Scan.pass) c.scan-reply.result c.scan-reply.new.journal c.note_capacity.ensures refl
+    (c.scan-reply.ensures _ (journal-stands _ _ c.self.invariant.0)) in
+    subst (λ it. Stepped (tells_of g.D.Told.told g.D.Told.faults g.L.LogFile.told g.L.LogFile.faults g.Q.PostRoutine.posted) it c.scan-reply.result c.args.self.now
+    (world_of c.self.inside.begun.value c.self.inside.rows.items c.self.inside.logs.items c.scan-reply.new.journal)) (sym c.in-Scan.is)
+    (subst (λ w. Stepped (tells_of g.D.Told.told g.D.Told.faults g.L.LogFile.told g.L.LogFile.faults g.Q.PostRoutine.posted) (event.Scan c.in-Scan.pass) c.scan-reply.result w
+    (world_of c.self.inside.begun.value c.self.inside.rows.items c.self.inside.logs.items c.scan-reply.new.journal)) c.self.view_is both.1)
 
 pub returns-in-Post : goal.returns-in-Post
 returns-in-Post g c =
-    let both = journal-stepped _ _ c.self-in-Post.invariant.0 (event.Post c.in-Post.pass) c.post.result c.post.new.journal refl
-    (c.post.ensures _ (journal-stands _ _ c.self-in-Post.invariant.0)) in
-    subst (λ it. Stepped (tells_of g.D.Told.told g.D.Told.faults g.L.LogFile.told g.L.LogFile.faults g.Q.PostRoutine.posted) it c.post.result c.args.self.now
-    (world_of c.self-in-Post.inside.begun.value c.self-in-Post.inside.rows.items c.self-in-Post.inside.logs.items c.post.new.journal)) (sym c.in-Post.is)
-    (subst (λ w. Stepped (tells_of g.D.Told.told g.D.Told.faults g.L.LogFile.told g.L.LogFile.faults g.Q.PostRoutine.posted) (event.Post c.in-Post.pass) c.post.result w
-    (world_of c.self-in-Post.inside.begun.value c.self-in-Post.inside.rows.items c.self-in-Post.inside.logs.items c.post.new.journal)) c.self-in-Post.view_is both.1)
+    let both = journal-stepped _ _ c.self-in-Post.invariant.0 (event.Post c.in-Post.pass) c.post-reply.result c.post-reply.new.journal c.note_capacity-in-Post.ensures refl
+    (c.post-reply.ensures _ (journal-stands _ _ c.self-in-Post.invariant.0)) in
+    subst (λ it. Stepped (tells_of g.D.Told.told g.D.Told.faults g.L.LogFile.told g.L.LogFile.faults g.Q.PostRoutine.posted) it c.post-reply.result c.args.self.now
+    (world_of c.self-in-Post.inside.begun.value c.self-in-Post.inside.rows.items c.self-in-Post.inside.logs.items c.post-reply.new.journal)) (sym c.in-Post.is)
+    (subst (λ w. Stepped (tells_of g.D.Told.told g.D.Told.faults g.L.LogFile.told g.L.LogFile.faults g.Q.PostRoutine.posted) (event.Post c.in-Post.pass) c.post-reply.result w
+    (world_of c.self-in-Post.inside.begun.value c.self-in-Post.inside.rows.items c.self-in-Post.inside.logs.items c.post-reply.new.journal)) c.self-in-Post.view_is both.1)

@@ -13,15 +13,15 @@ index_mut-row-requires g c =
     let known : c.args.stream < length c.self.inside.begun.value.disks.items = subst (λ w. c.args.stream < length w.begun.disks) (sym c.self.view_is) c.requires in
     omega (arith, c.from.ensures, c.number.ensures.same, c.self.inside.rows.ok.0, c.self.invariant.0.rows.counted, known)
 
-pub sync-requires-clause-stream : goal.sync-requires-clause-stream
-sync-requires-clause-stream g c lifetimes met =
+pub sync-reply-requires-clause-stream : goal.sync-reply-requires-clause-stream
+sync-reply-requires-clause-stream g c lifetimes met =
     let known : c.args.stream < length c.self.inside.begun.value.disks.items = subst (λ w. c.args.stream < length w.begun.disks) (sym c.self.view_is) c.requires in
     let within : c.from.result < length c.self.inside.rows.items = omega (arith, c.from.ensures, c.number.ensures.same, c.self.invariant.0.rows.counted, known) in
     let there = read-there c.self.inside.rows.items c.from.result c.index_mut-row.result.now within c.index_mut-row.ensures.value in
     sym (row-stream _ _ c.self.invariant.0 c.from.result c.index_mut-row.result.now there ∙ (c.from.ensures ∙ c.number.ensures.same))
 
-pub sync-requires-clause-standing : goal.sync-requires-clause-standing
-sync-requires-clause-standing g c lifetimes met =
+pub sync-reply-requires-clause-standing : goal.sync-reply-requires-clause-standing
+sync-reply-requires-clause-standing g c lifetimes met =
     let known : c.args.stream < length c.self.inside.begun.value.disks.items = subst (λ w. c.args.stream < length w.begun.disks) (sym c.self.view_is) c.requires in
     let within : c.from.result < length c.self.inside.rows.items = omega (arith, c.from.ensures, c.number.ensures.same, c.self.invariant.0.rows.counted, known) in
     let there = read-there c.self.inside.rows.items c.from.result c.index_mut-row.result.now within c.index_mut-row.ensures.value in
@@ -32,8 +32,8 @@ invariant_of-self g c =
     let known : c.args.stream < length c.self.inside.begun.value.disks.items = subst (λ w. c.args.stream < length w.begun.disks) (sym c.self.view_is) c.requires in
     let within : c.from.result < length c.self.inside.rows.items = omega (arith, c.from.ensures, c.number.ensures.same, c.self.invariant.0.rows.counted, known) in
     let there = read-there c.self.inside.rows.items c.from.result c.index_mut-row.result.now within c.index_mut-row.ensures.value in
-    let both = stepped _ _ c.self.invariant.0 c.from.result c.index_mut-row.result.now there (event.Sync c.args.pass c.args.stream) c.sync.result c.sync.new.self c.sync.new.journal (ap (λ (n : ℕ). OnStream n) (sym (c.from.ensures ∙ c.number.ensures.same)))
-    (c.sync.ensures _ _ (row-stands _ _ c.self.invariant.0 c.from.result c.index_mut-row.result.now there)) in
+    let both = stepped _ _ c.self.invariant.0 c.from.result c.index_mut-row.result.now there (event.Sync c.args.pass c.args.stream) c.sync-reply.result c.sync-reply.new.self c.sync-reply.new.journal c.note_capacity.ensures (ap (λ (n : ℕ). OnStream n) (sym (c.from.ensures ∙ c.number.ensures.same)))
+    (c.sync-reply.ensures _ _ (row-stands _ _ c.self.invariant.0 c.from.result c.index_mut-row.result.now there)) in
     (both.0, c.self.invariant.1, c.self.invariant.2)
 
 pub returns : goal.returns
@@ -41,7 +41,7 @@ returns g c =
     let known : c.args.stream < length c.self.inside.begun.value.disks.items = subst (λ w. c.args.stream < length w.begun.disks) (sym c.self.view_is) c.requires in
     let within : c.from.result < length c.self.inside.rows.items = omega (arith, c.from.ensures, c.number.ensures.same, c.self.invariant.0.rows.counted, known) in
     let there = read-there c.self.inside.rows.items c.from.result c.index_mut-row.result.now within c.index_mut-row.ensures.value in
-    let both = stepped _ _ c.self.invariant.0 c.from.result c.index_mut-row.result.now there (event.Sync c.args.pass c.args.stream) c.sync.result c.sync.new.self c.sync.new.journal (ap (λ (n : ℕ). OnStream n) (sym (c.from.ensures ∙ c.number.ensures.same)))
-    (c.sync.ensures _ _ (row-stands _ _ c.self.invariant.0 c.from.result c.index_mut-row.result.now there)) in
-    subst (λ w. Stepped (tells_of g.D.Told.told g.D.Told.faults g.L.LogFile.told g.L.LogFile.faults g.Q.PostRoutine.posted) (event.Sync c.args.pass c.args.stream) c.sync.result w
-    (world_of c.self.inside.begun.value (slice_set c.self.inside.rows.items c.from.result c.sync.new.self) c.self.inside.logs.items c.sync.new.journal)) c.self.view_is both.1
+    let both = stepped _ _ c.self.invariant.0 c.from.result c.index_mut-row.result.now there (event.Sync c.args.pass c.args.stream) c.sync-reply.result c.sync-reply.new.self c.sync-reply.new.journal c.note_capacity.ensures (ap (λ (n : ℕ). OnStream n) (sym (c.from.ensures ∙ c.number.ensures.same)))
+    (c.sync-reply.ensures _ _ (row-stands _ _ c.self.invariant.0 c.from.result c.index_mut-row.result.now there)) in
+    subst (λ w. Stepped (tells_of g.D.Told.told g.D.Told.faults g.L.LogFile.told g.L.LogFile.faults g.Q.PostRoutine.posted) (event.Sync c.args.pass c.args.stream) c.sync-reply.result w
+    (world_of c.self.inside.begun.value (slice_set c.self.inside.rows.items c.from.result c.sync-reply.new.self) c.self.inside.logs.items c.sync-reply.new.journal)) c.self.view_is both.1
