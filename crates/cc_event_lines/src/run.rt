@@ -2,6 +2,7 @@
 //! comes back.
 
 ghost use Rattle.std.specs.Prelude.{◌≡◌, ◌+◌, ◌≤◌, [], All, IfOk, IfErr, false, length, reverse, vec_len, vec_capacity};
+ghost use Rattle.cc_journal.specs.Capacity.{IsWithinCapacity};
 ghost use Rattle.cc_model.specs.Good.{IsGood};
 ghost use Rattle.cc_pieces.specs.Steps.{IsSteppedThrough, PostsLeft, deferrals_by};
 ghost use Rattle.cc_script.specs.EventActions.{defer_lines};
@@ -150,6 +151,7 @@ impl<D: PageDisk, L: LogFile, Q: PostRoutine> StepsRun<D, L, Q> {
         ensures journal { reverse result.journal.items ≡ self.world.journal.entries }
         ensures good { IsGood (setup_of (tells_of D.told D.faults L.told L.faults Q.posted) self.world.begun)
             self.world.journal.entries }
+        ensures within { IsWithinCapacity self.world.begun.capacity self.world.journal.entries }
         ensures disks { DisksEnded (tells_of D.told D.faults L.told L.faults Q.posted) self.world result.disks.items }
         ensures logs { LogsEnded (tells_of D.told D.faults L.told L.faults Q.posted) self.world result.logs.items }
         ensures posts { PostsLeft Q.posted self.deferrals self.world.journal.entries self.posts result.posts.items }

@@ -4,6 +4,7 @@ use Rattle.std.specs.declared.option.Option.{Option}
 use Rattle.std.specs.declared.option.Option.TheVariants.{Some, None}
 use Rattle.cc_entry.specs.declared.answer.LineReply.{LineReply}
 use Rattle.cc_entry.specs.declared.entry.Entry.{Entry}
+use Rattle.cc_journal.specs.Capacity.{IsWithinCapacity}
 use Rattle.cc_model.specs.Good.{IsGood}
 use Rattle.cc_model.specs.Setup.{Setup}
 use Rattle.cc_pieces.specs.Explained.{Answered, IsExplained}
@@ -30,12 +31,13 @@ abbrev pub deferrals_in : Option Script → List LineReply → List (Option ℕ)
 deferrals_in None replies = []
 deferrals_in (Some script) replies = deferrals_by script.streams script.lines replies
 
--- A script was run in a mode over these disks, logs and post routines. Its journal is good, and explains each answer; the
--- rows are those of its dirty page table, where memory was found for them; and disks, logs and routines came back as the
--- journal says.
+-- A script was run in a mode over these disks, logs and post routines. Its journal is good, was always within the script's
+-- capacity, and explains each answer; the rows are those of its dirty page table, where memory was found for them; and
+-- disks, logs and routines came back as the journal says.
 pub record HasRun {D L Q : Type 0} (tells : Tells D L Q) (m : Mode) (script : Script) (disks : List D) (logs : List L)
     (posts : List Q) (ran : RunResult D L Q) : Type 0 where
   pub good : IsGood (setup_of tells.disk tells.disk_faults script disks logs) (reverse ran.journal.items)
+  pub within : IsWithinCapacity script.journal (reverse ran.journal.items)
   pub explained : IsExplainedBy m (setup_of tells.disk tells.disk_faults script disks logs) script
       (lines_answered ran.replies.items) (reverse ran.journal.items)
   pub table : IfSome ran.table (λ rows. rows.items ≡ table_of (reverse ran.journal.items))

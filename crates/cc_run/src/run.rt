@@ -1,6 +1,7 @@
 //! The run of a script: on a desk its streams are opened, its phases are served, and all comes back.
 
 ghost use Rattle.std.specs.Prelude.{◌≡◌, ◌+◌, ◌≤◌, [], All, IfOk, IfErr, IfSome, length, reverse, true, false, vec_capacity};
+ghost use Rattle.cc_journal.specs.Capacity.{IsWithinCapacity};
 ghost use Rattle.cc_model.specs.Good.{IsGood};
 ghost use Rattle.cc_turns.specs.Desk.{IsFresh, standing_of, tells_of};
 ghost use Rattle.cc_script.specs.Within.{IsWithin};
@@ -135,6 +136,7 @@ fn run_on<R: Threads + Wait + Sync, D: PageDisk, L: LogFile + Send, Q: PostRouti
     requires none { replies.items ≡ [] }
     requires room { length script.now.streams + length script.now.lines ≤ vec_capacity replies }
     ensures good { IsGood (standing_of D.told D.faults L.told L.faults desk).setup (reverse result.journal.items) }
+    ensures within { IsWithinCapacity desk.begun.capacity (reverse result.journal.items) }
     ensures explained { IsExplained (standing_of D.told D.faults L.told L.faults desk).setup
         (given_of script.now) (lines_answered result.replies.items) (reverse result.journal.items) }
     ensures table { IfSome result.table (λ rows. rows.items ≡ table_of (reverse result.journal.items)) }

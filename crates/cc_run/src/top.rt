@@ -2,6 +2,7 @@
 
 ghost use Rattle.std.specs.Prelude.{◌≡◌, ◌⊎◌, ◌≤◌, ◌+◌, [], All, Some, None, true, false, is_some, reverse, map, length, string_bytes, IfSome, IfOk, IfErr, OnOk};
 ghost use Rattle.cc_model.specs.Setup.{Setup};
+ghost use Rattle.cc_journal.specs.Capacity.{IsWithinCapacity};
 ghost use Rattle.cc_model.specs.Good.{IsGood};
 ghost use Rattle.cc_script.specs.Within.{IsWithin};
 ghost use Rattle.cc_script.specs.Modes.{IsOfMode};
@@ -213,6 +214,7 @@ fn conduct<
     requires posts { All (λ routine. Q.posted routine ≡ false) posts.items }
     ensures good { (u : Setup) → IsSetupOf D.told D.faults result.script disks.items logs.items u →
         IsGood u (reverse result.journal.items) }
+    ensures within { IfSome result.script (λ made. IsWithinCapacity made.journal (reverse result.journal.items)) }
     ensures ended { IsEnded
         (input S.told S.faults S.given S.ended (map string_bytes words.now) source.old source.new
         (length disks.items) (length logs.items) (length posts.items))
@@ -272,7 +274,8 @@ fn conduct<
 /// each line that defers a write has one, and the gate that callers pass. `run FILE`: the callers of a phase make the calls
 /// of their lines on threads, phase after phase. `steps FILE`: the lines are events, one after the other. Whatever is
 /// handed in, the journal that is given back is good over the pages that the disks tell, and it is what happened, also
-/// where memory was wanting after the run began.
+/// where memory was wanting after the run began. Over each front of it the entries, and the places that they reserve, are
+/// within the script's capacity.
 pub fn cache_main<
     R: Threads + Wait + Sync,
     S: Source,
@@ -293,9 +296,11 @@ pub fn cache_main<
     gate: &P,
 ) -> Ended<D, L, Q>
     requires posts { All (λ routine. Q.posted routine ≡ false) posts.items }
-    // What happened: the journal is good over the pages that the disks told, and it explains every answer.
+    // What happened: the journal is good over the pages that the disks told, was always within the script's capacity, and
+    // explains every answer.
     ensures good { (u : Setup) → IsSetupOf D.told D.faults result.script disks.items logs.items u →
         IsGood u (reverse result.journal.items) }
+    ensures within { IfSome result.script (λ made. IsWithinCapacity made.journal (reverse result.journal.items)) }
     ensures explained { IfSome result.script (λ made. IsExplainedBy (mode_in (map string_bytes words.now))
         (setup_of D.told D.faults made disks.items logs.items) made
         (record { replies = result.replies.items; ticked = result.ticks.items; stepped = result.aheads.items })

@@ -2,6 +2,7 @@
 use Rattle.std.proofs.Common.{◌≡◌, ◌≤◌, ◌∙◌, length, map, sym, ap, subst, arith}
 use Rattle.std.specs.List.{AllByRecursion}
 use Rattle.cc_script.specs.Within.{IsLineWithin}
+use Rattle.cc_journal.specs.Capacity.{IsWithinCapacity}
 use Rattle.cc_journal.specs.Rows.{Follows}
 use Rattle.cc_pieces.specs.Table.{table_of}
 use Rattle.cc_lines.specs.Line.{IsServable}
@@ -41,6 +42,11 @@ serve_phases-desk-requires-clause-within g c κs within =
 pub serve_phases-desk-requires-clause-room : goal.serve_phases-desk-requires-clause-room
 serve_phases-desk-requires-clause-room g c κs within =
     omega (arith, opened-long _ _ _ _ _ _ _ c.open_streams.ensures.opened, c.open_streams.ensures.capacity, ap length c.requires.none, c.requires.room, ap length c.as_slice-2.ensures, ap length c.as_slice.ensures.same, c.open_streams.new.replies.ok.0)
+
+pub returns-clause-within : goal.returns-clause-within
+returns-clause-within g c =
+    rw c.end-disks.ensures.journal (subst (λ n. IsWithinCapacity n c.serve_phases-desk.result.last.entries)
+    (ap (λ u. u.capacity) c.serve_phases-desk.ensures.run.setup ∙ ap (λ u. u.capacity) c.open_streams.ensures.run.setup) c.end-disks.ensures.within)
 
 pub returns-clause-disks : goal.returns-clause-disks
 returns-clause-disks g c =

@@ -2,6 +2,7 @@
 use Rattle.std.proofs.Common.{◌++◌, ◌∙◌, length, take, drop, reverse, refl, ap, subst, arith}
 use Rattle.std.proofs.lemmas.List.{length-take, length-append, length-reverse, take-append-drop}
 use Rattle.std.specs.Prelude.{slice_get}
+use Rattle.cc_journal.specs.Capacity.{IsWithinCapacity}
 use Rattle.cc_model.specs.Good.{IsGood}
 use Rattle.cc_pieces.specs.Explained.{IsExplained}
 use Rattle.cc_turns.specs.Desk.{disk_at_first, log_at_first}
@@ -69,6 +70,7 @@ returns-in-Ok-new-clause-ran g c =
     let logs = ap (λ b. b.logs) c.in-Ok-new.ensures.fresh.begun_is ∙ c.in-Ok-first_of-2.ensures.first in
     record {
       good = subst (λ u. IsGood u past) setup c.run_on-replies.ensures.good;
+      within = subst (λ n. IsWithinCapacity n past) (ap (λ b. b.capacity) c.in-Ok-new.ensures.fresh.begun_is) c.run_on-replies.ensures.within;
       explained = subst (λ u. IsExplained u (given_of c.args.script.now) (lines_answered c.run_on-replies.result.replies.items) past) setup c.run_on-replies.ensures.explained;
       table = c.run_on-replies.ensures.table;
       disks_left =

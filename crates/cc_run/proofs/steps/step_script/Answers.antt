@@ -2,6 +2,7 @@
 use Rattle.std.proofs.Common.{◌≡◌, ◌++◌, ◌∙◌, length, take, drop, reverse, sym, ap, subst, arith}
 use Rattle.std.proofs.lemmas.List.{length-take, length-append, length-reverse, take-append-drop}
 use Rattle.std.specs.Prelude.{map, slice_get}
+use Rattle.cc_journal.specs.Capacity.{IsWithinCapacity}
 use Rattle.cc_journal.specs.Rows.{Follows}
 use Rattle.cc_model.specs.Good.{IsGood}
 use Rattle.cc_pieces.specs.Steps.{IsSteppedThrough, PostsLeft, deferrals_by}
@@ -80,6 +81,7 @@ returns-in-Ok-run_steps-clause-ran g c =
     let table : map printed_row c.rows.result.now ≡ table_of world.journal.entries = rows-table _ _ follows c.rows.ensures.sound in
     record {
       good = rw is (subst (λ u. IsGood u world.journal.entries) setup c.end-replies.ensures.good);
+      within = rw is (subst (λ n. IsWithinCapacity n world.journal.entries) (ap (λ b. b.capacity) begun) c.end-replies.ensures.within);
       explained =
           rw (is, c.end-replies.ensures.replies) (subst (λ u. IsSteppedThrough u c.args.script.now.streams c.args.script.now.lines c.in-Ok-run_steps.ran.replies world.journal.entries)
           (ap (made_setup (tells_of g.D.Told.told g.D.Told.faults g.L.LogFile.told g.L.LogFile.faults g.Q.PostRoutine.posted)) (sym begun) ∙ setup) c.in-Ok-run_steps.ensures.explained);
