@@ -103,11 +103,11 @@ pub record StandsFor (opening : Option (ℕ → List ℕ)) (h : List Effect) (b 
   pub holds_are : HoldsStand h b.holds
   pub contents_are : ContentsStand opening h b.contents
 
--- after a done call what is kept beside the images stands for the history with it, wherever the call may be done
--- and the flag says whether there is a map after it
-abbrev pub GoesOnBy : Call → Reply → Bool → BookState → BookState → Type 0
-GoesOnBy call reply mapped old new =
-    (u : Setup) (past : List Entry) (pass : ℕ) → MayDo u past pass call reply old →
+-- after a done call of a pass what is kept beside the images stands for the history with it, wherever the call may be
+-- done and the flag says whether there is a map after it
+abbrev pub GoesOnBy : ℕ → Call → Reply → Bool → BookState → BookState → Type 0
+GoesOnBy pass call reply mapped old new =
+    (u : Setup) (past : List Entry) → MayDo u past pass call reply old →
     mapped ≡ is_mapped (Did pass call reply ∷ history past old.stream) →
     StandsFor (u.opening old.stream) (Did pass call reply ∷ history past old.stream) new
 

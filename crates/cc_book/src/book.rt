@@ -162,6 +162,14 @@ impl Book {
         self.holds.get(id)
     }
 
+    /// The pass that made the open hold of an id.
+    pub fn maker(&self, id: u64) -> Option<u32>
+        ensures { (opening : Option (ℕ → List ℕ)) (past : List Entry) → BookStands opening past self.now →
+            result ≡ option_map (λ hold. hold.pass) (hold_at (holds_of (history past self.now.stream)) id) }
+    {
+        self.holds.maker(id)
+    }
+
     /// Whether the open hold of an id is a pin that changed bytes and was not set dirty since.
     pub fn owes_set_dirty(&self, id: u64) -> bool
         ensures { (opening : Option (ℕ → List ℕ)) (past : List Entry) → BookStands opening past self.now →

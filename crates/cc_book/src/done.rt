@@ -53,7 +53,7 @@ impl Book {
         let mapped = self.is_mapped_after(journal, &call);
         let room = self.room_for(alloc, &call)?;
         let was = self.valid();
-        self.follow(alloc, &call, &reply, mapped)?;
+        self.follow(alloc, pass, &call, &reply, mapped)?;
         self.follow_images(room, was);
         journal.push(Entry::Call {
             pass,
@@ -154,24 +154,25 @@ impl Book {
         }
     }
 
-    // Follows a done call with all but the images, given whether there is a map after it.
+    // Follows a done call of a pass with all but the images, given whether there is a map after it.
     fn follow(
         &mut self,
         alloc: Global,
+        pass: u32,
         call: &Call,
         reply: &Reply,
         mapped: bool,
     ) -> Result<(), NoMemory>
         requires may { IsDoing call.now reply.now mapped self.old }
         requires owned { OwnsFor self.old call.now }
-        ensures stands { OnOk result (GoesOnBy call.now reply.now mapped self.old self.new) }
+        ensures stands { OnOk result (GoesOnBy pass call.now reply.now mapped self.old self.new) }
         ensures images { self.new.images ≡ self.old.images }
         ensures stream { self.new.stream ≡ self.old.stream }
         ensures err { OnErr result (self.new ≡ self.old) }
         ensures sure { takes_memory call.now ≡ false → IsOk result }
     {
         match call {
-            Call::PinnedWrite { at, bytes, .. } => self.write(alloc, call, reply, *at, bytes),
+            Call::PinnedWrite { at, bytes, .. } => self.write(alloc, pass, call, reply, *at, bytes),
             Call::Map { .. }
             | Call::PinRead { .. }
             | Call::PinMapped { .. }
@@ -180,16 +181,17 @@ impl Book {
             | Call::EndHold { .. }
             | Call::Repin { .. }
             | Call::MdlRead { .. }
-            | Call::MdlWrite { .. } => self.change_holds(alloc, call, reply, mapped),
+            | Call::MdlWrite { .. } => self.change_holds(alloc, pass, call, reply, mapped),
             _ => self.leave_holds(alloc, call, reply, mapped),
         }
     }
 
-    // Follows a done pinned write of these bytes. They are a list before the holds follow, so what comes after the
+    // Follows a done pinned write of a pass, of these bytes. They are a list before the holds follow, so what comes after the
     // holds takes no memory.
     fn write(
         &mut self,
         alloc: Global,
+        pass: u32,
         call: &Call,
         reply: &Reply,
         at: u64,
@@ -198,23 +200,24 @@ impl Book {
         requires is { (hold : ℕ) × (call.now ≡ Call.PinnedWrite hold at bytes.now) }
         requires may { (mapped : Bool) × IsDoing call.now reply.now mapped self.old }
         requires owned { OwnsFor self.old call.now }
-        ensures stands { OnOk result ((mapped : Bool) → GoesOnBy call.now reply.now mapped self.old self.new) }
+        ensures stands { OnOk result ((mapped : Bool) → GoesOnBy pass call.now reply.now mapped self.old self.new) }
         ensures images { self.new.images ≡ self.old.images }
         ensures stream { self.new.stream ≡ self.old.stream }
         ensures err { OnErr result (self.new ≡ self.old) }
     {
         let listed = bytes.to_vec(alloc)?;
         let was_mapped = self.contents.has_map();
-        self.holds.done(call, id_in(reply))?;
+        self.holds.done(pass, call, id_in(reply))?;
         self.contents.pinned_write(at, &listed);
         self.set(call, reply, was_mapped);
         Ok(())
     }
 
-    // Follows a done call that changes the holds, and for which the contents take no memory.
+    // Follows a done call of a pass that changes the holds, and for which the contents take no memory.
     fn change_holds(
         &mut self,
         alloc: Global,
+        pass: u32,
         call: &Call,
         reply: &Reply,
         mapped: bool,
@@ -222,7 +225,7 @@ impl Book {
         requires contents { contents_take call.now ≡ false }
         requires may { IsDoing call.now reply.now mapped self.old }
         requires owned { OwnsFor self.old call.now }
-        ensures stands { OnOk result (GoesOnBy call.now reply.now mapped self.old self.new) }
+        ensures stands { OnOk result (GoesOnBy pass call.now reply.now mapped self.old self.new) }
         ensures images { self.new.images ≡ self.old.images }
         ensures stream { self.new.stream ≡ self.old.stream }
         ensures err { OnErr result (self.new ≡ self.old) }
@@ -231,7 +234,7 @@ impl Book {
         let size = self.state.size();
         let was_mapped = self.contents.has_map();
         let truncation = truncation_by(&self.state, call);
-        self.holds.done(call, id_in(reply))?;
+        self.holds.done(pass, call, id_in(reply))?;
         match self
             .contents
             .done(alloc, call, reply, size, truncation, mapped)
@@ -254,7 +257,7 @@ impl Book {
         requires holds { changes_holds call.now ≡ false }
         requires may { IsDoing call.now reply.now mapped self.old }
         requires owned { OwnsFor self.old call.now }
-        ensures stands { OnOk result (GoesOnBy call.now reply.now mapped self.old self.new) }
+        ensures stands { OnOk result ((pass : ℕ) → GoesOnBy pass call.now reply.now mapped self.old self.new) }
         ensures images { self.new.images ≡ self.old.images }
         ensures stream { self.new.stream ≡ self.old.stream }
         ensures err { OnErr result (self.new ≡ self.old) }

@@ -114,17 +114,17 @@ changed-widened None more = refl
 changed-widened (Some span) more = refl
 
 -- a hold that is made
-pub stands-made : (row : HoldRow) (h : List Effect) (holds : List Hold) (pass : ℕ) (call : Call) (reply : Reply) → HoldsStand h holds → row_made call (id_of reply) (holds_of h) ≡ Some row → All (λ (hold : held.Hold). hold.id < row.id) (holds_of h) → HoldsStand (Did pass call reply ∷ h) (inserted holds (opened row))
+pub stands-made : (row : HoldRow) (h : List Effect) (holds : List Hold) (pass : ℕ) (call : Call) (reply : Reply) → HoldsStand h holds → row_made call (id_of reply) (holds_of h) ≡ Some row → All (λ (hold : held.Hold). hold.id < row.id) (holds_of h) → HoldsStand (Did pass call reply ∷ h) (inserted holds (opened pass row))
 stands-made row h holds pass call reply stands makes below =
     let after : holds_of (Did pass call reply ∷ h) ≡ made_row pass row (holds_of h) = holds_of-done pass call reply h ∙ held_after-made pass row call (id_of reply) (holds_of h) makes in
     let under : IdsBelow row.id holds = below-kept row.id (reverse (holds_of h)) holds stands.each (all-reversed _ (holds_of h) (recursion_from_All _ (holds_of h) below)) in
-    let is : IsHold (record { id = row.id; pass = pass; file = row.file; at = row.at; len = row.len; kind = row.kind; exclusive = row.exclusive; owed = owed_by row.written }) (opened row) =
-    record { shows = refl; changed = changed-opened row.written; owes = touched-opened row.written } in
+    let is : IsHold (record { id = row.id; pass = pass; file = row.file; at = row.at; len = row.len; kind = row.kind; exclusive = row.exclusive; owed = owed_by row.written }) (opened pass row) =
+    record { shows = refl; by = refl; changed = changed-opened row.written; owes = touched-opened row.written } in
     record {
-      each = subst (λ (ks : List Hold). AllZip IsHold (reverse (holds_of (Did pass call reply ∷ h))) ks) (sym (inserted-last holds (opened row) under))
-          (subst (λ (hs : List held.Hold). AllZip IsHold hs (holds ++ opened row ∷ [])) (sym (ap reverse after ∙ reverse-onto _ (holds_of h)))
-          (zip-onto IsHold (reverse (holds_of h)) holds _ (opened row) stands.each is));
-      in_order = subst IdsAscend (sym (inserted-last holds (opened row) under)) (ascend-onto holds (opened row) stands.in_order under);
+      each = subst (λ (ks : List Hold). AllZip IsHold (reverse (holds_of (Did pass call reply ∷ h))) ks) (sym (inserted-last holds (opened pass row) under))
+          (subst (λ (hs : List held.Hold). AllZip IsHold hs (holds ++ opened pass row ∷ [])) (sym (ap reverse after ∙ reverse-onto _ (holds_of h)))
+          (zip-onto IsHold (reverse (holds_of h)) holds _ (opened pass row) stands.each is));
+      in_order = subst IdsAscend (sym (inserted-last holds (opened pass row) under)) (ascend-onto holds (opened pass row) stands.in_order under);
     }
 
 -- a hold that is changed, on both sides alike
@@ -165,7 +165,7 @@ stands-ended id h holds pass reply stands =
 module _ (id : ℕ) (exclusive : Bool) (h : List Effect) (holds : List Hold) (stands : HoldsStand h holds) (pass : ℕ) (reply : Reply) where
   pins-both : (hold : held.Hold) (kept : Hold) → IsHold hold kept → IsHold (record hold { kind = kind.Pin; exclusive = exclusive }) (pinned exclusive kept)
   pins-both hold kept is =
-      record { shows = ap (λ (s : Shown). record s { kind = kind.Pin; exclusive = exclusive }) is.shows; changed = is.changed; owes = is.owes }
+      record { shows = ap (λ (s : Shown). record s { kind = kind.Pin; exclusive = exclusive }) is.shows; by = is.by; changed = is.changed; owes = is.owes }
 
   pub stands-pinned : (new : List Hold) → IsSome (hold_of holds id) → Changes holds new id (pinned exclusive) → HoldsStand (Did pass (call.PinMapped id exclusive) reply ∷ h) new
   stands-pinned new = stands-changed _ (pinned exclusive) pins-both (λ kept. refl) id _ h holds new (holds_of-pin_mapped pass id exclusive reply h) stands
@@ -177,7 +177,7 @@ module _ (id : ℕ) (exclusive : Bool) (h : List Effect) (holds : List Hold) (st
 module _ (id : ℕ) (span : Range) (at : ℕ) (bytes : List ℕ) (is : span ≡ whole_range at (length bytes)) (h : List Effect) (holds : List Hold) (stands : HoldsStand h holds) (pass : ℕ) (reply : Reply) where
   writes-both : (hold : held.Hold) (kept : Hold) → IsHold hold kept → IsHold (record hold { owed = record { from = at; to = at + length bytes } ∷ hold.owed }) (written span kept)
   writes-both hold kept both =
-      record { shows = both.shows; changed = changed-widened kept.row.written span; owes = λ p. rw is (touched-further kept.touched (whole_range at (length bytes)) hold.owed p (both.owes p)) }
+      record { shows = both.shows; by = both.by; changed = changed-widened kept.row.written span; owes = λ p. rw is (touched-further kept.touched (whole_range at (length bytes)) hold.owed p (both.owes p)) }
 
   pub stands-written : (new : List Hold) → IsSome (hold_of holds id) → Changes holds new id (written span) → HoldsStand (Did pass (call.PinnedWrite id at bytes) reply ∷ h) new
   stands-written new = stands-changed _ (written span) writes-both (λ kept. refl) id _ h holds new (holds_of-pinned_write pass id at bytes reply h) stands
@@ -188,7 +188,7 @@ module _ (id : ℕ) (span : Range) (at : ℕ) (bytes : List ℕ) (is : span ≡ 
 -- a set-dirty of a hold
 module _ (id : ℕ) (lsn : Option ℕ) (h : List Effect) (holds : List Hold) (stands : HoldsStand h holds) (pass : ℕ) (reply : Reply) where
   cleans-both : (hold : held.Hold) (kept : Hold) → IsHold hold kept → IsHold (record hold { owed = [] }) (cleaned kept)
-  cleans-both hold kept both = record { shows = both.shows; changed = refl; owes = λ p. refl }
+  cleans-both hold kept both = record { shows = both.shows; by = both.by; changed = refl; owes = λ p. refl }
 
   pub stands-stamped : (new : List Hold) → IsSome (hold_of holds id) → Changes holds new id cleaned → HoldsStand (Did pass (call.SetDirty id lsn) reply ∷ h) new
   stands-stamped new = stands-changed _ cleaned cleans-both (λ kept. refl) id _ h holds new (holds_of-set_dirty pass id lsn reply h) stands

@@ -128,6 +128,9 @@ shown-kept id h holds stands =
     twice None = refl
     twice (Some k) = refl
 
+pub maker-kept : (id : ℕ) (h : List Effect) (holds : List Hold) → HoldsStand h holds → option_map (λ (k : Hold). k.pass) (hold_of holds id) ≡ option_map (λ (hold : held.Hold). hold.pass) (hold_at (holds_of h) id)
+maker-kept id h holds stands = found-kept (λ (k : Hold). k.pass) (λ (hold : held.Hold). hold.pass) (λ hold kept is. is.by) id h holds stands
+
 -- whether the row of a hold that is kept says that it owes a set-dirty
 abbrev pub row_owes : Option HoldRow → Bool
 row_owes None = false

@@ -36,20 +36,20 @@ abbrev pub touched_at : Option Range → List ℕ
 touched_at None = []
 touched_at (Some span) = with_pages [] (pages_of span)
 
--- a hold as it is opened: what it was written through so far is its span
-abbrev pub opened : HoldRow → Hold
-opened row = record { row = row; touched = touched_at row.written }
+-- a hold as a pass opens it: what it was written through so far is its span
+abbrev pub opened : ℕ → HoldRow → Hold
+opened pass row = record { row = row; pass = pass; touched = touched_at row.written }
 
 -- a hold after a write through it
 abbrev pub written : Range → Hold → Hold
-written span h = record {
+written span h = record h {
   row = record (h.row) { written = widened h.row.written span };
   touched = with_pages h.touched (pages_of span);
 }
 
 -- a hold after a set-dirty
 abbrev pub cleaned : Hold → Hold
-cleaned h = record { row = record (h.row) { written = None }; touched = [] }
+cleaned h = record h { row = record (h.row) { written = None }; touched = [] }
 
 -- a mapped hold made a pin
 abbrev pub pinned : Bool → Hold → Hold

@@ -1,13 +1,10 @@
 -- The open holds of a stream as they are kept, and when they stand for the stream's history.
-use Rattle.std.specs.Prelude.{◌≡◌, ℕ, ◌<◌, Bool, false, not, ◌&&◌, is_none, List, [], ◌∷◌, reverse, ⊤}
-use Rattle.std.specs.declared.option.Option.{Option}
-use Rattle.std.specs.declared.option.Option.TheVariants.{Some, None}
+use Rattle.std.specs.Prelude.{◌≡◌, ℕ, ◌<◌, Bool, is_none, List, [], ◌∷◌, reverse, ⊤}
 use Rattle.std.specs.List.{AllZip, AllByRecursion, list_any}
 use Rattle.cc_entry.specs.Place.{File}
 use Rattle.cc_entry.specs.Pages.{has_page}
 use Rattle.cc_entry.specs.declared.hold.HoldKind.{HoldKind}
 use Rattle.cc_entry.specs.declared.hold.HoldRow.{HoldRow}
-use Rattle.cc_entry.specs.Kinds.{is_pin}
 use Rattle.cc_model.specs.History.{Effect}
 use Rattle.cc_model.specs.Numbers.{is_empty}
 use Rattle.cc_model.specs.Holds.{holds_of}
@@ -46,10 +43,11 @@ shown_row row = record {
   exclusive = row.exclusive;
 }
 
--- A hold of the definition and the one that is kept for it: both show the same, and owe a stamp to the
--- same pages, and at all.
+-- A hold of the definition and the one that is kept for it: both show the same, were made by the same pass, and owe a
+-- stamp to the same pages, and at all.
 pub record IsHold (hold : held.Hold) (kept : Hold) : Type 0 where
   pub shows : shown_row kept.row ≡ shown hold
+  pub by : kept.pass ≡ hold.pass
   pub changed : is_none kept.row.written ≡ is_empty hold.owed
   pub owes : (p : ℕ) → has_touched kept.touched p ≡ list_any (λ r. has_page r p) hold.owed
 

@@ -12,20 +12,20 @@ use crate::open_holds::OpenHolds;
 use cc_entry::{Call, NoMemory, Span};
 
 impl OpenHolds {
-    /// Follows a call of the stream that was done, given the id in its reply, which is greater than that of each
+    /// Follows a call of the stream that a pass has done, given the id in its reply, which is greater than that of each
     /// open hold where the call makes one. What it zeroes or writes ends below 2^64. Only a new hold and a pinned
     /// write take memory. Answers `NoMemory`, and then nothing has changed.
-    pub fn done(&mut self, call: &Call, id: u64) -> Result<(), NoMemory>
+    pub fn done(&mut self, pass: u32, call: &Call, id: u64) -> Result<(), NoMemory>
         requires zeroed { zeroed_end call.now < 2 ^ 64 }
         requires written { written_end call.now < 2 ^ 64 }
-        ensures stands { OnOk result ((h : List Effect) (pass : ℕ) (reply : Reply) →
+        ensures stands { OnOk result ((h : List Effect) (reply : Reply) →
             HoldsStand h self.old → id_of reply ≡ id → MakesAbove call.now id (holds_of h) →
             HoldsStand (Did pass call.now reply ∷ h) self.new) }
         ensures refused { OnErr result (self.new ≡ self.old) }
         ensures sure { takes_memory call.now ≡ false → IsOk result }
     {
         match self.row_made(call, id) {
-            Some(row) => self.make(row),
+            Some(row) => self.make(pass, row),
             None => self.changed(call),
         }
     }

@@ -14,10 +14,11 @@ use cc_entry::{HoldKind, HoldRow, NoMemory, Span};
 use std::alloc::Global;
 use std::marker::Model;
 
-/// A hold, and the pages that were written through it since its last set-dirty.
+/// A hold, the pass that made it, and the pages that were written through it since its last set-dirty.
 #[derive(Drop)]
 pub struct Hold {
     pub row: HoldRow,
+    pub pass: u32,
     pub touched: TouchedPages,
 }
 
@@ -97,10 +98,21 @@ impl Holds {
         Some(&self.holds[place].row)
     }
 
-    /// Opens a hold. Where its row has a written span, the pages of that span are touched. Answers `NoMemory`, and then
-    /// nothing has changed.
-    pub fn add(&mut self, hold: HoldRow) -> Result<(), NoMemory>
-        ensures ok { OnOk result (self.new ≡ inserted self.old (opened hold)) }
+    /// The pass that made the open hold of an id, where there is one.
+    pub fn pass_of(&self, id: u64) -> Option<u32>
+        ensures { result ≡ option_map (λ h. h.pass) (hold_of self.now id) }
+    {
+        let place = place_of(&self.holds, id);
+        if place == self.holds.len() {
+            return None;
+        }
+        Some(self.holds[place].pass)
+    }
+
+    /// Opens a hold of a pass. Where its row has a written span, the pages of that span are touched. Answers `NoMemory`,
+    /// and then nothing has changed.
+    pub fn add(&mut self, pass: u32, hold: HoldRow) -> Result<(), NoMemory>
+        ensures ok { OnOk result (self.new ≡ inserted self.old (opened pass hold)) }
         ensures err { OnErr result (self.new ≡ self.old) }
     {
         let mut touched = TouchedPages::new(self.alloc);
@@ -109,7 +121,14 @@ impl Holds {
         }
         let place = place_after(&self.holds, hold.id);
         self.holds
-            .insert(place, Hold { row: hold, touched })
+            .insert(
+                place,
+                Hold {
+                    row: hold,
+                    pass,
+                    touched,
+                },
+            )
             .map_err(|_| NoMemory)
     }
 
@@ -122,7 +141,11 @@ impl Holds {
         if place == self.holds.len() {
             return None;
         }
-        let Hold { row, touched: _ } = self.holds.remove(place);
+        let Hold {
+            row,
+            pass: _,
+            touched: _,
+        } = self.holds.remove(place);
         Some(row)
     }
 

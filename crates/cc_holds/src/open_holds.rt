@@ -50,17 +50,17 @@ impl OpenHolds {
         }
     }
 
-    /// Follows a done call that makes a hold of this row: a map, a pin, a repin or a chain. Its id is greater
+    /// Follows a done call of a pass that makes a hold of this row: a map, a pin, a repin or a chain. Its id is greater
     /// than that of each open hold. Where the call zeroes its range, the row's written span is that range.
-    pub(crate) fn make(&mut self, row: HoldRow) -> Result<(), NoMemory>
-        ensures stands { OnOk result ((h : List Effect) (pass : ℕ) (call : Call) (reply : Reply) →
+    pub(crate) fn make(&mut self, pass: u32, row: HoldRow) -> Result<(), NoMemory>
+        ensures stands { OnOk result ((h : List Effect) (call : Call) (reply : Reply) →
             HoldsStand h self.old →
             row_made call (id_of reply) (holds_of h) ≡ Some row →
             All (λ hold. hold.id < row.id) (holds_of h) →
             HoldsStand (Did pass call reply ∷ h) self.new) }
         ensures refused { OnErr result (self.new ≡ self.old) }
     {
-        self.holds.add(row)
+        self.holds.add(pass, row)
     }
 
     /// The row of the hold that a done call makes, whose reply has this id, for `make`. What it zeroes ends
@@ -139,6 +139,14 @@ impl OpenHolds {
             option_map shown_row result ≡ option_map shown (hold_at (holds_of h) id) }
     {
         self.holds.get(id).copied()
+    }
+
+    /// The pass that made the open hold of an id.
+    pub fn maker(&self, id: u64) -> Option<u32>
+        ensures { (h : List Effect) → HoldsStand h self.now →
+            result ≡ option_map (λ hold. hold.pass) (hold_at (holds_of h) id) }
+    {
+        self.holds.pass_of(id)
     }
 
     /// Whether the open hold of an id is a pin that changed bytes and was not set dirty since: a place is reserved

@@ -21,9 +21,10 @@ done-requires-2 c =
     }
 
 pub returns-clause-stands : goal.returns-clause-stands
-returns-clause-stands c u past pass given mapped_is =
+returns-clause-stands c u past given mapped_is =
+    let pass = c.args.pass in
     let b : BookState = record { stream = c.self.inside.stream; state = c.self.inside.state; maps = c.self.inside.maps; holds = c.self.inside.holds; contents = c.self.inside.contents; images = c.self.inside.images } in
     stands-done b c.self.view_is c.set.new.self c.done.new.self c.done-2.new.self c.has_map-was_mapped.result c.set.ensures.same c.set.ensures.state c.set.ensures.maps c.has_map-was_mapped.ensures.stands
     u past pass given
-    (λ may holds. c.in_ok-done.ensures.stands (history past b.stream) pass c.args.reply.now holds (sym c.id_in.ensures) (made-above b c.self.view_is u past pass c.id_in.result may c.id_in.ensures))
+    (λ may holds. c.in_ok-done.ensures.stands (history past b.stream) c.args.reply.now holds (sym c.id_in.ensures) (made-above b c.self.view_is u past pass c.id_in.result may c.id_in.ensures))
     (c.in-Ok.ensures.stands u past pass _ b.stream (may-follow b c.self.view_is c.size-size.result c.truncation_by-truncation.result c.size-size.ensures.stands c.truncation_by-truncation.ensures u past pass given mapped_is))

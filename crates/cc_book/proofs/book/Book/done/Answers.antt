@@ -23,7 +23,7 @@ follow_images-requires g c =
     let u = c.requires.may.0 in
     let past = c.args.journal.now.entries in
     let may = may-still c.args.self.now c.own.new.self c.own.ensures.stands u past c.args.pass c.args.call c.args.reply c.requires.may.1 in
-    let stands = c.in_ok-follow.ensures.stands u past c.args.pass may (c.is_mapped_after-mapped.ensures u c.args.pass c.args.reply may) in
+    let stands = c.in_ok-follow.ensures.stands u past may (c.is_mapped_after-mapped.ensures u c.args.pass c.args.reply may) in
     record {
       may = record {
         u = u;
@@ -47,7 +47,7 @@ returns-clause-stands g c u given =
     let stream = ap (λ b. b.stream) c.self.view_is ∙ ap (λ b. b.stream) c.follow_images.ensures.same ∙ c.in_ok-follow.ensures.stream ∙ c.own.ensures.stands.stream in
     let grown = ap (λ j. j.entries) c.push.ensures.placed in
     let may = may-still c.args.self.now c.own.new.self c.own.ensures.stands u past c.args.pass c.args.call c.args.reply given in
-    let stands = c.in_ok-follow.ensures.stands u past c.args.pass may (c.is_mapped_after-mapped.ensures u c.args.pass c.args.reply may) in
+    let stands = c.in_ok-follow.ensures.stands u past may (c.is_mapped_after-mapped.ensures u c.args.pass c.args.reply may) in
     let images = c.follow_images.ensures.stands u past c.args.pass c.args.call c.args.reply
     (images-may u past c.args.pass c.args.call c.args.reply _ c.valid-was.result c.own.new.self c.follow.new.self may c.in_ok-follow.ensures.stream c.in_ok-follow.ensures.images stands
     (c.in_ok-room.ensures.room _ _ may.stands.contents_are) (c.valid-was.ensures _ past may.stands)) in

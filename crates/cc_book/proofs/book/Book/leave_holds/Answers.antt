@@ -15,7 +15,7 @@ done-requires c =
     }
 
 pub returns-clause-stands : goal.returns-clause-stands
-returns-clause-stands c u past pass given mapped_is =
+returns-clause-stands c pass u past given mapped_is =
     let b : BookState = record { stream = c.self.inside.stream; state = c.self.inside.state; maps = c.self.inside.maps; holds = c.self.inside.holds; contents = c.self.inside.contents; images = c.self.inside.images } in
     stands-done b c.self.view_is c.set.new.self b.holds c.done.new.self c.has_map-was_mapped.result c.set.ensures.same c.set.ensures.state c.set.ensures.maps c.has_map-was_mapped.ensures.stands
     u past pass given

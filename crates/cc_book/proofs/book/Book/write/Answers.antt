@@ -31,7 +31,8 @@ pinned_write-requires c =
     }
 
 pub returns-clause-stands : goal.returns-clause-stands
-returns-clause-stands c mapped u past pass given mapped_is =
+returns-clause-stands c mapped u past given mapped_is =
+    let pass = c.args.pass in
     let b : BookState = record { stream = c.self.inside.stream; state = c.self.inside.state; maps = c.self.inside.maps; holds = c.self.inside.holds; contents = c.self.inside.contents; images = c.self.inside.images } in
     let listed : c.deref.result.now ≡ c.args.bytes.now = c.deref.ensures.value ∙ c.in_ok-listed.ensures in
     let is : c.args.call.now ≡ call.PinnedWrite c.requires.is.0 c.args.at c.deref.result.now = rw listed c.requires.is.1 in
@@ -41,5 +42,5 @@ returns-clause-stands c mapped u past pass given mapped_is =
     let told = c.pinned_write.ensures.stands u past pass _ b.stream c.requires.is.0 c.args.reply.now _ _ _ (may-write writes) in
     stands-done b c.self.view_is c.set.new.self c.done.new.self c.pinned_write.new.self c.has_map-was_mapped.result c.set.ensures.same c.set.ensures.state c.set.ensures.maps c.has_map-was_mapped.ensures.stands
     u past pass given
-    (λ at holds. c.in_ok-done.ensures.stands (history past b.stream) pass c.args.reply.now holds (sym c.id_in.ensures) (made-above b c.self.view_is u past pass c.id_in.result at c.id_in.ensures))
+    (λ at holds. c.in_ok-done.ensures.stands (history past b.stream) c.args.reply.now holds (sym c.id_in.ensures) (made-above b c.self.view_is u past pass c.id_in.result at c.id_in.ensures))
     (subst (λ (k : Call). ContentsStand (u.opening b.stream) (history (done pass past b.stream k c.args.reply.now ∷ past) b.stream) c.pinned_write.new.self) (sym is) told)

@@ -12,9 +12,9 @@ use Rattle.cc_holds.proofs.open_holds.OpenHolds.done.Goals as goal
 pub returns-in-Some-clause-stands : goal.returns-in-Some-clause-stands
 returns-in-Some-clause-stands c =
     on_ok_weaker c.make.result
-    (λ given h pass reply stands same above.
+    (λ given h reply stands same above.
     let makes = sym (c.row_made.ensures.is h stands) ∙ c.in-Some.is in
-    given h pass c.args.call.now reply stands
+    given h c.args.call.now reply stands
     (subst (λ (n : ℕ). row_made c.args.call.now n (holds_of h) ≡ Some c.in-Some.row) (sym same) makes)
     (subst (λ (n : ℕ). All (λ (hold : Hold). hold.id < n) (holds_of h)) (sym (row-id c.args.call.now c.args.id (holds_of h) c.in-Some.row makes)) (above c.in-Some.row makes)))
     c.make.ensures.stands
@@ -22,8 +22,8 @@ returns-in-Some-clause-stands c =
 pub returns-in-None-clause-stands : goal.returns-in-None-clause-stands
 returns-in-None-clause-stands c =
     on_ok_weaker c.changed.result
-    (λ given h pass reply stands same above.
-    given h pass reply stands
+    (λ given h reply stands same above.
+    given h c.args.pass reply stands
     (subst (λ (n : ℕ). row_made c.args.call.now n (holds_of h) ≡ None) (sym same) (sym (c.row_made.ensures.is h stands) ∙ c.in-None.is)))
     c.changed.ensures.stands
 

@@ -9,7 +9,7 @@ use Rattle.cc_holds.proofs.open_holds.OpenHolds.make.Goals as goal
 pub returns-clause-stands : goal.returns-clause-stands
 returns-clause-stands c =
     on_ok_weaker c.add.result
-    (λ is h pass call reply stands makes below.
-    subst (HoldsStand (Did pass call reply ∷ h)) (sym is)
-    (stands-made c.args.row h c.self.inside.holds pass call reply (subst (HoldsStand h) (sym c.self.view_is) stands) makes below))
+    (λ is h call reply stands makes below.
+    subst (HoldsStand (Did c.args.pass call reply ∷ h)) (sym is)
+    (stands-made c.args.row h c.self.inside.holds c.args.pass call reply (subst (HoldsStand h) (sym c.self.view_is) stands) makes below))
     c.add.ensures.ok
