@@ -64,6 +64,7 @@ module _ {Q : Type 0} (u : Setup) (pass : ℕ) (it : Call) (waited block : ℕ) 
         record {
           call_is = refl;
           page = page;
+          resident = least.1;
           next = makes-way j.entries b.stream it page (way page least.0) (goes-next (history j.entries b.stream) block page clean least);
           placed = adds;
           stand = stand-onto u (entry.PageOut pass (page_of b page)) b c j k may.may.stand good-going (ap (λ x. x.entries) adds) (ap (λ x. x.logs) adds) (ap (λ x. x.threshold) adds) same (goes_on (u.opening b.stream) may.may.stand.stands);

@@ -21,4 +21,6 @@ pub mod Rooms
 pub mod Going
 pub mod Dirty
 pub mod PlacedPages
+pub mod Awaiting
+pub mod Outside
 pub mod Emptied

@@ -85,7 +85,7 @@ range-within size it r answered room none is = go it answered room none is
     go other answered room none is = absurd (cc)
 
 -- such a call names a file object that is cached
-opened : (h : List Effect) (it : Call) → is_answered it ≡ true → makes_room it ≡ true → not_cached h (cached_file it (file_of it)) ≡ None → is_empty (objects h) ≡ false
+pub opened : (h : List Effect) (it : Call) → is_answered it ≡ true → makes_room it ≡ true → not_cached h (cached_file it (file_of it)) ≡ None → is_empty (objects h) ≡ false
 opened h (call.CopyRead file at len wait) answered room none = open-file h file none
   where
     open-file : (h : List Effect) (file : File) → not_cached h (Some file) ≡ None → is_empty (objects h) ≡ false

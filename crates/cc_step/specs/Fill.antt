@@ -1,5 +1,5 @@
 -- A call that may bring pages in: what it does next on its book, and how a page that was looked for lands there.
-use Rattle.std.specs.Prelude.{◌≡◌, ℕ, ◌+◌, ◌-◌, ◌≤◌, ◌⊎◌, Bool, true, false, List, Result, Ok, Err}
+use Rattle.std.specs.Prelude.{◌≡◌, ℕ, ◌+◌, ◌-◌, ◌*◌, ◌≤◌, ◌⊎◌, nat_lt, Bool, true, false, List, Result, Ok, Err}
 use Rattle.std.specs.declared.option.Option.{Option}
 use Rattle.std.specs.declared.option.Option.TheVariants.{Some, None}
 use Rattle.cc_entry.specs.Place.{Page}
@@ -21,8 +21,9 @@ use Rattle.cc_model.specs.Residency.{is_resident, mapped_blocks_with}
 use Rattle.cc_model.specs.Settings.{quota_of}
 use Rattle.cc_model.specs.Setup.{Setup}
 use Rattle.cc_model.specs.Stamps.{is_unstamped}
-use Rattle.cc_model.specs.Touches.{size_of, is_dirty}
-use Rattle.cc_step.specs.Step.{StandUnder, MayStep, least_absent, most_asked, Adds, AttemptDone, AttemptRefused, IsStop, FoundNone}
+use Rattle.cc_model.specs.Touches.{size_of, valid_of, is_dirty}
+use Rattle.cc_step.specs.Step.{StandUnder, MayStep, least_absent, is_awaited, most_asked, Adds, AttemptDone, AttemptRefused, IsStop, FoundNone}
+use Rattle.cc_step.specs.Room.{has_room}
 use Rattle.cc_step.specs.declared.ways.Next.{Next}
 use Rattle.cc_step.specs.declared.ways.Next.TheVariants as next
 
@@ -40,6 +41,7 @@ pub record MadeWay {Q : Type 0} (u : Setup) (pass : ℕ) (it again : Call)
     (b c : BookState) (j k : JournalState Q) : Type 0 where
   pub call_is : again ≡ it
   pub page : ℕ
+  pub resident : is_resident (history j.entries b.stream) page ≡ true
   pub next : makes_way it (page_of b page) j.entries ≡ true
   pub placed : Adds (entry.PageOut pass (page_of b page)) j k
   pub stand : StandUnder u c k
@@ -62,6 +64,7 @@ pub record HasToRead {Q : Type 0} (u : Setup) (page : ℕ) (it again : Call)
   pub call_is : again ≡ it
   pub admitted : refusal u j.entries (history j.entries b.stream) it ≡ None
   pub least : least_absent (history j.entries b.stream) (range_of (size_of (history j.entries b.stream)) it) ≡ Some page
+  pub room : has_room (history j.entries b.stream) page ≡ true
   pub in_quota : mapped_blocks_with (history j.entries b.stream) page ≤ quota_of (history j.entries b.stream)
   pub same_book : c ≡ b
   pub reserved : k ≡ record j { reserved = j.reserved + 1 }
@@ -101,16 +104,27 @@ pub record MayLand {Q : Type 0} (u : Setup) (pass : ℕ) (it : Call) (page : ℕ
 abbrev pub GivesBack : {Q : Type 0} → JournalState Q → JournalState Q → Type 0
 GivesBack j k = k ≡ record j { reserved = j.reserved - 1 }
 
--- the page, one of the call's range, came in
+-- the page came in, one of the call's range and the one that it waits for
 pub record Landed {Q : Type 0} (u : Setup) (pass : ℕ) (it : Call) (page : ℕ)
     (b c : BookState) (j k : JournalState Q) : Type 0 where
+  pub awaited : is_awaited u j.entries b.stream it page ≡ true
   pub reached : reaches it (page_of b page) j.entries ≡ true
   pub placed : Gains (page_in pass (page_of b page) b) j k
   pub stand : StandUnder u c k
   pub stream : c.stream ≡ b.stream
 
--- nothing came in
-pub record NotLanded {Q : Type 0} (b c : BookState) (j k : JournalState Q) : Type 0 where
+-- Why a page that was looked for does not come in for a call: the call does not wait for it, there is no room for its
+-- block, or it has a byte below the valid data length and was not read.
+abbrev pub IsNotToLand : Setup → List Entry → ℕ → Call → ℕ → Option (List ℕ) → Type 0
+IsNotToLand u past s it page raw =
+    (is_awaited u past s it page ≡ false)
+    ⊎ (has_room (history past s) page ≡ false)
+    ⊎ ((nat_lt (4096 * page) (valid_of (history past s)) ≡ true) × (raw ≡ None))
+
+-- nothing came in, for one of these reasons
+pub record NotLanded {Q : Type 0} (u : Setup) (it : Call) (page : ℕ) (raw : Option (List ℕ))
+    (b c : BookState) (j k : JournalState Q) : Type 0 where
+  pub reason : IsNotToLand u j.entries b.stream it page raw
   pub given_back : GivesBack j k
   pub same : c ≡ b
 
@@ -120,11 +134,17 @@ pub record FoundNoRoom {Q : Type 0} (u : Setup) (b c : BookState) (j k : Journal
   pub stand : StandUnder u c k
   pub stream : c.stream ≡ b.stream
 
--- What a page that was looked for leaves as it lands.
-abbrev pub LandLeft : {Q : Type 0} → Setup → ℕ → Call → ℕ → Result (Unit {0}) NoMemory
+-- What a page that a call waits for leaves as it comes in.
+abbrev pub BringLeft : {Q : Type 0} → Setup → ℕ → Call → ℕ → Result (Unit {0}) NoMemory
     → BookState → BookState → JournalState Q → JournalState Q → Type 0
-LandLeft u pass it page (Ok done) b c j k = Landed u pass it page b c j k ⊎ NotLanded b c j k
-LandLeft u pass it page (Err e) b c j k = FoundNoRoom u b c j k
+BringLeft u pass it page (Ok done) b c j k = Landed u pass it page b c j k
+BringLeft u pass it page (Err e) b c j k = FoundNoRoom u b c j k
+
+-- What a page that was looked for leaves as it lands, of which this was read.
+abbrev pub LandLeft : {Q : Type 0} → Setup → ℕ → Call → ℕ → Option (List ℕ) → Result (Unit {0}) NoMemory
+    → BookState → BookState → JournalState Q → JournalState Q → Type 0
+LandLeft u pass it page raw (Ok done) b c j k = Landed u pass it page b c j k ⊎ NotLanded u it page raw b c j k
+LandLeft u pass it page raw (Err e) b c j k = FoundNoRoom u b c j k
 
 -- the entry says that the disk failed to read the page, which is on the disk alone
 pub record ToldUnread {Q : Type 0} (u : Setup) (pass page : ℕ) (b : BookState) (j k : JournalState Q) : Type 0 where

@@ -1,5 +1,5 @@
 -- A page that a call waits for, and what it takes to bring it in.
-use Rattle.std.specs.Prelude.{◌≡◌, ℕ, true, List}
+use Rattle.std.specs.Prelude.{◌≡◌, ℕ, ◌&&◌, Bool, true, List}
 use Rattle.cc_entry.specs.declared.call.Call.{Call}
 use Rattle.cc_entry.specs.declared.entry.Entry.{Entry}
 use Rattle.cc_book.specs.Book.{BookState}
@@ -7,9 +7,13 @@ use Rattle.cc_effects.specs.Asked.{brings_in}
 use Rattle.cc_journal.specs.Journal.{JournalState}
 use Rattle.cc_model.specs.History.{history}
 use Rattle.cc_model.specs.Setup.{Setup}
-use Rattle.cc_step.specs.Step.{is_stepped}
+use Rattle.cc_step.specs.Step.{is_stepped, is_awaited}
 use Rattle.cc_step.specs.Fill.{MayFill}
 use Rattle.cc_step.specs.Room.{has_room, IsWaiting}
+
+-- whether a call waits for a page for whose block there is room
+abbrev pub is_wanted : Setup → List Entry → ℕ → Call → ℕ → Bool
+is_wanted u past s it page = is_awaited u past s it page && has_room (history past s) page
 
 -- a call waits for a page for whose block there is room
 pub record IsWanted (u : Setup) (past : List Entry) (s : ℕ) (it : Call) (page : ℕ) : Type 0 where

@@ -1,8 +1,9 @@
 -- The step of a call on a book: what it asks, and what it leaves.
-use Rattle.std.specs.Prelude.{◌≡◌, ℕ, ◌+◌, ◌-◌, ◌<◌, ◌≤◌, ◌⊎◌, Bool, true, false, not, List, ◌∷◌, length, if◌then◌else◌}
+use Rattle.std.specs.Prelude.{◌≡◌, ℕ, ◌+◌, ◌-◌, ◌<◌, ◌≤◌, ◌⊎◌, nat_eq, Bool, true, false, not, List, ◌∷◌, length, if◌then◌else◌}
 use Rattle.std.specs.declared.option.Option.{Option}
 use Rattle.std.specs.declared.option.Option.TheVariants.{Some, None}
 use Rattle.std.specs.List.{find}
+use Rattle.std.specs.Option.{option_eq}
 use Rattle.cc_entry.specs.Pages.{pages_of}
 use Rattle.cc_entry.specs.Place.{Range}
 use Rattle.cc_entry.specs.declared.call.Call.{Call}
@@ -197,10 +198,17 @@ has_placed (stepped.Refused e) = true
 has_placed (stepped.Waits page again) = false
 has_placed (stepped.Stopped e) = false
 
--- What a call waits for: the least page that it needs and that is not resident, where nothing refuses it. Where no page
--- is named nothing is said.
-abbrev pub WaitsFor : Setup → List Entry → ℕ → Call → Option ℕ → Type 0
-WaitsFor u past s it None = Unit {0}
-WaitsFor u past s it (Some page) =
-    (refusal u past (history past s) it ≡ None)
-    × (least_absent (history past s) (range_of (size_of (history past s)) it) ≡ Some page)
+-- The page that a call waits for, given what refuses it: none where that is anything, else the least that it needs and
+-- that is not resident, if there is one.
+abbrev pub awaited_of : Option CcError → List Effect → Option Range → Option ℕ
+awaited_of (Some e) h r = None
+awaited_of None h r = least_absent h r
+
+-- the page that a call on a stream waits for
+abbrev pub awaited : Setup → List Entry → ℕ → Call → Option ℕ
+awaited u past s it =
+    awaited_of (refusal u past (history past s) it) (history past s) (range_of (size_of (history past s)) it)
+
+-- whether a call waits for this page
+abbrev pub is_awaited : Setup → List Entry → ℕ → Call → ℕ → Bool
+is_awaited u past s it page = option_eq nat_eq (awaited u past s it) (Some page)

@@ -11,8 +11,8 @@ ghost use Rattle.cc_effects.specs.Places.{is_on_disk_alone};
 ghost use Rattle.cc_model.specs.History.{history};
 ghost use Rattle.cc_model.specs.Setup.{Setup};
 ghost use Rattle.cc_step.specs.Step.{is_stepped, StandUnder};
-ghost use Rattle.cc_step.specs.Fill.{page_of, IsRead, MayLand, LandLeft, UnreadLeft};
-ghost use Rattle.cc_step.specs.Landing.{IsWanted, MayBring};
+ghost use Rattle.cc_step.specs.Fill.{page_of, IsRead, MayLand, BringLeft, LandLeft, UnreadLeft};
+ghost use Rattle.cc_step.specs.Landing.{is_wanted, MayBring};
 
 use crate::room::{has_room, has_valid_byte, page_id};
 use crate::waits_for;
@@ -21,8 +21,8 @@ use cc_entry::{Call, Entry, NoMemory};
 use cc_journal::Journal;
 use std::alloc::Global;
 
-/// A page that was looked for comes in, where the call still waits for it, there is room for its block, and it was
-/// read if it has to be. The place that is reserved for it is used, or given back.
+/// A page that was looked for comes in exactly where the call still waits for it, there is room for its block, and it
+/// was read if it has to be. The place that is reserved for it is used, or given back.
 ///
 /// `raw` is what was read of it; `None` where it had no byte below the valid data length.
 ///
@@ -42,7 +42,8 @@ pub fn land<Q>(
     requires numbered { page < 2 ^ 51 }
     requires may { (u : Setup) × MayLand u pass call.now page (option_copied raw) book.old journal.old }
     ensures { (u : Setup) → MayLand u pass call.now page (option_copied raw.entry) book.old journal.old →
-        LandLeft u pass call.now page result book.old book.new journal.old journal.new }
+        LandLeft u pass call.now page (option_copied raw.entry) result
+        book.old book.new journal.old journal.new }
 {
     match is_wanted(alloc, book, journal, call, page) {
         Ok(true) => place(book, journal, pass, page, raw),
@@ -93,8 +94,8 @@ fn is_wanted<Q>(
     page: u64,
 ) -> Result<bool, NoMemory>
     requires { is_stepped call.now ≡ true }
-    ensures { IfOk result (λ wanted. wanted ≡ true → (u : Setup) → StandUnder u book.now journal.now →
-        IsWanted u journal.now.entries book.now.stream call.now page) }
+    ensures { IfOk result (λ wanted. (u : Setup) → StandUnder u book.now journal.now →
+        wanted ≡ is_wanted u journal.now.entries book.now.stream call.now page) }
 {
     let waits = waits_for(alloc, book, journal, call)? == Some(page);
     Ok(waits && has_room(book, page))
@@ -113,7 +114,7 @@ fn place<Q>(
     requires may { (u : Setup) × (it : Call) × MayBring u pass it page book.old journal.old }
     ensures { (u : Setup) (it : Call) → MayBring u pass it page book.old journal.old →
         IsRead u journal.old.entries book.old.stream page (option_copied raw.entry) →
-        LandLeft u pass it page result book.old book.new journal.old journal.new }
+        LandLeft u pass it page (option_copied raw.entry) result book.old book.new journal.old journal.new }
 {
     match raw {
         Some(bytes) => bring_in(book, journal, pass, page, bytes),
@@ -141,7 +142,7 @@ fn bring_in<Q>(
     requires may { (u : Setup) × (it : Call) × MayBring u pass it page book.old journal.old }
     ensures { (u : Setup) (it : Call) → MayBring u pass it page book.old journal.old →
         IsReadFrom (u.opening book.old.stream) (history journal.old.entries book.old.stream) page raw.now →
-        LandLeft u pass it page result book.old book.new journal.old journal.new }
+        BringLeft u pass it page result book.old book.new journal.old journal.new }
 {
     let coming = page_id(book, page);
     match book.bring_in(journal, pass, coming, raw) {

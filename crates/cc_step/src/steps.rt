@@ -9,7 +9,7 @@ ghost use Rattle.cc_model.specs.Refusals.{refusal};
 ghost use Rattle.cc_model.specs.Setup.{Setup};
 ghost use Rattle.cc_model.specs.Touches.{size_of};
 ghost use Rattle.cc_book.specs.Book.{BookStands};
-ghost use Rattle.cc_step.specs.Step.{is_stepped, asked_now, places_spared, StandUnder, MayStep, IsReadyFor, IsReplyOf, WaitsFor, StepLeft, PlaceLeft, AttemptLeft, has_placed, least_absent};
+ghost use Rattle.cc_step.specs.Step.{is_stepped, asked_now, places_spared, StandUnder, MayStep, IsReadyFor, IsReplyOf, StepLeft, PlaceLeft, AttemptLeft, has_placed, least_absent, awaited};
 
 use crate::replies::reply;
 use cc_book::Book;
@@ -55,7 +55,8 @@ pub fn attempt<Q>(
     }
 }
 
-/// The least page that a call needs that nothing refuses and that is not resident, where it waits for one.
+/// The page that a call waits for: none where it is refused, else the least that it needs and that is not resident, if
+/// there is one.
 pub fn waits_for<Q>(
     alloc: Global,
     book: &Book,
@@ -64,7 +65,7 @@ pub fn waits_for<Q>(
 ) -> Result<Option<u64>, NoMemory>
     requires stepped { is_stepped call.now ≡ true }
     ensures { IfOk result (λ page. (u : Setup) → StandUnder u book.now journal.now →
-        WaitsFor u journal.now.entries book.now.stream call.now page) }
+        page ≡ awaited u journal.now.entries book.now.stream call.now) }
 {
     match book.refusal(alloc, journal, call)? {
         None => Ok(absent(book, call)),

@@ -1,5 +1,5 @@
 -- A page lands in a visit, or the disk failed to read it: the place that is reserved for it is used, or given back.
-use Rattle.std.specs.Prelude.{◌≡◌, ℕ, ◌+◌, ◌-◌, ◌<◌, Bool, true, false, List, [], ◌∷◌, Option, None, Some, Ok, Err, Result, refl}
+use Rattle.std.specs.Prelude.{◌≡◌, ℕ, ◌+◌, ◌-◌, ◌*◌, ◌<◌, nat_lt, OnOk, Bool, true, false, List, [], ◌∷◌, Option, None, Some, Ok, Err, Result, refl}
 use Rattle.std.proofs.Common.{ap, sym, ◌∙◌, subst, inl, inr, arith}
 use Rattle.std.proofs.lemmas.Bool.{eq-eqb}
 use Rattle.cc_entry.specs.declared.call.Call.{Call}
@@ -28,7 +28,8 @@ use Rattle.cc_turns.specs.Standing.{Standing}
 use Rattle.cc_turns.specs.Takes.{Grows, without_journal}
 use Rattle.cc_writes.specs.Hands.{HasBook, IsAtRest, SameDisk}
 use Rattle.cc_writes.specs.Told.{UnreadTold}
-use Rattle.cc_writes.specs.Visits.{IsFiledNow, UnreadLeft, UnreadPlaced, WasReadFor}
+use Rattle.cc_writes.specs.Visits.{HasNotLanded, IsElsewhere, IsFiledNow, UnreadLeft, UnreadPlaced, WasReadFor}
+use Rattle.cc_writes.specs.Visits.{LandLeft as SeenLandLeft}
 use Rattle.cc_writes.specs.Ways.{IsHalted, WasWanted}
 use Rattle.cc_writes.proofs.Attempting.{number-is, way-on}
 use Rattle.cc_writes.proofs.VisitDisks.{disk-same, disk-page_in}
@@ -111,30 +112,43 @@ module _ {Q : Type 0} (posted : Q → Bool) (w v : Standing) (it : Call) (b c : 
   pub land-as : (pass : ℕ) (raw : Option (List ℕ)) → pass ≡ v.number → WasReadFor w b.stream page raw → MayLand w.setup pass it page raw b j
   land-as pass raw me read = subst (λ (n : ℕ). MayLand w.setup n it page raw b j) (sym (number-is posted w v it b c j k has vis here filed pass me)) (may-land raw read)
 
-  pub landed : (pass : ℕ) (raw : Option (List ℕ)) (answer : Result (Unit {0}) NoMemory) → pass ≡ v.number → WasReadFor w b.stream page raw → ((u : Setup) → MayLand u pass it page raw b j → LandLeft u pass it page answer b c j k) → LandLeft w.setup w.number it page answer b c j k
-  landed pass raw answer me read left = subst (λ (n : ℕ). LandLeft w.setup n it page answer b c j k) (number-is posted w v it b c j k has vis here filed pass me) (left w.setup (land-as pass raw me read))
+  pub landed : (pass : ℕ) (raw : Option (List ℕ)) (answer : Result (Unit {0}) NoMemory) → pass ≡ v.number → WasReadFor w b.stream page raw → ((u : Setup) → MayLand u pass it page raw b j → LandLeft u pass it page raw answer b c j k) → LandLeft w.setup w.number it page raw answer b c j k
+  landed pass raw answer me read left = subst (λ (n : ℕ). LandLeft w.setup n it page raw answer b c j k) (number-is posted w v it b c j k has vis here filed pass me) (left w.setup (land-as pass raw me read))
 
-  pub visited-land : (answer : Result (Unit {0}) NoMemory) → LandLeft w.setup w.number it page answer b c j k → Visited posted w v b.stream 0 c k
-  visited-land (Ok done) (inl came) = visited-in posted w v b c j k has vis rest reserved page came.placed came.stand came.stream
-  visited-land (Ok done) (inr none) =
+  pub visited-land : (raw : Option (List ℕ)) (answer : Result (Unit {0}) NoMemory) → LandLeft w.setup w.number it page raw answer b c j k → Visited posted w v b.stream 0 c k
+  visited-land raw (Ok done) (inl came) = visited-in posted w v b c j k has vis rest reserved page came.placed came.stand came.stream
+  visited-land raw (Ok done) (inr none) =
       visited-back posted w v b c j k has vis rest reserved none.given_back (stand-back posted w v b c j k has vis rest reserved none.given_back none.same) (ap (λ (x : BookState). x.stream) none.same)
-  visited-land (Err e) none = visited-back posted w v b c j k has vis rest reserved none.given_back none.stand none.stream
+  visited-land raw (Err e) none = visited-back posted w v b c j k has vis rest reserved none.given_back none.stand none.stream
 
-  pub disk-land : (answer : Result (Unit {0}) NoMemory) → LandLeft w.setup w.number it page answer b c j k → SameDisk w.seen k.entries b.stream
-  disk-land (Ok done) (inl came) =
+  pub disk-land : (raw : Option (List ℕ)) (answer : Result (Unit {0}) NoMemory) → LandLeft w.setup w.number it page raw answer b c j k → SameDisk w.seen k.entries b.stream
+  disk-land raw (Ok done) (inl came) =
       disk-grew posted w v it b c j k has vis here filed rest (page_in w.number (page_of b page) b ∷ j.entries) (disk-page_in w.number (page_of b page) _ j.entries b.stream) (ap (λ (x : JournalState Q). x.entries) came.placed)
-  disk-land (Ok done) (inr none) = disk-grew posted w v it b c j k has vis here filed rest j.entries (disk-same j.entries b.stream) (ap (λ (x : JournalState Q). x.entries) none.given_back)
-  disk-land (Err e) none = disk-grew posted w v it b c j k has vis here filed rest j.entries (disk-same j.entries b.stream) (ap (λ (x : JournalState Q). x.entries) none.given_back)
+  disk-land raw (Ok done) (inr none) = disk-grew posted w v it b c j k has vis here filed rest j.entries (disk-same j.entries b.stream) (ap (λ (x : JournalState Q). x.entries) none.given_back)
+  disk-land raw (Err e) none = disk-grew posted w v it b c j k has vis here filed rest j.entries (disk-same j.entries b.stream) (ap (λ (x : JournalState Q). x.entries) none.given_back)
 
   -- the call is still under way
-  pub left-land : brings_in it ≡ true → (answer : Result (Unit {0}) NoMemory) → LandLeft w.setup w.number it page answer b c j k → (begun : List Entry) → IsUnderWay w.number it begun w.seen → IsUnderWay w.number it begun k.entries
-  left-land may (Ok done) (inl came) begun way =
+  pub left-land : brings_in it ≡ true → (raw : Option (List ℕ)) (answer : Result (Unit {0}) NoMemory) → LandLeft w.setup w.number it page raw answer b c j k → (begun : List Entry) → IsUnderWay w.number it begun w.seen → IsUnderWay w.number it begun k.entries
+  left-land may raw (Ok done) (inl came) begun way =
       subst (λ (past : List Entry). IsUnderWay w.number it begun past) (sym (ap (λ (x : JournalState Q). x.entries) came.placed))
       (brings w.number it begun j.entries (page_of b page) _ (way-on posted w v it b c j k has vis here filed begun way) may came.reached)
-  left-land may (Ok done) (inr none) begun way =
+  left-land may raw (Ok done) (inr none) begun way =
       subst (λ (past : List Entry). IsUnderWay w.number it begun past) (sym (ap (λ (x : JournalState Q). x.entries) none.given_back)) (way-on posted w v it b c j k has vis here filed begun way)
-  left-land may (Err e) none begun way =
+  left-land may raw (Err e) none begun way =
       subst (λ (past : List Entry). IsUnderWay w.number it begun past) (sym (ap (λ (x : JournalState Q). x.entries) none.given_back)) (way-on posted w v it b c j k has vis here filed begun way)
+
+  -- what became of the page
+  pub became-land : (raw : Option (List ℕ)) (answer : Result (Unit {0}) NoMemory) → LandLeft w.setup w.number it page raw answer b c j k → OnOk answer (SeenLandLeft w b.stream it page raw k.entries)
+  became-land raw (Ok done) (inl came) =
+      inl (record {
+        from_disk = nat_lt (4096 * page) b.contents.valid;
+        placed = record { front = j.entries; grows = vis.grows; placed = ap (λ (x : JournalState Q). x.entries) came.placed };
+        awaited = came.awaited;
+      })
+  became-land raw (Ok done) (inr none) =
+      inr (subst (λ (past : List Entry). HasNotLanded w b.stream it page raw past) (sym (ap (λ (x : JournalState Q). x.entries) none.given_back))
+      (record { grows = vis.grows; reason = none.reason }))
+  became-land raw (Err e) none = tt
 
 -- A page that the disk failed to read.
 module _ {Q : Type 0} (posted : Q → Bool) (w v : Standing) (b : BookState) (j k : JournalState Q)
@@ -144,7 +158,7 @@ module _ {Q : Type 0} (posted : Q → Bool) (w v : Standing) (b : BookState) (j 
 
   pub visited-told : (answer : Bool) → UnreadTold w.setup w.number page answer b j k → Visited posted w v b.stream 0 b k
   visited-told true told = visited-unread posted w v b b j k has vis rest reserved page told.placed told.stand refl
-  visited-told false back = visited-back posted w v b b j k has vis rest reserved back (stand-back posted w v b b j k has vis rest reserved back refl) refl
+  visited-told false none = visited-back posted w v b b j k has vis rest reserved none.given_back (stand-back posted w v b b j k has vis rest reserved none.given_back refl) refl
 
   pub rest-told : (answer : Bool) → UnreadTold w.setup w.number page answer b j k → IsAtRest (without_journal k v) b.stream
   rest-told answer told = record {
@@ -159,17 +173,18 @@ module _ {Q : Type 0} (posted : Q → Bool) (w v : Standing) (b : BookState) (j 
       by true placed =
           ap (λ (x : JournalState Q). open_of (history x.entries b.stream)) placed.placed
           ∙ (ap open_of (history-fill_failed w.number (page_of b page) j.entries b.stream) ∙ front)
-      by false back = ap (λ (x : JournalState Q). open_of (history x.entries b.stream)) back ∙ front
+      by false none = ap (λ (x : JournalState Q). open_of (history x.entries b.stream)) none.given_back ∙ front
 
   pub placed-told : (answer : Bool) → UnreadTold w.setup w.number page answer b j k → UnreadPlaced w (without_journal k v) b.stream page answer
   placed-told true told = record { front = j.entries; grows = vis.grows; placed = ap (λ (x : JournalState Q). x.entries) told.placed }
-  placed-told false back =
-      subst (λ (past : List Entry). SameDisk w.seen past b.stream) (sym (ap (λ (x : JournalState Q). x.entries) back)) (disk-held w b.stream j.entries rest.device vis.grows)
+  placed-told false none =
+      subst (λ (past : List Entry). SameDisk w.seen past b.stream × IsElsewhere w b.stream page past) (sym (ap (λ (x : JournalState Q). x.entries) none.given_back))
+      (disk-held w b.stream j.entries rest.device vis.grows, record { grows = vis.grows; elsewhere = none.not_on_disk })
 
   pub left-told : (answer : Bool) → UnreadTold w.setup w.number page answer b j k → (it : Call) (begun : List Entry) → brings_in it ≡ true → IsUnderWay w.number it begun w.seen → WasWanted w.setup it (record { stream = b.stream; page = page }) begun w.seen → UnreadLeft w.setup w.number b.stream it page answer begun k.entries
   left-told true told it begun may way wanted =
       subst (λ (past : List Entry). IsHalted w.setup w.number b.stream it (error.ReadFault page) begun past) (sym (ap (λ (x : JournalState Q). x.entries) told.placed))
       (halts w.setup w.number b.stream page it begun j.entries (under_way-on w.number it begun w.seen j.entries way vis.idle) may told.on_disk
       (some-on (λ moment. (refusal w.setup moment (history moment b.stream) it ≡ None) × (reaches it (record { stream = b.stream; page = page }) moment ≡ true)) w.number begun w.seen j.entries wanted vis.idle))
-  left-told false back it begun may way wanted =
-      subst (λ (past : List Entry). IsUnderWay w.number it begun past) (sym (ap (λ (x : JournalState Q). x.entries) back)) (under_way-on w.number it begun w.seen j.entries way vis.idle)
+  left-told false none it begun may way wanted =
+      subst (λ (past : List Entry). IsUnderWay w.number it begun past) (sym (ap (λ (x : JournalState Q). x.entries) none.given_back)) (under_way-on w.number it begun w.seen j.entries way vis.idle)

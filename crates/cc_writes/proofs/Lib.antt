@@ -39,6 +39,7 @@ pub mod Reading
 mod Reached
 mod Going
 mod Bringing
+mod Brought
 mod Stepping
 mod Repeated
 pub mod Fullness

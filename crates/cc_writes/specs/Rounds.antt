@@ -1,15 +1,20 @@
 -- What the rounds of a call leave of it, and what a page step of one asks and leaves.
-use Rattle.std.specs.Prelude.{◌≡◌, ℕ, ◌⊎◌, Bool, true, ◌&&◌, ◌==◌, nat_le, Result, Ok, Err, List, ◌∷◌, ◌++◌}
+use Rattle.std.specs.Prelude.{◌≡◌, ℕ, ◌⊎◌, Bool, true, false, ◌&&◌, ◌==◌, nat_le, Result, Ok, Err, List, ◌∷◌, ◌++◌}
 use Rattle.std.specs.declared.option.Option.{Option}
 use Rattle.std.specs.declared.option.Option.TheVariants.{Some, None}
 use Rattle.cc_entry.specs.Pages.{block_of}
 use Rattle.cc_entry.specs.declared.call.Call.{Call}
 use Rattle.cc_entry.specs.declared.error.CcError.{CcError}
 use Rattle.cc_entry.specs.declared.entry.Entry.{Entry}
+use Rattle.cc_entry.specs.declared.entry.Entry.TheVariants as entry
 use Rattle.cc_traits.specs.Disk.{Disk}
 use Rattle.cc_effects.specs.Calls.{IsUnderWay}
+use Rattle.cc_effects.specs.Places.{is_on_disk_alone}
+use Rattle.cc_model.specs.History.{history}
 use Rattle.cc_model.specs.Setup.{Setup}
 use Rattle.cc_model.specs.Turns.{Device, is_quiet}
+use Rattle.cc_step.specs.Room.{has_room}
+use Rattle.cc_step.specs.Step.{is_awaited}
 use Rattle.cc_turns.specs.Transfers.{fill_failed}
 use Rattle.cc_turns.specs.Disk.{DiskStands}
 use Rattle.cc_turns.specs.Standing.{Standing}
@@ -57,3 +62,22 @@ IsWanted w s it page =
 abbrev pub is_next : Option ℕ → ℕ → ℕ → Bool
 is_next None to page = true
 is_next (Some block) to page = (block == block_of page) && nat_le to page
+
+-- The page that a call waited for came in: its entry is the last, and the call waited for it at that front.
+pub record CameIn (w : Standing) (s : ℕ) (it : Call) (page : ℕ) (seen : List Entry) : Type 0 where
+  pub front : List Entry
+  pub from_disk : Bool
+  pub placed : seen ≡ entry.PageIn w.number (record { stream = s; page = page }) from_disk ∷ front
+  pub awaited : is_awaited w.setup front s it page ≡ true
+
+-- Why a call goes on without a page that it waited for: it does not wait for it any more, there is no room for its block,
+-- or the page is not on the disk alone any more.
+abbrev pub IsPassedOver : Setup → ℕ → Call → ℕ → List Entry → Type 0
+IsPassedOver u s it page past =
+    (is_awaited u past s it page ≡ false)
+    ⊎ (has_room (history past s) page ≡ false)
+    ⊎ (is_on_disk_alone (record { stream = s; page = page }) past ≡ false)
+
+-- What became of the page that a call waited for, where the call goes on.
+abbrev pub BringLeft : Standing → ℕ → Call → ℕ → List Entry → Type 0
+BringLeft w s it page seen = CameIn w s it page seen ⊎ IsPassedOver w.setup s it page seen

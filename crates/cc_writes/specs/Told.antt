@@ -10,7 +10,7 @@ use Rattle.cc_entry.specs.declared.reply.Outcome.TheVariants as outcome
 use Rattle.cc_entry.specs.declared.reply.Reply.{Reply}
 use Rattle.cc_entry.specs.declared.reply.Reply.TheVariants as reply
 use Rattle.cc_book.specs.Book.{BookState}
-use Rattle.cc_step.specs.Fill.{GivesBack, ToldUnread}
+use Rattle.cc_step.specs.Fill.{NotUnread, ToldUnread}
 use Rattle.cc_step.specs.declared.ways.Next.{Next}
 use Rattle.cc_step.specs.declared.ways.Next.TheVariants as next
 use Rattle.cc_journal.specs.Journal.{JournalState}
@@ -81,10 +81,11 @@ StepAs (next.Writes page again) answer entries was now = (answer ≡ step.Writes
 StepAs (next.Reads page again) answer entries was now = (answer ≡ step.Reads page again) × (now ≡ was)
 StepAs (next.Stopped e) answer entries was now = (answer ≡ step.Ended (Err e)) × (now ≡ was)
 
--- The entry of a failed read stands, or the place that was reserved for it was given back.
+-- The entry of a failed read stands, or the page is not on the disk alone any more and the place that was reserved for it
+-- was given back.
 abbrev pub UnreadTold : {Q : Type 0} → Setup → ℕ → ℕ → Bool → BookState → JournalState Q → JournalState Q → Type 0
 UnreadTold u pass page true b j k = ToldUnread u pass page b j k
-UnreadTold u pass page false b j k = GivesBack j k
+UnreadTold u pass page false b j k = NotUnread page b j k
 
 -- what a call answers that met a fault and ended so
 abbrev pub answer_of : Failed → CcError → CcError

@@ -1,5 +1,5 @@
 -- What the visits of a pass to the journal leave of a call.
-use Rattle.std.specs.Prelude.{◌≡◌, ℕ, suc, Bool, true, false, List, ◌∷◌, Option}
+use Rattle.std.specs.Prelude.{◌≡◌, ℕ, suc, ◌⊎◌, Bool, true, false, List, ◌∷◌, Option}
 use Rattle.std.specs.declared.option.Option.TheVariants.{Some, None}
 use Rattle.cc_entry.specs.declared.call.Call.{Call}
 use Rattle.cc_entry.specs.declared.error.CcError.TheVariants as error
@@ -8,6 +8,7 @@ use Rattle.cc_entry.specs.declared.entry.Entry.TheVariants as entry
 use Rattle.cc_content.specs.Filling.{IsReadFrom}
 use Rattle.cc_effects.specs.Asked.{is_in_the_way}
 use Rattle.cc_effects.specs.Calls.{IsUnderWay}
+use Rattle.cc_effects.specs.Places.{is_on_disk_alone}
 use Rattle.cc_model.specs.Acts.{file_of}
 use Rattle.cc_model.specs.Filing.{IsFiled}
 use Rattle.cc_model.specs.History.{history}
@@ -18,7 +19,8 @@ use Rattle.cc_model.specs.Residency.{is_resident}
 use Rattle.cc_model.specs.Setup.{Setup}
 use Rattle.cc_model.specs.Stamps.{is_unstamped}
 use Rattle.cc_model.specs.Touches.{is_dirty, size_of}
-use Rattle.cc_step.specs.Step.{least_absent, most_asked}
+use Rattle.cc_step.specs.Fill.{IsNotToLand}
+use Rattle.cc_step.specs.Step.{is_awaited, least_absent, most_asked}
 use Rattle.cc_turns.specs.Standing.{Standing}
 use Rattle.cc_turns.specs.Takes.{Grows}
 use Rattle.cc_writes.specs.Hands.{SameDisk, Went, WentWith}
@@ -91,10 +93,30 @@ pub record HasPlaced (w : Standing) (e : Entry) (new : List Entry) : Type 0 wher
   pub grows : Grows w front
   pub placed : new ≡ e ∷ front
 
+-- The page that a call waited for came in: its entry is the last, and the call waited for it at that front.
+pub record HasLanded (w : Standing) (s : ℕ) (it : Call) (page : ℕ) (seen : List Entry) : Type 0 where
+  pub from_disk : Bool
+  pub placed : HasPlaced w (entry.PageIn w.number (record { stream = s; page = page }) from_disk) seen
+  pub awaited : is_awaited w.setup placed.front s it page ≡ true
+
+-- A page of which this was read did not come in, for a reason, and the pass placed nothing.
+pub record HasNotLanded (w : Standing) (s : ℕ) (it : Call) (page : ℕ) (raw : Option (List ℕ)) (seen : List Entry) : Type 0 where
+  pub grows : Grows w seen
+  pub reason : IsNotToLand w.setup seen s it page raw
+
+-- What became of a page that was looked for.
+abbrev pub LandLeft : Standing → ℕ → Call → ℕ → Option (List ℕ) → List Entry → Type 0
+LandLeft w s it page raw seen = HasLanded w s it page seen ⊎ HasNotLanded w s it page raw seen
+
+-- A page is not on the disk alone any more, and the pass placed nothing.
+pub record IsElsewhere (w : Standing) (s page : ℕ) (seen : List Entry) : Type 0 where
+  pub grows : Grows w seen
+  pub elsewhere : is_on_disk_alone (record { stream = s; page = page }) seen ≡ false
+
 -- What the failure of a read left: its entry, or nothing of the pass.
 abbrev pub UnreadPlaced : Standing → Standing → ℕ → ℕ → Bool → Type 0
 UnreadPlaced old new s page true = HasPlaced old (entry.FillFailed old.number (record { stream = s; page = page })) new.seen
-UnreadPlaced old new s page false = SameDisk old.seen new.seen s
+UnreadPlaced old new s page false = SameDisk old.seen new.seen s × IsElsewhere old s page new.seen
 
 -- Where the entry stands the call was halted by it, else it is under way.
 abbrev pub UnreadLeft : Setup → ℕ → ℕ → Call → ℕ → Bool → List Entry → List Entry → Type 0

@@ -1,19 +1,20 @@
 //! A page is brought in for a call.
 
-ghost use Rattle.std.specs.Prelude.{◌≡◌, ◌<◌, true, List, OnOk, Some};
-ghost use Rattle.std.specs.Option.{option_map};
+ghost use Rattle.std.specs.Prelude.{◌≡◌, ◌<◌, true, false, List, IsErr, OnOk, Some};
+ghost use Rattle.std.specs.Option.{option_copied, option_map};
 ghost use Rattle.cc_entry.specs.declared.entry.Entry.{Entry};
 ghost use Rattle.cc_traits.specs.Stop.{OnFailed};
 ghost use Rattle.cc_effects.specs.Asked.{brings_in};
 ghost use Rattle.cc_effects.specs.Calls.{IsUnderWay};
 ghost use Rattle.cc_effects.specs.Moments.{IsIdle};
+ghost use Rattle.cc_effects.specs.Places.{is_on_disk_alone};
 ghost use Rattle.cc_step.specs.Step.{is_stepped};
 ghost use Rattle.cc_writes.specs.Hands.{HasBook, IsAtRest, SameDisk, Went, WentWith};
 ghost use Rattle.cc_writes.specs.Ways.{IsFull, WasWanted};
-ghost use Rattle.cc_writes.specs.Visits.{IsOf, IsWaitedFor, WasReadFor};
+ghost use Rattle.cc_writes.specs.Visits.{IsElsewhere, IsOf, IsWaitedFor, LandLeft, WasReadFor};
 ghost use Rattle.cc_writes.specs.Calls.{PageLeft};
 ghost use Rattle.cc_writes.specs.Writes.{HasBoth};
-ghost use Rattle.cc_writes.specs.Rounds.{MayTellFailure, WasTold, IsWanted};
+ghost use Rattle.cc_writes.specs.Rounds.{BringLeft, MayTellFailure, WasTold, IsWanted};
 
 use crate::calls::{fail, given_up};
 use crate::{land_at, release_at, unread_at};
@@ -24,7 +25,7 @@ use cc_turns::{Turns, read};
 use std::alloc::Global;
 
 /// Brings a page in that a call waits for, and for whose entry a place is reserved: read from the disk, where it has a
-/// byte below the valid data length, or as zeros. The call goes on, or fails.
+/// byte below the valid data length, or as zeros, and then nothing is asked of the disk. The call goes on, or fails.
 pub(crate) fn bring<T: Turns>(
     alloc: Global,
     turns: &mut T,
@@ -47,6 +48,9 @@ pub(crate) fn bring<T: Turns>(
         IsUnderWay (T.standing turns.old).number call begun (T.standing turns.old).seen →
         PageLeft (T.standing turns.old).setup (T.standing turns.old).number call result.1
         begun (T.standing turns.new).seen }
+    ensures brought { OnOk result.1 (BringLeft (T.standing turns.old) book.stream call page (T.standing turns.new).seen) }
+    ensures unread { is_on_disk_alone (record { stream = book.stream; page = page }) (T.standing turns.old).seen ≡ false →
+        disk.new ≡ disk.old }
     ensures full { IsFull 2 (T.standing turns.new) result.1 }
 {
     if page < book.valid().div_ceil(4096) {
@@ -56,7 +60,7 @@ pub(crate) fn bring<T: Turns>(
     }
 }
 
-// Brings a page in that is read from the disk.
+// Brings a page in that is on the disk alone, and is read from it.
 fn bring_read<T: Turns>(
     alloc: Global,
     turns: &mut T,
@@ -73,12 +77,14 @@ fn bring_read<T: Turns>(
     requires brings { brings_in call ≡ true }
     requires filed { IsOf call book.stream }
     requires waited { IsWaitedFor (T.standing turns.old).setup book.stream call page (T.standing turns.old).seen }
+    requires alone { is_on_disk_alone (record { stream = book.stream; page = page }) (T.standing turns.old).seen ≡ true }
     ensures both { HasBoth T.Disk.told T.Disk.faults (T.standing turns.new) book.stream result.0 disk.new }
     ensures went { WentWith 0 (T.standing turns.old) (T.standing turns.new) }
     ensures left { (begun : List Entry) →
         IsUnderWay (T.standing turns.old).number call begun (T.standing turns.old).seen →
         PageLeft (T.standing turns.old).setup (T.standing turns.old).number call result.1
         begun (T.standing turns.new).seen }
+    ensures brought { OnOk result.1 (BringLeft (T.standing turns.old) book.stream call page (T.standing turns.new).seen) }
     ensures full { IsFull 2 (T.standing turns.new) result.1 }
 {
     let mut raw = [0; 4096];
@@ -164,6 +170,8 @@ fn land<T: Turns>(
         IsUnderWay (T.standing turns.old).number call begun (T.standing turns.old).seen →
         PageLeft (T.standing turns.old).setup (T.standing turns.old).number call result.1
         begun (T.standing turns.new).seen }
+    ensures landed { OnOk result.1 (LandLeft (T.standing turns.old) book.stream call page (option_copied raw.entry)
+        (T.standing turns.new).seen) }
     ensures full { IsFull 2 (T.standing turns.new) result.1 }
 {
     match land_at(alloc, turns, &mut book, &call, page, raw) {
@@ -197,6 +205,8 @@ fn unread<T: Turns>(
         begun (T.standing turns.old).seen →
         PageLeft (T.standing turns.old).setup (T.standing turns.old).number call result.1
         begun (T.standing turns.new).seen }
+    ensures passed_over { OnOk result.1
+        (IsElsewhere (T.standing turns.old) book.stream page (T.standing turns.new).seen) }
     ensures full { IsFull 2 (T.standing turns.new) result.1 }
 {
     if unread_at(turns, &book, page) {
@@ -221,6 +231,7 @@ fn release<T: Turns>(turns: &mut T, book: Book, call: Call) -> (Book, Result<Cal
         IsUnderWay (T.standing turns.old).number call begun (T.standing turns.old).seen →
         PageLeft (T.standing turns.old).setup (T.standing turns.old).number call result.1
         begun (T.standing turns.new).seen }
+    ensures failed { IsErr result.1 }
     ensures full { IsFull 2 (T.standing turns.new) result.1 }
 {
     release_at(turns);

@@ -1,19 +1,19 @@
 //! The visits: each takes the journal's turn once.
 
-ghost use Rattle.std.specs.Prelude.{◌≡◌, ◌<◌, true, List, Some, Err};
+ghost use Rattle.std.specs.Prelude.{◌≡◌, ◌<◌, true, List, OnOk, Some, Err};
 ghost use Rattle.std.specs.Option.{option_copied};
 ghost use Rattle.cc_entry.specs.declared.entry.Entry.{Entry};
 ghost use Rattle.cc_entry.specs.declared.reply.Outcome.TheVariants as outcome;
 ghost use Rattle.cc_effects.specs.Asked.{brings_in};
 ghost use Rattle.cc_effects.specs.Calls.{CallLeft, IsUnderWay};
 ghost use Rattle.cc_effects.specs.Refusals.{may_refuse};
-ghost use Rattle.cc_step.specs.Fill.{MayLand, LandLeft};
+ghost use Rattle.cc_step.specs.Fill.{MayLand, LandLeft as BookLandLeft};
 ghost use Rattle.cc_model.specs.Setup.{Setup};
 ghost use Rattle.cc_step.specs.Step.{StandUnder, is_answered, is_stepped};
 ghost use Rattle.cc_writes.specs.Hands.{HasBook, IsAtRest, SameDisk, Went, WentWith};
 ghost use Rattle.cc_writes.specs.Told.{FitsNext, FitsStepped, StepAs, TriedAs, UnreadTold, answer_of};
 ghost use Rattle.cc_writes.specs.Ways.{FitsIn, IsFull, IsHalted, IsReason, WasWanted};
-ghost use Rattle.cc_writes.specs.Visits.{IsFiledNow, IsOf, TriedLeft, StepLeft, StepWent, IsFullTried, IsFullStep, WasReadFor, UnreadPlaced, UnreadLeft};
+ghost use Rattle.cc_writes.specs.Visits.{IsFiledNow, IsOf, TriedLeft, StepLeft, StepWent, IsFullTried, IsFullStep, WasReadFor, LandLeft, UnreadPlaced, UnreadLeft};
 
 use crate::tell::{Returned, tell_last};
 use cc_book::Book;
@@ -109,9 +109,9 @@ pub fn next_at<T: Turns>(
     step
 }
 
-/// Brings a page in that a call waits for, from the raw bytes of the disk where it was read, if the call still waits
-/// for it, there is room for its block, and it was read if it has to be. The place that is reserved for it is used, or
-/// given back.
+/// Brings a page in that a call waits for, from the raw bytes of the disk where it was read, exactly if the call still
+/// waits for it, there is room for its block, and it was read if it has to be. The place that is reserved for it is used,
+/// or given back.
 ///
 /// `NoMemory`, and then the place is given back.
 pub fn land_at<T: Turns>(
@@ -136,6 +136,8 @@ pub fn land_at<T: Turns>(
     ensures left { (begun : List Entry) →
         IsUnderWay (T.standing turns.old).number call.now begun (T.standing turns.old).seen →
         IsUnderWay (T.standing turns.old).number call.now begun (T.standing turns.new).seen }
+    ensures landed { OnOk result (LandLeft (T.standing turns.old) book.old.stream call.now page
+        (option_copied raw.entry) (T.standing turns.new).seen) }
 {
     let mut journal = turns.take_journal();
     let pass = turns.me();
@@ -244,7 +246,8 @@ fn land_page<Q>(
     requires reserved { 0 < journal.old.reserved }
     requires may { (u : Setup) × MayLand u pass call.now page (option_copied raw) book.old journal.old }
     ensures { (u : Setup) → MayLand u pass call.now page (option_copied raw.entry) book.old journal.old →
-        LandLeft u pass call.now page result book.old book.new journal.old journal.new }
+        BookLandLeft u pass call.now page (option_copied raw.entry) result
+        book.old book.new journal.old journal.new }
 {
     if page < 1 << 51 {
         land(alloc, book, journal, pass, call, page, raw)

@@ -38,6 +38,7 @@ returns-in-Ok g c u may waits =
       call_is = refl;
       admitted = waits.admitted;
       least = waits.least;
+      room = room;
       in_quota = room-within u past c.args.book.now.stream c.args.page (so-far u past stand.good) room;
       same_book = refl;
       reserved = c.in-Ok.ensures.reserved;

@@ -1,5 +1,5 @@
 -- A page that was read lands; after a failed read the call is still the one that waited; want of memory ends it.
-use Rattle.std.specs.Prelude.{ℕ, List}
+use Rattle.std.specs.Prelude.{ℕ, List, OnOk, Some}
 use Rattle.std.proofs.Common.{subst, sym}
 use Rattle.cc_entry.specs.declared.entry.Entry.{Entry}
 use Rattle.cc_effects.specs.Calls.{IsUnderWay}
@@ -9,7 +9,9 @@ use Rattle.cc_writes.proofs.Disks.{still_of}
 use Rattle.cc_writes.specs.Rounds.{IsWanted}
 use Rattle.cc_writes.proofs.ReadFailures.{told_of}
 use Rattle.cc_writes.proofs.Reading.{where_failed}
+use Rattle.cc_writes.specs.Visits.{LandLeft}
 use Rattle.cc_writes.proofs.Bringing.{is_wanted, left_since, left_wanted}
+use Rattle.cc_writes.proofs.Brought.{brought, brought-not, on-err, on-ok-weaker}
 use Rattle.cc_writes.proofs.pages.bring_read.Goals as goal
 
 pub unread-requires-clause-wanted : goal.unread-requires-clause-wanted
@@ -65,3 +67,22 @@ returns-in-Err-NoMemory-clause-left g c =
     let v = g.T.Turns.standing c.read_page-book.new.turns in
     left_since w.in_flight w v c.args.book.stream c.args.page c.args.call c.read_page-book.ensures.went c.read_page-book.ensures.idle
     c.release.result.1 (g.T.Turns.standing c.release.new.turns).seen c.release.ensures.left
+
+pub returns-in-Ok-clause-brought : goal.returns-in-Ok-clause-brought
+returns-in-Ok-clause-brought g c =
+    let w = g.T.Turns.standing c.args.turns.now in
+    let v = g.T.Turns.standing c.read_page-book.new.turns in
+    let seen = (g.T.Turns.standing c.land.new.turns).seen in
+    on-ok-weaker c.land.result.1 (brought w.in_flight w v c.args.book.stream c.args.page c.args.call c.read_page-book.ensures.went c.read_page-book.new.raw seen)
+    (subst (λ (n : ℕ). OnOk c.land.result.1 (LandLeft v n c.args.call c.args.page (Some c.read_page-book.new.raw) seen)) c.read_page-book.ensures.both.book.stream c.land.ensures.landed)
+
+pub returns-in-Err-Failed-clause-brought : goal.returns-in-Err-Failed-clause-brought
+returns-in-Err-Failed-clause-brought g c =
+    let w = g.T.Turns.standing c.args.turns.now in
+    let v = g.T.Turns.standing c.read_page-book.new.turns in
+    let seen = (g.T.Turns.standing c.unread.new.turns).seen in
+    brought-not w.in_flight w v c.args.book.stream c.args.page c.args.call c.read_page-book.ensures.went
+    c.unread.result.1 c.read_page-book.result.0.stream seen c.read_page-book.ensures.both.book.stream c.unread.ensures.passed_over
+
+pub returns-in-Err-NoMemory-clause-brought : goal.returns-in-Err-NoMemory-clause-brought
+returns-in-Err-NoMemory-clause-brought g c = on-err _ c.release.result.1 c.release.ensures.failed
