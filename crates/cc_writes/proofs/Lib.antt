@@ -40,6 +40,9 @@ mod Reached
 mod Going
 mod Bringing
 mod Brought
+pub mod Work
+mod Kept
+pub mod Lessening
 mod Stepping
 mod Repeated
 pub mod Fullness

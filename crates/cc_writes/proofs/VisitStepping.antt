@@ -13,14 +13,16 @@ use Rattle.cc_step.specs.Fill.{MayFill, NextLeft, MadeWay, HasToRead, page_of}
 use Rattle.cc_step.specs.declared.ways.Next.{Next}
 use Rattle.cc_step.specs.declared.ways.Next.TheVariants as next
 use Rattle.cc_journal.specs.Journal.{JournalState}
+use Rattle.cc_model.specs.History.{history}
 use Rattle.cc_model.specs.Passes.{calls_of}
 use Rattle.cc_model.specs.Setup.{Setup}
+use Rattle.cc_step.specs.Room.{has_room}
 use Rattle.cc_step.specs.Step.{StandUnder, is_answered, is_stepped, most_asked}
 use Rattle.cc_turns.specs.Standing.{Standing}
-use Rattle.cc_turns.specs.Takes.{without_journal}
+use Rattle.cc_turns.specs.Takes.{Grows, without_journal}
 use Rattle.cc_writes.specs.Hands.{HasBook, IsAtRest, SameDisk}
 use Rattle.cc_writes.specs.Told.{FitsNext, StepAs}
-use Rattle.cc_writes.specs.Visits.{IsFiledNow, IsToBeWritten, IsWaitedFor, StepLeft, StepWent, IsFullStep}
+use Rattle.cc_writes.specs.Visits.{IsFiledNow, IsToBeWritten, IsWaitedFor, StepLeft, StepPlaced, StepWent, IsFullStep}
 use Rattle.cc_writes.specs.Ways.{FitsIn}
 use Rattle.cc_writes.specs.declared.tell.Returned.{Returned}
 use Rattle.cc_writes.specs.declared.visits.Step.{Step}
@@ -171,3 +173,23 @@ module _ {Q : Type 0} (posted : Q → Bool) (w v : Standing) (it : Call) (b c : 
   full-next is (next.Stopped e) answer was now left told =
       subst (λ (x : Step). IsFullStep (without_journal k v) it x) (sym told.0)
       (full-stop posted w v it b c j k has vis here filed Returned (most_asked it) e left.0 left.1.same_journal (visited-next is (next.Stopped e) left))
+
+  -- and what was placed
+  pub placed-next : (ended : Next) (answer : Step) (was now : List ℕ) → NextLeft w.setup w.number it ended b c j k → StepAs ended answer k.entries was now → StepPlaced w b.stream it answer k.entries
+  placed-next next.Done answer was now left told = subst (λ (x : Step). StepPlaced w b.stream it x k.entries) (sym told.1) tt
+  placed-next (next.Refused e) answer was now left told = subst (λ (x : Step). StepPlaced w b.stream it x k.entries) (sym told.0) tt
+  placed-next (next.WentOut again) answer was now left told =
+      subst (λ (x : Step). StepPlaced w b.stream it x k.entries) (sym told.0)
+      (record {
+        page = left.page;
+        placed = record { front = j.entries; grows = vis.grows; placed = ap (λ (x : JournalState Q). x.entries) left.placed };
+        next = left.next;
+        resident = left.resident;
+      })
+  placed-next (next.Writes page again) answer was now left told =
+      subst (λ (x : Step). StepPlaced w b.stream it x k.entries) (sym told.0)
+      (subst (λ (x : JournalState Q). Grows w x.entries) (sym left.same_journal) vis.grows)
+  placed-next (next.Reads page again) answer was now left told =
+      subst (λ (x : Step). StepPlaced w b.stream it x k.entries) (sym told.0)
+      (subst (λ (x : JournalState Q). Grows w x.entries × (has_room (history x.entries b.stream) page ≡ true)) (sym left.reserved) (vis.grows, left.room))
+  placed-next (next.Stopped e) answer was now left told = subst (λ (x : Step). StepPlaced w b.stream it x k.entries) (sym told.0) tt

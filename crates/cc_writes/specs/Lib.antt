@@ -8,4 +8,5 @@ pub mod Logs
 pub mod Transfers
 pub mod Calls
 pub mod Fetch
+pub mod Work
 pub mod Rounds

@@ -1,5 +1,5 @@
 -- What the rounds of a call leave of it, and what a page step of one asks and leaves.
-use Rattle.std.specs.Prelude.{◌≡◌, ℕ, ◌⊎◌, Bool, true, false, ◌&&◌, ◌==◌, nat_le, Result, Ok, Err, List, ◌∷◌, ◌++◌}
+use Rattle.std.specs.Prelude.{◌≡◌, ℕ, ◌<◌, ◌⊎◌, OnOk, Bool, true, false, ◌&&◌, ◌==◌, nat_le, Result, Ok, Err, List, ◌∷◌, ◌++◌}
 use Rattle.std.specs.declared.option.Option.{Option}
 use Rattle.std.specs.declared.option.Option.TheVariants.{Some, None}
 use Rattle.cc_entry.specs.Pages.{block_of}
@@ -11,7 +11,9 @@ use Rattle.cc_traits.specs.Disk.{Disk}
 use Rattle.cc_effects.specs.Calls.{IsUnderWay}
 use Rattle.cc_effects.specs.Places.{is_on_disk_alone}
 use Rattle.cc_model.specs.History.{history}
+use Rattle.cc_model.specs.Ranges.{range_of}
 use Rattle.cc_model.specs.Setup.{Setup}
+use Rattle.cc_model.specs.Touches.{size_of}
 use Rattle.cc_model.specs.Turns.{Device, is_quiet}
 use Rattle.cc_step.specs.Room.{has_room}
 use Rattle.cc_step.specs.Step.{is_awaited}
@@ -20,7 +22,8 @@ use Rattle.cc_turns.specs.Disk.{DiskStands}
 use Rattle.cc_turns.specs.Standing.{Standing}
 use Rattle.cc_writes.specs.Hands.{SameDisk}
 use Rattle.cc_writes.specs.Ways.{EndedSo, IsFull, WasWanted}
-use Rattle.cc_writes.specs.Visits.{HasPlaced}
+use Rattle.cc_writes.specs.Visits.{HasLanded, HasPlaced}
+use Rattle.cc_writes.specs.Work.{work_left}
 use Rattle.cc_writes.specs.declared.course.Course.{Course}
 use Rattle.cc_writes.specs.declared.course.Course.TheVariants as course
 
@@ -81,3 +84,17 @@ IsPassedOver u s it page past =
 -- What became of the page that a call waited for, where the call goes on.
 abbrev pub BringLeft : Standing → ℕ → Call → ℕ → List Entry → Type 0
 BringLeft w s it page seen = CameIn w s it page seen ⊎ IsPassedOver w.setup s it page seen
+
+-- With the book kept a page comes in for whose block there is room, where the call goes on.
+abbrev pub IsBroughtKept : Standing → ℕ → Call → ℕ → Bool → Result Call CcError → List Entry → Type 0
+IsBroughtKept w s it page keeps r seen =
+    keeps ≡ true → has_room (history w.seen s) page ≡ true → OnOk r (HasLanded w s it page seen)
+
+-- what is left to do for a call on a stream, while nobody else changes the stream
+abbrev pub left_for : ℕ → Call → List Entry → ℕ
+left_for s it past = work_left (history past s) (range_of (size_of (history past s)) it)
+
+-- a call that goes on has less left to do
+abbrev pub HasLess : ℕ → Call → Course → List Entry → List Entry → Type 0
+HasLess s it (course.Goes again) old new = left_for s it new < left_for s it old
+HasLess s it (course.Ended answer) old new = Unit {0}

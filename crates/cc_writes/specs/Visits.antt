@@ -6,7 +6,7 @@ use Rattle.cc_entry.specs.declared.error.CcError.TheVariants as error
 use Rattle.cc_entry.specs.declared.entry.Entry.{Entry}
 use Rattle.cc_entry.specs.declared.entry.Entry.TheVariants as entry
 use Rattle.cc_content.specs.Filling.{IsReadFrom}
-use Rattle.cc_effects.specs.Asked.{is_in_the_way}
+use Rattle.cc_effects.specs.Asked.{is_in_the_way, makes_way}
 use Rattle.cc_effects.specs.Calls.{IsUnderWay}
 use Rattle.cc_effects.specs.Places.{is_on_disk_alone}
 use Rattle.cc_model.specs.Acts.{file_of}
@@ -20,6 +20,7 @@ use Rattle.cc_model.specs.Setup.{Setup}
 use Rattle.cc_model.specs.Stamps.{is_unstamped}
 use Rattle.cc_model.specs.Touches.{is_dirty, size_of}
 use Rattle.cc_step.specs.Fill.{IsNotToLand}
+use Rattle.cc_step.specs.Room.{has_room}
 use Rattle.cc_step.specs.Step.{is_awaited, least_absent, most_asked}
 use Rattle.cc_turns.specs.Standing.{Standing}
 use Rattle.cc_turns.specs.Takes.{Grows}
@@ -122,3 +123,18 @@ UnreadPlaced old new s page false = SameDisk old.seen new.seen s × IsElsewhere 
 abbrev pub UnreadLeft : Setup → ℕ → ℕ → Call → ℕ → Bool → List Entry → List Entry → Type 0
 UnreadLeft u me s it page true old new = IsHalted u me s it (error.ReadFault page) old new
 UnreadLeft u me s it page false old new = IsUnderWay me it old new
+
+-- A page of the block to give up went out: its entry is the last, and it was the next to go at that front.
+pub record HasGoneOut (w : Standing) (s : ℕ) (it : Call) (seen : List Entry) : Type 0 where
+  pub page : ℕ
+  pub placed : HasPlaced w (entry.PageOut w.number (record { stream = s; page = page })) seen
+  pub next : makes_way it (record { stream = s; page = page }) placed.front ≡ true
+  pub resident : is_resident (history placed.front s) page ≡ true
+
+-- What a step placed, by cases over it: where it asks for a page it placed nothing, and for the block of one that is to
+-- come in there is room.
+abbrev pub StepPlaced : Standing → ℕ → Call → Step → List Entry → Type 0
+StepPlaced w s it (step.Ended answer) seen = Unit {0}
+StepPlaced w s it (step.WentOut again) seen = HasGoneOut w s it seen
+StepPlaced w s it (step.Writes page again) seen = Grows w seen
+StepPlaced w s it (step.Reads page again) seen = Grows w seen × (has_room (history seen s) page ≡ true)

@@ -59,12 +59,13 @@ WriteLeft me work page (Err (error.JournalFull entries)) old new = IsAtWork me w
 WriteLeft me work page (Err error.NoMemory) old new = IsAtWork me work old new ⊎ WantedMemory me work old new
 WriteLeft me work page (Err other) old new = ⊥
 
--- So far the pass placed nothing, or that a log was flushed.
+-- So far the pass placed nothing, or that a log was flushed; and nobody changed a stream whose book and disk it holds.
 pub record IsBefore (w : Standing) (past : List Entry) : Type 0 where
   pub since : List Entry
   pub grew : past ≡ since ++ w.seen
   pub only : (own w.number since ≡ [])
       ⊎ ((handle : ℕ) × (to : ℕ) × (own w.number since ≡ entry.Flushed w.number handle to ∷ []))
+  pub same : (s : ℕ) → w.held.book ≡ Some s → w.held.device ≡ Some s → history past s ≡ history w.seen s
 
 -- The pass transferred a page: its begin, then what others placed meanwhile, then its end, which says how. Nobody else
 -- used the stream's disk meanwhile. Where the book was kept, nobody else changed the stream either.

@@ -14,7 +14,7 @@ ghost use Rattle.cc_writes.specs.Ways.{IsFull, WasWanted};
 ghost use Rattle.cc_writes.specs.Visits.{IsElsewhere, IsOf, IsWaitedFor, LandLeft, WasReadFor};
 ghost use Rattle.cc_writes.specs.Calls.{PageLeft};
 ghost use Rattle.cc_writes.specs.Writes.{HasBoth};
-ghost use Rattle.cc_writes.specs.Rounds.{BringLeft, MayTellFailure, WasTold, IsWanted};
+ghost use Rattle.cc_writes.specs.Rounds.{BringLeft, IsBroughtKept, MayTellFailure, WasTold, IsWanted};
 
 use crate::calls::{fail, given_up};
 use crate::{land_at, release_at, unread_at};
@@ -49,6 +49,7 @@ pub(crate) fn bring<T: Turns>(
         PageLeft (T.standing turns.old).setup (T.standing turns.old).number call result.1
         begun (T.standing turns.new).seen }
     ensures brought { OnOk result.1 (BringLeft (T.standing turns.old) book.stream call page (T.standing turns.new).seen) }
+    ensures kept { IsBroughtKept (T.standing turns.old) book.stream call page keeps result.1 (T.standing turns.new).seen }
     ensures unread { is_on_disk_alone (record { stream = book.stream; page = page }) (T.standing turns.old).seen ≡ false →
         disk.new ≡ disk.old }
     ensures full { IsFull 2 (T.standing turns.new) result.1 }
@@ -85,6 +86,7 @@ fn bring_read<T: Turns>(
         PageLeft (T.standing turns.old).setup (T.standing turns.old).number call result.1
         begun (T.standing turns.new).seen }
     ensures brought { OnOk result.1 (BringLeft (T.standing turns.old) book.stream call page (T.standing turns.new).seen) }
+    ensures kept { IsBroughtKept (T.standing turns.old) book.stream call page keeps result.1 (T.standing turns.new).seen }
     ensures full { IsFull 2 (T.standing turns.new) result.1 }
 {
     let mut raw = [0; 4096];
@@ -113,6 +115,7 @@ fn read_page<T: Turns>(
     ensures found { OnOk result.1 (WasReadFor (T.standing turns.new) book.stream page (Some raw.new)) }
     ensures failed { OnFailed result.1
         (MayTellFailure T.Disk.told T.Disk.faults (T.standing turns.new) book.stream page disk.new) }
+    ensures kept { keeps ≡ true → T.standing turns.new ≡ T.standing turns.old }
 {
     if keeps {
         (book, read(disk, page, raw))

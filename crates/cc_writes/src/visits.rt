@@ -13,7 +13,7 @@ ghost use Rattle.cc_step.specs.Step.{StandUnder, is_answered, is_stepped};
 ghost use Rattle.cc_writes.specs.Hands.{HasBook, IsAtRest, SameDisk, Went, WentWith};
 ghost use Rattle.cc_writes.specs.Told.{FitsNext, FitsStepped, StepAs, TriedAs, UnreadTold, answer_of};
 ghost use Rattle.cc_writes.specs.Ways.{FitsIn, IsFull, IsHalted, IsReason, WasWanted};
-ghost use Rattle.cc_writes.specs.Visits.{IsFiledNow, IsOf, TriedLeft, StepLeft, StepWent, IsFullTried, IsFullStep, WasReadFor, LandLeft, UnreadPlaced, UnreadLeft};
+ghost use Rattle.cc_writes.specs.Visits.{IsFiledNow, IsOf, TriedLeft, StepLeft, StepPlaced, StepWent, IsFullTried, IsFullStep, WasReadFor, LandLeft, UnreadPlaced, UnreadLeft};
 
 use crate::tell::{Returned, tell_last};
 use cc_book::Book;
@@ -99,6 +99,7 @@ pub fn next_at<T: Turns>(
         IsUnderWay (T.standing turns.old).number call begun (T.standing turns.old).seen →
         StepLeft (T.standing turns.old).setup (T.standing turns.old).number book.old.stream call result
         begun (T.standing turns.new).seen out.old out.new }
+    ensures placed { StepPlaced (T.standing turns.old) book.old.stream call result (T.standing turns.new).seen }
     ensures full { IsFullStep (T.standing turns.new) call result }
 {
     let mut journal = turns.take_journal();

@@ -1,5 +1,5 @@
 -- A page with a byte below the valid data length is on the disk alone, and is read; any other lands without a read.
-use Rattle.std.specs.Prelude.{◌≡◌, ℕ, ◌*◌, nat_lt, true, false, OnOk}
+use Rattle.std.specs.Prelude.{◌≡◌, ℕ, ◌*◌, nat_lt, true, false, None, OnOk}
 use Rattle.std.specs.Int.{div_ceil}
 use Rattle.std.proofs.Common.{ap, sym, ◌∙◌, subst}
 use Rattle.std.proofs.lemmas.Bool.{lt-ltb, le-ltb}
@@ -8,6 +8,7 @@ use Rattle.cc_model.specs.Touches.{valid_of}
 use Rattle.cc_step.proofs.Found.{ceil-page}
 use Rattle.cc_writes.proofs.Brought.{alone, apart, brought-unread, on-ok-weaker}
 use Rattle.cc_writes.proofs.Disks.{both_still}
+use Rattle.cc_writes.proofs.Kept.{lands}
 use Rattle.cc_writes.proofs.pages.bring.Goals as goal
 
 pub returns-else-page-div_ceil-clause-both : goal.returns-else-page-div_ceil-clause-both
@@ -47,3 +48,15 @@ bring_read-requires-clause-alone g c κs within =
     let ceil = subst (λ (n : ℕ). nat_lt c.args.page n ≡ nat_lt (4096 * c.args.page) valid)
     (sym (c.div_ceil.ensures ∙ ap (λ (n : ℕ). div_ceil n 4096) (c.valid.ensures (w.setup.opening s) w.seen c.requires.both.book.stands))) (ceil-page c.args.page valid) in
     alone w.setup s c.args.call c.args.page w.seen c.requires.waited (sym ceil ∙ lt-ltb c.args.page c.div_ceil.result c.if-page-div_ceil.true)
+
+pub returns-else-page-div_ceil-clause-kept : goal.returns-else-page-div_ceil-clause-kept
+returns-else-page-div_ceil-clause-kept g c keeps room =
+    let w = g.T.Turns.standing c.args.turns.now in
+    let s = c.args.book.stream in
+    let valid = valid_of (history w.seen s) in
+    let ceil = subst (λ (n : ℕ). nat_lt c.args.page n ≡ nat_lt (4096 * c.args.page) valid)
+    (sym (c.div_ceil.ensures ∙ ap (λ (n : ℕ). div_ceil n 4096) (c.valid.ensures (w.setup.opening s) w.seen c.requires.both.book.stands))) (ceil-page c.args.page valid) in
+    let above : nat_lt (4096 * c.args.page) valid ≡ false = sym ceil ∙ le-ltb c.args.page c.div_ceil.result c.if-page-div_ceil.false in
+    on-ok-weaker c.land.result.1
+    (lands w s c.args.page c.args.call (g.T.Turns.standing c.land.new.turns).seen (ap (λ h. h.book) c.requires.both.book.held) c.requires.both.rest.device c.requires.brings c.requires.waited None room (λ is. above))
+    c.land.ensures.landed

@@ -1,6 +1,6 @@
 -- A page that was read lands; after a failed read the call is still the one that waited; want of memory ends it.
 use Rattle.std.specs.Prelude.{ℕ, List, OnOk, Some}
-use Rattle.std.proofs.Common.{subst, sym}
+use Rattle.std.proofs.Common.{ap, subst, sym}
 use Rattle.cc_entry.specs.declared.entry.Entry.{Entry}
 use Rattle.cc_effects.specs.Calls.{IsUnderWay}
 use Rattle.cc_writes.specs.Ways.{WasWanted}
@@ -9,7 +9,9 @@ use Rattle.cc_writes.proofs.Disks.{still_of}
 use Rattle.cc_writes.specs.Rounds.{IsWanted}
 use Rattle.cc_writes.proofs.ReadFailures.{told_of}
 use Rattle.cc_writes.proofs.Reading.{where_failed}
-use Rattle.cc_writes.specs.Visits.{LandLeft}
+use Rattle.cc_writes.specs.Visits.{IsElsewhere, LandLeft}
+use Rattle.cc_turns.specs.Standing.{Standing}
+use Rattle.cc_writes.proofs.Kept.{is-alone, lands, some-none}
 use Rattle.cc_writes.proofs.Bringing.{is_wanted, left_since, left_wanted}
 use Rattle.cc_writes.proofs.Brought.{brought, brought-not, on-err, on-ok-weaker}
 use Rattle.cc_writes.proofs.pages.bring_read.Goals as goal
@@ -86,3 +88,27 @@ returns-in-Err-Failed-clause-brought g c =
 
 pub returns-in-Err-NoMemory-clause-brought : goal.returns-in-Err-NoMemory-clause-brought
 returns-in-Err-NoMemory-clause-brought g c = on-err _ c.release.result.1 c.release.ensures.failed
+
+pub returns-in-Ok-clause-kept : goal.returns-in-Ok-clause-kept
+returns-in-Ok-clause-kept g c keeps room =
+    let w = g.T.Turns.standing c.args.turns.now in
+    let s = c.args.book.stream in
+    let seen = (g.T.Turns.standing c.land.new.turns).seen in
+    let raw = c.read_page-book.new.raw in
+    on-ok-weaker c.land.result.1
+    (lands w s c.args.page c.args.call seen (ap (λ h. h.book) c.requires.both.book.held) c.requires.both.rest.device c.requires.brings c.requires.waited (Some raw) room (some-none raw))
+    (subst (λ (n : ℕ). OnOk c.land.result.1 (LandLeft w n c.args.call c.args.page (Some raw) seen)) c.read_page-book.ensures.both.book.stream
+    (subst (λ (x : Standing). OnOk c.land.result.1 (LandLeft x c.read_page-book.result.0.stream c.args.call c.args.page (Some raw) seen)) (c.read_page-book.ensures.kept keeps) c.land.ensures.landed))
+
+pub returns-in-Err-Failed-clause-kept : goal.returns-in-Err-Failed-clause-kept
+returns-in-Err-Failed-clause-kept g c keeps room =
+    let w = g.T.Turns.standing c.args.turns.now in
+    let s = c.args.book.stream in
+    let seen = (g.T.Turns.standing c.unread.new.turns).seen in
+    on-ok-weaker c.unread.result.1
+    (is-alone w s c.args.page c.args.call seen (ap (λ h. h.book) c.requires.both.book.held) c.requires.both.rest.device c.requires.brings c.requires.waited c.requires.alone)
+    (subst (λ (n : ℕ). OnOk c.unread.result.1 (IsElsewhere w n c.args.page seen)) c.read_page-book.ensures.both.book.stream
+    (subst (λ (x : Standing). OnOk c.unread.result.1 (IsElsewhere x c.read_page-book.result.0.stream c.args.page seen)) (c.read_page-book.ensures.kept keeps) c.unread.ensures.passed_over))
+
+pub returns-in-Err-NoMemory-clause-kept : goal.returns-in-Err-NoMemory-clause-kept
+returns-in-Err-NoMemory-clause-kept g c keeps room = on-err _ c.release.result.1 c.release.ensures.failed

@@ -4,9 +4,9 @@ use Rattle.cc_step.proofs.Failing.{stepped-answered}
 use Rattle.cc_turns.specs.Standing.{Standing}
 use Rattle.cc_turns.specs.Takes.{without_journal}
 use Rattle.cc_writes.specs.Hands.{HasBook, IsAtRest, SameDisk}
-use Rattle.cc_writes.specs.Visits.{StepLeft, StepWent, IsFullStep}
+use Rattle.cc_writes.specs.Visits.{StepLeft, StepPlaced, StepWent, IsFullStep}
 use Rattle.cc_writes.proofs.Resting.{filed-now, rest-went}
-use Rattle.cc_writes.proofs.VisitStepping.{fill-as, stepped, fits-next, flight_after, few-after, visited-next, disk-next, went-next, left-next, full-next}
+use Rattle.cc_writes.proofs.VisitStepping.{fill-as, stepped, fits-next, flight_after, few-after, visited-next, disk-next, went-next, left-next, full-next, placed-next}
 use Rattle.cc_writes.proofs.Visiting.{few-left, visiting}
 use Rattle.cc_writes.proofs.visits.next_at.Goals as goal
 
@@ -161,3 +161,17 @@ returns-clause-full g c =
     let left = stepped posted w v c.args.call b n j k c.requires.book vis (stepped-answered c.args.call c.requires.stepped) (filed-now w b.stream c.args.call c.requires.filed) c.requires.rest c.me-pass.result c.next-ended.result c.me-pass.ensures c.next-ended.ensures in
     let full = full-next posted w v c.args.call b n j k c.requires.book vis (stepped-answered c.args.call c.requires.stepped) (filed-now w b.stream c.args.call c.requires.filed) c.requires.rest c.requires.stepped c.next-ended.result c.step_of-step.result c.args.out.now c.step_of-step.new.out left c.step_of-step.ensures in
     subst (λ (x : Standing). IsFullStep x c.args.call c.step_of-step.result) (sym c.give_journal.ensures) full
+
+pub returns-clause-placed : goal.returns-clause-placed
+returns-clause-placed g c =
+    let w = g.T.Turns.standing c.args.turns.now in
+    let v = g.T.Turns.standing c.take_journal-journal.new.self in
+    let posted = g.T.Post.PostRoutine.posted in
+    let b = c.args.book.now in
+    let j = c.take_journal-journal.result in
+    let vis = visiting posted w v b.stream b j c.requires.book c.take_journal-journal.ensures.took c.take_journal-journal.ensures.stands in
+    let n = c.next-ended.new.book in
+    let k = c.next-ended.new.journal in
+    let left = stepped posted w v c.args.call b n j k c.requires.book vis (stepped-answered c.args.call c.requires.stepped) (filed-now w b.stream c.args.call c.requires.filed) c.requires.rest c.me-pass.result c.next-ended.result c.me-pass.ensures c.next-ended.ensures in
+    let placed = placed-next posted w v c.args.call b n j k c.requires.book vis (stepped-answered c.args.call c.requires.stepped) (filed-now w b.stream c.args.call c.requires.filed) c.requires.rest c.next-ended.result c.step_of-step.result c.args.out.now c.step_of-step.new.out left c.step_of-step.ensures in
+    subst (λ (x : Standing). StepPlaced w b.stream c.args.call c.step_of-step.result x.seen) (sym c.give_journal.ensures) placed

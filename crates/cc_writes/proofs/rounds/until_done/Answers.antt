@@ -1,0 +1,49 @@
+-- A round goes on from what the rounds before left, with less left to do; where it ends the call, that is the end.
+use Rattle.std.specs.Prelude.{ℕ, ◌<◌}
+use Rattle.std.proofs.Common.{subst}
+use Rattle.cc_writes.specs.Writes.{HasBoth}
+use Rattle.cc_entry.specs.declared.call.Call.{Call}
+use Rattle.cc_writes.specs.Ways.{IsFull}
+use Rattle.cc_writes.specs.Fetch.{most_room}
+use Rattle.cc_writes.specs.Rounds.{HasLess, IsFullCourse, left_for}
+use Rattle.cc_writes.specs.declared.course.Course.{Course}
+use Rattle.cc_writes.specs.declared.course.Course.TheVariants as course
+use Rattle.cc_writes.proofs.Repeated.{HasGoneRound, left_so_far, goes_on}
+use Rattle.cc_writes.proofs.rounds.until_done.Goals as goal
+
+pub returns-in-Ended-clause-left : goal.returns-in-Ended-clause-left
+returns-in-Ended-clause-left g c =
+    let w = g.T.Turns.standing c.args.turns.now in
+    let v = g.T.Turns.standing c.pages.turns in
+    let x = g.T.Turns.standing c.round-now.new.turns in
+    left_so_far g.T.Disk.Told.told g.T.Disk.Told.faults w v x c.args.book.stream c.args.call c.pages.call c.pages.book c.pages.disk
+    c.args.out.now c.pages.out c.round-now.new.out c.pages.invariant.on c.round-now.ensures.went (course.Ended c.in-Ended.answer)
+    (subst (λ (o : Course). HasGoneRound v x c.pages.call o c.pages.out c.round-now.new.out) c.in-Ended.is c.round-now.ensures.left)
+
+pub returns-in-Ended-clause-full : goal.returns-in-Ended-clause-full
+returns-in-Ended-clause-full g c =
+    let x = g.T.Turns.standing c.round-now.new.turns in
+    subst (λ (it : Call). IsFull (most_room it) x c.in-Ended.answer) c.pages.invariant.on.same
+    (subst (λ (o : Course). IsFullCourse (most_room c.pages.call) x o) c.in-Ended.is c.round-now.ensures.full)
+
+pub pages-preserved : goal.pages-preserved
+pages-preserved g c =
+    let w = g.T.Turns.standing c.args.turns.now in
+    let v = g.T.Turns.standing c.pages.turns in
+    let x = g.T.Turns.standing c.round-now.new.turns in
+    record {
+      on =
+          goes_on g.T.Disk.Told.told g.T.Disk.Told.faults w v x c.args.book.stream c.args.call c.pages.call c.pages.book c.pages.disk
+          c.args.out.now c.pages.out c.round-now.new.out c.pages.invariant.on c.round-now.ensures.went c.in-Goes.again c.round-now.result.0 c.round-now.new.disk
+          (subst (λ (n : ℕ). HasBoth g.T.Disk.Told.told g.T.Disk.Told.faults x n c.round-now.result.0 c.round-now.new.disk) c.pages.invariant.on.both.book.stream c.round-now.ensures.both)
+          (subst (λ (o : Course). HasGoneRound v x c.pages.call o c.pages.out c.round-now.new.out) c.in-Goes.is c.round-now.ensures.left);
+      kept = c.round-now.ensures.kept c.pages.invariant.kept;
+    }
+
+pub pages-smaller : goal.pages-smaller
+pages-smaller g c =
+    let v = g.T.Turns.standing c.pages.turns in
+    let x = g.T.Turns.standing c.round-now.new.turns in
+    subst (λ (n : ℕ). left_for n c.args.call x.seen < left_for n c.args.call v.seen) c.pages.invariant.on.both.book.stream
+    (subst (λ (a : Call). left_for c.pages.book.stream a x.seen < left_for c.pages.book.stream a v.seen) c.pages.invariant.on.same
+    (subst (λ (o : Course). HasLess c.pages.book.stream c.pages.call o v.seen x.seen) c.in-Goes.is (c.round-now.ensures.lessens c.pages.invariant.kept)))
