@@ -123,11 +123,11 @@ numbered u s page past good below = number (size_of (history past s)) below (siz
     number size inside most = omega (arith, inside, most)
 
 -- a dirty page starts below the size
-dirty-below : (u : Setup) (s page : ℕ) (past : List Entry) → IsGood u past → is_dirty (history past s) page ≡ true → 4096 * page < size_of (history past s)
+pub dirty-below : (u : Setup) (s page : ℕ) (past : List Entry) → IsGood u past → is_dirty (history past s) page ≡ true → 4096 * page < size_of (history past s)
 dirty-below u s page past good dirty =
     resident-below u past s page (so-far u past good) (dirty-resident (history past s) page (good-safe u past s (so-far u past good)) dirty)
 
-has-write : (dirty unstamped : Bool) → (not dirty || unstamped) ≡ false → (dirty ≡ true) × (unstamped ≡ false)
+pub has-write : (dirty unstamped : Bool) → (not dirty || unstamped) ≡ false → (dirty ≡ true) × (unstamped ≡ false)
 has-write true false is = (refl, refl)
 has-write true true is = absurd (cc)
 has-write false unstamped is = absurd (cc)

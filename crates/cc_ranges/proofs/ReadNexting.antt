@@ -1,5 +1,5 @@
 -- The next step of the read of a page, in a visit with the stream's disk in hand.
-use Rattle.std.specs.Prelude.{◌≡◌, ℕ, suc, ◌+◌, ◌≤◌, Bool, true, Ok, List, [], ◌∷◌, Some, refl}
+use Rattle.std.specs.Prelude.{◌≡◌, ℕ, suc, ◌+◌, ◌*◌, ◌<◌, ◌≤◌, Bool, true, Ok, List, [], ◌∷◌, Some, refl}
 use Rattle.std.proofs.Common.{ap, sym, ◌∙◌, subst, arith, inl, inr}
 use Rattle.cc_entry.specs.Place.{File}
 use Rattle.cc_entry.specs.declared.call.Call.{Call}
@@ -11,10 +11,12 @@ use Rattle.cc_book.specs.Book.{BookState, done}
 use Rattle.cc_effects.specs.Calls.{CallLeft, IsUnderWay, WasWritten, has_no_write}
 use Rattle.cc_step.specs.Fill.{MayFill}
 use Rattle.cc_journal.specs.Journal.{JournalState}
-use Rattle.cc_model.specs.History.{history}
+use Rattle.cc_model.specs.History.{Effect, history}
 use Rattle.cc_model.specs.Holds.{holds_of}
 use Rattle.cc_model.specs.Passes.{calls_of}
 use Rattle.cc_model.specs.Setup.{Setup}
+use Rattle.cc_model.specs.Stamps.{is_unstamped}
+use Rattle.cc_model.specs.Touches.{is_dirty, size_of}
 use Rattle.cc_step.specs.Step.{StandUnder}
 use Rattle.cc_turns.specs.Standing.{Standing}
 use Rattle.cc_turns.specs.Takes.{without_journal}
@@ -22,15 +24,16 @@ use Rattle.cc_writes.specs.Hands.{HasBook, IsAtRest, SameDisk, WentWith}
 use Rattle.cc_writes.specs.Visits.{IsFiledNow}
 use Rattle.cc_writes.proofs.Attempting.{number-is, visited-refused, visited-same, left-refused, left-stopped, full-refused, full-stop}
 use Rattle.cc_writes.proofs.VisitDisks.{disk-same, disk-call}
-use Rattle.cc_writes.proofs.Placing.{stepping-none}
+use Rattle.cc_writes.proofs.Landing.{history-held}
+use Rattle.cc_writes.proofs.Placing.{has-book, stepping-none}
 use Rattle.cc_writes.proofs.Refusals.{stops-free}
 use Rattle.cc_writes.proofs.VisitStepping.{disk-grew, fill-as}
 use Rattle.cc_writes.proofs.Visiting.{Visiting, Visited, visited}
 use Rattle.cc_ranges.specs.ReadSteps.{NextLeft, HasNone, HasToRead, IsClean}
-use Rattle.cc_ranges.specs.ReadVisits.{page_in, ReadEnded, IsReading, IsAtRead, IsToWriteFirst, LookLeft, LookAsks, LookWent, IsFullLook, look_of}
+use Rattle.cc_ranges.specs.ReadVisits.{page_in, ReadEnded, IsReading, IsAtRead, IsToWriteFirst, IsBelow, LookLeft, LookAsks, LookWent, IsFullLook, look_of}
 use Rattle.cc_ranges.specs.declared.read_steps.Next.{Next}
 use Rattle.cc_ranges.specs.declared.read_steps.Next.TheVariants as next
-use Rattle.cc_ranges.proofs.ReadCalls.{read-filed, reading-on, clean-written, done-left, reached-at, write-asked, numbered}
+use Rattle.cc_ranges.proofs.ReadCalls.{read-filed, reading-on, clean-written, done-left, reached-at, write-asked, numbered, dirty-below, has-write}
 use Rattle.cc_ranges.proofs.Misshapen.{read-unshaped, stop-met}
 use Rattle.cc_ranges.proofs.ReadPlacing.{owes, stepping-read}
 
@@ -168,6 +171,22 @@ module _ {Q : Type 0} (posted : Q → Bool) (w v : Standing) (file : File) (page
   )
   asks-next next.Reads left = numbered w.setup b.stream page j.entries vis.stand.good left.below
   asks-next (next.Stopped e) left = tt
+
+  since : 4096 * page < size_of (history j.entries b.stream) → 4096 * page < size_of (history w.seen file.stream)
+  since below =
+      subst (λ (n : ℕ). 4096 * page < size_of (history w.seen n)) here
+      (subst (λ (h : List Effect). 4096 * page < size_of h) (history-held w b.stream j.entries (has-book posted w v b c j k has vis) rest.device vis.grows) below)
+
+  -- a page that it asks for begins below the size, as it did before the visit
+  pub below-next : (ended : Next) → NextLeft w.setup w.number file page written ended b c j k → IsBelow page (look_of ended) (history w.seen file.stream)
+  below-next next.Done left = tt
+  below-next (next.Refused e) left = tt
+  below-next next.Writes left =
+      since
+      (dirty-below w.setup b.stream page j.entries vis.stand.good
+      (has-write (is_dirty (history j.entries b.stream) page) (is_unstamped (history j.entries b.stream) page) left.has_write).0)
+  below-next next.Reads left = since left.below
+  below-next (next.Stopped e) left = tt
 
   pub full-next : (ended : Next) → NextLeft w.setup w.number file page written ended b c j k → IsFullLook (without_journal k v) (look_of ended)
   full-next next.Done left = tt

@@ -1,5 +1,5 @@
 -- The write of a page with the disk and the book of its stream in hand: its rounds, and how they go on.
-use Rattle.std.specs.Prelude.{◌≡◌, ℕ, ◌<◌, true, Result, Ok, Err, IfErr, IfOk, List, refl}
+use Rattle.std.specs.Prelude.{◌≡◌, ℕ, ◌<◌, Bool, true, Result, Ok, Err, IfErr, IfOk, List, refl}
 use Rattle.std.specs.declared.option.Option.{Option}
 use Rattle.std.proofs.Common.{ap, sym, ◌∙◌, subst, inl}
 use Rattle.cc_entry.specs.Place.{File, Page}
@@ -7,7 +7,6 @@ use Rattle.cc_entry.specs.declared.call.Call.{Call}
 use Rattle.cc_entry.specs.declared.call.Call.TheVariants as call
 use Rattle.cc_entry.specs.declared.entry.Entry.{Entry}
 use Rattle.cc_entry.specs.declared.error.CcError.{CcError}
-use Rattle.cc_entry.specs.declared.error.CcError.TheVariants as error
 use Rattle.cc_traits.specs.Disk.{Disk}
 use Rattle.cc_book.specs.Book.{BookState}
 use Rattle.cc_effects.specs.Asked.{Calls, asks_write, is_in_the_way, may_write}
@@ -18,10 +17,11 @@ use Rattle.cc_writes.specs.Hands.{Went, WentWith}
 use Rattle.cc_writes.specs.Ways.{IsAtWork, IsReason}
 use Rattle.cc_writes.specs.Calls.{KeepsWork, MayFaultInWriting, PageLeft}
 use Rattle.cc_writes.specs.Writes.{HasBoth}
-use Rattle.cc_writes.proofs.Halting.{no-memory}
 use Rattle.cc_writes.proofs.OneVisit.{went-then}
 use Rattle.cc_writes.proofs.Works.{either}
-use Rattle.cc_ranges.specs.WriteHeld.{RoundLeft, round_of}
+use Rattle.cc_writes.specs.Rounds.{course_of}
+use Rattle.cc_writes.specs.Rounds.{HasLess as CallHasLess}
+use Rattle.cc_ranges.specs.WriteHeld.{HasLess, RoomLeft, RoundLeft, round_of}
 use Rattle.cc_ranges.specs.WriteHeld.{PageLeft as PageLeftBy}
 use Rattle.cc_ranges.specs.WriteVisits.{IsTurnedAway, IsWriting, page_in}
 use Rattle.cc_ranges.specs.declared.write_held.Round.{Round}
@@ -64,9 +64,17 @@ module _ (w v : Standing) (file : File) (page dirty s : ℕ) (seen : List Entry)
       (subst (λ (u : Setup). IsTurnedAway u v.number file page e begun seen) setup
       (unshaped v.setup s it e tt reason, left begun (subst (λ (n : ℕ). IsUnderWay n it begun v.seen) (sym number) is.way)))
 
--- where the rounds end without a room for its page, the write leaves nothing but what it placed
-pub spent : (u : Setup) (me : ℕ) (file : File) (page : ℕ) (begun new : List Entry) → IsWriting me file page begun new → IsTurnedAway u me file page error.NoMemory begun new
-spent u me file page begun new is = (refl, no-memory me (call.NcWrite file page) begun new refl refl is.way)
+-- where a page was written for it, it has less left to do
+pub less-round : (file : File) (page : ℕ) (r : Result Call CcError) (old new : List Entry) → CallHasLess file.stream (call.NcWrite file page) (course_of r) old new → HasLess file page (round_of r) old new
+less-round file page (Ok again) old new less = less
+less-round file page (Err e) old new less = tt
+
+-- what it leaves from a moment at which it was under way, where nothing else was placed for it
+pub since-left : (w v : Standing) (file : File) (page : ℕ) (r : Result (Unit {0}) CcError) (begun seen : List Entry) → Went w v → IsWriting w.number file page begun v.seen → ((begun : List Entry) → IsWriting v.number file page begun v.seen → RoomLeft v.setup v.number file page r begun seen) → RoomLeft w.setup w.number file page r begun seen
+since-left w v file page r begun seen went is left =
+    subst (λ (n : ℕ). RoomLeft w.setup n file page r begun seen) (ap (λ (y : Standing). y.number) went.same)
+    (subst (λ (u : Setup). RoomLeft u v.number file page r begun seen) (ap (λ (y : Standing). y.setup) went.same)
+    (left begun (subst (λ (n : ℕ). IsWriting n file page begun v.seen) (sym (ap (λ (y : Standing). y.number) went.same)) is)))
 
 -- How the rounds go on: what is in hand stands, and a write that was under way as they began is still.
 pub record ComesOn {D : Type 0} (told : D → Option Disk) (faults : D → ℕ) (w v : Standing) (file : File) (page : ℕ) (b : BookState) (disk : D)
@@ -77,6 +85,12 @@ pub record ComesOn {D : Type 0} (told : D → Option Disk) (faults : D → ℕ) 
   pub none : v.in_flight ≡ 0
   pub went : Went w v
   pub left : (begun : List Entry) → IsWriting w.number file page begun w.seen → IsWriting w.number file page begun v.seen
+
+-- The same with the book kept until the page is ready.
+pub record ComesOnKept {D : Type 0} (told : D → Option Disk) (faults : D → ℕ) (w v : Standing) (file : File) (page : ℕ) (b : BookState) (disk : D)
+    (keeps : Bool) : Type 0 where
+  pub on : ComesOn told faults w v file page b disk
+  pub kept : keeps ≡ true
 
 module _ {D : Type 0} (told : D → Option Disk) (faults : D → ℕ) (w v x : Standing) (file : File) (page : ℕ) (b c : BookState) (disk now : D)
     (on : ComesOn told faults w v file page b disk) where

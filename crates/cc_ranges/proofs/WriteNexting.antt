@@ -19,9 +19,9 @@ use Rattle.cc_model.specs.Passes.{calls_of}
 use Rattle.cc_model.specs.Setup.{Setup}
 use Rattle.cc_step.specs.Step.{StandUnder}
 use Rattle.cc_turns.specs.Standing.{Standing}
-use Rattle.cc_turns.specs.Takes.{without_journal}
+use Rattle.cc_turns.specs.Takes.{Grows, without_journal}
 use Rattle.cc_writes.specs.Hands.{HasBook, IsAtRest, SameDisk}
-use Rattle.cc_writes.specs.Visits.{IsFiledNow, IsOf}
+use Rattle.cc_writes.specs.Visits.{HasGoneOut, IsFiledNow, IsOf}
 use Rattle.cc_writes.proofs.Attempting.{number-is, visited-refused, visited-same, left-refused, left-stopped, full-refused, full-stop}
 use Rattle.cc_writes.proofs.VisitDisks.{disk-same, disk-call, disk-page_out}
 use Rattle.cc_writes.proofs.Others.{under_way-on}
@@ -34,7 +34,7 @@ use Rattle.cc_writes.proofs.Visiting.{Visiting, Visited, visited}
 use Rattle.cc_writes.proofs.Halting.{at-work, under-way}
 use Rattle.cc_ranges.specs.Stores.{IsReadyToStore}
 use Rattle.cc_ranges.specs.WriteSteps.{HasRoom, NextLeft}
-use Rattle.cc_ranges.specs.WriteVisits.{IsAsking, IsFullStep, IsInTheWay, IsWriting, StepLeft, page_in, step_of}
+use Rattle.cc_ranges.specs.WriteVisits.{IsAsking, IsFullStep, IsInTheWay, IsWriting, StepLeft, StepPlaced, page_in, step_of}
 use Rattle.cc_ranges.specs.declared.write_steps.Next.{Next}
 use Rattle.cc_ranges.specs.declared.write_steps.Next.TheVariants as next
 use Rattle.cc_ranges.proofs.Misshapen.{stop-met, unshaped}
@@ -156,6 +156,21 @@ module _ {Q : Type 0} (posted : Q → Bool) (w v : Standing) (file : File) (page
   asking next.WentOut left = tt
   asking (next.Writes dirty) left = in-way dirty left.0 left.1
   asking (next.Stopped e) left = tt
+
+  -- and what it placed
+  pub placed-next : (ended : Next) → NextLeft w.setup w.number file page ended b c j k → StepPlaced w file page (step_of ended) k.entries
+  placed-next (next.Refused e) left = tt
+  placed-next next.Ready left = tt
+  placed-next next.WentOut left =
+      subst (λ (n : ℕ). HasGoneOut w n it k.entries) here
+      (record {
+        page = left.1.page;
+        placed = record { front = j.entries; grows = vis.grows; placed = ap (λ (x : JournalState Q). x.entries) left.1.placed };
+        next = left.1.next;
+        resident = left.1.resident;
+      })
+  placed-next (next.Writes dirty) left = subst (λ (x : JournalState Q). Grows w x.entries) (sym left.1.same_journal) vis.grows
+  placed-next (next.Stopped e) left = tt
 
   pub full-next : (ended : Next) → NextLeft w.setup w.number file page ended b c j k → IsFullStep (without_journal k v) (step_of ended)
   full-next (next.Refused e) left = full-refused posted w v it b c j k has vis refl filed (Unit {0}) 1 e left

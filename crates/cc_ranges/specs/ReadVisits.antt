@@ -1,5 +1,5 @@
 -- What the visits of a page of a noncached read leave of it, from whichever moment it is under way.
-use Rattle.std.specs.Prelude.{◌≡◌, ℕ, ◌<◌, ◌≤◌, ◌^◌, Bool, true, false, Result, Ok, Err, List, length, take, drop}
+use Rattle.std.specs.Prelude.{◌≡◌, ℕ, ◌*◌, ◌<◌, ◌≤◌, ◌^◌, Bool, true, false, Result, Ok, Err, List, length, take, drop}
 use Rattle.std.specs.declared.option.Option.TheVariants.{None}
 use Rattle.cc_entry.specs.Place.{File, Page}
 use Rattle.cc_entry.specs.declared.call.Call.TheVariants as call
@@ -13,10 +13,11 @@ use Rattle.cc_effects.specs.Asked.{reaches}
 use Rattle.cc_effects.specs.Calls.{CallLeft, IsUnderWay, WasWritten}
 use Rattle.cc_effects.specs.Noncached.{is_of_shape}
 use Rattle.cc_effects.specs.PageWrites.{has_end}
-use Rattle.cc_model.specs.History.{history}
+use Rattle.cc_model.specs.History.{Effect, history}
 use Rattle.cc_model.specs.Refusals.{refusal}
 use Rattle.cc_model.specs.Setup.{Setup}
 use Rattle.cc_model.specs.Sizes.{ended_ok}
+use Rattle.cc_model.specs.Touches.{size_of}
 use Rattle.cc_turns.specs.Standing.{Standing}
 use Rattle.cc_writes.specs.Hands.{Went, WentWith}
 use Rattle.cc_writes.specs.Told.{FitsLast, ToldLast}
@@ -89,6 +90,12 @@ abbrev pub LookAsks : Setup → File → ℕ → Bool → Look → List Entry �
 LookAsks u file page written (look.Ended answer) seen = Unit {0}
 LookAsks u file page written look.Writes seen = (written ≡ false) × IsToWriteFirst u file page seen
 LookAsks u file page written look.Reads seen = page < 2 ^ 51
+
+-- A page that is written or read begins below the size, as the stream stands.
+abbrev pub IsBelow : ℕ → Look → List Effect → Type 0
+IsBelow page (look.Ended answer) h = Unit {0}
+IsBelow page look.Writes h = 4096 * page < size_of h
+IsBelow page look.Reads h = 4096 * page < size_of h
 
 -- The pass goes on as it stood; before the disk is read it has a place reserved.
 abbrev pub LookWent : Look → Standing → Standing → Type 0

@@ -1,12 +1,14 @@
 -- What the write of a page leaves, with the disk and the book of its stream in hand.
-use Rattle.std.specs.Prelude.{ℕ, Result, Ok, Err, List}
+use Rattle.std.specs.Prelude.{ℕ, ◌<◌, Result, Ok, Err, List}
 use Rattle.cc_entry.specs.Place.{File}
 use Rattle.cc_entry.specs.declared.call.Call.{Call}
+use Rattle.cc_entry.specs.declared.call.Call.TheVariants as call
 use Rattle.cc_entry.specs.declared.entry.Entry.{Entry}
 use Rattle.cc_entry.specs.declared.error.CcError.{CcError}
 use Rattle.cc_effects.specs.Noncached.{IsPageWritten, PageRefused}
 use Rattle.cc_model.specs.Setup.{Setup}
 use Rattle.cc_turns.specs.Standing.{Standing}
+use Rattle.cc_writes.specs.Rounds.{left_for}
 use Rattle.cc_writes.specs.Ways.{IsFullError}
 use Rattle.cc_ranges.specs.Stores.{IsReadyToStore}
 use Rattle.cc_ranges.specs.WriteVisits.{IsTurnedAway, IsWriting, page_in}
@@ -46,3 +48,9 @@ IsFullRound asked w other = Unit {0}
 abbrev pub round_of : Result Call CcError → Round
 round_of (Ok again) = round.GoesOn
 round_of (Err e) = round.Ended e
+
+-- a write that goes on has less left to do
+abbrev pub HasLess : File → ℕ → Round → List Entry → List Entry → Type 0
+HasLess file page round.GoesOn old new =
+    left_for file.stream (call.NcWrite file page) new < left_for file.stream (call.NcWrite file page) old
+HasLess file page other old new = Unit {0}

@@ -13,6 +13,8 @@ use Rattle.cc_model.specs.History.{history}
 use Rattle.cc_model.specs.Refusals.{refusal}
 use Rattle.cc_model.specs.Setup.{Setup}
 use Rattle.cc_turns.specs.Standing.{Standing}
+use Rattle.cc_turns.specs.Takes.{Grows}
+use Rattle.cc_writes.specs.Visits.{HasGoneOut}
 use Rattle.cc_writes.specs.Ways.{IsAtWork, IsFullError}
 use Rattle.cc_writes.specs.Writes.{IsToWrite}
 use Rattle.cc_ranges.specs.Stores.{IsReadyToStore}
@@ -55,6 +57,13 @@ IsAsking u file page (step.Ended e) past = Unit {0}
 IsAsking u file page step.Ready past = IsReadyToStore u past file (page_in file page)
 IsAsking u file page (step.Writes dirty) past = IsInTheWay u file page dirty past
 IsAsking u file page step.GoesOn past = Unit {0}
+
+-- What a step placed, by cases: nothing, or that a page of the block to give up went out.
+abbrev pub StepPlaced : Standing → File → ℕ → Step → List Entry → Type 0
+StepPlaced w file page (step.Ended e) seen = Unit {0}
+StepPlaced w file page step.Ready seen = Unit {0}
+StepPlaced w file page (step.Writes dirty) seen = Grows w seen
+StepPlaced w file page step.GoesOn seen = HasGoneOut w file.stream (call.NcWrite file page) seen
 
 -- a write that found no room, with one place asked
 abbrev pub IsFullStep : Standing → Step → Type 0

@@ -1,9 +1,11 @@
 //! A page of a noncached read, with the disk and the book of its stream in hand.
 
-ghost use Rattle.std.specs.Prelude.{◌≡◌, ℕ, ◌<◌, ◌^◌, true, List, Err, length};
+ghost use Rattle.std.specs.Prelude.{◌≡◌, ℕ, ◌*◌, ◌<◌, ◌≤◌, ◌^◌, true, List, Err, length};
 ghost use Rattle.cc_entry.specs.declared.call.Call.TheVariants as call;
 ghost use Rattle.cc_entry.specs.declared.entry.Entry.{Entry};
 ghost use Rattle.cc_effects.specs.Calls.{IsUnderWay};
+ghost use Rattle.cc_model.specs.History.{history};
+ghost use Rattle.cc_model.specs.Touches.{size_of};
 ghost use Rattle.cc_writes.specs.Hands.{HasBook, IsAtRest, SameDisk, Went, WentWith};
 ghost use Rattle.cc_writes.specs.Ways.{IsFull, IsFullError};
 ghost use Rattle.cc_writes.specs.Writes.{HasBoth};
@@ -19,7 +21,8 @@ use cc_writes::{fail_at, read_free, release_at, write_for};
 use std::alloc::Global;
 
 /// Reads a page of a stream, noncached, into the front of `out`, and answers how many bytes it has. The page is
-/// written first where it is dirty and no pin owes it a stamp. Where it is resident the bytes are its frame's.
+/// written first where it is dirty and no pin owes it a stamp. Where it is resident the bytes are its frame's. Nothing is
+/// asked of the disk for a page that begins at the size or past it.
 ///
 /// `NotCached`, `ReadFault`, `WriteFault`, `LogFault`, `JournalFull`, `NoMemory`.
 pub(crate) fn read_held<T: Turns>(
@@ -42,6 +45,7 @@ pub(crate) fn read_held<T: Turns>(
         IsUnderWay (T.standing turns.old).number (call.NcRead file page) begun (T.standing turns.old).seen →
         ReadEnded (T.standing turns.old).setup (T.standing turns.old).number file page result.1
         begun (T.standing turns.new).seen out.old out.new }
+    ensures unread { size_of (history (T.standing turns.old).seen file.stream) ≤ 4096 * page → disk.new ≡ disk.old }
     ensures full { IsFull 2 (T.standing turns.new) result.1 }
 {
     match look_at(alloc, turns, &mut book, file, page, false) {

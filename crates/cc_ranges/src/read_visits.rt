@@ -6,13 +6,14 @@ ghost use Rattle.cc_entry.specs.declared.error.CcError.TheVariants as error;
 ghost use Rattle.cc_entry.specs.declared.call.Call.TheVariants as call;
 ghost use Rattle.cc_book.specs.Book.{Gains};
 ghost use Rattle.cc_model.specs.Good.{IsGood};
+ghost use Rattle.cc_model.specs.History.{history};
 ghost use Rattle.cc_model.specs.Setup.{Setup};
 ghost use Rattle.cc_turns.specs.Transfers.{fill_failed};
 ghost use Rattle.cc_writes.specs.Hands.{HasBook, IsAtRest, SameDisk, Went, WentWith};
 ghost use Rattle.cc_writes.specs.Told.{FitsLast, ToldLast};
 ghost use Rattle.cc_writes.specs.Visits.{HasPlaced};
 ghost use Rattle.cc_writes.specs.Ways.{IsFull, IsHalted};
-ghost use Rattle.cc_ranges.specs.ReadVisits.{FitsEnded, IsAtRead, IsFullLook, IsReading, LookAsks, LookLeft};
+ghost use Rattle.cc_ranges.specs.ReadVisits.{FitsEnded, IsAtRead, IsBelow, IsFullLook, IsReading, LookAsks, LookLeft};
 ghost use Rattle.cc_ranges.specs.ReadVisits.{LookWent, ReadEnded, ToldEnded, WasReadHere, count_of, look_of, page_in};
 
 use crate::read_steps::{Ended, Next, end, next_step};
@@ -55,6 +56,7 @@ pub(crate) fn look_at<T: Turns>(
         LookLeft (T.standing turns.old).setup (T.standing turns.old).number file page result
         begun (T.standing turns.new).seen }
     ensures asks { LookAsks (T.standing turns.old).setup file page written result (T.standing turns.new).seen }
+    ensures below { IsBelow page result (history (T.standing turns.old).seen file.stream) }
     ensures full { IsFullLook (T.standing turns.new) result }
 {
     let mut journal = turns.take_journal();

@@ -1,12 +1,12 @@
 //! The noncached write of a page, with the disk and the book of its stream in hand.
 
-ghost use Rattle.std.specs.Prelude.{◌≡◌, ◌<◌, ◌≤◌, List, OnOk};
+ghost use Rattle.std.specs.Prelude.{◌≡◌, ◌<◌, ◌≤◌, true, List, OnOk};
 ghost use Rattle.cc_entry.specs.declared.entry.Entry.{Entry};
 ghost use Rattle.cc_writes.specs.Hands.{Went};
 ghost use Rattle.cc_writes.specs.Ways.{IsFull};
 ghost use Rattle.cc_writes.specs.Writes.{HasBoth};
 ghost use Rattle.cc_ranges.specs.Stores.{IsReadyToStore};
-ghost use Rattle.cc_ranges.specs.WriteHeld.{IsFullRound, IsReadyAfter, PageLeft, RoomLeft, RoundLeft, RoundReady, round_of};
+ghost use Rattle.cc_ranges.specs.WriteHeld.{HasLess, IsFullRound, IsReadyAfter, PageLeft, RoomLeft, RoundLeft, RoundReady, round_of};
 ghost use Rattle.cc_ranges.specs.WriteVisits.{IsWriting, page_in};
 
 use crate::pages::put_page;
@@ -17,8 +17,8 @@ use cc_turns::Turns;
 use cc_writes::{LogFlush, Rounds, fail_at, flush_log, write_for};
 use std::alloc::Global;
 
-// More rounds than the write of a page takes that makes room: the 64 pages of the block to give up are written with the
-// book free, then with the book kept, and go out.
+// After so many rounds the book is kept until the page is ready. The write of a page takes fewer that makes room: the 64
+// pages of the block to give up are written with the book free, then with the book kept, and go out.
 const ROUNDS: u32 = 256;
 
 // How the write of a page stands after a round.
@@ -94,7 +94,41 @@ fn make_room<T: Turns>(
             Round::GoesOn => {}
         }
     }
-    (book, Err(CcError::NoMemory))
+    make_room_kept(alloc, turns, disk, book, file, page)
+}
+
+// Goes on in rounds with the book kept, until the page is ready to be stored. Each round leaves less to do.
+fn make_room_kept<T: Turns>(
+    alloc: Global,
+    turns: &mut T,
+    disk: &mut T::Disk,
+    mut book: Book,
+    file: FileId,
+    page: u64,
+) -> (Book, Result<(), CcError>)
+    requires known { book.stream < (T.standing turns.old).streams }
+    requires stream { book.stream ≡ file.stream }
+    requires both { HasBoth T.Disk.told T.Disk.faults (T.standing turns.old) book.stream book disk.old }
+    requires none { (T.standing turns.old).in_flight ≡ 0 }
+    ensures both { HasBoth T.Disk.told T.Disk.faults (T.standing turns.new) book.stream result.0 disk.new }
+    ensures went { Went (T.standing turns.old) (T.standing turns.new) }
+    ensures left { (begun : List Entry) →
+        IsWriting (T.standing turns.old).number file page begun (T.standing turns.old).seen →
+        RoomLeft (T.standing turns.old).setup (T.standing turns.old).number file page result.1
+        begun (T.standing turns.new).seen }
+    ensures ready { OnOk result.1 (IsReadyAfter (T.standing turns.new) file page) }
+    ensures full { IsFull 2 (T.standing turns.new) result.1 }
+{
+    let mut rounds = Rounds::kept();
+    'pages: loop {
+        let (now, came) = advance(alloc, turns, disk, book, file, page, &mut rounds);
+        book = now;
+        match came {
+            Round::Ended(error) => return (book, Err(error)),
+            Round::Ready => return (book, Ok(())),
+            Round::GoesOn => {}
+        }
+    }
 }
 
 // One round: the next step, with the writing of the page that it asks for.
@@ -118,6 +152,9 @@ fn advance<T: Turns>(
         RoundLeft (T.standing turns.old).setup (T.standing turns.old).number file page result.1
         begun (T.standing turns.new).seen }
     ensures ready { RoundReady (T.standing turns.new) file page result.1 }
+    ensures kept { rounds.old.kept ≡ true → rounds.new.kept ≡ true }
+    ensures lessens { rounds.old.kept ≡ true →
+        HasLess file page result.1 (T.standing turns.old).seen (T.standing turns.new).seen }
     ensures full { IsFullRound 2 (T.standing turns.new) result.1 }
 {
     match next_at(alloc, turns, &mut book, file, page) {

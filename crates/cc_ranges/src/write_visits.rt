@@ -3,7 +3,7 @@
 ghost use Rattle.std.specs.Prelude.{◌≡◌, List};
 ghost use Rattle.cc_entry.specs.declared.entry.Entry.{Entry};
 ghost use Rattle.cc_writes.specs.Hands.{HasBook, IsAtRest, SameDisk, Went};
-ghost use Rattle.cc_ranges.specs.WriteVisits.{IsAsking, IsFullStep, IsWriting, StepLeft, step_of};
+ghost use Rattle.cc_ranges.specs.WriteVisits.{IsAsking, IsFullStep, IsWriting, StepLeft, StepPlaced, step_of};
 
 use crate::write_steps::{Next, next_step};
 use cc_book::Book;
@@ -44,6 +44,7 @@ pub(crate) fn next_at<T: Turns>(
         StepLeft (T.standing turns.old).setup (T.standing turns.old).number file page result
         begun (T.standing turns.new).seen }
     ensures asking { IsAsking (T.standing turns.old).setup file page result (T.standing turns.new).seen }
+    ensures placed { StepPlaced (T.standing turns.old) file page result (T.standing turns.new).seen }
     ensures full { IsFullStep (T.standing turns.new) result }
 {
     let mut journal = turns.take_journal();

@@ -1,6 +1,6 @@
 -- By the first look: the read ended, its dirty page is written first, or a place is reserved and the disk is read.
 use Rattle.std.specs.Prelude.{ℕ, false, List}
-use Rattle.std.proofs.Common.{sym, ◌∙◌, subst}
+use Rattle.std.proofs.Common.{sym, ◌∙◌, subst, arith}
 use Rattle.cc_entry.specs.declared.entry.Entry.{Entry}
 use Rattle.cc_effects.specs.Calls.{IsUnderWay}
 use Rattle.cc_effects.proofs.Starts.{begins}
@@ -79,3 +79,9 @@ returns-in-Reads-clause-left g c begun is =
     let page = c.args.page in
     said-before (λ u n. ReadEnded u n file page c.read_disk.result.1 begun (g.T.Turns.standing c.read_disk.new.turns).seen c.args.out.now c.read_disk.new.out) 1 w v c.in-Reads.ensures.went
     (c.read_disk.ensures.left begun (said-after (λ u n. IsAtRead u n file page begun v.seen) 1 w v c.in-Reads.ensures.went (c.in-Reads.ensures.left begun (begins-reading w.number file page begun w.seen is))))
+
+pub returns-in-Writes-clause-unread : goal.returns-in-Writes-clause-unread
+returns-in-Writes-clause-unread g c beyond = absurd (omega (arith, beyond, c.in-Writes.ensures.below))
+
+pub returns-in-Reads-clause-unread : goal.returns-in-Reads-clause-unread
+returns-in-Reads-clause-unread g c beyond = absurd (omega (arith, beyond, c.in-Reads.ensures.below))

@@ -2,14 +2,15 @@
 -- for the reading of the disk stays reserved.
 use Rattle.std.specs.Prelude.{ℕ}
 use Rattle.std.proofs.Common.{sym, subst}
+use Rattle.cc_model.specs.History.{history}
 use Rattle.cc_turns.specs.Standing.{Standing}
 use Rattle.cc_turns.specs.Takes.{without_journal}
 use Rattle.cc_writes.specs.Hands.{HasBook, IsAtRest, SameDisk}
 use Rattle.cc_writes.proofs.Resting.{rest-went}
 use Rattle.cc_writes.proofs.Visiting.{few-left, visiting}
-use Rattle.cc_ranges.specs.ReadVisits.{LookAsks, LookLeft, LookWent, IsFullLook, look_of}
+use Rattle.cc_ranges.specs.ReadVisits.{IsBelow, LookAsks, LookLeft, LookWent, IsFullLook, look_of}
 use Rattle.cc_ranges.specs.declared.read_visits.Look.{Look}
-use Rattle.cc_ranges.proofs.ReadNexting.{may-next, stepped, flight_after, few-after, visited-next, disk-next, went-next, left-next, asks-next, full-next}
+use Rattle.cc_ranges.proofs.ReadNexting.{may-next, stepped, flight_after, few-after, visited-next, disk-next, went-next, left-next, asks-next, below-next, full-next}
 use Rattle.cc_ranges.proofs.read_visits.look_at.Goals as goal
 
 pub next_step-went-requires : goal.next_step-went-requires
@@ -218,6 +219,27 @@ returns-clause-asks g c =
     let left = stepped posted w v file page written b n j k has vis here rest c.me-pass.result ended c.me-pass.ensures c.next_step-went.ensures in
     subst (λ (r : Look). LookAsks w.setup file page written r (g.T.Turns.standing c.give_journal.new.self).seen) (sym c.look_of.ensures)
     (subst (λ (x : Standing). LookAsks w.setup file page written (look_of ended) x.seen) (sym c.give_journal.ensures) (asks-next posted w v file page written b n j k has vis here rest ended left))
+
+pub returns-clause-below : goal.returns-clause-below
+returns-clause-below g c =
+    let w = g.T.Turns.standing c.args.turns.now in
+    let v = g.T.Turns.standing c.take_journal-journal.new.self in
+    let posted = g.T.Post.PostRoutine.posted in
+    let file = c.args.file in
+    let b = c.args.book.now in
+    let j = c.take_journal-journal.result in
+    let here = c.requires.book.stream in
+    let has = subst (λ (n : ℕ). HasBook w n b) (sym here) c.requires.book in
+    let rest = subst (λ (n : ℕ). IsAtRest w n) (sym here) c.requires.rest in
+    let vis = visiting posted w v b.stream b j has c.take_journal-journal.ensures.took c.take_journal-journal.ensures.stands in
+    let page = c.args.page in
+    let written = c.args.written in
+    let n = c.next_step-went.new.book in
+    let k = c.next_step-went.new.journal in
+    let ended = c.next_step-went.result in
+    let left = stepped posted w v file page written b n j k has vis here rest c.me-pass.result ended c.me-pass.ensures c.next_step-went.ensures in
+    subst (λ (r : Look). IsBelow page r (history w.seen file.stream)) (sym c.look_of.ensures)
+    (below-next posted w v file page written b n j k has vis here rest ended left)
 
 pub returns-clause-full : goal.returns-clause-full
 returns-clause-full g c =

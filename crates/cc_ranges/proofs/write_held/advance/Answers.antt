@@ -1,19 +1,24 @@
 -- By the step: a page in the way is dirty, and the write admitted, so it may be written for it, and the round is what
 -- that left; any other step is the round.
-use Rattle.std.specs.Prelude.{◌≡◌, ℕ, true, None}
+use Rattle.std.specs.Prelude.{◌≡◌, ℕ, true, None, Some, refl}
 use Rattle.std.proofs.Common.{ap, sym, ◌∙◌, subst}
+use Rattle.std.proofs.lemmas.Bool.{or_left}
 use Rattle.cc_entry.specs.declared.call.Call.TheVariants as call
 use Rattle.cc_effects.specs.Asked.{Calls, may_write}
 use Rattle.cc_model.specs.History.{history}
 use Rattle.cc_model.specs.Refusals.{refusal}
 use Rattle.cc_model.specs.Setup.{Setup}
 use Rattle.cc_turns.specs.Standing.{Standing}
+use Rattle.cc_writes.specs.Hands.{HasBook}
+use Rattle.cc_writes.specs.Visits.{IsToBeWritten}
 use Rattle.cc_writes.specs.Writes.{HasBoth, IsToWrite}
 use Rattle.cc_writes.proofs.Disks.{still_of}
-use Rattle.cc_ranges.specs.WriteHeld.{RoundLeft}
+use Rattle.cc_writes.proofs.Lessening.{went-less}
+use Rattle.cc_writes.proofs.Lessening.{round-wrote as round-wrote-less}
+use Rattle.cc_ranges.specs.WriteHeld.{HasLess, RoundLeft}
 use Rattle.cc_ranges.specs.WriteVisits.{page_in}
 use Rattle.cc_ranges.specs.declared.write_held.Round.{Round}
-use Rattle.cc_ranges.proofs.WriteHolding.{round-wrote, way-asked}
+use Rattle.cc_ranges.proofs.WriteHolding.{less-round, round-wrote, way-asked}
 use Rattle.cc_ranges.proofs.write_held.advance.Goals as goal
 
 pub write_for-book-requires-clause-both : goal.write_for-book-requires-clause-both
@@ -72,3 +77,33 @@ returns-in-Writes-clause-left g c begun is =
     subst (λ (r : Round). RoundLeft w.setup w.number c.args.file c.args.page r begun x.seen) (sym c.round_of.ensures)
     (round-wrote w v c.args.file c.args.page c.in-Writes.dirty c.next_at.new.book.stream x.seen c.next_at.ensures.book.stream c.next_at.ensures.went c.in-Writes.ensures.asking.in_the_way
     c.write_for-book.result.1 c.write_for-book.ensures.left c.write_for-book.ensures.reason c.write_for-book.ensures.works begun (c.in-Writes.ensures.left begun is))
+
+pub returns-in-GoesOn-clause-lessens : goal.returns-in-GoesOn-clause-lessens
+returns-in-GoesOn-clause-lessens g c kept =
+    let w = g.T.Turns.standing c.args.turns.now in
+    let v = g.T.Turns.standing c.next_at.new.turns in
+    let it = call.NcWrite c.args.file c.args.page in
+    went-less w c.args.file.stream c.args.book
+    (subst (λ (n : ℕ). HasBook w n c.args.book) c.requires.stream c.requires.both.book) (c.requires.both.rest.device ∙ ap (λ (n : ℕ). Some n) c.requires.stream)
+    it refl refl v.seen c.in-GoesOn.ensures.placed
+
+pub returns-in-Writes-clause-lessens : goal.returns-in-Writes-clause-lessens
+returns-in-Writes-clause-lessens g c kept =
+    let w = g.T.Turns.standing c.args.turns.now in
+    let v = g.T.Turns.standing c.next_at.new.turns in
+    let file = c.args.file in
+    let it = call.NcWrite file c.args.page in
+    let n = c.next_at.new.book.stream in
+    let dirty = c.in-Writes.dirty in
+    let seen = (g.T.Turns.standing c.write_for-book.new.turns).seen in
+    let asking = c.in-Writes.ensures.asking in
+    let asked : IsToBeWritten v.setup n it dirty v.seen =
+    subst (λ (u : Setup). IsToBeWritten u n it dirty v.seen) (sym (ap (λ (x : Standing). x.setup) c.next_at.ensures.went.same))
+    (subst (λ (t : ℕ). IsToBeWritten w.setup t it dirty v.seen) (sym c.next_at.ensures.book.stream)
+    (record { admitted = asking.admitted; in_the_way = asking.in_the_way; dirty = asking.to_write.dirty; stamped = asking.to_write.stamped })) in
+    subst (λ (r : Round). HasLess file c.args.page r w.seen seen) (sym c.round_of.ensures)
+    (less-round file c.args.page c.write_for-book.result.1 w.seen seen
+    (round-wrote-less w v file.stream c.args.book c.next_at.new.book
+    (subst (λ (t : ℕ). HasBook w t c.args.book) c.requires.stream c.requires.both.book) (c.requires.both.rest.device ∙ ap (λ (t : ℕ). Some t) c.requires.stream)
+    it refl refl c.in-Writes.ensures.placed c.next_at.ensures.book c.next_at.ensures.rest.device dirty n c.keeps_for_write-keeps.result c.write_for-book.result.1 seen
+    c.next_at.ensures.book.stream (c.keeps_for_write-keeps.ensures.kept ∙ or_left _ _ kept) asked c.write_for-book.ensures.written))

@@ -1,4 +1,4 @@
--- Each round leaves the write under way, its page ready, or its end; rounds that are used up find no memory.
+-- Each round leaves the write under way, its page ready, or its end; and so do the rounds with the book kept.
 use Rattle.std.specs.Prelude.{List}
 use Rattle.std.proofs.Common.{subst}
 use Rattle.cc_entry.specs.declared.entry.Entry.{Entry}
@@ -6,7 +6,7 @@ use Rattle.cc_ranges.specs.WriteHeld.{RoundLeft}
 use Rattle.cc_ranges.specs.WriteVisits.{IsWriting}
 use Rattle.cc_ranges.specs.declared.write_held.Round.{Round}
 use Rattle.cc_ranges.specs.declared.write_held.Round.TheVariants as round
-use Rattle.cc_ranges.proofs.WriteHolding.{comes-on, round-on, spent}
+use Rattle.cc_ranges.proofs.WriteHolding.{comes-on, round-on, since-left}
 use Rattle.cc_ranges.proofs.write_held.make_room.Goals as goal
 
 pub returns-in-Ended-clause-left : goal.returns-in-Ended-clause-left
@@ -41,4 +41,5 @@ pub returns-clause-left : goal.returns-clause-left
 returns-clause-left g c begun is =
     let w = g.T.Turns.standing c.args.turns.now in
     let v = g.T.Turns.standing c.loop-round.turns in
-    spent w.setup w.number c.args.file c.args.page begun v.seen (c.loop-round.invariant.left begun is)
+    since-left w v c.args.file c.args.page c.make_room_kept.result.1 begun (g.T.Turns.standing c.make_room_kept.new.turns).seen c.loop-round.invariant.went
+    (c.loop-round.invariant.left begun is) c.make_room_kept.ensures.left
