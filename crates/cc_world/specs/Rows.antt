@@ -1,5 +1,5 @@
 -- What there is of one stream, what it stands for, and what an event leaves of it.
-use Rattle.std.specs.Prelude.{◌≡◌, ℕ, ◌+◌, ◌*◌, ◌<◌, ◌≤◌, nat_lt, List, [], ◌∷◌, ◌++◌, length}
+use Rattle.std.specs.Prelude.{◌≡◌, ℕ, ◌+◌, ◌*◌, ◌<◌, ◌≤◌, nat_lt, false, List, [], ◌∷◌, ◌++◌, length}
 use Rattle.std.specs.declared.option.Option.{Option}
 use Rattle.std.specs.declared.option.Option.TheVariants.{Some, None}
 use Rattle.cc_entry.specs.Place.{Page}
@@ -10,7 +10,7 @@ use Rattle.cc_entry.specs.declared.entry.Entry.TheVariants as entry
 use Rattle.cc_entry.specs.declared.error.CcError.TheVariants as error
 use Rattle.cc_entry.specs.declared.reply.Reply.TheVariants as reply
 use Rattle.cc_traits.specs.Disk.{Disk}
-use Rattle.cc_book.specs.Book.{BookStands}
+use Rattle.cc_book.specs.Book.{BookState, BookStands}
 use Rattle.cc_journal.specs.Journal.{JournalState, room_of}
 use Rattle.cc_model.specs.Conditions.{MayBegin, MayComeIn}
 use Rattle.cc_model.specs.Good.{IsGood}
@@ -125,3 +125,9 @@ abbrev pub reply_to : {Q : Type 0} → End → StepReply Q
 reply_to how.Good = step.Done reply.Unit
 reply_to how.Failed = step.Faulted
 reply_to how.NoMemory = step.Refused error.NoMemory
+
+-- Nothing was asked of a disk for a page that has no byte below the valid data length: it is as it was.
+abbrev pub IsUnread : {D : Type 0} → BookState → ℕ → D → D → Type 0
+IsUnread b page was now =
+    (opening : Option (ℕ → List ℕ)) (past : List Entry) → BookStands opening past b →
+    nat_lt (4096 * page) (valid_of (history past b.stream)) ≡ false → now ≡ was

@@ -7,7 +7,7 @@ ghost use Rattle.cc_model.specs.Setup.{Setup};
 ghost use Rattle.cc_turns.specs.Disk.{opening_of};
 ghost use Rattle.cc_turns.specs.Standing.{DiskAtFirst};
 ghost use Rattle.cc_world.specs.Pages.{AreFlushed};
-ghost use Rattle.cc_world.specs.Rows.{IsBeginning, IsBringing, IsStanding, RowEnded, RowLeft, StandsUnder, reply_to};
+ghost use Rattle.cc_world.specs.Rows.{IsBeginning, IsBringing, IsStanding, IsUnread, RowEnded, RowLeft, StandsUnder, reply_to};
 ghost use Rattle.cc_effects.specs.declared.events.Event.TheVariants as event;
 
 use crate::pages::{has_valid_byte, may_begin, may_come_in, may_go_out};
@@ -36,7 +36,8 @@ pub(crate) struct Row<D> {
 }
 
 impl<D: PageDisk> Row<D> {
-    /// A page comes in, from the disk where it has a byte below the valid data length.
+    /// A page comes in, from the disk where it has a byte below the valid data length; where it has none, nothing is asked
+    /// of the disk.
     pub(crate) fn fill<Q>(
         &mut self,
         journal: &mut Journal<Q>,
@@ -45,8 +46,9 @@ impl<D: PageDisk> Row<D> {
     ) -> StepReply<Q>
         requires stream { page.stream ≡ self.old.book.stream }
         requires standing { IsStanding D.told D.faults 0 self.old journal.old }
-        ensures { (u : Setup) (first : DiskAtFirst) → StandsUnder D.told D.faults u first 0 self.old journal.old →
+        ensures left { (u : Setup) (first : DiskAtFirst) → StandsUnder D.told D.faults u first 0 self.old journal.old →
             RowLeft D.told D.faults u first (event.Fill pass page) result self.old self.new journal.old journal.new }
+        ensures unread { IsUnread self.old.book page.page self.old.disk self.new.disk }
     {
         if self.kept.is_some() {
             return StepReply::NotNow;
@@ -64,9 +66,10 @@ impl<D: PageDisk> Row<D> {
     fn bring<Q>(&mut self, journal: &mut Journal<Q>, pass: u32, page: PageId) -> StepReply<Q>
         requires stream { page.stream ≡ self.old.book.stream }
         requires standing { IsBringing D.told D.faults page self.old journal.old }
-        ensures { (u : Setup) (first : DiskAtFirst) → StandsUnder D.told D.faults u first 1 self.old journal.old →
+        ensures ended { (u : Setup) (first : DiskAtFirst) → StandsUnder D.told D.faults u first 1 self.old journal.old →
             RowEnded D.told D.faults u first (event.Fill pass page) result
             self.old self.new journal.old journal.new }
+        ensures unread { IsUnread self.old.book page.page self.old.disk self.new.disk }
     {
         let mut raw = [0; 4096];
         if !has_valid_byte(&self.book, page) {
@@ -95,10 +98,11 @@ impl<D: PageDisk> Row<D> {
     ) -> StepReply<Q>
         requires stream { page.stream ≡ self.old.book.stream }
         requires standing { IsBringing D.told D.faults page self.old journal.old }
-        ensures { (u : Setup) (first : DiskAtFirst) → StandsUnder D.told D.faults u first 1 self.old journal.old →
+        ensures ended { (u : Setup) (first : DiskAtFirst) → StandsUnder D.told D.faults u first 1 self.old journal.old →
             IsReadFrom (opening_of first.told) (history journal.old.entries self.old.book.stream) page.page raw.now →
             RowEnded D.told D.faults u first (event.Fill pass page) result
             self.old self.new journal.old journal.new }
+        ensures disk { self.new.disk ≡ self.old.disk }
     {
         match self.book.bring_in(journal, pass, page, raw) {
             Ok(()) => StepReply::Done(Reply::Unit),

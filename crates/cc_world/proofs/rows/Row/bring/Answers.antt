@@ -1,6 +1,6 @@
 -- A page with no byte below the valid data length lands without a read, any other with what was read; a disk that
 -- failed leaves the entry of that, and one that found no memory none.
-use Rattle.std.specs.Prelude.{◌≡◌, ℕ, ◌+◌, ◌-◌, ◌*◌, ◌<◌, nat_lt, false, is_some, None, [], ◌∷◌, refl}
+use Rattle.std.specs.Prelude.{◌≡◌, ℕ, ◌+◌, ◌-◌, ◌*◌, ◌<◌, nat_lt, Bool, true, false, is_some, None, [], ◌∷◌, refl}
 use Rattle.std.proofs.Common.{ap, sym, ◌∙◌, subst, arith}
 use Rattle.std.proofs.lemmas.Bool.{ltb-true}
 use Rattle.cc_entry.specs.Place.{Page}
@@ -25,13 +25,17 @@ back k n owed is was = omega arith
 less-none : (a b : ℕ) → a ≡ b + 0 → a ≡ b
 less-none a b is = omega arith
 
-pub returns-then-not-has_valid_byte : goal.returns-then-not-has_valid_byte
-returns-then-not-has_valid_byte g c u first stand =
+-- a page that is read has such a byte
+apart : {A : Type 0} (b : Bool) → b ≡ true → b ≡ false → A
+apart b is isnt = absurd (cc)
+
+pub returns-then-not-has_valid_byte-clause-ended : goal.returns-then-not-has_valid_byte-clause-ended
+returns-then-not-has_valid_byte-clause-ended g c u first stand =
     let past = c.args.journal.now.entries in
     let s = c.args.self.now.book.stream in
     let none : nat_lt (4096 * c.args.page.page) (valid_of (history past s)) ≡ false =
     sym (c.has_valid_byte.ensures (opening_of first.told) past stand.row_is.book) ∙ c.if-not-has_valid_byte.true in
-    c.land.ensures u first stand (λ pages told i within below. absurd (nothing-below (valid_of (history past s)) c.args.page.page none i below))
+    c.land.ensures.ended u first stand (λ pages told i within below. absurd (nothing-below (valid_of (history past s)) c.args.page.page none i below))
 
 pub push-requires-clause-may : goal.push-requires-clause-may
 push-requires-clause-may g c =
@@ -40,8 +44,8 @@ push-requires-clause-may g c =
     let stand = c.requires.standing.2 in
     may-push g.D.Told.told g.D.Told.faults u first 1 c.args.self.now c.args.journal.now stand c.args.journal.now.entries (entry.FillFailed c.args.pass c.args.page) refl refl tt
 
-pub returns-in-Ok : goal.returns-in-Ok
-returns-in-Ok g c u first stand =
+pub returns-in-Ok-clause-ended : goal.returns-in-Ok-clause-ended
+returns-in-Ok-clause-ended g c u first stand =
     let j = c.args.journal.now in
     let row = c.args.self.now in
     let past = j.entries in
@@ -55,7 +59,7 @@ returns-in-Ok g c u first stand =
     let mid = record row { disk = c.read.new.disk } in
     ended-since g.D.Told.told g.D.Told.faults u first (event.Fill c.args.pass c.args.page) c.land-in-Ok.result row mid c.land-in-Ok.new.self j c.land-in-Ok.new.journal refl
     (less-none _ _ c.in-Ok.ensures.counted)
-    (c.land-in-Ok.ensures u first (record {
+    (c.land-in-Ok.ensures.ended u first (record {
       good = stand.good;
       opening = stand.opening;
       known = stand.known;
@@ -68,8 +72,8 @@ returns-in-Ok g c u first stand =
     }) (subst (λ (p : ℕ). IsReadFrom (opening_of first.told) (history past s) p c.read.new.raw) c.page.ensures.same
     (c.in-Ok.ensures.found u first past s (record { stands = rest.stands; good = so-far u past stand.good; absent = absent }))))
 
-pub returns-in-Err-Failed : goal.returns-in-Err-Failed
-returns-in-Err-Failed g c u first stand =
+pub returns-in-Err-Failed-clause-ended : goal.returns-in-Err-Failed-clause-ended
+returns-in-Err-Failed-clause-ended g c u first stand =
     let j = c.args.journal.now in
     let row = c.args.self.now in
     let past = j.entries in
@@ -95,8 +99,8 @@ returns-in-Err-Failed g c u first stand =
           (rw c.in-Err-Failed.field-0-is at c.in-Err-Failed.ensures.counted),
     )
 
-pub returns-in-Err-NoMemory : goal.returns-in-Err-NoMemory
-returns-in-Err-NoMemory g c u first stand =
+pub returns-in-Err-NoMemory-clause-ended : goal.returns-in-Err-NoMemory-clause-ended
+returns-in-Err-NoMemory-clause-ended g c u first stand =
     let j = c.args.journal.now in
     let row = c.args.self.now in
     let past = j.entries in
@@ -114,3 +118,15 @@ returns-in-Err-NoMemory g c u first stand =
           (rests-as g.D.Told.told g.D.Told.faults first past s c.read.new.disk row.kept idle (c.in-Err-NoMemory.ensures.kept first past s rest.stands) rest.no_transfer)
           (rw c.in-Err-NoMemory.field-0-is at c.in-Err-NoMemory.ensures.counted),
     )
+
+pub returns-in-Ok-clause-unread : goal.returns-in-Ok-clause-unread
+returns-in-Ok-clause-unread g c opening past stands above =
+    apart _ (sym (c.has_valid_byte.ensures opening past stands) ∙ c.if-not-has_valid_byte.false) above
+
+pub returns-in-Err-Failed-clause-unread : goal.returns-in-Err-Failed-clause-unread
+returns-in-Err-Failed-clause-unread g c opening past stands above =
+    apart _ (sym (c.has_valid_byte.ensures opening past stands) ∙ c.if-not-has_valid_byte.false) above
+
+pub returns-in-Err-NoMemory-clause-unread : goal.returns-in-Err-NoMemory-clause-unread
+returns-in-Err-NoMemory-clause-unread g c opening past stands above =
+    apart _ (sym (c.has_valid_byte.ensures opening past stands) ∙ c.if-not-has_valid_byte.false) above

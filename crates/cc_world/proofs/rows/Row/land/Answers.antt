@@ -45,8 +45,8 @@ release-requires g c =
     let stand = c.requires.standing.2 in
     least _ _ _ (ap (λ x. x.reserved) c.in-Err.ensures.err.1) stand.reserved
 
-pub returns-in-Ok : goal.returns-in-Ok
-returns-in-Ok g c u first stand found =
+pub returns-in-Ok-clause-ended : goal.returns-in-Ok-clause-ended
+returns-in-Ok-clause-ended g c u first stand found =
     let j = c.args.journal.now in
     let row = c.args.self.now in
     let e : Entry = page_in j.entries c.args.pass c.args.page in
@@ -63,8 +63,8 @@ returns-in-Ok g c u first stand found =
     (no-more _) in
     (e ∷ [], refl, went)
 
-pub returns-in-Err : goal.returns-in-Err
-returns-in-Err g c u first stand found =
+pub returns-in-Err-clause-ended : goal.returns-in-Err-clause-ended
+returns-in-Err-clause-ended g c u first stand found =
     let j = c.args.journal.now in
     let row = c.args.self.now in
     let k = c.release.new.self in
