@@ -19,7 +19,7 @@ use Rattle.cc_model.specs.Setup.{Setup}
 use Rattle.cc_model.specs.Holds.{Hold, range_held}
 use Rattle.cc_effects.specs.Moments.{Others, IsIdle}
 use Rattle.cc_effects.specs.Asked.{Calls}
-use Rattle.cc_effects.specs.Noncached.{shape_refusal, pages_from, MisshapenLeft, PagesRead, PageReadsRefused, AlignedReadLeft, ShapedReadLeft, NcReadLeft, IsTransferred, IsPageWritten, TransferRefused, PageRefused, PagesWritten, AlignedWriteLeft, ShapedWriteLeft, NcWriteLeft}
+use Rattle.cc_effects.specs.Noncached.{shape_refusal, pages_from, MisshapenLeft, IsUntold, EndsShort, PagesRead, PageReadsRefused, AlignedReadLeft, ShapedReadLeft, NcReadLeft, IsTransferred, IsPageWritten, TransferRefused, PageRefused, PagesWritten, AlignedWriteLeft, ShapedWriteLeft, NcWriteLeft}
 use Rattle.cc_effects.specs.Repins.{IsHoldEnded, UnpinLeft}
 use Rattle.cc_effects.proofs.Stretches.{others-append, idle-then, only-after, only-before, grew-after}
 use Rattle.cc_effects.proofs.WorkSteps.{works-others, works-append, unsynced-others, unstopped-others, unstopped-append}
@@ -37,17 +37,34 @@ misshapen-before me file it refusal (error.JournalFull entries) older old new id
 misshapen-before me file it refusal error.NotCached older old new idle left = (left.0, only-before me _ older old new idle left.1)
 misshapen-before me file it refusal e older old new idle left = (left.0, left.1, only-before me _ older old new idle left.2)
 
+untold-after : (u : Setup) (me : ℕ) (file : File) (pages : List ℕ) (old new newer : List Entry) → IsUntold u me file pages old new → IsIdle me new newer → IsUntold u me file pages old newer
+untold-after u me file [] old new newer left idle = idle-then me old new newer left idle
+untold-after u me file (page ∷ pages) old new newer left idle =
+    (left.0, left-after u me (call.NcRead file page) (outcome.Done (reply.Read left.0)) old new newer left.1 idle)
+
+short-after : (u : Setup) (me : ℕ) (file : File) (page : ℕ) (pages bytes : List ℕ) (old new newer : List Entry) → EndsShort u me file page pages bytes old new → IsIdle me new newer → EndsShort u me file page pages bytes old newer
+short-after u me file page pages bytes old new newer left idle =
+    (left.0, left.1, left.2, untold-after u me file pages left.0 new newer left.3 idle)
+
+short-before : (u : Setup) (me : ℕ) (file : File) (page : ℕ) (pages bytes : List ℕ) (older old new : List Entry) → IsIdle me older old → EndsShort u me file page pages bytes old new → EndsShort u me file page pages bytes older new
+short-before u me file page pages bytes older old new idle left =
+    (left.0, left.1, left-before u me (call.NcRead file page) (outcome.Done (reply.Read bytes)) older old left.0 idle left.2, left.3)
+
 reads-after : (u : Setup) (me : ℕ) (file : File) (pages bytes : List ℕ) (old new newer : List Entry) → PagesRead u me file pages bytes old new → IsIdle me new newer → PagesRead u me file pages bytes old newer
 reads-after u me file [] bytes old new newer left idle = (left.0, idle-then me old new newer left.1 idle)
 reads-after u me file (page ∷ pages) [] old new newer left idle = left-after u me (call.NcRead file page) (outcome.Done (reply.Read [])) old new newer left idle
-reads-after u me file (page ∷ pages) (byte ∷ bytes) old new newer left idle =
-    (left.0, left.1, left.2, left.3, left.4, left.5, reads-after u me file pages left.2 left.0 new newer left.6 idle)
+reads-after u me file (page ∷ pages) (byte ∷ bytes) old new newer (inl left) idle =
+    inl (left.0, left.1, left.2, left.3, left.4, left.5, reads-after u me file pages left.2 left.0 new newer left.6 idle)
+reads-after u me file (page ∷ pages) (byte ∷ bytes) old new newer (inr left) idle =
+    inr (short-after u me file page pages (byte ∷ bytes) old new newer left idle)
 
 reads-before : (u : Setup) (me : ℕ) (file : File) (pages bytes : List ℕ) (older old new : List Entry) → IsIdle me older old → PagesRead u me file pages bytes old new → PagesRead u me file pages bytes older new
 reads-before u me file [] bytes older old new idle left = (left.0, idle-then me older old new idle left.1)
 reads-before u me file (page ∷ pages) [] older old new idle left = left-before u me (call.NcRead file page) (outcome.Done (reply.Read [])) older old new idle left
-reads-before u me file (page ∷ pages) (byte ∷ bytes) older old new idle left =
-    (left.0, left.1, left.2, left.3, left.4, left-before u me (call.NcRead file page) (outcome.Done (reply.Read left.1)) older old left.0 idle left.5, left.6)
+reads-before u me file (page ∷ pages) (byte ∷ bytes) older old new idle (inl left) =
+    inl (left.0, left.1, left.2, left.3, left.4, left-before u me (call.NcRead file page) (outcome.Done (reply.Read left.1)) older old left.0 idle left.5, left.6)
+reads-before u me file (page ∷ pages) (byte ∷ bytes) older old new idle (inr left) =
+    inr (short-before u me file page pages (byte ∷ bytes) older old new idle left)
 
 reads-refused-after : (u : Setup) (me : ℕ) (file : File) (page done : ℕ) (e : CcError) (old new newer : List Entry) → PageReadsRefused u me file page done e old new → IsIdle me new newer → PageReadsRefused u me file page done e old newer
 reads-refused-after u me file page zero e old new newer left idle = (left.0, left-after u me (call.NcRead file page) (outcome.Failed e) old new newer left.1 idle)

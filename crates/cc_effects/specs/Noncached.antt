@@ -50,29 +50,52 @@ MisshapenLeft me file it refusal error.NotCached old new =
 MisshapenLeft me file it refusal e old new =
     (nth : ℕ) × (e ≡ refusal) × PlacedOnly me (entry.Call me nth (Some file.stream) it (outcome.Failed e)) old new
 
+-- What the page behind one that came short answers is not told. Where the range has no page behind it, nothing is left.
+abbrev pub IsUntold : Setup → ℕ → File → List ℕ → Between
+IsUntold u me file [] old new = IsIdle me old new
+IsUntold u me file (page ∷ pages) old new =
+    (bytes : List ℕ) × CallLeft u me (call.NcRead file page) (outcome.Done (reply.Read bytes)) old new
+
+-- A page came short, with these bytes: the page behind it ends the read, whatever it answers. For the file may have grown
+-- between the two, and no moment had the bytes of both behind one another.
+abbrev pub EndsShort : Setup → ℕ → File → ℕ → List ℕ → List ℕ → Between
+EndsShort u me file page pages bytes old new =
+    (between : List Entry)
+    × (length bytes < 4096)
+    × CallLeft u me (call.NcRead file page) (outcome.Done (reply.Read bytes)) old between
+    × IsUntold u me file pages between new
+
 -- The pages of a read, each with the bytes that it answered, up to the first that answered none: it began
--- at the size or past it, and ends the call.
+-- at the size or past it, and ends the call. Each page that is told is whole but the last.
 abbrev pub PagesRead : Setup → ℕ → File → List ℕ → List ℕ → Between
 PagesRead u me file [] bytes old new = (bytes ≡ []) × IsIdle me old new
 PagesRead u me file (page ∷ pages) [] old new =
     CallLeft u me (call.NcRead file page) (outcome.Done (reply.Read [])) old new
 PagesRead u me file (page ∷ pages) (byte ∷ bytes) old new =
-    (between : List Entry)
+    ((between : List Entry)
     × (first : List ℕ)
     × (rest : List ℕ)
     × (byte ∷ bytes ≡ first ++ rest)
-    × (0 < length first)
+    × (length first ≡ 4096)
     × CallLeft u me (call.NcRead file page) (outcome.Done (reply.Read first)) old between
-    × PagesRead u me file pages rest between new
+    × PagesRead u me file pages rest between new)
+    ⊎ EndsShort u me file page pages (byte ∷ bytes) old new
 
--- so many pages were read, from this one on, and the one after them was refused
+-- A page of a read of which another was refused: it is whole where so many pages more were read behind it, and else
+-- answered a byte.
+abbrev pub IsWholeBefore : ℕ → List ℕ → Type 0
+IsWholeBefore zero bytes = 0 < length bytes
+IsWholeBefore (suc more) bytes = length bytes ≡ 4096
+
+-- So many pages were read, from this one on, and the one after them was refused. Each page is whole but the last that
+-- was read.
 abbrev pub PageReadsRefused : Setup → ℕ → File → ℕ → ℕ → CcError → Between
 PageReadsRefused u me file page zero e old new =
     (is_of_shape e ≡ false) × CallLeft u me (call.NcRead file page) (outcome.Failed e) old new
 PageReadsRefused u me file page (suc done) e old new =
     (between : List Entry)
     × (first : List ℕ)
-    × (0 < length first)
+    × IsWholeBefore done first
     × CallLeft u me (call.NcRead file page) (outcome.Done (reply.Read first)) old between
     × PageReadsRefused u me file (suc page) done e between new
 

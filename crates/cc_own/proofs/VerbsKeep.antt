@@ -22,7 +22,7 @@ use Rattle.cc_model.specs.Holds.{range_held}
 use Rattle.cc_effects.specs.Asked.{Calls, Writes}
 use Rattle.cc_effects.specs.Moments.{PlacedOnly}
 use Rattle.cc_effects.specs.Repins.{UnpinLeft}
-use Rattle.cc_effects.specs.Noncached.{shape_refusal, pages_from, MisshapenLeft, PagesRead, PageReadsRefused, AlignedReadLeft, ShapedReadLeft, NcReadLeft, IsTransferred, TakesOut, IsPageWritten, TransferRefused, PageRefused, PagesWritten, AlignedWriteLeft, ShapedWriteLeft, NcWriteLeft}
+use Rattle.cc_effects.specs.Noncached.{shape_refusal, pages_from, MisshapenLeft, IsUntold, EndsShort, PagesRead, PageReadsRefused, AlignedReadLeft, ShapedReadLeft, NcReadLeft, IsTransferred, TakesOut, IsPageWritten, TransferRefused, PageRefused, PagesWritten, AlignedWriteLeft, ShapedWriteLeft, NcWriteLeft}
 use Rattle.cc_effects.specs.PageWrites.{PageWrite, HasScanned, PageWriteLeft, TickCutOff, TickLeft}
 use Rattle.cc_effects.specs.ReadAhead.{AheadLeft}
 use Rattle.cc_effects.specs.Throttle.{DeferLeft, PostLeft}
@@ -46,10 +46,20 @@ misshapen-unchanged me id file it refusal (error.JournalFull entries) old new le
 misshapen-unchanged me id file it refusal error.NotCached old new left = unchanged-only me id _ old new left.1 refl
 misshapen-unchanged me id file it refusal e old new left = unchanged-only me id _ old new left.2 refl
 
+untold-unchanged : (u : Setup) (me id : ℕ) (file : File) (pages : List ℕ) (old new : List Entry) → IsUntold u me file pages old new → IsUnchanged me id old new
+untold-unchanged u me id file [] old new left = unchanged-idle me id old new left
+untold-unchanged u me id file (page ∷ pages) old new left = unchanged-call u me id (call.NcRead file page) (outcome.Done (reply.Read left.0)) old new left.1 refl
+
+short-unchanged : (u : Setup) (me id : ℕ) (file : File) (page : ℕ) (pages bytes : List ℕ) (old new : List Entry) → EndsShort u me file page pages bytes old new → IsUnchanged me id old new
+short-unchanged u me id file page pages bytes old new left =
+    unchanged-then me id old left.0 new (unchanged-call u me id (call.NcRead file page) (outcome.Done (reply.Read bytes)) old left.0 left.2 refl)
+    (untold-unchanged u me id file pages left.0 new left.3)
+
 reads-unchanged : (u : Setup) (me id : ℕ) (file : File) (pages bytes : List ℕ) (old new : List Entry) → PagesRead u me file pages bytes old new → IsUnchanged me id old new
 reads-unchanged u me id file [] bytes old new left = unchanged-idle me id old new left.1
 reads-unchanged u me id file (page ∷ pages) [] old new left = unchanged-call u me id (call.NcRead file page) (outcome.Done (reply.Read [])) old new left refl
-reads-unchanged u me id file (page ∷ pages) (byte ∷ bytes) old new left =
+reads-unchanged u me id file (page ∷ pages) (byte ∷ bytes) old new (inr left) = short-unchanged u me id file page pages (byte ∷ bytes) old new left
+reads-unchanged u me id file (page ∷ pages) (byte ∷ bytes) old new (inl left) =
     unchanged-then me id old left.0 new (unchanged-call u me id (call.NcRead file page) (outcome.Done (reply.Read left.1)) old left.0 left.5 refl)
     (reads-unchanged u me id file pages left.2 left.0 new left.6)
 

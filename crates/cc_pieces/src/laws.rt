@@ -68,9 +68,9 @@ pub fn reads_answer_the_plain_file()
         × Reads (u.opening file.stream) (history (earlier ++ old) file.stream) at len (reply.Read bytes) }
 {}
 
-/// In a good journal, each page that a noncached read answered has its entry in the piece of the line, and the bytes are
-/// the plain file's at that place, where the disk told its opening pages; else their number is, and those from the valid
-/// data length on are zeros.
+/// In a good journal, each page that a noncached read answered has its entry in the piece of the line, and is whole but for
+/// the last. Its bytes are the plain file's at that place, where the disk told its opening pages; else their number is, and
+/// those from the valid data length on are zeros.
 pub fn noncached_reads_answer_the_plain_file()
     ensures { (u : Setup) (limit me : ℕ) (bindings : List Binding) (file : File) (at len : ℕ) (bytes : List ℕ)
         (old new newer : List Entry) →

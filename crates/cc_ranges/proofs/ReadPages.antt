@@ -1,8 +1,8 @@
 -- The pages of a noncached read, one after the other, each with the turns of its disk and its book.
 use Rattle.std.specs.Prelude.{◌≡◌, ℕ, zero, suc, ◌+◌, ◌-◌, ◌*◌, ◌/◌, ◌%◌, ◌<◌, ◌≤◌, Bool, true, false, ◌&&◌, ◌==◌, nat_lt, Result, Ok, Err, List, [], ◌∷◌, ◌++◌, length, take, drop, Some, None, Option, refl, if◌then◌else◌}
 use Rattle.std.specs.List.{range_with_len}
-use Rattle.std.proofs.Common.{ap, sym, ◌∙◌, subst, arith, append_assoc, append-nil}
-use Rattle.std.proofs.lemmas.Bool.{ltb-false}
+use Rattle.std.proofs.Common.{ap, sym, ◌∙◌, subst, arith, append_assoc, append-nil, inl, inr}
+use Rattle.std.proofs.lemmas.Bool.{ltb-true, ltb-false}
 use Rattle.std.proofs.lemmas.List.{drop-drop}
 use Rattle.std.proofs.lemmas.List.FromFn.{length-range_with_len}
 use Rattle.std.proofs.lemmas.Slice.{take-put_mid, drop-put_mid}
@@ -15,7 +15,7 @@ use Rattle.cc_entry.specs.declared.error.CcError.TheVariants as error
 use Rattle.cc_entry.specs.declared.reply.Outcome.TheVariants as outcome
 use Rattle.cc_entry.specs.declared.reply.Reply.TheVariants as reply
 use Rattle.cc_effects.specs.Calls.{CallLeft}
-use Rattle.cc_effects.specs.Noncached.{AlignedReadLeft, MisshapenLeft, PagesRead, PageReadsRefused, ShapedReadLeft, shape_refusal}
+use Rattle.cc_effects.specs.Noncached.{AlignedReadLeft, IsUntold, IsWholeBefore, MisshapenLeft, PagesRead, PageReadsRefused, ShapedReadLeft, shape_refusal}
 use Rattle.cc_effects.proofs.Stretches.{idle-none}
 use Rattle.cc_model.specs.Good.{IsGood}
 use Rattle.cc_model.specs.Setup.{Setup}
@@ -58,15 +58,17 @@ full-both y (Ok n) full = tt
 full-both y (Err (error.JournalFull entries)) full = full
 full-both y (Err other) full = tt
 
--- How the pages go on: so many are read, their bytes stand in the front of what was handed in, and what the further ones
--- leave is left by all of them.
+-- How the pages go on: so many are read, their bytes stand in the front of what was handed in. Where all are whole, what
+-- the further ones leave is left by all of them; where the last came short, so is what is not told, or refused.
 pub record ReadsOn (w v : Standing) (file : File) (first done told : ℕ) (was now : List ℕ) : Type 0 where
   pub went : WentOn w v
   pub within : told ≤ 4096 * done
   pub behind : drop told now ≡ drop told was
   pub good : IsGood w.setup w.seen → IsGood w.setup v.seen
-  pub ahead : (n : ℕ) (bytes : List ℕ) (new : List Entry) → PagesRead w.setup w.number file (range_with_len (first + done) n) bytes v.seen new → PagesRead w.setup w.number file (range_with_len first (done + n)) (take told now ++ bytes) w.seen new
-  pub refused : (n : ℕ) (e : CcError) (new : List Entry) → PageReadsRefused w.setup w.number file (first + done) n e v.seen new → PageReadsRefused w.setup w.number file first (done + n) e w.seen new
+  pub ahead : told ≡ 4096 * done → (n : ℕ) (bytes : List ℕ) (new : List Entry) → PagesRead w.setup w.number file (range_with_len (first + done) n) bytes v.seen new → PagesRead w.setup w.number file (range_with_len first (done + n)) (take told now ++ bytes) w.seen new
+  pub short : told < 4096 * done → (n : ℕ) (new : List Entry) → IsUntold w.setup w.number file (range_with_len (first + done) n) v.seen new → PagesRead w.setup w.number file (range_with_len first (done + n)) (take told now) w.seen new
+  pub refused : told ≡ 4096 * done → (n : ℕ) (e : CcError) (new : List Entry) → PageReadsRefused w.setup w.number file (first + done) n e v.seen new → PageReadsRefused w.setup w.number file first (done + n) e w.seen new
+  pub refused_next : (e : CcError) (new : List Entry) → PageReadsRefused w.setup w.number file (first + done) 0 e v.seen new → PageReadsRefused w.setup w.number file first done e w.seen new
 
 pub reads-begin : (w : Standing) (file : File) (first : ℕ) (was : List ℕ) → ReadsOn w w file first 0 0 was was
 reads-begin w file first was = record {
@@ -74,12 +76,15 @@ reads-begin w file first was = record {
   within = omega arith;
   behind = refl;
   good = λ good. good;
-  ahead = λ n bytes new read.
+  ahead = λ whole n bytes new read.
       subst (λ (m : ℕ). PagesRead w.setup w.number file (range_with_len first m) (take 0 was ++ bytes) w.seen new) (more n)
       (subst (λ (m : ℕ). PagesRead w.setup w.number file (range_with_len m n) bytes w.seen new) (sum first) read);
-  refused = λ n e new left.
+  short = λ less n new left. absurd (omega (arith, less));
+  refused = λ whole n e new left.
       subst (λ (m : ℕ). PageReadsRefused w.setup w.number file first m e w.seen new) (more n)
       (subst (λ (m : ℕ). PageReadsRefused w.setup w.number file m n e w.seen new) (sum first) left);
+  refused_next = λ e new left.
+      subst (λ (m : ℕ). PageReadsRefused w.setup w.number file m 0 e w.seen new) (sum first) left;
 }
   where
     sum : (n : ℕ) → n + 0 ≡ n
@@ -88,10 +93,20 @@ reads-begin w file first was = record {
     more : (n : ℕ) → n ≡ 0 + n
     more n = omega arith
 
--- pages that were read are followed by one that answers bytes
-one-more : (u : Setup) (me : ℕ) (file : File) (page n : ℕ) (part bytes : List ℕ) (old between new : List Entry) → 0 < length part → CallLeft u me (call.NcRead file page) (outcome.Done (reply.Read part)) old between → PagesRead u me file (range_with_len (page + 1) n) bytes between new → PagesRead u me file (range_with_len page (suc n)) (part ++ bytes) old new
-one-more u me file page n [] bytes old between new some left rest = absurd (omega (arith, some))
-one-more u me file page n (byte ∷ part) bytes old between new some left rest = (between, byte ∷ part, bytes, refl, some, left, rest)
+-- pages that were read follow one that is whole
+one-more : (u : Setup) (me : ℕ) (file : File) (page n : ℕ) (part bytes : List ℕ) (old between new : List Entry) → length part ≡ 4096 → CallLeft u me (call.NcRead file page) (outcome.Done (reply.Read part)) old between → PagesRead u me file (range_with_len (page + 1) n) bytes between new → PagesRead u me file (range_with_len page (suc n)) (part ++ bytes) old new
+one-more u me file page n [] bytes old between new whole left rest = absurd (omega (arith, whole))
+one-more u me file page n (byte ∷ part) bytes old between new whole left rest = inl (between, byte ∷ part, bytes, refl, whole, left, rest)
+
+-- what is not told follows one that came short
+one-short : (u : Setup) (me : ℕ) (file : File) (page n : ℕ) (part : List ℕ) (old between new : List Entry) → 0 < length part → length part < 4096 → CallLeft u me (call.NcRead file page) (outcome.Done (reply.Read part)) old between → IsUntold u me file (range_with_len (page + 1) n) between new → PagesRead u me file (range_with_len page (suc n)) part old new
+one-short u me file page n [] old between new some few left rest = absurd (omega (arith, some))
+one-short u me file page n (byte ∷ part) old between new some few left rest = inr (between, few, left, rest)
+
+-- a page that is whole is so whatever is read behind it
+whole-before : (n : ℕ) (part : List ℕ) → length part ≡ 4096 → IsWholeBefore n part
+whole-before zero part whole = omega (arith, whole)
+whole-before (suc n) part whole = whole
 
 went-then : (w v x : Standing) → WentOn w v → WentOn v x → WentOn w x
 went-then w v x first second = record {
@@ -116,27 +131,42 @@ module _ (w v x : Standing) (file : File) (first done told : ℕ) (was now : Lis
     good_on = subst (λ (u : Setup). IsGood u x.seen) setup_on page.good
 
   -- it has bytes, which follow those before
-  pub reads-more : (count : ℕ) (before after : List ℕ) → PageReadEnds v x file (first + done) (Ok count) before after → 0 < count → length (take count after) ≡ count → told + count ≤ length now → count ≤ 4096 → ReadsOn w x file first (suc done) (told + count) was (put_mid told (told + count - told) now (take count after))
-  reads-more count before after page some long fits short = record {
+  pub reads-more : (count : ℕ) (before after : List ℕ) → PageReadEnds v x file (first + done) (Ok count) before after → told ≡ 4096 * done → 0 < count → length (take count after) ≡ count → told + count ≤ length now → count ≤ 4096 → ReadsOn w x file first (suc done) (told + count) was (put_mid told (told + count - told) now (take count after))
+  reads-more count before after page all_whole some long fits most = record {
     went = went-then w v x on.went page.goes_on;
-    within = omega (arith, on.within, short);
+    within = omega (arith, on.within, most);
     behind = drop-put_mid told (told + count - told) now ys (told + count) (omega arith) (omega (arith, fits)) (long ∙ one)
         ∙ (sym (drop-drop count told now) ∙ (ap (λ l. drop count l) on.behind ∙ drop-drop count told was));
     good = λ good. good_on (Ok count) before after page;
-    ahead = λ n bytes new read.
+    ahead = λ whole n bytes new read.
         subst (λ (m : ℕ). PagesRead w.setup w.number file (range_with_len first m) (take (told + count) later ++ bytes) w.seen new) (more done n)
         (subst (λ l. PagesRead w.setup w.number file (range_with_len first (done + suc n)) l w.seen new) (joined bytes)
-        (on.ahead (suc n) (ys ++ bytes) new
-        (one-more w.setup w.number file (first + done) n ys bytes v.seen x.seen new (omega (arith, long, some)) (left_on (Ok count) before after page)
+        (on.ahead all_whole (suc n) (ys ++ bytes) new
+        (one-more w.setup w.number file (first + done) n ys bytes v.seen x.seen new (is_whole whole) (left_on (Ok count) before after page)
         (subst (λ (m : ℕ). PagesRead w.setup w.number file (range_with_len m n) bytes x.seen new) (further first done) read))));
-    refused = λ n e new left.
+    short = λ less n new left.
+        subst (λ (m : ℕ). PagesRead w.setup w.number file (range_with_len first m) (take (told + count) later) w.seen new) (more done n)
+        (subst (λ l. PagesRead w.setup w.number file (range_with_len first (done + suc n)) l w.seen new) joined-all
+        (on.ahead all_whole (suc n) ys new
+        (one-short w.setup w.number file (first + done) n ys v.seen x.seen new (omega (arith, long, some)) (is_short less) (left_on (Ok count) before after page)
+        (subst (λ (m : ℕ). IsUntold w.setup w.number file (range_with_len m n) x.seen new) (further first done) left))));
+    refused = λ whole n e new left.
         subst (λ (m : ℕ). PageReadsRefused w.setup w.number file first m e w.seen new) (more done n)
-        (on.refused (suc n) e new (
+        (on.refused all_whole (suc n) e new (
+          x.seen,
+          ys,
+          whole-before n ys (is_whole whole),
+          left_on (Ok count) before after page,
+          subst (λ (m : ℕ). PageReadsRefused w.setup w.number file m n e x.seen new) (next first done) left,
+        ));
+    refused_next = λ e new left.
+        subst (λ (m : ℕ). PageReadsRefused w.setup w.number file first m e w.seen new) (one-further done)
+        (on.refused all_whole 1 e new (
           x.seen,
           ys,
           omega (arith, long, some),
           left_on (Ok count) before after page,
-          subst (λ (m : ℕ). PageReadsRefused w.setup w.number file m n e x.seen new) (next first done) left,
+          subst (λ (m : ℕ). PageReadsRefused w.setup w.number file m 0 e x.seen new) (next first done) left,
         ));
   }
     where
@@ -158,39 +188,62 @@ module _ (w v x : Standing) (file : File) (first done told : ℕ) (was now : Lis
       further : (a b : ℕ) → a + suc b ≡ a + b + 1
       further a b = omega arith
 
+      one-further : (a : ℕ) → a + 1 ≡ suc a
+      one-further a = omega arith
+
+      is_whole : told + count ≡ 4096 * suc done → length ys ≡ 4096
+      is_whole same = omega (arith, long, same, all_whole)
+
+      is_short : told + count < 4096 * suc done → length ys < 4096
+      is_short less = omega (arith, long, less, all_whole)
+
+      joined-all : take told now ++ ys ≡ take (told + count) later
+      joined-all = sym (take-put_mid told (told + count - told) now ys (told + count) (omega (arith, long)) (omega (arith, fits)))
+
       joined : (bytes : List ℕ) → take told now ++ (ys ++ bytes) ≡ take (told + count) later ++ bytes
       joined bytes =
           sym (append_assoc (take told now) ys bytes)
-          ∙ ap (λ l. l ++ bytes) (sym (take-put_mid told (told + count - told) now ys (told + count) (omega (arith, long)) (omega (arith, fits))))
+          ∙ ap (λ l. l ++ bytes) joined-all
 
   -- it has none, and the read is done
-  pub reads-end : (pages : ℕ) (before after : List ℕ) → PageReadEnds v x file (first + done) (Ok 0) before after → done < pages → PagesRead w.setup w.number file (range_with_len first pages) (take told now) w.seen x.seen
-  reads-end pages before after page below =
+  pub reads-end : (pages : ℕ) (before after : List ℕ) → PageReadEnds v x file (first + done) (Ok 0) before after → told ≡ 4096 * done → done < pages → PagesRead w.setup w.number file (range_with_len first pages) (take told now) w.seen x.seen
+  reads-end pages before after page all_whole below =
       subst (λ (m : ℕ). PagesRead w.setup w.number file (range_with_len first m) (take told now) w.seen x.seen) (count pages below)
       (subst (λ l. PagesRead w.setup w.number file (range_with_len first (done + suc (pages - suc done))) l w.seen x.seen) (append-nil (take told now))
-      (on.ahead (suc (pages - suc done)) [] x.seen (left_on (Ok 0) before after page)))
+      (on.ahead all_whole (suc (pages - suc done)) [] x.seen (left_on (Ok 0) before after page)))
+    where
+      count : (n : ℕ) → done < n → done + suc (n - suc done) ≡ n
+      count n less = omega (arith, less)
+
+  -- the one before came short, and what it answers is not told
+  pub reads-untold : (pages told_next : ℕ) (before after : List ℕ) → PageReadEnds v x file (first + done) (Ok told_next) before after → told < 4096 * done → done < pages → PagesRead w.setup w.number file (range_with_len first pages) (take told now) w.seen x.seen
+  reads-untold pages told_next before after page less below =
+      subst (λ (m : ℕ). PagesRead w.setup w.number file (range_with_len first m) (take told now) w.seen x.seen) (count pages below)
+      (on.short less (suc (pages - suc done)) x.seen (take told_next after, left_on (Ok told_next) before after page))
     where
       count : (n : ℕ) → done < n → done + suc (n - suc done) ≡ n
       count n less = omega (arith, less)
 
   -- all of them were read
   pub reads-all : (pages : ℕ) → done ≡ pages → PagesRead w.setup w.number file (range_with_len first pages) (take told now) w.seen v.seen
-  reads-all pages same =
-      subst (λ (m : ℕ). PagesRead w.setup w.number file (range_with_len first m) (take told now) w.seen v.seen) (count done pages same)
-      (subst (λ l. PagesRead w.setup w.number file (range_with_len first (done + 0)) l w.seen v.seen) (append-nil (take told now))
-      (on.ahead 0 [] v.seen (refl, idle-none w.number v.seen)))
+  reads-all pages same = go (nat_lt told (4096 * done)) refl
     where
       count : (a n : ℕ) → a ≡ n → a + 0 ≡ n
       count a n is = omega (arith, is)
 
+      go : (b : Bool) → nat_lt told (4096 * done) ≡ b → PagesRead w.setup w.number file (range_with_len first pages) (take told now) w.seen v.seen
+      go true is =
+          subst (λ (m : ℕ). PagesRead w.setup w.number file (range_with_len first m) (take told now) w.seen v.seen) (count done pages same)
+          (on.short (ltb-true told (4096 * done) is) 0 v.seen (idle-none w.number v.seen))
+      go false is =
+          let least = ltb-false told (4096 * done) is in
+          subst (λ (m : ℕ). PagesRead w.setup w.number file (range_with_len first m) (take told now) w.seen v.seen) (count done pages same)
+          (subst (λ l. PagesRead w.setup w.number file (range_with_len first (done + 0)) l w.seen v.seen) (append-nil (take told now))
+          (on.ahead (omega (arith, on.within, least)) 0 [] v.seen (refl, idle-none w.number v.seen)))
+
   -- it was refused
   pub reads-refused : (e : CcError) (before after : List ℕ) → PageReadEnds v x file (first + done) (Err e) before after → PageReadsRefused w.setup w.number file first done e w.seen x.seen
-  reads-refused e before after page =
-      subst (λ (m : ℕ). PageReadsRefused w.setup w.number file first m e w.seen x.seen) (count done)
-      (on.refused 0 e x.seen (page.ended.unshaped, left_on (Err e) before after page))
-    where
-      count : (a : ℕ) → a + 0 ≡ a
-      count a = omega arith
+  reads-refused e before after page = on.refused_next e x.seen (page.ended.unshaped, left_on (Err e) before after page)
 
   pub rest-refused : drop (4096 * done) now ≡ drop (4096 * done) was
   rest-refused =
@@ -215,10 +268,20 @@ can-again w v s can went = record {
 }
 
 -- What the pages left, with what is known of the rest.
-pub ends-end : (w v x : Standing) (file : File) (first done told pages : ℕ) (was now before after : List ℕ) → ReadsOn w v file first done told was now → PageReadEnds v x file (first + done) (Ok 0) before after → done < pages → pages ≡ length was / 4096 → told ≤ length was → PagesReadEnds w x file first (Ok told) was now
-ends-end w v x file first done told pages was now before after on page below is most = record {
+pub ends-untold : (w v x : Standing) (file : File) (first done told pages count : ℕ) (was now before after : List ℕ) → ReadsOn w v file first done told was now → PageReadEnds v x file (first + done) (Ok count) before after → told < 4096 * done → done < pages → pages ≡ length was / 4096 → told ≤ length was → PagesReadEnds w x file first (Ok told) was now
+ends-untold w v x file first done told pages count was now before after on page less below is most = record {
   left = subst (λ (n : ℕ). PagesRead w.setup w.number file (range_with_len first n) (take told now) w.seen x.seen) is
-      (reads-end w v x file first done told was now on pages before after page below);
+      (reads-untold w v x file first done told was now on pages count before after page less below);
+  rest = (most, on.behind);
+  full = tt;
+  goes_on = went-then w v x on.went page.goes_on;
+  good = λ good. good-after w v x file first done told was now on (Ok count) before after page;
+}
+
+pub ends-end : (w v x : Standing) (file : File) (first done told pages : ℕ) (was now before after : List ℕ) → ReadsOn w v file first done told was now → PageReadEnds v x file (first + done) (Ok 0) before after → told ≡ 4096 * done → done < pages → pages ≡ length was / 4096 → told ≤ length was → PagesReadEnds w x file first (Ok told) was now
+ends-end w v x file first done told pages was now before after on page whole below is most = record {
+  left = subst (λ (n : ℕ). PagesRead w.setup w.number file (range_with_len first n) (take told now) w.seen x.seen) is
+      (reads-end w v x file first done told was now on pages before after page whole below);
   rest = (most, on.behind);
   full = tt;
   goes_on = went-then w v x on.went page.goes_on;

@@ -14,8 +14,9 @@ use std::alloc::Global;
 /// Reads whole pages of a stream, noncached, from a place on, into the front of `out`, and answers how many bytes
 /// they are. It is no Cc routine: in Windows it is a read of a file object without intermediate buffering. A page that
 /// is dirty and owes no stamp is written first; where a page is resident the bytes are its frame's. No page comes in. The
-/// page that begins at the size or past it ends the read. Place and length are multiples of 4096, and the length is at
-/// most 65536. A read of no bytes at an aligned place succeeds for every file object.
+/// page that begins at the size or past it ends the read. So does the page behind one that came short, whose bytes are not
+/// told, since the file may have grown between the two. Place and length are multiples of 4096, and the length is at most
+/// 65536. A read of no bytes at an aligned place succeeds for every file object.
 ///
 /// `TooLong` and `Unaligned` (behind `NotCached`, with no page finished), `NotCached`, `ReadFault`, `WriteFault`,
 /// `LogFault`, `JournalFull`, `NoMemory`.
@@ -42,8 +43,8 @@ pub fn noncached_read<T: Turns>(
     }
 }
 
-// Reads pages, ascending, until one answers no bytes: it began at the size or past it. The bytes of each stand behind
-// those of the page before.
+// Reads pages, ascending, until one answers no bytes, for it began at the size or past it, or stands behind one that came
+// short. The bytes of each stand behind those of the page before.
 fn read_pages<T: Turns>(
     alloc: Global,
     turns: &mut T,
@@ -61,8 +62,13 @@ fn read_pages<T: Turns>(
     let mut told = 0;
     for done in 0..pages {
         let page = first + u64::from(done);
+        let whole = 4096 * done as usize;
         match read_page(alloc, turns, file, page, &mut bytes) {
             Ok(count) => {
+                // The page before came short, and the file may have grown since.
+                if told < whole {
+                    return Ok(told);
+                }
                 if count == 0 {
                     return Ok(told);
                 }

@@ -49,6 +49,32 @@ read_through = answers 1 3 first_read a_page ∷ ends 1 0 ∷ begins 1 0 ∷ []
 abbrev pub read_around : List Entry
 read_around = answers 1 3 first_read a_page ∷ []
 
+-- two pages are read, and the first comes short
+abbrev pub second_read : Call
+second_read = call.NcRead a 1
+
+abbrev pub short_page_first : List Entry
+short_page_first = answers 1 2 second_read a_page ∷ answers 1 1 first_read a_page ∷ []
+
+-- the bytes of both
+abbrev pub both_pages : List ℕ
+both_pages = 171 ∷ 171 ∷ []
+
+-- wrong: the page behind is not read
+abbrev pub short_page_alone : List Entry
+short_page_alone = answers 1 1 first_read a_page ∷ []
+
+-- the page behind is refused
+abbrev pub refused_behind : List Entry
+refused_behind = refused 1 2 second_read error.NotCached ∷ short_page_alone
+
+-- wrong: a third one is asked
+abbrev pub third_read : Call
+third_read = call.NcRead a 2
+
+abbrev pub refused_further : List Entry
+refused_further = refused 1 3 third_read error.NotCached ∷ short_page_first
+
 -- a repin of a pinned page that was stamped
 abbrev pub repinned : List Entry
 repinned =

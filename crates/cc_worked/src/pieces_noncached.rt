@@ -10,6 +10,7 @@ ghost use Rattle.cc_worked.specs.Values.{setup, a, Leaves, LeavesNothing, CallDo
 ghost use Rattle.cc_worked.specs.PiecesReads.{two_pages};
 ghost use Rattle.cc_worked.specs.PiecesWrites.{both_dirty};
 ghost use Rattle.cc_worked.specs.PiecesNoncached.{some_bytes, page_is_written, transfer_fails, transfer_wants_memory, misaligned, first_read, a_page, read_through, read_around, repinned, written_through, hold_alone};
+ghost use Rattle.cc_worked.specs.PiecesNoncached.{short_page_first, both_pages, short_page_alone, refused_behind, refused_further};
 
 /// A page of a noncached write is stored and written; where the transfer fails the store stands and the end
 /// of the write tells it; where it finds no memory the write has no end.
@@ -34,6 +35,17 @@ pub fn noncached_call_is_of_whole_pages()
 pub fn noncached_read_writes_its_page()
     ensures done { CallDone first_read a_page both_dirty read_through }
     ensures not_around { CallDone first_read a_page both_dirty read_around → ⊥ }
+{}
+
+/// The page behind one that came short ends a noncached read, and its bytes are not told; where it is refused, that is
+/// the answer.
+pub fn noncached_read_ends_behind_a_short_page()
+    ensures untold { Leaves (NcReadLeft setup 1 a 0 8192) (Ok some_bytes) two_pages short_page_first }
+    ensures refused { Leaves (NcReadLeft setup 1 a 0 8192) (Err (1, error.NotCached)) two_pages refused_behind }
+    ensures not_told { Leaves (NcReadLeft setup 1 a 0 8192) (Ok both_pages) two_pages short_page_first → ⊥ }
+    ensures not_unread { Leaves (NcReadLeft setup 1 a 0 8192) (Ok some_bytes) two_pages short_page_alone → ⊥ }
+    ensures not_further { Leaves (NcReadLeft setup 1 a 0 12288) (Err (2, error.NotCached))
+        two_pages refused_further → ⊥ }
 {}
 
 /// The end of a repin with write through ends the hold whatever the flush of its range answers.
