@@ -136,6 +136,7 @@ scanned-after me picked gap during old new newer others grew has = record {
   grew = grew-after gap during (entry.Scan me picked ∷ (has.before ++ old)) new newer grew has.grew;
   quiet = has.quiet;
   works = works-after me (Writes picked) gap during (entry.Scan me picked ∷ (has.before ++ old)) others has.works;
+  in_order = rw (own-after me gap during others) has.in_order;
 }
 
 abbrev scanned-before : (me : ℕ) (picked : List Page) (during gap older new : List Entry) → Others me gap → HasScanned me picked during (gap ++ older) new → HasScanned me picked during older new
@@ -144,6 +145,7 @@ scanned-before me picked during gap older new others has = record {
   grew = rw (append_assoc has.before gap older) has.grew;
   quiet = others-append me has.before gap has.quiet others;
   works = rw (append_assoc has.before gap older) has.works;
+  in_order = has.in_order;
 }
 
 cut-tick-after : (me : ℕ) (e : CcError) (old new newer : List Entry) → TickCutOff me e old new → IsIdle me new newer → TickCutOff me e old newer

@@ -1,5 +1,5 @@
 -- What the lazy writer leaves: the writing of one page, and a tick. Neither has a call's entry.
-use Rattle.std.specs.Prelude.{◌≡◌, ℕ, ◌≤◌, ◌<◌, Bool, true, false, not, ◌&&◌, ◌||◌, List, [], ◌∷◌, ◌++◌, length, Result, Ok, Err, ◌⊎◌}
+use Rattle.std.specs.Prelude.{◌≡◌, ℕ, ◌≤◌, ◌<◌, Bool, true, false, not, ◌&&◌, ◌||◌, List, [], ◌∷◌, ◌++◌, length, reverse, Result, Ok, Err, ◌⊎◌, if◌then◌else◌}
 use Rattle.std.specs.declared.option.Option.TheVariants.{Some}
 use Rattle.std.specs.List.{list_any, count_by}
 use Rattle.cc_entry.specs.Place.{Page}
@@ -150,13 +150,27 @@ abbrev pub is_log_failure : Entry → Bool
 is_log_failure (entry.LogFailed pass handle) = true
 is_log_failure other = false
 
+-- the pages whose transfers begin in a list of entries, in its order
+abbrev pub pages_begun : List Entry → List Page
+pages_begun [] = []
+pages_begun (entry.WriteBegin pass page ∷ entries) = page ∷ pages_begun entries
+pages_begun (other ∷ entries) = pages_begun entries
+
+-- whether pages are some of others, in the same order
+abbrev pub are_in_order : List Page → List Page → Bool
+are_in_order [] among = true
+are_in_order (page ∷ pages) [] = false
+are_in_order (page ∷ pages) (first ∷ among) =
+    if is_same_page page first then are_in_order pages among else are_in_order (page ∷ pages) among
+
 -- A scan of the pass stands in the stretch, with what the pass placed after it; before it the pass placed
--- nothing.
+-- nothing. The pass began transfers in the order in which the scan picked their pages.
 pub record HasScanned (me : ℕ) (picked : List Page) (during old new : List Entry) : Type 0 where
   pub before : List Entry
   pub grew : new ≡ during ++ (entry.Scan me picked ∷ (before ++ old))
   pub quiet : Others me before
   pub works : Works me (Writes picked) during (entry.Scan me picked ∷ (before ++ old))
+  pub in_order : are_in_order (pages_begun (own me during)) (reverse picked) ≡ true
 
 -- A tick: its scan, and then each page that it picked is counted once, by what became of it. No more pages
 -- fail by a log than a log failed.

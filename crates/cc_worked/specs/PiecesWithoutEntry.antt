@@ -81,6 +81,23 @@ page_of_tick = ends 17 0 ∷ begins 17 0 ∷ scanned
 abbrev pub one_written : Tick
 one_written = record { picked = page 0 ∷ []; written = 1; skipped = 0; failed = 0 }
 
+-- both pages of a stream were picked, and are written in that order
+abbrev pub pages_are_written : List Entry
+pages_are_written = ends 17 1 ∷ begins 17 1 ∷ page_is_written
+
+abbrev pub both_scanned : List Entry
+both_scanned = entry.Scan 17 (page 0 ∷ page 1 ∷ []) ∷ []
+
+abbrev pub pages_of_tick : List Entry
+pages_of_tick = pages_are_written ++ both_scanned
+
+abbrev pub two_written : Tick
+two_written = record { picked = page 0 ∷ page 1 ∷ []; written = 2; skipped = 0; failed = 0 }
+
+-- wrong: the second one comes first
+abbrev pub pages_out_of_order : List Entry
+pages_out_of_order = page_is_written ++ (ends 17 1 ∷ begins 17 1 ∷ both_scanned)
+
 -- a request for the second page, and its step
 abbrev pub request : Request
 request = record { file = a; at = 4096; len = 4096 }

@@ -9,6 +9,8 @@ ghost use Rattle.cc_worked.specs.Values.{setup, with_threshold, a, page, Leaves,
 ghost use Rattle.cc_worked.specs.PiecesReads.{two_pages};
 ghost use Rattle.cc_worked.specs.PiecesWithoutEntry.{AppendTo, LogFlushTo, DeferralOf, PostIn};
 ghost use Rattle.cc_worked.specs.PiecesWithoutEntry.{flushed_to_three, appended, appended_nowhere, log_fails, deferred, posted, one_deferred, dirty, page_is_written, page_fails, page_is_written_twice, page_of_tick, one_written, step};
+ghost use Rattle.cc_worked.specs.PiecesWithoutEntry.{pages_of_tick, two_written, pages_out_of_order};
+ghost use Rattle.cc_worked.specs.PiecesWrites.{both_dirty};
 ghost use Rattle.cc_worked.specs.PiecesAnswered.{step_done};
 
 /// An append leaves its entry and answers its LSN; a flush leaves one, and can fail, only where the log was not
@@ -35,7 +37,7 @@ pub fn deferrals_and_posts()
 {}
 
 /// A page is written once, skipped or not written by what the pass placed, and the journal is full only where
-/// something was still to be placed; a tick counts the pages that it picked, and writes no other.
+/// something was still to be placed; a tick counts the pages that it picked, writes no other, and keeps their order.
 pub fn pages_are_counted()
     ensures written { Leaves (PageWriteLeft 17 (page 0)) (Ok Written) dirty page_is_written }
     ensures failed { Leaves (PageWriteLeft 17 (page 0)) (Ok NotWritten) dirty page_fails }
@@ -44,6 +46,8 @@ pub fn pages_are_counted()
     ensures not_twice { Leaves (PageWriteLeft 17 (page 0)) (Ok Written) dirty page_is_written_twice → ⊥ }
     ensures not_full { Leaves (PageWriteLeft 17 (page 0)) (Err (error.JournalFull 5)) dirty page_is_written → ⊥ }
     ensures ticked { Leaves (TickLeft 17) (Ok one_written) dirty page_of_tick }
+    ensures in_order { Leaves (TickLeft 17) (Ok two_written) both_dirty pages_of_tick }
+    ensures not_out_of_order { Leaves (TickLeft 17) (Ok two_written) both_dirty pages_out_of_order → ⊥ }
 {}
 
 /// A read-ahead step serves a request that it took, or leaves nothing; the levels are asked of an open file.

@@ -1,13 +1,16 @@
 -- The begin and the end of the page's transfer, and the scan before them.
-use Rattle.std.specs.Prelude.{◌≡◌, ◌≤◌, ◌<◌, [], ◌∷◌, refl}
+use Rattle.std.specs.Prelude.{◌≡◌, ◌≤◌, ◌<◌, [], ◌∷◌, ◌++◌, refl}
 use Rattle.std.proofs.Common.{arith, sym}
 use Rattle.std.proofs.lemmas.List.{append_cancel_right}
 use Rattle.cc_effects.specs.Asked.{Writes}
+use Rattle.cc_effects.specs.Moments.{own}
+use Rattle.cc_effects.specs.PageWrites.{pages_begun}
 use Rattle.cc_effects.proofs.WorkSteps.{works-others}
 use Rattle.cc_worked.specs.Values.{page}
-use Rattle.cc_worked.specs.PiecesWithoutEntry.{dirty, page_is_written, page_fails, page_is_written_twice}
+use Rattle.cc_worked.specs.PiecesWrites.{both_dirty}
+use Rattle.cc_worked.specs.PiecesWithoutEntry.{dirty, page_is_written, page_fails, page_is_written_twice, pages_out_of_order, two_written}
 use Rattle.cc_worked.proofs.PiecesOpened.{computed, not_so}
-use Rattle.cc_worked.proofs.Ticks.{ticked}
+use Rattle.cc_worked.proofs.Ticks.{begun-since, ticked, ticked_twice}
 use Rattle.cc_worked.proofs.pieces_without_entry.pages_are_counted.Goals as goal
 
 pub returns-clause-written : goal.returns-clause-written
@@ -62,3 +65,11 @@ returns-clause-not_full c left =
 
 pub returns-clause-ticked : goal.returns-clause-ticked
 returns-clause-ticked c = ticked
+
+pub returns-clause-in_order : goal.returns-clause-in_order
+returns-clause-in_order c = ticked_twice
+
+pub returns-clause-not_out_of_order : goal.returns-clause-not_out_of_order
+returns-clause-not_out_of_order c left =
+    let begun : page 0 ∷ page 1 ∷ [] ≡ pages_begun (own 17 left.during) = begun-since two_written.picked left.during both_dirty (pages_out_of_order ++ both_dirty) left.scanned refl in
+    not_so (rw (sym begun) at left.scanned.in_order)
