@@ -4,3 +4,9 @@ pub mod PlainPages
 pub mod ClosedMaps
 pub mod AskedLines
 pub mod Words
+pub mod Streams
+pub mod LeftStreams
+pub mod RunStreams
+pub mod Faultless
+pub mod RunFaultless
+pub mod SteppedStreams

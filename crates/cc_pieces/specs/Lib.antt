@@ -14,3 +14,4 @@ pub mod Table
 pub mod Moments
 pub mod Events
 pub mod Steps
+pub mod Faultless

@@ -1,0 +1,253 @@
+-- A line whose journal shows no failure is answered none.
+use Rattle.std.specs.Prelude.{◌≡◌, ℕ, zero, suc, ◌+◌, ◌*◌, ◌/◌, ◌%◌, Bool, true, false, ◌==◌, ◌&&◌, ◌||◌, nat_lt, List, [], ◌∷◌, ◌++◌, length, take, drop, Err, refl, if◌then◌else◌}
+use Rattle.std.specs.declared.option.Option.{Option}
+use Rattle.std.specs.declared.option.Option.TheVariants.{Some, None}
+use Rattle.std.specs.List.{AllByRecursion}
+use Rattle.std.proofs.Common.{sym, ap, subst, ◌∙◌, inl, inr}
+use Rattle.std.proofs.lemmas.Option.{same_Some}
+use Rattle.cc_entry.specs.Place.{File}
+use Rattle.cc_entry.specs.Kinds.{is_map, is_pin, is_repin, is_read_chain, is_write_chain}
+use Rattle.cc_entry.specs.declared.answer.Answer.{Answer}
+use Rattle.cc_entry.specs.declared.answer.Answer.TheVariants as answer
+use Rattle.cc_entry.specs.declared.answer.LineReply.{LineReply}
+use Rattle.cc_entry.specs.declared.call.Call.{Call}
+use Rattle.cc_entry.specs.declared.call.Call.TheVariants as call
+use Rattle.cc_entry.specs.declared.entry.End.{End}
+use Rattle.cc_entry.specs.declared.entry.End.TheVariants as how
+use Rattle.cc_entry.specs.declared.entry.Entry.{Entry}
+use Rattle.cc_entry.specs.declared.entry.Entry.TheVariants as entry
+use Rattle.cc_entry.specs.declared.error.CcError.{CcError}
+use Rattle.cc_entry.specs.declared.error.CcError.TheVariants as error
+use Rattle.cc_entry.specs.declared.hold.HoldKind.{HoldKind}
+use Rattle.cc_entry.specs.declared.reply.Outcome.TheVariants as outcome
+use Rattle.cc_entry.specs.declared.reply.Reply.TheVariants as reply
+use Rattle.cc_script.specs.declared.script.Action.{Action}
+use Rattle.cc_script.specs.declared.script.Action.TheVariants as action
+use Rattle.cc_model.specs.Allowed.{is_fault}
+use Rattle.cc_model.specs.Faults.{Fault, fault_of, is_failed}
+use Rattle.cc_model.specs.Holds.{range_held}
+use Rattle.cc_model.specs.Setup.{Setup}
+use Rattle.cc_effects.specs.Calls.{CallLeft, IsFaulted}
+use Rattle.cc_effects.specs.LogCalls.{AppendRefused, FlushRefused}
+use Rattle.cc_effects.specs.Moments.{PlacedOnly}
+use Rattle.cc_effects.specs.Noncached.{MisshapenLeft, PageReadsRefused, PageRefused, ShapedReadLeft, ShapedWriteLeft, TransferRefused, shape_refusal}
+use Rattle.cc_effects.specs.Repins.{UnpinLeft}
+use Rattle.cc_pieces.specs.Answered.{AppendAnswered, CallAnswered, LogFlushAnswered, NcReadAnswered, NcWriteAnswered}
+use Rattle.cc_pieces.specs.Bindings.{Binding, OnHold, hold_named}
+use Rattle.cc_pieces.specs.Faultless.{shows_fault, tells_fault}
+use Rattle.cc_pieces.specs.HoldLines.{HeldReadBy, HoldLine, UnpinAnswered, UnrepinLine}
+use Rattle.cc_pieces.specs.Served.{Served}
+
+-- no entry of a stretch shows a failure
+abbrev pub ShowsNone : List Entry → Type 0
+ShowsNone past = AllByRecursion (λ e. shows_fault e ≡ false) past
+
+pub none-front : (later past : List Entry) → ShowsNone (later ++ past) → ShowsNone past
+none-front [] past none = none
+none-front (e ∷ later) past none = none-front later past none.1
+
+none-head : (later past : List Entry) → ShowsNone (later ++ past) → ShowsNone later
+none-head [] past none = tt
+none-head (e ∷ later) past none = (none.0, none-head later past none.1)
+
+failed-end : (how : End) (b : Bool) (it fault : Fault) → (if b && is_failed how then Some it else None) ≡ Some fault → is_failed how ≡ true
+failed-end how.Good true it fault is = absurd (cc is)
+failed-end how.Good false it fault is = absurd (cc is)
+failed-end how.Failed b it fault is = refl
+failed-end how.NoMemory true it fault is = absurd (cc is)
+failed-end how.NoMemory false it fault is = absurd (cc is)
+
+-- an entry that tells a fault of its pass shows it
+fault-shown : (me : ℕ) (stop : Entry) (fault : Fault) → fault_of me stop ≡ Some fault → shows_fault stop ≡ true
+fault-shown me (entry.FillFailed pass page) fault is = refl
+fault-shown me (entry.WriteEnd pass page how) fault is = failed-end how (pass == me) _ fault is
+fault-shown me (entry.Sync pass stream how) fault is = failed-end how (pass == me) _ fault is
+fault-shown me (entry.LogFailed pass handle) fault is = refl
+fault-shown me other fault is = absurd (cc is)
+
+-- an entry that shows a failure stands in no such stretch
+not-shown : (e : Entry) (later earlier : List Entry) → ShowsNone (later ++ (e ∷ earlier)) → shows_fault e ≡ true → ⊥
+not-shown e later earlier none shown = absurd (cc ((none-front later (e ∷ earlier) none).0, shown))
+
+only-not-shown : (me : ℕ) (e : Entry) (old new : List Entry) → PlacedOnly me e old new → ShowsNone new → shows_fault e ≡ true → ⊥
+only-not-shown me e old new only none shown = not-shown e only.later (only.earlier ++ old) (subst ShowsNone only.grew none) shown
+
+not-faulted : (me : ℕ) (it : Call) (e : CcError) (old new : List Entry) → IsFaulted me it e old new → ShowsNone new → ⊥
+not-faulted me it e old new is none =
+    let front : ShowsNone (is.earlier ++ old) = (none-front is.placed.later _ (subst ShowsNone is.placed.grew none)).1 in
+    let earlier : ShowsNone is.earlier = none-head is.earlier old front in
+    not-shown is.stop is.stopped.since is.stopped.before (subst ShowsNone is.stopped.split earlier) (fault-shown me is.stop is.told.fault is.told.shown)
+
+pub failed-tells-none : (u : Setup) (me : ℕ) (it : Call) (e : CcError) (old new : List Entry) → CallLeft u me it (outcome.Failed e) old new → ShowsNone new → is_fault e ≡ false
+failed-tells-none u me it (error.ReadFault page) old new left none = absurd (not-faulted me it (error.ReadFault page) old new left none)
+failed-tells-none u me it (error.WriteFault page) old new left none = absurd (not-faulted me it (error.WriteFault page) old new left none)
+failed-tells-none u me it (error.LogFault handle) old new left none = absurd (not-faulted me it (error.LogFault handle) old new left none)
+failed-tells-none u me it other old new left none = refl
+
+pub answered-none : (u : Setup) (me : ℕ) (it : Call) (told : Answer) (old new : List Entry) → CallAnswered u me it told old new → ShowsNone new → tells_fault told ≡ false
+answered-none u me it (answer.Given r) old new left none = refl
+answered-none u me it (answer.Refused e) old new left none = failed-tells-none u me it e old new left none
+answered-none u me it other old new left none = absurd left
+
+append-none : (u : Setup) (me handle : ℕ) (bytes : List ℕ) (told : Answer) (old new : List Entry) → AppendAnswered u me handle bytes told old new → ShowsNone new → tells_fault told ≡ false
+append-none u me handle bytes (answer.NewLsn lsn) old new left none = refl
+append-none u me handle bytes (answer.Refused e) old new left none = by e left
+  where
+    by : (e : CcError) → AppendRefused u me handle e old new → is_fault e ≡ false
+    by (error.LogFault failed) left = absurd (only-not-shown me _ old new left.2.1 none refl)
+    by (error.NoLog missing) left = refl
+    by (error.LogFull full) left = refl
+    by (error.JournalFull entries) left = refl
+    by error.NoMemory left = refl
+    by other left = absurd left
+append-none u me handle bytes other old new left none = absurd left
+
+log-flush-none : (u : Setup) (me handle lsn : ℕ) (told : Answer) (old new : List Entry) → LogFlushAnswered u me handle lsn told old new → ShowsNone new → tells_fault told ≡ false
+log-flush-none u me handle lsn (answer.Given reply.Unit) old new left none = refl
+log-flush-none u me handle lsn (answer.Refused e) old new left none = by e left
+  where
+    by : (e : CcError) → FlushRefused u me handle lsn e old new → is_fault e ≡ false
+    by (error.LogFault failed) left = absurd (only-not-shown me _ old new left.2.1 none refl)
+    by (error.NoLog missing) left = refl
+    by (error.JournalFull entries) left = refl
+    by error.NoMemory left = refl
+    by other left = absurd left
+log-flush-none u me handle lsn other old new left none = absurd left
+
+-- a misshapen noncached call is refused by its shape
+shape-none : (at len : ℕ) (refusal : CcError) → shape_refusal at len ≡ Some refusal → is_fault refusal ≡ false
+shape-none at len refusal is = by (nat_lt 65536 len) (at % 4096 == 0 && len % 4096 == 0) is
+  where
+    by : (long whole : Bool) → (if long then Some (error.TooLong 65536) else (if whole then None else Some error.Unaligned)) ≡ Some refusal → is_fault refusal ≡ false
+    by true whole is = ap is_fault (sym (same_Some _ refusal is))
+    by false true is = absurd (cc is)
+    by false false is = ap is_fault (sym (same_Some _ refusal is))
+
+misshapen-none : (me : ℕ) (file : File) (it : Call) (refusal e : CcError) (old new : List Entry) → MisshapenLeft me file it refusal e old new → is_fault refusal ≡ false → is_fault e ≡ false
+misshapen-none me file it refusal error.NoMemory old new left is = refl
+misshapen-none me file it refusal (error.JournalFull entries) old new left is = refl
+misshapen-none me file it refusal error.NotCached old new left is = refl
+misshapen-none me file it refusal e old new left is = ap is_fault left.1 ∙ is
+
+reads-refused-none : (u : Setup) (me : ℕ) (file : File) (page done : ℕ) (e : CcError) (old new : List Entry) → PageReadsRefused u me file page done e old new → ShowsNone new → is_fault e ≡ false
+reads-refused-none u me file page zero e old new left none = failed-tells-none u me (call.NcRead file page) e old new left.1 none
+reads-refused-none u me file page (suc done) e old new left none = reads-refused-none u me file (suc page) done e left.0 new left.4 none
+
+shaped-read-none : (u : Setup) (me : ℕ) (file : File) (at len : ℕ) (shape : Option CcError) (failed : ℕ × CcError) (old new : List Entry) → shape_refusal at len ≡ shape → ShapedReadLeft u me file at len shape (Err failed) old new → ShowsNone new → is_fault failed.1 ≡ false
+shaped-read-none u me file at zero None failed old new is left none = ap (λ f. is_fault f.1) left.0
+shaped-read-none u me file at (suc len) None failed old new is left none = reads-refused-none u me file (at / 4096) failed.0 failed.1 old new left.1 none
+shaped-read-none u me file at len (Some refusal) failed old new is left none =
+    misshapen-none me file (call.NcRead file (at / 4096)) refusal failed.1 old new left.1 (shape-none at len refusal is)
+
+nc-read-none : (u : Setup) (me : ℕ) (file : File) (at len : ℕ) (told : Answer) (old new : List Entry) → NcReadAnswered u me file at len told old new → ShowsNone new → tells_fault told ≡ false
+nc-read-none u me file at len (answer.Given (reply.Read bytes)) old new left none = refl
+nc-read-none u me file at len (answer.NcRefused done cause) old new left none =
+    shaped-read-none u me file at len (shape_refusal at len) (done, cause) old new refl left none
+nc-read-none u me file at len other old new left none = absurd left
+
+page-refused-none : (u : Setup) (me : ℕ) (file : File) (page : ℕ) (bytes : List ℕ) (e : CcError) (old new : List Entry) → PageRefused u me file page bytes e old new → ShowsNone new → is_fault e ≡ false
+page-refused-none u me file page bytes e old new (inl is) none = failed-tells-none u me (call.NcWrite file page) e old new is.1 none
+page-refused-none u me file page bytes e old new (inr is) none = by e is
+  where
+    by : (e : CcError) → TransferRefused me file page bytes e old new → is_fault e ≡ false
+    by (error.WriteFault failed) is =
+        let ended : ShowsNone is.1 = none-front is.4.earlier is.1 (none-front is.4.later (entry.Call me is.2 (Some file.stream) (call.NcWrite file page) (outcome.Failed (error.WriteFault failed)) ∷ (is.4.earlier ++ is.1)) (subst ShowsNone is.4.grew none)).1 in
+        absurd (cc ((subst ShowsNone is.3.grew ended).0))
+    by error.NoMemory is = refl
+    by other is = absurd is
+
+shaped-write-none : (u : Setup) (me : ℕ) (file : File) (at : ℕ) (bytes : List ℕ) (shape : Option CcError) (failed : ℕ × CcError) (old new : List Entry) → shape_refusal at (length bytes) ≡ shape → ShapedWriteLeft u me file at bytes shape (Err failed) old new → ShowsNone new → is_fault failed.1 ≡ false
+shaped-write-none u me file at [] None failed old new is left none = ap (λ f. is_fault f.1) left.0
+shaped-write-none u me file at (byte ∷ bytes) None failed old new is left none =
+    page-refused-none u me file (at / 4096 + failed.0) (take 4096 (drop (4096 * failed.0) (byte ∷ bytes))) failed.1 left.1.0 new left.1.3 none
+shaped-write-none u me file at bytes (Some refusal) failed old new is left none =
+    misshapen-none me file (call.NcWrite file (at / 4096)) refusal failed.1 old new left.1 (shape-none at (length bytes) refusal is)
+
+nc-write-none : (u : Setup) (me : ℕ) (file : File) (at : ℕ) (bytes : List ℕ) (told : Answer) (old new : List Entry) → NcWriteAnswered u me file at bytes told old new → ShowsNone new → tells_fault told ≡ false
+nc-write-none u me file at bytes (answer.Count count) old new left none = refl
+nc-write-none u me file at bytes (answer.NcRefused done cause) old new left none =
+    shaped-write-none u me file at bytes (shape_refusal at (length bytes)) (done, cause) old new refl left none
+nc-write-none u me file at bytes other old new left none = absurd left
+
+on-hold-none : (me : ℕ) (hold : Option ℕ) (Left : ℕ → Answer → List Entry → List Entry → Type 0) (told : Answer) (old new : List Entry) → ((id : ℕ) → Left id told old new → tells_fault told ≡ false) → OnHold me hold Left told old new → tells_fault told ≡ false
+on-hold-none me None Left told old new step left = ap tells_fault left.0
+on-hold-none me (Some id) Left told old new step left = step id left
+
+hold-line-none : (u : Setup) (me : ℕ) (bindings : List Binding) (word : ℕ) (of_kind : HoldKind → Bool) (call_on : ℕ → Call) (told : Answer) (old new : List Entry) → HoldLine u me bindings word of_kind call_on told old new → ShowsNone new → tells_fault told ≡ false
+hold-line-none u me bindings word of_kind call_on told old new left none =
+    on-hold-none me (hold_named bindings word of_kind) (λ id. CallAnswered u me (call_on id)) told old new (λ id one. answered-none u me (call_on id) told old new one none) left
+
+held-read-none : (u : Setup) (me : ℕ) (bindings : List Binding) (word at len : ℕ) (mapped : Option ℕ) (told : Answer) (old new : List Entry) → HeldReadBy u me bindings word at len mapped told old new → ShowsNone new → tells_fault told ≡ false
+held-read-none u me bindings word at len (Some id) told old new left none = answered-none u me (call.MappedRead id at len) told old new left none
+held-read-none u me bindings word at len None told old new left none = hold-line-none u me bindings word is_pin (λ id. call.PinnedRead id at len) told old new left none
+
+unpin-none : (u : Setup) (me id : ℕ) (through : Bool) (e : CcError) (old new : List Entry) → UnpinLeft u me id through (outcome.Failed e) old new → ShowsNone new → is_fault e ≡ false
+unpin-none u me id false e old new left none = failed-tells-none u me (call.EndHold id) e old new left none
+unpin-none u me id true e old new left none =
+    failed-tells-none u me (call.Flush left.1.file (Some (range_held left.1))) e left.0 new left.3 none
+
+unrepin-none : (u : Setup) (me : ℕ) (bindings : List Binding) (word : ℕ) (through : Bool) (told : Answer) (old new : List Entry) → UnrepinLine u me bindings word through told old new → ShowsNone new → tells_fault told ≡ false
+unrepin-none u me bindings word through told old new left none =
+    on-hold-none me (hold_named bindings word is_repin) (UnpinAnswered u me through) told old new (λ id one. by id told one) left
+  where
+    by : (id : ℕ) (told : Answer) → UnpinAnswered u me through id told old new → tells_fault told ≡ false
+    by id (answer.Given r) left = refl
+    by id (answer.Refused e) left = unpin-none u me id through e old new left none
+    by id other left = absurd left
+
+-- a line of a run
+pub served-none : (u : Setup) (me : ℕ) (bindings : List Binding) (asked : Action) (told : Answer) (old new : List Entry) → Served u me bindings asked told old new → ShowsNone new → tells_fault told ≡ false
+served-none u me bindings (action.Initialise file sizes quota temporary) told old new left none =
+    answered-none u me (call.Initialise file sizes quota temporary) told old new left none
+served-none u me bindings (action.Uninitialise file truncate) told old new left none = answered-none u me (call.Uninitialise file truncate) told old new left none
+served-none u me bindings (action.CopyRead file at len wait) told old new left none = answered-none u me (call.CopyRead file at len wait) told old new left none
+served-none u me bindings (action.CopyWrite file at bytes) told old new left none = answered-none u me (call.CopyWrite file at bytes) told old new left none
+served-none u me bindings (action.Zero file span) told old new left none = answered-none u me (call.Zero file span) told old new left none
+served-none u me bindings (action.Map file at len word) told old new left none = answered-none u me (call.Map file at len) told old new left none
+served-none u me bindings (action.PinRead file at len word exclusive) told old new left none = answered-none u me (call.PinRead file at len exclusive) told old new left none
+served-none u me bindings (action.PinMapped word exclusive) told old new left none =
+    hold-line-none u me bindings word is_map (λ id. call.PinMapped id exclusive) told old new left none
+served-none u me bindings (action.PreparePin file at len word zeroed exclusive) told old new left none =
+    answered-none u me (call.PreparePin file at len zeroed exclusive) told old new left none
+served-none u me bindings (action.HeldRead word at len) told old new left none = held-read-none u me bindings word at len (hold_named bindings word is_map) told old new left none
+served-none u me bindings (action.PinnedWrite word at bytes) told old new left none =
+    hold-line-none u me bindings word is_pin (λ id. call.PinnedWrite id at bytes) told old new left none
+served-none u me bindings (action.SetDirty word lsn) told old new left none = hold-line-none u me bindings word is_pin (λ id. call.SetDirty id lsn) told old new left none
+served-none u me bindings (action.Unpin word) told old new left none =
+    hold-line-none u me bindings word (λ its_kind. is_map its_kind || is_pin its_kind) (λ id. call.EndHold id) told old new left none
+served-none u me bindings (action.Repin word made) told old new left none = hold-line-none u me bindings word is_pin (λ id. call.Repin id) told old new left none
+served-none u me bindings (action.UnpinRepinned word through) told old new left none = unrepin-none u me bindings word through told old new left none
+served-none u me bindings (action.MdlRead file at len word) told old new left none = answered-none u me (call.MdlRead file at len) told old new left none
+served-none u me bindings (action.MdlWrite file at len word) told old new left none = answered-none u me (call.MdlWrite file at len) told old new left none
+served-none u me bindings (action.MdlBytes word at len) told old new left none =
+    hold-line-none u me bindings word is_read_chain (λ id. call.MdlBytes id at len) told old new left none
+served-none u me bindings (action.MdlStore word at bytes) told old new left none =
+    hold-line-none u me bindings word is_write_chain (λ id. call.MdlStore id at bytes) told old new left none
+served-none u me bindings (action.MdlDone word) told old new left none =
+    hold-line-none u me bindings word (λ its_kind. is_read_chain its_kind || is_write_chain its_kind) (λ id. call.EndHold id) told old new left none
+served-none u me bindings (action.MdlAbort word) told old new left none = hold-line-none u me bindings word is_write_chain (λ id. call.EndHold id) told old new left none
+served-none u me bindings (action.SetSizes file allocation size) told old new left none = answered-none u me (call.SetSizes file allocation size) told old new left none
+served-none u me bindings (action.State file) told old new left none = answered-none u me (call.State file) told old new left none
+served-none u me bindings (action.Flush file span) told old new left none = answered-none u me (call.Flush file span) told old new left none
+served-none u me bindings (action.Purge file span) told old new left none = answered-none u me (call.Purge file span) told old new left none
+served-none u me bindings (action.NcRead file at len) told old new left none = nc-read-none u me file at len told old new left none
+served-none u me bindings (action.NcWrite file at bytes) told old new left none = nc-write-none u me file at bytes told old new left none
+served-none u me bindings action.IsDirtyData told old new left none = answered-none u me call.IsDirtyData told old new left none
+served-none u me bindings (action.DirtyPages handle) told old new left none = answered-none u me (call.DirtyPages handle) told old new left none
+served-none u me bindings (action.LsnForFile file) told old new left none = answered-none u me (call.LsnForFile file) told old new left none
+served-none u me bindings (action.SetLog file handle) told old new left none = answered-none u me (call.SetLog file handle) told old new left none
+served-none u me bindings (action.Append handle bytes) told old new left none = append-none u me handle bytes told old new left none
+served-none u me bindings (action.LogFlush handle lsn) told old new left none = log-flush-none u me handle lsn told old new left none
+served-none u me bindings (action.SetGranularity file bytes) told old new left none = answered-none u me (call.SetGranularity file bytes) told old new left none
+served-none u me bindings (action.SetAttributes file no_read_ahead no_write_behind) told old new left none =
+    answered-none u me (call.SetAttributes file no_read_ahead no_write_behind) told old new left none
+served-none u me bindings (action.SetThreshold file pages) told old new left none = answered-none u me (call.SetThreshold file pages) told old new left none
+served-none u me bindings other told old new left none = absurd left
+
+-- no answer of replies tells a fault
+abbrev pub TellNone : List LineReply → Type 0
+TellNone replies = AllByRecursion (λ reply. tells_fault reply.answer ≡ false) replies
+
+pub tell-append : (first second : List LineReply) → TellNone first → TellNone second → TellNone (first ++ second)
+tell-append [] second one two = two
+tell-append (reply ∷ first) second one two = (one.0, tell-append first second one.1 two)

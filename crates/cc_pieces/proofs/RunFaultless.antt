@@ -1,0 +1,113 @@
+-- Where the journal of a run shows no failure, no answer tells one.
+use Rattle.std.specs.Prelude.{◌≡◌, ◌≢◌, ℕ, zero, suc, ◌+◌, ◌<◌, ◌≤◌, Bool, true, false, List, [], ◌∷◌, length, map, refl, ◌⊎◌, if◌then◌else◌}
+use Rattle.std.specs.declared.option.Option.{Option}
+use Rattle.std.specs.declared.option.Option.TheVariants.{Some, None}
+use Rattle.std.specs.List.{AllByRecursion}
+use Rattle.std.proofs.Common.{sym, ap, arith, subst, ◌∙◌, inl, inr, eq-eqb}
+use Rattle.std.proofs.lemmas.Bool.{cases_lt}
+use Rattle.cc_entry.specs.declared.answer.Answer.{Answer}
+use Rattle.cc_entry.specs.declared.answer.LineReply.{LineReply}
+use Rattle.cc_entry.specs.declared.call.Call.TheVariants as call
+use Rattle.cc_entry.specs.declared.entry.Entry.{Entry}
+use Rattle.cc_script.specs.Within.{IsLineWithin}
+use Rattle.cc_script.specs.declared.script.Action.{Action}
+use Rattle.cc_script.specs.declared.script.ActionLine.{ActionLine}
+use Rattle.cc_script.specs.declared.script.StreamLine.{StreamLine}
+use Rattle.cc_model.specs.Setup.{Setup}
+use Rattle.cc_pieces.specs.Bindings.{Binding}
+use Rattle.cc_pieces.specs.Explained.{Answered, Given, IsExplained, answered_lines}
+use Rattle.cc_pieces.specs.Faultless.{tells_fault}
+use Rattle.cc_pieces.specs.Openings.{LoggedOpening, Opened, first_object_of, opening_call}
+use Rattle.cc_pieces.specs.Phases.{PhasesRan, Plan, is_of_phase, lazy_writer, lines_in, read_ahead_worker}
+use Rattle.cc_pieces.specs.Runs.{Ran, asked_of}
+use Rattle.cc_pieces.specs.Served.{bindings_after}
+use Rattle.cc_pieces.proofs.Faultless.{ShowsNone, TellNone, answered-none, failed-tells-none, none-front, served-none, tell-append}
+use Rattle.cc_pieces.proofs.LeftStreams.{HasHandles, IsActionBelow}
+use Rattle.cc_pieces.proofs.RunStreams.{LinesBelow, asked-below, left-opened, left-ran, phases-grow}
+
+-- no answer of lines tells a fault
+abbrev LinesTellNone : List (Action × Answer) → Type 0
+LinesTellNone lines = AllByRecursion (λ line. tells_fault line.1 ≡ false) lines
+
+-- the answer of a line that is among those asked, and those of the others
+asked-head : (b : Bool) (line : Action × Answer) (rest : List (Action × Answer)) → b ≡ true → LinesTellNone (if b then line ∷ rest else rest) → tells_fault line.1 ≡ false
+asked-head true line rest is all = all.0
+asked-head false line rest is all = absurd (cc is)
+
+asked-tail : (b : Bool) (line : Action × Answer) (rest : List (Action × Answer)) → LinesTellNone (if b then line ∷ rest else rest) → LinesTellNone rest
+asked-tail true line rest all = all.1
+asked-tail false line rest all = all
+
+-- where no line of a caller of a phase is told a fault, no reply tells one
+every-told : (streams : List StreamLine) (phases : ℕ) (lines : List ActionLine) (replies : List LineReply) → answered_lines replies ≡ map (λ line. line.line) lines → AllByRecursion (IsLineWithin streams phases) lines → ((phase me : ℕ) → 1 ≤ phase → phase ≤ phases → 1 ≤ me → me ≤ 16 → LinesTellNone (asked_of (is_of_phase phase me) lines replies)) → TellNone replies
+every-told streams phases lines [] same within each = tt
+every-told streams phases [] (reply ∷ replies) same within each = absurd (cc same)
+every-told streams phases (line ∷ lines) (reply ∷ replies) same within each = (
+  asked-head (is_of_phase line.phase line.caller line) (line.action, reply.answer) (asked_of (is_of_phase line.phase line.caller) lines replies)
+      (rw (eq-eqb line.caller line.caller refl, eq-eqb line.phase line.phase refl) refl)
+      (each line.phase line.caller within.0.first_phase within.0.last_phase within.0.first_caller within.0.last_caller),
+  every-told streams phases lines replies (cc same) within.1
+      (λ phase me first last low high. asked-tail (is_of_phase phase me line) (line.action, reply.answer) (asked_of (is_of_phase phase me) lines replies) (each phase me first last low high)),
+)
+
+module _ (u : Setup) (n : ℕ) (handles : HasHandles u) where
+  ran-none : (limit me : ℕ) (bindings : List Binding) (lines : List (Action × Answer)) (old new : List Entry) → LinesBelow n lines → Ran u limit me bindings lines old new → ShowsNone new → LinesTellNone lines
+  ran-none limit me bindings [] old new below ran none = tt
+  ran-none limit me bindings (line ∷ more) old new below ran none =
+      let rest = left-ran u n handles limit me (bindings_after line.0 line.1 bindings) more ran.0 new below.1 ran.2 in
+      let front : ShowsNone ran.0 = none-front rest.during ran.0 (subst ShowsNone rest.grew none) in
+      (served-none u me bindings line.0 line.1 old ran.0 ran.1.served front, ran-none limit me (bindings_after line.0 line.1 bindings) more ran.0 new below.1 ran.2 none)
+
+  logged-none : (s : ℕ) (stream : StreamLine) (log : Option ℕ) (told : Answer) (old new : List Entry) → LoggedOpening u s stream log told old new → ShowsNone new → tells_fault told ≡ false
+  logged-none s stream None told old new opened none = answered-none u 0 (opening_call s stream) told old new opened none
+  logged-none s stream (Some handle) told old new (inl refused) none =
+      ap tells_fault refused.1 ∙ failed-tells-none u 0 (opening_call s stream) refused.0 old new refused.2 none
+  logged-none s stream (Some handle) told old new (inr done) none = answered-none u 0 (call.SetLog (first_object_of s) handle) told done.0 new done.2 none
+
+  opened-none : (s : ℕ) (streams : List StreamLine) (replies : List LineReply) (old new : List Entry) → s + length streams ≤ n → Opened u s streams replies old new → ShowsNone new → TellNone replies
+  opened-none s [] [] old new few opened none = tt
+  opened-none s [] (reply ∷ replies) old new few opened none = absurd opened
+  opened-none s (stream ∷ streams) [] old new few opened none = absurd opened
+  opened-none s (stream ∷ streams) (reply ∷ replies) old new few opened none =
+      let rest = left-opened u n handles (suc s) streams replies opened.0 new (omega (arith, few)) opened.2 in
+      let front : ShowsNone opened.0 = none-front rest.during opened.0 (subst ShowsNone rest.grew none) in
+      (logged-none s stream stream.log reply.answer old opened.0 opened.1.opened front, opened-none (suc s) streams replies opened.0 new (omega (arith, few)) opened.2 none)
+
+  module _ (plan : Plan) (no_ticks : plan.ticks ≡ 0) (no_aheads : plan.aheads ≡ 0) (within : AllByRecursion (λ line. IsActionBelow n line.action) plan.lines) where
+    phases-none : (phase left : ℕ) (ticked stepped : List LineReply) (old new : List Entry) → PhasesRan u plan phase left ticked stepped old new → ShowsNone new → (p me : ℕ) → phase ≤ p → p < phase + left → me ≢ lazy_writer → me ≢ read_ahead_worker → LinesTellNone (lines_in plan p me)
+    phases-none phase zero ticked stepped old new ran none p me first last lazy ahead = absurd (omega (arith, first, last))
+    phases-none phase (suc left) ticked stepped old new ran none p me first last lazy ahead =
+        by (cases_lt phase p) (λ first last. phases-none (suc phase) left _ _ ran.0 new ran.3 none p me first last lazy ahead)
+      where
+        front : ShowsNone ran.0
+        front =
+            let more = phases-grow u n handles plan no_ticks no_aheads within (suc phase) left _ _ ran.0 new ran.3 in
+            none-front more.0 ran.0 (subst ShowsNone more.1 none)
+
+        here : LinesTellNone (lines_in plan phase me)
+        here =
+            ran-none _ me _ (lines_in plan phase me) old ran.0 (asked-below n (is_of_phase phase me) plan.lines plan.answers within)
+            (ran.2.callers me lazy ahead) front
+
+        by : (phase < p) ⊎ (p ≤ phase) → (suc phase ≤ p → p < suc phase + left → LinesTellNone (lines_in plan p me)) → LinesTellNone (lines_in plan p me)
+        by (inl later) more = more (omega (arith, later)) (omega (arith, last))
+        by (inr now) more = let same : phase ≡ p = omega (arith, now, first) in subst (λ q. LinesTellNone (lines_in plan q me)) same here
+
+-- Where the journal of a run shows no failure, no answer tells one.
+pub explained-none : (u : Setup) (n : ℕ) (handles : HasHandles u) (given : Given) (told : Answered) (past : List Entry) → length given.streams ≤ n → given.ticks ≡ 0 → given.aheads ≡ 0 → AllByRecursion (λ line. IsActionBelow n line.action) given.lines → AllByRecursion (IsLineWithin given.streams given.phases) given.lines → IsExplained u given told past → ShowsNone past → TellNone told.replies
+explained-none u n handles given told past few no_ticks no_aheads below within is none =
+    subst TellNone (sym is.replies_are) (tell-append is.setup is.answers (opened-none u n handles 0 given.streams is.setup [] is.begun (omega (arith, few)) is.opened front) answers)
+  where
+    plan : Plan
+    plan = record { lines = given.lines; answers = is.answers; ticks = given.ticks; aheads = given.aheads }
+
+    front : ShowsNone is.begun
+    front =
+        let more = phases-grow u n handles plan no_ticks no_aheads below 1 given.phases told.ticked told.stepped is.begun past is.ran in
+        none-front more.0 is.begun (subst ShowsNone more.1 none)
+
+    answers : TellNone is.answers
+    answers =
+        every-told given.streams given.phases given.lines is.answers is.answer_lines within
+        (λ phase me first last low high. phases-none u n handles plan no_ticks no_aheads below 1 given.phases told.ticked told.stepped is.begun past is.ran none phase me first (omega (arith, last))
+        (λ same. absurd (omega (arith, same, high))) (λ same. absurd (omega (arith, same, high))))
