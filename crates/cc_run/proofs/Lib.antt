@@ -20,6 +20,7 @@ mod LogSteps
 mod PostSteps
 mod WorldEnds
 mod Told
+mod Faultless
 pub mod Merging
 pub mod CallersRan
 pub mod Rooms

@@ -1,9 +1,14 @@
--- When each exit status is sure to come: that status, or 6 for want of memory.
+-- When each exit status is sure to come: that status, or 6 for want of memory; and when no fault is shown or told.
 use Rattle.std.specs.Prelude.{◌≡◌, ◌<◌, ◌≤◌, ◌⊎◌, true, false, List, ℕ, length, Some, Result, Ok, Err}
+use Rattle.cc_entry.specs.declared.answer.LineReply.{LineReply}
+use Rattle.cc_entry.specs.declared.entry.Entry.{Entry}
+use Rattle.cc_pieces.specs.Faultless.{IsFaultless}
 use Rattle.cc_script.specs.declared.script.Script.{Script}
 use Rattle.cc_script.specs.Grammar.{script_of}
 use Rattle.cc_run.specs.Words.{is_command, mode_in}
+use Rattle.cc_run.specs.Disks.{Pairwise}
 use Rattle.cc_run.specs.Ends.{Input, Output, GaveAll, TookMany, has_devices}
+use Rattle.cc_run.specs.Setups.{run_disks, run_logs}
 
 -- The words are right, and these bytes, no more than a script may have, come from a source without a fault: it told that
 -- they are left, or it gave them up to its end.
@@ -48,3 +53,15 @@ Completes i o status =
     (bytes : List ℕ) (script : Script) → Comes i bytes → spelled_by i bytes ≡ Ok script →
     has_devices i.disks i.logs i.posts script ≡ true →
     o.faults_after ≡ o.faults → o.stalls_after ≡ o.stalls → EndsWith status 0
+
+-- no count of faults rose
+abbrev pub HaveStayed : {D : Type 0} → (D → ℕ) → List D → List D → Type 0
+HaveStayed faults old new = Pairwise (λ s before after. faults after ≤ faults before) old new
+
+-- Where no count rose, of the disks and of the logs of a run, no failure stands in its journal, and no answer tells one.
+abbrev pub RanWithoutFault : {D L : Type 0} → (D → ℕ) → (L → ℕ) → List D → List D → List L → List L
+    → List LineReply → List Entry → Type 0
+RanWithoutFault disk_faults log_faults disks disks_after logs logs_after replies past =
+    HaveStayed disk_faults (run_disks disks) (run_disks disks_after) →
+    HaveStayed log_faults (run_logs logs) (run_logs logs_after) →
+    IsFaultless replies past

@@ -1,9 +1,10 @@
 //! What a script left that was run, in either mode.
 
-ghost use Rattle.std.specs.Prelude.{◌≡◌, All, IfOk, IfErr, length, true, false};
+ghost use Rattle.std.specs.Prelude.{◌≡◌, All, IfOk, IfErr, length, reverse, true, false};
 ghost use Rattle.cc_turns.specs.Desk.{tells_of};
 ghost use Rattle.cc_script.specs.Modes.{IsOfMode};
 ghost use Rattle.cc_script.specs.Within.{IsWithin};
+ghost use Rattle.cc_run.specs.Complete.{RanWithoutFault};
 ghost use Rattle.cc_run.specs.Ends.{has_devices};
 ghost use Rattle.cc_run.specs.Runs.{HasRun};
 
@@ -60,6 +61,8 @@ pub(crate) fn run_in_mode<
     requires posts { All (λ routine. Q.posted routine ≡ false) posts.items }
     ensures ran { IfOk result (HasRun (tells_of D.told D.faults L.told L.faults Q.posted) mode script.now
         disks.items logs.items posts.items) }
+    ensures faultless { IfOk result (λ ran. RanWithoutFault D.faults L.faults disks.items ran.disks.items logs.items ran.logs.items
+        ran.replies.items (reverse ran.journal.items)) }
     ensures kept { IfErr result (λ back. back.0.items ≡ disks.items) }
     ensures logs_kept { IfErr result (λ back. back.1.items ≡ logs.items) }
     ensures posts_kept { IfErr result (λ back. back.2.items ≡ posts.items) }

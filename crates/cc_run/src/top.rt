@@ -11,6 +11,7 @@ ghost use Rattle.cc_pieces.specs.Steps.{PostsLeft};
 ghost use Rattle.cc_pieces.specs.Table.{table_of};
 ghost use Rattle.cc_run.specs.Setups.{IsSetupOf, setup_of};
 ghost use Rattle.cc_run.specs.Ends.{Input, input, output, IsCause, IsRefused, IsEnded, IsRead, Spells, WasTaken, IsFaultPut, IsPrinted, has_devices};
+ghost use Rattle.cc_run.specs.Complete.{RanWithoutFault};
 ghost use Rattle.cc_run.specs.Main.{HasMain};
 ghost use Rattle.cc_run.specs.declared.no_run.NoRun.TheVariants as no_run;
 ghost use Rattle.cc_run.specs.Disks.{DisksLeft};
@@ -230,7 +231,11 @@ fn conduct<
     ensures logs { LogsLeft L.told L.faults (reverse result.journal.items) logs.items result.logs.items }
     ensures posts { PostsLeft Q.posted (deferrals_in result.script result.replies.items) (reverse result.journal.items)
         posts.items result.posts.items }
+    ensures disks_unused { result.script ≡ None → result.disks.items ≡ disks.items }
+    ensures logs_unused { result.script ≡ None → result.logs.items ≡ logs.items }
     ensures unused { result.script ≡ None → result.posts.items ≡ posts.items }
+    ensures faultless { RanWithoutFault D.faults L.faults disks.items result.disks.items logs.items result.logs.items
+        result.replies.items (reverse result.journal.items) }
 {
     let Prepared { mode, script } = match prepare(
         alloc,
@@ -319,7 +324,13 @@ pub fn cache_main<
     ensures logs { LogsLeft L.told L.faults (reverse result.journal.items) logs.items result.logs.items }
     ensures posts { PostsLeft Q.posted (deferrals_in result.script result.replies.items) (reverse result.journal.items)
         posts.items result.posts.items }
+    // Without a run, all of them come back as they were.
+    ensures disks_unused { result.script ≡ None → result.disks.items ≡ disks.items }
+    ensures logs_unused { result.script ≡ None → result.logs.items ≡ logs.items }
     ensures unused { result.script ≡ None → result.posts.items ≡ posts.items }
+    // Where no count of faults rose, no failure stands in the journal, and no answer tells one.
+    ensures faultless { RanWithoutFault D.faults L.faults disks.items result.disks.items logs.items result.logs.items
+        result.replies.items (reverse result.journal.items) }
     ensures ticks { result.ticks.items ≡ [] }
     ensures aheads { result.aheads.items ≡ [] }
 {

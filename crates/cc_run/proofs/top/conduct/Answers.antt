@@ -1,6 +1,7 @@
 -- What a conducted run left where none was made: nothing happened, and disks, logs and routines are as they were handed in.
 use Rattle.std.proofs.Common.{refl}
 use Rattle.cc_run.proofs.DiskSteps.{disks-kept, good-none}
+use Rattle.cc_run.proofs.Faultless.{faultless-none}
 use Rattle.cc_run.proofs.LogSteps.{logs-kept}
 use Rattle.cc_run.proofs.PostSteps.{posts-kept}
 use Rattle.cc_run.proofs.top.conduct.Goals as goal
@@ -37,3 +38,13 @@ pub returns-in-Err-run_in_mode-clause-posts : goal.returns-in-Err-run_in_mode-cl
 returns-in-Err-run_in_mode-clause-posts g c =
     rw (c.refused-in-Err-run_in_mode.ensures.script, c.refused-in-Err-run_in_mode.ensures.posts, c.in-Err-run_in_mode.ensures.posts_kept)
     (posts-kept g.Q.PostRoutine.posted _ _ c.args.posts.items refl c.requires.posts)
+
+pub returns-in-Err-clause-faultless : goal.returns-in-Err-clause-faultless
+returns-in-Err-clause-faultless g c =
+    faultless-none g.D.Told.faults g.L.LogFile.faults c.args.disks.items _ c.args.logs.items _ c.refused.result.replies.items c.refused.result.journal.items
+    c.refused.ensures.replies c.refused.ensures.journal
+
+pub returns-in-Err-run_in_mode-clause-faultless : goal.returns-in-Err-run_in_mode-clause-faultless
+returns-in-Err-run_in_mode-clause-faultless g c =
+    faultless-none g.D.Told.faults g.L.LogFile.faults c.args.disks.items _ c.args.logs.items _ c.refused-in-Err-run_in_mode.result.replies.items
+    c.refused-in-Err-run_in_mode.result.journal.items c.refused-in-Err-run_in_mode.ensures.replies c.refused-in-Err-run_in_mode.ensures.journal
