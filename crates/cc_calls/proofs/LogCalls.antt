@@ -1,5 +1,5 @@
 -- What the two calls on a log leave, of the journal and of the pass.
-use Rattle.std.specs.Prelude.{◌≡◌, ℕ, suc, ◌+◌, ◌^◌, ◌<◌, ◌≤◌, true, List, [], ◌∷◌, Result, Ok, Err, OnOk, OnErr, IsErrOf, ◌↔◌, refl}
+use Rattle.std.specs.Prelude.{◌≡◌, ◌↔◌, ℕ, suc, ◌+◌, ◌^◌, ◌<◌, ◌≤◌, Bool, true, false, List, [], ◌∷◌, length, Result, Ok, Err, IsErrOf, refl}
 use Rattle.std.specs.Result.{IsErrAnd}
 use Rattle.std.proofs.Common.{ap, sym, ◌∙◌, subst, arith, inl, inr, ⊎_elim}
 use Rattle.std.proofs.lemmas.Bool.{eq-eqb}
@@ -14,26 +14,50 @@ use Rattle.cc_journal.specs.Journal.{JournalState}
 use Rattle.cc_model.specs.Good.{IsGood}
 use Rattle.cc_model.specs.Logs.{floor_of, flushed_to}
 use Rattle.cc_model.specs.Passes.{is_mine}
+use Rattle.cc_model.specs.Room.{reserved_in}
 use Rattle.cc_log.specs.Turn.{IsAppendError}
 use Rattle.cc_model.specs.Setup.{Setup}
 use Rattle.cc_turns.specs.Log.{log_failures}
 use Rattle.cc_turns.specs.Standing.{Standing}
-use Rattle.cc_turns.specs.Takes.{Grows, Takes, with_log}
+use Rattle.cc_turns.specs.Takes.{Grows, Takes, with_log, without_journal}
 use Rattle.cc_writes.specs.Hands.{WentWith}
 use Rattle.cc_writes.specs.Visits.{HasPlaced}
 use Rattle.cc_writes.specs.Ways.{IsFull}
 use Rattle.cc_writes.specs.Logs.{LogLeft}
 use Rattle.cc_writes.specs.declared.log.LogFlush.{LogFlush}
 use Rattle.cc_writes.specs.declared.log.LogFlush.TheVariants as flush
-use Rattle.cc_writes.proofs.OneVisit.{went-then}
+use Rattle.cc_writes.proofs.OneVisit.{Visited, Visiting, stepping-none, visited, went-then}
 use Rattle.cc_calls.specs.Answers.{IsFree}
 use Rattle.cc_calls.specs.Pages.{StaysGood}
-use Rattle.cc_calls.specs.Logs.{IsNotFull, LogEnds, NoPlace, PlaceLeft}
+use Rattle.cc_calls.specs.Logs.{HadRoom, IsNotFull, LogEnds, NoPlace, PlaceIn, PlaceLeft}
 
--- a journal in which a place was asked for has the entries that it had
-pub reserved-entries : {Q : Type 0} (result : Result (Unit {0}) CcError) (j k : JournalState Q) → OnOk result (k ≡ record j { reserved = j.reserved + 1 }) → OnErr result (k ≡ j) → k.entries ≡ j.entries
-reserved-entries (Ok done) j k ok err = ap (λ i. i.entries) ok
-reserved-entries (Err e) j k ok err = ap (λ i. i.entries) err
+-- A place was asked for in a journal: nothing was placed, and one more is reserved where it was given.
+abbrev pub flight_after : Result (Unit {0}) CcError → ℕ → ℕ
+flight_after (Ok done) n = suc n
+flight_after (Err e) n = n
+
+-- at most the one that is reserved
+pub few-after : (result : Result (Unit {0}) CcError) (n : ℕ) → n ≡ 0 → flight_after result n ≤ 1
+few-after (Ok done) n none = omega (arith, none)
+few-after (Err e) n none = omega (arith, none)
+
+pub place-visited : {Q : Type 0} (posted : Q → Bool) (w v : Standing) (handle : ℕ) (result : Result (Unit {0}) CcError) (j k : JournalState Q) → w.held.journal ≡ false → Visiting posted w v j → PlaceIn handle result j k → Visited posted w v (flight_after result w.in_flight) k
+place-visited posted w v handle (Ok done) j k away vis left =
+    visited posted w v (suc w.in_flight) [] j k away vis (stepping-none posted w v (suc w.in_flight) (j.reserved + 1) j k vis left.1 (more j.reserved (reserved_in j.entries) w.in_flight v.others vis.reserved_is))
+  where
+    more : (n owed mine others : ℕ) → n ≡ owed + mine + others → n + 1 ≡ owed + suc mine + others
+    more n owed mine others is = omega (arith, is)
+place-visited posted w v handle (Err e) j k away vis left =
+    visited posted w v w.in_flight [] j k away vis (stepping-none posted w v w.in_flight j.reserved j k vis left.1 vis.reserved_is)
+
+-- where no log was found, the journal that is given has room
+pub place-room : {Q : Type 0} (posted : Q → Bool) (w v : Standing) (handle : ℕ) (result : Result (Unit {0}) CcError) (j k : JournalState Q) → w.held.journal ≡ false → Visiting posted w v j → PlaceIn handle result j k → HadRoom (without_journal k v) result
+place-room posted w v handle (Ok done) j k away vis left = tt
+place-room posted w v handle (Err (error.NoLog missing)) j k away vis left =
+    let seen = place-visited posted w v handle (Err (error.NoLog missing)) j k away vis left in
+    let same : k ≡ j = left.1 in
+    omega (arith, left.0.2, ap (λ (i : JournalState _). i.reserved) same, ap (λ (i : JournalState _). length i.entries) same, ap (λ (i : JournalState _). i.capacity) same, seen.journal.reserved_is, seen.journal.capacity_is)
+place-room posted w v handle (Err other) j k away vis left = tt
 
 -- others went on, and the pass placed nothing
 pub idle-grows : (w : Standing) (seen : List Entry) → Grows w seen → IsIdle w.number w.seen seen
@@ -145,6 +169,12 @@ flush-left w handle lsn (Ok (flush.Failed failed)) seen known left = (
 )
 flush-left w handle lsn (Err e) seen known left = subst (λ (e : CcError). LogFlushLeft {T = Unit {0}} w.setup w.number handle lsn (Err e) w.seen seen) (sym left.1) (idle-grows w seen left.0)
 
+-- whether an answer says that there is no log
+abbrev is_no_log : {A : Type 0} → Result A CcError → Bool
+is_no_log (Ok a) = false
+is_no_log (Err (error.NoLog handle)) = true
+is_no_log (Err e) = false
+
 -- it never finds the journal full
 not-full : {A : Type 0} (w : Standing) (answer : Result A CcError) → IsNotFull answer → IsFull 1 w answer
 not-full w (Ok a) room = tt
@@ -156,9 +186,25 @@ flush-not-full w handle lsn (Ok flush.Reached) seen left = tt
 flush-not-full w handle lsn (Ok (flush.Failed failed)) seen left = tt
 flush-not-full w handle lsn (Err e) seen left = rw left.1 tt
 
+-- one that got its place is not answered that there is no log
+had-room : {A : Type 0} (w : Standing) (answer : Result A CcError) → is_no_log answer ≡ false → HadRoom w answer
+had-room w (Ok a) other = tt
+had-room w (Err (error.NoLog handle)) other = absurd (cc other)
+had-room w (Err e) other = tt
+
+flush-log-there : (w : Standing) (handle lsn : ℕ) (result : Result LogFlush CcError) (seen : List Entry) → LogLeft w handle lsn result seen → is_no_log (answered result) ≡ false
+flush-log-there w handle lsn (Ok flush.Reached) seen left = refl
+flush-log-there w handle lsn (Ok (flush.Failed failed)) seen left = refl
+flush-log-there w handle lsn (Err e) seen left = ap (λ (x : CcError). is_no_log {A = Unit {0}} (Err x)) left.1
+
+append-log-there : (u : Setup) (me handle : ℕ) (bytes : List ℕ) (answer : Result ℕ CcError) (old new : List Entry) → handle < u.logs → AppendLeft u me handle bytes answer old new → is_no_log answer ≡ false
+append-log-there u me handle bytes (Ok lsn) old new known left = refl
+append-log-there u me handle bytes (Err (error.NoLog missing)) old new known left = absurd (omega (arith, known, left.1))
+append-log-there u me handle bytes (Err e) old new known left = refl
+
 -- A call that got no place ends with its refusal.
 module _ (w v : Standing) (handle : ℕ) (e : CcError) (can : IsFree w) (grows : Grows w v.seen) (left : PlaceLeft handle (Err e) w v)
-    (full : IsFull {A = Unit {0}} 1 v (Err e)) (good : IsGood v.setup v.seen) where
+    (full : IsFull {A = Unit {0}} 1 v (Err e)) (room : HadRoom {A = Unit {0}} v (Err e)) (good : IsGood v.setup v.seen) where
   good-still : StaysGood w v
   good-still was_good = subst (λ (u : Setup). IsGood u v.seen) (ap (λ x. x.setup) left.1.same) good
 
@@ -167,6 +213,7 @@ module _ (w v : Standing) (handle : ℕ) (e : CcError) (can : IsFree w) (grows :
   append-no-place bytes (Err other) told = rw told (record {
     left = append-unplaced w.setup w.number handle bytes e w.seen v.seen left.0 (idle-grows w v.seen grows);
     full = full;
+    room = room;
     goes_on = left.1;
     good = good-still;
   })
@@ -176,6 +223,7 @@ module _ (w v : Standing) (handle : ℕ) (e : CcError) (can : IsFree w) (grows :
   flush-no-place lsn (Err other) told = rw told (record {
     left = flush-unplaced w.setup w.number handle lsn e w.seen v.seen left.0 (idle-grows w v.seen grows);
     full = full;
+    room = room;
     goes_on = left.1;
     good = good-still;
   })
@@ -202,6 +250,7 @@ module _ (w v x : Standing) (handle : ℕ) (can : IsFree w) (grows : Grows w v.s
       record {
         left = whole;
         full = not-full x answer room;
+        room = had-room x answer (append-log-there w.setup w.number handle bytes answer w.seen x.seen place.0 whole);
         goes_on = went-whole;
         good = good-there;
       }
@@ -215,6 +264,7 @@ module _ (w v x : Standing) (handle : ℕ) (can : IsFree w) (grows : Grows w v.s
       record {
         left = whole;
         full = not-full x (answered result) (flush-not-full v handle lsn result x.seen left);
+        room = had-room x (answered result) (flush-log-there v handle lsn result x.seen left);
         goes_on = went-whole;
         good = good-there;
       }

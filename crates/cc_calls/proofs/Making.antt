@@ -1,6 +1,6 @@
 -- A call that makes a hold: the pass has what it hands over.
 use Rattle.std.specs.Prelude.{◌≡◌, ℕ, Bool, true, false, List, [], Ok, Err, refl}
-use Rattle.std.proofs.Common.{ap, sym, subst}
+use Rattle.std.proofs.Common.{ap, inl, sym, subst}
 use Rattle.cc_entry.specs.Place.{File, Range}
 use Rattle.cc_entry.specs.Kinds.{is_pin, is_repin}
 use Rattle.cc_entry.specs.declared.call.Call.{Call}
@@ -71,7 +71,7 @@ module _ (w v : Standing) (of_kind : HoldKind → Bool) (file : File) (at len : 
       let left = rw (same-id told.0 id told.1.0) at told.1.1 in
       record {
         pages = record { left = left; goes_on = ended.goes_on; good = λ was_good. ended.good; missed = ended.missed };
-        full = tt;
+        full = inl tt;
         range = refl;
         holding = made-held w v of_kind (ap (λ (x : Standing). x.number) ended.goes_on.same) file at len id it of makes left (so-far w.setup v.seen ended.good);
       }

@@ -1,5 +1,5 @@
 -- What a call leaves that needs pages: in one turn of its stream's book, or with the turn of the disk too.
-use Rattle.std.specs.Prelude.{◌≡◌, ℕ, true, List, ◌∷◌, ◌++◌, max, Result, Ok, Err, refl}
+use Rattle.std.specs.Prelude.{◌≡◌, ℕ, Bool, true, false, ◌==◌, List, [], ◌∷◌, ◌++◌, max, Result, Ok, Err, refl}
 use Rattle.std.proofs.Common.{ap, sym, ◌∙◌, arith, inl, inr, append_assoc, subst, true≢false}
 use Rattle.cc_entry.specs.declared.call.Call.{Call}
 use Rattle.cc_entry.specs.declared.entry.Entry.{Entry}
@@ -8,10 +8,15 @@ use Rattle.cc_entry.specs.declared.error.CcError.{CcError}
 use Rattle.cc_entry.specs.declared.error.CcError.TheVariants as error
 use Rattle.cc_entry.specs.declared.reply.Outcome.{Outcome}
 use Rattle.cc_entry.specs.declared.reply.Outcome.TheVariants as outcome
+use Rattle.cc_effects.specs.Asked.{Work, Calls}
 use Rattle.cc_effects.specs.Calls.{CallLeft, IsUnderWay}
+use Rattle.cc_effects.specs.Moments.{EachOwn}
+use Rattle.cc_effects.specs.Places.{MayPlace}
 use Rattle.cc_effects.proofs.FrontLaws.{placed-of}
 use Rattle.cc_effects.proofs.Starts.{begins}
+use Rattle.cc_laws.proofs.PassSteps.{calls_of-other}
 use Rattle.cc_model.specs.Good.{IsGood}
+use Rattle.cc_model.specs.Passes.{calls_of, is_call_of, is_mine}
 use Rattle.cc_model.specs.Setup.{Setup}
 use Rattle.cc_step.specs.Step.{most_asked}
 use Rattle.cc_turns.specs.Standing.{Standing}
@@ -23,13 +28,18 @@ use Rattle.cc_writes.specs.declared.tell.Returned.{Returned}
 use Rattle.cc_writes.specs.Ways.{EndedSo, IsFull}
 use Rattle.cc_writes.specs.Fetch.{WentOn, most_room}
 use Rattle.cc_calls.specs.Paged.{Paged, is_paged}
+use Rattle.cc_calls.specs.Pages.{HadMissed, IsFullFor}
 use Rattle.cc_calls.proofs.Waiting.{IsMissed, brings, missed-page}
 
 -- where there is no room for so many entries more, there is none for those of a transfer too
-fuller : (w : Standing) (asked : ℕ) (answer : Result Returned CcError) → IsFull asked w answer → IsFull (max 2 asked) w answer
+fuller : {A : Type 0} (w : Standing) (asked : ℕ) (answer : Result A CcError) → IsFull asked w answer → IsFull (max 2 asked) w answer
 fuller w asked (Ok told) full = tt
 fuller w asked (Err (error.JournalFull entries)) full = (full.0, omega (arith, full.1))
 fuller w asked (Err other) full = tt
+
+pub full-within : {A : Type 0} (it : Call) (w v : Standing) (answer : Result A CcError) → IsFullFor it w v answer → IsFull (most_room it) v answer
+full-within it w v answer (inl full) = fuller v (most_asked it) answer full
+full-within it w v answer (inr full) = full.1
 
 same-turns : (w v : Standing) → Went w v → v.device_turns ≡ w.device_turns
 same-turns w v went = ap (λ x. x.device_turns) went.same
@@ -37,11 +47,25 @@ same-turns w v went = ap (λ x. x.device_turns) went.same
 went-on : (w v : Standing) → Went w v → WentOn w v
 went-on w v went = record { same = went.same ∙ ap (λ (n : ℕ). record w { seen = v.seen; others = v.others; device_turns = n }) (sym (same-turns w v went)) }
 
+-- what a pass places for a call before its entry ends no call
+call-never : (me : ℕ) (work : Work) (base past : List Entry) (e : Entry) → (is_mine me e ≡ true → MayPlace me work base past e) → is_call_of me e ≡ false
+call-never me work base past (entry.Call pass nth stream it ended) may = by (pass == me) refl
+  where
+    by : (b : Bool) → (pass == me) ≡ b → (pass == me) ≡ false
+    by true is = absurd (may is)
+    by false is = is
+call-never me work base past other may = refl
+
+works-uncalled : (me : ℕ) (work : Work) (base during old : List Entry) → EachOwn me (MayPlace me work base) during old → calls_of (during ++ old) me ≡ calls_of old me
+works-uncalled me work base [] old each = refl
+works-uncalled me work base (e ∷ during) old each =
+    calls_of-other e (during ++ old) me (call-never me work base (during ++ old) e each.0) ∙ works-uncalled me work base during old each.1
+
 -- it ended in that one turn
 pub in-turn : (w v : Standing) (it : Call) (answer : Result Returned CcError) (was now : List ℕ) → Went w v → IsGood w.setup v.seen → IsFull (most_asked it) v answer → EndedSo w.setup w.number it answer w.seen v.seen was now → Paged w v it answer was now
 in-turn w v it answer was now went good full left = record {
   left = left;
-  full = fuller v (most_asked it) answer full;
+  full = inl full;
   goes_on = went-on w v went;
   good = good;
   missed = inl (same-turns w v went);
@@ -76,18 +100,10 @@ has-waited w v s page it again was now ended is left =
 pub with-disk : (w v x : Standing) (s page : ℕ) (it again : Call) (answer : Result Returned CcError) (was between now : List ℕ) → is_paged it ≡ true → IsOf it s → Went w v → HasWaited w v s page it again was between → WentOn v x → IsGood x.setup x.seen → IsFull (most_room again) x answer → ((begun : List Entry) → IsUnderWay v.number again begun v.seen → EndedSo v.setup v.number again answer begun x.seen between now) → Paged w x it answer was now
 with-disk w v x s page it again answer was between now paged filed went has on good full left = record {
   left = rw (setup, number, has.call_is, has.same) at (left w.seen way);
-  full = subst (λ (call : Call). IsFull (most_room call) x answer) has.call_is full;
+  full = inr (had-missed, subst (λ (call : Call). IsFull (most_room call) x answer) has.call_is full);
   goes_on = record { same = on.same ∙ ap (λ (y : Standing). record y { seen = x.seen; others = x.others; device_turns = x.device_turns }) went.same };
   good = rw (ap (λ y. y.setup) on.same, setup) at good;
-  missed =
-      inr (record {
-        moment = v.seen;
-        later = grew.0;
-        since = has.way.during;
-        ends = grew.1;
-        begins = has.way.grew;
-        holds = (record { stream = s; page = page }, missed.reached, missed.absent);
-      });
+  missed = inr had-missed;
   no_wait = λ none. absurd (true≢false (sym (brings w.setup it s page v.seen paged has.waits) ∙ none));
 }
   where
@@ -103,5 +119,20 @@ with-disk w v x s page it again answer was between now paged filed went has on g
     grew : (later : List Entry) × (x.seen ≡ later ++ v.seen)
     grew = ended-grew v.setup v.number again answer v.seen x.seen between now (left v.seen (begins v.number again v.seen))
 
+    uncalled : calls_of v.seen w.number ≡ calls_of w.seen w.number
+    uncalled =
+        ap (λ past. calls_of past w.number) has.way.grew
+        ∙ works-uncalled w.number (Calls it) w.seen has.way.during w.seen has.way.works.each
+
     missed : IsMissed it s page v.seen
     missed = missed-page w.setup it s page v.seen paged filed has.waits
+
+    had-missed : HadMissed w.number it w.seen x.seen
+    had-missed = record {
+      moment = v.seen;
+      later = grew.0;
+      since = has.way.during;
+      ends = grew.1;
+      begins = has.way.grew;
+      holds = (uncalled, (record { stream = s; page = page }, missed.reached, missed.absent));
+    }

@@ -20,10 +20,9 @@ use Rattle.cc_model.specs.Holds.{holds_of, hold_at}
 use Rattle.cc_turns.specs.Standing.{Standing}
 use Rattle.cc_writes.specs.Hands.{Went}
 use Rattle.cc_writes.specs.Ways.{IsFull}
-use Rattle.cc_writes.specs.Fetch.{most_room}
 use Rattle.cc_calls.specs.Answers.{CallEnds, outcome_of}
 use Rattle.cc_calls.specs.Flushes.{IsDurable}
-use Rattle.cc_calls.specs.Pages.{IsFullOf, PagesLeft, StaysGood, WentOn}
+use Rattle.cc_calls.specs.Pages.{IsFullFor, IsFullOf, PagesLeft, StaysGood, WentOn}
 use Rattle.cc_calls.specs.Held.{IsHolding, range_of}
 use Rattle.cc_calls.specs.declared.held.Held.{Held}
 use Rattle.cc_model.specs.Room.{owes_set_dirty}
@@ -75,7 +74,7 @@ writes_through other = false
 pub record MakingEnds (old new : Standing) (of_kind : HoldKind → Bool) (file : File) (at len : ℕ) (it : Call)
     (answer : Result Held CcError) : Type 0 where
   pub pages : PagesLeft old new it (hold_outcome answer)
-  pub full : IsFull (most_room it) new answer
+  pub full : IsFullFor it old new answer
   pub range : IfOk answer (λ held. held ≡ held_at file at len held.id)
   pub holding : IfOk answer (IsHolding new of_kind)
 

@@ -10,8 +10,8 @@ use Rattle.cc_turns.specs.Standing.{Standing}
 use Rattle.cc_writes.specs.Hands.{Went}
 use Rattle.cc_writes.specs.Ways.{EndedSo, IsFull}
 use Rattle.cc_writes.specs.declared.tell.Returned.{Returned}
-use Rattle.cc_writes.specs.Fetch.{WentOn, most_room}
-use Rattle.cc_calls.specs.Pages.{TookDeviceFor}
+use Rattle.cc_writes.specs.Fetch.{WentOn}
+use Rattle.cc_calls.specs.Pages.{IsFullFor, TookDeviceFor}
 
 -- whether a call is done on pages of its stream, all of which have to be resident
 abbrev pub is_paged : Call → Bool
@@ -37,7 +37,7 @@ pub record CalledAtOnce (old new : Standing) (it : Call) (answer : Result Return
 -- where the call brings no page in.
 pub record Paged (old new : Standing) (it : Call) (answer : Result Returned CcError) (was now : List ℕ) : Type 0 where
   pub left : EndedSo old.setup old.number it answer old.seen new.seen was now
-  pub full : IsFull (most_room it) new answer
+  pub full : IsFullFor it old new answer
   pub goes_on : WentOn old new
   pub good : IsGood old.setup new.seen
   pub missed : TookDeviceFor it old new

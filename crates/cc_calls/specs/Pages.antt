@@ -13,16 +13,19 @@ use Rattle.cc_effects.specs.Calls.{CallLeft}
 use Rattle.cc_effects.specs.Moments.{AtSome}
 use Rattle.cc_model.specs.Good.{IsGood}
 use Rattle.cc_model.specs.History.{history}
+use Rattle.cc_model.specs.Passes.{calls_of}
 use Rattle.cc_model.specs.Residency.{is_resident}
+use Rattle.cc_step.specs.Step.{most_asked}
 use Rattle.cc_turns.specs.Standing.{Standing}
 use Rattle.cc_writes.specs.Ways.{IsFull}
+use Rattle.cc_writes.specs.Fetch.{most_room}
 use Rattle.cc_ranges.specs.Flush.{outcome_of}
 -- A pass goes on as it stood: it has seen more, what others have reserved may be other, and it may have taken the
 -- turn of a disk.
 pub use Rattle.cc_writes.specs.Fetch.{WentOn}
 
--- Where a call finds the journal full, it has so many entries, and no room beside what is owed and under way: for one
--- more, or for the two of a transfer.
+-- Where a flush or a purge finds the journal full, it has so many entries, and no room beside what is owed and under way:
+-- for one more, or for the two of a transfer.
 abbrev pub IsFullOf : {A : Type 0} → Standing → Result A CcError → Type 0
 IsFullOf w answer = IsFull 2 w answer
 
@@ -30,15 +33,23 @@ IsFullOf w answer = IsFull 2 w answer
 abbrev pub StaysGood : Standing → Standing → Type 0
 StaysGood old new = IsGood old.setup old.seen → IsGood old.setup new.seen
 
--- at a moment of the call a page of its range was not resident
-abbrev pub HadMissed : Call → List Entry → List Entry → Type 0
-HadMissed it old new =
+-- At a moment of the call a page of its range was not resident. The call's own entry did not stand there yet: the pass had
+-- ended no call since the call began.
+abbrev pub HadMissed : ℕ → Call → List Entry → List Entry → Type 0
+HadMissed me it old new =
     AtSome (λ moment.
-    (page : Page) × (reaches it page moment ≡ true) × (is_resident (history moment page.stream) page.page ≡ false)) old new
+    (calls_of moment me ≡ calls_of old me)
+    × ((page : Page) × (reaches it page moment ≡ true) × (is_resident (history moment page.stream) page.page ≡ false))) old new
 
 -- The turn of a disk was taken no more often than before, or a page of the call's range was not resident.
 abbrev pub TookDeviceFor : Call → Standing → Standing → Type 0
-TookDeviceFor it old new = (new.device_turns ≡ old.device_turns) ⊎ HadMissed it old.seen new.seen
+TookDeviceFor it old new = (new.device_turns ≡ old.device_turns) ⊎ HadMissed old.number it old.seen new.seen
+
+-- Where a call that needs pages finds the journal full, there is no room for what its entry asks; or a page of its range was
+-- not resident, and there is none for the most that the entry or a step that fetches a page asks.
+abbrev pub IsFullFor : {A : Type 0} → Call → Standing → Standing → Result A CcError → Type 0
+IsFullFor it old new answer =
+    IsFull (most_asked it) new answer ⊎ (HadMissed old.number it old.seen new.seen × IsFull (most_room it) new answer)
 
 -- What a call that needs pages left: what explains that it ended so, the pass as it stood, what it has seen
 -- still good, and a turn of a disk taken only for a page that was not resident.
@@ -51,7 +62,7 @@ pub record PagesLeft (old new : Standing) (it : Call) (ended : Outcome) : Type 0
 -- A call that changes bytes was answered so.
 pub record ChangeEnds (old new : Standing) (it : Call) (answer : Result (Unit {0}) CcError) : Type 0 where
   pub pages : PagesLeft old new it (outcome_of answer)
-  pub full : IsFullOf new answer
+  pub full : IsFullFor it old new answer
 
 -- how the entry of a read says that it ended, whose caller was answered so, with these bytes in what it handed in
 abbrev pub read_outcome : Result ℕ CcError → List ℕ → Outcome
@@ -67,6 +78,6 @@ KeepsRest (Err e) was now = now ≡ was
 pub record ReadEnds (old new : Standing) (file : File) (at : ℕ) (wait : Bool) (answer : Result ℕ CcError)
     (was now : List ℕ) : Type 0 where
   pub pages : PagesLeft old new (call.CopyRead file at (length was) wait) (read_outcome answer now)
-  pub full : IsFullOf new answer
+  pub full : IsFullFor (call.CopyRead file at (length was) wait) old new answer
   pub rest : KeepsRest answer was now
   pub no_wait : wait ≡ false → new.device_turns ≡ old.device_turns

@@ -9,9 +9,10 @@ ghost use Rattle.cc_turns.specs.Takes.{Grows};
 ghost use Rattle.cc_writes.specs.Hands.{WentWith};
 ghost use Rattle.cc_writes.specs.Ways.{IsFull};
 ghost use Rattle.cc_calls.specs.Answers.{IsFree};
-ghost use Rattle.cc_calls.specs.Logs.{IsNotFull, LogEnds, PlaceLeft, RoomLeft};
+ghost use Rattle.cc_calls.specs.Logs.{HadRoom, IsNotFull, LogEnds, PlaceIn, PlaceLeft, PlaceOf};
 
 use cc_entry::{Bytes, CcError, Entry, Lsn};
+use cc_journal::Journal;
 use cc_log::LogTurn;
 use cc_turns::Turns;
 use cc_writes::{LogFlush, flush_to, give_back, place};
@@ -61,30 +62,36 @@ fn reserve_for<T: Turns>(turns: &mut T, handle: u8) -> Result<(), CcError>
     ensures good { IsGood (T.standing turns.new).setup (T.standing turns.new).seen }
     ensures left { PlaceLeft handle result (T.standing turns.old) (T.standing turns.new) }
     ensures full { IsFull 1 (T.standing turns.new) result }
-{
-    reserve(turns)?;
-    if turns.logs() <= handle {
-        give_back(turns);
-        return Err(CcError::NoLog {
-            handle: u64::from(handle),
-        });
-    }
-    Ok(())
-}
-
-// Reserves a place for one entry.
-fn reserve<T: Turns>(turns: &mut T) -> Result<(), CcError>
-    requires away { (T.standing turns.old).held.journal ≡ false }
-    requires none { (T.standing turns.old).in_flight ≡ 0 }
-    ensures grows { Grows (T.standing turns.old) (T.standing turns.new).seen }
-    ensures good { IsGood (T.standing turns.new).setup (T.standing turns.new).seen }
-    ensures left { RoomLeft result (T.standing turns.old) (T.standing turns.new) }
-    ensures full { IsFull 1 (T.standing turns.new) result }
+    ensures room { HadRoom (T.standing turns.new) result }
 {
     let mut journal = turns.take_journal();
-    let reserved = journal.reserve(1);
+    let reserved = reserve_in(&mut journal, handle);
     turns.give_journal(journal);
     reserved
+}
+
+// The same in a journal in hand. Room is asked before the log.
+fn reserve_in<Q>(journal: &mut Journal<Q>, handle: u8) -> Result<(), CcError>
+    ensures { PlaceIn handle result journal.old journal.new }
+{
+    match journal.reserve(1) {
+        Ok(()) => place_of(journal, handle),
+        Err(error) => Err(error),
+    }
+}
+
+// The place that is reserved stays where there is such a log, and is given back where there is none.
+fn place_of<Q>(journal: &mut Journal<Q>, handle: u8) -> Result<(), CcError>
+    requires { 0 < journal.old.reserved }
+    ensures { PlaceOf handle result journal.old journal.new }
+{
+    if handle < journal.logs() {
+        return Ok(());
+    }
+    journal.release(1);
+    Err(CcError::NoLog {
+        handle: u64::from(handle),
+    })
 }
 
 // Appends an entry to a log. The place that is reserved for it is used, or given back.

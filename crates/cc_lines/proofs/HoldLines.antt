@@ -30,6 +30,7 @@ use Rattle.cc_step.specs.Step.{most_asked}
 use Rattle.cc_turns.specs.Standing.{Standing}
 use Rattle.cc_writes.specs.Ways.{IsFull}
 use Rattle.cc_calls.specs.Ends.{MakingEnds, hold_outcome}
+use Rattle.cc_calls.proofs.Paging.{full-within}
 use Rattle.cc_lines.specs.Holds.{NamesState, bound_named, kind_of, made_told, test_of}
 use Rattle.cc_lines.specs.Line.{CanServe, IsFullTold, LineEnds, StandFor}
 use Rattle.cc_lines.specs.declared.holds.Named.{Named}
@@ -55,7 +56,7 @@ module _ (old new : Standing) (names now : NamesState) (file : File) (at len : �
         (stand-made old new ends.pages.goes_on (ends.pages.good good) bounds bindings names stand file at len k of_kind it (length names.named) (right bounds bindings used) known makes keeps
         (λ n left. (file.stream, filed-stream (holds_of (stream_history (left.earlier ++ old.seen) left.placed.stream)) old.number left.placed.stream it file is_file left.placed.filed))
         made now ends.pages.left ends.range ends.holding kinds (ap (λ n. n.named) grew));
-    full = made-full (max 2 (most_asked it)) new made most ends.full;
+    full = made-full (max 2 (most_asked it)) new made most (full-within it old new (held_answer made) ends.full);
     goes_on = ends.pages.goes_on;
     good = ends.pages.good good;
     room = ap (λ n. n.room) grew;

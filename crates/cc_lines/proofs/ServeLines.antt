@@ -28,6 +28,8 @@ use Rattle.cc_turns.specs.Standing.{Standing}
 use Rattle.cc_writes.specs.Ways.{IsFull}
 use Rattle.cc_lines.specs.Holds.{NamesState}
 use Rattle.cc_lines.specs.Line.{CanServe, IsFullTold, LineEnds, flag_told, lsns_told, rows_told, state_told, told_of}
+use Rattle.cc_writes.specs.Fetch.{most_room}
+use Rattle.cc_calls.proofs.Paging.{full-within}
 use Rattle.cc_lines.proofs.WordLines.{full-told, went-on}
 use Rattle.cc_lines.proofs.UseLines.{told-answered, told-full}
 use Rattle.cc_lines.proofs.PlainLines.{log_flush-line, plain-line, plain_call}
@@ -119,10 +121,10 @@ lsns-full n w (Err e) less full = full-told n w e less full
 
 module _ (old new : Standing) (names : NamesState) (asked : Action) (told : Answer) (good : IsGood old.setup old.seen) where
   -- a change of bytes that is not through a hold
-  pub change-line : (it : Call) (ended : Result (Unit {0}) CcError) → plain_call asked ≡ Some it → told ≡ told_of ended → ChangeEnds old new it ended → LineEnds old new asked told names names
-  change-line it ended is tells ends =
+  pub change-line : (it : Call) (ended : Result (Unit {0}) CcError) → plain_call asked ≡ Some it → most_room it ≤ 3 → told ≡ told_of ended → ChangeEnds old new it ended → LineEnds old new asked told names names
+  change-line it ended is less tells ends =
       told-as old new asked told (told_of ended) names names tells
-      (plain-line old new (told_of ended) names (told-full 2 new ended (omega arith) ends.full) ends.pages.goes_on (ends.pages.good good) asked it is
+      (plain-line old new (told_of ended) names (told-full (most_room it) new ended less (full-within it old new ended ends.full)) ends.pages.goes_on (ends.pages.good good) asked it is
       (told-answered old.setup old.number it ended old.seen new.seen ends.pages.left))
 
   -- a call that sets something

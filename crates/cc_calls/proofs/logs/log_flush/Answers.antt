@@ -6,7 +6,7 @@ pub returns-in_err-reserve_for : goal.returns-in_err-reserve_for
 returns-in_err-reserve_for g c = record {
   ends =
       flush-no-place (g.T.Turns.standing c.args.turns.now) (g.T.Turns.standing c.reserve_for.new.turns) c.args.handle c.in_err-reserve_for.field-0.0
-      c.requires.can c.reserve_for.ensures.grows c.in_err-reserve_for.ensures.left c.in_err-reserve_for.ensures.full c.reserve_for.ensures.good
+      c.requires.can c.reserve_for.ensures.grows c.in_err-reserve_for.ensures.left c.in_err-reserve_for.ensures.full c.in_err-reserve_for.ensures.room c.reserve_for.ensures.good
       c.args.lsn c.from_residual.result c.from_residual.ensures.1;
 }
 

@@ -61,7 +61,7 @@ zero_data-requires-clause-can g c κs within = may-on (g.T.Turns.standing c.args
 
 pub returns-in-Zero : goal.returns-in-Zero
 returns-in-Zero g c =
-    change-line _ _ c.args.names.now _ _ c.requires.good (call.Zero c.in-Zero.file c.in-Zero.span) c.zero_data.result (ap plain_call c.in-Zero.is) c.answered-in-Zero.ensures c.zero_data.ensures.ends
+    change-line _ _ c.args.names.now _ _ c.requires.good (call.Zero c.in-Zero.file c.in-Zero.span) c.zero_data.result (ap plain_call c.in-Zero.is) (omega arith) c.answered-in-Zero.ensures c.zero_data.ensures.ends
 
 pub map-requires-after_bounds : goal.map-requires-after_bounds
 map-requires-after_bounds g c κs within = can-as _ _ _ _ (next-map (g.T.Turns.standing c.args.turns.now) _ c.args.names.now c.requires _ _ _ _ c.in-Map.is) c.requires
