@@ -1,9 +1,12 @@
 //! What lines leave between two moments by their answers: lines of one call, and of the calls without an entry.
 
-ghost use Rattle.std.specs.Prelude.{[], ◌∷◌, Some, None};
+ghost use Rattle.std.specs.Prelude.{◌≡◌, [], ◌∷◌, Some, None, true, false};
+ghost use Rattle.cc_entry.specs.declared.entry.End.TheVariants as how;
+ghost use Rattle.cc_entry.specs.declared.entry.Entry.TheVariants as entry;
 ghost use Rattle.cc_entry.specs.declared.error.CcError.TheVariants as error;
 ghost use Rattle.cc_entry.specs.declared.answer.Answer.TheVariants as answer;
-ghost use Rattle.cc_worked.specs.Values.{setup, with_threshold, unit, gives, Leaves, LeavesNothing};
+ghost use Rattle.cc_pieces.specs.Faultless.{shows_fault, tells_fault};
+ghost use Rattle.cc_worked.specs.Values.{setup, with_threshold, page, unit, gives, Leaves, LeavesNothing};
 ghost use Rattle.cc_worked.specs.PiecesReads.{two_pages, first_byte, a_byte, page_comes_in, past_the_size, write_refused};
 ghost use Rattle.cc_worked.specs.PiecesNoncached.{misaligned};
 ghost use Rattle.cc_worked.specs.PiecesWithoutEntry.{flushed_to_three, appended, log_fails, deferred, posted, one_deferred, dirty, page_of_tick, one_written, step};
@@ -30,6 +33,22 @@ pub fn log_lines_are_answered()
     ensures no_other_log { Leaves AppendLine (answer.Refused (error.LogFault 1)) flushed_to_three log_fails → ⊥ }
     ensures not_flushed { LeavesNothing (LogFlushLine 0 4) unit flushed_to_three → ⊥ }
     ensures flushed_no_less { Leaves (LogFlushLine 0 5) unit flushed_to_three flushed_to_four → ⊥ }
+{}
+
+/// A failed read, and the failure of a transfer, a sync or a log, is shown and told; a transfer that found no memory, and a
+/// refusal for want of room, are no fault.
+pub fn faults_are_shown_and_told()
+    ensures read { shows_fault (entry.FillFailed 1 (page 0)) ≡ true }
+    ensures transfer { shows_fault (entry.WriteEnd 1 (page 0) how.Failed) ≡ true }
+    ensures sync { shows_fault (entry.Sync 1 0 how.Failed) ≡ true }
+    ensures log { shows_fault (entry.LogFailed 1 0) ≡ true }
+    ensures no_memory { shows_fault (entry.WriteEnd 1 (page 0) how.NoMemory) ≡ false }
+    ensures good_end { shows_fault (entry.Sync 1 0 how.Good) ≡ false }
+    ensures told { tells_fault (answer.Refused (error.LogFault 0)) ≡ true }
+    ensures told_of_a_page { tells_fault (answer.NcRefused 1 (error.WriteFault 1)) ≡ true }
+    ensures event { tells_fault answer.Faulted ≡ true }
+    ensures refused { tells_fault (answer.Refused (error.JournalFull 9)) ≡ false }
+    ensures given { tells_fault unit ≡ false }
 {}
 
 /// A deferral is answered with its number. Posts are answered with the numbers of the writes that went, until none
