@@ -4,6 +4,7 @@ use Rattle.std.specs.declared.option.Option.TheVariants.{Some, None}
 use Rattle.std.proofs.Common.{ap, ◌∙◌, inl, inr}
 use Rattle.cc_entry.specs.Place.{File}
 use Rattle.cc_entry.specs.declared.answer.AheadDone.{AheadDone}
+use Rattle.cc_entry.specs.declared.place.Request.{Request}
 use Rattle.cc_entry.specs.declared.error.CcError.{CcError}
 use Rattle.cc_entry.specs.declared.error.CcError.TheVariants as error
 use Rattle.cc_entry.specs.declared.call.Call.TheVariants as call
@@ -174,12 +175,18 @@ levels-before levels me file (Err error.NotCached) older old new idle left = clo
 levels-before levels me file (Err error.NoMemory) older old new idle left = idle-then me older old new idle left
 levels-before levels me file (Err other) older old new idle left = absurd left
 
-pub ahead-after : (u : Setup) (me : ℕ) (answered : Result (Option AheadDone) CcError) (old new newer : List Entry) → AheadLeft u me answered old new → IsIdle me new newer → AheadLeft u me answered old newer
-ahead-after u me (Ok None) old new newer left idle = idle-then me old new newer left idle
-ahead-after u me (Ok (Some done)) old new newer left idle = left-after u me (call.AheadStep done.request) (outcome.Done (reply.Whole done.whole)) old new newer left idle
-ahead-after u me (Err e) old new newer left idle = (left.0, left-after u me (call.AheadStep left.0) (outcome.Failed e) old new newer left.1 idle)
+pub ahead-after : (u : Setup) (me : ℕ) (taken : Option Request) (answered : Result (Option AheadDone) CcError) (old new newer : List Entry) → AheadLeft u me taken answered old new → IsIdle me new newer → AheadLeft u me taken answered old newer
+ahead-after u me None (Ok None) old new newer left idle = idle-then me old new newer left idle
+ahead-after u me None (Ok (Some done)) old new newer left idle = absurd left
+ahead-after u me None (Err e) old new newer left idle = absurd left
+ahead-after u me (Some request) (Ok None) old new newer left idle = absurd left
+ahead-after u me (Some request) (Ok (Some done)) old new newer left idle = (left.0, left-after u me (call.AheadStep request) (outcome.Done (reply.Whole done.whole)) old new newer left.1 idle)
+ahead-after u me (Some request) (Err e) old new newer left idle = left-after u me (call.AheadStep request) (outcome.Failed e) old new newer left idle
 
-pub ahead-before : (u : Setup) (me : ℕ) (answered : Result (Option AheadDone) CcError) (older old new : List Entry) → IsIdle me older old → AheadLeft u me answered old new → AheadLeft u me answered older new
-ahead-before u me (Ok None) older old new idle left = idle-then me older old new idle left
-ahead-before u me (Ok (Some done)) older old new idle left = left-before u me (call.AheadStep done.request) (outcome.Done (reply.Whole done.whole)) older old new idle left
-ahead-before u me (Err e) older old new idle left = (left.0, left-before u me (call.AheadStep left.0) (outcome.Failed e) older old new idle left.1)
+pub ahead-before : (u : Setup) (me : ℕ) (taken : Option Request) (answered : Result (Option AheadDone) CcError) (older old new : List Entry) → IsIdle me older old → AheadLeft u me taken answered old new → AheadLeft u me taken answered older new
+ahead-before u me None (Ok None) older old new idle left = idle-then me older old new idle left
+ahead-before u me None (Ok (Some done)) older old new idle left = absurd left
+ahead-before u me None (Err e) older old new idle left = absurd left
+ahead-before u me (Some request) (Ok None) older old new idle left = absurd left
+ahead-before u me (Some request) (Ok (Some done)) older old new idle left = (left.0, left-before u me (call.AheadStep request) (outcome.Done (reply.Whole done.whole)) older old new idle left.1)
+ahead-before u me (Some request) (Err e) older old new idle left = left-before u me (call.AheadStep request) (outcome.Failed e) older old new idle left

@@ -5,6 +5,7 @@ ghost use Rattle.std.specs.List.{list_any};
 ghost use Rattle.cc_entry.specs.Place.{File, Page};
 ghost use Rattle.cc_entry.specs.declared.answer.Tick.{Tick};
 ghost use Rattle.cc_entry.specs.declared.answer.AheadDone.{AheadDone};
+ghost use Rattle.cc_entry.specs.declared.place.Request.{Request};
 ghost use Rattle.cc_entry.specs.declared.call.Call.{Call};
 ghost use Rattle.cc_entry.specs.declared.error.CcError.{CcError};
 ghost use Rattle.cc_entry.specs.declared.reply.Outcome.{Outcome};
@@ -83,12 +84,12 @@ pub fn page_writes_stay_explained()
 
 /// The same of read-ahead steps and of questions for the levels of a view index.
 pub fn steps_and_levels_stay_explained()
-    ensures step_after { (u : Setup) (me : ℕ) (answered : Result (Option AheadDone) CcError)
+    ensures step_after { (u : Setup) (me : ℕ) (taken : Option Request) (answered : Result (Option AheadDone) CcError)
         (old new newer : List Entry) →
-        AheadLeft u me answered old new → IsIdle me new newer → AheadLeft u me answered old newer }
-    ensures step_before { (u : Setup) (me : ℕ) (answered : Result (Option AheadDone) CcError)
+        AheadLeft u me taken answered old new → IsIdle me new newer → AheadLeft u me taken answered old newer }
+    ensures step_before { (u : Setup) (me : ℕ) (taken : Option Request) (answered : Result (Option AheadDone) CcError)
         (older old new : List Entry) →
-        IsIdle me older old → AheadLeft u me answered old new → AheadLeft u me answered older new }
+        IsIdle me older old → AheadLeft u me taken answered old new → AheadLeft u me taken answered older new }
     ensures levels_after { (levels : ℕ → ℕ) (me : ℕ) (file : File) (answered : Result ℕ CcError)
         (old new newer : List Entry) →
         LevelsLeft levels me file answered old new → IsIdle me new newer → LevelsLeft levels me file answered old newer }

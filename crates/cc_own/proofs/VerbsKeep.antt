@@ -5,6 +5,7 @@ use Rattle.std.specs.declared.option.Option.TheVariants.{Some, None}
 use Rattle.std.proofs.Common.{ap, sym, inl, inr, subst}
 use Rattle.cc_entry.specs.Place.{File, Page}
 use Rattle.cc_entry.specs.declared.answer.AheadDone.{AheadDone}
+use Rattle.cc_entry.specs.declared.place.Request.{Request}
 use Rattle.cc_entry.specs.declared.answer.Tick.{Tick}
 use Rattle.cc_entry.specs.declared.call.Call.{Call}
 use Rattle.cc_entry.specs.declared.call.Call.TheVariants as call
@@ -165,10 +166,13 @@ tick-unchanged me id (Err (error.JournalFull entries)) old new left = cut-tick-u
 tick-unchanged me id (Err error.NoMemory) old new left = cut-tick-unchanged me id error.NoMemory old new left
 tick-unchanged me id (Err other) old new left = absurd left
 
-pub ahead-unchanged : (u : Setup) (me id : ℕ) (answered : Result (Option AheadDone) CcError) (old new : List Entry) → AheadLeft u me answered old new → IsUnchanged me id old new
-ahead-unchanged u me id (Ok None) old new left = unchanged-idle me id old new left
-ahead-unchanged u me id (Ok (Some done)) old new left = unchanged-call u me id (call.AheadStep done.request) (outcome.Done (reply.Whole done.whole)) old new left refl
-ahead-unchanged u me id (Err e) old new left = unchanged-failed u me id (call.AheadStep left.0) e old new left.1
+pub ahead-unchanged : (u : Setup) (me id : ℕ) (taken : Option Request) (answered : Result (Option AheadDone) CcError) (old new : List Entry) → AheadLeft u me taken answered old new → IsUnchanged me id old new
+ahead-unchanged u me id None (Ok None) old new left = unchanged-idle me id old new left
+ahead-unchanged u me id None (Ok (Some done)) old new left = absurd left
+ahead-unchanged u me id None (Err e) old new left = absurd left
+ahead-unchanged u me id (Some request) (Ok None) old new left = absurd left
+ahead-unchanged u me id (Some request) (Ok (Some done)) old new left = unchanged-call u me id (call.AheadStep request) (outcome.Done (reply.Whole done.whole)) old new left.1 refl
+ahead-unchanged u me id (Some request) (Err e) old new left = unchanged-failed u me id (call.AheadStep request) e old new left
 
 pub defer-unchanged : (me id : ℕ) (file : File) (bytes : ℕ) (retrying : Bool) (answered : Result ℕ CcError) (old new : List Entry) → DeferLeft me file bytes retrying answered old new → IsUnchanged me id old new
 defer-unchanged me id file bytes retrying (Ok number) old new left = unchanged-only me id _ old new left refl

@@ -7,6 +7,7 @@ use Rattle.std.proofs.Common.{sym, ap, arith, subst, ◌∙◌, inl, inr, eq-eqb
 use Rattle.std.proofs.lemmas.Bool.{cases_lt}
 use Rattle.cc_entry.specs.declared.answer.Answer.{Answer}
 use Rattle.cc_entry.specs.declared.answer.LineReply.{LineReply}
+use Rattle.cc_entry.specs.declared.place.Request.{Request}
 use Rattle.cc_entry.specs.declared.call.Call.TheVariants as call
 use Rattle.cc_entry.specs.declared.entry.Entry.{Entry}
 use Rattle.cc_script.specs.Within.{IsLineWithin}
@@ -74,28 +75,28 @@ module _ (u : Setup) (n : ℕ) (handles : HasHandles u) where
       (logged-none s stream stream.log reply.answer old opened.0 opened.1.opened front, opened-none (suc s) streams replies opened.0 new (omega (arith, few)) opened.2 none)
 
   module _ (plan : Plan) (no_ticks : plan.ticks ≡ 0) (no_aheads : plan.aheads ≡ 0) (within : AllByRecursion (λ line. IsActionBelow n line.action) plan.lines) where
-    phases-none : (phase left : ℕ) (ticked stepped : List LineReply) (old new : List Entry) → PhasesRan u plan phase left ticked stepped old new → ShowsNone new → (p me : ℕ) → phase ≤ p → p < phase + left → me ≢ lazy_writer → me ≢ read_ahead_worker → LinesTellNone (lines_in plan p me)
-    phases-none phase zero ticked stepped old new ran none p me first last lazy ahead = absurd (omega (arith, first, last))
-    phases-none phase (suc left) ticked stepped old new ran none p me first last lazy ahead =
-        by (cases_lt phase p) (λ first last. phases-none (suc phase) left _ _ ran.0 new ran.3 none p me first last lazy ahead)
+    phases-none : (phase left : ℕ) (ticked stepped : List LineReply) (taken : List Request) (old new : List Entry) → PhasesRan u plan phase left ticked stepped taken old new → ShowsNone new → (p me : ℕ) → phase ≤ p → p < phase + left → me ≢ lazy_writer → me ≢ read_ahead_worker → LinesTellNone (lines_in plan p me)
+    phases-none phase zero ticked stepped taken old new ran none p me first last lazy ahead = absurd (omega (arith, first, last))
+    phases-none phase (suc left) ticked stepped taken old new ran none p me first last lazy ahead =
+        by (cases_lt phase p) (λ first last. phases-none (suc phase) left _ _ _ ran.0 new ran.4 none p me first last lazy ahead)
       where
         front : ShowsNone ran.0
         front =
-            let more = phases-grow u n handles plan no_ticks no_aheads within (suc phase) left _ _ ran.0 new ran.3 in
+            let more = phases-grow u n handles plan no_ticks no_aheads within (suc phase) left _ _ _ ran.0 new ran.4 in
             none-front more.0 ran.0 (subst ShowsNone more.1 none)
 
         here : LinesTellNone (lines_in plan phase me)
         here =
             ran-none _ me _ (lines_in plan phase me) old ran.0 (asked-below n (is_of_phase phase me) plan.lines plan.answers within)
-            (ran.2.callers me lazy ahead) front
+            (ran.3.callers me lazy ahead) front
 
         by : (phase < p) ⊎ (p ≤ phase) → (suc phase ≤ p → p < suc phase + left → LinesTellNone (lines_in plan p me)) → LinesTellNone (lines_in plan p me)
         by (inl later) more = more (omega (arith, later)) (omega (arith, last))
         by (inr now) more = let same : phase ≡ p = omega (arith, now, first) in subst (λ q. LinesTellNone (lines_in plan q me)) same here
 
 -- Where the journal of a run shows no failure, no answer tells one.
-pub explained-none : (u : Setup) (n : ℕ) (handles : HasHandles u) (given : Given) (told : Answered) (past : List Entry) → length given.streams ≤ n → given.ticks ≡ 0 → given.aheads ≡ 0 → AllByRecursion (λ line. IsActionBelow n line.action) given.lines → AllByRecursion (IsLineWithin given.streams given.phases) given.lines → IsExplained u given told past → ShowsNone past → TellNone told.replies
-explained-none u n handles given told past few no_ticks no_aheads below within is none =
+pub explained-none : (u : Setup) (n : ℕ) (handles : HasHandles u) (given : Given) (told : Answered) (taken : List Request) (past : List Entry) → length given.streams ≤ n → given.ticks ≡ 0 → given.aheads ≡ 0 → AllByRecursion (λ line. IsActionBelow n line.action) given.lines → AllByRecursion (IsLineWithin given.streams given.phases) given.lines → IsExplained u given told taken past → ShowsNone past → TellNone told.replies
+explained-none u n handles given told taken past few no_ticks no_aheads below within is none =
     subst TellNone (sym is.replies_are) (tell-append is.setup is.answers (opened-none u n handles 0 given.streams is.setup [] is.begun (omega (arith, few)) is.opened front) answers)
   where
     plan : Plan
@@ -103,11 +104,11 @@ explained-none u n handles given told past few no_ticks no_aheads below within i
 
     front : ShowsNone is.begun
     front =
-        let more = phases-grow u n handles plan no_ticks no_aheads below 1 given.phases told.ticked told.stepped is.begun past is.ran in
+        let more = phases-grow u n handles plan no_ticks no_aheads below 1 given.phases told.ticked told.stepped taken is.begun past is.ran in
         none-front more.0 is.begun (subst ShowsNone more.1 none)
 
     answers : TellNone is.answers
     answers =
         every-told given.streams given.phases given.lines is.answers is.answer_lines within
-        (λ phase me first last low high. phases-none u n handles plan no_ticks no_aheads below 1 given.phases told.ticked told.stepped is.begun past is.ran none phase me first (omega (arith, last))
+        (λ phase me first last low high. phases-none u n handles plan no_ticks no_aheads below 1 given.phases told.ticked told.stepped taken is.begun past is.ran none phase me first (omega (arith, last))
         (λ same. absurd (omega (arith, same, high))) (λ same. absurd (omega (arith, same, high))))

@@ -8,6 +8,7 @@ use Rattle.std.proofs.lemmas.Bool.{eqb-true, eqb-false}
 use Rattle.std.proofs.lemmas.List.{append_cancel_right}
 use Rattle.cc_entry.specs.declared.answer.Answer.{Answer}
 use Rattle.cc_entry.specs.declared.answer.LineReply.{LineReply}
+use Rattle.cc_entry.specs.declared.place.Request.{Request}
 use Rattle.cc_entry.specs.declared.call.Call.TheVariants as call
 use Rattle.cc_entry.specs.declared.entry.Entry.{Entry}
 use Rattle.cc_entry.specs.declared.entry.Entry.TheVariants as entry
@@ -108,12 +109,12 @@ module _ (u : Setup) (n : ℕ) (handles : HasHandles u) where
     no-ticks limit phase [] old new count ran = ran
     no-ticks limit phase (reply ∷ replies) old new count ran = absurd (omega (arith, count, no_ticks))
 
-    no-aheads : (limit phase : ℕ) (stepped : List LineReply) (old new : List Entry) → length stepped ≤ plan.aheads → AheadsRan u limit phase stepped old new → IsIdle read_ahead_worker old new
-    no-aheads limit phase [] old new count ran = ran
-    no-aheads limit phase (reply ∷ replies) old new count ran = absurd (omega (arith, count, no_aheads))
+    no-aheads : (limit phase : ℕ) (stepped : List LineReply) (taken : List Request) (old new : List Entry) → length stepped ≤ plan.aheads → AheadsRan u limit phase stepped taken old new → IsIdle read_ahead_worker old new
+    no-aheads limit phase [] taken old new count ran = ran.1
+    no-aheads limit phase (reply ∷ replies) taken old new count ran = absurd (omega (arith, count, no_aheads))
 
-    left-phase : (phase : ℕ) (ticked stepped : List LineReply) (old new : List Entry) → PhaseRan u plan phase ticked stepped old new → (me : ℕ) → IsLeft u n me old new
-    left-phase phase ticked stepped old new ran me = lazy (me == lazy_writer) refl
+    left-phase : (phase : ℕ) (ticked stepped : List LineReply) (taken : List Request) (old new : List Entry) → PhaseRan u plan phase ticked stepped taken old new → (me : ℕ) → IsLeft u n me old new
+    left-phase phase ticked stepped taken old new ran me = lazy (me == lazy_writer) refl
       where
         few : length stepped ≤ plan.aheads
         few = by ran.all_steps
@@ -123,7 +124,7 @@ module _ (u : Setup) (n : ℕ) (handles : HasHandles u) where
             by (inr some) = some.0
 
         ahead : (b : Bool) → (me == read_ahead_worker) ≡ b → me ≢ lazy_writer → IsLeft u n me old new
-        ahead true is other = left-idle u n me old new (rw (eqb-true me read_ahead_worker is) (no-aheads 32 phase stepped old new few ran.steps))
+        ahead true is other = left-idle u n me old new (rw (eqb-true me read_ahead_worker is) (no-aheads 32 phase stepped taken old new few ran.steps))
         ahead false is other =
             left-ran _ me _ (lines_in plan phase me) old new (asked-below n (is_of_phase phase me) plan.lines plan.answers within)
             (ran.callers me other (eqb-false me read_ahead_worker is))
@@ -133,28 +134,28 @@ module _ (u : Setup) (n : ℕ) (handles : HasHandles u) where
         lazy false is = ahead (me == read_ahead_worker) refl (eqb-false me lazy_writer is)
 
     -- the journal grew by the phases
-    pub phases-grow : (phase left : ℕ) (ticked stepped : List LineReply) (old new : List Entry) → PhasesRan u plan phase left ticked stepped old new → (during : List Entry) × (new ≡ during ++ old)
-    phases-grow phase zero ticked stepped old new ran = ([], ran.2)
-    phases-grow phase (suc left) ticked stepped old new ran =
-        let one = left-phase phase _ _ old ran.0 ran.2 0 in
-        let more = phases-grow (suc phase) left _ _ ran.0 new ran.3 in
+    pub phases-grow : (phase left : ℕ) (ticked stepped : List LineReply) (taken : List Request) (old new : List Entry) → PhasesRan u plan phase left ticked stepped taken old new → (during : List Entry) × (new ≡ during ++ old)
+    phases-grow phase zero ticked stepped taken old new ran = ([], ran.3)
+    phases-grow phase (suc left) ticked stepped taken old new ran =
+        let one = left-phase phase _ _ _ old ran.0 ran.3 0 in
+        let more = phases-grow (suc phase) left _ _ _ ran.0 new ran.4 in
         (more.0 ++ one.during, more.1 ∙ (ap (λ l. more.0 ++ l) one.grew ∙ sym (append_assoc more.0 one.during old)))
 
-    pub phases-below : (phase left : ℕ) (ticked stepped : List LineReply) (old new : List Entry) → PhasesRan u plan phase left ticked stepped old new → IsSound u new → AllBelow n u.logs old → AllBelow n u.logs new
-    phases-below phase zero ticked stepped old new ran sound all = subst (AllBelow n u.logs) (sym ran.2) all
-    phases-below phase (suc left) ticked stepped old new ran sound all =
-        let more = phases-grow (suc phase) left _ _ ran.0 new ran.3 in
-        phases-below (suc phase) left _ _ ran.0 new ran.3 sound
-        (every-left u n old ran.0 (left-phase phase _ _ old ran.0 ran.2) (sound-front u more.0 ran.0 (subst (IsSound u) more.1 sound)) all)
+    pub phases-below : (phase left : ℕ) (ticked stepped : List LineReply) (taken : List Request) (old new : List Entry) → PhasesRan u plan phase left ticked stepped taken old new → IsSound u new → AllBelow n u.logs old → AllBelow n u.logs new
+    phases-below phase zero ticked stepped taken old new ran sound all = subst (AllBelow n u.logs) (sym ran.3) all
+    phases-below phase (suc left) ticked stepped taken old new ran sound all =
+        let more = phases-grow (suc phase) left _ _ _ ran.0 new ran.4 in
+        phases-below (suc phase) left _ _ _ ran.0 new ran.4 sound
+        (every-left u n old ran.0 (left-phase phase _ _ _ old ran.0 ran.3) (sound-front u more.0 ran.0 (subst (IsSound u) more.1 sound)) all)
 
 -- Each entry of the journal of a run is of a stream of its script, and each log that failed is one of the run.
-pub explained-below : (u : Setup) (n : ℕ) (handles : HasHandles u) (given : Given) (told : Answered) (past : List Entry) → length given.streams ≤ n → given.ticks ≡ 0 → given.aheads ≡ 0 → AllByRecursion (λ line. IsActionBelow n line.action) given.lines → IsSound u past → IsExplained u given told past → AllBelow n u.logs past
-explained-below u n handles given told past few no_ticks no_aheads within sound is =
-    phases-below u n handles plan no_ticks no_aheads within 1 given.phases told.ticked told.stepped is.begun past is.ran sound
+pub explained-below : (u : Setup) (n : ℕ) (handles : HasHandles u) (given : Given) (told : Answered) (taken : List Request) (past : List Entry) → length given.streams ≤ n → given.ticks ≡ 0 → given.aheads ≡ 0 → AllByRecursion (λ line. IsActionBelow n line.action) given.lines → IsSound u past → IsExplained u given told taken past → AllBelow n u.logs past
+explained-below u n handles given told taken past few no_ticks no_aheads within sound is =
+    phases-below u n handles plan no_ticks no_aheads within 1 given.phases told.ticked told.stepped taken is.begun past is.ran sound
     (opened-below u n handles given.streams is.setup is.begun few is.opened is.alone (sound-front u grown.0 is.begun (subst (IsSound u) grown.1 sound)))
   where
     plan : Plan
     plan = record { lines = given.lines; answers = is.answers; ticks = given.ticks; aheads = given.aheads }
 
     grown : (during : List Entry) × (past ≡ during ++ is.begun)
-    grown = phases-grow u n handles plan no_ticks no_aheads within 1 given.phases told.ticked told.stepped is.begun past is.ran
+    grown = phases-grow u n handles plan no_ticks no_aheads within 1 given.phases told.ticked told.stepped taken is.begun past is.ran

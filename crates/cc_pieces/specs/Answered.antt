@@ -1,7 +1,9 @@
 -- What a line left, by its answer: a line of one call, and the lines of the calls without an entry.
 use Rattle.std.specs.Prelude.{ℕ, Bool, List, [], ◌∷◌, Ok, Err}
+use Rattle.std.specs.declared.option.Option.{Option}
 use Rattle.std.specs.declared.option.Option.TheVariants.{Some, None}
 use Rattle.cc_entry.specs.Place.{File}
+use Rattle.cc_entry.specs.declared.place.Request.{Request}
 use Rattle.cc_entry.specs.declared.call.Call.{Call}
 use Rattle.cc_entry.specs.declared.error.CcError.{CcError}
 use Rattle.cc_entry.specs.declared.reply.Reply.TheVariants as reply
@@ -66,11 +68,11 @@ TickAnswered me (answer.Ticked tick) old new = TickLeft me (Ok tick) old new
 TickAnswered me (answer.Refused e) old new = TickLeft me (Err e) old new
 TickAnswered me other old new = ⊥
 
--- a read-ahead step
-abbrev pub AheadAnswered : Setup → ℕ → Answer → Between
-AheadAnswered u me (answer.Stepped step) old new = AheadLeft u me (Ok step) old new
-AheadAnswered u me (answer.Refused e) old new = AheadLeft u me (Err e) old new
-AheadAnswered u me other old new = ⊥
+-- a read-ahead step that took a request, or none
+abbrev pub AheadAnswered : Setup → ℕ → Option Request → Answer → Between
+AheadAnswered u me taken (answer.Stepped step) old new = AheadLeft u me taken (Ok step) old new
+AheadAnswered u me taken (answer.Refused e) old new = AheadLeft u me taken (Err e) old new
+AheadAnswered u me taken other old new = ⊥
 
 -- a question for the levels of a view index, over the levels of each size
 abbrev pub LevelsAnswered : (ℕ → ℕ) → ℕ → File → Answer → Between

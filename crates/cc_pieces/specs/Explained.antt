@@ -2,6 +2,7 @@
 use Rattle.std.specs.Prelude.{◌≡◌, ◌≢◌, ℕ, nat_eq, true, List, [], ◌++◌, map}
 use Rattle.std.specs.List.{flat_map, IsDistinct}
 use Rattle.cc_entry.specs.declared.answer.LineReply.{LineReply}
+use Rattle.cc_entry.specs.declared.place.Request.{Request}
 use Rattle.cc_entry.specs.declared.entry.Entry.{Entry}
 use Rattle.cc_script.specs.declared.script.ActionLine.{ActionLine}
 use Rattle.cc_script.specs.declared.script.StreamLine.{StreamLine}
@@ -20,8 +21,8 @@ answered_lines replies = map (λ reply. reply.line) replies
 abbrev pub posted_in : List ActionLine → List LineReply → List ℕ
 posted_in lines answers = flat_map (λ line. posted_by line.0 line.1) (asked_of (λ line. true) lines answers)
 
--- what a run was given: the lines of a script, how many phases they have, and how many ticks and read-ahead
--- steps a phase has at most
+-- what a run was given: the lines of a script, how many phases they have, how many ticks a phase has, and how many
+-- read-ahead steps at most
 pub record Given : Type 0 where
   pub streams : List StreamLine
   pub lines : List ActionLine
@@ -38,8 +39,8 @@ pub record Answered : Type 0 where
 -- A script and its answers are explained by a past: each line has one reply, in the script's order, the
 -- streams' first. The pass that sets the run up, 0, opened the streams before all else; then the phases ran,
 -- each caller made the calls of its lines, and no other pass placed anything; a post is no pass's. No deferred
--- write was posted in two answers.
-pub record IsExplained (u : Setup) (given : Given) (told : Answered) (past : List Entry) : Type 0 where
+-- write was posted in two answers. The read-ahead worker took these requests, of all phases.
+pub record IsExplained (u : Setup) (given : Given) (told : Answered) (taken : List Request) (past : List Entry) : Type 0 where
   pub setup : List LineReply
   pub answers : List LineReply
   pub begun : List Entry
@@ -50,5 +51,5 @@ pub record IsExplained (u : Setup) (given : Given) (told : Answered) (past : Lis
   pub alone : (me : ℕ) → me ≢ 0 → IsIdle me [] begun
   pub ran :
       PhasesRan u (record { lines = given.lines; answers = answers; ticks = given.ticks; aheads = given.aheads })
-      1 given.phases told.ticked told.stepped begun past
+      1 given.phases told.ticked told.stepped taken begun past
   pub posted_once : IsDistinct nat_eq (posted_in given.lines answers)

@@ -10,6 +10,7 @@ pub mod Runs
 pub mod Openings
 pub mod Phases
 pub mod Explained
+pub mod Queue
 pub mod Table
 pub mod Moments
 pub mod Events

@@ -1,10 +1,12 @@
 -- The phases of a run: in each, every caller runs its lines of the phase, the lazy writer its ticks and the
 -- read-ahead worker its steps, all between the same two moments.
 use Rattle.std.specs.Prelude.{◌≡◌, ◌≢◌, ℕ, zero, suc, ◌≤◌, Bool, ◌&&◌, ◌==◌, nat_lt, List, [], ◌∷◌, length, take, drop, ◌⊎◌}
-use Rattle.std.specs.declared.option.Option.TheVariants.{None}
+use Rattle.std.specs.declared.option.Option.{Option}
+use Rattle.std.specs.declared.option.Option.TheVariants.{Some, None}
 use Rattle.cc_entry.specs.declared.answer.Answer.{Answer}
 use Rattle.cc_entry.specs.declared.answer.Answer.TheVariants as answer
 use Rattle.cc_entry.specs.declared.answer.LineReply.{LineReply}
+use Rattle.cc_entry.specs.declared.place.Request.{Request}
 use Rattle.cc_entry.specs.declared.entry.Entry.{Entry}
 use Rattle.cc_script.specs.declared.script.Action.{Action}
 use Rattle.cc_script.specs.declared.script.ActionLine.{ActionLine}
@@ -21,8 +23,8 @@ lazy_writer = 17
 abbrev pub read_ahead_worker : ℕ
 read_ahead_worker = 18
 
--- The lines of a run with their answers, in the order of the script, and how many ticks and read-ahead steps a
--- phase has at most.
+-- The lines of a run with their answers, in the order of the script, how many ticks a phase has, and how many read-ahead
+-- steps at most.
 pub record Plan : Type 0 where
   pub lines : List ActionLine
   pub answers : List LineReply
@@ -46,16 +48,24 @@ TicksRan u limit phase (reply ∷ replies) old new =
     × HadNoRoom u limit reply.answer old between
     × TicksRan u limit phase replies between new
 
--- read-ahead steps of a phase, one after the other; none comes after one that took no request
-abbrev pub AheadsRan : Setup → ℕ → ℕ → List LineReply → Between
-AheadsRan u limit phase [] old new = IsIdle read_ahead_worker old new
-AheadsRan u limit phase (reply ∷ replies) old new =
+-- the requests that steps took, of which the first took this one, or none
+abbrev pub with_request : Option Request → List Request → List Request
+with_request None taken = taken
+with_request (Some request) taken = request ∷ taken
+
+-- read-ahead steps of a phase, one after the other, that took these requests; none comes after one that took no request
+abbrev pub AheadsRan : Setup → ℕ → ℕ → List LineReply → List Request → Between
+AheadsRan u limit phase [] taken old new = (taken ≡ []) × IsIdle read_ahead_worker old new
+AheadsRan u limit phase (reply ∷ replies) taken old new =
     (between : List Entry)
+    × (request : Option Request)
+    × (others : List Request)
+    × (taken ≡ with_request request others)
     × (reply.line ≡ phase)
-    × AheadAnswered u read_ahead_worker reply.answer old between
+    × AheadAnswered u read_ahead_worker request reply.answer old between
     × HadNoRoom u limit reply.answer old between
-    × (reply.answer ≡ answer.Stepped None → replies ≡ [])
-    × AheadsRan u limit phase replies between new
+    × (request ≡ None → replies ≡ [])
+    × AheadsRan u limit phase replies others between new
 
 -- the last of several answers was that there was no request
 abbrev pub EndsWithNone : List LineReply → Type 0
@@ -75,21 +85,24 @@ abbrev pub limit_in : Plan → ℕ → ℕ
 limit_in plan phase = room_limit plan.ticks plan.aheads (is_alone phase plan.lines)
 
 -- One phase: each caller ran its lines of the phase, with the bindings of its earlier ones; so many ticks were
--- made, and so many read-ahead steps, or fewer where the last found no request. No other pass placed anything.
-pub record PhaseRan (u : Setup) (plan : Plan) (phase : ℕ) (ticked stepped : List LineReply) (old new : List Entry) : Type 0 where
+-- made, and so many read-ahead steps, or fewer where the last found no request, and these took the requests. No other pass
+-- placed anything.
+pub record PhaseRan (u : Setup) (plan : Plan) (phase : ℕ) (ticked stepped : List LineReply) (taken : List Request)
+    (old new : List Entry) : Type 0 where
   pub callers :
       (me : ℕ) → me ≢ lazy_writer → me ≢ read_ahead_worker →
       Ran u (limit_in plan phase) me (bindings_of [] (lines_before plan phase me)) (lines_in plan phase me) old new
   pub all_ticks : length ticked ≡ plan.ticks
   pub ticks : TicksRan u 32 phase ticked old new
   pub all_steps : (length stepped ≡ plan.aheads) ⊎ ((length stepped ≤ plan.aheads) × EndsWithNone stepped)
-  pub steps : AheadsRan u 32 phase stepped old new
+  pub steps : AheadsRan u 32 phase stepped taken old new
 
 -- so many phases, numbered from this one on, one after the other
-abbrev pub PhasesRan : Setup → Plan → ℕ → ℕ → List LineReply → List LineReply → Between
-PhasesRan u plan phase zero ticked stepped old new = (ticked ≡ []) × (stepped ≡ []) × (new ≡ old)
-PhasesRan u plan phase (suc left) ticked stepped old new =
+abbrev pub PhasesRan : Setup → Plan → ℕ → ℕ → List LineReply → List LineReply → List Request → Between
+PhasesRan u plan phase zero ticked stepped taken old new = (ticked ≡ []) × (stepped ≡ []) × (taken ≡ []) × (new ≡ old)
+PhasesRan u plan phase (suc left) ticked stepped taken old new =
     (between : List Entry)
     × (steps : ℕ)
-    × PhaseRan u plan phase (take plan.ticks ticked) (take steps stepped) old between
-    × PhasesRan u plan (suc phase) left (drop plan.ticks ticked) (drop steps stepped) between new
+    × (requests : ℕ)
+    × PhaseRan u plan phase (take plan.ticks ticked) (take steps stepped) (take requests taken) old between
+    × PhasesRan u plan (suc phase) left (drop plan.ticks ticked) (drop steps stepped) (drop requests taken) between new

@@ -1,5 +1,4 @@
--- What each action of a script leaves: one case for each. The other lines, of the shim and without a call's entry, are
--- defined beside; no line of a run has them.
+-- What the actions of a script leave that a run serves: one case for each. A run serves no other.
 use Rattle.std.specs.Prelude.{ℕ, List, []}
 use Rattle.cc_entry.specs.declared.call.Call.TheVariants as call
 use Rattle.cc_entry.specs.declared.answer.Answer.{Answer}

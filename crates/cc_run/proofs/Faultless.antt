@@ -160,7 +160,7 @@ module _ {D L Q : Type 0} (tells : Tells D L Q) (m : Mode) (script : Script) (di
     where
       by : (m : Mode) → IsExplainedBy m u script (lines_answered ran.replies.items) past → AllBelow n u.logs past
       by mode.Run is =
-          explained-below u n handles (given_of script) (lines_answered ran.replies.items) past few within.header.no_ticks within.header.no_aheads below sound is
+          explained-below u n handles (given_of script) (lines_answered ran.replies.items) [] past few within.header.no_ticks within.header.no_aheads below sound is
       by mode.Steps is = stepped-below u n script.streams script.lines ran.replies.items past few below sound is
 
   tells-none : ShowsNone past → TellNone ran.replies.items
@@ -168,7 +168,7 @@ module _ {D L Q : Type 0} (tells : Tells D L Q) (m : Mode) (script : Script) (di
     where
       by : (m : Mode) → IsExplainedBy m u script (lines_answered ran.replies.items) past → TellNone ran.replies.items
       by mode.Run is =
-          explained-none u n handles (given_of script) (lines_answered ran.replies.items) past few within.header.no_ticks within.header.no_aheads below within.lines is none
+          explained-none u n handles (given_of script) (lines_answered ran.replies.items) [] past few within.header.no_ticks within.header.no_aheads below within.lines is none
       by mode.Steps is = stepped-none u n script.streams script.lines ran.replies.items past few below sound is none
 
   ran-without-fault : RanWithoutFault tells.disk_faults tells.log_faults disks ran.disks.items logs ran.logs.items ran.replies.items past

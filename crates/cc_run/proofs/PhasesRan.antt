@@ -95,13 +95,13 @@ module _ (u : Setup) (all : List ActionLine) (answers : List LineReply) (few : A
   abbrev plan : Plan
   plan = record { lines = all; answers = answers; ticks = 0; aheads = 0 }
 
-  phase-ran : (phase : ℕ) (earlier last later : List ActionLine) (told own others : List LineReply) (old new : List Entry) → all ≡ earlier ++ (last ++ later) → answers ≡ told ++ (own ++ others) → length earlier ≡ length told → AllByRecursion (λ line. line.phase < phase) earlier → AllByRecursion (λ line. line.phase ≡ phase) last → AllByRecursion (λ line. phase < line.phase) later → PhaseLeft u phase (after_lines earlier told (λ me. [])) last own old new → PhaseRan u plan phase [] [] old new
+  phase-ran : (phase : ℕ) (earlier last later : List ActionLine) (told own others : List LineReply) (old new : List Entry) → all ≡ earlier ++ (last ++ later) → answers ≡ told ++ (own ++ others) → length earlier ≡ length told → AllByRecursion (λ line. line.phase < phase) earlier → AllByRecursion (λ line. line.phase ≡ phase) last → AllByRecursion (λ line. phase < line.phase) later → PhaseLeft u phase (after_lines earlier told (λ me. [])) last own old new → PhaseRan u plan phase [] [] [] old new
   phase-ran phase earlier last later told own others old new lines_are replies_are long less those more left = record {
     callers = λ me lazy ahead. rw (asked me, alone, asked-before me) (left.ran me);
     all_ticks = refl;
     ticks = idle 17 (omega arith);
     all_steps = inl refl;
-    steps = idle 18 (omega arith);
+    steps = (refl, idle 18 (omega arith));
   }
     where
       other : (me : ℕ) (lines : List ActionLine) → AllByRecursion (λ line. line.phase ≢ phase) lines → AllByRecursion (λ line. is_of_phase phase me line ≡ false) lines
@@ -152,18 +152,18 @@ module _ (u : Setup) (all : List ActionLine) (answers : List LineReply) (few : A
           subst (λ l. Ran u (room_limit 0 0 (is_alone phase last)) me (after_lines earlier told (λ me. []) me) l old new) none (left.ran me)
 
   -- the phases up to one, where the later ones ran behind them
-  phases-ran : (n left_over : ℕ) (lines more : List ActionLine) (replies others : List LineReply) (old between new : List Entry) → all ≡ lines ++ more → answers ≡ replies ++ others → AllByRecursion (λ line. n < line.phase) more → PhasesLeft u n lines replies old between → PhasesRan u plan (suc n) left_over [] [] between new → PhasesRan u plan 1 (n + left_over) [] [] old new
+  phases-ran : (n left_over : ℕ) (lines more : List ActionLine) (replies others : List LineReply) (old between new : List Entry) → all ≡ lines ++ more → answers ≡ replies ++ others → AllByRecursion (λ line. n < line.phase) more → PhasesLeft u n lines replies old between → PhasesRan u plan (suc n) left_over [] [] [] between new → PhasesRan u plan 1 (n + left_over) [] [] [] old new
   phases-ran zero left_over lines more replies others old between new lines_are replies_are later left ran =
       let counted : left_over ≡ 0 + left_over = omega arith in
-      subst (λ past. PhasesRan u plan 1 (0 + left_over) [] [] past new) left.2 (subst (λ count. PhasesRan u plan 1 count [] [] between new) counted ran)
+      subst (λ past. PhasesRan u plan 1 (0 + left_over) [] [] [] past new) left.2 (subst (λ count. PhasesRan u plan 1 count [] [] [] between new) counted ran)
   phases-ran (suc n) left_over lines more replies others old between new lines_are replies_are later left ran =
       let counted : n + suc left_over ≡ suc n + left_over = omega arith in
-      subst (λ count. PhasesRan u plan 1 count [] [] old new) counted
+      subst (λ count. PhasesRan u plan 1 count [] [] [] old new) counted
       (phases-ran n (suc left_over) left.0 (left.1 ++ more) left.2 (left.3 ++ others) old left.4 new lines_parts replies_parts
       (all-join (λ line. n < line.phase) left.1 more
       (all-map (λ line. line.phase ≡ suc n) (λ line. n < line.phase) left.1 (λ line is. omega (arith, is)) left.8)
       (all-map (λ line. suc n < line.phase) (λ line. n < line.phase) more (λ line less. omega (arith, less)) later))
-      left.7 (between, 0, one, ran))
+      left.7 (between, 0, 0, one, ran))
     where
       lines_parts : all ≡ left.0 ++ (left.1 ++ more)
       lines_parts = lines_are ∙ (ap (λ l. l ++ more) left.5 ∙ append_assoc left.0 left.1 more)
@@ -171,21 +171,21 @@ module _ (u : Setup) (all : List ActionLine) (answers : List LineReply) (few : A
       replies_parts : answers ≡ left.2 ++ (left.3 ++ others)
       replies_parts = replies_are ∙ (ap (λ l. l ++ others) left.6 ∙ append_assoc left.2 left.3 others)
 
-      one : PhaseRan u plan (suc n) [] [] left.4 between
+      one : PhaseRan u plan (suc n) [] [] [] left.4 between
       one =
           phase-ran (suc n) left.0 left.1 more left.2 left.3 others left.4 between lines_parts replies_parts
           (same-long left.0 left.2 (phases-lines u n left.0 left.2 old left.4 left.7))
           (all-map (λ line. line.phase ≤ n) (λ line. line.phase < suc n) left.0 (λ line less. omega (arith, less)) (phases-within u n left.0 left.2 old left.4 left.7))
           left.8 later left.9
 
-  pub all-ran : (n : ℕ) (old new : List Entry) → PhasesLeft u n all answers old new → PhasesRan u (record { lines = all; answers = answers; ticks = 0; aheads = 0 }) 1 n [] [] old new
+  pub all-ran : (n : ℕ) (old new : List Entry) → PhasesLeft u n all answers old new → PhasesRan u (record { lines = all; answers = answers; ticks = 0; aheads = 0 }) 1 n [] [] [] old new
   all-ran n old new left =
       let counted : n + 0 ≡ n = omega arith in
-      subst (λ count. PhasesRan u plan 1 count [] [] old new) counted
-      (phases-ran n 0 all [] answers [] old new new (sym (append-nil all)) (sym (append-nil answers)) tt left (refl, refl, refl))
+      subst (λ count. PhasesRan u plan 1 count [] [] [] old new) counted
+      (phases-ran n 0 all [] answers [] old new new (sym (append-nil all)) (sym (append-nil answers)) tt left (refl, refl, refl, refl))
 
 -- What the streams and the phases of a script left, one after the other, explains all answers.
-explained : (u : Setup) (script : Script) (between replies : List LineReply) (begun past : List Entry) → IsWithin script → IsOfMode mode.Run script → StreamsOpened u 0 script.streams [] between [] begun → ((me : ℕ) → me ≢ 0 → IsIdle me [] begun) → PhasesServed u script.phases script.lines between replies begun past → IsExplained u (given_of script) (lines_answered replies) past
+explained : (u : Setup) (script : Script) (between replies : List LineReply) (begun past : List Entry) → IsWithin script → IsOfMode mode.Run script → StreamsOpened u 0 script.streams [] between [] begun → ((me : ℕ) → me ≢ 0 → IsIdle me [] begun) → PhasesServed u script.phases script.lines between replies begun past → IsExplained u (given_of script) (lines_answered replies) [] past
 unfolding IsDistinct
 explained u script between replies begun past within of_mode opened alone served = record {
   setup = opened.answers;
@@ -203,6 +203,6 @@ explained u script between replies begun past within of_mode opened alone served
   posted_once = rw (posted-none script.lines served.answers of_mode.lines) tt;
 }
 
-pub run-explained : (u v : Setup) (script : Script) (first between replies : List LineReply) (start begun past : List Entry) → IsWithin script → IsOfMode mode.Run script → first ≡ [] → start ≡ [] → v ≡ u → StreamsOpened u 0 script.streams first between start begun → ((me : ℕ) → me ≢ 0 → IsIdle me start begun) → PhasesServed v script.phases script.lines between replies begun past → IsExplained u (given_of script) (lines_answered replies) past
+pub run-explained : (u v : Setup) (script : Script) (first between replies : List LineReply) (start begun past : List Entry) → IsWithin script → IsOfMode mode.Run script → first ≡ [] → start ≡ [] → v ≡ u → StreamsOpened u 0 script.streams first between start begun → ((me : ℕ) → me ≢ 0 → IsIdle me start begun) → PhasesServed v script.phases script.lines between replies begun past → IsExplained u (given_of script) (lines_answered replies) [] past
 run-explained u v script first between replies start begun past within of_mode none empty same opened alone served =
     explained u script between replies begun past within of_mode (rw (none, empty) at opened) (rw empty at alone) (rw same at served)

@@ -20,10 +20,10 @@ use Rattle.cc_run.specs.Logs.{LogsLeft}
 use Rattle.cc_run.specs.Setups.{setup_of}
 use Rattle.cc_run.specs.declared.modes.RunResult.{RunResult}
 
--- A past explains what a script was answered: in a run, by what each caller's lines left between two moments; in steps, by
--- one event a line.
+-- A past explains what a script was answered: in a run, by what each caller's lines left between two moments, without
+-- requests for read-ahead; in steps, by one event a line.
 abbrev pub IsExplainedBy : Mode → Setup → Script → Answered → List Entry → Type 0
-IsExplainedBy mode.Run u script told past = IsExplained u (given_of script) told past
+IsExplainedBy mode.Run u script told past = IsExplained u (given_of script) told [] past
 IsExplainedBy mode.Steps u script told past = IsSteppedThrough u script.streams script.lines told.replies past
 
 -- the numbers of the deferred writes of a script's `defer` lines, where one was run

@@ -138,7 +138,7 @@ fn run_on<R: Threads + Wait + Sync, D: PageDisk, L: LogFile + Send, Q: PostRouti
     ensures good { IsGood (standing_of D.told D.faults L.told L.faults desk).setup (reverse result.journal.items) }
     ensures within { IsWithinCapacity desk.begun.capacity (reverse result.journal.items) }
     ensures explained { IsExplained (standing_of D.told D.faults L.told L.faults desk).setup
-        (given_of script.now) (lines_answered result.replies.items) (reverse result.journal.items) }
+        (given_of script.now) (lines_answered result.replies.items) [] (reverse result.journal.items) }
     ensures table { IfSome result.table (λ rows. rows.items ≡ table_of (reverse result.journal.items)) }
     ensures disks { DisksStand D.told D.faults (standing_of D.told D.faults L.told L.faults desk).disks
         (length desk.begun.disks) (reverse result.journal.items) result.disks.items }

@@ -9,6 +9,7 @@ use Rattle.cc_entry.specs.declared.reply.Reply.TheVariants as reply
 use Rattle.cc_entry.specs.declared.reply.Outcome.TheVariants as outcome
 use Rattle.cc_entry.specs.declared.answer.Answer.TheVariants as answer
 use Rattle.cc_entry.specs.declared.answer.LineReply.{LineReply}
+use Rattle.cc_entry.specs.declared.place.Request.{Request}
 use Rattle.cc_entry.specs.declared.entry.Entry.{Entry}
 use Rattle.cc_script.specs.declared.script.StreamLine.{StreamLine}
 use Rattle.cc_model.specs.Setup.{Setup}
@@ -78,12 +79,12 @@ not_writer same = omega (arith, same)
 not_worker : ◌≡◌ {A = ℕ} 1 18 → ⊥
 not_worker same = omega (arith, same)
 
-pub phase-ran : (ticked stepped : List LineReply) (old new : List Entry) → PhaseRan setup (plan_with 0 0) 1 ticked stepped old new → Marked 1 (read_mark ∷ []) old new
-phase-ran ticked stepped old new left = read-ran 4 [] old new (left.callers 1 not_writer not_worker)
+pub phase-ran : (ticked stepped : List LineReply) (taken : List Request) (old new : List Entry) → PhaseRan setup (plan_with 0 0) 1 ticked stepped taken old new → Marked 1 (read_mark ∷ []) old new
+phase-ran ticked stepped taken old new left = read-ran 4 [] old new (left.callers 1 not_writer not_worker)
 
-pub phases-ran : (ticked stepped : List LineReply) (old new : List Entry) → PhasesRan setup (plan_with 0 0) 1 2 ticked stepped old new → Marked 1 (read_mark ∷ state_mark ∷ []) old new
-phases-ran ticked stepped old new left =
-    let first = read-ran 4 [] old left.0 (left.2.callers 1 not_writer not_worker) in
-    let second = state-ran 4 [] left.0 left.3.0 (left.3.2.callers 1 not_writer not_worker) in
-    let both = marked-then 1 (read_mark ∷ []) (state_mark ∷ []) old left.0 left.3.0 first second in
-    rw left.3.3.2 both
+pub phases-ran : (ticked stepped : List LineReply) (taken : List Request) (old new : List Entry) → PhasesRan setup (plan_with 0 0) 1 2 ticked stepped taken old new → Marked 1 (read_mark ∷ state_mark ∷ []) old new
+phases-ran ticked stepped taken old new left =
+    let first = read-ran 4 [] old left.0 (left.3.callers 1 not_writer not_worker) in
+    let second = state-ran 4 [] left.0 left.4.0 (left.4.3.callers 1 not_writer not_worker) in
+    let both = marked-then 1 (read_mark ∷ []) (state_mark ∷ []) old left.0 left.4.0 first second in
+    rw left.4.4.3 both

@@ -36,4 +36,5 @@ pub mod PiecesLines
 pub mod PiecesShim
 pub mod PiecesRuns
 pub mod PiecesAnswered
+pub mod PiecesQueue
 pub mod PiecesEvents

@@ -1,12 +1,14 @@
 -- What lines leave by their answers: lines of one call, and of the calls without an entry. Each stretch has its
 -- newest entry first, and stands on a past.
 use Rattle.std.specs.Prelude.{ℕ, suc, true, false, List, [], ◌∷◌, replicate}
+use Rattle.std.specs.declared.option.Option.{Option}
 use Rattle.cc_entry.specs.declared.answer.Answer.{Answer}
 use Rattle.cc_entry.specs.declared.answer.Tick.{Tick}
 use Rattle.cc_entry.specs.declared.answer.AheadDone.{AheadDone}
 use Rattle.cc_entry.specs.declared.call.Call.{Call}
 use Rattle.cc_entry.specs.declared.call.Call.TheVariants as call
 use Rattle.cc_entry.specs.declared.error.CcError.TheVariants as error
+use Rattle.cc_entry.specs.declared.place.Request.{Request}
 use Rattle.cc_entry.specs.declared.entry.Entry.{Entry}
 use Rattle.cc_entry.specs.declared.entry.Entry.TheVariants as entry
 use Rattle.cc_model.specs.Setup.{Setup}
@@ -40,7 +42,7 @@ PostsLine u = PostsAnswered u 1
 abbrev pub TickLine : Answer → Between
 TickLine = TickAnswered 17
 
-abbrev pub AheadLine : Answer → Between
+abbrev pub AheadLine : Option Request → Answer → Between
 AheadLine = AheadAnswered setup 18
 
 -- the levels are asked, where a size has one more of them than it has bytes
@@ -66,6 +68,10 @@ none_picked = record { picked = []; written = 0; skipped = 0; failed = 0 }
 -- the request for the second page was served
 abbrev pub step_done : AheadDone
 step_done = record { request = request; whole = true }
+
+-- the request for the first page, which no step served
+abbrev pub first_request : Request
+first_request = record { file = a; at = 0; len = 4096 }
 
 -- the page of the request was not read
 abbrev pub step_fails : List Entry

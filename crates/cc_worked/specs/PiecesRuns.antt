@@ -26,10 +26,10 @@ use Rattle.cc_model.specs.Setup.{Setup}
 use Rattle.cc_effects.specs.Moments.{Between}
 use Rattle.cc_pieces.specs.Openings.{Opens, Opened}
 use Rattle.cc_pieces.specs.Served.{Served}
-use Rattle.cc_pieces.specs.Phases.{Plan}
+use Rattle.cc_pieces.specs.Phases.{Plan, PhaseRan, PhasesRan}
 use Rattle.cc_pieces.specs.Explained.{Given, Answered}
 use Rattle.cc_worked.specs.Values.{setup, a, b, page, sized, done, answers, refused, read_in, begins, ends, fails, synced, unit, Leaves}
-use Rattle.cc_worked.specs.PiecesReads.{first_resident, a_byte, page_comes_in}
+use Rattle.cc_worked.specs.PiecesReads.{two_pages, first_resident, a_byte, page_comes_in}
 use Rattle.cc_worked.specs.PiecesWithoutEntry.{request}
 
 -- a stream of two pages with such a log, or none
@@ -153,6 +153,15 @@ of_one_answered =
 -- a plan of those lines with so many ticks and steps
 abbrev pub plan_with : ℕ → ℕ → Plan
 plan_with ticks aheads = record { lines = of_one; answers = of_one_answered; ticks = ticks; aheads = aheads }
+
+-- the first phase of a run with so many ticks and steps a phase, of which these steps were made, left this piece
+abbrev pub OnePhase : ℕ → ℕ → List LineReply → List Entry → Type 0
+OnePhase ticks aheads stepped piece =
+    PhaseRan setup (plan_with ticks aheads) 1 [] stepped [] two_pages (piece ++ two_pages)
+
+-- both phases of a run without ticks and steps did
+abbrev pub TwoPhases : List Entry → Type 0
+TwoPhases piece = PhasesRan setup (plan_with 0 0) 1 2 [] [] [] two_pages (piece ++ two_pages)
 
 -- wrong: a caller that has no line places something
 abbrev pub stranger_beside : List Entry

@@ -9,9 +9,9 @@ ghost use Rattle.cc_pieces.specs.Faultless.{shows_fault, tells_fault};
 ghost use Rattle.cc_worked.specs.Values.{setup, with_threshold, page, unit, gives, Leaves, LeavesNothing};
 ghost use Rattle.cc_worked.specs.PiecesReads.{two_pages, first_byte, a_byte, page_comes_in, past_the_size, write_refused};
 ghost use Rattle.cc_worked.specs.PiecesNoncached.{misaligned};
-ghost use Rattle.cc_worked.specs.PiecesWithoutEntry.{flushed_to_three, appended, log_fails, deferred, posted, one_deferred, dirty, page_of_tick, one_written, step};
+ghost use Rattle.cc_worked.specs.PiecesWithoutEntry.{flushed_to_three, appended, log_fails, deferred, posted, one_deferred, dirty, page_of_tick, one_written, request, step};
 ghost use Rattle.cc_worked.specs.PiecesAnswered.{CallLine, AppendLine, LogFlushLine, DeferLine, PostsLine, TickLine, AheadLine, LevelsLine, NcReadLine, NcWriteLine};
-ghost use Rattle.cc_worked.specs.PiecesAnswered.{flushed_to_four, none_picked, step_done, step_fails, one_byte_is_refused, whole_page, page_is_written};
+ghost use Rattle.cc_worked.specs.PiecesAnswered.{flushed_to_four, first_request, none_picked, step_done, step_fails, one_byte_is_refused, whole_page, page_is_written};
 
 /// The answer of a line of one call is what its call was answered, and no answer of another kind.
 pub fn call_is_answered_as_it_ended()
@@ -70,14 +70,17 @@ pub fn throttle_lines_are_answered()
 /// levels with those of the size.
 pub fn worker_lines_are_answered()
     ensures ticked { Leaves TickLine (answer.Ticked one_written) dirty page_of_tick }
-    ensures stepped { Leaves AheadLine (answer.Stepped (Some step_done)) two_pages step }
+    ensures stepped { Leaves (AheadLine (Some request)) (answer.Stepped (Some step_done)) two_pages step }
     ensures levels { LeavesNothing LevelsLine (answer.Levels 8193) two_pages }
     ensures tick_wants_memory { LeavesNothing TickLine (answer.Refused error.NoMemory) dirty }
-    ensures step_failed { Leaves AheadLine (answer.Refused (error.ReadFault 1)) two_pages step_fails }
+    ensures step_failed { Leaves (AheadLine (Some request)) (answer.Refused (error.ReadFault 1)) two_pages step_fails }
     ensures levels_not_cached { LeavesNothing LevelsLine (answer.Refused error.NotCached) [] }
     ensures none_picked { Leaves TickLine (answer.Ticked none_picked) dirty page_of_tick → ⊥ }
-    ensures none_stepped { Leaves AheadLine (answer.Stepped None) two_pages step → ⊥ }
-    ensures step_not_refused { Leaves AheadLine (answer.Refused (error.ReadFault 1)) two_pages step → ⊥ }
+    ensures none_stepped { Leaves (AheadLine (Some request)) (answer.Stepped None) two_pages step → ⊥ }
+    ensures step_not_refused { Leaves (AheadLine (Some request)) (answer.Refused (error.ReadFault 1)) two_pages step → ⊥ }
+    ensures no_other_request { Leaves (AheadLine (Some first_request)) (answer.Stepped (Some step_done)) two_pages step → ⊥ }
+    ensures no_other_failed { Leaves (AheadLine (Some first_request)) (answer.Refused (error.ReadFault 1)) two_pages step_fails → ⊥ }
+    ensures none_to_refuse { LeavesNothing (AheadLine None) (answer.Refused error.NoMemory) two_pages → ⊥ }
     ensures tick_not_refused { Leaves TickLine (answer.Refused error.NotCached) dirty page_of_tick → ⊥ }
     ensures levels_cached { LeavesNothing LevelsLine (answer.Refused error.NotCached) two_pages → ⊥ }
     ensures other_levels { LeavesNothing LevelsLine (answer.Levels 8192) two_pages → ⊥ }

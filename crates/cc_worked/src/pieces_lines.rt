@@ -17,6 +17,7 @@ ghost use Rattle.cc_worked.specs.PiecesWithoutEntry.{dirty, page_of_tick};
 ghost use Rattle.cc_worked.specs.PiecesShim.{ReadBy};
 ghost use Rattle.cc_worked.specs.PiecesLines.{word, other_word, one_map, one_of, one_pin, one_repin, one_read_chain, one_write_chain, MakesCall};
 ghost use Rattle.cc_worked.specs.PiecesLines.{PinOn, ReadOn, WriteOn, StampOn, UnpinOn, RepinOn, UnrepinOn, ChainReadOn, ChainStoreOn, ChainDoneOn, ChainAbortOn};
+ghost use Rattle.cc_worked.specs.PiecesWithoutEntry.{request};
 ghost use Rattle.cc_worked.specs.PiecesLines.{mapped, map_ends, pinned_range, repinned_range, read_chain_range, write_chain_range, tick_in, no_request};
 
 /// A word names the hold that an earlier line made; where it names none, the line is answered so and leaves
@@ -94,6 +95,7 @@ pub fn shim_reads_by_its_path()
 pub fn workers_run_in_their_phase()
     ensures ticked { Leaves (TicksRan setup 32 1) (tick_in 1 ∷ []) dirty page_of_tick }
     ensures of_this_phase { Leaves (TicksRan setup 32 1) (tick_in 2 ∷ []) dirty page_of_tick → ⊥ }
-    ensures none { LeavesNothing (AheadsRan setup 32 1) (no_request ∷ []) two_pages }
-    ensures none_is_last { LeavesNothing (AheadsRan setup 32 1) (no_request ∷ no_request ∷ []) two_pages → ⊥ }
+    ensures none { AheadsRan setup 32 1 (no_request ∷ []) [] two_pages two_pages }
+    ensures none_is_last { AheadsRan setup 32 1 (no_request ∷ no_request ∷ []) [] two_pages two_pages → ⊥ }
+    ensures none_taken { AheadsRan setup 32 1 (no_request ∷ []) (request ∷ []) two_pages two_pages → ⊥ }
 {}

@@ -9,7 +9,7 @@ ghost use Rattle.cc_entry.specs.declared.answer.Answer.TheVariants as answer;
 ghost use Rattle.cc_script.specs.declared.script.Action.TheVariants as action;
 ghost use Rattle.cc_pieces.specs.Rooms.{HadNoRoom, is_alone, room_limit};
 ghost use Rattle.cc_pieces.specs.Runs.{Explains, Ran, bindings_of};
-ghost use Rattle.cc_pieces.specs.Phases.{is_before_phase, limit_in, lines_before, PhaseRan, PhasesRan};
+ghost use Rattle.cc_pieces.specs.Phases.{is_before_phase, limit_in, lines_before, PhasesRan};
 ghost use Rattle.cc_pieces.specs.Explained.{IsExplained};
 ghost use Rattle.cc_pieces.specs.Table.{table_of};
 ghost use Rattle.cc_effects.specs.Failures.{failures};
@@ -18,10 +18,11 @@ ghost use Rattle.cc_worked.specs.PiecesReads.{two_pages, first_resident, a_byte,
 ghost use Rattle.cc_worked.specs.PiecesRuns.{OneStream, TwoStreams, opens, opens_with, caller_opens, opening_is_refused, log_all_the_same};
 ghost use Rattle.cc_worked.specs.PiecesRuns.{opens_both, opens_first_twice, unit_at, of_capacity, full_at, OneLine, MakesOneCall, flushes};
 ghost use Rattle.cc_worked.specs.PiecesRuns.{first_bytes, reads, asks, two_full, reads_and_asks, asks_and_reads, asks_twice, two_lines};
-ghost use Rattle.cc_worked.specs.PiecesRuns.{line_of, of_one, of_two, plan_with, one_step, stranger_beside};
+ghost use Rattle.cc_worked.specs.PiecesRuns.{line_of, of_one, of_two, plan_with, one_step, stranger_beside, OnePhase, TwoPhases};
+ghost use Rattle.cc_worked.specs.PiecesQueue.{QueuedBy, asks_ahead, finds_it_full, one_served, one_idle, at_rest, asked_once, took_once, took_other, places_with};
 ghost use Rattle.cc_worked.specs.PiecesLines.{no_request, one_map};
-ghost use Rattle.cc_worked.specs.PiecesWithoutEntry.{flushed_to_three, appended};
-ghost use Rattle.cc_worked.specs.PiecesAnswered.{flushed_to_four, one_byte_is_refused};
+ghost use Rattle.cc_worked.specs.PiecesWithoutEntry.{flushed_to_three, appended, request};
+ghost use Rattle.cc_worked.specs.PiecesAnswered.{flushed_to_four, first_request, one_byte_is_refused};
 ghost use Rattle.cc_worked.specs.PiecesNoncached.{misaligned};
 ghost use Rattle.cc_worked.specs.PiecesRuns.{given, told_by, all_replies, stream_last, one_unanswered};
 ghost use Rattle.cc_worked.specs.PiecesRuns.{two_dirty, one_dirty, stamped_row, unstamped_row, three_fail};
@@ -114,24 +115,36 @@ pub fn lines_run_in_their_order()
 /// In a phase each caller runs its lines of it, no other pass places anything, and the workers answer as often as
 /// they are asked; the phases follow each other.
 pub fn phases_run_one_after_the_other()
-    ensures ran { Leaves (PhaseRan setup (plan_with 0 0) 1 []) [] two_pages page_comes_in }
-    ensures both { Leaves (PhasesRan setup (plan_with 0 0) 1 2 []) [] two_pages reads_and_asks }
-    ensures no_request { Leaves (PhaseRan setup (plan_with 0 2) 1 []) (no_request ∷ []) two_pages page_comes_in }
-    ensures no_stranger { Leaves (PhaseRan setup (plan_with 0 0) 1 []) [] two_pages stranger_beside → ⊥ }
-    ensures no_later_line { Leaves (PhaseRan setup (plan_with 0 0) 1 []) [] two_pages reads_and_asks → ⊥ }
-    ensures no_tick_left_out { Leaves (PhaseRan setup (plan_with 1 0) 1 []) [] two_pages page_comes_in → ⊥ }
-    ensures no_step_left_out { Leaves (PhaseRan setup (plan_with 0 1) 1 []) [] two_pages page_comes_in → ⊥ }
-    ensures not_ended { Leaves (PhaseRan setup (plan_with 0 2) 1 []) (one_step ∷ []) two_pages page_comes_in → ⊥ }
-    ensures in_order { Leaves (PhasesRan setup (plan_with 0 0) 1 2 []) [] two_pages asks_and_reads → ⊥ }
-    ensures nothing_after { Leaves (PhasesRan setup (plan_with 0 0) 1 0 []) [] two_pages page_alone → ⊥ }
+    ensures ran { OnePhase 0 0 [] page_comes_in }
+    ensures both { TwoPhases reads_and_asks }
+    ensures no_request { OnePhase 0 2 (no_request ∷ []) page_comes_in }
+    ensures no_stranger { OnePhase 0 0 [] stranger_beside → ⊥ }
+    ensures no_later_line { OnePhase 0 0 [] reads_and_asks → ⊥ }
+    ensures no_tick_left_out { OnePhase 1 0 [] page_comes_in → ⊥ }
+    ensures no_step_left_out { OnePhase 0 1 [] page_comes_in → ⊥ }
+    ensures not_ended { OnePhase 0 2 (one_step ∷ []) page_comes_in → ⊥ }
+    ensures in_order { TwoPhases asks_and_reads → ⊥ }
+    ensures nothing_after { PhasesRan setup (plan_with 0 0) 1 0 [] [] [] two_pages (page_alone ++ two_pages) → ⊥ }
 {}
 
 /// A run is explained where its streams opened and then its phases ran, and each line has its reply, in order.
 pub fn run_is_explained()
-    ensures explained { IsExplained setup given (told_by all_replies) (reads_and_asks ++ opens) }
-    ensures streams_first { IsExplained setup given (told_by stream_last) (reads_and_asks ++ opens) → ⊥ }
-    ensures each_line { IsExplained setup given (told_by one_unanswered) (page_comes_in ++ opens) → ⊥ }
-    ensures nothing_before { IsExplained setup given (told_by all_replies) (reads_and_asks ++ caller_opens) → ⊥ }
+    ensures explained { IsExplained setup given (told_by all_replies) [] (reads_and_asks ++ opens) }
+    ensures streams_first { IsExplained setup given (told_by stream_last) [] (reads_and_asks ++ opens) → ⊥ }
+    ensures each_line { IsExplained setup given (told_by one_unanswered) [] (page_comes_in ++ opens) → ⊥ }
+    ensures nothing_taken { IsExplained setup given (told_by all_replies) (request ∷ []) (reads_and_asks ++ opens) → ⊥ }
+    ensures nothing_before { IsExplained setup given (told_by all_replies) [] (reads_and_asks ++ caller_opens) → ⊥ }
+{}
+
+/// What a pass has at the read-ahead queue is read off its calls for read-ahead and the answers of the steps.
+pub fn places_at_the_queue()
+    ensures queued { QueuedBy one_served (request ∷ []) (places_with asked_once took_once) asks_ahead }
+    ensures each_pushed { QueuedBy one_served (request ∷ []) (places_with at_rest took_once) asks_ahead → ⊥ }
+    ensures each_full { QueuedBy [] [] (places_with at_rest at_rest) finds_it_full → ⊥ }
+    ensures as_told { QueuedBy one_served (request ∷ []) (places_with asked_once at_rest) asks_ahead → ⊥ }
+    ensures one_a_step { QueuedBy [] (request ∷ []) (places_with asked_once took_once) asks_ahead → ⊥ }
+    ensures as_served { QueuedBy one_served (first_request ∷ []) (places_with asked_once took_other) asks_ahead → ⊥ }
+    ensures each_empty { QueuedBy one_idle [] (places_with asked_once at_rest) asks_ahead → ⊥ }
 {}
 
 /// The table has a row for each page that is dirty at the end, with the LSNs of its touches that are not yet

@@ -8,7 +8,7 @@ ghost use Rattle.cc_effects.specs.Levels.{LevelsLeft};
 ghost use Rattle.cc_worked.specs.Values.{setup, with_threshold, a, page, Leaves, LeavesNothing};
 ghost use Rattle.cc_worked.specs.PiecesReads.{two_pages};
 ghost use Rattle.cc_worked.specs.PiecesWithoutEntry.{AppendTo, LogFlushTo, DeferralOf, PostIn};
-ghost use Rattle.cc_worked.specs.PiecesWithoutEntry.{flushed_to_three, appended, appended_nowhere, log_fails, deferred, posted, one_deferred, dirty, page_is_written, page_fails, page_is_written_twice, page_of_tick, one_written, step};
+ghost use Rattle.cc_worked.specs.PiecesWithoutEntry.{flushed_to_three, appended, appended_nowhere, log_fails, deferred, posted, one_deferred, dirty, page_is_written, page_fails, page_is_written_twice, page_of_tick, one_written, request, step};
 ghost use Rattle.cc_worked.specs.PiecesWithoutEntry.{pages_of_tick, two_written, pages_out_of_order};
 ghost use Rattle.cc_worked.specs.PiecesWrites.{both_dirty};
 ghost use Rattle.cc_worked.specs.PiecesAnswered.{step_done};
@@ -52,8 +52,8 @@ pub fn pages_are_counted()
 
 /// A read-ahead step serves a request that it took, or leaves nothing; the levels are asked of an open file.
 pub fn steps_and_levels()
-    ensures served { Leaves (AheadLeft setup 18) (Ok (Some step_done)) two_pages step }
-    ensures none { LeavesNothing (AheadLeft setup 18) (Ok None) two_pages }
+    ensures served { Leaves (AheadLeft setup 18 (Some request)) (Ok (Some step_done)) two_pages step }
+    ensures none { LeavesNothing (AheadLeft setup 18 None) (Ok None) two_pages }
     ensures levels { LeavesNothing (LevelsLeft suc 1 a) (Ok 8193) two_pages }
     ensures wrong_levels { LeavesNothing (LevelsLeft suc 1 a) (Ok 1) two_pages → ⊥ }
 {}

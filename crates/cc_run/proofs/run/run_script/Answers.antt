@@ -1,7 +1,7 @@
 -- The first disks and logs are the run's; behind the run they go back in front of the others, where there is room.
 use Rattle.std.proofs.Common.{◌++◌, ◌∙◌, length, take, drop, reverse, refl, ap, subst, arith}
 use Rattle.std.proofs.lemmas.List.{length-take, length-append, length-reverse, take-append-drop}
-use Rattle.std.specs.Prelude.{slice_get}
+use Rattle.std.specs.Prelude.{[], slice_get}
 use Rattle.cc_journal.specs.Capacity.{IsWithinCapacity}
 use Rattle.cc_model.specs.Good.{IsGood}
 use Rattle.cc_pieces.specs.Explained.{IsExplained}
@@ -71,7 +71,7 @@ returns-in-Ok-new-clause-ran g c =
     record {
       good = subst (λ u. IsGood u past) setup c.run_on-replies.ensures.good;
       within = subst (λ n. IsWithinCapacity n past) (ap (λ b. b.capacity) c.in-Ok-new.ensures.fresh.begun_is) c.run_on-replies.ensures.within;
-      explained = subst (λ u. IsExplained u (given_of c.args.script.now) (lines_answered c.run_on-replies.result.replies.items) past) setup c.run_on-replies.ensures.explained;
+      explained = subst (λ u. IsExplained u (given_of c.args.script.now) (lines_answered c.run_on-replies.result.replies.items) [] past) setup c.run_on-replies.ensures.explained;
       table = c.run_on-replies.ensures.table;
       disks_left =
           disks-left g.D.Told.told g.D.Told.faults past c.args.disks.items c.run_on-replies.result.disks.items _

@@ -15,7 +15,7 @@ use Rattle.cc_worked.proofs.pieces_answered.call_is_answered_as_it_ended.Goals a
 pub returns-clause-done : goal.returns-clause-done
 unfolding computed
 returns-clause-done c =
-    ends_done 1 1 (Some 0) first_byte a_byte two_pages (read_in 1 0 ∷ two_pages) (brings 1 first_byte two_pages two_pages (page 0) true (begins 1 first_byte two_pages) refl refl) refl (λ during. tt)
+    ends_done 1 1 (Some 0) first_byte a_byte two_pages (read_in 1 0 ∷ two_pages) (brings 1 first_byte two_pages two_pages (page 0) true (begins 1 first_byte two_pages) refl refl refl) refl (λ during. tt)
 
 pub returns-clause-refused : goal.returns-clause-refused
 returns-clause-refused c =

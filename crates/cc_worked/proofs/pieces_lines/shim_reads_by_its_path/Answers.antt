@@ -18,7 +18,7 @@ use Rattle.cc_worked.proofs.pieces_lines.shim_reads_by_its_path.Goals as goal
 pub returns-clause-cached : goal.returns-clause-cached
 unfolding computed
 returns-clause-cached c =
-    ends_done 1 1 (Some 0) first_byte a_byte two_pages (read_in 1 0 ∷ two_pages) (brings 1 first_byte two_pages two_pages (page 0) true (begins 1 first_byte two_pages) refl refl) refl (λ during. tt)
+    ends_done 1 1 (Some 0) first_byte a_byte two_pages (read_in 1 0 ∷ two_pages) (brings 1 first_byte two_pages two_pages (page 0) true (begins 1 first_byte two_pages) refl refl refl) refl (λ during. tt)
 
 pub returns-clause-too_long : goal.returns-clause-too_long
 returns-clause-too_long c = (inl refl, idle-none 1 two_pages)
@@ -32,7 +32,7 @@ returns-clause-not_served c left = neither (refused (error.TooLong 65536)) (refu
 pub returns-clause-fault : goal.returns-clause-fault
 unfolding computed
 returns-clause-fault c =
-    ends_unread 1 1 (Some 0) first_byte (page 0) two_pages two_pages (begins 1 first_byte two_pages) refl refl refl refl
+    ends_unread 1 1 (Some 0) first_byte (page 0) two_pages two_pages (begins 1 first_byte two_pages) refl refl refl refl refl
 
 pub returns-clause-copy_too_long : goal.returns-clause-copy_too_long
 returns-clause-copy_too_long c = (inl refl, idle-none 1 two_pages)

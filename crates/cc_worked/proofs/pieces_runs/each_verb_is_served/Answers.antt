@@ -1,5 +1,5 @@
 -- The one call of the line, by its end, or the one entry of its log.
-use Rattle.std.specs.Prelude.{◌≡◌, ℕ, false, List, [], ◌∷◌, ◌++◌, refl}
+use Rattle.std.specs.Prelude.{◌≡◌, ℕ, true, false, List, [], ◌∷◌, ◌++◌, refl}
 use Rattle.std.specs.declared.option.Option.TheVariants.{Some, None}
 use Rattle.std.proofs.Common.{arith, ap, inl}
 use Rattle.cc_entry.specs.declared.call.Call.{Call}
@@ -9,9 +9,10 @@ use Rattle.cc_entry.specs.declared.reply.Reply.TheVariants as reply
 use Rattle.cc_entry.specs.declared.reply.Outcome.TheVariants as outcome
 use Rattle.cc_entry.specs.declared.entry.Entry.{Entry}
 use Rattle.cc_entry.specs.declared.entry.Entry.TheVariants as entry
+use Rattle.cc_effects.specs.Asked.{is_admitted}
 use Rattle.cc_effects.specs.Calls.{CallLeft}
 use Rattle.cc_effects.proofs.Starts.{begins, done_by, ends_done}
-use Rattle.cc_effects.proofs.Stretches.{idle-none}
+use Rattle.cc_effects.proofs.Stretches.{idle-none, some-begin}
 use Rattle.cc_effects.proofs.Licences.{only-own}
 use Rattle.cc_worked.specs.Values.{setup, a, second, sized, done, answers, synced}
 use Rattle.cc_worked.specs.PiecesReads.{first_resident, two_pages}
@@ -40,7 +41,7 @@ returns-clause-asked c = state-told 1 two_full first_resident
 pub returns-clause-flushed : goal.returns-clause-flushed
 unfolding computed
 returns-clause-flushed c =
-    done_by 1 1 (Some 0) (call.Flush a None) reply.Unit (synced 1 ∷ []) first_resident (record { each = ((λ is. refl), tt); one_sync = omega arith; whole = refl }) refl refl (record { after = []; before = []; split = refl; quiet = tt; settled = refl })
+    done_by 1 1 (Some 0) (call.Flush a None) reply.Unit (synced 1 ∷ []) first_resident (record { each = ((λ is. (refl, some-begin (λ moment. is_admitted (call.Flush a None) 0 moment ≡ true) [] first_resident refl)), tt); one_sync = omega arith; whole = refl }) refl refl (record { after = []; before = []; split = refl; quiet = tt; settled = refl })
 
 pub returns-clause-asked_dirty : goal.returns-clause-asked_dirty
 returns-clause-asked_dirty c =

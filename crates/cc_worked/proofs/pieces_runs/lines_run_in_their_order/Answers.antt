@@ -17,7 +17,7 @@ use Rattle.cc_worked.proofs.pieces_runs.lines_run_in_their_order.Goals as goal
 its_read : CallLeft setup 1 first_byte (outcome.Done a_byte) two_pages (page_comes_in ++ two_pages)
 unfolding computed
 its_read =
-    ends_done 1 1 (Some 0) first_byte a_byte two_pages (read_in 1 0 ∷ two_pages) (brings 1 first_byte two_pages two_pages (page 0) true (begins 1 first_byte two_pages) refl refl) refl (λ during. tt)
+    ends_done 1 1 (Some 0) first_byte a_byte two_pages (read_in 1 0 ∷ two_pages) (brings 1 first_byte two_pages two_pages (page 0) true (begins 1 first_byte two_pages) refl refl refl) refl (λ during. tt)
 
 pub returns-clause-explained : goal.returns-clause-explained
 returns-clause-explained c = record { served = its_read; room = tt }

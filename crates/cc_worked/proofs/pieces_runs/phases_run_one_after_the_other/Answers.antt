@@ -48,14 +48,14 @@ returns-clause-no_stranger c left =
 
 pub returns-clause-no_later_line : goal.returns-clause-no_later_line
 returns-clause-no_later_line c left =
-    other (shows 1 (read_mark ∷ []) reads_and_asks two_pages (phase-ran [] [] two_pages (reads_and_asks ++ two_pages) left))
+    other (shows 1 (read_mark ∷ []) reads_and_asks two_pages (phase-ran [] [] [] two_pages (reads_and_asks ++ two_pages) left))
   where
     other : marks 1 reads_and_asks ≡ read_mark ∷ [] → ⊥
     other same = absurd (cc)
 
 pub returns-clause-in_order : goal.returns-clause-in_order
 returns-clause-in_order c left =
-    other (shows 1 (read_mark ∷ state_mark ∷ []) asks_and_reads two_pages (phases-ran [] [] two_pages (asks_and_reads ++ two_pages) left))
+    other (shows 1 (read_mark ∷ state_mark ∷ []) asks_and_reads two_pages (phases-ran [] [] [] two_pages (asks_and_reads ++ two_pages) left))
   where
     other : marks 1 asks_and_reads ≡ read_mark ∷ state_mark ∷ [] → ⊥
     other same = absurd (cc)

@@ -53,8 +53,8 @@ one_is_not_zero same = omega (arith, same)
 pub returns-clause-nothing_before : goal.returns-clause-nothing_before
 returns-clause-nothing_before c left =
     let answers = answers_are left.setup left.answers left.replies_are left.setup_lines in
-    let ran : PhasesRan setup (plan_with 0 0) 1 2 [] [] left.begun (reads_and_asks ++ caller_opens) = rw answers at left.ran in
-    let all = marked-then 1 [] (read_mark ∷ state_mark ∷ []) [] left.begun (reads_and_asks ++ caller_opens) (marked-idle 1 [] left.begun (left.alone 1 one_is_not_zero)) (phases-ran [] [] left.begun (reads_and_asks ++ caller_opens) ran) in
+    let ran : PhasesRan setup (plan_with 0 0) 1 2 [] [] [] left.begun (reads_and_asks ++ caller_opens) = rw answers at left.ran in
+    let all = marked-then 1 [] (read_mark ∷ state_mark ∷ []) [] left.begun (reads_and_asks ++ caller_opens) (marked-idle 1 [] left.begun (left.alone 1 one_is_not_zero)) (phases-ran [] [] [] left.begun (reads_and_asks ++ caller_opens) ran) in
     other (shows 1 (read_mark ∷ state_mark ∷ []) (reads_and_asks ++ caller_opens) [] all)
   where
     other : marks 1 (reads_and_asks ++ caller_opens) ≡ read_mark ∷ state_mark ∷ [] → ⊥

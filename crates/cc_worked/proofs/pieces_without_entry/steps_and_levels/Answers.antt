@@ -18,8 +18,10 @@ use Rattle.cc_worked.proofs.pieces_without_entry.steps_and_levels.Goals as goal
 
 pub returns-clause-served : goal.returns-clause-served
 unfolding computed
-returns-clause-served c =
-    ends_done 18 1 (Some 0) (call.AheadStep request) (reply.Whole true) two_pages (read_in 18 1 ∷ two_pages) (brings 18 (call.AheadStep request) two_pages two_pages (page 1) true (begins 18 (call.AheadStep request) two_pages) refl refl) refl (λ during. tt)
+returns-clause-served c = (
+  refl,
+  ends_done 18 1 (Some 0) (call.AheadStep request) (reply.Whole true) two_pages (read_in 18 1 ∷ two_pages) (brings 18 (call.AheadStep request) two_pages two_pages (page 1) true (begins 18 (call.AheadStep request) two_pages) refl refl refl) refl (λ during. tt),
+)
 
 pub returns-clause-none : goal.returns-clause-none
 returns-clause-none c = idle-none 18 two_pages

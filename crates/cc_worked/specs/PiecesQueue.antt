@@ -1,0 +1,68 @@
+-- What passes have at the read-ahead queue: the calls of a caller for read-ahead, and the answers of the worker's steps. Each
+-- stretch has its newest entry first.
+use Rattle.std.specs.Prelude.{ℕ, ◌==◌, true, List, [], ◌∷◌, map, if◌then◌else◌}
+use Rattle.std.specs.declared.option.Option.TheVariants.{Some, None}
+use Rattle.cc_entry.specs.declared.call.Call.TheVariants as call
+use Rattle.cc_entry.specs.declared.error.CcError.TheVariants as error
+use Rattle.cc_entry.specs.declared.reply.Reply.TheVariants as reply
+use Rattle.cc_entry.specs.declared.answer.Answer.{Answer}
+use Rattle.cc_entry.specs.declared.answer.LineReply.{LineReply}
+use Rattle.cc_entry.specs.declared.entry.Entry.{Entry}
+use Rattle.cc_pieces.specs.Explained.{Answered}
+use Rattle.cc_entry.specs.declared.place.Request.{Request}
+use Rattle.cc_pieces.specs.Queue.{IsQueued, QueuePlace}
+use Rattle.cc_worked.specs.Values.{a, answers, refused}
+use Rattle.cc_worked.specs.PiecesWithoutEntry.{request, step}
+use Rattle.cc_worked.specs.PiecesRuns.{one_step}
+use Rattle.cc_worked.specs.PiecesLines.{no_request}
+use Rattle.cc_worked.specs.PiecesAnswered.{first_request}
+
+-- a caller asks for read-ahead once, which is a request, and once more, which is none; and the worker serves the request
+abbrev pub asks_ahead : List Entry
+asks_ahead =
+    answers 18 1 (call.AheadStep request) (reply.Whole true)
+    ∷ answers 1 2 (call.AskAhead a 8192 1) (reply.Ahead None)
+    ∷ answers 1 1 (call.AskAhead a 0 1) (reply.Ahead (Some request))
+    ∷ []
+
+-- a caller's call for read-ahead finds the queue full
+abbrev pub finds_it_full : List Entry
+finds_it_full = refused 1 1 (call.AskAhead a 0 1) error.QueueFull ∷ []
+
+-- what a run told whose worker made these steps
+abbrev pub told_steps : List LineReply → Answered
+told_steps stepped = record { replies = []; ticked = []; stepped = stepped }
+
+-- one step, which served the request, and one, which found none
+abbrev pub one_served : List LineReply
+one_served = one_step ∷ []
+
+abbrev pub one_idle : List LineReply
+one_idle = no_request ∷ []
+
+-- what the steps of each pass were answered, of which the worker alone made any
+abbrev pub steps_of : List LineReply → ℕ → List Answer
+steps_of stepped me = if 18 == me then map (λ reply. reply.answer) stepped else []
+
+-- what the passes have at the queue explains a run whose worker made these steps
+abbrev pub QueuedBy : List LineReply → List Request → (ℕ → QueuePlace) → List Entry → Type 0
+QueuedBy stepped taken places past = IsQueued (told_steps stepped) (steps_of stepped) taken places past
+
+-- a place at which nothing was done
+abbrev pub at_rest : QueuePlace
+at_rest = record { pushed = []; taken = []; empties = 0; fulls = 0 }
+
+-- a place that pushed the request, and one that took it
+abbrev pub asked_once : QueuePlace
+asked_once = record { pushed = request ∷ []; taken = []; empties = 0; fulls = 0 }
+
+abbrev pub took_once : QueuePlace
+took_once = record { pushed = []; taken = request ∷ []; empties = 0; fulls = 0 }
+
+-- wrong: the one that was taken is another
+abbrev pub took_other : QueuePlace
+took_other = record { pushed = []; taken = first_request ∷ []; empties = 0; fulls = 0 }
+
+-- the places of caller 1 and of the worker; nothing was done at the others
+abbrev pub places_with : QueuePlace → QueuePlace → ℕ → QueuePlace
+places_with caller worker me = if 1 == me then caller else (if 18 == me then worker else at_rest)
