@@ -18,8 +18,8 @@ use Rattle.cc_model.specs.Faults.{ReadFailed}
 use Rattle.cc_model.specs.Filing.{IsFiled}
 use Rattle.cc_model.specs.Passes.{is_mine}
 use Rattle.cc_effects.specs.Moments.{AtSome}
-use Rattle.cc_effects.specs.Asked.{Calls, reaches, brings_in}
-use Rattle.cc_effects.specs.Places.{Works, may_read}
+use Rattle.cc_effects.specs.Asked.{Calls, is_admitted, reaches, brings_in}
+use Rattle.cc_effects.specs.Places.{WasAsked, Works, may_read}
 use Rattle.cc_effects.specs.Stops.{IsUnstopped, IsToldBy}
 use Rattle.cc_effects.specs.Refusals.{may_refuse, may_want}
 use Rattle.cc_effects.specs.Calls.{IsUnderWay, IsPlaced, HasDone, IsDone, IsRefused, IsFaulted, IsUnplaced}
@@ -30,13 +30,13 @@ use Rattle.cc_effects.proofs.WorkSteps.{works-others}
 pub begins : (me : ℕ) (it : Call) (old : List Entry) → IsUnderWay me it old old
 begins me it old = record { during = []; grew = refl; works = works-others me (Calls it) [] old tt; unsynced = refl; unstopped = refl }
 
--- it brings in a page of its range as it is
-pub brings : (me : ℕ) (it : Call) (old new : List Entry) (page : Page) (from_disk : Bool) → IsUnderWay me it old new → brings_in it ≡ true → reaches it page new ≡ true → IsUnderWay me it old (entry.PageIn me page from_disk ∷ new)
-brings me it old new page from_disk way may reached = record {
+-- it brings in a page of its range as it is, where nothing refuses it
+pub brings : (me : ℕ) (it : Call) (old new : List Entry) (page : Page) (from_disk : Bool) → IsUnderWay me it old new → brings_in it ≡ true → is_admitted it page.stream new ≡ true → reaches it page new ≡ true → IsUnderWay me it old (entry.PageIn me page from_disk ∷ new)
+brings me it old new page from_disk way may admitted reached = record {
   during = entry.PageIn me page from_disk ∷ way.during;
   grew = ap (λ l. entry.PageIn me page from_disk ∷ l) way.grew;
   works = record {
-    each = ((λ is. rw (may, ← way.grew) reached), way.works.each);
+    each = ((λ is. rw (may, ← way.grew, admitted) reached), way.works.each);
     one_sync = rw (eq-eqb me me refl) way.works.one_sync;
     whole = rw (eq-eqb me me refl) way.works.whole;
   };
@@ -75,8 +75,8 @@ ends_refused me nth stream it e old new way filed listed = record {
 }
 
 -- the disk fails to read a page of its range that is on the disk alone, and it is told that fault
-pub ends_unread : (me nth : ℕ) (stream : Option ℕ) (it : Call) (page : Page) (old new : List Entry) → IsUnderWay me it old new → IsFiled (holds_of (stream_history (entry.FillFailed me page ∷ new) stream)) me stream it (file_of it) → may_refuse it (error.ReadFault page.page) ≡ true → may_read it page new ≡ true → reaches it page new ≡ true → IsFaulted me it (error.ReadFault page.page) old (entry.Call me nth stream it (outcome.Failed (error.ReadFault page.page)) ∷ entry.FillFailed me page ∷ new)
-ends_unread me nth stream it page old new way filed listed read reached = record {
+pub ends_unread : (me nth : ℕ) (stream : Option ℕ) (it : Call) (page : Page) (old new : List Entry) → IsUnderWay me it old new → IsFiled (holds_of (stream_history (entry.FillFailed me page ∷ new) stream)) me stream it (file_of it) → may_refuse it (error.ReadFault page.page) ≡ true → may_read it page new ≡ true → is_admitted it page.stream new ≡ true → reaches it page new ≡ true → IsFaulted me it (error.ReadFault page.page) old (entry.Call me nth stream it (outcome.Failed (error.ReadFault page.page)) ∷ entry.FillFailed me page ∷ new)
+ends_unread me nth stream it page old new way filed listed read admitted reached = record {
   earlier = entry.FillFailed me page ∷ way.during;
   placed = placed-at me nth stream it (outcome.Failed (error.ReadFault page.page)) (entry.FillFailed me page ∷ way.during) old (entry.FillFailed me page ∷ new) (ap (λ l. entry.FillFailed me page ∷ l) way.grew) works filed;
   listed = listed;
@@ -85,8 +85,8 @@ ends_unread me nth stream it page old new way filed listed read reached = record
   told = record { fault = ReadFailed page.page; shown = rw (eq-eqb me me refl) refl; told = eq-eqb page.page page.page refl };
 }
   where
-    failed : (during : List Entry) → new ≡ during ++ old → (may_read it page (during ++ old) ≡ true) × AtSome (λ moment. reaches it page moment ≡ true) old (during ++ old)
-    failed during is = (rw is at read, some-end (λ moment. reaches it page moment ≡ true) during old (rw is at reached))
+    failed : (during : List Entry) → new ≡ during ++ old → (may_read it page (during ++ old) ≡ true) × AtSome (WasAsked it page) old (during ++ old)
+    failed during is = (rw is at read, some-end (WasAsked it page) during old (record { admitted = rw is at admitted; reached = rw is at reached }))
 
     works : Works me (Calls it) (entry.FillFailed me page ∷ way.during) old
     works = record {

@@ -10,15 +10,20 @@ use Rattle.cc_model.specs.Passes.{is_same_page}
 use Rattle.cc_entry.specs.declared.entry.Entry.{Entry}
 use Rattle.cc_entry.specs.declared.entry.Entry.TheVariants as entry
 use Rattle.cc_effects.specs.Moments.{own, Others}
-use Rattle.cc_effects.specs.Asked.{Work, Calls, Writes, reaches}
-use Rattle.cc_effects.specs.Places.{MayPlace, MayFailToRead, Works, is_sync, are_whole, syncs_of}
+use Rattle.cc_effects.specs.Asked.{Work, Calls, Writes, is_admitted}
+use Rattle.cc_effects.specs.Places.{MayPlace, MayFailToRead, MaySync, WasAsked, Works, is_sync, are_whole, syncs_of}
 use Rattle.cc_effects.specs.Stops.{stops, IsUnstopped, IsStopped}
 use Rattle.cc_effects.proofs.Stretches.{others-append, own-others, own-after, own-append, some-before, each-others, each-append, each-implies}
 
 -- a failed read of a call that began earlier
 may-fail-before : (work : Work) (older gap : List Entry) (page : Page) (past : List Entry) → MayFailToRead work (gap ++ older) page past → MayFailToRead work older page past
-may-fail-before (Calls it) older gap page past may = (may.0, some-before (λ moment. reaches it page moment ≡ true) older gap past may.1)
+may-fail-before (Calls it) older gap page past may = (may.0, some-before (WasAsked it page) older gap past may.1)
 may-fail-before (Writes pages) older gap page past may = absurd may
+
+-- a sync of a call that began earlier
+may-sync-before : (work : Work) (older gap : List Entry) (s : ℕ) (past : List Entry) → MaySync work (gap ++ older) s past → MaySync work older s past
+may-sync-before (Calls it) older gap s past may = (may.0, some-before (λ moment. is_admitted it s moment ≡ true) older gap past may.1)
+may-sync-before (Writes pages) older gap s past may = absurd may
 
 pub may-place-before : (me : ℕ) (work : Work) (older gap past : List Entry) (e : Entry) → MayPlace me work (gap ++ older) past e → MayPlace me work older past e
 may-place-before me work older gap past (entry.PageIn pass page from_disk) may = may
@@ -26,7 +31,7 @@ may-place-before me work older gap past (entry.PageOut pass page) may = may
 may-place-before me work older gap past (entry.FillFailed pass page) may = may-fail-before work older gap page past may
 may-place-before me work older gap past (entry.WriteBegin pass page) may = may
 may-place-before me work older gap past (entry.WriteEnd pass page how) may = may
-may-place-before me work older gap past (entry.Sync pass stream how) may = may
+may-place-before me work older gap past (entry.Sync pass stream how) may = may-sync-before work older gap stream past may
 may-place-before me work older gap past (entry.Flushed pass handle to) may = may
 may-place-before me work older gap past (entry.LogFailed pass handle) may = may
 may-place-before me work older gap past (entry.Append pass handle lsn bytes) may = may

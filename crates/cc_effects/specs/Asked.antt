@@ -1,5 +1,5 @@
 -- Which page steps a call that is under way may take: which pages it brings in, reads, writes and takes out.
-use Rattle.std.specs.Prelude.{ℕ, Bool, true, false, not, ◌&&◌, ◌||◌, ◌==◌, List}
+use Rattle.std.specs.Prelude.{ℕ, Bool, true, false, not, ◌&&◌, ◌||◌, ◌==◌, List, is_some}
 use Rattle.std.specs.declared.option.Option.{Option}
 use Rattle.std.specs.declared.option.Option.TheVariants.{Some, None}
 use Rattle.std.specs.List.{list_any, list_all, find, range_with_len}
@@ -14,6 +14,7 @@ use Rattle.cc_model.specs.Acts.{file_of}
 use Rattle.cc_model.specs.Holds.{holds_of, held_blocks}
 use Rattle.cc_model.specs.Ranges.{range_of, span_has}
 use Rattle.cc_model.specs.Touches.{size_of, dirty_pages}
+use Rattle.cc_model.specs.Refusals.{step_refusal}
 use Rattle.cc_model.specs.Settings.{quota_of}
 use Rattle.cc_model.specs.Residency.{is_resident, block_is_mapped, mapped_blocks, order_of_use}
 use Rattle.cc_model.specs.Passes.{store_of, is_same_page, is_the_page, is_written_since}
@@ -33,6 +34,10 @@ is_of (Some file) page = file.stream == page.stream
 abbrev pub range_has : Option Range → ℕ → Bool
 range_has None p = false
 range_has (Some r) p = has_page r p
+
+-- whether nothing refuses a call with page steps, as its stream stands
+abbrev pub is_admitted : Call → ℕ → List Entry → Bool
+is_admitted it s past = not (is_some (step_refusal (history past s) it))
 
 -- whether a page is of the range of a call, as the stream stands
 abbrev pub reaches : Call → Page → List Entry → Bool
@@ -83,26 +88,33 @@ goes_for h (Some r) p =
     mapped_blocks h == quota_of h
     && (list_any (λ b. not (block_is_mapped h b)) (blocks_of r) && is_number (block_of p) (block_to_go h r))
 
--- whether a page goes, or is written before it goes, to make room for a call
+-- whether a page goes, or is written before it goes, to make room for a call that nothing refuses
 abbrev pub is_in_the_way : Call → Page → List Entry → Bool
 is_in_the_way it page past =
     makes_room it
     && (is_of (file_of it) page
-    && (let h = history past page.stream in goes_for h (range_of (size_of h) it) page.page))
+    && (is_admitted it page.stream past
+    && (let h = history past page.stream in goes_for h (range_of (size_of h) it) page.page)))
 
 -- Whether the writing of a page is what a call asks for: a flush and a purge write the pages of their
 -- span, and a noncached read its page. A noncached write stores its page and puts that on the disk; before the
 -- store it writes none but to make room.
-abbrev pub asks_write : Call → Page → List Entry → Bool
-asks_write (call.Flush file span) page past = file.stream == page.stream && span_has span page.page
-asks_write (call.Purge file span) page past = file.stream == page.stream && span_has span page.page
-asks_write (call.NcRead file number) page past = reaches (call.NcRead file number) page past
-asks_write other page past = false
+abbrev pub names_write : Call → Page → List Entry → Bool
+names_write (call.Flush file span) page past = file.stream == page.stream && span_has span page.page
+names_write (call.Purge file span) page past = file.stream == page.stream && span_has span page.page
+names_write (call.NcRead file number) page past = reaches (call.NcRead file number) page past
+names_write other page past = false
 
--- whether a page is the one that a noncached write stores, whose log is flushed before
+-- and nothing refuses it
+abbrev pub asks_write : Call → Page → List Entry → Bool
+asks_write it page past = is_admitted it page.stream past && names_write it page past
+
+-- whether a page is the one that a noncached write stores, which nothing refuses, and whose log is flushed before
 abbrev pub stores : Work → Page → List Entry → Bool
-stores (Calls (call.NcStore file number bytes)) page past = reaches (call.NcStore file number bytes) page past
-stores (Calls (call.NcWrite file number)) page past = reaches (call.NcWrite file number) page past
+stores (Calls (call.NcStore file number bytes)) page past =
+    is_admitted (call.NcStore file number bytes) page.stream past && reaches (call.NcStore file number bytes) page past
+stores (Calls (call.NcWrite file number)) page past =
+    is_admitted (call.NcWrite file number) page.stream past && reaches (call.NcWrite file number) page past
 stores (Calls other) page past = false
 stores (Writes pages) page past = false
 
@@ -118,12 +130,13 @@ goes_next h together p =
     list_all (λ q. not (together q)) (dirty_pages h)
     && list_all (λ q. not (together q && is_resident h q)) (range_with_len 0 p)
 
--- Whether a page's going out is what a call of the pass asks for: a purge takes out the pages of its span,
--- and a noncached write the page that it stored, once that is on the disk.
+-- Whether a page's going out is what a call of the pass asks for: a purge that nothing refuses takes out the pages of its
+-- span, and a noncached write the page that it stored, once that is on the disk, whatever refuses it meanwhile.
 abbrev pub asks_out : ℕ → Call → Page → List Entry → Bool
 asks_out me (call.Purge file span) page past =
-    (file.stream == page.stream && span_has span page.page)
-    && goes_next (history past page.stream) (λ q. span_has span q) page.page
+    is_admitted (call.Purge file span) page.stream past
+    && ((file.stream == page.stream && span_has span page.page)
+    && goes_next (history past page.stream) (λ q. span_has span q) page.page)
 asks_out me (call.NcWrite file number) page past =
     (file.stream == page.stream && number == page.page)
     && (is_the_page page (store_of past me) && is_written_since past me page)
@@ -140,9 +153,9 @@ abbrev pub may_take_out : ℕ → Work → Page → List Entry → Bool
 may_take_out me (Calls it) page past = makes_way it page past || asks_out me it page past
 may_take_out me (Writes pages) page past = false
 
--- whether what is under way may bring a page in: one of the range as it is now
+-- whether what is under way may bring a page in: one of the range as it is now, where nothing refuses the call
 abbrev pub may_bring_in : Work → Page → List Entry → Bool
-may_bring_in (Calls it) page past = brings_in it && reaches it page past
+may_bring_in (Calls it) page past = brings_in it && (is_admitted it page.stream past && reaches it page past)
 may_bring_in (Writes pages) page past = false
 
 -- whether what is under way may sync the disk of the stream

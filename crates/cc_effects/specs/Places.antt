@@ -16,7 +16,7 @@ use Rattle.cc_model.specs.Logs.{flushed_to}
 use Rattle.cc_model.specs.Stamps.{newest_of, is_unstamped}
 use Rattle.cc_model.specs.Passes.{is_same_page}
 use Rattle.cc_effects.specs.Moments.{own, EachOwn, AtSome}
-use Rattle.cc_effects.specs.Asked.{Work, Calls, Writes, brings_in, reads_noncached, reaches, may_bring_in, may_take_out, may_write, may_sync, stores}
+use Rattle.cc_effects.specs.Asked.{Work, Calls, Writes, is_admitted, brings_in, reads_noncached, reaches, may_bring_in, may_take_out, may_write, may_sync, stores}
 
 -- whether a page is not resident and has a byte below the valid data length, so that its bytes are on the
 -- disk alone
@@ -29,12 +29,21 @@ is_on_disk_alone page past =
 abbrev pub may_read : Call → Page → List Entry → Bool
 may_read it page past = if reads_noncached it then true else brings_in it && is_on_disk_alone page past
 
--- The disk failed to read a page for a call: one that was of the call's range at a moment since the call
--- began, for the size may have fallen while the page was read.
+-- nothing refused a call at a moment, and a page was of its range
+pub record WasAsked (it : Call) (page : Page) (moment : List Entry) : Type 0 where
+  pub admitted : is_admitted it page.stream moment ≡ true
+  pub reached : reaches it page moment ≡ true
+
+-- The disk failed to read a page for a call: one that was of the range of the call, which nothing refused, at a moment
+-- since it began; for the size may have fallen while the page was read.
 abbrev pub MayFailToRead : Work → List Entry → Page → List Entry → Type 0
-MayFailToRead (Calls it) old page past =
-    (may_read it page past ≡ true) × AtSome (λ moment. reaches it page moment ≡ true) old past
+MayFailToRead (Calls it) old page past = (may_read it page past ≡ true) × AtSome (WasAsked it page) old past
 MayFailToRead (Writes pages) old page past = ⊥
+
+-- The disk of a stream was synced for a call, which nothing refused at a moment since it began.
+abbrev pub MaySync : Work → List Entry → ℕ → List Entry → Type 0
+MaySync (Calls it) old s past = (may_sync (Calls it) s ≡ true) × AtSome (λ moment. is_admitted it s moment ≡ true) old past
+MaySync (Writes pages) old s past = ⊥
 
 -- A page that is to be written, or stored by a noncached write, has this log, and this LSN as the newest
 -- stamped on it. It is not Unstamped, for such a page is not written.
@@ -52,7 +61,9 @@ pub record MayFailToFlush (work : Work) (handle : ℕ) (past : List Entry) : Typ
   pub due : flushed_to past handle < to
 
 -- Which entry the pass may place for what is under way since the moment `old`, and before the call's own
--- entry. The end of a transfer is that of a transfer of its own.
+-- entry. Nothing refuses the call where it brings a page in, begins a transfer, has a log flushed or takes a page out, but
+-- for the page that a noncached write stored; and nothing did at a moment where a failed read or a sync ends. The end of a
+-- transfer is that of a transfer of its own.
 abbrev pub MayPlace : ℕ → Work → List Entry → List Entry → Entry → Type 0
 MayPlace me work old past (entry.PageIn pass page from_disk) = may_bring_in work page past ≡ true
 MayPlace me work old past (entry.PageOut pass page) = may_take_out me work page past ≡ true
@@ -60,7 +71,7 @@ MayPlace me work old past (entry.FillFailed pass page) = MayFailToRead work old 
 MayPlace me work old past (entry.WriteBegin pass page) = may_write work page past ≡ true
 MayPlace me work old past (entry.WriteEnd pass page how) =
     open_of (history past page.stream) ≡ Some (record { pass = me; page = page.page })
-MayPlace me work old past (entry.Sync pass stream how) = may_sync work stream ≡ true
+MayPlace me work old past (entry.Sync pass stream how) = MaySync work old stream past
 MayPlace me work old past (entry.Flushed pass handle to) = AsksLog work handle to past
 MayPlace me work old past (entry.LogFailed pass handle) = MayFailToFlush work handle past
 MayPlace me work old past (entry.Append pass handle lsn bytes) = ⊥

@@ -15,7 +15,7 @@ use Rattle.cc_model.specs.Reasons.{refuse_if, not_cached, cached_file, too_long,
 use Rattle.cc_model.specs.Conflicts.{held, busy}
 use Rattle.cc_model.specs.Views.{viewed, no_views, no_vacbs, not_resident}
 use Rattle.cc_model.specs.Discards.{unsettled, grown}
-use Rattle.cc_model.specs.Refusals.{first_of, refusal, IsUnrefused}
+use Rattle.cc_model.specs.Refusals.{first_of, refusal, step_refusal, IsUnrefused}
 
 -- a list whose first refusal is none: it has none, and what is left has none
 record IsNone (o : Option CcError) (rest : List (Option CcError)) : Type 0 where
@@ -67,6 +67,14 @@ unfolding refusal
 no_reason u past h call k =
     rw (k.cached, k.within_limit, k.in_one_block, k.sizes_in_order, k.is_granularity, k.log_exists, k.within_size, k.within_valid)
     (rw (k.not_held, k.not_busy, k.within_quota, k.within_pool, k.is_resident, k.images_known, k.none_grown) refl)
+
+-- so none of the reasons that lie in its stream does
+pub step-unrefused : (u : Setup) (past : List Entry) (h : List Effect) (call : Call) → refusal u past h call ≡ None → step_refusal h call ≡ None
+unfolding step_refusal
+step-unrefused u past h call is =
+    let k = unrefused u past h call is in
+    rw (k.cached, k.within_limit, k.in_one_block, k.sizes_in_order, k.is_granularity, k.within_size, k.within_valid)
+    (rw (k.not_held, k.not_busy, k.within_quota, k.is_resident, k.images_known, k.none_grown) refl)
 
 pub unrefused-reasons : (u : Setup) (past : List Entry) (h : List Effect) (call : Call) → (refusal u past h call ≡ None) ↔ IsUnrefused u past h call
 unrefused-reasons u past h call = (unrefused u past h call, no_reason u past h call)

@@ -16,7 +16,7 @@ use Rattle.cc_model.specs.Ranges.{span_has}
 use Rattle.cc_model.specs.Images.{image}
 
 -- whether the image of a page is known, whatever the disk's opening pages: its last transfer that ended
--- did not fail
+-- ended well
 abbrev pub is_known : List Effect → ℕ → Bool
 is_known h p = is_some (image (λ page. []) h p)
 

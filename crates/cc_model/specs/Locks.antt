@@ -1,4 +1,4 @@
--- The locks of a stream's bytes: what the calls that made and ended them leave, and what their entries answer.
+-- The locks of a stream's bytes, which the calls that made and ended them leave.
 use Rattle.std.specs.Prelude.{ℕ, ◌==◌, Bool, true, false, List, [], ◌∷◌, Option, None, Some, if◌then◌else◌}
 use Rattle.std.specs.List.{cons_option}
 use Rattle.cc_entry.specs.Place.{File, Range}

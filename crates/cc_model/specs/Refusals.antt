@@ -44,6 +44,26 @@ refusal u past h call =
     ∷ grown h call
     ∷ [])
 
+-- The same of a call with page steps, which names no log and makes no map: the other reasons are all that it can have, and lie
+-- in its stream.
+unfoldable pub step_refusal : List Effect → Call → Option CcError
+step_refusal h call =
+    first_of
+    (not_cached h (cached_file call (file_of call))
+    ∷ too_long call
+    ∷ view_boundary call
+    ∷ bad_sizes h call
+    ∷ bad_granularity call
+    ∷ beyond_size (size_of h) call
+    ∷ beyond_valid (valid_of h) call
+    ∷ held h call
+    ∷ busy (holds_of h) call
+    ∷ no_views h (viewed h call (range_of (size_of h) call))
+    ∷ not_resident h call
+    ∷ unsettled h call
+    ∷ grown h call
+    ∷ [])
+
 -- nothing refuses a call: each reason by its name
 pub record IsUnrefused (u : Setup) (past : List Entry) (h : List Effect) (call : Call) : Type 0 where
   pub cached : not_cached h (cached_file call (file_of call)) ≡ None

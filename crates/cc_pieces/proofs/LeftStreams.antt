@@ -1,5 +1,5 @@
 -- What a line of a caller leaves is of the first streams, where its file is.
-use Rattle.std.specs.Prelude.{◌≡◌, ℕ, zero, suc, ◌+◌, ◌*◌, ◌/◌, ◌<◌, Bool, true, false, ◌||◌, List, [], ◌∷◌, ◌++◌, length, take, drop, Result, Ok, Err, refl, ◌⊎◌}
+use Rattle.std.specs.Prelude.{◌≡◌, ℕ, zero, suc, ◌+◌, ◌*◌, ◌/◌, ◌<◌, Bool, true, false, ◌&&◌, ◌||◌, List, [], ◌∷◌, ◌++◌, length, take, drop, Result, Ok, Err, refl, ◌⊎◌}
 use Rattle.std.specs.declared.option.Option.{Option}
 use Rattle.std.specs.declared.option.Option.TheVariants.{Some, None}
 use Rattle.std.proofs.Common.{sym, subst, inl, inr}
@@ -29,11 +29,11 @@ use Rattle.cc_model.specs.Holds.{range_held}
 use Rattle.cc_model.specs.Legal.{IsLegal}
 use Rattle.cc_model.specs.Settings.{log_of}
 use Rattle.cc_model.specs.Setup.{Setup}
-use Rattle.cc_effects.specs.Asked.{Calls, is_of, may_sync, reaches}
+use Rattle.cc_effects.specs.Asked.{Calls, brings_in, is_admitted, is_of, may_sync, reaches}
 use Rattle.cc_effects.specs.Calls.{CallLeft, IsDone, IsOvertaken, IsPlaced, IsRefused}
 use Rattle.cc_effects.specs.LogCalls.{AppendRefused, FlushRefused, WasFlushed}
 use Rattle.cc_effects.specs.Moments.{EachOwn, IsIdle, Others, PlacedOnly}
-use Rattle.cc_effects.specs.Noncached.{AlignedReadLeft, AlignedWriteLeft, IsPageWritten, IsTransferred, MisshapenLeft, PageReadsRefused, PageRefused, PagesRead, PagesWritten, ShapedReadLeft, ShapedWriteLeft, TakesOut, TransferRefused, pages_from, shape_refusal}
+use Rattle.cc_effects.specs.Noncached.{AlignedReadLeft, AlignedWriteLeft, IsPageWritten, IsTransferred, IsUntold, MisshapenLeft, PageReadsRefused, PageRefused, PagesRead, PagesWritten, ShapedReadLeft, ShapedWriteLeft, TakesOut, TransferRefused, pages_from, shape_refusal}
 use Rattle.cc_effects.specs.Places.{MayPlace, Works}
 use Rattle.cc_effects.specs.Repins.{UnpinLeft}
 use Rattle.cc_effects.proofs.Stretches.{each-append, each-implies, each-others, grew-after}
@@ -157,15 +157,16 @@ IsActionBelow n other = Unit {0}
 
 module _ (u : Setup) (n : ℕ) (handles : HasHandles u) where
   may-below : (me : ℕ) (it : Call) (old past : List Entry) (e : Entry) → IsFileBelow n (file_of it) → MayPlace me (Calls it) old past e → StaysBelow u n past e
-  may-below me it old past (entry.PageIn pass page from_disk) below may sound all = reached-below n it page past (and_parts _ _ may).1 below
+  may-below me it old past (entry.PageIn pass page from_disk) below may sound all = reached-below n it page past
+      (and_parts (is_admitted it page.stream past) (reaches it page past) (and_parts (brings_in it) (is_admitted it page.stream past && reaches it page past) may).1).1 below
   may-below me it old past (entry.PageOut pass page) below may sound all =
       resident-below n u.logs page.stream page.page past all (stands u (entry.PageOut pass page) past sound).resident
-  may-below me it old past (entry.FillFailed pass page) below may sound all = reached-below n it page may.1.moment may.1.holds below
+  may-below me it old past (entry.FillFailed pass page) below may sound all = reached-below n it page may.1.moment may.1.holds.reached below
   may-below me it old past (entry.WriteBegin pass page) below may sound all =
       resident-below n u.logs page.stream page.page past all (stands u (entry.WriteBegin pass page) past sound).resident
   may-below me it old past (entry.WriteEnd pass page how) below may sound all =
       open-below n u.logs page.stream _ past all (stands u (entry.WriteEnd pass page how) past sound)
-  may-below me it old past (entry.Sync pass stream how) below may sound all = synced-below n stream it may below
+  may-below me it old past (entry.Sync pass stream how) below may sound all = synced-below n stream it may.0 below
   may-below me it old past (entry.Flushed pass handle to) below may sound all = tt
   may-below me it old past (entry.LogFailed pass handle) below may sound all =
       handles past may.asks.page.stream handle (sound-tail u (entry.LogFailed pass handle) past sound).0 may.asks.log
@@ -265,12 +266,20 @@ module _ (u : Setup) (n : ℕ) (handles : HasHandles u) where
     left-misshapen me it refusal error.NotCached old new left = left-only u n me _ old new left.1 (λ past sound all. tt)
     left-misshapen me it refusal e old new left = left-only u n me _ old new left.2 (λ past sound all. tt)
 
+    -- the page behind one that came short
+    left-untold : (me : ℕ) (pages : List ℕ) (old new : List Entry) → IsUntold u me file pages old new → IsLeft u n me old new
+    left-untold me [] old new left = left-idle u n me old new left
+    left-untold me (page ∷ pages) old new left = left-call me (call.NcRead file page) (outcome.Done (reply.Read left.0)) old new below left.1
+
     left-reads : (me : ℕ) (pages bytes : List ℕ) (old new : List Entry) → PagesRead u me file pages bytes old new → IsLeft u n me old new
     left-reads me [] bytes old new left = left-idle u n me old new left.1
     left-reads me (page ∷ pages) [] old new left = left-call me (call.NcRead file page) (outcome.Done (reply.Read [])) old new below left
-    left-reads me (page ∷ pages) (byte ∷ bytes) old new left =
+    left-reads me (page ∷ pages) (byte ∷ bytes) old new (inl left) =
         left-then u n me old left.0 new (left-call me (call.NcRead file page) (outcome.Done (reply.Read left.1)) old left.0 below left.5)
         (left-reads me pages left.2 left.0 new left.6)
+    left-reads me (page ∷ pages) (byte ∷ bytes) old new (inr left) =
+        left-then u n me old left.0 new (left-call me (call.NcRead file page) (outcome.Done (reply.Read (byte ∷ bytes))) old left.0 below left.2)
+        (left-untold me pages left.0 new left.3)
 
     left-reads-refused : (me page done : ℕ) (e : CcError) (old new : List Entry) → PageReadsRefused u me file page done e old new → IsLeft u n me old new
     left-reads-refused me page zero e old new left = left-call me (call.NcRead file page) (outcome.Failed e) old new below left.1

@@ -8,7 +8,7 @@ use Rattle.cc_entry.specs.Place.{File, Range}
 use Rattle.cc_entry.specs.declared.call.Call.TheVariants as call
 use Rattle.cc_entry.specs.declared.entry.Entry.{Entry}
 use Rattle.cc_content.proofs.Found.{Found-any, among-within}
-use Rattle.cc_effects.specs.Asked.{asks_out, goes_next}
+use Rattle.cc_effects.specs.Asked.{asks_out, goes_next, is_admitted}
 use Rattle.cc_laws.proofs.BlockLists.{is_among-filter}
 use Rattle.cc_model.specs.Conditions.{MayGoOut}
 use Rattle.cc_model.specs.History.{Effect, history}
@@ -69,7 +69,8 @@ module _ (h : List Effect) (span : Option Range) where
       no_transfer = rest;
     }
 
--- and is what a purge asks for
-pub asked-out : (past : List Entry) (me s : ℕ) (file : File) (span : Option Range) (page : ℕ) → s ≡ file.stream → IsCleanFrom (history past s) span 0 → IsLeast (history past s) span page → asks_out me (call.Purge file span) (record { stream = s; page = page }) past ≡ true
-asked-out past me s file span page here clean least =
-    and_from _ _ (and_from (file.stream == s) (span_has span page) (eq-eqb file.stream s (sym here)) least.in_span) (next-out (history past s) span page clean least)
+-- and is what a purge asks for that nothing refuses
+pub asked-out : (past : List Entry) (me s : ℕ) (file : File) (span : Option Range) (page : ℕ) → is_admitted (call.Purge file span) s past ≡ true → s ≡ file.stream → IsCleanFrom (history past s) span 0 → IsLeast (history past s) span page → asks_out me (call.Purge file span) (record { stream = s; page = page }) past ≡ true
+asked-out past me s file span page admitted here clean least =
+    and_from (is_admitted (call.Purge file span) s past) _ admitted
+    (and_from _ _ (and_from (file.stream == s) (span_has span page) (eq-eqb file.stream s (sym here)) least.in_span) (next-out (history past s) span page clean least))

@@ -16,7 +16,7 @@ use Rattle.cc_entry.specs.declared.reply.Outcome.{Outcome}
 use Rattle.cc_entry.specs.declared.reply.Outcome.TheVariants as outcome
 use Rattle.cc_traits.specs.Disk.{Disk}
 use Rattle.cc_book.specs.Book.{BookState, BookStands}
-use Rattle.cc_effects.specs.Asked.{Calls, may_write}
+use Rattle.cc_effects.specs.Asked.{Calls, is_admitted, may_write}
 use Rattle.cc_effects.specs.Calls.{CallLeft, IsUnderWay}
 use Rattle.cc_effects.specs.Moments.{IsIdle, Others}
 use Rattle.cc_effects.proofs.Starts.{begins}
@@ -55,9 +55,10 @@ use Rattle.cc_ranges.proofs.Synced.{at_end-on, at_end-placed}
 pub may-fault : (file : File) (span : Option Range) → MayFaultInWriting (call.Flush file span)
 may-fault file span = record { disk = λ page. refl; log = λ handle. refl }
 
--- a page of its span may be written for it
-pub asks-page : (file : File) (span : Option Range) (s page : ℕ) (past : List Entry) → s ≡ file.stream → span_has span page ≡ true → may_write (Calls (call.Flush file span)) (record { stream = s; page = page }) past ≡ true
-asks-page file span s page past here has = and_from (file.stream == s) (span_has span page) (eq-eqb file.stream s (sym here)) has
+-- a page of its span may be written for it, where nothing refuses it
+pub asks-page : (file : File) (span : Option Range) (s page : ℕ) (past : List Entry) → is_admitted (call.Flush file span) s past ≡ true → s ≡ file.stream → span_has span page ≡ true → may_write (Calls (call.Flush file span)) (record { stream = s; page = page }) past ≡ true
+asks-page file span s page past admitted here has =
+    and_from (is_admitted (call.Flush file span) s past) _ admitted (and_from (file.stream == s) (span_has span page) (eq-eqb file.stream s (sym here)) has)
 
 -- a page was written for it, or it failed
 pub round-left : (u : Setup) (w : Standing) (file : File) (span : Option Range) (page : ℕ) (written : Result Call CcError) (begun new : List Entry) → IsAtPage u w.number file span page begun w.seen → PageLeft u w.number (call.Flush file span) written begun new → IfOk written (λ again. HasTransferred w (record { stream = file.stream; page = page }) how.Good false new) → RoundLeft u w.number file span (round_of written page) begun new
@@ -162,7 +163,7 @@ module _ {D : Type 0} (told : D → Option Disk) (faults : D → ℕ) (w x v : S
 pub at-end : (u : Setup) (w : Standing) (file : File) (span : Option Range) (end : End) (begun seen : List Entry) → IsSyncTold w file.stream end seen → IsAtSync u w.number file span begun w.seen → IsAtEnd u w.number file span end begun seen
 at-end u w file span end begun seen told at =
     at_end-on u w.number file span begun end (entry.Sync w.number s end ∷ told.front) seen
-    (at_end-placed u w.number file span begun told.front way end settled admitted) told.after
+    (at_end-placed u w.number file span begun told.front way admitted end settled) told.after
   where
     s : ℕ
     s = file.stream

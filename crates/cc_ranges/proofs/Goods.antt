@@ -32,7 +32,7 @@ use Rattle.cc_model.specs.Images.{open_of}
 use Rattle.cc_model.specs.Legal.{IsLegal, IsLegalEntry}
 use Rattle.cc_model.specs.Logs.{flushed_to}
 use Rattle.cc_model.specs.Passes.{calls_of}
-use Rattle.cc_model.specs.Refusals.{refusal}
+use Rattle.cc_model.specs.Refusals.{refusal, step_refusal}
 use Rattle.cc_model.specs.Room.{reserved_in}
 use Rattle.cc_model.specs.Settings.{log_of}
 use Rattle.cc_model.specs.Setup.{Setup}
@@ -53,6 +53,10 @@ nothing_owed e past none = rw none tt
 pub store-refusal : (u : Setup) (past : List Entry) (h : List Effect) (file : File) (page : ℕ) (bytes : List ℕ) → refusal u past h (call.NcStore file page bytes) ≡ refusal u past h (call.NcWrite file page)
 unfolding refusal
 store-refusal u past h file page bytes = refl
+
+pub store-step_refusal : (h : List Effect) (file : File) (page : ℕ) (bytes : List ℕ) → step_refusal h (call.NcStore file page bytes) ≡ step_refusal h (call.NcWrite file page)
+unfolding step_refusal
+store-step_refusal h file page bytes = refl
 
 -- the page of a noncached write that nothing refuses begins below the size
 pub below-size : (u : Setup) (past : List Entry) (h : List Effect) (file : File) (page : ℕ) → refusal u past h (call.NcWrite file page) ≡ None → 4096 * page < size_of h

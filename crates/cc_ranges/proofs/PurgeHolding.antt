@@ -13,7 +13,7 @@ use Rattle.cc_entry.specs.declared.reply.Outcome.{Outcome}
 use Rattle.cc_entry.specs.declared.reply.Outcome.TheVariants as outcome
 use Rattle.cc_traits.specs.Disk.{Disk}
 use Rattle.cc_book.specs.Book.{BookState}
-use Rattle.cc_effects.specs.Asked.{Calls, may_write}
+use Rattle.cc_effects.specs.Asked.{Calls, is_admitted, may_write}
 use Rattle.cc_effects.specs.Calls.{CallLeft, IsUnderWay}
 use Rattle.cc_model.specs.Ranges.{span_has}
 use Rattle.cc_model.specs.Setup.{Setup}
@@ -33,9 +33,10 @@ use Rattle.cc_ranges.specs.declared.purge.Round.TheVariants as round
 pub may-fault : (file : File) (span : Option Range) → MayFaultInWriting (call.Purge file span)
 may-fault file span = record { disk = λ page. refl; log = λ handle. refl }
 
--- a page of its span may be written for it
-pub asks-page : (file : File) (span : Option Range) (s page : ℕ) (past : List Entry) → s ≡ file.stream → span_has span page ≡ true → may_write (Calls (call.Purge file span)) (record { stream = s; page = page }) past ≡ true
-asks-page file span s page past here has = and_from (file.stream == s) (span_has span page) (eq-eqb file.stream s (sym here)) has
+-- a page of its span may be written for it, where nothing refuses it
+pub asks-page : (file : File) (span : Option Range) (s page : ℕ) (past : List Entry) → is_admitted (call.Purge file span) s past ≡ true → s ≡ file.stream → span_has span page ≡ true → may_write (Calls (call.Purge file span)) (record { stream = s; page = page }) past ≡ true
+asks-page file span s page past admitted here has =
+    and_from (is_admitted (call.Purge file span) s past) _ admitted (and_from (file.stream == s) (span_has span page) (eq-eqb file.stream s (sym here)) has)
 
 -- a page was written for it, or it failed
 round-left : (u : Setup) (me : ℕ) (file : File) (span : Option Range) (page : ℕ) (written : Result Call CcError) (begun new : List Entry) → PageLeft u me (call.Purge file span) written begun new → RoundLeft u me file span (round_of written page) begun new

@@ -12,6 +12,7 @@ use Rattle.cc_entry.specs.declared.error.CcError.{CcError}
 use Rattle.cc_entry.specs.declared.reply.Reply.TheVariants as reply
 use Rattle.cc_book.specs.Book.{BookState, BookStands, Gains, GoesOn, MayDo, MayPlace, done, failed}
 use Rattle.cc_step.specs.Fill.{MayFill, page_of}
+use Rattle.cc_step.proofs.Admitted.{admitted as admitted-steps}
 use Rattle.cc_step.proofs.Below.{resident-numbered}
 use Rattle.cc_step.proofs.Owed.{unheld-stamped}
 use Rattle.cc_step.proofs.PlacedPages.{good-out, stand-onto}
@@ -124,7 +125,7 @@ module _ {Q : Type 0} (u : Setup) (pass : ℕ) (file : File) (span : Option Rang
           let adds = adds-reserving (entry.PageOut pass (page_of b page)) (without_one j) k (subst (λ (x : JournalState Q). Gains (entry.PageOut pass (page_of b page)) x k) (sym back) gains) in
           record {
             page = page;
-            asked = asked-out j.entries pass b.stream file span page (inner b.stream file.stream may.may.filed) clean least;
+            asked = asked-out j.entries pass b.stream file span page (admitted-steps u j.entries b.stream it admitted) (inner b.stream file.stream may.may.filed) clean least;
             placed = adds;
             stand = stand-onto u (entry.PageOut pass (page_of b page)) b c (without_one j) k may.may.stand good-going (ap (λ (x : JournalState Q). x.entries) adds) (ap (λ (x : JournalState Q). x.logs) adds) (ap (λ (x : JournalState Q). x.threshold) adds) same (goes (u.opening b.stream) may.may.stand.stands);
             stream = same;

@@ -1,12 +1,13 @@
 -- A page of a noncached read with the disk and the book of its stream in hand: its looks, its write, its read of the disk.
 use Rattle.std.specs.Prelude.{◌≡◌, ℕ, ◌<◌, ◌≤◌, ◌+◌, true, false, Result, Ok, Err, List, length, refl}
 use Rattle.std.proofs.Common.{ap, sym, subst, arith}
+use Rattle.std.proofs.lemmas.Bool.{and_from}
 use Rattle.cc_entry.specs.Place.{File}
 use Rattle.cc_entry.specs.declared.call.Call.TheVariants as call
 use Rattle.cc_entry.specs.declared.entry.Entry.{Entry}
 use Rattle.cc_entry.specs.declared.error.CcError.{CcError}
 use Rattle.cc_entry.specs.declared.error.CcError.TheVariants as error
-use Rattle.cc_effects.specs.Asked.{Calls, may_write, reaches}
+use Rattle.cc_effects.specs.Asked.{Calls, is_admitted, may_write, reaches}
 use Rattle.cc_effects.specs.Calls.{IsUnderWay}
 use Rattle.cc_model.specs.Setup.{Setup}
 use Rattle.cc_turns.specs.Standing.{Standing}
@@ -36,9 +37,9 @@ may-fault file page = record { disk = λ p. refl; log = λ handle. refl }
 pub begins-reading : (me : ℕ) (file : File) (page : ℕ) (begun new : List Entry) → IsUnderWay me (call.NcRead file page) begun new → IsReading me file page false begun new
 begins-reading me file page begun new way = record { way = way; wrote = λ yes. absurd (cc) }
 
--- its page may be written for it
-pub asks-page : (file : File) (page : ℕ) (past : List Entry) → reaches (call.NcRead file page) (page_in file page) past ≡ true → may_write (Calls (call.NcRead file page)) (page_in file page) past ≡ true
-asks-page file page past reached = reached
+-- its page may be written for it, where nothing refuses it
+pub asks-page : (file : File) (page : ℕ) (past : List Entry) → is_admitted (call.NcRead file page) file.stream past ≡ true → reaches (call.NcRead file page) (page_in file page) past ≡ true → may_write (Calls (call.NcRead file page)) (page_in file page) past ≡ true
+asks-page file page past admitted reached = and_from (is_admitted (call.NcRead file page) file.stream past) _ admitted reached
 
 -- the writing of its page failed
 pub failed-write : (u : Setup) (me s : ℕ) (file : File) (page : ℕ) (e : CcError) (begun new : List Entry) (was : List ℕ) → PageLeft u me (call.NcRead file page) (Err e) begun new → IsReason u s (call.NcRead file page) e → ReadEnded u me file page (Err e) begun new was was

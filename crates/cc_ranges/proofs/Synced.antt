@@ -1,5 +1,5 @@
 -- A flush whose sync ended: well, or since the disk failed, or found no memory; and its end.
-use Rattle.std.specs.Prelude.{◌≡◌, ℕ, true, List, [], ◌∷◌, ◌++◌, length, Some, refl}
+use Rattle.std.specs.Prelude.{◌≡◌, ℕ, true, List, [], ◌∷◌, ◌++◌, length, None, Some, refl}
 use Rattle.std.specs.declared.option.Option.{Option}
 use Rattle.std.proofs.Common.{ap, sym, subst, arith, inl}
 use Rattle.std.proofs.lemmas.Bool.{eq-eqb}
@@ -14,7 +14,7 @@ use Rattle.cc_entry.specs.declared.error.CcError.{CcError}
 use Rattle.cc_entry.specs.declared.error.CcError.TheVariants as error
 use Rattle.cc_entry.specs.declared.reply.Outcome.TheVariants as outcome
 use Rattle.cc_entry.specs.declared.reply.Reply.TheVariants as reply
-use Rattle.cc_effects.specs.Asked.{Calls}
+use Rattle.cc_effects.specs.Asked.{Calls, is_admitted}
 use Rattle.cc_effects.specs.Calls.{CallLeft, IsDone, IsRefused, IsUnderWay, IsUnplaced}
 use Rattle.cc_effects.specs.Moments.{AtSome, IsIdle}
 use Rattle.cc_effects.specs.Places.{Works}
@@ -29,10 +29,12 @@ use Rattle.cc_model.specs.History.{history}
 use Rattle.cc_model.specs.Ranges.{first_of_span}
 use Rattle.cc_model.specs.Refusals.{refusal}
 use Rattle.cc_model.specs.Setup.{Setup}
+use Rattle.cc_step.proofs.Admitted.{admitted as admitted-steps}
 use Rattle.cc_step.proofs.Reasons.{is_listed, refusal-listed}
 use Rattle.cc_writes.specs.Ways.{IsStoppedBy, WasAdmitted}
 use Rattle.cc_writes.proofs.Others.{halted-on, stopped_by-on}
 use Rattle.cc_writes.proofs.Refusals.{may-refuse, may-stop, may-want}
+use Rattle.cc_writes.proofs.VisitHalting.{some-implies}
 use Rattle.cc_ranges.specs.Flush.{HasSynced, IsAtEnd}
 use Rattle.cc_ranges.specs.Settled.{IsSettledAll}
 use Rattle.cc_ranges.proofs.Flushed.{is_flushed-synced}
@@ -67,11 +69,15 @@ module _ (u : Setup) (me : ℕ) (file : File) (span : Option Range) (begun : Lis
     want = is.want;
   }
 
-  -- its sync ended, at a front where it was under way
-  module _ (front : List Entry) (way : IsUnderWay me it begun front) where
+  -- its sync ended, at a front where it was under way, and nothing refused it at a moment before
+  module _ (front : List Entry) (way : IsUnderWay me it begun front) (admitted : WasAdmitted u it file.stream begun front) where
+    was-admitted : AtSome (λ moment. is_admitted it file.stream moment ≡ true) begun (way.during ++ begun)
+    was-admitted = subst (λ (past : List Entry). AtSome (λ moment. is_admitted it file.stream moment ≡ true) begun past) way.grew
+        (some-implies (λ moment. refusal u moment (history moment file.stream) it ≡ None) (λ moment. is_admitted it file.stream moment ≡ true) begun front (λ past is. admitted-steps u past file.stream it is) admitted)
+
     sync-works : (end : End) → Works me (Calls it) (entry.Sync me file.stream end ∷ way.during) begun
     sync-works end = record {
-      each = ((λ is. eq-eqb file.stream file.stream refl), way.works.each);
+      each = ((λ is. (eq-eqb file.stream file.stream refl, was-admitted)), way.works.each);
       one_sync = rw (eq-eqb me me refl, way.unsynced) (omega arith);
       whole = rw (eq-eqb me me refl) way.works.whole;
     }
@@ -103,10 +109,10 @@ module _ (u : Setup) (me : ℕ) (file : File) (span : Option Range) (begun : Lis
       };
     }
 
-    pub at_end-placed : (end : End) → IsSettledAll (length (history begun file.stream)) (history front file.stream) span → WasAdmitted u it file.stream begun front → IsAtEnd u me file span end begun (entry.Sync me file.stream end ∷ front)
+    pub at_end-placed : (end : End) → IsSettledAll (length (history begun file.stream)) (history front file.stream) span → IsAtEnd u me file span end begun (entry.Sync me file.stream end ∷ front)
     unfolding sync-stopped
-    at_end-placed how.Good settled admitted = sync-good settled
-    at_end-placed how.Failed settled admitted = record {
+    at_end-placed how.Good settled = sync-good settled
+    at_end-placed how.Failed settled = record {
       fault = SyncFailed;
       is = eq-eqb (first_of_span span) (first_of_span span) refl;
       failed = record {
@@ -119,7 +125,7 @@ module _ (u : Setup) (me : ℕ) (file : File) (span : Option Range) (begun : Lis
       };
       admitted = subst (λ (past : List Entry). WasAdmitted u it file.stream begun past) way.grew admitted;
     }
-    at_end-placed how.NoMemory settled admitted = record {
+    at_end-placed how.NoMemory settled = record {
       stop = entry.Sync me file.stream how.NoMemory;
       stopped = sync-stopped how.NoMemory;
       want = refl;

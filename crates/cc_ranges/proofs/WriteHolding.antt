@@ -11,6 +11,7 @@ use Rattle.cc_traits.specs.Disk.{Disk}
 use Rattle.cc_book.specs.Book.{BookState}
 use Rattle.cc_effects.specs.Asked.{Calls, asks_write, is_in_the_way, may_write}
 use Rattle.cc_effects.specs.Calls.{IsUnderWay}
+use Rattle.cc_model.specs.History.{history}
 use Rattle.cc_model.specs.Setup.{Setup}
 use Rattle.cc_turns.specs.Standing.{Standing}
 use Rattle.cc_writes.specs.Hands.{Went, WentWith}
@@ -25,6 +26,7 @@ use Rattle.cc_ranges.specs.WriteHeld.{HasLess, RoomLeft, RoundLeft, round_of}
 use Rattle.cc_ranges.specs.WriteHeld.{PageLeft as PageLeftBy}
 use Rattle.cc_ranges.specs.WriteVisits.{IsTurnedAway, IsWriting, page_in}
 use Rattle.cc_ranges.specs.declared.write_held.Round.{Round}
+use Rattle.cc_ranges.proofs.Goods.{store-step_refusal}
 use Rattle.cc_ranges.proofs.Misshapen.{unshaped}
 
 -- a page in the way may be written for the write, and for its store
@@ -33,6 +35,10 @@ may-fault file page = record { disk = λ other. refl; log = λ handle. refl }
 
 pub way-asked : (it : Call) (page : Page) (past : List Entry) → is_in_the_way it page past ≡ true → may_write (Calls it) page past ≡ true
 way-asked it page past way = either (is_in_the_way it page past) (asks_write it page past) way
+
+-- a page in the way of the write is in the way of its store
+pub store-way : (file : File) (page : ℕ) (bytes : List ℕ) (other : Page) (past : List Entry) → is_in_the_way (call.NcWrite file page) other past ≡ true → is_in_the_way (call.NcStore file page bytes) other past ≡ true
+store-way file page bytes other past way = rw (store-step_refusal (history past other.stream) file page bytes) way
 
 -- a page was written for it, or it failed
 module _ (w v : Standing) (file : File) (page dirty s : ℕ) (seen : List Entry) (here : s ≡ file.stream) (went : Went w v)
@@ -51,7 +57,7 @@ module _ (w v : Standing) (file : File) (page dirty s : ℕ) (seen : List Entry)
       subst (λ (n : ℕ). IsAtWork n (Calls (call.NcStore file page bytes)) begun seen) number
       (keeps (Calls (call.NcStore file page bytes)) begun
       (subst (λ (n : ℕ). may_write (Calls (call.NcStore file page bytes)) (record { stream = n; page = dirty }) v.seen ≡ true) (sym here)
-      (way-asked (call.NcStore file page bytes) (page_in file dirty) v.seen way))
+      (way-asked (call.NcStore file page bytes) (page_in file dirty) v.seen (store-way file page bytes (page_in file dirty) v.seen way)))
       (subst (λ (n : ℕ). IsAtWork n (Calls (call.NcStore file page bytes)) begun v.seen) (sym number) is))
 
   pub round-wrote : (r : Result Call CcError) → ((begun : List Entry) → IsUnderWay v.number it begun v.seen → PageLeft v.setup v.number it r begun seen) → IfErr r (IsReason v.setup s it) → IfOk r (λ again. KeepsWork v (record { stream = s; page = dirty }) seen) → (begun : List Entry) → IsWriting w.number file page begun v.seen → RoundLeft w.setup w.number file page (round_of r) begun seen

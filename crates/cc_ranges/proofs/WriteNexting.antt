@@ -37,6 +37,7 @@ use Rattle.cc_ranges.specs.WriteSteps.{HasRoom, NextLeft}
 use Rattle.cc_ranges.specs.WriteVisits.{IsAsking, IsFullStep, IsInTheWay, IsWriting, StepLeft, StepPlaced, page_in, step_of}
 use Rattle.cc_ranges.specs.declared.write_steps.Next.{Next}
 use Rattle.cc_ranges.specs.declared.write_steps.Next.TheVariants as next
+use Rattle.cc_ranges.proofs.Goods.{store-step_refusal}
 use Rattle.cc_ranges.proofs.Misshapen.{stop-met, unshaped}
 
 -- the write of a page is filed under the stream of its file
@@ -56,7 +57,7 @@ writing-out : (me : ℕ) (file : File) (page : ℕ) (begun past : List Entry) (g
 writing-out me file page begun past gone is makes = record {
   way = takes_out me (call.NcWrite file page) begun past gone is.way makes;
   stores = λ bytes. at-work me (call.NcStore file page bytes) begun (entry.PageOut me gone ∷ past)
-      (takes_out me (call.NcStore file page bytes) begun past gone (under-way me (call.NcStore file page bytes) begun past (is.stores bytes)) makes);
+      (takes_out me (call.NcStore file page bytes) begun past gone (under-way me (call.NcStore file page bytes) begun past (is.stores bytes)) (rw (store-step_refusal (history past gone.stream) file page bytes) makes));
 }
 
 module _ {Q : Type 0} (posted : Q → Bool) (w v : Standing) (file : File) (page : ℕ) (b c : BookState) (j k : JournalState Q)

@@ -13,7 +13,7 @@ use Rattle.cc_entry.specs.declared.error.CcError.TheVariants as error
 use Rattle.cc_entry.specs.declared.reply.Outcome.TheVariants as outcome
 use Rattle.cc_traits.specs.Disk.{Disk}
 use Rattle.cc_book.specs.Book.{BookState}
-use Rattle.cc_effects.specs.Asked.{Calls, Work, may_write, reaches, stores}
+use Rattle.cc_effects.specs.Asked.{Calls, Work, is_admitted, may_write, reaches, stores}
 use Rattle.cc_effects.specs.Calls.{CallLeft, IsUnderWay}
 use Rattle.cc_effects.proofs.Starts.{begins}
 use Rattle.cc_ranges.proofs.Owing.{some-least}
@@ -28,6 +28,7 @@ use Rattle.cc_model.specs.Refusals.{refusal}
 use Rattle.cc_model.specs.Setup.{Setup}
 use Rattle.cc_model.specs.Stamps.{is_unstamped, owes_stamp}
 use Rattle.cc_model.specs.Touches.{size_of}
+use Rattle.cc_step.proofs.Admitted.{admitted}
 use Rattle.cc_step.proofs.Placed.{so-far}
 use Rattle.cc_turns.specs.Standing.{Standing}
 use Rattle.cc_turns.specs.Takes.{Grows}
@@ -47,7 +48,7 @@ use Rattle.cc_writes.proofs.Works.{work-grown}
 use Rattle.cc_ranges.specs.Pages.{PutLeft}
 use Rattle.cc_ranges.specs.WriteHeld.{IsReadyAfter, PageLeft}
 use Rattle.cc_ranges.specs.WriteVisits.{IsTurnedAway, IsWriting, page_in}
-use Rattle.cc_ranges.proofs.Goods.{below-size, stores-page}
+use Rattle.cc_ranges.proofs.Goods.{below-size, store-step_refusal, stores-page}
 use Rattle.cc_ranges.proofs.Misshapen.{unshaped}
 use Rattle.cc_ranges.proofs.Storing.{refusal-history}
 
@@ -132,6 +133,15 @@ module _ {D : Type 0} (told : D → Option Disk) (faults : D → ℕ) (n : ℕ) 
       and_from (file.stream == file.stream) _ (eq-eqb file.stream file.stream refl)
       (stores-page page (size_of (history w.seen file.stream)) (below-size w.setup w.seen (history w.seen file.stream) file page ready.admitted))
 
+  admitted-write : is_admitted it file.stream w.seen ≡ true
+  admitted-write = admitted w.setup w.seen file.stream it ready.admitted
+
+  stores-write : stores (Calls it) its w.seen ≡ true
+  stores-write = and_from (is_admitted it file.stream w.seen) _ admitted-write reached
+
+  stores-bytes : (bytes : List ℕ) → stores (Calls (call.NcStore file page bytes)) its w.seen ≡ true
+  stores-bytes bytes = rw (store-step_refusal (history w.seen file.stream) file page bytes) stores-write
+
   asked : (work : Work) → stores work its w.seen ≡ true → (may_write work its w.seen || stores work its w.seen) ≡ true
   asked work is = or_right (may_write work its w.seen) (stores work its w.seen) is
 
@@ -140,9 +150,9 @@ module _ {D : Type 0} (told : D → Option Disk) (faults : D → ℕ) (n : ℕ) 
       subst (λ (m : ℕ). IsWriting m file page begun x.seen) (sym (went-number n w x went))
       (record {
         way = under-way w.number it begun x.seen
-            (work-reached w its held stamped (Calls it) begun (asked (Calls it) reached) (at-work w.number it begun w.seen is.way) x.seen found);
+            (work-reached w its held stamped (Calls it) begun (asked (Calls it) stores-write) (at-work w.number it begun w.seen is.way) x.seen found);
         stores = λ bytes.
-            work-reached w its held stamped (Calls (call.NcStore file page bytes)) begun (asked (Calls (call.NcStore file page bytes)) reached) (is.stores bytes) x.seen found;
+            work-reached w its held stamped (Calls (call.NcStore file page bytes)) begun (asked (Calls (call.NcStore file page bytes)) (stores-bytes bytes)) (is.stores bytes) x.seen found;
       })
 
   -- and then the page was put on the disk, or was not stored
@@ -163,7 +173,7 @@ module _ {D : Type 0} (told : D → Option Disk) (faults : D → ℕ) (n : ℕ) 
   halted-after handle told_as told_is failed begun way =
       let there = subst (λ (r : Result LogFlush CcError). FlushLeft w its r x.seen) failed left in
       let fault : HasFailed w.number (Calls it) (LogFailed handle) w.seen x.seen =
-      work-unlogged w its held stamped (Calls it) w.seen (asked (Calls it) reached) (at-work w.number it w.seen w.seen (begins w.number it w.seen)) handle there.0 x.seen there.1 in
+      work-unlogged w its held stamped (Calls it) w.seen (asked (Calls it) stores-write) (at-work w.number it w.seen w.seen (begins w.number it w.seen)) handle there.0 x.seen there.1 in
       subst (λ (m : ℕ). IsHalted x.setup m file.stream it (error.LogFault told_as) begun x.seen) (sym (went-number n w x went))
       (subst (λ (u : Setup). IsHalted u w.number file.stream it (error.LogFault told_as) begun x.seen) (sym setup)
       (halted-since w.setup w.number file.stream it (error.LogFault told_as) (LogFailed handle) begun w.seen x.seen way ready.admitted (tells-log it told_as handle told_is) fault))

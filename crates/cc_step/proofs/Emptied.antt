@@ -12,6 +12,7 @@ use Rattle.cc_model.specs.History.{history}
 use Rattle.cc_model.specs.Ranges.{range_of}
 use Rattle.cc_model.specs.Setup.{Setup}
 use Rattle.cc_model.specs.Touches.{size_of}
+use Rattle.cc_step.proofs.Admitted.{admitted}
 use Rattle.cc_step.proofs.Attempts.{reserving, adds-reserving}
 use Rattle.cc_step.proofs.Placed.{so-far}
 use Rattle.cc_step.specs.Step.{is_answered}
@@ -29,7 +30,7 @@ module _ {Q : Type 0} (u : Setup) (pass : ℕ) (it : Call) (waited block : ℕ) 
 
   way : (p : ℕ) → block_of p ≡ block → is_in_the_way it (page_of b p) j.entries ≡ true
   way p here =
-      in-the-way j.entries b.stream it waited block p room (filed-of _ pass b.stream p it answered room may.may.filed)
+      in-the-way j.entries b.stream it waited block p (admitted u j.entries b.stream it crowded.waits.admitted) room (filed-of _ pass b.stream p it answered room may.may.filed)
       (full u j.entries b.stream waited (so-far u j.entries crowded.good) crowded.full) (needs u j.entries b.stream it waited crowded.waits) to_go here
 
   pub block-numbered : block < 2 ^ 45

@@ -1,5 +1,6 @@
 -- Lemmas of the step, and of what comes next where it waits, each before those that cite it.
 pub mod Reasons
+pub mod Admitted
 pub mod Within
 pub mod Filled
 pub mod Failing

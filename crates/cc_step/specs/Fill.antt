@@ -10,7 +10,7 @@ use Rattle.cc_entry.specs.declared.error.NoMemory.{NoMemory}
 use Rattle.cc_entry.specs.declared.reply.Reply.{Reply}
 use Rattle.cc_book.specs.Book.{BookState, Gains, page_in}
 use Rattle.cc_content.specs.Filling.{IsReadFrom}
-use Rattle.cc_effects.specs.Asked.{reaches, is_in_the_way, makes_way}
+use Rattle.cc_effects.specs.Asked.{is_admitted, reaches, is_in_the_way, makes_way}
 use Rattle.cc_effects.specs.Places.{is_on_disk_alone}
 use Rattle.cc_journal.specs.Journal.{JournalState}
 use Rattle.cc_model.specs.History.{history}
@@ -104,9 +104,10 @@ pub record MayLand {Q : Type 0} (u : Setup) (pass : ℕ) (it : Call) (page : ℕ
 abbrev pub GivesBack : {Q : Type 0} → JournalState Q → JournalState Q → Type 0
 GivesBack j k = k ≡ record j { reserved = j.reserved - 1 }
 
--- the page came in, one of the call's range and the one that it waits for
+-- the page came in, one of the range of the call, which nothing refuses, and the one that it waits for
 pub record Landed {Q : Type 0} (u : Setup) (pass : ℕ) (it : Call) (page : ℕ)
     (b c : BookState) (j k : JournalState Q) : Type 0 where
+  pub admitted : is_admitted it b.stream j.entries ≡ true
   pub awaited : is_awaited u j.entries b.stream it page ≡ true
   pub reached : reaches it (page_of b page) j.entries ≡ true
   pub placed : Gains (page_in pass (page_of b page) b) j k

@@ -19,7 +19,7 @@ use Rattle.cc_model.specs.Cache.{holds_made, views_taken, dirty_total, is_any_di
 use Rattle.cc_model.specs.Pick.{last_total, cursor, pick}
 use Rattle.cc_model.specs.Throttle.{may_go, queue, deferred}
 use Rattle.cc_model.specs.Room.{stores_unfinished, reserved_in, room_in, asked_by}
-use Rattle.cc_model.specs.Refusals.{refusal}
+use Rattle.cc_model.specs.Refusals.{refusal, step_refusal}
 use Rattle.cc_model.specs.Legal.{IsLegal, IsLegalEntry}
 use Rattle.cc_model.specs.Covered.{IsCovered, IsCoveredEntry}
 use Rattle.cc_model.specs.Records.{first_valid, is_stored, is_settled, record_page, is_record_stored, crash_records}
@@ -28,5 +28,5 @@ use Rattle.cc_model.specs.Allowed.{IsAllowed, IsAllowedSoFar}
 use Rattle.cc_journal.specs.Capacity.{IsWithinCapacity}
 
 unfoldable pub opened : Unit {0}
-unfolding history objects had_map holds_of touched sizes touches content on_disk byte_of answer page_size page_bytes quota_of is_temporary allocation_of log_of has_no_read_ahead has_no_write_behind threshold_of granularity_of residents flushed_to floor_of dirty_table open_of begun image crash_pages low_since reads_of ahead_of calls_of up_to_call is_written_since faults_since synced_after is_flushed holds_made views_taken dirty_total is_any_dirty lazy_pages last_total cursor pick may_go queue deferred stores_unfinished reserved_in room_in asked_by refusal first_valid is_stored is_settled record_page is_record_stored crash_records lock_calls IsLegal IsLegalEntry IsCovered IsCoveredEntry IsAllowed IsAllowedSoFar IsWithinCapacity
+unfolding history objects had_map holds_of touched sizes touches content on_disk byte_of answer page_size page_bytes quota_of is_temporary allocation_of log_of has_no_read_ahead has_no_write_behind threshold_of granularity_of residents flushed_to floor_of dirty_table open_of begun image crash_pages low_since reads_of ahead_of calls_of up_to_call is_written_since faults_since synced_after is_flushed holds_made views_taken dirty_total is_any_dirty lazy_pages last_total cursor pick may_go queue deferred stores_unfinished reserved_in room_in asked_by refusal step_refusal first_valid is_stored is_settled record_page is_record_stored crash_records lock_calls IsLegal IsLegalEntry IsCovered IsCoveredEntry IsAllowed IsAllowedSoFar IsWithinCapacity
 opened = tt

@@ -55,6 +55,17 @@ abbrev pub pages_are_purged : List Entry
 pages_are_purged =
     done 1 3 all_pages ∷ goes_out 1 1 ∷ goes_out 1 0 ∷ ends 1 1 ∷ begins 1 1 ∷ ends 1 0 ∷ begins 1 0 ∷ []
 
+-- the second page is mapped, which forbids the purge
+abbrev pub second_is_mapped : List Entry
+second_is_mapped = answers 1 3 (call.Map a 4096 16) (reply.Hold 1) ∷ both_dirty
+
+abbrev pub purge_is_refused : List Entry
+purge_is_refused = refused 1 4 all_pages (error.Held 1) ∷ []
+
+-- wrong: the purge, which is refused from the start, writes the first page before
+abbrev pub refused_purge_writes : List Entry
+refused_purge_writes = refused 1 4 all_pages (error.Held 1) ∷ ends 1 0 ∷ begins 1 0 ∷ []
+
 -- wrong: the second page goes before the first, and the first goes before the second is written
 abbrev pub greatest_goes_first : List Entry
 greatest_goes_first =

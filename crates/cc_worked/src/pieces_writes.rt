@@ -4,7 +4,7 @@ ghost use Rattle.cc_entry.specs.declared.reply.Reply.TheVariants as reply;
 ghost use Rattle.cc_entry.specs.declared.error.CcError.TheVariants as error;
 ghost use Rattle.cc_worked.specs.Values.{CallDone, CallFailed};
 ghost use Rattle.cc_worked.specs.PiecesReads.{a_byte};
-ghost use Rattle.cc_worked.specs.PiecesWrites.{both_dirty, first_page, page_is_flushed, write_fails, sync_fails, other_is_written, write_of_another_fails, written_after_sync, all_pages, pages_are_purged, greatest_goes_first, out_before_all_written, written_again, first_alone, other_goes_out, stamped_twice, log_goes_first, log_fails, log_goes_short, two_of_three, third_block, second_goes, first_goes};
+ghost use Rattle.cc_worked.specs.PiecesWrites.{both_dirty, first_page, page_is_flushed, write_fails, sync_fails, other_is_written, write_of_another_fails, written_after_sync, all_pages, pages_are_purged, second_is_mapped, purge_is_refused, refused_purge_writes, greatest_goes_first, out_before_all_written, written_again, first_alone, other_goes_out, stamped_twice, log_goes_first, log_fails, log_goes_short, two_of_three, third_block, second_goes, first_goes};
 
 /// A flush writes the dirty pages of its span and syncs once; a failed write, or a failed sync, is told.
 pub fn flush_writes_its_span()
@@ -16,12 +16,15 @@ pub fn flush_writes_its_span()
     ensures sync_comes_last { CallDone first_page reply.Unit both_dirty written_after_sync → ⊥ }
 {}
 
-/// A purge writes what is dirty, and then takes the pages of its span out, the least first.
+/// A purge writes what is dirty, and then takes the pages of its span out, the least first. One that is refused from the start
+/// writes none.
 pub fn purge_takes_its_span_out()
     ensures done { CallDone all_pages reply.Unit both_dirty pages_are_purged }
+    ensures refused { CallFailed all_pages (error.Held 1) second_is_mapped purge_is_refused }
     ensures least_first { CallDone all_pages reply.Unit both_dirty greatest_goes_first → ⊥ }
     ensures written_before { CallDone all_pages reply.Unit both_dirty out_before_all_written → ⊥ }
     ensures no_other { CallDone first_alone reply.Unit both_dirty other_goes_out → ⊥ }
+    ensures none_refused { CallFailed all_pages (error.Held 1) second_is_mapped refused_purge_writes → ⊥ }
 {}
 
 /// The log of a stream is flushed to the newest stamp of a page before the page is written, and no less far; for

@@ -131,7 +131,7 @@ module _ {Q : Type 0} (posted : Q → Bool) (w v : Standing) (it : Call) (b c : 
   pub left-land : brings_in it ≡ true → (raw : Option (List ℕ)) (answer : Result (Unit {0}) NoMemory) → LandLeft w.setup w.number it page raw answer b c j k → (begun : List Entry) → IsUnderWay w.number it begun w.seen → IsUnderWay w.number it begun k.entries
   left-land may raw (Ok done) (inl came) begun way =
       subst (λ (past : List Entry). IsUnderWay w.number it begun past) (sym (ap (λ (x : JournalState Q). x.entries) came.placed))
-      (brings w.number it begun j.entries (page_of b page) _ (way-on posted w v it b c j k has vis here filed begun way) may came.reached)
+      (brings w.number it begun j.entries (page_of b page) _ (way-on posted w v it b c j k has vis here filed begun way) may came.admitted came.reached)
   left-land may raw (Ok done) (inr none) begun way =
       subst (λ (past : List Entry). IsUnderWay w.number it begun past) (sym (ap (λ (x : JournalState Q). x.entries) none.given_back)) (way-on posted w v it b c j k has vis here filed begun way)
   left-land may raw (Err e) none begun way =

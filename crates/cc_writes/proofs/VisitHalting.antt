@@ -13,7 +13,7 @@ use Rattle.cc_entry.specs.declared.error.CcError.TheVariants as error
 use Rattle.cc_effects.specs.Asked.{brings_in, reads_noncached, reaches}
 use Rattle.cc_effects.specs.Calls.{IsUnderWay}
 use Rattle.cc_effects.specs.Moments.{AtSome}
-use Rattle.cc_effects.specs.Places.{is_on_disk_alone, may_read}
+use Rattle.cc_effects.specs.Places.{WasAsked, is_on_disk_alone, may_read}
 use Rattle.cc_effects.specs.Stops.{tells}
 use Rattle.cc_laws.proofs.FaultSteps.{faults_since-fill_failed}
 use Rattle.cc_model.specs.Faults.{Fault, ReadFailed, faults_since, is_failed_read, is_failed_write, is_failed_sync, is_failed_log}
@@ -21,6 +21,7 @@ use Rattle.cc_model.specs.History.{history}
 use Rattle.cc_model.specs.Ranges.{first_page}
 use Rattle.cc_model.specs.Refusals.{refusal}
 use Rattle.cc_model.specs.Setup.{Setup}
+use Rattle.cc_step.proofs.Admitted.{admitted}
 use Rattle.cc_step.specs.Faults.{IsMet}
 use Rattle.cc_writes.specs.Ways.{IsHalted, WasWanted}
 
@@ -53,7 +54,7 @@ halts-read u me s page it begun front way may wanted = record {
       during = stop ∷ way.during;
       grew = ap (λ l. stop ∷ l) way.grew;
       works = record {
-        each = ((λ is. (subst (λ (past : List Entry). may_read it place past ≡ true) way.grew may, reached)), way.works.each);
+        each = ((λ is. (subst (λ (past : List Entry). may_read it place past ≡ true) way.grew may, asked)), way.works.each);
         one_sync = rw (eq-eqb me me refl) way.works.one_sync;
         whole = rw (eq-eqb me me refl) way.works.whole;
       };
@@ -74,9 +75,9 @@ halts-read u me s page it begun front way may wanted = record {
     stop : Entry
     stop = entry.FillFailed me place
 
-    reached : AtSome (λ moment. reaches it place moment ≡ true) begun (way.during ++ begun)
-    reached = subst (λ (past : List Entry). AtSome (λ moment. reaches it place moment ≡ true) begun past) way.grew
-        (some-implies (λ moment. (refusal u moment (history moment s) it ≡ None) × (reaches it place moment ≡ true)) (λ moment. reaches it place moment ≡ true) begun front (λ past both. both.1) wanted)
+    asked : AtSome (WasAsked it place) begun (way.during ++ begun)
+    asked = subst (λ (past : List Entry). AtSome (WasAsked it place) begun past) way.grew
+        (some-implies (λ moment. (refusal u moment (history moment s) it ≡ None) × (reaches it place moment ≡ true)) (WasAsked it place) begun front (λ past both. record { admitted = admitted u past s it both.0; reached = both.1 }) wanted)
 
 -- so where it was to come in
 pub halts : (u : Setup) (me s page : ℕ) (it : Call) (begun front : List Entry) → IsUnderWay me it begun front → brings_in it ≡ true → is_on_disk_alone (record { stream = s; page = page }) front ≡ true → WasWanted u it (record { stream = s; page = page }) begun front → IsHalted u me s it (error.ReadFault page) begun (entry.FillFailed me (record { stream = s; page = page }) ∷ front)

@@ -34,9 +34,9 @@ use Rattle.cc_writes.specs.Logs.{IsDue}
 -- Whether a page may be written depends on its stream's history alone.
 asks-same : (it : Call) (page : Page) (past now : List Entry) → history now page.stream ≡ history past page.stream → asks_write it page now ≡ asks_write it page past
 asks-same (call.NcRead file number) page past now same = rw same refl
-asks-same (call.Flush file span) page past now same = refl
-asks-same (call.Purge file span) page past now same = refl
-asks-same other page past now same = refl
+asks-same (call.Flush file span) page past now same = rw same refl
+asks-same (call.Purge file span) page past now same = rw same refl
+asks-same other page past now same = rw same refl
 
 way-same : (it : Call) (page : Page) (past now : List Entry) → history now page.stream ≡ history past page.stream → is_in_the_way it page now ≡ is_in_the_way it page past
 way-same it page past now same = rw same refl

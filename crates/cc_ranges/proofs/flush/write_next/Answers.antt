@@ -1,10 +1,12 @@
 -- The page that the step names is dirty, and the flush admitted; so it may be written, and the round is what it left.
-use Rattle.std.specs.Prelude.{◌≡◌, ℕ, None}
+use Rattle.std.specs.Prelude.{◌≡◌, ℕ, true, None}
 use Rattle.std.proofs.Common.{ap, sym, ◌∙◌, subst}
 use Rattle.cc_entry.specs.declared.call.Call.TheVariants as call
+use Rattle.cc_effects.specs.Asked.{is_admitted}
 use Rattle.cc_model.specs.History.{history}
 use Rattle.cc_model.specs.Refusals.{refusal}
 use Rattle.cc_model.specs.Setup.{Setup}
+use Rattle.cc_step.proofs.Admitted.{admitted}
 use Rattle.cc_turns.specs.Standing.{Standing}
 use Rattle.cc_writes.specs.Writes.{HasBoth, IsToWrite}
 use Rattle.cc_writes.proofs.Disks.{still_of}
@@ -33,7 +35,11 @@ pub write_for-book-requires-clause-asked : goal.write_for-book-requires-clause-a
 write_for-book-requires-clause-asked g c κs within =
     let v = g.T.Turns.standing c.next_at.new.turns in
     let at = c.in-Writes.ensures.left c.requires.flushing.0 c.requires.flushing.1 in
-    asks-page c.args.file c.args.span.now c.next_at.new.book.stream c.in-Writes.page v.seen c.next_at.ensures.book.stream at.in_span
+    let it = call.Flush c.args.file c.args.span.now in
+    asks-page c.args.file c.args.span.now c.next_at.new.book.stream c.in-Writes.page v.seen
+    (subst (λ (n : ℕ). is_admitted it n v.seen ≡ true) (sym c.next_at.ensures.book.stream)
+    (admitted (g.T.Turns.standing c.args.turns.now).setup v.seen c.args.file.stream it at.admitted))
+    c.next_at.ensures.book.stream at.in_span
 
 pub write_for-book-requires-clause-to_write : goal.write_for-book-requires-clause-to_write
 write_for-book-requires-clause-to_write g c κs within =

@@ -1,10 +1,12 @@
 -- By what the step asks: the page is dirty and the purge admitted, so it may be written; the round is what that left.
-use Rattle.std.specs.Prelude.{◌≡◌, ℕ, None}
+use Rattle.std.specs.Prelude.{◌≡◌, ℕ, true, None}
 use Rattle.std.proofs.Common.{ap, sym, ◌∙◌, subst}
 use Rattle.cc_entry.specs.declared.call.Call.TheVariants as call
+use Rattle.cc_effects.specs.Asked.{is_admitted}
 use Rattle.cc_model.specs.History.{history}
 use Rattle.cc_model.specs.Refusals.{refusal}
 use Rattle.cc_model.specs.Setup.{Setup}
+use Rattle.cc_step.proofs.Admitted.{admitted}
 use Rattle.cc_turns.specs.Standing.{Standing}
 use Rattle.cc_writes.specs.Writes.{HasBoth, IsToWrite}
 use Rattle.cc_writes.proofs.Disks.{still_of}
@@ -31,7 +33,11 @@ write_for-book-requires-clause-admitted g c κs within =
 pub write_for-book-requires-clause-asked : goal.write_for-book-requires-clause-asked
 write_for-book-requires-clause-asked g c κs within =
     let v = g.T.Turns.standing c.next_at.new.turns in
-    asks-page c.args.file c.args.span.now c.next_at.new.book.stream c.in-Writes.page v.seen c.next_at.ensures.book.stream c.in-Writes.ensures.asking.in_span
+    let it = call.Purge c.args.file c.args.span.now in
+    asks-page c.args.file c.args.span.now c.next_at.new.book.stream c.in-Writes.page v.seen
+    (subst (λ (n : ℕ). is_admitted it n v.seen ≡ true) (sym c.next_at.ensures.book.stream)
+    (admitted (g.T.Turns.standing c.args.turns.now).setup v.seen c.args.file.stream it c.in-Writes.ensures.asking.admitted))
+    c.next_at.ensures.book.stream c.in-Writes.ensures.asking.in_span
 
 pub write_for-book-requires-clause-to_write : goal.write_for-book-requires-clause-to_write
 write_for-book-requires-clause-to_write g c κs within =

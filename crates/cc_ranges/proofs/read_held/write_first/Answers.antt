@@ -14,6 +14,7 @@ use Rattle.cc_effects.proofs.Starts.{begins}
 use Rattle.cc_model.specs.History.{history}
 use Rattle.cc_model.specs.Refusals.{refusal}
 use Rattle.std.specs.declared.option.Option.TheVariants.{None}
+use Rattle.cc_step.proofs.Admitted.{admitted}
 use Rattle.cc_writes.specs.Calls.{PageLeft}
 use Rattle.cc_writes.specs.Writes.{HasTransferred, IsToWrite}
 use Rattle.cc_writes.specs.Ways.{IsReason}
@@ -43,7 +44,7 @@ write_for-book-requires-clause-asked g c κs within =
     let w = g.T.Turns.standing c.args.turns.now in
     let file = c.args.file in
     let page = c.args.page in
-    subst (λ (n : ℕ). may_write (Calls (call.NcRead file page)) (record { stream = n; page = page }) w.seen ≡ true) (sym c.requires.stream) (asks-page file page w.seen c.requires.dirty.reached)
+    subst (λ (n : ℕ). may_write (Calls (call.NcRead file page)) (record { stream = n; page = page }) w.seen ≡ true) (sym c.requires.stream) (asks-page file page w.seen (admitted w.setup w.seen file.stream (call.NcRead file page) c.requires.dirty.admitted) c.requires.dirty.reached)
 
 pub write_for-book-requires-clause-to_write : goal.write_for-book-requires-clause-to_write
 write_for-book-requires-clause-to_write g c κs within =

@@ -7,6 +7,7 @@ use Rattle.cc_content.specs.Filling.{IsReadFrom}
 use Rattle.cc_model.specs.History.{history}
 use Rattle.cc_step.proofs.Placed.{so-far}
 use Rattle.cc_step.specs.Fill.{page_of}
+use Rattle.cc_step.proofs.Admitted.{admitted}
 use Rattle.cc_step.proofs.PlacedPages.{good-in, stand-onto, comes-in, is-reached}
 use Rattle.cc_step.proofs.Awaiting.{awaited-of}
 use Rattle.cc_step.proofs.landing.bring_in.Goals as goal
@@ -32,6 +33,7 @@ returns-in-Ok g c u it may read =
     let good = good-in u past c.args.pass b.stream c.args.page _ stand.good (comes-in u c.args.pass it c.args.page b c.args.journal.now may) in
     let stands = c.in-Ok.ensures.stands (u.opening b.stream) (subst (λ (p : Page). IsReadFrom (u.opening b.stream) (history past b.stream) p.page c.args.raw.now) (sym c.page_id-coming.ensures) read) stand.stands in
     record {
+      admitted = admitted u c.args.journal.now.entries b.stream it may.wanted.waits.admitted;
       awaited = awaited-of u past b.stream it c.args.page may.wanted.waits;
       reached = is-reached u c.args.pass it c.args.page b c.args.journal.now may;
       placed = placed;

@@ -13,7 +13,7 @@ use Rattle.cc_worked.proofs.pieces_reads.read_brings_its_page_in.Goals as goal
 pub returns-clause-done : goal.returns-clause-done
 unfolding computed
 returns-clause-done c =
-    ends_done 1 1 (Some 0) first_byte a_byte two_pages (read_in 1 0 ∷ two_pages) (brings 1 first_byte two_pages two_pages (page 0) true (begins 1 first_byte two_pages) refl refl) refl (λ during. tt)
+    ends_done 1 1 (Some 0) first_byte a_byte two_pages (read_in 1 0 ∷ two_pages) (brings 1 first_byte two_pages two_pages (page 0) true (begins 1 first_byte two_pages) refl refl refl) refl (λ during. tt)
 
 pub returns-clause-beside_another : goal.returns-clause-beside_another
 returns-clause-beside_another c =
@@ -30,7 +30,7 @@ returns-clause-not_unasked c left =
 
 pub returns-clause-no_sync : goal.returns-clause-no_sync
 returns-clause-no_sync c left =
-    neither (λ is. is) not_so ((licensed setup 1 first_byte (outcome.Done a_byte) read_that_syncs two_pages left refl).1.0 refl)
+    neither (λ is. is) (λ may. not_so may.0) ((licensed setup 1 first_byte (outcome.Done a_byte) read_that_syncs two_pages left refl).1.0 refl)
 
 pub returns-clause-not_without_entry : goal.returns-clause-not_without_entry
 returns-clause-not_without_entry c left = not_so (has-entry setup 1 first_byte (outcome.Done a_byte) page_alone two_pages left refl)

@@ -20,7 +20,7 @@ use Rattle.cc_worked.proofs.pieces_reads.read_fault_has_its_entry.Goals as goal
 pub returns-clause-told : goal.returns-clause-told
 unfolding computed
 returns-clause-told c =
-    ends_unread 1 1 (Some 0) first_byte (page 0) two_pages two_pages (begins 1 first_byte two_pages) refl refl refl refl
+    ends_unread 1 1 (Some 0) first_byte (page 0) two_pages two_pages (begins 1 first_byte two_pages) refl refl refl refl refl
 
 closing : Entry
 closing = answers 2 1 (call.Uninitialise a None) (reply.Flag true)
@@ -37,7 +37,7 @@ returns-clause-overtaken c = inr (record {
     quiet = tt;
     filed = refl;
     works = record {
-      each = ((λ is. (refl, record { moment = two_pages; later = closing ∷ []; since = []; ends = refl; begins = refl; holds = refl })), ((λ is. absurd (not_so is)), tt));
+      each = ((λ is. (refl, record { moment = two_pages; later = closing ∷ []; since = []; ends = refl; begins = refl; holds = record { admitted = refl; reached = refl } })), ((λ is. absurd (not_so is)), tt));
       one_sync = omega arith;
       whole = refl;
     };

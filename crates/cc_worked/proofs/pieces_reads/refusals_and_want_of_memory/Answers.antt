@@ -19,7 +19,7 @@ returns-clause-refused c =
 pub returns-clause-given_up : goal.returns-clause-given_up
 unfolding computed
 returns-clause-given_up c =
-    gives_up 1 first_byte error.NoMemory two_pages (read_in 1 0 ∷ two_pages) (brings 1 first_byte two_pages two_pages (page 0) true (begins 1 first_byte two_pages) refl refl) refl refl
+    gives_up 1 first_byte error.NoMemory two_pages (read_in 1 0 ∷ two_pages) (brings 1 first_byte two_pages two_pages (page 0) true (begins 1 first_byte two_pages) refl refl refl) refl refl
 
 pub returns-clause-no_entry : goal.returns-clause-no_entry
 returns-clause-no_entry c left = (unplaced-licensed setup 1 first_byte (outcome.Failed error.NoMemory) page_comes_in two_pages left refl).0 refl
@@ -27,14 +27,14 @@ returns-clause-no_entry c left = (unplaced-licensed setup 1 first_byte (outcome.
 pub returns-clause-full : goal.returns-clause-full
 unfolding computed
 returns-clause-full c =
-    gives_up 1 first_byte (error.JournalFull 2) two_pages (read_in 1 0 ∷ two_pages) (brings 1 first_byte two_pages two_pages (page 0) true (begins 1 first_byte two_pages) refl refl) refl refl
+    gives_up 1 first_byte (error.JournalFull 2) two_pages (read_in 1 0 ∷ two_pages) (brings 1 first_byte two_pages two_pages (page 0) true (begins 1 first_byte two_pages) refl refl refl) refl refl
 
 pub returns-clause-full_after_fault : goal.returns-clause-full_after_fault
 unfolding computed
 returns-clause-full_after_fault c = record {
   during = fill_alone;
   grew = refl;
-  works = record { each = ((λ is. (refl, record { moment = two_pages; later = []; since = []; ends = refl; begins = refl; holds = refl })), tt); one_sync = omega arith; whole = refl };
+  works = record { each = ((λ is. (refl, record { moment = two_pages; later = []; since = []; ends = refl; begins = refl; holds = record { admitted = refl; reached = refl } })), tt); one_sync = omega arith; whole = refl };
   came = inr (entry.FillFailed 1 (page 0), record { since = []; before = []; split = refl; is_own = refl; quiet = tt; unstopped = refl }, refl);
   listed = refl;
   wants = record { moment = two_pages; later = fill_alone; since = []; ends = refl; begins = refl; holds = refl };

@@ -41,7 +41,7 @@ returns-clause-no_memory c =
     let it = call.Map a 8191 1 in
     let held = held_unread ++ two_pages in
     let look = call.MappedRead 1 8191 1 in
-    let its_map = ends_done 1 2 (Some 0) it (reply.Hold 1) asked (read_in 1 1 ∷ asked) (brings 1 it asked asked (page 1) true (begins 1 it asked) refl refl) refl (λ during. tt) in
+    let its_map = ends_done 1 2 (Some 0) it (reply.Hold 1) asked (read_in 1 1 ∷ asked) (brings 1 it asked asked (page 1) true (begins 1 it asked) refl refl refl) refl (λ during. tt) in
     let its_end = ends_done 1 3 (Some 0) (call.EndHold 1) reply.Unit held held (begins 1 (call.EndHold 1) held) refl (λ during. tt) in
     inr (
       asked,

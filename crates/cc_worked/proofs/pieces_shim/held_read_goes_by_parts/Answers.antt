@@ -47,7 +47,7 @@ returns-clause-cut c =
         90 ∷ [],
         [],
         refl,
-        part-left (mapped_path a) part 2 1 (90 ∷ []) asked (read_in 1 1 ∷ asked) (brings 1 it asked asked (page 1) true (begins 1 it asked) refl refl) refl refl refl (λ during. tt) (λ during. tt),
+        part-left (mapped_path a) part 2 1 (90 ∷ []) asked (read_in 1 1 ∷ asked) (brings 1 it asked asked (page 1) true (begins 1 it asked) refl refl refl) refl refl refl (λ during. tt) (λ during. tt),
         (refl, idle-none 1 (reads_last ++ two_pages)),
       ),
     )
@@ -70,8 +70,8 @@ returns-clause-both c =
     let one = call.Map a 262143 1 in
     let other = call.Map a 262144 1 in
     both_parts (mapped_path a) reads_both between
-    (part-left (mapped_path a) first_part 2 1 (90 ∷ []) asked (read_in 1 63 ∷ asked) (brings 1 one asked asked (page 63) true (begins 1 one asked) refl refl) refl refl refl (λ during. tt) (λ during. tt))
-    (part-left (mapped_path a) second_part 5 2 (90 ∷ []) between (read_in 1 64 ∷ between) (brings 1 other between between (page 64) true (begins 1 other between) refl refl) refl refl refl (λ during. tt) (λ during. tt))
+    (part-left (mapped_path a) first_part 2 1 (90 ∷ []) asked (read_in 1 63 ∷ asked) (brings 1 one asked asked (page 63) true (begins 1 one asked) refl refl refl) refl refl refl (λ during. tt) (λ during. tt))
+    (part-left (mapped_path a) second_part 5 2 (90 ∷ []) between (read_in 1 64 ∷ between) (brings 1 other between between (page 64) true (begins 1 other between) refl refl refl) refl refl refl (λ during. tt) (λ during. tt))
 
 pub returns-clause-pinned : goal.returns-clause-pinned
 unfolding computed first_part second_part
@@ -81,8 +81,8 @@ returns-clause-pinned c =
     let other = call.PinRead a 262144 1 false in
     let between = holds 2 1 one (call.PinnedRead 1 262143 1) (90 ∷ []) ++ read_in 1 63 ∷ asked in
     both_parts (pinned_path a) (pins_both false) between
-    (part-left (pinned_path a) first_part 2 1 (90 ∷ []) asked (read_in 1 63 ∷ asked) (brings 1 one asked asked (page 63) true (begins 1 one asked) refl refl) refl refl refl (λ during. tt) (λ during. tt))
-    (part-left (pinned_path a) second_part 5 2 (90 ∷ []) between (read_in 1 64 ∷ between) (brings 1 other between between (page 64) true (begins 1 other between) refl refl) refl refl refl (λ during. tt) (λ during. tt))
+    (part-left (pinned_path a) first_part 2 1 (90 ∷ []) asked (read_in 1 63 ∷ asked) (brings 1 one asked asked (page 63) true (begins 1 one asked) refl refl refl) refl refl refl (λ during. tt) (λ during. tt))
+    (part-left (pinned_path a) second_part 5 2 (90 ∷ []) between (read_in 1 64 ∷ between) (brings 1 other between between (page 64) true (begins 1 other between) refl refl refl) refl refl refl (λ during. tt) (λ during. tt))
 
 pub returns-clause-chained : goal.returns-clause-chained
 unfolding computed whole
@@ -98,7 +98,7 @@ returns-clause-chained c =
         90 ∷ 90 ∷ [],
         [],
         refl,
-        part-left (descriptor_path a) part 2 1 (90 ∷ 90 ∷ []) asked (read_in 1 64 ∷ read_in 1 63 ∷ asked) (brings 1 it asked (read_in 1 63 ∷ asked) (page 64) true (brings 1 it asked asked (page 63) true (begins 1 it asked) refl refl) refl refl) refl refl refl (λ during. tt) (λ during. tt),
+        part-left (descriptor_path a) part 2 1 (90 ∷ 90 ∷ []) asked (read_in 1 64 ∷ read_in 1 63 ∷ asked) (brings 1 it asked (read_in 1 63 ∷ asked) (page 64) true (brings 1 it asked asked (page 63) true (begins 1 it asked) refl refl refl) refl refl refl) refl refl refl (λ during. tt) (λ during. tt),
         (refl, idle-none 1 (chains_both ++ two_blocks)),
       ),
     )

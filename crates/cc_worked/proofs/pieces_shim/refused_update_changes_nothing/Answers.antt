@@ -16,7 +16,7 @@ use Rattle.cc_model.specs.Setup.{Setup}
 use Rattle.cc_model.specs.Holds.{hold_at, holds_of}
 use Rattle.cc_model.specs.Legal.{stream_history}
 use Rattle.cc_model.specs.Filing.{serves}
-use Rattle.cc_effects.specs.Asked.{reaches}
+use Rattle.cc_effects.specs.Asked.{is_admitted, reaches}
 use Rattle.cc_effects.specs.Calls.{CallLeft}
 use Rattle.cc_effects.specs.Refusals.{owes_nothing}
 use Rattle.cc_effects.specs.LogCalls.{AppendLeft, AppendRefused}
@@ -38,10 +38,10 @@ use Rattle.cc_worked.proofs.pieces_shim.refused_update_changes_nothing.Goals as 
 pinned_on : List Entry → List Entry
 pinned_on old = answers 1 1 pins (reply.Hold 1) ∷ read_in 1 0 ∷ old
 
-its_pin : (old : List Entry) → reaches pins (page 0) old ≡ true → CallLeft setup 1 pins (outcome.Done (reply.Hold 1)) old (pinned_on old)
+its_pin : (old : List Entry) → is_admitted pins 0 old ≡ true → reaches pins (page 0) old ≡ true → CallLeft setup 1 pins (outcome.Done (reply.Hold 1)) old (pinned_on old)
 unfolding pinned_on
-its_pin old reached =
-    ends_done 1 1 (Some 0) pins (reply.Hold 1) old (read_in 1 0 ∷ old) (brings 1 pins old old (page 0) true (begins 1 pins old) refl reached) refl (λ during. tt)
+its_pin old admitted reached =
+    ends_done 1 1 (Some 0) pins (reply.Hold 1) old (read_in 1 0 ∷ old) (brings 1 pins old old (page 0) true (begins 1 pins old) refl admitted reached) refl (λ during. tt)
 
 asked : (state : FileState) (old : List Entry) → List Entry
 unfolding pinned_on
@@ -59,7 +59,7 @@ returns-clause-no_log c =
       1,
       pinned_on two_pages,
       told,
-      its_pin two_pages refl,
+      its_pin two_pages refl refl,
       inr (told, unlogged_state, state-told 2 unlogged_state (pinned_on two_pages), (inl refl, idle-none 1 told)),
       its_end told refl,
     )
@@ -74,7 +74,7 @@ returns-clause-behind_valid c =
       1,
       pinned,
       told,
-      ends_done 1 1 (Some 0) its (reply.Hold 1) (logged 4096) (entry.PageIn 1 (page 1) false ∷ logged 4096) (brings 1 its (logged 4096) (logged 4096) (page 1) false (begins 1 its (logged 4096)) refl refl) refl (λ during. tt),
+      ends_done 1 1 (Some 0) its (reply.Hold 1) (logged 4096) (entry.PageIn 1 (page 1) false ∷ logged 4096) (brings 1 its (logged 4096) (logged 4096) (page 1) false (begins 1 its (logged 4096)) refl refl refl) refl (λ during. tt),
       inr (told, logged_state 4096, state-told 2 (logged_state 4096) pinned, inl (omega arith, inl refl, idle-none 1 told)),
       its_end told refl,
     )
@@ -89,7 +89,7 @@ returns-clause-log_failed c =
       1,
       pinned_on (logged 8192),
       entry.LogFailed 1 0 ∷ told,
-      its_pin (logged 8192) refl,
+      its_pin (logged 8192) refl refl,
       inr (told, logged_state 8192, state-told 2 (logged_state 8192) (pinned_on (logged 8192)), inr (omega arith, inl (error.LogFault 0, refl, append))),
       its_end (entry.LogFailed 1 0 ∷ told) refl,
     )
@@ -105,7 +105,7 @@ returns-clause-no_memory c =
       1,
       pinned_on (logged 8192),
       recorded,
-      its_pin (logged 8192) refl,
+      its_pin (logged 8192) refl refl,
       inr (told, logged_state 8192, state-told 2 (logged_state 8192) (pinned_on (logged 8192)), inr (omega arith, inr (recorded, 1, append, inl (gives_up 1 change error.NoMemory recorded recorded (begins 1 change recorded) refl refl)))),
       its_end recorded refl,
     )

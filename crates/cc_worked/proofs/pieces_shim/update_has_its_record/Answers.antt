@@ -37,7 +37,7 @@ stamped = stamps 4 1 ∷ changed
 its_pin : CallLeft setup 1 pins (outcome.Done (reply.Hold 1)) (logged 8192) pinned
 unfolding computed pinned
 its_pin =
-    ends_done 1 1 (Some 0) pins (reply.Hold 1) (logged 8192) (read_in 1 0 ∷ logged 8192) (brings 1 pins (logged 8192) (logged 8192) (page 0) true (begins 1 pins (logged 8192)) refl refl) refl (λ during. tt)
+    ends_done 1 1 (Some 0) pins (reply.Hold 1) (logged 8192) (read_in 1 0 ∷ logged 8192) (brings 1 pins (logged 8192) (logged 8192) (page 0) true (begins 1 pins (logged 8192)) refl refl refl) refl (λ during. tt)
 
 its_change : CallLeft setup 1 (call.PinnedWrite 1 258 (171 ∷ [])) (outcome.Done reply.Unit) recorded changed
 unfolding computed changed

@@ -46,11 +46,11 @@ returns-clause-done c =
 
     its_zeroing : CallLeft setup 1 zeroes (outcome.Done reply.Unit) extended zeroed
     its_zeroing =
-        ends_done 1 3 (Some 0) zeroes reply.Unit extended (entry.PageIn 1 (page 1) false ∷ extended) (brings 1 zeroes extended extended (page 1) false (begins 1 zeroes extended) refl refl) refl (λ during. tt)
+        ends_done 1 3 (Some 0) zeroes reply.Unit extended (entry.PageIn 1 (page 1) false ∷ extended) (brings 1 zeroes extended extended (page 1) false (begins 1 zeroes extended) refl refl refl) refl (λ during. tt)
 
     its_write : CallLeft setup 1 writes (outcome.Done reply.Unit) zeroed (grows ++ one_valid)
     its_write =
-        ends_done 1 4 (Some 0) writes reply.Unit zeroed (entry.PageIn 1 (page 2) false ∷ zeroed) (brings 1 writes zeroed zeroed (page 2) false (begins 1 writes zeroed) refl refl) refl (λ during. tt)
+        ends_done 1 4 (Some 0) writes reply.Unit zeroed (entry.PageIn 1 (page 2) false ∷ zeroed) (brings 1 writes zeroed zeroed (page 2) false (begins 1 writes zeroed) refl refl refl) refl (λ during. tt)
 
 pub returns-clause-not_short : goal.returns-clause-not_short
 returns-clause-not_short c left = other (write-told setup 1 a 8192 (171 ∷ []) one_page_valid (done_marks (extends ∷ zeroes ∷ [])) stops_short one_valid refl left)

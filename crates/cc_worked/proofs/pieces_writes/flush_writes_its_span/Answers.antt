@@ -1,5 +1,5 @@
 -- The begin of a page of the span, its end, and one sync.
-use Rattle.std.specs.Prelude.{◌≡◌, ℕ, List, [], ◌∷◌, refl}
+use Rattle.std.specs.Prelude.{◌≡◌, ℕ, true, List, [], ◌∷◌, refl}
 use Rattle.std.specs.declared.option.Option.{Option}
 use Rattle.std.specs.declared.option.Option.TheVariants.{Some}
 use Rattle.std.proofs.Common.{arith}
@@ -10,7 +10,9 @@ use Rattle.cc_entry.specs.declared.entry.End.TheVariants as how
 use Rattle.cc_entry.specs.declared.entry.Entry.{Entry}
 use Rattle.cc_entry.specs.declared.entry.Entry.TheVariants as entry
 use Rattle.cc_model.specs.Faults.{WriteFailed, SyncFailed}
+use Rattle.cc_effects.specs.Asked.{is_admitted}
 use Rattle.cc_effects.proofs.Starts.{done_by, faulted_by}
+use Rattle.cc_effects.proofs.Stretches.{some-begin}
 use Rattle.cc_effects.proofs.Licences.{licensed, write-fault-shown, sync-last}
 use Rattle.cc_worked.specs.Values.{a, setup, begins, ends, fails, synced}
 use Rattle.cc_worked.specs.PiecesWrites.{both_dirty, first_page, other_is_written, write_of_another_fails, written_after_sync}
@@ -20,7 +22,7 @@ use Rattle.cc_worked.proofs.pieces_writes.flush_writes_its_span.Goals as goal
 pub returns-clause-done : goal.returns-clause-done
 unfolding computed
 returns-clause-done c =
-    done_by 1 3 (Some 0) first_page reply.Unit (synced 1 ∷ ends 1 0 ∷ begins 1 0 ∷ []) both_dirty (record { each = ((λ is. refl), ((λ is. refl), ((λ is. refl), tt))); one_sync = omega arith; whole = refl }) refl refl (record { after = []; before = ends 1 0 ∷ begins 1 0 ∷ []; split = refl; quiet = tt; settled = refl })
+    done_by 1 3 (Some 0) first_page reply.Unit (synced 1 ∷ ends 1 0 ∷ begins 1 0 ∷ []) both_dirty (record { each = ((λ is. (refl, some-begin (λ moment. is_admitted first_page 0 moment ≡ true) (ends 1 0 ∷ begins 1 0 ∷ []) both_dirty refl)), ((λ is. refl), ((λ is. refl), tt))); one_sync = omega arith; whole = refl }) refl refl (record { after = []; before = ends 1 0 ∷ begins 1 0 ∷ []; split = refl; quiet = tt; settled = refl })
 
 pub returns-clause-write_failed : goal.returns-clause-write_failed
 unfolding computed
@@ -30,7 +32,7 @@ returns-clause-write_failed c =
 pub returns-clause-sync_failed : goal.returns-clause-sync_failed
 unfolding computed
 returns-clause-sync_failed c =
-    faulted_by 1 3 (Some 0) first_page (error.WriteFault 0) (entry.Sync 1 0 how.Failed) (ends 1 0 ∷ begins 1 0 ∷ []) both_dirty (record { each = ((λ is. refl), ((λ is. refl), ((λ is. refl), tt))); one_sync = omega arith; whole = refl }) refl refl refl refl (record { fault = SyncFailed; shown = refl; told = refl })
+    faulted_by 1 3 (Some 0) first_page (error.WriteFault 0) (entry.Sync 1 0 how.Failed) (ends 1 0 ∷ begins 1 0 ∷ []) both_dirty (record { each = ((λ is. (refl, some-begin (λ moment. is_admitted first_page 0 moment ≡ true) (ends 1 0 ∷ begins 1 0 ∷ []) both_dirty refl)), ((λ is. refl), ((λ is. refl), tt))); one_sync = omega arith; whole = refl }) refl refl refl refl (record { fault = SyncFailed; shown = refl; told = refl })
 
 pub returns-clause-no_other_page : goal.returns-clause-no_other_page
 unfolding computed

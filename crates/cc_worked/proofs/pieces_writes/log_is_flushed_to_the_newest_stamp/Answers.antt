@@ -13,10 +13,11 @@ use Rattle.cc_entry.specs.declared.reply.Outcome.TheVariants as outcome
 use Rattle.cc_entry.specs.declared.entry.Entry.{Entry}
 use Rattle.cc_entry.specs.declared.entry.Entry.TheVariants as entry
 use Rattle.cc_model.specs.Faults.{LogFailed}
-use Rattle.cc_effects.specs.Asked.{Calls}
+use Rattle.cc_effects.specs.Asked.{Calls, is_admitted}
 use Rattle.cc_effects.specs.Places.{AsksLog}
 use Rattle.cc_effects.proofs.Starts.{done_by, faulted_by}
 use Rattle.cc_effects.proofs.Licences.{licensed}
+use Rattle.cc_effects.proofs.Stretches.{some-begin}
 use Rattle.cc_worked.specs.Values.{setup, page, begins, ends, synced}
 use Rattle.cc_worked.specs.PiecesWrites.{first_page, stamped_twice, log_fails, written_again, log_goes_short}
 use Rattle.cc_worked.proofs.PiecesOpened.{computed, neither}
@@ -29,7 +30,7 @@ asks = record { page = page 0; writes = refl; log = refl; stamped = refl; newest
 pub returns-clause-done : goal.returns-clause-done
 unfolding computed
 returns-clause-done c =
-    done_by 1 4 (Some 0) first_page reply.Unit (synced 1 ∷ ends 1 0 ∷ begins 1 0 ∷ entry.Flushed 1 0 2 ∷ []) stamped_twice (record { each = ((λ is. refl), ((λ is. refl), ((λ is. refl), ((λ is. asks), tt)))); one_sync = omega arith; whole = refl }) refl refl (record { after = []; before = ends 1 0 ∷ begins 1 0 ∷ entry.Flushed 1 0 2 ∷ []; split = refl; quiet = tt; settled = refl })
+    done_by 1 4 (Some 0) first_page reply.Unit (synced 1 ∷ ends 1 0 ∷ begins 1 0 ∷ entry.Flushed 1 0 2 ∷ []) stamped_twice (record { each = ((λ is. (refl, some-begin (λ moment. is_admitted first_page 0 moment ≡ true) (ends 1 0 ∷ begins 1 0 ∷ entry.Flushed 1 0 2 ∷ []) stamped_twice refl)), ((λ is. refl), ((λ is. refl), ((λ is. asks), tt)))); one_sync = omega arith; whole = refl }) refl refl (record { after = []; before = ends 1 0 ∷ begins 1 0 ∷ entry.Flushed 1 0 2 ∷ []; split = refl; quiet = tt; settled = refl })
 
 pub returns-clause-log_failed : goal.returns-clause-log_failed
 unfolding computed
@@ -43,7 +44,9 @@ or_false false is = is
 -- the only page that the flush writes is the first
 first_of : (to : ℕ) (past : List Entry) → (asked : AsksLog (Calls first_page) 0 to past) → (asked.page.stream ≡ 0) × (asked.page.page ≡ 0)
 first_of to past asked =
-    let writes : ((0 == asked.page.stream && has_page (record { from = 0; to = 4096 }) asked.page.page)) ≡ true = or_false (0 == asked.page.stream && has_page (record { from = 0; to = 4096 }) asked.page.page) asked.writes in
+    let names : Bool = 0 == asked.page.stream && has_page (record { from = 0; to = 4096 }) asked.page.page in
+    let asks : (is_admitted first_page asked.page.stream past && names) ≡ true = or_false (is_admitted first_page asked.page.stream past && names) asked.writes in
+    let writes : names ≡ true = (and_parts (is_admitted first_page asked.page.stream past) names asks).1 in
     let parts = and_parts (0 == asked.page.stream) (has_page (record { from = 0; to = 4096 }) asked.page.page) writes in
     let below : 4096 * asked.page.page < 4096 = ltb-true (4096 * asked.page.page) 4096 (and_parts (nat_lt 0 (4096 * asked.page.page + 4096)) (nat_lt (4096 * asked.page.page) 4096) parts.1).1 in
     (sym (eqb-true 0 asked.page.stream parts.0), omega (arith, below))

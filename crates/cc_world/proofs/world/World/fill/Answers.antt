@@ -32,8 +32,8 @@ invariant_of-self g c =
     let known : c.args.page.stream < length c.self.inside.begun.value.disks.items = subst (λ w. c.args.page.stream < length w.begun.disks) (sym c.self.view_is) c.requires in
     let within : c.from.result < length c.self.inside.rows.items = omega (arith, c.from.ensures, c.number.ensures.same, c.self.invariant.0.rows.counted, known) in
     let there = read-there c.self.inside.rows.items c.from.result c.index_mut-row.result.now within c.index_mut-row.ensures.value in
-    let both = stepped _ _ c.self.invariant.0 c.from.result c.index_mut-row.result.now there (event.Fill c.args.pass c.args.page) c.fill.result c.fill.new.self c.fill.new.journal (ap (λ (n : ℕ). OnStream n) (sym (c.from.ensures ∙ (c.number.ensures.same ∙ c.stream.ensures))))
-    (c.fill.ensures.left _ _ (row-stands _ _ c.self.invariant.0 c.from.result c.index_mut-row.result.now there)) in
+    let both = stepped _ _ c.self.invariant.0 c.from.result c.index_mut-row.result.now there (event.Fill c.args.pass c.args.page) c.fill-reply.result c.fill-reply.new.self c.fill-reply.new.journal c.note_capacity.ensures (ap (λ (n : ℕ). OnStream n) (sym (c.from.ensures ∙ (c.number.ensures.same ∙ c.stream.ensures))))
+    (c.fill-reply.ensures.left _ _ (row-stands _ _ c.self.invariant.0 c.from.result c.index_mut-row.result.now there)) in
     (both.0, c.self.invariant.1, c.self.invariant.2)
 
 pub returns : goal.returns
@@ -41,7 +41,7 @@ returns g c =
     let known : c.args.page.stream < length c.self.inside.begun.value.disks.items = subst (λ w. c.args.page.stream < length w.begun.disks) (sym c.self.view_is) c.requires in
     let within : c.from.result < length c.self.inside.rows.items = omega (arith, c.from.ensures, c.number.ensures.same, c.self.invariant.0.rows.counted, known) in
     let there = read-there c.self.inside.rows.items c.from.result c.index_mut-row.result.now within c.index_mut-row.ensures.value in
-    let both = stepped _ _ c.self.invariant.0 c.from.result c.index_mut-row.result.now there (event.Fill c.args.pass c.args.page) c.fill.result c.fill.new.self c.fill.new.journal (ap (λ (n : ℕ). OnStream n) (sym (c.from.ensures ∙ (c.number.ensures.same ∙ c.stream.ensures))))
-    (c.fill.ensures.left _ _ (row-stands _ _ c.self.invariant.0 c.from.result c.index_mut-row.result.now there)) in
-    subst (λ w. Stepped (tells_of g.D.Told.told g.D.Told.faults g.L.LogFile.told g.L.LogFile.faults g.Q.PostRoutine.posted) (event.Fill c.args.pass c.args.page) c.fill.result w
-    (world_of c.self.inside.begun.value (slice_set c.self.inside.rows.items c.from.result c.fill.new.self) c.self.inside.logs.items c.fill.new.journal)) c.self.view_is both.1
+    let both = stepped _ _ c.self.invariant.0 c.from.result c.index_mut-row.result.now there (event.Fill c.args.pass c.args.page) c.fill-reply.result c.fill-reply.new.self c.fill-reply.new.journal c.note_capacity.ensures (ap (λ (n : ℕ). OnStream n) (sym (c.from.ensures ∙ (c.number.ensures.same ∙ c.stream.ensures))))
+    (c.fill-reply.ensures.left _ _ (row-stands _ _ c.self.invariant.0 c.from.result c.index_mut-row.result.now there)) in
+    subst (λ w. Stepped (tells_of g.D.Told.told g.D.Told.faults g.L.LogFile.told g.L.LogFile.faults g.Q.PostRoutine.posted) (event.Fill c.args.pass c.args.page) c.fill-reply.result w
+    (world_of c.self.inside.begun.value (slice_set c.self.inside.rows.items c.from.result c.fill-reply.new.self) c.self.inside.logs.items c.fill-reply.new.journal)) c.self.view_is both.1
