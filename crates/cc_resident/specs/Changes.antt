@@ -1,7 +1,7 @@
 -- What changes of the resident pages of a stream.
 use Rattle.std.specs.Prelude.{◌≡◌, ◌≢◌, ℕ, ◌*◌, ◌/◌, ◌<◌, ◌≤◌, Bool, true, false, ◌&&◌, nat_le, nat_lt, Option, None}
 use Rattle.std.specs.Option.{option_map}
-use Rattle.cc_entry.specs.Pages.{has_byte}
+use Rattle.cc_entry.specs.Pages.{has_byte, has_page}
 use Rattle.cc_entry.specs.Place.{Range}
 use Rattle.cc_pages.specs.Pages.{Page}
 use Rattle.cc_views.specs.Views.{Mapped}
@@ -23,6 +23,10 @@ pub record SameBytes (old new : Mapped) : Type 0 where
 abbrev pub StaysOwned : Mapped → Mapped → Type 0
 StaysOwned old new = (p : ℕ) → is_shared old p ≡ false → is_shared new p ≡ false
 
+-- only pages with bytes of a range came to be owned, and none came to be shared but there
+abbrev pub OwnsOnly : Mapped → Mapped → Range → Type 0
+OwnsOnly old new range = (p : ℕ) → has_page range p ≡ false → is_shared new p ≡ is_shared old p
+
 -- no page but one came to be shared, or owned
 abbrev pub SharesOnly : Mapped → Mapped → ℕ → Type 0
 SharesOnly old new page = (p : ℕ) → p ≢ page → is_shared new p ≡ is_shared old p
@@ -43,12 +47,20 @@ pub record Cuts (old new : Mapped) (size : ℕ) : Type 0 where
   pub below : (i : ℕ) → i < size → byte_at new i ≡ byte_at old i
   pub past : (i : ℕ) → size ≤ i → 4096 * (i / 4096) < size → byte_at new i ≡ option_map (λ _. 0) (byte_at old i)
 
+-- whether a number is one of those from a first one up to, and without, another
+abbrev pub is_between : ℕ → ℕ → ℕ → Bool
+is_between from to i = nat_le from i && nat_lt i to
+
 -- Of the steps: the frame of one page becomes so, and every other one is as it was
 pub record Puts (old new : Mapped) (page : ℕ) (frame : Option Page) : Type 0 where
   pub here : frame_at new page ≡ frame
   pub others : (p : ℕ) → p ≢ page → frame_at new p ≡ frame_at old p
   pub quota : new.quota ≡ old.quota
   pub size : new.size ≡ old.size
+
+-- Of the steps: only pages from one up to, and without, another came to be owned or shared
+abbrev pub OwnsBetween : Mapped → Mapped → ℕ → ℕ → Type 0
+OwnsBetween old new from to = (p : ℕ) → is_between from to p ≡ false → is_shared new p ≡ is_shared old p
 
 -- every frame is as it was
 pub record Keeps (old new : Mapped) : Type 0 where
@@ -77,7 +89,3 @@ pub record CutsPages (old new : Mapped) (size : ℕ) : Type 0 where
   pub kept : (p : ℕ) → 4096 * p < size → frame_at new p ≡ frame_at old p
   pub quota : new.quota ≡ old.quota
   pub sized : new.size ≡ size
-
--- whether a number is one of those from a first one up to, and without, another
-abbrev pub is_between : ℕ → ℕ → ℕ → Bool
-is_between from to i = nat_le from i && nat_lt i to

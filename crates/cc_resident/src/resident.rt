@@ -6,7 +6,7 @@ ghost use Rattle.std.specs.Option.{option_copied};
 ghost use Rattle.cc_entry.specs.Pages.{block_of, blocks_of, pages_of, whole_range};
 ghost use Rattle.cc_views.specs.Views.{IsSound, first_not_in};
 ghost use Rattle.cc_resident.specs.Residents.{page_at, is_resident, all_resident, all_mapped, is_shared, AllOwned, rest_of_page, blocks, has_pages, is_among, used};
-ghost use Rattle.cc_resident.specs.Changes.{KeepsOthers, Keeps, SameBytes, StaysOwned, SharesOnly, Covers, Zeroes, Cuts, CutsPages, is_between};
+ghost use Rattle.cc_resident.specs.Changes.{KeepsOthers, Keeps, SameBytes, StaysOwned, OwnsOnly, SharesOnly, Covers, Zeroes, Cuts, CutsPages, is_between};
 
 use crate::steps;
 use cc_entry::{NoMemory, Quota};
@@ -124,12 +124,13 @@ impl ResidentPages {
         steps::share(&mut self.views, page)
     }
 
-    /// Makes the resident pages with bytes of a range owned, by a copy of each that is shared. Answers `NoMemory`, and
-    /// then no byte has changed, but some of the pages may be owned.
+    /// Makes the resident pages with bytes of a range owned, and no other, by a copy of each that is shared. Answers
+    /// `NoMemory`, and then no byte has changed, but some of the pages may be owned.
     pub fn own_range(&mut self, from: u64, to: u64) -> Result<(), NoMemory>
         ensures owned { OnOk result (AllOwned self.new (record { from = from; to = to })) }
         ensures bytes { SameBytes self.old self.new }
         ensures stays { StaysOwned self.old self.new }
+        ensures only { OwnsOnly self.old self.new (record { from = from; to = to }) }
     {
         if from < to {
             steps::own_span(&mut self.views, from / 4096, to.div_ceil(4096))
@@ -144,6 +145,7 @@ impl ResidentPages {
         ensures owned { OnOk result (AllOwned self.new (rest_of_page size)) }
         ensures bytes { SameBytes self.old self.new }
         ensures stays { StaysOwned self.old self.new }
+        ensures only { OwnsOnly self.old self.new (rest_of_page size) }
     {
         steps::own_span(&mut self.views, size / 4096, size.div_ceil(4096))
     }

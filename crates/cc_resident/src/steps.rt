@@ -6,7 +6,7 @@ ghost use Rattle.cc_entry.specs.Pages.{block_of};
 ghost use Rattle.cc_pages.specs.Pages.{owned, page_at as page_in, bytes_at, is_owned, overwritten, KeepsOthers};
 ghost use Rattle.cc_views.specs.Views.{frames_at, IsSound};
 ghost use Rattle.cc_resident.specs.Residents.{frame_at, page_at, shares, is_shared, blocks, has_pages, used, without};
-ghost use Rattle.cc_resident.specs.Changes.{Puts, Keeps, SameBytes, StaysOwned, SharesOnly, Clears, is_between};
+ghost use Rattle.cc_resident.specs.Changes.{Puts, Keeps, SameBytes, StaysOwned, SharesOnly, OwnsBetween, Clears, is_between};
 
 use cc_entry::NoMemory;
 use cc_pages::{Frame, Frames};
@@ -78,6 +78,7 @@ pub(crate) fn own_span(views: &mut Views, from: u64, to: u64) -> Result<(), NoMe
     ensures owned { OnOk result ((p : ℕ) → from ≤ p → p < to → is_shared views.new p ≡ false) }
     ensures bytes { SameBytes views.old views.new }
     ensures stays { StaysOwned views.old views.new }
+    ensures only { OwnsBetween views.old views.new from to }
 {
     // The size is what says that the numbers of the pages are in range.
     let _size = views.size();
@@ -168,6 +169,7 @@ fn own_in_block(views: &mut Views, block: u64, from: u64, to: u64) -> Result<(),
         is_shared views.new p ≡ false) }
     ensures bytes { SameBytes views.old views.new }
     ensures stays { StaysOwned views.old views.new }
+    ensures only { OwnsBetween views.old views.new from to }
 {
     for page in max(64 * block, from)..min(64 * block + 64, to) {
         own(views, page)?;
@@ -180,6 +182,7 @@ fn own(views: &mut Views, page: u64) -> Result<(), NoMemory>
     ensures owned { OnOk result (is_shared views.new page ≡ false) }
     ensures bytes { SameBytes views.old views.new }
     ensures stays { StaysOwned views.old views.new }
+    ensures only { SharesOnly views.old views.new page }
 {
     match views.frames_mut(page / 64) {
         Some(frames) => own_in(frames, (page % 64) as u8),

@@ -19,6 +19,7 @@ loop-place-preserved c =
       owned = owned_more c.loop-place.views c.own_in_block.new.views (blocks old) place block c.args.from c.args.to at c.loop-place.invariant.owned c.own_in_block.ensures.stays c.in_ok-own_in_block.ensures.owned;
       bytes = SameBytes-then old c.loop-place.views c.own_in_block.new.views c.loop-place.invariant.bytes c.own_in_block.ensures.bytes;
       stays = λ p own. c.own_in_block.ensures.stays p (c.loop-place.invariant.stays p own);
+      only = λ p outside. c.own_in_block.ensures.only p outside ∙ c.loop-place.invariant.only p outside;
     }
 
 pub returns-clause-owned : goal.returns-clause-owned
