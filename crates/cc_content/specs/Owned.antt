@@ -6,8 +6,8 @@ use Rattle.cc_entry.specs.Place.{Range}
 use Rattle.cc_entry.specs.declared.call.Call.{Call}
 use Rattle.cc_entry.specs.declared.call.Call.TheVariants as call
 use Rattle.cc_views.specs.Views.{Mapped}
-use Rattle.cc_resident.specs.Residents.{AllOwned, rest_of_page}
-use Rattle.cc_resident.specs.Changes.{SameBytes}
+use Rattle.cc_resident.specs.Residents.{is_shared, AllOwned, rest_of_page}
+use Rattle.cc_resident.specs.Changes.{SameBytes, OwnsOnly}
 use Rattle.cc_model.specs.History.{Effect}
 use Rattle.cc_content.specs.Contents.{Contents, ContentsStand}
 
@@ -31,6 +31,16 @@ AllOwnedAmong other r = Unit {0}
 -- the pages that a done call changes in place are owned; the last is the size that an uninitialise sets
 abbrev pub OwnsChanged : Contents → Call → Option ℕ → Type 0
 OwnsChanged c call truncation = AllOwnedAmong c.pages (changed_range call truncation)
+
+-- where pages are kept, only those with bytes of the range, where there is one, came to be owned
+abbrev pub OwnsOnlyAmong : Option Mapped → Option Mapped → Option Range → Type 0
+OwnsOnlyAmong (Some old) (Some new) (Some r) = OwnsOnly old new r
+OwnsOnlyAmong (Some old) (Some new) None = (p : ℕ) → is_shared new p ≡ is_shared old p
+OwnsOnlyAmong old new r = Unit {0}
+
+-- only pages that a done call changes in place came to be owned
+abbrev pub OwnsOnlyChanged : Contents → Contents → Call → Option ℕ → Type 0
+OwnsOnlyChanged old new call truncation = OwnsOnlyAmong old.pages new.pages (changed_range call truncation)
 
 -- there is a map with the same pages and bytes, or there was and is none
 abbrev pub SameMap : Option Mapped → Option Mapped → Type 0

@@ -19,7 +19,7 @@ ghost use Rattle.cc_content.specs.Contents.{ContentsStand};
 ghost use Rattle.cc_content.specs.Done.{is_look, Uses, used_if};
 ghost use Rattle.cc_content.specs.Filling.{HasRoomFor};
 ghost use Rattle.cc_content.specs.Following.{MayFollow, IsFollowing, IsFollowingWrite, IsFollowable, takes_memory, Finds, FindsOpen, AllKept, AllMapped, IsCutWithin, span_below, looked_range};
-ghost use Rattle.cc_content.specs.Owned.{changed_range, AllOwnedAmong, OwnsChanged, SameContents};
+ghost use Rattle.cc_content.specs.Owned.{changed_range, AllOwnedAmong, OwnsOnlyAmong, OwnsChanged, OwnsOnlyChanged, SameContents};
 ghost use Rattle.cc_resident.specs.Residents.{rest_of_page};
 
 use crate::changes;
@@ -30,12 +30,13 @@ use std::alloc::Global;
 use std::cmp::min;
 
 impl Contents {
-    /// Makes the pages owned that a done call changes in place, by a copy of each that is shared. `truncation` is
-    /// the size that an uninitialise sets, where it sets one. Answers `NoMemory`, and then no byte has changed, but
-    /// some of the pages may be owned.
+    /// Makes the pages owned that a done call changes in place, and no other, by a copy of each that is shared.
+    /// `truncation` is the size that an uninitialise sets, where it sets one. Answers `NoMemory`, and then no byte has
+    /// changed, but some of the pages may be owned.
     pub fn own(&mut self, call: &Call, truncation: Option<u64>) -> Result<(), NoMemory>
         requires may { IsFollowable call.now truncation self.old }
         ensures owned { OnOk result (OwnsChanged self.new call.now truncation) }
+        ensures only { OwnsOnlyChanged self.old self.new call.now truncation }
         ensures same { SameContents self.old self.new }
         ensures sure { changed_range call.now truncation ≡ None → IsOk result }
     {
@@ -132,6 +133,7 @@ impl Contents {
     // Makes the pages of a range owned.
     fn own_range(&mut self, from: u64, to: u64) -> Result<(), NoMemory>
         ensures owned { OnOk result (AllOwnedAmong self.new.pages (Some (record { from = from; to = to }))) }
+        ensures only { OwnsOnlyAmong self.old.pages self.new.pages (Some (record { from = from; to = to })) }
         ensures same { SameContents self.old self.new }
     {
         match &mut self.pages {
@@ -143,6 +145,7 @@ impl Contents {
     // Makes the page owned that has bytes on both sides of a size.
     fn own_rest(&mut self, size: u64) -> Result<(), NoMemory>
         ensures owned { OnOk result (AllOwnedAmong self.new.pages (Some (rest_of_page size))) }
+        ensures only { OwnsOnlyAmong self.old.pages self.new.pages (Some (rest_of_page size)) }
         ensures same { SameContents self.old self.new }
     {
         match &mut self.pages {
