@@ -1,14 +1,15 @@
 -- The first row of the dirty page table that is of a span from a page on, and the span's dirty pages.
-use Rattle.std.specs.Prelude.{◌≡◌, ℕ, suc, ◌<◌, ◌≤◌, ◌⊎◌, Bool, true, false, cond, ◌&&◌, ◌==◌, nat_le, is_some, List, [], ◌∷◌, Option, None, Some, refl}
+use Rattle.std.specs.Prelude.{◌≡◌, ℕ, suc, ◌<◌, ◌≤◌, ◌⊎◌, ◌+◌, ◌-◌, ◌/◌, max, Bool, true, false, cond, ◌&&◌, ◌==◌, nat_le, nat_lt, if◌then◌else◌, is_some, List, [], ◌∷◌, Option, None, Some, refl}
 use Rattle.std.specs.List.{find, All, AllPairs}
 use Rattle.std.specs.Option.{option_map}
 use Rattle.std.proofs.Common.{ap, sym, subst, ◌∙◌, arith, inl, inr}
 use Rattle.std.proofs.lemmas.Bool.{and_parts, and_from, eqb-true, eq-eqb, leb-true, le-leb}
 use Rattle.std.proofs.lemmas.Bool.Decides.{nat_tests}
+use Rattle.cc_entry.specs.Pages.{has_page}
 use Rattle.cc_entry.specs.Place.{Page, Range}
 use Rattle.cc_entry.specs.declared.entry.Entry.{Entry}
 use Rattle.cc_book.proofs.DirtyRows.{dirty-follows}
-use Rattle.cc_dirty.specs.Order.{same_page, precedes}
+use Rattle.cc_dirty.specs.Order.{same_page, precedes, is_from, is_between}
 use Rattle.cc_dirty.specs.Table.{row_of, Sound}
 use Rattle.cc_dirty.specs.declared.row.Row.{Row}
 use Rattle.cc_images.proofs.Found.{found-passes, found-too, none-fails, all-found}
@@ -17,7 +18,7 @@ use Rattle.cc_journal.specs.Rows.{Follows}
 use Rattle.cc_model.specs.History.{history}
 use Rattle.cc_model.specs.Ranges.{span_has}
 use Rattle.cc_model.specs.Touches.{is_dirty}
-use Rattle.cc_ranges.specs.Dirty.{is_of_span, IsNextDirty}
+use Rattle.cc_ranges.specs.Dirty.{is_of_span, pages_end, IsNextDirty}
 
 heads : {X : Type 0} (R : X → X → Type 0) (x : X) (xs : List X) → AllPairs R (x ∷ xs) → All (R x) xs
 heads R x xs pairs = λ k d lt. pairs 0 (suc k) d (omega arith) (omega arith)
@@ -41,6 +42,27 @@ found-order {X} R test other (z ∷ xs) x y pairs found also passes =
         inr (subst (λ (a : X). R a y) first (all-found (R z) other xs y (heads R z xs pairs) too))
     go false is it true too rest = let second : z ≡ y = cc in absurd (cc (ap test second))
     go false is it false too rest = rest it too passes
+
+-- tests that answer alike find the same
+find-alike : {X : Type 0} (test other : X → Bool) → ((x : X) → test x ≡ other x) → (xs : List X) → find test xs ≡ find other xs
+find-alike test other alike [] = refl
+find-alike test other alike (x ∷ xs) = rw (alike x, find-alike test other alike xs) refl
+
+-- the rows from a page on are those of the whole stream from it on
+pub first-of-all : (s from : ℕ) (rows : List Row) → find (λ (r : Row). is_from s from r.page) rows ≡ find (is_of_span s None from) rows
+first-of-all s from = find-alike (λ (r : Row). is_from s from r.page) (is_of_span s None from) (λ r. all (r.page.stream == s) (nat_le from r.page.page))
+  where
+    all : (here above : Bool) → (here && above) ≡ (here && (above && true))
+    all here true = refl
+    all here false = refl
+
+-- the pages of a range, from a page on, lie between two numbers
+in_span : (s from : ℕ) (span : Range) (q : Page) (some : Bool) → nat_lt span.from span.to ≡ some → is_between s (max from (span.from / 4096)) (if some then (span.to - 1) / 4096 + 1 else 0) q ≡ ((q.stream == s) && (nat_le from q.page && has_page span q.page))
+in_span s from span q true some = grind (arith, nat_tests)
+in_span s from span q false none = grind (arith, nat_tests)
+
+pub first-of-span : (s from : ℕ) (span : Range) (rows : List Row) → find (λ (r : Row). is_between s (max from (span.from / 4096)) (pages_end span) r.page) rows ≡ find (is_of_span s (Some span) from) rows
+first-of-span s from span = find-alike (λ (r : Row). is_between s (max from (span.from / 4096)) (pages_end span) r.page) (is_of_span s (Some span) from) (λ r. in_span s from span r.page (nat_lt span.from span.to) refl)
 
 page_at : ℕ → ℕ → Page
 page_at s p = record { stream = s; page = p }

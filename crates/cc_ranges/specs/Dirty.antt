@@ -1,7 +1,8 @@
 -- The next dirty page of a span.
-use Rattle.std.specs.Prelude.{◌≡◌, ℕ, ◌<◌, ◌≤◌, Bool, true, false, ◌&&◌, ◌==◌, nat_le, List}
+use Rattle.std.specs.Prelude.{◌≡◌, ℕ, ◌+◌, ◌<◌, ◌≤◌, Bool, true, false, ◌&&◌, ◌==◌, nat_le, nat_lt, List, if◌then◌else◌}
 use Rattle.std.specs.declared.option.Option.{Option}
 use Rattle.std.specs.declared.option.Option.TheVariants.{Some, None}
+use Rattle.cc_entry.specs.Pages.{last_page}
 use Rattle.cc_entry.specs.Place.{Range}
 use Rattle.cc_dirty.specs.declared.row.Row.{Row}
 use Rattle.cc_model.specs.History.{Effect}
@@ -23,6 +24,10 @@ pub record IsNext (h : List Effect) (span : Option Range) (from page : ℕ) : Ty
 abbrev pub IsNextDirty : List Effect → Option Range → ℕ → Option ℕ → Type 0
 IsNextDirty h span from None = IsCleanFrom h span from
 IsNextDirty h span from (Some page) = IsNext h span from page
+
+-- the number after that of the last page of a range, 0 where the range is empty
+abbrev pub pages_end : Range → ℕ
+pages_end r = if nat_lt r.from r.to then last_page r + 1 else 0
 
 -- whether a row is of a page of a stream's span, from one page on
 abbrev pub is_of_span : ℕ → Option Range → ℕ → Row → Bool

@@ -1,14 +1,12 @@
 //! The next dirty page of a span.
 
 ghost use Rattle.std.specs.Prelude.{◌≡◌, ◌<◌, ◌^◌, find, IfSome};
-ghost use Rattle.std.specs.Option.{option_map};
-ghost use Rattle.cc_dirty.specs.declared.row.Row.{Row};
 ghost use Rattle.cc_model.specs.History.{history};
-ghost use Rattle.cc_ranges.specs.Dirty.{IsNextDirty, is_of_span};
+ghost use Rattle.cc_dirty.specs.Table.{Sound};
+ghost use Rattle.cc_ranges.specs.Dirty.{IsNextDirty, is_of_span, pages_end};
 
-use cc_dirty::Row;
+use cc_dirty::{DirtyTable, Row};
 use cc_entry::{Span, StreamId};
-use cc_events::span_has;
 use cc_journal::Journal;
 
 /// The least dirty page of a span of a stream, from a page on; of the whole stream where no span is said.
@@ -21,25 +19,33 @@ pub fn next_dirty<Q>(
     ensures next { IsNextDirty (history journal.now.entries stream) span from result }
     ensures numbered { IfSome result (λ page. page < 2 ^ 51) }
 {
-    first_from(journal.dirty().rows(), stream, span, from)
+    match first_of_span(journal.dirty(), stream, span, from) {
+        Some(row) => Some(row.page.page()),
+        None => None,
+    }
 }
 
-// The page of the first row that is of the span.
-fn first_from(rows: &[Row], stream: StreamId, span: Option<Span>, from: u64) -> Option<u64>
-    ensures first { result ≡ option_map (λ (row : Row). row.page.page) (find (is_of_span stream span from) rows.now) }
-    ensures numbered { IfSome result (λ page. page < 2 ^ 51) }
+// The first row that is of the span, from a page on.
+fn first_of_span(table: &DirtyTable, stream: StreamId, span: Option<Span>, from: u64) -> Option<Row>
+    ensures first { result ≡ find (is_of_span stream span from) table.now.rows }
+    ensures sound { Sound table.now.rows }
 {
-    rows.iter()
-        .find(|row| is_of_span(row, stream, span, from))
-        .map(|row| row.page.page())
+    match span {
+        None => table.first_from(stream, from),
+        Some(span) => {
+            let first = from.max(span.from() / 4096);
+            table.first_between(stream, first, pages_end(span))
+        }
+    }
 }
 
-// Whether a row is of a page of a stream's span, from a page on.
-fn is_of_span(row: &Row, stream: StreamId, span: Option<Span>, from: u64) -> bool
-    ensures { result ≡ is_of_span stream span from row.now }
+// The number after that of the last page of a span, 0 where the span is empty.
+fn pages_end(span: Span) -> u64
+    ensures { result ≡ pages_end span }
 {
-    let page = row.page.page();
-    row.page.stream().number() == stream.number()
-        && from <= page
-        && span_has(span, u128::from(page))
+    if span.from() < span.to() {
+        (span.to() - 1) / 4096 + 1
+    } else {
+        0
+    }
 }
