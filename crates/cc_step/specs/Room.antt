@@ -1,5 +1,5 @@
 -- Room for the block of a page, and the block to give up to make it.
-use Rattle.std.specs.Prelude.{◌≡◌, ℕ, ◌<◌, ◌||◌, ◌&&◌, ◌==◌, nat_lt, Bool, true, false, List}
+use Rattle.std.specs.Prelude.{◌≡◌, ℕ, ◌<◌, ◌||◌, nat_lt, Bool, true, false, List}
 use Rattle.std.specs.declared.option.Option.{Option}
 use Rattle.std.specs.declared.option.Option.TheVariants.{Some, None}
 use Rattle.cc_entry.specs.Pages.{block_of}
@@ -7,7 +7,6 @@ use Rattle.cc_entry.specs.Place.{Range}
 use Rattle.cc_entry.specs.declared.call.Call.{Call}
 use Rattle.cc_entry.specs.declared.entry.Entry.{Entry}
 use Rattle.cc_book.specs.Book.{BookState, BookStands}
-use Rattle.cc_dirty.specs.declared.row.Row.{Row}
 use Rattle.cc_effects.specs.Asked.{block_to_go}
 use Rattle.cc_model.specs.Good.{IsGood}
 use Rattle.cc_model.specs.History.{Effect, history}
@@ -39,10 +38,6 @@ pub record IsCrowded (u : Setup) (past : List Entry) (it : Call) (page : ℕ) (b
 abbrev pub IsToGo : List Effect → Option Range → ℕ → Type 0
 IsToGo h None block = ⊥
 IsToGo h (Some r) block = block_to_go h r ≡ Some block
-
--- whether a row of the dirty page table is of a page of a stream's block
-abbrev pub is_in : ℕ → ℕ → Row → Bool
-is_in stream block row = row.page.stream == stream && block_of row.page.page == block
 
 -- a dirty page of a block was found, or there is none
 abbrev pub IsDirtyIn : List Effect → ℕ → Option ℕ → Type 0

@@ -1,11 +1,8 @@
 //! Room for the block of a page, and the block to give up to make it.
 
 ghost use Rattle.std.specs.Prelude.{◌≡◌, ℕ, ◌*◌, ◌<◌, ◌^◌, nat_lt, true, List, Option, Some, IfOk};
-ghost use Rattle.std.specs.List.{find};
-ghost use Rattle.std.specs.Option.{option_map};
 ghost use Rattle.cc_entry.specs.declared.entry.Entry.{Entry};
 ghost use Rattle.cc_book.specs.Book.{BookStands};
-ghost use Rattle.cc_dirty.specs.declared.row.Row.{Row};
 ghost use Rattle.cc_effects.specs.Asked.{makes_room};
 ghost use Rattle.cc_model.specs.History.{history};
 ghost use Rattle.cc_model.specs.Ranges.{range_of, cut_range};
@@ -14,11 +11,10 @@ ghost use Rattle.cc_model.specs.Sizes.{stored_range};
 ghost use Rattle.cc_model.specs.Touches.{size_of, valid_of};
 ghost use Rattle.cc_step.specs.Step.{is_answered};
 ghost use Rattle.cc_step.specs.Fill.{page_of};
-ghost use Rattle.cc_step.specs.Room.{has_room, IsWaiting, IsCrowded, IsToGo, is_in, IsDirtyIn, IsLeastIn};
+ghost use Rattle.cc_step.specs.Room.{has_room, IsWaiting, IsCrowded, IsToGo, IsDirtyIn, IsLeastIn};
 
 use cc_book::Book;
-use cc_dirty::Row;
-use cc_entry::{Call, NoMemory, PageId, Span, StreamId};
+use cc_entry::{Call, NoMemory, PageId, Span};
 use cc_journal::Journal;
 use std::alloc::Global;
 
@@ -103,27 +99,19 @@ fn span_below(book: &Book, at: u64, len: u64) -> Option<Span>
     Span::new(at, end.min(u128::from(book.size())) as u64)
 }
 
-/// A dirty page of a block, where there is one.
+/// The least dirty page of a block, where there is one.
 pub(crate) fn dirty_in<Q>(book: &Book, journal: &Journal<Q>, block: u64) -> Option<u64>
+    requires { block < 2 ^ 45 }
     ensures { IsDirtyIn (history journal.now.entries book.now.stream) block result }
 {
-    row_in(journal.dirty().rows(), book.stream(), block)
-}
-
-// The page of the first row that is of a stream's block.
-fn row_in(rows: &[Row], stream: StreamId, block: u64) -> Option<u64>
-    ensures { result ≡ option_map (λ (row : Row). row.page.page) (find (is_in stream block) rows.now) }
-{
-    rows.iter()
-        .find(|row| is_in(row, stream, block))
-        .map(|row| row.page.page())
-}
-
-// Whether a row is of a page of a stream's block.
-fn is_in(row: &Row, stream: StreamId, block: u64) -> bool
-    ensures { result ≡ is_in stream block row.now }
-{
-    row.page.stream().number() == stream.number() && row.page.page() / 64 == block
+    let first = 64 * block;
+    match journal
+        .dirty()
+        .first_between(book.stream(), first, first + 64)
+    {
+        Some(row) => Some(row.page.page()),
+        None => None,
+    }
 }
 
 /// The least resident page of a block.
