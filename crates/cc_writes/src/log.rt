@@ -1,8 +1,6 @@
 //! The log of a page that is to be written, and what the calls on a log need of it.
 
 ghost use Rattle.std.specs.Prelude.{◌≡◌, ◌<◌, false, None, Some};
-ghost use Rattle.cc_dirty.specs.Order.{same_page};
-ghost use Rattle.cc_dirty.specs.Table.{row_of};
 ghost use Rattle.cc_model.specs.Good.{IsGood};
 ghost use Rattle.cc_model.specs.History.{history};
 ghost use Rattle.cc_model.specs.Images.{open_of};
@@ -92,7 +90,7 @@ fn newest_reserved<Q>(journal: &mut Journal<Q>, page: PageId) -> Result<Option<L
     requires rest { open_of (history journal.old.entries page.stream) ≡ None }
     ensures { ReservedLeft page result journal.old journal.new }
 {
-    match newest_later(journal.dirty().rows(), page) {
+    match newest_later(journal.dirty().row_of(page)) {
         Some(newest) => match journal.reserve(1) {
             Ok(()) => Ok(Some(newest)),
             Err(error) => Err(error),
@@ -101,26 +99,11 @@ fn newest_reserved<Q>(journal: &mut Journal<Q>, page: PageId) -> Result<Option<L
     }
 }
 
-// The newest LSN of what was touched of a page since its last transfer began.
-fn newest_later(rows: &[Row], page: PageId) -> Option<Lsn>
-    ensures { result ≡ newest_later (row_of rows.now page) }
+// The newest LSN of what was touched of a row's page since its last transfer began.
+fn newest_later(row: Option<Row>) -> Option<Lsn>
+    ensures { result ≡ newest_later row }
 {
-    let row = row_of(rows, page)?;
-    row.later.lsns.map(|lsns| lsns.1)
-}
-
-// The row of a page.
-fn row_of(rows: &[Row], page: PageId) -> Option<Row>
-    ensures { result ≡ row_of rows.now page }
-{
-    rows.iter().copied().find(|row| is_of(row, page))
-}
-
-// Whether a row is a page's.
-fn is_of(row: &Row, page: PageId) -> bool
-    ensures { result ≡ same_page row.now.page page }
-{
-    row.page.stream().number() == page.stream().number() && row.page.page() == page.page()
+    row?.later.lsns.map(|lsns| lsns.1)
 }
 
 /// Flushes a log to an LSN, where it was not flushed so far. The place that is reserved for its entry is used, or given
