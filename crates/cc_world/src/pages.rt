@@ -3,8 +3,6 @@
 ghost use Rattle.std.specs.Prelude.{◌≡◌, ℕ, ◌*◌, nat_le, nat_lt, is_some, List, Option};
 ghost use Rattle.cc_entry.specs.declared.entry.Entry.{Entry};
 ghost use Rattle.cc_book.specs.Book.{BookStands};
-ghost use Rattle.cc_dirty.specs.Order.{same_page};
-ghost use Rattle.cc_dirty.specs.Table.{row_of};
 ghost use Rattle.cc_model.specs.History.{history};
 ghost use Rattle.cc_model.specs.Residency.{mapped_blocks_with};
 ghost use Rattle.cc_model.specs.Settings.{quota_of};
@@ -69,7 +67,7 @@ pub(crate) fn may_begin<L: LogFile, Q>(
     requires logs { IsLoggedBy book.now journal.now.entries logs.now }
     ensures { CanBegin book.now journal.now.entries page result }
 {
-    let Some(row) = row_of(journal.dirty().rows(), page) else {
+    let Some(row) = journal.dirty().row_of(page) else {
         return false;
     };
     if book.is_unstamped(page.page()) {
@@ -100,7 +98,7 @@ pub(crate) fn may_store<L: LogFile, Q>(
     if !has_room(book, page.page()) {
         return false;
     }
-    match row_of(journal.dirty().rows(), page) {
+    match journal.dirty().row_of(page) {
         Some(row) => is_flushed(book, logs, newest_later(&row)),
         None => true,
     }
@@ -123,21 +121,7 @@ fn has_room(book: &Book, page: u64) -> bool
 fn is_dirty<Q>(journal: &Journal<Q>, page: PageId) -> bool
     ensures { result ≡ is_dirty (history journal.now.entries page.stream) page.page }
 {
-    row_of(journal.dirty().rows(), page).is_some()
-}
-
-// The row of a page in the dirty page table.
-fn row_of(rows: &[Row], page: PageId) -> Option<Row>
-    ensures { result ≡ row_of rows.now page }
-{
-    rows.iter().copied().find(|row| is_of(row, page))
-}
-
-// Whether a row is a page's.
-fn is_of(row: &Row, page: PageId) -> bool
-    ensures { result ≡ same_page row.now.page page }
-{
-    row.page.stream().number() == page.stream().number() && row.page.page() == page.page()
+    journal.dirty().row_of(page).is_some()
 }
 
 // The newest LSN of what was touched of a page since its last transfer began.

@@ -1,8 +1,6 @@
 -- A page that a pin owes a stamp may not begin; any other with a row in the table may where its log is flushed.
-use Rattle.std.specs.Prelude.{◌≡◌, ℕ, true, false, List, Option}
+use Rattle.std.specs.Prelude.{◌≡◌, ℕ, true, false, Option}
 use Rattle.std.proofs.Common.{ap, sym, ◌∙◌, subst}
-use Rattle.cc_dirty.specs.declared.row.Row.{Row}
-use Rattle.cc_journal.specs.Rows.{Follows}
 use Rattle.cc_model.specs.Covered.{FlushedUpTo}
 use Rattle.cc_model.specs.History.{history}
 use Rattle.cc_model.specs.Settings.{log_of}
@@ -22,10 +20,10 @@ pub returns : goal.returns
 returns g c u opening good stands none =
     let past = c.args.journal.now.entries in
     let s = c.args.book.now.stream in
-    let rows = c.rows.result.now in
+    let rows = c.dirty.result.now.rows in
     let stamped : is_unstamped (history past s) c.args.page.page ≡ false =
     ap (λ (p : ℕ). is_unstamped (history past s) p) (sym c.page.ensures.same) ∙ (sym (c.is_unstamped.ensures opening past stands) ∙ c.if-is_unstamped.false) in
-    begins-there u past c.args.page s rows c.in-Some.row c.is_flushed.result c.requires.stream good c.rows.ensures.sound
-    (subst (λ (r : List Row). Follows past r) (sym c.rows.ensures.rows) c.dirty.ensures.follows) (sym c.row_of.ensures ∙ c.in-Some.is) stamped none
+    begins-there u past c.args.page s rows c.in-Some.row c.is_flushed.result c.requires.stream good c.row_of.ensures.sound
+    c.dirty.ensures.follows (sym c.row_of.ensures.row ∙ c.in-Some.is) stamped none
     (subst (λ (newest : Option ℕ). Says c.is_flushed.result (FlushedUpTo past (log_of (history past s)) newest)) c.newest_later.ensures
     (c.is_flushed.ensures opening past stands c.requires.logs.1))

@@ -1,10 +1,8 @@
 -- Owed a stamp, or without room for its view block, a page may not be stored; any other, if whole, may where its log is
 -- flushed to its newest LSN, of which a page without a row in the table has none.
-use Rattle.std.specs.Prelude.{◌≡◌, ℕ, true, nat_le, List, None, Option}
+use Rattle.std.specs.Prelude.{◌≡◌, ℕ, true, nat_le, None, Option}
 use Rattle.std.proofs.Common.{ap, sym, ◌∙◌, subst}
 use Rattle.std.proofs.lemmas.Bool.{le-leb}
-use Rattle.cc_dirty.specs.declared.row.Row.{Row}
-use Rattle.cc_journal.specs.Rows.{Follows}
 use Rattle.cc_model.specs.Covered.{FlushedUpTo}
 use Rattle.cc_model.specs.History.{history}
 use Rattle.cc_model.specs.Images.{open_of}
@@ -41,8 +39,8 @@ returns-in-Some g c opening stands none =
     let p = c.args.page.page in
     let newest : c.newest_later.result ≡ newest_of h p =
     c.newest_later.ensures
-    ∙ (newest-there past c.args.page c.rows.result.now c.in-Some.row (subst (λ (r : List Row). Follows past r) (sym c.rows.ensures.rows) c.dirty.ensures.follows)
-    (sym c.row_of.ensures ∙ c.in-Some.is) (ap (λ (n : ℕ). open_of (history past n)) c.requires.stream ∙ none)
+    ∙ (newest-there past c.args.page c.dirty.result.now.rows c.in-Some.row c.dirty.ensures.follows
+    (sym c.row_of.ensures.row ∙ c.in-Some.is) (ap (λ (n : ℕ). open_of (history past n)) c.requires.stream ∙ none)
     ∙ ap (λ (n : ℕ). newest_of (history past n) p) c.requires.stream) in
     stores past s p c.args.bytes.now c.is_flushed.result (sym c.len.ensures ∙ c.if-len-ne4096.false)
     (ap (λ (n : ℕ). is_unstamped h n) (sym c.page.ensures.same) ∙ (sym (c.is_unstamped.ensures opening past stands) ∙ c.if-is_unstamped.false))
@@ -58,7 +56,7 @@ returns-in-None g c opening stands none =
     let p = c.args.page.page in
     let newest : newest_of h p ≡ None =
     ap (λ (n : ℕ). newest_of (history past n) p) (sym c.requires.stream)
-    ∙ newest-none past c.args.page c.rows.result.now (subst (λ (r : List Row). Follows past r) (sym c.rows.ensures.rows) c.dirty.ensures.follows) (sym c.row_of.ensures ∙ c.in-None.is) in
+    ∙ newest-none past c.args.page c.dirty.result.now.rows c.dirty.ensures.follows (sym c.row_of.ensures.row ∙ c.in-None.is) in
     stores past s p c.args.bytes.now true (sym c.len.ensures ∙ c.if-len-ne4096.false)
     (ap (λ (n : ℕ). is_unstamped h n) (sym c.page.ensures.same) ∙ (sym (c.is_unstamped.ensures opening past stands) ∙ c.if-is_unstamped.false))
     (sym c.if-not-has_room.false ∙ (c.has_room.ensures opening past stands ∙ ap (λ (n : ℕ). nat_le (mapped_blocks_with h n) (quota_of h)) c.page-2.ensures.same))
