@@ -1,27 +1,37 @@
 -- What is unwritten of a page.
-use Rattle.std.specs.Prelude.{ℕ, Bool, true, false, ◌||◌, Option, None, Some, if◌then◌else◌}
+use Rattle.std.specs.Prelude.{ℕ, Bool, true, false, Option, None, Some, is_some, min, if◌then◌else◌}
 use Rattle.cc_dirty.specs.declared.row.Unwritten.{Unwritten}
 use Rattle.cc_dirty.specs.declared.row.Row.{Row}
 use Rattle.cc_entry.specs.Lsns.{joined as joined_lsns, alone}
 use Rattle.cc_entry.specs.Place.{Page}
 
 abbrev pub nothing : Unwritten
-nothing = record { touched = false; lsns = None }
+nothing = record { oldest = None; lsns = None }
+
+-- the lower of two places, where there are any
+abbrev pub lower : Option ℕ → Option ℕ → Option ℕ
+lower None b = b
+lower (Some a) None = Some a
+lower (Some a) (Some b) = Some (min a b)
 
 abbrev pub joined : Unwritten → Unwritten → Unwritten
-joined a b = record { touched = a.touched || b.touched; lsns = joined_lsns a.lsns b.lsns }
+joined a b = record { oldest = lower a.oldest b.oldest; lsns = joined_lsns a.lsns b.lsns }
 
--- with one touch more
-abbrev pub with_touch : Unwritten → Option ℕ → Unwritten
-with_touch u lsn = record { touched = true; lsns = joined_lsns u.lsns (alone lsn) }
+-- with one touch more, at this place
+abbrev pub with_touch : Unwritten → ℕ → Option ℕ → Unwritten
+with_touch u place lsn = record { oldest = lower u.oldest (Some place); lsns = joined_lsns u.lsns (alone lsn) }
+
+-- the place of the oldest touch of a row's page that is unwritten: one that a transfer under way took, or a later one
+abbrev pub oldest_in : Row → Option ℕ
+oldest_in r = lower r.begun.oldest r.later.oldest
 
 abbrev pub is_touched : Row → Bool
-is_touched r = r.begun.touched || r.later.touched
+is_touched r = is_some (oldest_in r)
 
--- the row of a page after a touch: what is begun stays apart
-abbrev pub touched_row : Page → Option ℕ → Option Row → Row
-touched_row page lsn None = record { page = page; begun = nothing; later = with_touch nothing lsn }
-touched_row page lsn (Some r) = record r { later = with_touch r.later lsn }
+-- the row of a page after a touch at a place: what is begun stays apart
+abbrev pub touched_row : Page → ℕ → Option ℕ → Option Row → Row
+touched_row page place lsn None = record { page = page; begun = nothing; later = with_touch nothing place lsn }
+touched_row page place lsn (Some r) = record r { later = with_touch r.later place lsn }
 
 -- a row after a WriteBegin, which takes all that is unwritten
 abbrev pub begun_row : Row → Row

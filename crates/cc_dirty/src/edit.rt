@@ -68,8 +68,8 @@ pub(crate) fn insert(rows: &mut Vec<Row>, place: usize, row: Row)
 {
     // Taken apart and put together again, so that the check finds the fields' types here.
     let Row { page, begun, later } = row;
-    let Unwritten { touched, lsns } = later;
-    let later = Unwritten { touched, lsns };
+    let Unwritten { oldest, lsns } = later;
+    let later = Unwritten { oldest, lsns };
     insert_reserved(rows, place, Row { page, begun, later });
 }
 

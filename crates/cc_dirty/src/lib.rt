@@ -1,5 +1,5 @@
-//! The dirty page table: which pages have changes that no write has reached yet, and the least and
-//! greatest LSN of those that were stamped.
+//! The dirty page table: which pages have changes that no write has reached yet, the place of the oldest
+//! of them, and the least and greatest LSN of those that were stamped.
 //!
 //! What a write in progress took stands apart from what was touched since, so that a good end leaves
 //! the later touches and a failed one joins both again. Rows stand by stream and page. Room is made

@@ -2,14 +2,16 @@
 
 ghost use Rattle.std.specs.Prelude.{◌≡◌, min, max};
 ghost use Rattle.cc_entry.specs.Lsns.{joined as joined_lsns};
+ghost use Rattle.cc_dirty.specs.Unwritten.{lower};
 ghost use Rattle.cc_dirty.specs.Order.{precedes, same_page, is_from, is_between};
 
 use cc_entry::{Lsn, PageId, StreamId};
 
-/// What is unwritten of a page: whether it was touched, and the least and greatest LSN of its stamps.
+/// What is unwritten of a page: the place of its oldest touch, where it was touched, and the least and greatest LSN of its
+/// stamps.
 #[derive(Clone, Copy)]
 pub struct Unwritten {
-    pub touched: bool,
+    pub oldest: Option<u64>,
     pub lsns: Option<(Lsn, Lsn)>,
 }
 
@@ -29,7 +31,7 @@ impl Unwritten {
         ensures { result ≡ nothing }
     {
         Unwritten {
-            touched: false,
+            oldest: None,
             lsns: None,
         }
     }
@@ -38,16 +40,16 @@ impl Unwritten {
         ensures { result ≡ joined self other }
     {
         Unwritten {
-            touched: self.touched || other.touched,
+            oldest: lower(self.oldest, other.oldest),
             lsns: joined_lsns(self.lsns, other.lsns),
         }
     }
 
-    fn with_touch(self, lsn: Option<Lsn>) -> Unwritten
-        ensures { result ≡ with_touch self lsn }
+    fn with_touch(self, place: u64, lsn: Option<Lsn>) -> Unwritten
+        ensures { result ≡ with_touch self place lsn }
     {
         Unwritten {
-            touched: true,
+            oldest: lower(self.oldest, Some(place)),
             lsns: joined_lsns(self.lsns, lsn.map(|lsn| (lsn, lsn))),
         }
     }
@@ -55,23 +57,23 @@ impl Unwritten {
 
 impl Row {
     ghost use Rattle.std.specs.Prelude.{◌≡◌, None, Some};
-    ghost use Rattle.cc_dirty.specs.Unwritten.{touched_row, begun_row, ended_row, is_touched};
+    ghost use Rattle.cc_dirty.specs.Unwritten.{touched_row, begun_row, ended_row, oldest_in, is_touched};
 
-    pub(crate) fn new(page: PageId, lsn: Option<Lsn>) -> Row
-        ensures { result ≡ touched_row page lsn None }
+    pub(crate) fn new(page: PageId, place: u64, lsn: Option<Lsn>) -> Row
+        ensures { result ≡ touched_row page place lsn None }
     {
         Row {
             page,
             begun: Unwritten::nothing(),
-            later: Unwritten::nothing().with_touch(lsn),
+            later: Unwritten::nothing().with_touch(place, lsn),
         }
     }
 
-    pub(crate) fn touched(self, lsn: Option<Lsn>) -> Row
-        ensures { result ≡ touched_row self.page lsn (Some self) }
+    pub(crate) fn touched(self, place: u64, lsn: Option<Lsn>) -> Row
+        ensures { result ≡ touched_row self.page place lsn (Some self) }
     {
         Row {
-            later: self.later.with_touch(lsn),
+            later: self.later.with_touch(place, lsn),
             ..self
         }
     }
@@ -101,11 +103,29 @@ impl Row {
         }
     }
 
-    /// Whether any touch of the page is unwritten: one that a transfer under way took, or a later one.
+    /// The place of the oldest touch of the page that is unwritten: one that a transfer under way took, or a later one.
+    pub fn oldest(&self) -> Option<u64>
+        ensures { result ≡ oldest_in self.now }
+    {
+        lower(self.begun.oldest, self.later.oldest)
+    }
+
+    /// Whether any touch of the page is unwritten.
     pub fn is_touched(&self) -> bool
         ensures { result ≡ is_touched self.now }
     {
-        self.begun.touched || self.later.touched
+        self.oldest().is_some()
+    }
+}
+
+// The lower of two places, where there are any.
+fn lower(a: Option<u64>, b: Option<u64>) -> Option<u64>
+    ensures { result ≡ lower a b }
+{
+    match (a, b) {
+        (None, other) => other,
+        (Some(place), None) => Some(place),
+        (Some(place), Some(other)) => Some(place.min(other)),
     }
 }
 

@@ -94,17 +94,17 @@ impl DirtyTable {
             .count() as u32
     }
 
-    /// Notes a touch of a page, with the LSN of its stamp where it has one.
-    pub fn touch(&mut self, page: PageId, lsn: Option<Lsn>)
+    /// Notes a touch of a page at a place, with the LSN of its stamp where it has one.
+    pub fn touch(&mut self, page: PageId, place: u64, lsn: Option<Lsn>)
         requires { IsSome (row_of self.old.rows page) ⊎ (length self.old.rows < self.old.capacity) }
-        ensures row { row_of self.new.rows page ≡ Some (touched_row page lsn (row_of self.old.rows page)) }
+        ensures row { row_of self.new.rows page ≡ Some (touched_row page place lsn (row_of self.old.rows page)) }
         ensures others { KeepsOthers self.old.rows self.new.rows page }
         ensures len { length self.new.rows ≡ length self.old.rows + new_rows (row_of self.old.rows page) }
         ensures capacity { self.new.capacity ≡ self.old.capacity }
     {
         match find(&self.rows, page) {
-            (place, Some(row)) => replace(&mut self.rows, place, row.touched(lsn)),
-            (place, None) => insert(&mut self.rows, place, Row::new(page, lsn)),
+            (at, Some(row)) => replace(&mut self.rows, at, row.touched(place, lsn)),
+            (at, None) => insert(&mut self.rows, at, Row::new(page, place, lsn)),
         }
     }
 

@@ -18,3 +18,4 @@ pub mod RowLsns
 pub mod StreamLsns
 pub mod LogRows
 pub mod AnyRows
+pub mod Since

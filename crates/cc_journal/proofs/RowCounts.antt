@@ -1,5 +1,5 @@
 -- What the rows of a past list and count.
-use Rattle.std.specs.Prelude.{◌≡◌, ℕ, zero, suc, ◌+◌, ◌-◌, ◌*◌, ◌/◌, ◌<◌, ◌≤◌, Bool, true, false, cond, not, ◌==◌, ◌&&◌, ◌||◌, nat_eq, nat_lt, All, List, [], ◌∷◌, ◌++◌, Option, None, Some, length, map, filter, find, count_by, if◌then◌else◌, refl}
+use Rattle.std.specs.Prelude.{◌≡◌, ℕ, zero, suc, ◌+◌, ◌-◌, ◌*◌, ◌/◌, ◌<◌, ◌≤◌, Bool, true, false, cond, not, is_some, ◌==◌, ◌&&◌, ◌||◌, nat_eq, nat_lt, All, List, [], ◌∷◌, ◌++◌, Option, None, Some, length, map, filter, find, count_by, if◌then◌else◌, refl}
 use Rattle.std.specs.List.{sum_by, list_any, flat_map, range_with_len, AllByRecursion}
 use Rattle.std.specs.Cmp.{nat_eq_equiv}
 use Rattle.std.specs.Set.{is_member}
@@ -22,13 +22,14 @@ use Rattle.cc_dirty.specs.Table.{row_of, is_of, Sound}
 use Rattle.cc_model.specs.Numbers.{is_empty, is_among, placed, ascending}
 use Rattle.cc_model.specs.History.{Effect, history}
 use Rattle.cc_model.specs.Objects.{objects}
-use Rattle.cc_model.specs.Touches.{touched, is_dirty, dirty_pages, is_mapped}
+use Rattle.cc_model.specs.Touches.{touched, unwritten, is_dirty, dirty_pages, is_mapped}
 use Rattle.cc_model.specs.Settings.{is_temporary, has_no_write_behind}
 use Rattle.cc_model.specs.Cache.{dirty_count, dirty_total, written_behind, lazy_pages}
 use Rattle.cc_laws.proofs.BlockLists.{is_among-filter}
 use Rattle.cc_laws.proofs.BlockPages.{Above, Rises, rises-ascending, rises-filter, IsDistinct-rises, is_member-among}
 use Rattle.cc_laws.proofs.DirtyAmong.{dirty-among, dirty_pages-dirty}
-use Rattle.cc_journal.specs.Rows.{IsRowOf, Follows, is_absent, absent_count}
+use Rattle.cc_journal.specs.Rows.{journal_place, IsRowOf, Follows, is_absent, absent_count}
+use Rattle.cc_journal.proofs.RowSteps.{some-oldest}
 
 -- rows in order, by recursion
 abbrev Ordered : List Row → Type 0
@@ -148,10 +149,11 @@ All-found P test (x ∷ rows) r all found = go (test x) found (All-found P test 
 pub rows-dirty : (past : List Entry) (rows : List Row) (q : Page) → Follows past rows → Sound rows → not (is_absent rows q) ≡ is_dirty (history past q.stream) q.page
 rows-dirty past rows q follows sound = go (row_of rows q) refl (follows q)
   where
-    go : (row : Option Row) → row_of rows q ≡ row → IsRowOf (history past q.stream) q.page row → not (elim row [ None ↦ true | Some row ↦ false ]) ≡ is_dirty (history past q.stream) q.page
-    go None none is = ap (λ (u : Unwritten). u.touched) is.unwritten
+    go : (row : Option Row) → row_of rows q ≡ row → IsRowOf (journal_place past q.stream) (history past q.stream) q.page row → not (elim row [ None ↦ true | Some row ↦ false ]) ≡ is_dirty (history past q.stream) q.page
+    go None none is = ap (λ (u : Unwritten). is_some u.oldest) is.unwritten ∙ some-oldest (journal_place past q.stream) (unwritten (history past q.stream) q.page)
     go (Some r) found is =
-        sym (All-found (λ r. is_touched r ≡ true) (λ r. same_page r.page q) rows r sound.touched found) ∙ ap (λ (u : Unwritten). u.touched) is.unwritten
+        sym (All-found (λ r. is_touched r ≡ true) (λ r. same_page r.page q) rows r sound.touched found)
+        ∙ (ap (λ (u : Unwritten). is_some u.oldest) is.unwritten ∙ some-oldest (journal_place past q.stream) (unwritten (history past q.stream) q.page))
 
 is_among-dirty : (h : List Effect) (p : ℕ) → is_among p (dirty_pages h) ≡ is_dirty h p
 is_among-dirty h p = go (is_dirty h p) refl (is_among p (dirty_pages h)) refl

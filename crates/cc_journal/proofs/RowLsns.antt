@@ -11,7 +11,7 @@ use Rattle.cc_dirty.specs.declared.row.Unwritten.{Unwritten}
 use Rattle.cc_dirty.specs.declared.row.Row.{Row}
 use Rattle.cc_dirty.specs.Order.{same_page, precedes, IsAscending}
 use Rattle.cc_dirty.specs.Table.{row_of, is_of, Sound}
-use Rattle.cc_journal.specs.Rows.{IsRowOf, Follows}
+use Rattle.cc_journal.specs.Rows.{journal_place, IsRowOf, Follows}
 use Rattle.cc_journal.proofs.RowCounts.{dirty_pages-rows}
 use Rattle.cc_model.specs.History.{Effect, history}
 use Rattle.cc_model.specs.Touches.{dirty_pages}
@@ -58,7 +58,7 @@ module _ (past : List Entry) where
   HasLsns r = lsns_in r ≡ lsns_of (history past r.page.stream) r.page.page
 
   own-lsns : (rows : List Row) (r : Row) → Follows past rows → row_of rows r.page ≡ Some r → HasLsns r
-  own-lsns rows r follows own = ap (λ (u : Unwritten). u.lsns) (subst (λ (o : Option Row). IsRowOf (history past r.page.stream) r.page.page o) own (follows r.page)).unwritten
+  own-lsns rows r follows own = ap (λ (u : Unwritten). u.lsns) (subst (λ (o : Option Row). IsRowOf (journal_place past r.page.stream) (history past r.page.stream) r.page.page o) own (follows r.page)).unwritten
 
   all-lsns : (rows others : List Row) → Follows past rows → AllByRecursion (λ b. row_of rows b.page ≡ Some b) others → AllByRecursion HasLsns others
   all-lsns rows [] follows own = tt

@@ -1,5 +1,5 @@
 -- How what is kept of the streams steps, by the kind of entry.
-use Rattle.std.specs.Prelude.{◌≡◌, ℕ, ◌<◌, ◌≤◌, ◌⊎◌, ◌==◌, ◌||◌, not, nat_lt, Bool, true, false, List, [], ◌∷◌, length, count_by, All, map, slice_index_or, slice_set, Option, None, Some, if◌then◌else◌, refl}
+use Rattle.std.specs.Prelude.{◌≡◌, ℕ, suc, ◌<◌, ◌≤◌, ◌⊎◌, ◌==◌, ◌||◌, not, nat_lt, Bool, true, false, List, [], ◌∷◌, length, count_by, All, map, slice_index_or, slice_set, Option, None, Some, if◌then◌else◌, refl}
 use Rattle.std.specs.List.{cons_option, filter}
 use Rattle.std.proofs.lemmas.List.Elements.{All-head, All-tail}
 use Rattle.std.specs.Option.{option_map, option_and_then}
@@ -148,7 +148,7 @@ within_states past states places rows s below stands = go (cases_lt s (length st
     go (inr beyond) = absurd (apart (had_map (history past s)) (sym (has true beyond)) (sym (has false beyond)))
 
 -- a done call
-pub stands_call : (pass nth stream : ℕ) (call : Call) (reply : Reply) (past : List Entry) (states : List Stream) (state : Stream) (places held : Places) (old new : List Row) → stream < length states → StreamStands (Did pass call reply ∷ history past stream) state → Holds places held stream (holding_of_call call (id_of reply)) → ChangesRows stream (λ p. touching_of (event_of_act (act_of call)) (history past stream) p) old new → StreamsStand past states places old → StreamsStand (entry.Call pass nth (Some stream) call (outcome.Done reply) ∷ past) (slice_set states stream state) held new
+pub stands_call : (pass nth stream : ℕ) (call : Call) (reply : Reply) (past : List Entry) (states : List Stream) (state : Stream) (places held : Places) (old new : List Row) → stream < length states → StreamStands (Did pass call reply ∷ history past stream) state → Holds places held stream (holding_of_call call (id_of reply)) → ChangesRows (suc (length past)) stream (λ p. touching_of (event_of_act (act_of call)) (history past stream) p) old new → StreamsStand past states places old → StreamsStand (entry.Call pass nth (Some stream) call (outcome.Done reply) ∷ past) (slice_set states stream state) held new
 unfolding history
 stands_call pass nth stream call reply past states state places held old new within now holds changes stands = record {
   each = λ s d below. each s d below (stream == s) refl;
@@ -187,14 +187,14 @@ pub each_of : (s : Stream) → StreamStands [] s → (n : ℕ) (d : Stream) → 
 each_of s stands n d below = subst (λ (x : Stream). StreamStands [] x) (sym (get_or-replicate 16 n s d below)) stands
 
 -- the same happened to each page, said otherwise
-pub changed_as : (s : ℕ) (what other : ℕ → Touching) (old new : List Row) → ((p : ℕ) → what p ≡ other p) → ChangesRows s what old new → ChangesRows s other old new
-changed_as s what other old new same changes q = changes q ∙ ap (λ w. if q.stream == s then row_after w q (row_of old q) else row_of old q) (same q.page)
+pub changed_as : (place s : ℕ) (what other : ℕ → Touching) (old new : List Row) → ((p : ℕ) → what p ≡ other p) → ChangesRows place s what old new → ChangesRows place s other old new
+changed_as place s what other old new same changes q = changes q ∙ ap (λ w. if q.stream == s then row_after place w q (row_of old q) else row_of old q) (same q.page)
 
 -- nothing happened to any
-pub changed_none : (s : ℕ) (what : ℕ → Touching) (rows : List Row) → ((p : ℕ) → what p ≡ touching.Rests) → ChangesRows s what rows rows
-changed_none s what rows none q = go (q.stream == s) (none q.page)
+pub changed_none : (place s : ℕ) (what : ℕ → Touching) (rows : List Row) → ((p : ℕ) → what p ≡ touching.Rests) → ChangesRows place s what rows rows
+changed_none place s what rows none q = go (q.stream == s) (none q.page)
   where
-    go : (b : Bool) → what q.page ≡ touching.Rests → row_of rows q ≡ (if b then row_after (what q.page) q (row_of rows q) else row_of rows q)
+    go : (b : Bool) → what q.page ≡ touching.Rests → row_of rows q ≡ (if b then row_after place (what q.page) q (row_of rows q) else row_of rows q)
     go true is = rw is refl
     go false is = refl
 

@@ -18,36 +18,36 @@ use Rattle.cc_journal.specs.Rows.{row_after, is_absent, absent_count, absent_in,
 abbrev pub is_in : ℕ → ℕ → ℕ → Bool
 is_in from to p = nat_le from p && nat_lt p to
 
--- the pages of a stream from one number up to another are touched
-abbrev pub TouchesTo : ℕ → ℕ → ℕ → Option ℕ → List Row → List Row → Type 0
-TouchesTo s from to lsn old new = ChangesRows s (λ p. touch_if (is_in from to p) lsn) old new
+-- the pages of a stream from one number up to another are touched at a place
+abbrev pub TouchesTo : ℕ → ℕ → ℕ → ℕ → Option ℕ → List Row → List Row → Type 0
+TouchesTo s from to place lsn old new = ChangesRows place s (λ p. touch_if (is_in from to p) lsn) old new
 
 -- what becomes of a page that is touched, or is not, by the test of its stream
-abbrev row_if : Bool → Bool → Option ℕ → Page → Option Row → Option Row
-row_if here within lsn q row = if here then row_after (touch_if within lsn) q row else row
+abbrev row_if : Bool → Bool → ℕ → Option ℕ → Page → Option Row → Option Row
+row_if here within place lsn q row = if here then row_after place (touch_if within lsn) q row else row
 
 -- none is touched before the first
-pub touches_none : (s from : ℕ) (lsn : Option ℕ) (rows : List Row) → TouchesTo s from from lsn rows rows
-touches_none s from lsn rows q = go (q.stream == s) out
+pub touches_none : (s from : ℕ) (place : ℕ) (lsn : Option ℕ) (rows : List Row) → TouchesTo s from from place lsn rows rows
+touches_none s from place lsn rows q = go (q.stream == s) out
   where
     out : is_in from from q.page ≡ false
     out = grind (arith, nat_tests)
 
-    go : (b : Bool) → is_in from from q.page ≡ false → row_of rows q ≡ row_if b (is_in from from q.page) lsn q (row_of rows q)
+    go : (b : Bool) → is_in from from q.page ≡ false → row_of rows q ≡ row_if b (is_in from from q.page) place lsn q (row_of rows q)
     go true is = rw is refl
     go false is = refl
 
 -- one page more
-pub touches_more : (s from i : ℕ) (lsn : Option ℕ) (page : Page) (old now new : List Row) → from ≤ i → page.stream ≡ s → page.page ≡ i → row_of new page ≡ Some (touched_row page lsn (row_of now page)) → KeepsOthers now new page → TouchesTo s from i lsn old now → TouchesTo s from (i + 1) lsn old new
-touches_more s from i lsn page old now new above of_stream at touched others before q = go (same_page q page) refl
+pub touches_more : (s from i : ℕ) (place : ℕ) (lsn : Option ℕ) (page : Page) (old now new : List Row) → from ≤ i → page.stream ≡ s → page.page ≡ i → row_of new page ≡ Some (touched_row page place lsn (row_of now page)) → KeepsOthers now new page → TouchesTo s from i place lsn old now → TouchesTo s from (i + 1) place lsn old new
+touches_more s from i place lsn page old now new above of_stream at touched others before q = go (same_page q page) refl
   where
-    other_place : (b : Bool) → (q.stream == s) ≡ b → same_page q page ≡ false → row_if (q.stream == s) (is_in from i q.page) lsn q (row_of old q) ≡ row_if (q.stream == s) (is_in from (i + 1) q.page) lsn q (row_of old q)
+    other_place : (b : Bool) → (q.stream == s) ≡ b → same_page q page ≡ false → row_if (q.stream == s) (is_in from i q.page) place lsn q (row_of old q) ≡ row_if (q.stream == s) (is_in from (i + 1) q.page) place lsn q (row_of old q)
     other_place true here other =
         let same : is_in from i q.page ≡ is_in from (i + 1) q.page = grind (arith, nat_tests) in
-        ap (λ b. row_if (q.stream == s) b lsn q (row_of old q)) same
+        ap (λ b. row_if (q.stream == s) b place lsn q (row_of old q)) same
     other_place false away other = rw away refl
 
-    go : (b : Bool) → same_page q page ≡ b → row_of new q ≡ row_if (q.stream == s) (is_in from (i + 1) q.page) lsn q (row_of old q)
+    go : (b : Bool) → same_page q page ≡ b → row_of new q ≡ row_if (q.stream == s) (is_in from (i + 1) q.page) place lsn q (row_of old q)
     go true same =
         let stream : q.stream ≡ page.stream = grind (arith, nat_tests) in
         let number : q.page ≡ page.page = grind (arith, nat_tests) in
@@ -55,13 +55,13 @@ touches_more s from i lsn page old now new above of_stream at touched others bef
         let here : (q.stream == s) ≡ true = eq-eqb q.stream s (stream ∙ of_stream) in
         let out : is_in from i q.page ≡ false = grind (arith, nat_tests) in
         let within : is_in from (i + 1) q.page ≡ true = grind (arith, nat_tests) in
-        let was : row_of now q ≡ row_of old q = before q ∙ (ap (λ b. row_if b (is_in from i q.page) lsn q (row_of old q)) here ∙ ap (λ b. row_if true b lsn q (row_of old q)) out) in
+        let was : row_of now q ≡ row_of old q = before q ∙ (ap (λ b. row_if b (is_in from i q.page) place lsn q (row_of old q)) here ∙ ap (λ b. row_if true b place lsn q (row_of old q)) out) in
         ap (row_of new) is
         ∙ (touched
-        ∙ (ap (λ (p : Page). Some (touched_row p lsn (row_of now p))) (sym is)
-        ∙ (ap (λ o. Some (touched_row q lsn o)) was
-        ∙ (ap (λ b. row_if true b lsn q (row_of old q)) (sym within)
-        ∙ ap (λ b. row_if b (is_in from (i + 1) q.page) lsn q (row_of old q)) (sym here)))))
+        ∙ (ap (λ (p : Page). Some (touched_row p place lsn (row_of now p))) (sym is)
+        ∙ (ap (λ o. Some (touched_row q place lsn o)) was
+        ∙ (ap (λ b. row_if true b place lsn q (row_of old q)) (sym within)
+        ∙ ap (λ b. row_if b (is_in from (i + 1) q.page) place lsn q (row_of old q)) (sym here)))))
     go false other = others q other ∙ (before q ∙ other_place (q.stream == s) refl other)
 
 -- the rows that a touch adds are one where the page was absent
@@ -85,8 +85,8 @@ absent_later s from (suc n) i page now new below of_stream at others =
     ∙ sym (absent_first now s from n)))
 
 -- the rows while the pages are touched: those before a number are, and there is room for the rest
-pub record TouchedSoFar (s from to i : ℕ) (lsn : Option ℕ) (old now : Table) : Type 0 where
-  pub rows : TouchesTo s from i lsn old.rows now.rows
+pub record TouchedSoFar (s from to i : ℕ) (place : ℕ) (lsn : Option ℕ) (old now : Table) : Type 0 where
+  pub rows : TouchesTo s from i place lsn old.rows now.rows
   pub room : length now.rows + absent_in now.rows s i (to - i) ≤ now.capacity
   pub capacity : now.capacity ≡ old.capacity
 
@@ -99,8 +99,8 @@ next_count s i to rows more =
     ∙ ap (λ k. k + absent_in rows s (i + 1) (to - (i + 1))) (sym (added (row_of rows (record { stream = s; page = i })))))
 
 -- there is room for the next page
-pub touch_fits : (s from to i : ℕ) (lsn : Option ℕ) (old now : Table) (page : Page) → i < to → page.stream ≡ s → page.page ≡ i → TouchedSoFar s from to i lsn old now → IsSome (row_of now.rows page) ⊎ (length now.rows < now.capacity)
-touch_fits s from to i lsn old now page more of_stream at so_far = go (row_of now.rows page) refl
+pub touch_fits : (s from to i : ℕ) (place : ℕ) (lsn : Option ℕ) (old now : Table) (page : Page) → i < to → page.stream ≡ s → page.page ≡ i → TouchedSoFar s from to i place lsn old now → IsSome (row_of now.rows page) ⊎ (length now.rows < now.capacity)
+touch_fits s from to i place lsn old now page more of_stream at so_far = go (row_of now.rows page) refl
   where
     is : page ≡ record { stream = s; page = i }
     is = ap (λ (n : ℕ). record { stream = n; page = page.page }) of_stream ∙ ap (λ (n : ℕ). record { stream = s; page = n }) at
@@ -112,9 +112,9 @@ touch_fits s from to i lsn old now page more of_stream at so_far = go (row_of no
     go (Some row) found = inl refl
 
 -- one page more is touched
-pub touch_step : (s from to i : ℕ) (lsn : Option ℕ) (old now new : Table) (page : Page) → from ≤ i → i < to → page.stream ≡ s → page.page ≡ i → row_of new.rows page ≡ Some (touched_row page lsn (row_of now.rows page)) → KeepsOthers now.rows new.rows page → length new.rows ≡ length now.rows + new_rows (row_of now.rows page) → new.capacity ≡ now.capacity → TouchedSoFar s from to i lsn old now → TouchedSoFar s from to (i + 1) lsn old new
-touch_step s from to i lsn old now new page above more of_stream at touched others count capacity so_far = record {
-  rows = touches_more s from i lsn page old.rows now.rows new.rows above of_stream at touched others so_far.rows;
+pub touch_step : (s from to i : ℕ) (place : ℕ) (lsn : Option ℕ) (old now new : Table) (page : Page) → from ≤ i → i < to → page.stream ≡ s → page.page ≡ i → row_of new.rows page ≡ Some (touched_row page place lsn (row_of now.rows page)) → KeepsOthers now.rows new.rows page → length new.rows ≡ length now.rows + new_rows (row_of now.rows page) → new.capacity ≡ now.capacity → TouchedSoFar s from to i place lsn old now → TouchedSoFar s from to (i + 1) place lsn old new
+touch_step s from to i place lsn old now new page above more of_stream at touched others count capacity so_far = record {
+  rows = touches_more s from i place lsn page old.rows now.rows new.rows above of_stream at touched others so_far.rows;
   room = omega (arith, so_far.room, next_count s i to now.rows more, count, ap (λ p. new_rows (row_of now.rows p)) is, absent_later s (i + 1) (to - (i + 1)) i page now.rows new.rows (omega arith) of_stream at others, capacity);
   capacity = capacity ∙ so_far.capacity;
 }
@@ -126,16 +126,16 @@ touch_step s from to i lsn old now new page above more of_stream at touched othe
 in_range : (from to p : ℕ) → from < to → is_in (from / 4096) ((to - 1) / 4096 + 1) p ≡ has_page (record { from = from; to = to }) p
 in_range from to p some = grind (arith, nat_tests)
 
-pub touches_range : (s from to : ℕ) (lsn : Option ℕ) (old new : List Row) → from < to → TouchesTo s (from / 4096) ((to - 1) / 4096 + 1) lsn old new → ChangesRows s (λ p. touch_if (has_page (record { from = from; to = to }) p) lsn) old new
-touches_range s from to lsn old new some touched q = touched q ∙ ap (λ b. row_if (q.stream == s) b lsn q (row_of old q)) (in_range from to q.page some)
+pub touches_range : (s from to : ℕ) (place : ℕ) (lsn : Option ℕ) (old new : List Row) → from < to → TouchesTo s (from / 4096) ((to - 1) / 4096 + 1) place lsn old new → ChangesRows place s (λ p. touch_if (has_page (record { from = from; to = to }) p) lsn) old new
+touches_range s from to place lsn old new some touched q = touched q ∙ ap (λ b. row_if (q.stream == s) b place lsn q (row_of old q)) (in_range from to q.page some)
 
-pub touches_nothing : (s from to : ℕ) (lsn : Option ℕ) (rows : List Row) → to ≤ from → ChangesRows s (λ p. touch_if (has_page (record { from = from; to = to }) p) lsn) rows rows
-touches_nothing s from to lsn rows empty q = go (q.stream == s) out
+pub touches_nothing : (s from to : ℕ) (place : ℕ) (lsn : Option ℕ) (rows : List Row) → to ≤ from → ChangesRows place s (λ p. touch_if (has_page (record { from = from; to = to }) p) lsn) rows rows
+touches_nothing s from to place lsn rows empty q = go (q.stream == s) out
   where
     out : has_page (record { from = from; to = to }) q.page ≡ false
     out = grind (arith, nat_tests)
 
-    go : (b : Bool) → has_page (record { from = from; to = to }) q.page ≡ false → row_of rows q ≡ row_if b (has_page (record { from = from; to = to }) q.page) lsn q (row_of rows q)
+    go : (b : Bool) → has_page (record { from = from; to = to }) q.page ≡ false → row_of rows q ≡ row_if b (has_page (record { from = from; to = to }) q.page) place lsn q (row_of rows q)
     go true is = rw is refl
     go false is = refl
 

@@ -11,3 +11,4 @@ pub mod Journal
 pub mod Kept
 pub mod Capacity
 pub mod Stamped
+pub mod Since

@@ -238,7 +238,8 @@ impl<Q> Journal<Q> {
         // The rows' order is what says that there is room for those of the entry.
         let _rows = self.streams.dirty().rows();
         let looked_at = self.looked_at(&entry);
-        self.streams.follow(&entry);
+        let place = self.entries.len() as u64 + 1;
+        self.streams.follow(&entry, place);
         self.calls.follow(&entry);
         self.scans.follow(&entry, looked_at);
         self.holds += holds_made_by(&entry);

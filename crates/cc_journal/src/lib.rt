@@ -10,7 +10,7 @@
 //! that it touches, cuts, begins or ends (`table`), the counts of calls (`calls`), the scans (`scans`) and the queue
 //! (`queue`). Each entry after which the journal is good so far may be pushed (`laws`). `stamped` and `any` read off the
 //! rows what a file system with a log asks at a checkpoint: the dirty page table of a log, the LSNs of a stream, and
-//! whether a page is dirty.
+//! whether a page is dirty. `oldest` reads off them the place of the oldest unwritten touch of a page.
 //!
 //! The book of each stream, the turns (`cc_turns`, `cc_board`) and the calls stand above; below are `cc_stream`,
 //! `cc_dirty`, what an entry does to a stream (`cc_events`), the post routines of `cc_traits`, and the definitions of
@@ -21,6 +21,7 @@ mod any;
 mod calls;
 mod journal;
 pub mod laws;
+mod oldest;
 mod parts;
 mod places;
 mod queue;
@@ -31,5 +32,6 @@ mod table;
 
 pub use any::is_any_dirty;
 pub use journal::Journal;
+pub use oldest::{is_settled_since, oldest_unwritten};
 pub use parts::Parts;
 pub use stamped::{dirty_table, lsns};

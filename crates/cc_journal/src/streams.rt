@@ -1,7 +1,7 @@
 //! What is kept of the streams beside the entries: their state, the places of their open holds, and the dirty
 //! page table.
 
-ghost use Rattle.std.specs.Prelude.{◌≡◌, ℕ, ◌+◌, ◌^◌, ◌<◌, ◌≤◌, [], ◌∷◌, true, false, Some, List, Option, OnOk, IfOk, length, slice_index_or};
+ghost use Rattle.std.specs.Prelude.{◌≡◌, ℕ, suc, ◌+◌, ◌^◌, ◌<◌, ◌≤◌, [], ◌∷◌, true, false, Some, List, Option, OnOk, IfOk, length, slice_index_or};
 ghost use Rattle.indexmap.specs.IndexMap.{spare};
 ghost use Rattle.cc_entry.specs.declared.entry.Entry.{Entry};
 ghost use Rattle.cc_entry.specs.declared.entry.Entry.TheVariants as entry;
@@ -198,40 +198,40 @@ impl Streams {
         self.places.reserve(entries)
     }
 
-    /// Follows an entry.
-    pub(crate) fn follow(&mut self, entry: &Entry)
+    /// Follows an entry, given its place in the journal.
+    pub(crate) fn follow(&mut self, entry: &Entry, place: u64)
         requires places { 0 < spare self.old.places.places }
         requires rows { HasRoomIn self.old entry.now }
-        ensures stands { (past : List Entry) → KeepsTransfersIn past entry.now →
+        ensures stands { (past : List Entry) → place ≡ suc (length past) → KeepsTransfersIn past entry.now →
             StandFor past self.old → StandFor (entry.now ∷ past) self.new }
         ensures capacity { self.new.dirty.capacity ≡ self.old.dirty.capacity }
         ensures room { spare self.old.places.places ≤ spare self.new.places.places + 1 }
         ensures sound { Sound self.new.dirty.rows }
     {
-        self.step(entry);
+        self.step(entry, place);
         // The rows' order is what says how many there may be.
         let _rows = self.dirty.rows();
     }
 
-    fn step(&mut self, entry: &Entry)
+    fn step(&mut self, entry: &Entry, place: u64)
         requires places { 0 < spare self.old.places.places }
         requires rows { HasRoomIn self.old entry.now }
-        ensures stands { (past : List Entry) → KeepsTransfersIn past entry.now →
+        ensures stands { (past : List Entry) → place ≡ suc (length past) → KeepsTransfersIn past entry.now →
             StandFor past self.old → StandFor (entry.now ∷ past) self.new }
         ensures capacity { self.new.dirty.capacity ≡ self.old.dirty.capacity }
         ensures room { spare self.old.places.places ≤ spare self.new.places.places + 1 }
     {
         if !leaves_streams(entry) {
-            self.change(entry);
+            self.change(entry, place);
         }
     }
 
     // Follows an entry that changes what is kept.
-    fn change(&mut self, entry: &Entry)
+    fn change(&mut self, entry: &Entry, place: u64)
         requires changes { leaves_streams entry.now ≡ false }
         requires places { 0 < spare self.old.places.places }
         requires rows { HasRoomIn self.old entry.now }
-        ensures stands { (past : List Entry) → KeepsTransfersIn past entry.now →
+        ensures stands { (past : List Entry) → place ≡ suc (length past) → KeepsTransfersIn past entry.now →
             StandFor past self.old → StandFor (entry.now ∷ past) self.new }
         ensures capacity { self.new.dirty.capacity ≡ self.old.dirty.capacity }
         ensures room { spare self.old.places.places ≤ spare self.new.places.places + 1 }
@@ -242,7 +242,7 @@ impl Streams {
                 call,
                 outcome,
                 ..
-            } => self.call_ended(stream, call, outcome),
+            } => self.call_ended(stream, call, outcome, place),
             Entry::WriteBegin { page, .. } => self.dirty.begin(*page),
             Entry::WriteEnd { page, how, .. } => self.dirty.end(*page, is_good(*how)),
             Entry::PageIn { .. }
@@ -264,10 +264,11 @@ impl Streams {
     }
 
     // A call ended; one that was done on a stream changes what is kept of it.
-    fn call_ended(&mut self, stream: &Option<StreamId>, call: &Call, outcome: &Outcome)
+    fn call_ended(&mut self, stream: &Option<StreamId>, call: &Call, outcome: &Outcome, place: u64)
         requires places { 0 < spare self.old.places.places }
         requires rows { HasRoomIn self.old (entry.Call 0 0 stream.now call.now outcome.now) }
         ensures stands { (past : List Entry) (pass nth : ℕ) →
+            place ≡ suc (length past) →
             StandFor past self.old →
             StandFor (entry.Call pass nth stream.now call.now outcome.now ∷ past) self.new }
         ensures capacity { self.new.dirty.capacity ≡ self.old.dirty.capacity }
@@ -275,55 +276,70 @@ impl Streams {
     {
         if let Some(stream) = stream {
             if let Outcome::Done(reply) = outcome {
-                self.call_done(*stream, call, reply);
+                self.call_done(*stream, call, reply, place);
             }
         }
     }
 
     // A call on the stream was done.
-    fn call_done(&mut self, stream: StreamId, call: &Call, reply: &Reply)
+    fn call_done(&mut self, stream: StreamId, call: &Call, reply: &Reply, place: u64)
         requires places { 0 < spare self.old.places.places }
         requires rows { let what = event_of_act (act_of call.now) in
             stream < 16 → HasRoomFor self.old.dirty stream (reach what (state_in self.old.states.value stream).size
             (held_at self.old.places.places.entries stream (hold_named what))) }
         ensures stands { (past : List Entry) (pass nth : ℕ) →
+            place ≡ suc (length past) →
             StandFor past self.old →
             StandFor (entry.Call pass nth (Some stream) call.now (outcome.Done reply.now) ∷ past) self.new }
         ensures capacity { self.new.dirty.capacity ≡ self.old.dirty.capacity }
         ensures room { spare self.old.places.places ≤ spare self.new.places.places + 1 }
     {
-        let place = usize::from(stream.number());
+        let at = usize::from(stream.number());
         let mapped = self.is_mapped(stream);
-        self.change_rows(stream, act(call));
+        self.change_rows(stream, act(call), place);
         self.places.follow(stream, holding_by(call, id_in(reply)));
-        let mut state = (*self.states)[place];
+        let mut state = (*self.states)[at];
         state.done(call, mapped);
-        (*self.states)[place] = state;
+        (*self.states)[at] = state;
     }
 
     // What a done call does to the rows of its stream's pages.
-    fn change_rows(&mut self, stream: StreamId, what: Event)
+    fn change_rows(&mut self, stream: StreamId, what: Event, place: u64)
         requires rows { HasRoomFor self.old.dirty stream (reach what (state_in self.old.states.value stream).size
             (held_at self.old.places.places.entries stream (hold_named what))) }
         ensures rows { (past : List Entry) →
             StandFor past self.old →
             is_of_call what ≡ true →
-            ChangesRows stream (λ p. touching_of what (history past stream) p) self.old.dirty.rows self.new.dirty.rows }
+            ChangesRows place stream (λ p. touching_of what (history past stream) p) self.old.dirty.rows self.new.dirty.rows }
         ensures capacity { self.new.dirty.capacity ≡ self.old.dirty.capacity }
         ensures states { self.new.states ≡ self.old.states }
         ensures places { self.new.places ≡ self.old.places }
     {
         match what {
-            Event::Changes { from, to } => touch_range(&mut self.dirty, stream, from, to, None),
+            Event::Changes { from, to } => touch_range(
+                &mut self.dirty,
+                stream,
+                from,
+                to,
+                place,
+                None,
+            ),
             Event::Stores { page } => {
                 let from = 4096 * u128::from(page);
                 let to = stored_end(page, self.state(stream).size());
-                touch_range(&mut self.dirty, stream, from, to, None)
+                touch_range(&mut self.dirty, stream, from, to, place, None)
             }
             Event::Stamps { hold, lsn } => {
                 if let Some((at, len)) = self.places.of(stream, hold) {
                     let from = u128::from(at);
-                    touch_range(&mut self.dirty, stream, from, from + u128::from(len), lsn)
+                    touch_range(
+                        &mut self.dirty,
+                        stream,
+                        from,
+                        from + u128::from(len),
+                        place,
+                        lsn,
+                    )
                 }
             }
             Event::Closes { object, truncate } => {

@@ -20,7 +20,8 @@ use Rattle.cc_model.specs.Touches.{touched, touches, is_dirty, dirty_pages}
 use Rattle.cc_model.specs.Stamps.{lsns_among}
 use Rattle.cc_laws.proofs.BlockPages.{Above, Rises, rises-ascending, rises-filter}
 use Rattle.cc_laws.proofs.DirtyAmong.{dirty-among, dirty_pages-dirty}
-use Rattle.cc_journal.specs.Rows.{Follows, IsRowOf}
+use Rattle.cc_journal.specs.Rows.{Follows, IsRowOf, journal_place}
+use Rattle.cc_journal.proofs.RowSteps.{some-oldest}
 use Rattle.cc_print.specs.declared.table.TableRow.{TableRow}
 use Rattle.cc_pieces.specs.Table.{row_of as table_row, rows_of, table_of}
 use Rattle.cc_run.specs.Rows.{printed_row}
@@ -162,9 +163,9 @@ among-dirty h p = by (is_among p (dirty_pages h)) refl (is_dirty h p) refl
     by false is false dirty = refl
 
 -- a page is dirty where it has a row
-dirty-row : (h : List Effect) (p : ℕ) (row : Option Row) → ((r : Row) → row ≡ Some r → is_touched r ≡ true) → IsRowOf h p row → is_some row ≡ is_dirty h p
-dirty-row h p None touch is = ap (λ u. u.touched) is.unwritten
-dirty-row h p (Some r) touch is = sym (touch r refl) ∙ ap (λ u. u.touched) is.unwritten
+dirty-row : (place : ℕ → ℕ) (h : List Effect) (p : ℕ) (row : Option Row) → ((r : Row) → row ≡ Some r → is_touched r ≡ true) → IsRowOf place h p row → is_some row ≡ is_dirty h p
+dirty-row place h p None touch is = ap (λ u. is_some u.oldest) is.unwritten ∙ some-oldest place (touches false h p)
+dirty-row place h p (Some r) touch is = sym (touch r refl) ∙ (ap (λ u. is_some u.oldest) is.unwritten ∙ some-oldest place (touches false h p))
 
 map-each : (f : Row → TableRow) (g : ℕ → TableRow) (rows : List Row) → AllByRecursion (λ r. f r ≡ g r.page.page) rows → map f rows ≡ map g (map (λ r. r.page.page) rows)
 map-each f g [] all = refl
@@ -174,25 +175,25 @@ page-is : (q : Page) (a : ℕ) → q.stream ≡ a → q ≡ record { stream = a;
 page-is q a is = ap (λ s. let made : Page = record { stream = s; page = q.page } in made) is
 
 -- the rows of one stream are those of the table
-stream-rows : (past : List Entry) (a : ℕ) (rows : List Row) → Ordered rows → AllByRecursion (λ r. r.page.stream ≡ a) rows → ((p : ℕ) → IsRowOf (history past a) p (row_of rows (record { stream = a; page = p }))) → map printed_row rows ≡ rows_of past a
+stream-rows : (past : List Entry) (a : ℕ) (rows : List Row) → Ordered rows → AllByRecursion (λ r. r.page.stream ≡ a) rows → ((p : ℕ) → IsRowOf (journal_place past a) (history past a) p (row_of rows (record { stream = a; page = p }))) → map printed_row rows ≡ rows_of past a
 stream-rows past a rows order same stand =
     map-each printed_row (table_row a (history past a)) rows
     (all-map (λ r. (r.page.stream ≡ a) × (row_of rows r.page ≡ Some r)) (λ r. printed_row r ≡ table_row a (history past a) r.page.page) rows (λ r both. each r both.0 both.1)
     (all-both (λ r. r.page.stream ≡ a) (λ r. row_of rows r.page ≡ Some r) rows same (found-each rows order)))
     ∙ ap (map (table_row a (history past a))) (rises-equal (map (λ r. r.page.page) rows) (dirty_pages (history past a)) (rises-numbers a rows order same)
     (rises-filter (is_dirty (history past a)) (ascending (touched (history past a))) (rises-ascending (touched (history past a))))
-    (λ p. among-numbers a p rows same ∙ (dirty-row (history past a) p (row_of rows (record { stream = a; page = p })) (λ r found. find-touched rows (record { stream = a; page = p }) r order found) (stand p)
+    (λ p. among-numbers a p rows same ∙ (dirty-row (journal_place past a) (history past a) p (row_of rows (record { stream = a; page = p })) (λ r found. find-touched rows (record { stream = a; page = p }) r order found) (stand p)
     ∙ sym (among-dirty (history past a) p))))
   where
     each : (r : Row) → r.page.stream ≡ a → row_of rows r.page ≡ Some r → printed_row r ≡ table_row a (history past a) r.page.page
     each r of_stream found =
         let page = page-is r.page a of_stream in
-        let stands : IsRowOf (history past a) r.page.page (Some r) = subst (IsRowOf (history past a) r.page.page) (ap (row_of rows) (sym page) ∙ found) (stand r.page.page) in
+        let stands : IsRowOf (journal_place past a) (history past a) r.page.page (Some r) = subst (IsRowOf (journal_place past a) (history past a) r.page.page) (ap (row_of rows) (sym page) ∙ found) (stand r.page.page) in
         let lsns : joined_lsns r.begun.lsns r.later.lsns ≡ lsns_among (touches false (history past a) r.page.page) = ap (λ u. u.lsns) stands.unwritten in
         rw (lsns, page) refl
 
 -- the rows of several streams
-rows-from : (past : List Entry) (a n : ℕ) (rows : List Row) → Ordered rows → AllByRecursion (λ r. (a ≤ r.page.stream) × (r.page.stream < a + n)) rows → ((q : Page) → a ≤ q.stream → IsRowOf (history past q.stream) q.page (row_of rows q)) → map printed_row rows ≡ flat_map (rows_of past) (range_with_len a n)
+rows-from : (past : List Entry) (a n : ℕ) (rows : List Row) → Ordered rows → AllByRecursion (λ r. (a ≤ r.page.stream) × (r.page.stream < a + n)) rows → ((q : Page) → a ≤ q.stream → IsRowOf (journal_place past q.stream) (history past q.stream) q.page (row_of rows q)) → map printed_row rows ≡ flat_map (rows_of past) (range_with_len a n)
 rows-from past a zero [] order within stand = refl
 rows-from past a zero (r ∷ rows) order within stand = absurd (omega (arith, within.0.0, within.0.1))
 rows-from past a (suc n) rows order within stand =
@@ -203,18 +204,18 @@ rows-from past a (suc n) rows order within stand =
     s : Split a rows
     s = split a rows order (all-map (λ r. (a ≤ r.page.stream) × (r.page.stream < a + suc n)) (λ r. a ≤ r.page.stream) rows (λ r both. both.0) within)
 
-    here-stand : (p : ℕ) → IsRowOf (history past a) p (row_of s.here (record { stream = a; page = p }))
+    here-stand : (p : ℕ) → IsRowOf (journal_place past a) (history past a) p (row_of s.here (record { stream = a; page = p }))
     here-stand p =
-        subst (IsRowOf (history past a) p) (ap (λ l. row_of l (record { stream = a; page = p })) s.rows_are
+        subst (IsRowOf (journal_place past a) (history past a) p) (ap (λ l. row_of l (record { stream = a; page = p })) s.rows_are
         ∙ find-front s.here s.above (record { stream = a; page = p }) (all-map (λ r. a < r.page.stream) (λ r. same_page r.page (record { stream = a; page = p }) ≡ false) s.above (λ r higher. after r higher) s.of_others))
         (stand (record { stream = a; page = p }) (omega arith))
       where
         after : (r : Row) → a < r.page.stream → same_page r.page (record { stream = a; page = p }) ≡ false
         after r higher = rw (ne_eqb r.page.stream a (λ e. omega (arith, e, higher))) refl
 
-    above-stand : (q : Page) → a + 1 ≤ q.stream → IsRowOf (history past q.stream) q.page (row_of s.above q)
+    above-stand : (q : Page) → a + 1 ≤ q.stream → IsRowOf (journal_place past q.stream) (history past q.stream) q.page (row_of s.above q)
     above-stand q higher =
-        subst (IsRowOf (history past q.stream) q.page) (ap (λ l. row_of l q) s.rows_are
+        subst (IsRowOf (journal_place past q.stream) (history past q.stream) q.page) (ap (λ l. row_of l q) s.rows_are
         ∙ find-skip s.here s.above q (all-map (λ r. r.page.stream ≡ a) (λ r. same_page r.page q ≡ false) s.here (λ r is. other-stream r.page q (omega (arith, is, higher))) s.of_stream))
         (stand q (omega (arith, higher)))
 

@@ -18,7 +18,7 @@ use Rattle.cc_dirty.specs.Table.{row_of}
 use Rattle.cc_dirty.specs.declared.row.Row.{Row}
 use Rattle.cc_dirty.specs.declared.row.Unwritten.{Unwritten}
 use Rattle.cc_journal.specs.Calls.{owed_end}
-use Rattle.cc_journal.specs.Rows.{Follows, IsRowOf}
+use Rattle.cc_journal.specs.Rows.{Follows, IsRowOf, journal_place}
 use Rattle.cc_laws.proofs.AdmittedCalls.{stores_below}
 use Rattle.cc_laws.proofs.ByteSteps.{byte_of-above}
 use Rattle.cc_laws.proofs.DirtySteps.{is_dirty-stores_on}
@@ -85,8 +85,8 @@ newest-in u = option_map (λ lsns. lsns.1) u.lsns
 
 pub newest-none : (past : List Entry) (page : Page) (rows : List Row) → Follows past rows → row_of rows page ≡ None → newest_of (history past page.stream) page.page ≡ None
 newest-none past page rows follows is =
-    let there : IsRowOf (history past page.stream) page.page None =
-    subst (λ (o : Option Row). IsRowOf (history past page.stream) page.page o) is (follows page) in
+    let there : IsRowOf (journal_place past page.stream) (history past page.stream) page.page None =
+    subst (λ (o : Option Row). IsRowOf (journal_place past page.stream) (history past page.stream) page.page o) is (follows page) in
     sym (ap newest-in there.unwritten)
 
 pub unstamped-log : (past : List Entry) (log newest : Option ℕ) → newest ≡ None → FlushedUpTo past log newest

@@ -12,7 +12,7 @@ use Rattle.cc_dirty.specs.Table.{row_of, Sound}
 use Rattle.cc_dirty.specs.Unwritten.{joined}
 use Rattle.cc_dirty.specs.declared.row.Row.{Row}
 use Rattle.cc_dirty.specs.declared.row.Unwritten.{Unwritten}
-use Rattle.cc_journal.specs.Rows.{Follows, IsRowOf}
+use Rattle.cc_journal.specs.Rows.{Follows, IsRowOf, journal_place}
 use Rattle.cc_laws.proofs.SoundFacts.{dirty_resident-good}
 use Rattle.cc_log.specs.Turn.{LogState}
 use Rattle.cc_model.specs.Conditions.{MayBegin, MayComeIn, MayGoOut}
@@ -63,8 +63,8 @@ newest-in u = option_map (λ lsns. lsns.1) u.lsns
 
 pub newest-there : (past : List Entry) (page : Page) (rows : List Row) (row : Row) → Follows past rows → row_of rows page ≡ Some row → open_of (history past page.stream) ≡ None → newest_later row ≡ newest_of (history past page.stream) page.page
 newest-there past page rows row follows is none =
-    let there : IsRowOf (history past page.stream) page.page (Some row) =
-    subst (λ (o : Option Row). IsRowOf (history past page.stream) page.page o) is (follows page) in
+    let there : IsRowOf (journal_place past page.stream) (history past page.stream) page.page (Some row) =
+    subst (λ (o : Option Row). IsRowOf (journal_place past page.stream) (history past page.stream) page.page o) is (follows page) in
     sym (ap (λ (b : Unwritten). newest-in (joined b row.later)) (there.at_rest (rw none refl))) ∙ ap newest-in there.unwritten
 
 begins : (u : Setup) (past : List Entry) (s p : ℕ) (answer : Bool) → IsGood u past → is_dirty (history past s) p ≡ true → is_unstamped (history past s) p ≡ false → open_of (history past s) ≡ None → Says answer (FlushedUpTo past (log_of (history past s)) (newest_of (history past s) p)) → Says answer (MayBegin past s p)

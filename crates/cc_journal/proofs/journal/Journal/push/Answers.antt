@@ -22,6 +22,10 @@ follow-requires-2-clause-few g c pass =
     let past : List Entry = reverse c.self.inside.entries.items in
     omega (arith, c.self.invariant.0.calls.count pass, calls_within past pass, length-reverse c.self.inside.entries.items, c.self.invariant.1.within, c.self.invariant.1.countable, c.requires.reserved, ap (λ j. j.reserved) c.self.view_is)
 
+pub overflow_add-place : goal.overflow_add-place
+overflow_add-place g c =
+    omega (arith, c.len.ensures, c.self.invariant.1.within, c.self.invariant.1.countable, c.requires.reserved, ap (λ j. j.reserved) c.self.view_is)
+
 pub overflow_add-self : goal.overflow_add-self
 overflow_add-self g c =
     let past : List Entry = reverse c.self.inside.entries.items in
@@ -41,7 +45,7 @@ invariant_of-self g c =
           (kept_push c.args.entry past c.self.inside.streams.states.value c.follow.new.self.states.value c.self.inside.streams.places.places.entries c.follow.new.self.places.places.entries
           c.self.inside.streams.dirty c.follow.new.self.dirty c.self.inside.calls.counts.entries c.follow-2.new.self.counts.entries c.self.inside.holds c.holds_made_by.result
           c.self.inside.waiting c.self.inside.scans.total c.follow-3.new.self.total c.self.inside.scans.cursor c.follow-3.new.self.cursor kept c.requires.kind may.few
-          (c.follow.ensures.stands past may.transfers kept.streams) c.follow.ensures.sound c.follow.ensures.capacity (c.follow-2.ensures.counted past kept.calls)
+          (c.follow.ensures.stands past (omega (arith, c.len.ensures, length-reverse c.self.inside.entries.items)) may.transfers kept.streams) c.follow.ensures.sound c.follow.ensures.capacity (c.follow-2.ensures.counted past kept.calls)
           c.holds_made_by.ensures scans),
       record {
         within = omega (arith, memory.within, c.push_reserved.ensures.len, c.requires.reserved, reserved);
@@ -58,4 +62,4 @@ returns-clause-rows g c =
     let same : c.args.self.now.entries ≡ past = sym (ap (λ j. j.entries) c.self.view_is) in
     let grown : reverse c.push_reserved.new.self.items ≡ c.args.entry ∷ past = rw (c.push_reserved.ensures.items, reverse-append) refl in
     let may : MayBePushed past c.args.entry = rw same at c.requires.may in
-    rw grown (c.follow.ensures.stands past may.transfers c.self.invariant.0.streams).unwritten
+    rw grown (c.follow.ensures.stands past (omega (arith, c.len.ensures, length-reverse c.self.inside.entries.items)) may.transfers c.self.invariant.0.streams).unwritten

@@ -11,7 +11,7 @@ use Rattle.cc_journal.proofs.StreamsSteps.{stands_left}
 use Rattle.cc_journal.proofs.streams.Streams.call_ended.Goals as goal
 
 pub returns-in-Done-clause-stands : goal.returns-in-Done-clause-stands
-returns-in-Done-clause-stands c past pass nth stands = rw (c.in-Some.is, c.in-Done.is) (c.call_done.ensures.stands past pass nth stands)
+returns-in-Done-clause-stands c past pass nth here stands = rw (c.in-Some.is, c.in-Done.is) (c.call_done.ensures.stands past pass nth here stands)
 
 -- a call that was not done, or is of no stream
 not_done : (pass nth : ℕ) (stream : Option ℕ) (it : Call) (ended : Outcome) → ((reply : Reply) → ended ≡ outcome.Done reply → ⊥) → leaves_streams (entry.Call pass nth stream it ended) ≡ true
@@ -24,11 +24,11 @@ no_stream pass nth None it ended not_it = refl
 no_stream pass nth (Some stream) it ended not_it = absurd (not_it stream refl)
 
 pub returns-in_default-outcome-clause-stands : goal.returns-in_default-outcome-clause-stands
-returns-in_default-outcome-clause-stands c past pass nth stands =
+returns-in_default-outcome-clause-stands c past pass nth here stands =
     stands_left _ past c.args.self.now.states.value c.args.self.now.places.places.entries c.args.self.now.dirty.rows
     (not_done pass nth c.args.stream.now c.args.call.now c.args.outcome.now c.in_default-outcome.not-Done) stands
 
 pub returns-in_default-clause-stands : goal.returns-in_default-clause-stands
-returns-in_default-clause-stands c past pass nth stands =
+returns-in_default-clause-stands c past pass nth here stands =
     stands_left _ past c.args.self.now.states.value c.args.self.now.places.places.entries c.args.self.now.dirty.rows
     (no_stream pass nth c.args.stream.now c.args.call.now c.args.outcome.now c.in_default.not-Some) stands

@@ -55,7 +55,7 @@ returns-in-Stores-clause-rows c past stands of_call =
     ap (λ (n : ℕ). record { from = 4096 * n; to = c.stored_end-to.result }) c.from-from.ensures
     ∙ (ap (λ (n : ℕ). record { from = 4096 * c.in-Stores.page; to = n }) c.stored_end-to.ensures
     ∙ ap (λ (n : ℕ). stored_range c.in-Stores.page n) (c.size.ensures.stands h state)) in
-    changed_as c.args.stream (λ p. touch_if (has_page (record { from = 4096 * c.from-from.result; to = c.stored_end-to.result }) p) None) (λ p. touching_of c.args.what h p)
+    changed_as c.args.place c.args.stream (λ p. touch_if (has_page (record { from = 4096 * c.from-from.result; to = c.stored_end-to.result }) p) None) (λ p. touching_of c.args.what h p)
     c.args.self.now.dirty.rows c.touch_range-in-Stores.new.table.rows
     (λ p. ap (λ (r : Range). touch_if (has_page r p) None) range ∙ ap (λ (w : Event). touching_of w h p) (sym c.in-Stores.is))
     c.touch_range-in-Stores.ensures.rows
@@ -64,9 +64,9 @@ pub returns-in-Some-truncation-clause-rows : goal.returns-in-Some-truncation-cla
 returns-in-Some-truncation-clause-rows c past stands of_call =
     let h = history past c.args.stream in
     let state = subst (λ (s : Stream). StreamStands h s) (sym (c.state-in-Closes.ensures.is no_state)) (stands.each c.args.stream no_state c.state-in-Closes.ensures.numbered) in
-    changed_as c.args.stream (cut_by (Some c.in-Some-truncation.to)) (λ p. touching_of c.args.what h p) c.args.self.now.dirty.rows c.cut.new.table.rows
+    changed_as c.args.place c.args.stream (cut_by (Some c.in-Some-truncation.to)) (λ p. touching_of c.args.what h p) c.args.self.now.dirty.rows c.cut.new.table.rows
     (λ p. ap (λ (o : Option ℕ). cut_by o p) (sym c.in-Some-truncation.is ∙ c.truncation.ensures h state) ∙ ap (λ (w : Event). touching_of w h p) (sym c.in-Closes.is))
-    c.cut.ensures.rows
+    (c.cut.ensures.rows c.args.place)
 
 none_of : (o : Option ℕ) → ((x : ℕ) → o ≡ Some x → ⊥) → o ≡ None
 none_of None not_some = refl
@@ -76,6 +76,6 @@ pub returns-in_default-truncation-clause-rows : goal.returns-in_default-truncati
 returns-in_default-truncation-clause-rows c past stands of_call =
     let h = history past c.args.stream in
     let state = subst (λ (s : Stream). StreamStands h s) (sym (c.state-in-Closes.ensures.is no_state)) (stands.each c.args.stream no_state c.state-in-Closes.ensures.numbered) in
-    changed_none c.args.stream (λ p. touching_of c.args.what h p) c.args.self.now.dirty.rows
+    changed_none c.args.place c.args.stream (λ p. touching_of c.args.what h p) c.args.self.now.dirty.rows
     (λ p. ap (λ (w : Event). touching_of w h p) c.in-Closes.is
     ∙ ap (λ (o : Option ℕ). cut_by o p) (sym (c.truncation.ensures h state) ∙ none_of c.truncation.result c.in_default-truncation.not-Some))
