@@ -43,6 +43,7 @@ mod Brought
 pub mod Work
 mod Kept
 pub mod Lessening
+mod Nearing
 mod Stepping
 mod Repeated
 pub mod Fullness

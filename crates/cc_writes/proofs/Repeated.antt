@@ -1,5 +1,5 @@
 -- The rounds of a call so far, and one more.
-use Rattle.std.specs.Prelude.{◌≡◌, ℕ, Bool, true, Option, List, refl}
+use Rattle.std.specs.Prelude.{◌≡◌, ℕ, Option, List, refl}
 use Rattle.std.proofs.Common.{sym, ap, ◌∙◌, subst}
 use Rattle.cc_entry.specs.declared.call.Call.{Call}
 use Rattle.cc_entry.specs.declared.entry.Entry.{Entry}
@@ -29,12 +29,6 @@ pub record GoesOn {D : Type 0} (told : D → Option Disk) (faults : D → ℕ) (
   pub same : now_it ≡ it
   pub told_none : now ≡ was
   pub way : (begun : List Entry) → IsUnderWay w.number it begun w.seen → IsUnderWay w.number it begun v.seen
-
--- The same with the book kept until the call ends.
-pub record GoesOnKept {D : Type 0} (told : D → Option Disk) (faults : D → ℕ) (w v : Standing) (s : ℕ) (it now_it : Call) (b : BookState)
-    (disk : D) (was now : List ℕ) (keeps : Bool) : Type 0 where
-  pub on : GoesOn told faults w v s it now_it b disk was now
-  pub kept : keeps ≡ true
 
 -- what a round left of a call that had gone on so far, it left of the call as it was handed in
 module _ {D : Type 0} (told : D → Option Disk) (faults : D → ℕ) (w v x : Standing) (s : ℕ) (it now_it : Call) (b : BookState) (disk : D)

@@ -1,8 +1,9 @@
 -- What the rounds of a call leave of it, and what a page step of one asks and leaves.
-use Rattle.std.specs.Prelude.{◌≡◌, ℕ, ◌<◌, ◌⊎◌, OnOk, Bool, true, false, ◌&&◌, ◌==◌, nat_le, Result, Ok, Err, List, ◌∷◌, ◌++◌}
+use Rattle.std.specs.Prelude.{◌≡◌, ℕ, suc, ◌+◌, ◌-◌, ◌*◌, ◌/◌, ◌%◌, ◌^◌, ◌<◌, ◌≤◌, ◌⊎◌, OnOk, Bool, true, false, ◌&&◌, ◌==◌, nat_le, nat_lt, if◌then◌else◌, Result, Ok, Err, List, ◌∷◌, ◌++◌}
 use Rattle.std.specs.declared.option.Option.{Option}
 use Rattle.std.specs.declared.option.Option.TheVariants.{Some, None}
-use Rattle.cc_entry.specs.Pages.{block_of}
+use Rattle.cc_entry.specs.Pages.{block_of, last_page}
+use Rattle.cc_entry.specs.Place.{Range}
 use Rattle.cc_entry.specs.declared.call.Call.{Call}
 use Rattle.cc_entry.specs.declared.error.CcError.{CcError}
 use Rattle.cc_entry.specs.declared.entry.Entry.{Entry}
@@ -26,6 +27,9 @@ use Rattle.cc_writes.specs.Visits.{HasLanded, HasPlaced}
 use Rattle.cc_writes.specs.Work.{work_left}
 use Rattle.cc_writes.specs.declared.course.Course.{Course}
 use Rattle.cc_writes.specs.declared.course.Course.TheVariants as course
+use Rattle.cc_writes.specs.declared.keeping.Rounds.{Rounds}
+use Rattle.cc_writes.specs.declared.keeping.Writing.{Writing}
+use Rattle.cc_writes.specs.declared.keeping.Writing.TheVariants as writing
 
 -- What a round left of a call that was under way: it goes on, and its caller was told nothing, or it ended.
 abbrev pub RoundLeft : Setup → ℕ → Call → Course → List Entry → List Entry → List ℕ → List ℕ → Type 0
@@ -61,10 +65,40 @@ IsWanted w s it page =
     (begun : List Entry) × IsUnderWay w.number it begun w.seen
     × WasWanted w.setup it (record { stream = s; page = page }) begun w.seen
 
--- whether a page is the next of the block that is written first, or there is no such block
-abbrev pub is_next : Option ℕ → ℕ → ℕ → Bool
-is_next None to page = true
-is_next (Some block) to page = (block == block_of page) && nat_le to page
+-- whether a page was read with the book free, or passed over, where this one was the last
+abbrev pub is_read : Option ℕ → ℕ → Bool
+is_read None page = false
+is_read (Some last) page = nat_le page last
+
+-- whether a page is the next of the block that is written with the book free, or the first of one
+abbrev pub is_next : Writing → ℕ → Bool
+is_next writing.Begins page = true
+is_next (writing.CameTo last) page = (block_of last == block_of page) && nat_lt last page
+is_next writing.Over page = false
+
+-- the range of a call on a stream of the greatest size
+abbrev pub widest_of : Call → Option Range
+widest_of it = range_of (2 ^ 63) it
+
+-- how many pages of a range are above the last that was read
+abbrev pub pages_above : Option ℕ → Range → ℕ
+pages_above None r = suc (last_page r) - r.from / 4096
+pages_above (Some last) r = last_page r - last
+
+-- how many pages of a call's range may still be read with the book free, and of the block that is given up be written
+abbrev pub reads_left : Option ℕ → Option Range → ℕ
+reads_left read None = 0
+reads_left read (Some r) = pages_above read r
+
+abbrev pub writes_left : Writing → ℕ
+writes_left writing.Begins = 64
+writes_left (writing.CameTo last) = 63 - last % 64
+writes_left writing.Over = 0
+
+-- How many transfers a call may still make with the book free: it reads each page of its range once at most, and before
+-- and behind each read it writes the 64 pages of one block once at most.
+abbrev pub free_left : Call → Rounds → ℕ
+free_left it rounds = if rounds.kept then 0 else 65 * reads_left rounds.read (widest_of it) + writes_left rounds.block
 
 -- The page that a call waited for came in: its entry is the last, and the call waited for it at that front.
 pub record CameIn (w : Standing) (s : ℕ) (it : Call) (page : ℕ) (seen : List Entry) : Type 0 where
@@ -98,3 +132,10 @@ left_for s it past = work_left (history past s) (range_of (size_of (history past
 abbrev pub HasLess : ℕ → Call → Course → List Entry → List Entry → Type 0
 HasLess s it (course.Goes again) old new = left_for s it new < left_for s it old
 HasLess s it (course.Ended answer) old new = Unit {0}
+
+-- A call that goes on is nearer to its end: fewer transfers with the book free are left to it, or no more, and less to do.
+abbrev pub IsNearer : ℕ → Call → Course → Rounds → Rounds → List Entry → List Entry → Type 0
+IsNearer s it (course.Goes again) was now old new =
+    (free_left it now < free_left it was)
+    ⊎ ((free_left it now ≤ free_left it was) × HasLess s it (course.Goes again) old new)
+IsNearer s it (course.Ended answer) was now old new = Unit {0}

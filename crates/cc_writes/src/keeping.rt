@@ -1,8 +1,8 @@
 //! Whether a transfer is made with the book kept.
 
-ghost use Rattle.std.specs.Prelude.{◌≡◌, suc, ◌-◌, ◌^◌, ◌||◌, true, false, not, nat_lt, max, min, if◌then◌else◌, None, Some};
-ghost use Rattle.cc_entry.specs.Pages.{block_of};
-ghost use Rattle.cc_writes.specs.Rounds.{is_next};
+ghost use Rattle.std.specs.Prelude.{◌≡◌, ◌||◌, false, true, not, if◌then◌else◌, None, Some};
+ghost use Rattle.cc_writes.specs.Rounds.{is_next, is_read};
+ghost use Rattle.cc_writes.specs.declared.keeping.Writing.TheVariants as writing;
 
 /// What the rounds of a call have read and written with the book free. Each page is read so at most once: a page that
 /// went meanwhile is read with the book kept, and from then on the book is kept until the call ends. The dirty pages of
@@ -12,12 +12,21 @@ ghost use Rattle.cc_writes.specs.Rounds.{is_next};
 pub struct Rounds {
     // Whether the book is kept until the call ends.
     kept: bool,
-    // Pages below it were read with the book free, or passed over.
-    read_to: u64,
-    // The block that is given up, where one is since a page was last read.
-    block: Option<u64>,
-    // Pages of that block below it were written with the book free, or that round is over.
-    written_to: u64,
+    // The last page that was read with the book free, or passed over.
+    read: Option<u64>,
+    // How far the block that is given up is written with the book free, since a page was last read.
+    block: Writing,
+}
+
+/// How far the block that is given up is written with the book free.
+#[derive(Clone, Copy)]
+pub(crate) enum Writing {
+    /// No page of one was written.
+    Begins,
+    /// This page was the last that was written.
+    CameTo(u64),
+    /// It is written no more so.
+    Over,
 }
 
 impl Rounds {
@@ -27,9 +36,8 @@ impl Rounds {
     {
         Rounds {
             kept: false,
-            read_to: 0,
-            block: None,
-            written_to: 0,
+            read: None,
+            block: Writing::Begins,
         }
     }
 
@@ -39,52 +47,59 @@ impl Rounds {
     {
         Rounds {
             kept: true,
-            read_to: 0,
-            block: None,
-            written_to: 0,
+            read: None,
+            block: Writing::Begins,
         }
     }
 
     /// Whether the book is kept while this page is read, as the next transfer.
     pub fn keeps_for_read(&mut self, page: u64) -> bool
-        ensures kept { result ≡ (self.old.kept || nat_lt page self.old.read_to) }
+        ensures kept { result ≡ (self.old.kept || is_read self.old.read page) }
         ensures stays { self.new.kept ≡ result }
-        ensures passed { self.new.read_to ≡ max self.old.read_to (min (suc page) (2 ^ 64 - 1)) }
-        ensures anew { self.new.block ≡ None }
+        ensures read { self.new.read ≡ Some page }
+        ensures anew { self.new.block ≡ writing.Begins }
     {
-        let keeps = self.kept || page < self.read_to;
+        let keeps = self.kept || self.was_read(page);
         self.kept = keeps;
-        self.read_to = self.read_to.max(page.saturating_add(1));
-        self.block = None;
-        self.written_to = 0;
+        self.read = Some(page);
+        self.block = Writing::Begins;
         keeps
     }
 
     /// Whether the book is kept while this page is written, as the next transfer.
     pub fn keeps_for_write(&mut self, page: u64) -> bool
-        ensures kept { result ≡ (self.old.kept || not (is_next self.old.block self.old.written_to page)) }
+        ensures kept { result ≡ (self.old.kept || not (is_next self.old.block page)) }
         ensures stays { self.new.kept ≡ self.old.kept }
-        ensures block { self.new.block ≡ Some (block_of page) }
-        ensures passed { self.new.written_to ≡ (if result then 2 ^ 64 - 1 else min (suc page) (2 ^ 64 - 1)) }
-        ensures read { self.new.read_to ≡ self.old.read_to }
+        ensures block { self.new.block ≡ (if result then writing.Over else writing.CameTo page) }
+        ensures read { self.new.read ≡ self.old.read }
     {
         let next = !self.kept && self.is_next(page);
-        self.block = Some(page / 64);
-        self.written_to = if next {
-            page.saturating_add(1)
+        self.block = if next {
+            Writing::CameTo(page)
         } else {
-            u64::MAX
+            Writing::Over
         };
         !next
     }
 
+    // Whether a page was read with the book free, or passed over.
+    fn was_read(&self, page: u64) -> bool
+        ensures { result ≡ is_read self.now.read page }
+    {
+        match self.read {
+            Some(last) => page <= last,
+            None => false,
+        }
+    }
+
     // Whether a page is the next of the block that is written with the book free, or the first of one.
     fn is_next(&self, page: u64) -> bool
-        ensures { result ≡ is_next self.now.block self.now.written_to page }
+        ensures { result ≡ is_next self.now.block page }
     {
         match self.block {
-            Some(block) => block == page / 64 && self.written_to <= page,
-            None => true,
+            Writing::Begins => true,
+            Writing::CameTo(last) => last / 64 == page / 64 && last < page,
+            Writing::Over => false,
         }
     }
 }

@@ -11,7 +11,7 @@ ghost use Rattle.cc_writes.specs.Ways.{EndedSo, FitsIn, IsFull};
 ghost use Rattle.cc_writes.specs.Visits.{IsOf};
 ghost use Rattle.cc_writes.specs.Writes.{HasBoth};
 ghost use Rattle.cc_writes.specs.Fetch.{CanCall, WentOn, most_room};
-ghost use Rattle.cc_writes.specs.Rounds.{RoundLeft, IsFullCourse, HasLess, course_of};
+ghost use Rattle.cc_writes.specs.Rounds.{RoundLeft, IsFullCourse, IsNearer, course_of};
 
 use crate::calls::write_for;
 use crate::course::Course;
@@ -22,11 +22,6 @@ use cc_book::Book;
 use cc_entry::{Call, CcError, StreamId};
 use cc_turns::Turns;
 use std::alloc::Global;
-
-// After so many rounds the book is kept until the call ends. A call takes fewer where its pages stay in: it has at most 257
-// of them, each is read with the book free at most once, and before each read a block is given up at most once: its 64
-// pages are written with the book free, and with the book kept, and go out.
-const ROUNDS: u32 = 131_072;
 
 /// Brings the pages of a call in, with the turn of its stream's disk, until the call ends. Answers what the call
 /// returns to its caller.
@@ -60,7 +55,8 @@ pub fn fetch<T: Turns>(
     answer
 }
 
-// Goes on in rounds, until the call ends.
+// Goes on in rounds, until the call ends. Each round leaves fewer transfers that may be made with the book free, or, with
+// the book kept, less to do.
 fn until_ended<T: Turns>(
     alloc: Global,
     turns: &mut T,
@@ -85,42 +81,6 @@ fn until_ended<T: Turns>(
     ensures full { IsFull (most_room call) (T.standing turns.new) result.1 }
 {
     let mut rounds = Rounds::new();
-    for _round in 0..ROUNDS {
-        let (now, course) = round(alloc, turns, disk, book, call, out, &mut rounds);
-        book = now;
-        match course {
-            Course::Goes(again) => call = again,
-            Course::Ended(answer) => return (book, answer),
-        }
-    }
-    until_done(alloc, turns, disk, book, call, out)
-}
-
-// Goes on in rounds with the book kept, until the call ends. Each round leaves less to do.
-fn until_done<T: Turns>(
-    alloc: Global,
-    turns: &mut T,
-    disk: &mut T::Disk,
-    mut book: Book,
-    mut call: Call,
-    out: &mut [u8],
-) -> (Book, Result<Returned, CcError>)
-    requires known { book.stream < (T.standing turns.old).streams }
-    requires both { HasBoth T.Disk.told T.Disk.faults (T.standing turns.old) book.stream book disk.old }
-    requires none { (T.standing turns.old).in_flight ≡ 0 }
-    requires stepped { is_stepped call ≡ true }
-    requires brings { brings_in call ≡ true }
-    requires filed { IsOf call book.stream }
-    requires fits { FitsIn call out.old }
-    ensures both { HasBoth T.Disk.told T.Disk.faults (T.standing turns.new) book.stream result.0 disk.new }
-    ensures went { Went (T.standing turns.old) (T.standing turns.new) }
-    ensures left { (begun : List Entry) →
-        IsUnderWay (T.standing turns.old).number call begun (T.standing turns.old).seen →
-        EndedSo (T.standing turns.old).setup (T.standing turns.old).number call result.1
-        begun (T.standing turns.new).seen out.old out.new }
-    ensures full { IsFull (most_room call) (T.standing turns.new) result.1 }
-{
-    let mut rounds = Rounds::kept();
     'pages: loop {
         let (now, course) = round(alloc, turns, disk, book, call, out, &mut rounds);
         book = now;
@@ -154,9 +114,8 @@ fn round<T: Turns>(
         IsUnderWay (T.standing turns.old).number call begun (T.standing turns.old).seen →
         RoundLeft (T.standing turns.old).setup (T.standing turns.old).number call result.1
         begun (T.standing turns.new).seen out.old out.new }
-    ensures kept { rounds.old.kept ≡ true → rounds.new.kept ≡ true }
-    ensures lessens { rounds.old.kept ≡ true →
-        HasLess book.stream call result.1 (T.standing turns.old).seen (T.standing turns.new).seen }
+    ensures nearer { IsNearer book.stream call result.1 rounds.old rounds.new
+        (T.standing turns.old).seen (T.standing turns.new).seen }
     ensures full { IsFullCourse (most_room call) (T.standing turns.new) result.1 }
 {
     match next_at(alloc, turns, &mut book, call, out) {

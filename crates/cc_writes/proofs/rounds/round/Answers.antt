@@ -1,11 +1,11 @@
 -- By what the step asks: each turn of a page finds what it needs, and what it left is what a round may leave.
 use Rattle.std.specs.Prelude.{ℕ, suc, ◌≡◌, true, OnOk, refl}
-use Rattle.std.proofs.Common.{subst, sym, ◌∙◌}
-use Rattle.std.proofs.lemmas.Bool.{or_left}
+use Rattle.std.proofs.Common.{subst, sym}
 use Rattle.cc_entry.specs.declared.call.Call.{Call}
 use Rattle.cc_effects.specs.Asked.{brings_in}
 use Rattle.cc_step.specs.Step.{is_answered, is_stepped}
 use Rattle.cc_step.proofs.Failing.{stepped-answered}
+use Rattle.cc_step.proofs.Placed.{so-far}
 use Rattle.cc_step.proofs.Waiting.{brings-room}
 use Rattle.cc_model.specs.History.{history}
 use Rattle.cc_step.specs.Room.{has_room}
@@ -14,12 +14,13 @@ use Rattle.cc_writes.specs.Calls.{MayFaultInWriting}
 use Rattle.cc_writes.specs.Writes.{HasBoth}
 use Rattle.cc_writes.proofs.Disks.{still_of}
 use Rattle.cc_writes.specs.Fetch.{most_room}
-use Rattle.cc_writes.specs.Rounds.{RoundLeft, HasLess, IsFullCourse}
+use Rattle.cc_writes.specs.Rounds.{RoundLeft, IsNearer, IsFullCourse, course_of}
 use Rattle.cc_writes.specs.declared.course.Course.{Course}
 use Rattle.cc_writes.proofs.Fullness.{full-ended, full-page}
 use Rattle.cc_writes.proofs.Going.{may-fault, may-write}
 use Rattle.cc_writes.proofs.Stepping.{to_write_call, to_read_call, to_write, to_read, round_wrote, round_read}
 use Rattle.cc_writes.proofs.Lessening.{went-less, round-wrote, round-brought}
+use Rattle.cc_writes.proofs.Nearing.{nearer-went, nearer-wrote, nearer-read}
 use Rattle.cc_writes.proofs.rounds.round.Goals as goal
 
 pub returns-in-Ended-clause-both : goal.returns-in-Ended-clause-both
@@ -185,45 +186,52 @@ returns-in-Reads-clause-full g c =
     subst (λ (o : Course). IsFullCourse (most_room c.args.call) x o) (sym c.course_of-in-Reads.ensures)
     (full-page c.args.call x c.bring-book.result.1 c.bring-book.ensures.full)
 
-pub returns-in-WentOut-clause-lessens : goal.returns-in-WentOut-clause-lessens
-returns-in-WentOut-clause-lessens g c kept =
+pub returns-in-WentOut-clause-nearer : goal.returns-in-WentOut-clause-nearer
+returns-in-WentOut-clause-nearer g c =
     let w = g.T.Turns.standing c.args.turns.now in
     let v = g.T.Turns.standing c.next_at.new.turns in
-    went-less w c.args.book.stream c.args.book c.requires.both.book c.requires.both.rest.device c.args.call (stepped-answered c.args.call c.requires.stepped) (brings-room c.args.call c.requires.brings)
-    v.seen c.in-WentOut.ensures.placed
+    nearer-went c.args.book.stream c.args.call c.in-WentOut.call c.args.rounds.now w.seen v.seen
+    (went-less w c.args.book.stream c.args.book c.requires.both.book c.requires.both.rest.device c.args.call (stepped-answered c.args.call c.requires.stepped) (brings-room c.args.call c.requires.brings)
+    v.seen c.in-WentOut.ensures.placed)
 
-pub returns-in-Writes-clause-lessens : goal.returns-in-Writes-clause-lessens
-returns-in-Writes-clause-lessens g c kept =
+pub returns-in-Writes-clause-nearer : goal.returns-in-Writes-clause-nearer
+returns-in-Writes-clause-nearer g c =
     let w = g.T.Turns.standing c.args.turns.now in
     let v = g.T.Turns.standing c.next_at.new.turns in
     let s = c.args.book.stream in
     let n = c.next_at.new.book.stream in
     let seen = (g.T.Turns.standing c.write_for-book.new.turns).seen in
+    let keeps = c.keeps_for_write-keeps in
     let asked = subst (λ (a : Call). IsToBeWritten v.setup n a c.in-Writes.page v.seen)
     (to_write_call w v s w.in_flight c.args.call c.in-Writes.call c.in-Writes.page c.args.out.now c.next_at.new.out c.in-Writes.ensures.went c.in-Writes.ensures.left)
     (to_write w v s w.in_flight c.args.call c.in-Writes.call c.in-Writes.page c.args.out.now c.next_at.new.out c.in-Writes.ensures.went n c.next_at.ensures.book.stream c.in-Writes.ensures.left) in
-    subst (λ (o : Course). HasLess s c.args.call o w.seen seen) (sym c.course_of.ensures)
-    (round-wrote w v s c.args.book c.next_at.new.book c.requires.both.book c.requires.both.rest.device c.args.call (stepped-answered c.args.call c.requires.stepped) (brings-room c.args.call c.requires.brings)
-    c.in-Writes.ensures.placed c.next_at.ensures.book c.next_at.ensures.rest.device c.in-Writes.page n c.keeps_for_write-keeps.result c.write_for-book.result.1 seen
-    c.next_at.ensures.book.stream (c.keeps_for_write-keeps.ensures.kept ∙ or_left _ _ kept) asked c.write_for-book.ensures.written)
+    subst (λ (o : Course). IsNearer s c.args.call o c.args.rounds.now keeps.new.self w.seen seen) (sym c.course_of.ensures)
+    (nearer-wrote s c.args.call (course_of c.write_for-book.result.1) c.args.rounds.now keeps.new.self w.seen seen c.in-Writes.page keeps.result
+    keeps.ensures.kept keeps.ensures.stays keeps.ensures.block keeps.ensures.read
+    (λ kept.
+    round-wrote w v s c.args.book c.next_at.new.book c.requires.both.book c.requires.both.rest.device c.args.call (stepped-answered c.args.call c.requires.stepped) (brings-room c.args.call c.requires.brings)
+    c.in-Writes.ensures.placed c.next_at.ensures.book c.next_at.ensures.rest.device c.in-Writes.page n keeps.result c.write_for-book.result.1 seen
+    c.next_at.ensures.book.stream kept asked c.write_for-book.ensures.written))
 
-pub returns-in-Reads-clause-lessens : goal.returns-in-Reads-clause-lessens
-returns-in-Reads-clause-lessens g c kept =
+pub returns-in-Reads-clause-nearer : goal.returns-in-Reads-clause-nearer
+returns-in-Reads-clause-nearer g c =
     let w = g.T.Turns.standing c.args.turns.now in
     let v = g.T.Turns.standing c.next_at.new.turns in
     let s = c.args.book.stream in
     let n = c.next_at.new.book.stream in
     let page = c.in-Reads.page in
     let seen = (g.T.Turns.standing c.bring-book.new.turns).seen in
+    let keeps = c.keeps_for_read-keeps in
     let call_is = to_read_call w v s (suc w.in_flight) c.args.call c.in-Reads.call page c.args.out.now c.next_at.new.out c.in-Reads.ensures.went c.in-Reads.ensures.left in
     let waited = subst (λ (a : Call). IsWaitedFor v.setup n a page v.seen) call_is
     (to_read w v s (suc w.in_flight) c.args.call c.in-Reads.call page c.args.out.now c.next_at.new.out c.in-Reads.ensures.went n c.next_at.ensures.book.stream c.in-Reads.ensures.left) in
-    let came = subst (λ (a : Call). OnOk c.bring-book.result.1 (HasLanded v n a page seen)) call_is
-    (c.bring-book.ensures.kept (c.keeps_for_read-keeps.ensures.kept ∙ or_left _ _ kept)
-    (subst (λ (t : ℕ). has_room (history v.seen t) page ≡ true) (sym c.next_at.ensures.book.stream) c.in-Reads.ensures.placed.1)) in
-    subst (λ (o : Course). HasLess s c.args.call o w.seen seen) (sym c.course_of-in-Reads.ensures)
-    (round-brought w v s c.args.book c.next_at.new.book c.requires.both.book c.requires.both.rest.device c.args.call (stepped-answered c.args.call c.requires.stepped) (brings-room c.args.call c.requires.brings)
-    c.in-Reads.ensures.placed.0 c.next_at.ensures.book c.next_at.ensures.rest.device page n c.bring-book.result.1 seen c.next_at.ensures.book.stream waited came)
-
-pub returns-in-Reads-clause-kept : goal.returns-in-Reads-clause-kept
-returns-in-Reads-clause-kept g c kept = c.keeps_for_read-keeps.ensures.stays ∙ (c.keeps_for_read-keeps.ensures.kept ∙ or_left _ _ kept)
+    subst (λ (o : Course). IsNearer s c.args.call o c.args.rounds.now keeps.new.self w.seen seen) (sym c.course_of-in-Reads.ensures)
+    (nearer-read s c.args.call (course_of c.bring-book.result.1) c.args.rounds.now keeps.new.self w.seen seen page keeps.result
+    keeps.ensures.kept keeps.ensures.stays keeps.ensures.read keeps.ensures.anew
+    v.setup v.seen n (so-far v.setup v.seen c.next_at.ensures.book.good) c.requires.brings waited
+    (λ kept.
+    round-brought w v s c.args.book c.next_at.new.book c.requires.both.book c.requires.both.rest.device c.args.call (stepped-answered c.args.call c.requires.stepped) (brings-room c.args.call c.requires.brings)
+    c.in-Reads.ensures.placed.0 c.next_at.ensures.book c.next_at.ensures.rest.device page n c.bring-book.result.1 seen c.next_at.ensures.book.stream waited
+    (subst (λ (a : Call). OnOk c.bring-book.result.1 (HasLanded v n a page seen)) call_is
+    (c.bring-book.ensures.kept kept
+    (subst (λ (t : ℕ). has_room (history v.seen t) page ≡ true) (sym c.next_at.ensures.book.stream) c.in-Reads.ensures.placed.1)))))
