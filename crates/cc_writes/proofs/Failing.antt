@@ -8,6 +8,7 @@ use Rattle.cc_entry.specs.declared.error.CcError.TheVariants as error
 use Rattle.cc_entry.specs.declared.reply.Outcome.TheVariants as outcome
 use Rattle.cc_book.specs.Book.{BookState, failed}
 use Rattle.cc_effects.specs.Calls.{CallLeft}
+use Rattle.cc_effects.specs.PageWrites.{pages_begun}
 use Rattle.cc_effects.specs.Refusals.{may_refuse}
 use Rattle.cc_journal.specs.Journal.{JournalState}
 use Rattle.cc_model.specs.Acts.{file_of}
@@ -23,11 +24,13 @@ use Rattle.cc_step.specs.declared.faults.Failed.{Failed}
 use Rattle.cc_step.specs.declared.faults.Failed.TheVariants as ended
 use Rattle.cc_turns.specs.Standing.{Standing}
 use Rattle.cc_turns.specs.Takes.{without_journal}
+use Rattle.cc_writes.specs.Begins.{BeginsNone}
 use Rattle.cc_writes.specs.Hands.{HasBook, SameDisk}
 use Rattle.cc_writes.specs.Told.{answer_of}
 use Rattle.cc_writes.specs.Visits.{IsFiledNow}
 use Rattle.cc_writes.specs.Ways.{IsFull, IsHalted, IsReason, is_met}
 use Rattle.cc_writes.proofs.Attempting.{filed-front, may-step, number-is, visited-refused, visited-same, full-refused, full-stop}
+use Rattle.cc_writes.proofs.Begun.{none-behind, none-idle}
 use Rattle.cc_writes.proofs.VisitDisks.{disk-call, disk-then}
 use Rattle.cc_writes.proofs.VisitEnding.{fault-is, told-left, overtaken-left, full-halted, memoryless-halted}
 use Rattle.cc_writes.proofs.VisitHalting.{met}
@@ -92,6 +95,19 @@ module _ {Q : Type 0} (posted : Q → Bool) (w v : Standing) (it : Call) (b c : 
       (disk-call w.number (suc (calls_of j.entries w.number)) (Some b.stream) it (outcome.Failed fault) j.entries b.stream))
   disk-fail device (ended.Stopped e) left =
       subst (λ (past : List Entry). SameDisk w.seen past b.stream) (sym (ap (λ (x : JournalState Q). x.entries) left.1.same_journal)) (disk-held w b.stream j.entries device vis.grows)
+
+  -- its entry begins no transfer
+  begun-entry : (e : Entry) → pages_begun (e ∷ []) ≡ [] → k.entries ≡ e ∷ j.entries → BeginsNone w.number w.seen k.entries
+  begun-entry e none placed =
+      subst (λ (past : List Entry). BeginsNone w.number w.seen past) (sym placed)
+      (none-behind w.number e w.seen j.entries none (none-idle w.number w.seen j.entries vis.idle))
+
+  pub begun-fail : (end : Failed) → FailLeft w.setup w.number it fault end b c j k → BeginsNone w.number w.seen k.entries
+  begun-fail (ended.Refused e) left = begun-entry (failed w.number j.entries b.stream it e) refl (ap (λ (x : JournalState Q). x.entries) left.placed)
+  begun-fail ended.Told left = begun-entry (failed w.number j.entries b.stream it fault) refl (ap (λ (x : JournalState Q). x.entries) left.placed)
+  begun-fail (ended.Stopped e) left =
+      subst (λ (past : List Entry). BeginsNone w.number w.seen past) (sym (ap (λ (x : JournalState Q). x.entries) left.1.same_journal))
+      (none-idle w.number w.seen j.entries vis.idle)
 
   -- what is left of the call, from whichever moment it was under way
   module _ (begun : List Entry) (halted : IsHalted w.setup w.number b.stream it fault begun w.seen) where

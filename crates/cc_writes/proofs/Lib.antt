@@ -16,6 +16,7 @@ pub mod PagesPlaced
 pub mod VisitStepping
 pub mod VisitHalting
 pub mod Landing
+pub mod Begun
 pub mod Failing
 pub mod Releasing
 pub mod OneVisit

@@ -1,6 +1,6 @@
 //! A page is written for a call, which goes on, or fails.
 
-ghost use Rattle.std.specs.Prelude.{◌≡◌, ◌<◌, true, List, None, Err, IfErr, IfOk, IsErr};
+ghost use Rattle.std.specs.Prelude.{◌≡◌, ◌+◌, ◌<◌, true, List, None, Err, IfErr, IfOk, IsErr};
 ghost use Rattle.cc_entry.specs.declared.entry.End.TheVariants as how;
 ghost use Rattle.cc_entry.specs.declared.entry.Entry.{Entry};
 ghost use Rattle.cc_effects.specs.Asked.{Calls, may_write};
@@ -9,6 +9,7 @@ ghost use Rattle.cc_effects.specs.Refusals.{may_refuse};
 ghost use Rattle.cc_model.specs.History.{history};
 ghost use Rattle.cc_model.specs.Refusals.{refusal};
 ghost use Rattle.cc_step.specs.Step.{is_answered};
+ghost use Rattle.cc_writes.specs.Begins.{BeginsAscending, BeginsNone};
 ghost use Rattle.cc_writes.specs.Hands.{HasBook, IsAtRest, SameDisk, Went};
 ghost use Rattle.cc_writes.specs.Ways.{IsFull, IsHalted, IsReason};
 ghost use Rattle.cc_writes.specs.Visits.{IsOf};
@@ -54,6 +55,8 @@ pub fn write_for<T: Turns>(
         (record { stream = book.stream; page = page }) how.Good keeps (T.standing turns.new).seen) }
     ensures works { IfOk result.1 (λ again. KeepsWork (T.standing turns.old)
         (record { stream = book.stream; page = page }) (T.standing turns.new).seen) }
+    ensures begun { BeginsAscending (T.standing turns.old).number page (page + 1)
+        (T.standing turns.old).seen (T.standing turns.new).seen }
     ensures full { IsFull 2 (T.standing turns.new) result.1 }
 {
     let (book, written) = write_page(turns, disk, book, page, keeps);
@@ -92,6 +95,7 @@ pub fn fail<T: Turns>(
         book.stream call fault begun (T.standing turns.old).seen →
         PageLeft (T.standing turns.old).setup (T.standing turns.old).number call result.1
         begun (T.standing turns.new).seen }
+    ensures begun { BeginsNone (T.standing turns.old).number (T.standing turns.old).seen (T.standing turns.new).seen }
     ensures reason { IfErr result.1 (IsReason (T.standing turns.old).setup book.stream call) }
     ensures failed { IsErr result.1 }
     ensures full { IsFull 2 (T.standing turns.new) result.1 }

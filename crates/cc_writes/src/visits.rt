@@ -10,6 +10,7 @@ ghost use Rattle.cc_effects.specs.Refusals.{may_refuse};
 ghost use Rattle.cc_step.specs.Fill.{MayLand, LandLeft as BookLandLeft};
 ghost use Rattle.cc_model.specs.Setup.{Setup};
 ghost use Rattle.cc_step.specs.Step.{StandUnder, is_answered, is_stepped};
+ghost use Rattle.cc_writes.specs.Begins.{BeginsNone};
 ghost use Rattle.cc_writes.specs.Hands.{HasBook, IsAtRest, SameDisk, Went, WentWith};
 ghost use Rattle.cc_writes.specs.Told.{FitsNext, FitsStepped, StepAs, TriedAs, UnreadTold, answer_of};
 ghost use Rattle.cc_writes.specs.Ways.{FitsIn, IsFull, IsHalted, IsReason, WasWanted};
@@ -194,6 +195,7 @@ pub fn fail_at<T: Turns>(
         book.old.stream call fault begun (T.standing turns.old).seen →
         CallLeft (T.standing turns.old).setup (T.standing turns.old).number call (outcome.Failed result)
         begun (T.standing turns.new).seen }
+    ensures begun { BeginsNone (T.standing turns.old).number (T.standing turns.old).seen (T.standing turns.new).seen }
     ensures reason { IsReason (T.standing turns.old).setup book.old.stream call result }
     ensures full { IsFull {A = Unit {0}} 1 (T.standing turns.new) (Err result) }
 {

@@ -1,5 +1,5 @@
 -- A page well written lets the call go on; a failed transfer or log is a fault that the call may tell.
-use Rattle.std.specs.Prelude.{Result, IfErr, refl}
+use Rattle.std.specs.Prelude.{◌+◌, Result, IfErr, refl}
 use Rattle.std.proofs.Common.{subst, sym, inl}
 use Rattle.cc_entry.specs.declared.call.Call.{Call}
 use Rattle.cc_entry.specs.declared.error.CcError.{CcError}
@@ -9,6 +9,7 @@ use Rattle.cc_writes.specs.Ways.{IsReason}
 use Rattle.cc_writes.specs.declared.writes.PageWrite.TheVariants as write
 use Rattle.cc_writes.specs.Calls.{PageLeft}
 use Rattle.cc_writes.proofs.Disks.{still_of}
+use Rattle.cc_writes.proofs.Begun.{ascend-shown, ascend-ended}
 use Rattle.cc_writes.proofs.Calling.{tells-disk, tells-log, where_ok, shown_ok, written, not_written, not_logged, gave_up, is_halted, fault_left, gave_up-met, reason-since}
 use Rattle.cc_writes.proofs.calls.write_for.Goals as goal
 
@@ -108,3 +109,31 @@ returns-in-Err-clause-reason g c =
     let v = g.T.Turns.standing c.write_page-book.new.turns in
     subst (λ (r : Result Call CcError). IfErr r (IsReason w.setup c.args.book.stream c.args.call)) (sym c.given_up.ensures)
     (inl (gave_up-met w (record { stream = c.args.book.stream; page = c.args.page }) c.args.keeps c.in-Err.error v.seen (rw c.in-Err.is at c.write_page-book.ensures.shown)))
+
+pub returns-in-Ok-Written-clause-begun : goal.returns-in-Ok-Written-clause-begun
+returns-in-Ok-Written-clause-begun g c =
+    let w = g.T.Turns.standing c.args.turns.now in
+    let v = g.T.Turns.standing c.write_page-book.new.turns in
+    ascend-shown w (record { stream = c.args.book.stream; page = c.args.page }) c.args.keeps c.write_page-book.result.1 v.seen c.write_page-book.ensures.shown
+
+pub returns-in-Ok-NotWritten-clause-begun : goal.returns-in-Ok-NotWritten-clause-begun
+returns-in-Ok-NotWritten-clause-begun g c =
+    let w = g.T.Turns.standing c.args.turns.now in
+    let v = g.T.Turns.standing c.write_page-book.new.turns in
+    ascend-ended w.in_flight c.args.page (c.args.page + 1) w v (g.T.Turns.standing c.fail.new.turns).seen c.write_page-book.ensures.went
+    (ascend-shown w (record { stream = c.args.book.stream; page = c.args.page }) c.args.keeps c.write_page-book.result.1 v.seen c.write_page-book.ensures.shown)
+    c.fail.ensures.begun
+
+pub returns-in-Ok-NotLogged-clause-begun : goal.returns-in-Ok-NotLogged-clause-begun
+returns-in-Ok-NotLogged-clause-begun g c =
+    let w = g.T.Turns.standing c.args.turns.now in
+    let v = g.T.Turns.standing c.write_page-book.new.turns in
+    ascend-ended w.in_flight c.args.page (c.args.page + 1) w v (g.T.Turns.standing c.fail-in-Ok-NotLogged.new.turns).seen c.write_page-book.ensures.went
+    (ascend-shown w (record { stream = c.args.book.stream; page = c.args.page }) c.args.keeps c.write_page-book.result.1 v.seen c.write_page-book.ensures.shown)
+    c.fail-in-Ok-NotLogged.ensures.begun
+
+pub returns-in-Err-clause-begun : goal.returns-in-Err-clause-begun
+returns-in-Err-clause-begun g c =
+    let w = g.T.Turns.standing c.args.turns.now in
+    let v = g.T.Turns.standing c.write_page-book.new.turns in
+    ascend-shown w (record { stream = c.args.book.stream; page = c.args.page }) c.args.keeps c.write_page-book.result.1 v.seen c.write_page-book.ensures.shown
