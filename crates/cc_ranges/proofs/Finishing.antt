@@ -10,7 +10,7 @@ use Rattle.cc_entry.specs.declared.entry.Entry.TheVariants as entry
 use Rattle.cc_entry.specs.declared.error.CcError.{CcError}
 use Rattle.cc_entry.specs.declared.reply.Outcome.TheVariants as outcome
 use Rattle.cc_entry.specs.declared.reply.Reply.TheVariants as reply
-use Rattle.cc_book.specs.Book.{BookState}
+use Rattle.cc_book.specs.Book.{BookState, done, failed}
 use Rattle.cc_effects.specs.Calls.{CallLeft}
 use Rattle.cc_journal.specs.Journal.{JournalState}
 use Rattle.cc_model.specs.History.{history}
@@ -20,10 +20,12 @@ use Rattle.cc_model.specs.Setup.{Setup}
 use Rattle.cc_step.specs.Step.{IsStop}
 use Rattle.cc_turns.specs.Standing.{Standing}
 use Rattle.cc_turns.specs.Takes.{without_journal}
+use Rattle.cc_writes.specs.Begins.{BeginsNone}
 use Rattle.cc_writes.specs.Hands.{HasBook, IsAtRest, SameDisk}
 use Rattle.cc_writes.specs.Visits.{IsFiledNow}
 use Rattle.cc_writes.specs.Ways.{IsFull}
 use Rattle.cc_writes.proofs.Attempting.{number-is, may-as, visited-done, visited-refused, visited-same, full-refused, full-stop}
+use Rattle.cc_writes.proofs.Begun.{none-behind, none-idle}
 use Rattle.cc_writes.proofs.VisitDisks.{disk-same, disk-call}
 use Rattle.cc_writes.proofs.VisitStepping.{disk-grew}
 use Rattle.cc_writes.proofs.Visiting.{Visiting, Visited}
@@ -89,6 +91,18 @@ module _ {Q : Type 0} (posted : Q → Bool) (w v : Standing) (file : File) (span
       disk-grew posted w v it b c j k has vis refl filed rest _ (disk-call w.number (suc (calls_of j.entries w.number)) (Some b.stream) it (outcome.Failed e) j.entries b.stream) (ap (λ (x : JournalState Q). x.entries) left.placed)
   disk-finish (finished.Stopped e) left =
       disk-grew posted w v it b c j k has vis refl filed rest j.entries (disk-same j.entries b.stream) (ap (λ (x : JournalState Q). x.entries) left.1.same_journal)
+
+  -- its entry begins no transfer
+  pub begun-finish : (ended : Finished) → FinishLeft w.setup w.number file span ended b c j k → BeginsNone w.number w.seen k.entries
+  begun-finish finished.Done left =
+      subst (λ (past : List Entry). BeginsNone w.number w.seen past) (sym (ap (λ (x : JournalState Q). x.entries) left.placed))
+      (none-behind w.number (done w.number j.entries b.stream it reply.Unit) w.seen j.entries refl (none-idle w.number w.seen j.entries vis.idle))
+  begun-finish (finished.Refused e) left =
+      subst (λ (past : List Entry). BeginsNone w.number w.seen past) (sym (ap (λ (x : JournalState Q). x.entries) left.placed))
+      (none-behind w.number (failed w.number j.entries b.stream it e) w.seen j.entries refl (none-idle w.number w.seen j.entries vis.idle))
+  begun-finish (finished.Stopped e) left =
+      subst (λ (past : List Entry). BeginsNone w.number w.seen past) (sym (ap (λ (x : JournalState Q). x.entries) left.1.same_journal))
+      (none-idle w.number w.seen j.entries vis.idle)
 
   pub full-finish : (ended : Finished) → FinishLeft w.setup w.number file span ended b c j k → IsFull 1 (without_journal k v) (answer_of ended)
   full-finish finished.Done left = tt

@@ -20,6 +20,7 @@ use Rattle.cc_effects.specs.Asked.{Calls, is_admitted, may_write}
 use Rattle.cc_effects.specs.Calls.{CallLeft, IsUnderWay}
 use Rattle.cc_effects.specs.Moments.{IsIdle, Others}
 use Rattle.cc_effects.proofs.Starts.{begins}
+use Rattle.cc_effects.proofs.Stretches.{idle-none}
 use Rattle.cc_laws.proofs.HistorySteps.{history-sync}
 use Rattle.cc_laws.proofs.ImageSteps.{open_of-synced}
 use Rattle.cc_model.specs.History.{history}
@@ -34,16 +35,18 @@ use Rattle.cc_turns.specs.Standing.{Standing, Held, DiskAtFirst, nothing}
 use Rattle.cc_turns.specs.Takes.{Takes, with_book, without_book}
 use Rattle.cc_turns.proofs.DiskGrows.{open_of-quiet}
 use Rattle.cc_turns.proofs.Taking.{disk_kept, transfer_kept}
+use Rattle.cc_writes.specs.Begins.{BeginsAscending, BeginsNone}
 use Rattle.cc_writes.specs.Hands.{WentWith}
 use Rattle.cc_writes.specs.Visits.{HasPlaced}
 use Rattle.cc_writes.specs.Ways.{WasAdmitted}
+use Rattle.cc_writes.proofs.Begun.{ascend-none, ascend-then, none-behind, none-idle, none-then}
 use Rattle.cc_writes.proofs.Others.{under_way-on, some-on}
 use Rattle.cc_writes.proofs.Resting.{is-held}
 use Rattle.cc_writes.specs.Calls.{MayFaultInWriting, PageLeft}
 use Rattle.cc_writes.specs.Writes.{HasBoth, HasTransferred, WantedMemory}
 use Rattle.cc_writes.proofs.Halting.{given-up}
 use Rattle.cc_writes.proofs.OneVisit.{went-then}
-use Rattle.cc_ranges.specs.Flush.{IsFlushing, IsAtPage, IsAtSync, IsAtEnd, IsSyncTold, RoundLeft, round_of}
+use Rattle.cc_ranges.specs.Flush.{IsFlushing, IsAtPage, IsAtSync, IsAtEnd, IsSyncTold, RoundBegins, RoundLeft, round_of}
 use Rattle.cc_ranges.specs.declared.flush.Round.{Round}
 use Rattle.cc_ranges.specs.declared.flush.Round.TheVariants as round
 use Rattle.cc_ranges.specs.Settled.{IsSettledAll}
@@ -194,6 +197,37 @@ ended-of w v file span ended begun new went left =
 pub memoryless-left : (u : Setup) (me : ℕ) (file : File) (span : Option Range) (begun new : List Entry) → WantedMemory me (Calls (call.Flush file span)) begun new → CallLeft u me (call.Flush file span) (outcome.Failed error.NoMemory) begun new
 memoryless-left u me file span begun new wanted = given-up u me (call.Flush file span) (record { stream = 0; page = 0 }) error.NoMemory begun new refl refl (inr wanted)
 
+-- a step, which begins no transfer, and then the writing of a page begin that page's alone
+pub begun-round : (flight from page : ℕ) (w v : Standing) (written : Result Call CcError) (new : List Entry) → WentWith flight w v → from ≤ page → page < 2 ^ 51 → BeginsNone w.number w.seen v.seen → BeginsAscending v.number page (page + 1) v.seen new → RoundBegins w.number (round_of written page) from w.seen new
+begun-round flight from page w v written new went first below none begun = by written
+  where
+    to : (high : ℕ) → BeginsAscending w.number page high v.seen new → BeginsAscending w.number from high w.seen new
+    to high more = ascend-then w.number from page high w.seen v.seen new (ascend-none w.number from page w.seen v.seen first none) more
+
+    here : BeginsAscending w.number page (page + 1) v.seen new
+    here = subst (λ (n : ℕ). BeginsAscending n page (page + 1) v.seen new) (ap (λ (x : Standing). x.number) went.same) begun
+
+    by : (r : Result Call CcError) → RoundBegins w.number (round_of r page) from w.seen new
+    by (Ok again) = to (page + 1) here
+    by (Err e) =
+        to (2 ^ 51) (ascend-then w.number page (page + 1) (2 ^ 51) v.seen new new here (ascend-none w.number (page + 1) (2 ^ 51) new new (omega (arith, below)) (none-idle w.number new new (idle-none w.number new))))
+
+-- the entry of its sync begins none
+pub begun-synced : (w : Standing) (s : ℕ) (end : End) (seen : List Entry) → IsSyncTold w s end seen → BeginsNone w.number w.seen seen
+begun-synced w s end seen told =
+    none-then w.number w.seen (entry.Sync w.number s end ∷ told.front) seen
+    (none-behind w.number (entry.Sync w.number s end) w.seen told.front refl (none-idle w.number w.seen told.front told.before))
+    (none-idle w.number (entry.Sync w.number s end ∷ told.front) seen told.after)
+
+-- so its sync and its end begin none
+pub begun-end : (w v : Standing) (s : ℕ) (end : End) (new : List Entry) → WentWith 0 w v → IsSyncTold w s end v.seen → BeginsNone v.number v.seen new → BeginsNone w.number w.seen new
+begun-end w v s end new went told last =
+    none-then w.number w.seen v.seen new (begun-synced w s end v.seen told) (subst (λ (n : ℕ). BeginsNone n v.seen new) (ap (λ (x : Standing). x.number) went.same) last)
+
+-- and none has begun where nothing was placed
+pub begun-nothing : (me : ℕ) (past : List Entry) → BeginsNone me past past
+begun-nothing me past = none-idle me past past (idle-none me past)
+
 -- How the rounds go on: what is in hand stands, and a flush that was under way as they began has come to this page.
 pub record ComesOn {D : Type 0} (told : D → Option Disk) (faults : D → ℕ) (w v : Standing) (file : File) (span : Option Range)
     (from : ℕ) (b : BookState) (disk : D) : Type 0 where
@@ -204,6 +238,20 @@ pub record ComesOn {D : Type 0} (told : D → Option Disk) (faults : D → ℕ) 
   pub went : WentWith w.in_flight w v
   pub left : (begun : List Entry) → IsUnderWay w.number (call.Flush file span) begun w.seen → IsFlushing w.number file span from begun v.seen
   pub within : from ≤ 2 ^ 51
+  pub begun : BeginsAscending w.number 0 from w.seen v.seen
+
+-- they begin
+pub comes-first : {D : Type 0} (told : D → Option Disk) (faults : D → ℕ) (w : Standing) (file : File) (span : Option Range) (b : BookState) (disk : D) → b.stream ≡ file.stream → b.stream < w.streams → HasBoth told faults w b.stream b disk → w.in_flight ≡ 0 → ComesOn told faults w w file span 0 b disk
+comes-first told faults w file span b disk stream known both none = record {
+  stream = stream;
+  known = known;
+  both = both;
+  none = none;
+  went = record { same = refl };
+  left = λ begun way. record { way = way; settled = λ p less has. absurd (omega (arith, less)) };
+  within = omega arith;
+  begun = ascend-none w.number 0 0 w.seen w.seen (omega arith) (begun-nothing w.number w.seen);
+}
 
 module _ {D : Type 0} (told : D → Option Disk) (faults : D → ℕ) (w v x : Standing) (file : File) (span : Option Range) (from : ℕ)
     (b c : BookState) (disk now : D) (on : ComesOn told faults w v file span from b disk) where
@@ -226,9 +274,13 @@ module _ {D : Type 0} (told : D → Option Disk) (faults : D → ℕ) (w v x : S
       subst (λ (n : ℕ). RoundLeft w.setup n file span came begun x.seen) number_on
       (subst (λ (u : Setup). RoundLeft u v.number file span came begun x.seen) setup_on (left begun (flushing_on begun way)))
 
+  -- what it began to write since the rounds began ascends
+  pub begun-on : (to : ℕ) → BeginsAscending v.number from to v.seen x.seen → BeginsAscending w.number 0 to w.seen x.seen
+  begun-on to more = ascend-then w.number 0 from to w.seen v.seen x.seen on.begun (subst (λ (n : ℕ). BeginsAscending n from to v.seen x.seen) number_on more)
+
   -- it has come to another page
-  pub comes-on : (to : ℕ) → HasBoth told faults x b.stream c now → WentWith v.in_flight v x → to ≤ 2 ^ 51 → ((begun : List Entry) → IsFlushing v.number file span from begun v.seen → RoundLeft v.setup v.number file span (round.CameTo to) begun x.seen) → ComesOn told faults w x file span to c now
-  comes-on to both went within left = record {
+  pub comes-on : (to : ℕ) → HasBoth told faults x b.stream c now → WentWith v.in_flight v x → to ≤ 2 ^ 51 → RoundBegins v.number (round.CameTo to) from v.seen x.seen → ((begun : List Entry) → IsFlushing v.number file span from begun v.seen → RoundLeft v.setup v.number file span (round.CameTo to) begun x.seen) → ComesOn told faults w x file span to c now
+  comes-on to both went within more left = record {
     stream = both.book.stream ∙ on.stream;
     known = subst (λ (n : ℕ). n < x.streams) (sym both.book.stream) (subst (λ (n : ℕ). b.stream < n) (sym (ap (λ (y : Standing). y.streams) went.same)) on.known);
     both = subst (λ (n : ℕ). HasBoth told faults x n c now) (sym both.book.stream) both;
@@ -236,6 +288,7 @@ module _ {D : Type 0} (told : D → Option Disk) (faults : D → ℕ) (w v x : S
     went = subst (λ (n : ℕ). WentWith n w x) flight (went-then w.in_flight v.in_flight w v x on.went went);
     left = round-on (round.CameTo to) left;
     within = within;
+    begun = begun-on to more;
   }
     where
       flight : v.in_flight ≡ w.in_flight
@@ -258,3 +311,11 @@ module _ {D : Type 0} (told : D → Option Disk) (faults : D → ℕ) (w v x : S
     ended-on ended begun new left =
         subst (λ (n : ℕ). CallLeft w.setup n (call.Flush file span) ended begun new) (number_after ∙ number_on)
         (subst (λ (u : Setup). CallLeft u x.number (call.Flush file span) ended begun new) (setup_after ∙ setup_on) left)
+
+    -- it begins no transfer as it syncs and ends
+    pub begun-ended : BeginsNone v.number v.seen x.seen → (new : List Entry) → BeginsNone x.number x.seen new → BeginsAscending w.number 0 (2 ^ 51) w.seen new
+    begun-ended none new last =
+        ascend-then w.number 0 from (2 ^ 51) w.seen v.seen new on.begun
+        (subst (λ (n : ℕ). BeginsAscending n from (2 ^ 51) v.seen new) number_on
+        (ascend-none v.number from (2 ^ 51) v.seen new on.within
+        (none-then v.number v.seen x.seen new none (subst (λ (n : ℕ). BeginsNone n x.seen new) number_after last))))

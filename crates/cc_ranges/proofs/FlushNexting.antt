@@ -7,7 +7,7 @@ use Rattle.cc_entry.specs.declared.call.Call.{Call}
 use Rattle.cc_entry.specs.declared.call.Call.TheVariants as call
 use Rattle.cc_entry.specs.declared.entry.Entry.{Entry}
 use Rattle.cc_entry.specs.declared.reply.Outcome.TheVariants as outcome
-use Rattle.cc_book.specs.Book.{BookState}
+use Rattle.cc_book.specs.Book.{BookState, failed}
 use Rattle.cc_journal.specs.Journal.{JournalState}
 use Rattle.cc_model.specs.History.{history}
 use Rattle.cc_model.specs.Holds.{holds_of}
@@ -16,9 +16,11 @@ use Rattle.cc_model.specs.Setup.{Setup}
 use Rattle.cc_step.specs.Step.{StandUnder, MayStep}
 use Rattle.cc_turns.specs.Standing.{Standing}
 use Rattle.cc_turns.specs.Takes.{without_journal}
+use Rattle.cc_writes.specs.Begins.{BeginsNone}
 use Rattle.cc_writes.specs.Hands.{HasBook, IsAtRest, SameDisk, WentWith}
 use Rattle.cc_writes.specs.Visits.{IsFiledNow, IsOf}
 use Rattle.cc_writes.proofs.Attempting.{number-is, may-as, visited-refused, visited-same, left-refused, left-stopped, full-refused, full-stop}
+use Rattle.cc_writes.proofs.Begun.{none-behind, none-idle}
 use Rattle.cc_writes.proofs.VisitDisks.{disk-same, disk-call}
 use Rattle.cc_writes.proofs.Placing.{stepping-none}
 use Rattle.cc_writes.proofs.Refusals.{stops-free}
@@ -93,6 +95,18 @@ module _ {Q : Type 0} (posted : Q → Bool) (w v : Standing) (file : File) (span
   disk-next (next.Writes page) left = disk-grew posted w v it b c j k has vis refl filed rest j.entries (disk-same j.entries b.stream) (ap (λ (x : JournalState Q). x.entries) left.same_journal)
   disk-next next.Syncs left = disk-grew posted w v it b c j k has vis refl filed rest j.entries (disk-same j.entries b.stream) (ap (λ (x : JournalState Q). x.entries) left.reserved)
   disk-next (next.Stopped e) left = disk-grew posted w v it b c j k has vis refl filed rest j.entries (disk-same j.entries b.stream) (ap (λ (x : JournalState Q). x.entries) left.1.same_journal)
+
+  -- it begins no transfer
+  begun-same : k.entries ≡ j.entries → BeginsNone w.number w.seen k.entries
+  begun-same same = subst (λ (past : List Entry). BeginsNone w.number w.seen past) (sym same) (none-idle w.number w.seen j.entries vis.idle)
+
+  pub begun-next : (ended : Next) → NextLeft w.setup w.number file span from ended b c j k → BeginsNone w.number w.seen k.entries
+  begun-next (next.Refused e) left =
+      subst (λ (past : List Entry). BeginsNone w.number w.seen past) (sym (ap (λ (x : JournalState Q). x.entries) left.placed))
+      (none-behind w.number (failed w.number j.entries b.stream it e) w.seen j.entries refl (none-idle w.number w.seen j.entries vis.idle))
+  begun-next (next.Writes page) left = begun-same (ap (λ (x : JournalState Q). x.entries) left.same_journal)
+  begun-next next.Syncs left = begun-same (ap (λ (x : JournalState Q). x.entries) left.reserved)
+  begun-next (next.Stopped e) left = begun-same (ap (λ (x : JournalState Q). x.entries) left.1.same_journal)
 
   -- how the pass goes on
   pub went-next : w.in_flight ≡ 0 → (ended : Next) → NextLeft w.setup w.number file span from ended b c j k → StepWent (step_of ended) w (without_journal k v)

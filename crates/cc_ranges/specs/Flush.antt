@@ -24,6 +24,7 @@ use Rattle.cc_model.specs.Ranges.{span_has, first_of_span}
 use Rattle.cc_model.specs.Refusals.{refusal}
 use Rattle.cc_model.specs.Setup.{Setup}
 use Rattle.cc_turns.specs.Standing.{Standing}
+use Rattle.cc_writes.specs.Begins.{BeginsAscending, BeginsNone}
 use Rattle.cc_writes.specs.Hands.{Went, WentWith}
 use Rattle.cc_writes.specs.Ways.{IsFullError, IsHalted}
 use Rattle.cc_writes.specs.Writes.{IsToWrite, WantedMemory}
@@ -132,6 +133,13 @@ IsFullRound asked w other = Unit {0}
 abbrev pub IsRising : Round → ℕ → Type 0
 IsRising (round.CameTo to) from = (from < to) × (to ≤ 2 ^ 51)
 IsRising other from = Unit {0}
+
+-- The pages that it began to write in a round ascend, from the one to which it had come on: it has come past each, or
+-- failed.
+abbrev pub RoundBegins : ℕ → Round → ℕ → List Entry → List Entry → Type 0
+RoundBegins me (round.Ended e) from old new = BeginsAscending me from (2 ^ 51) old new
+RoundBegins me (round.CameTo to) from old new = BeginsAscending me from to old new
+RoundBegins me round.Syncs from old new = BeginsNone me old new
 
 -- how far a flush came that wrote a page, or failed
 abbrev pub round_of : Result Call CcError → ℕ → Round

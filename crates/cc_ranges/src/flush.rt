@@ -5,10 +5,11 @@ ghost use Rattle.cc_entry.specs.declared.call.Call.TheVariants as call;
 ghost use Rattle.cc_entry.specs.declared.entry.Entry.{Entry};
 ghost use Rattle.cc_effects.specs.Calls.{CallLeft, IsUnderWay};
 ghost use Rattle.cc_model.specs.Ranges.{first_of_span};
+ghost use Rattle.cc_writes.specs.Begins.{BeginsAscending, BeginsNone};
 ghost use Rattle.cc_writes.specs.Hands.{HasBook, IsAtRest, SameDisk, Went, WentWith};
 ghost use Rattle.cc_writes.specs.Ways.{IsFull};
 ghost use Rattle.cc_writes.specs.Writes.{HasBoth};
-ghost use Rattle.cc_ranges.specs.Flush.{IsFlushing, IsAtSync, IsAtEnd, IsSyncTold, RoundLeft, RoundWent, IsFullRound, IsRising, outcome_of, round_of};
+ghost use Rattle.cc_ranges.specs.Flush.{IsFlushing, IsAtSync, IsAtEnd, IsSyncTold, RoundBegins, RoundLeft, RoundWent, IsFullRound, IsRising, outcome_of, round_of};
 
 use crate::flush_visits::{Step, finish_at, next_at, place_sync};
 use cc_book::Book;
@@ -51,6 +52,8 @@ pub fn flush_held<T: Turns>(
         IsUnderWay (T.standing turns.old).number (call.Flush file span) begun (T.standing turns.old).seen →
         CallLeft (T.standing turns.old).setup (T.standing turns.old).number (call.Flush file span) (outcome_of result.1)
         begun (T.standing turns.new).seen }
+    ensures ascending { BeginsAscending (T.standing turns.old).number 0 (2 ^ 51)
+        (T.standing turns.old).seen (T.standing turns.new).seen }
     ensures full { IsFull 2 (T.standing turns.new) result.1 }
 {
     let mut from = 0;
@@ -80,6 +83,7 @@ fn write_next<T: Turns>(
     requires stream { book.stream ≡ file.stream }
     requires both { HasBoth T.Disk.told T.Disk.faults (T.standing turns.old) book.stream book disk.old }
     requires none { (T.standing turns.old).in_flight ≡ 0 }
+    requires within { from ≤ 2 ^ 51 }
     requires flushing { (begun : List Entry) ×
         IsFlushing (T.standing turns.old).number file span.now from begun (T.standing turns.old).seen }
     ensures both { HasBoth T.Disk.told T.Disk.faults (T.standing turns.new) book.stream result.0 disk.new }
@@ -88,6 +92,8 @@ fn write_next<T: Turns>(
         IsFlushing (T.standing turns.old).number file span.now from begun (T.standing turns.old).seen →
         RoundLeft (T.standing turns.old).setup (T.standing turns.old).number file span.now result.1
         begun (T.standing turns.new).seen }
+    ensures ascending { RoundBegins (T.standing turns.old).number result.1 from
+        (T.standing turns.old).seen (T.standing turns.new).seen }
     ensures rising { IsRising result.1 from }
     ensures full { IsFullRound 2 (T.standing turns.new) result.1 }
 {
@@ -135,6 +141,7 @@ fn sync_held<T: Turns>(
         begun (T.standing turns.old).seen →
         CallLeft (T.standing turns.old).setup (T.standing turns.old).number (call.Flush file span.now)
         (outcome_of result.1) begun (T.standing turns.new).seen }
+    ensures begun { BeginsNone (T.standing turns.old).number (T.standing turns.old).seen (T.standing turns.new).seen }
     ensures full { IsFull 2 (T.standing turns.new) result.1 }
 {
     let (mut book, how) = sync_free(turns, disk, book);
@@ -181,6 +188,7 @@ fn end<T: Turns>(
         begun (T.standing turns.old).seen →
         CallLeft (T.standing turns.old).setup (T.standing turns.old).number (call.Flush file span.now)
         (outcome_of result) begun (T.standing turns.new).seen }
+    ensures begun { BeginsNone (T.standing turns.old).number (T.standing turns.old).seen (T.standing turns.new).seen }
     ensures full { IsFull 1 (T.standing turns.new) result }
 {
     match how {

@@ -10,6 +10,7 @@ ghost use Rattle.cc_model.specs.History.{history};
 ghost use Rattle.cc_model.specs.Images.{open_of};
 ghost use Rattle.std.specs.Prelude.{None, Some};
 ghost use Rattle.cc_turns.specs.Standing.{nothing};
+ghost use Rattle.cc_writes.specs.Begins.{BeginsNone};
 ghost use Rattle.cc_writes.specs.Hands.{HasBook, IsAtRest, SameDisk, Went, WentWith};
 ghost use Rattle.cc_writes.specs.Visits.{HasPlaced};
 ghost use Rattle.cc_writes.specs.Ways.{IsFull};
@@ -52,6 +53,7 @@ pub(crate) fn next_at<T: Turns>(
         IsFlushing (T.standing turns.old).number file span.now from begun (T.standing turns.old).seen →
         StepLeft (T.standing turns.old).setup (T.standing turns.old).number file span.now result
         begun (T.standing turns.new).seen }
+    ensures begun { BeginsNone (T.standing turns.old).number (T.standing turns.old).seen (T.standing turns.new).seen }
     ensures ascending { IsAscending result from }
     ensures full { IsFullStep (T.standing turns.new) result }
 {
@@ -101,6 +103,7 @@ pub(crate) fn finish_at<T: Turns>(
         HasSynced (T.standing turns.old).number file span.now begun (T.standing turns.old).seen →
         CallLeft (T.standing turns.old).setup (T.standing turns.old).number (call.Flush file span.now)
         (outcome_of result) begun (T.standing turns.new).seen }
+    ensures begun { BeginsNone (T.standing turns.old).number (T.standing turns.old).seen (T.standing turns.new).seen }
     ensures full { IsFull 1 (T.standing turns.new) result }
 {
     let mut journal = turns.take_journal();

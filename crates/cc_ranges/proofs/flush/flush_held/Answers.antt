@@ -1,13 +1,13 @@
 -- The page that the flush came to rises; each round leaves a flush under way, its sync or its end.
-use Rattle.std.specs.Prelude.{List}
+use Rattle.std.specs.Prelude.{◌^◌, List}
 use Rattle.std.proofs.Common.{subst}
 use Rattle.cc_entry.specs.declared.entry.Entry.{Entry}
 use Rattle.cc_effects.proofs.Starts.{begins}
 use Rattle.cc_entry.specs.declared.call.Call.TheVariants as call
-use Rattle.cc_ranges.specs.Flush.{IsFlushing, IsRising, RoundLeft, RoundWent, outcome_of}
+use Rattle.cc_ranges.specs.Flush.{IsFlushing, IsRising, RoundBegins, RoundLeft, RoundWent, outcome_of}
 use Rattle.cc_ranges.specs.declared.flush.Round.{Round}
 use Rattle.cc_ranges.specs.declared.flush.Round.TheVariants as round
-use Rattle.cc_ranges.proofs.FlushHolding.{some-flushing, round-on, comes-on, at-sync-on, ended-on}
+use Rattle.cc_ranges.proofs.FlushHolding.{begun-ended, begun-on, comes-first, some-flushing, round-on, comes-on, at-sync-on, ended-on}
 use Rattle.cc_ranges.proofs.flush.flush_held.Goals as goal
 
 pub write_next-now-requires-clause-flushing : goal.write_next-now-requires-clause-flushing
@@ -33,8 +33,9 @@ pages-preserved g c =
     let left = subst (λ (r : Round). (begun : List Entry) → IsFlushing v.number c.args.file c.args.span c.pages.from begun v.seen → RoundLeft v.setup v.number c.args.file c.args.span r begun x.seen) c.in-CameTo.is c.write_next-now.ensures.left in
     let went = subst (λ (r : Round). RoundWent r v x) c.in-CameTo.is c.write_next-now.ensures.went in
     let rising = subst (λ (r : Round). IsRising r c.pages.from) c.in-CameTo.is c.write_next-now.ensures.rising in
+    let more = subst (λ (r : Round). RoundBegins v.number r c.pages.from v.seen x.seen) c.in-CameTo.is c.write_next-now.ensures.ascending in
     comes-on g.T.Disk.Told.told g.T.Disk.Told.faults w v x c.args.file c.args.span c.pages.from c.pages.book c.write_next-now.result.0 c.pages.disk c.write_next-now.new.disk c.pages.invariant
-    c.in-CameTo.page c.write_next-now.ensures.both went rising.1 left
+    c.in-CameTo.page c.write_next-now.ensures.both went rising.1 more left
 
 pub sync_held-requires-clause-at : goal.sync_held-requires-clause-at
 sync_held-requires-clause-at g c κs within =
@@ -59,3 +60,29 @@ returns-in-Syncs-clause-left g c begun way =
     (outcome_of c.sync_held.result.1) begun (g.T.Turns.standing c.sync_held.new.turns).seen
     (c.sync_held.ensures.left begun
     (at-sync-on g.T.Disk.Told.told g.T.Disk.Told.faults w v x c.args.file c.args.span c.pages.from c.pages.book c.write_next-now.result.0 c.pages.disk c.write_next-now.new.disk c.pages.invariant 1 went left begun way))
+
+pub write_next-now-requires-clause-within : goal.write_next-now-requires-clause-within
+write_next-now-requires-clause-within g c κs within = c.pages.invariant.within
+
+pub returns-in-Ended-clause-ascending : goal.returns-in-Ended-clause-ascending
+returns-in-Ended-clause-ascending g c =
+    let w = g.T.Turns.standing c.args.turns.now in
+    let v = g.T.Turns.standing c.pages.turns in
+    let x = g.T.Turns.standing c.write_next-now.new.turns in
+    begun-on g.T.Disk.Told.told g.T.Disk.Told.faults w v x c.args.file c.args.span c.pages.from c.pages.book c.write_next-now.result.0 c.pages.disk c.write_next-now.new.disk c.pages.invariant
+    (2 ^ 51) (subst (λ (r : Round). RoundBegins v.number r c.pages.from v.seen x.seen) c.in-Ended.is c.write_next-now.ensures.ascending)
+
+pub returns-in-Syncs-clause-ascending : goal.returns-in-Syncs-clause-ascending
+returns-in-Syncs-clause-ascending g c =
+    let w = g.T.Turns.standing c.args.turns.now in
+    let v = g.T.Turns.standing c.pages.turns in
+    let x = g.T.Turns.standing c.write_next-now.new.turns in
+    let went = subst (λ (r : Round). RoundWent r v x) c.in-Syncs.is c.write_next-now.ensures.went in
+    begun-ended g.T.Disk.Told.told g.T.Disk.Told.faults w v x c.args.file c.args.span c.pages.from c.pages.book c.write_next-now.result.0 c.pages.disk c.write_next-now.new.disk c.pages.invariant 1 went
+    (subst (λ (r : Round). RoundBegins v.number r c.pages.from v.seen x.seen) c.in-Syncs.is c.write_next-now.ensures.ascending)
+    (g.T.Turns.standing c.sync_held.new.turns).seen c.sync_held.ensures.begun
+
+pub pages-init : goal.pages-init
+pages-init g c =
+    comes-first g.T.Disk.Told.told g.T.Disk.Told.faults (g.T.Turns.standing c.args.turns.now) c.args.file c.args.span c.args.book c.args.disk.now
+    c.requires.stream c.requires.known c.requires.both c.requires.none

@@ -1,5 +1,5 @@
 -- The page that the step names is dirty, and the flush admitted; so it may be written, and the round is what it left.
-use Rattle.std.specs.Prelude.{◌≡◌, ℕ, true, None}
+use Rattle.std.specs.Prelude.{◌≡◌, ℕ, ◌^◌, true, None}
 use Rattle.std.proofs.Common.{ap, sym, ◌∙◌, subst}
 use Rattle.cc_entry.specs.declared.call.Call.TheVariants as call
 use Rattle.cc_effects.specs.Asked.{is_admitted}
@@ -10,9 +10,10 @@ use Rattle.cc_step.proofs.Admitted.{admitted}
 use Rattle.cc_turns.specs.Standing.{Standing}
 use Rattle.cc_writes.specs.Writes.{HasBoth, IsToWrite}
 use Rattle.cc_writes.proofs.Disks.{still_of}
-use Rattle.cc_ranges.specs.Flush.{RoundLeft}
+use Rattle.cc_writes.proofs.Begun.{ascend-none}
+use Rattle.cc_ranges.specs.Flush.{RoundBegins, RoundLeft}
 use Rattle.cc_ranges.specs.declared.flush.Round.{Round}
-use Rattle.cc_ranges.proofs.FlushHolding.{asks-page, round-wrote}
+use Rattle.cc_ranges.proofs.FlushHolding.{asks-page, begun-round, round-wrote}
 use Rattle.cc_ranges.proofs.flush.write_next.Goals as goal
 
 pub write_for-book-requires-clause-both : goal.write_for-book-requires-clause-both
@@ -69,3 +70,18 @@ returns-in-Writes-clause-left g c begun is =
     subst (λ (r : Round). RoundLeft w.setup w.number c.args.file c.args.span.now r begun x.seen) (sym c.round_of.ensures)
     (round-wrote w v w.in_flight c.next_at.new.book.stream c.args.file c.args.span.now c.in-Writes.page c.write_for-book.result.1 x.seen c.in-Writes.ensures.went
     c.next_at.ensures.book.stream c.write_for-book.ensures.left c.write_for-book.ensures.written begun (c.in-Writes.ensures.left begun is))
+
+pub returns-in-Ended-clause-ascending : goal.returns-in-Ended-clause-ascending
+returns-in-Ended-clause-ascending g c =
+    let w = g.T.Turns.standing c.args.turns.now in
+    let v = g.T.Turns.standing c.next_at.new.turns in
+    ascend-none w.number c.args.from (2 ^ 51) w.seen v.seen c.requires.within c.next_at.ensures.begun
+
+pub returns-in-Writes-clause-ascending : goal.returns-in-Writes-clause-ascending
+returns-in-Writes-clause-ascending g c =
+    let w = g.T.Turns.standing c.args.turns.now in
+    let v = g.T.Turns.standing c.next_at.new.turns in
+    let x = g.T.Turns.standing c.write_for-book.new.turns in
+    subst (λ (r : Round). RoundBegins w.number r c.args.from w.seen x.seen) (sym c.round_of.ensures)
+    (begun-round w.in_flight c.args.from c.in-Writes.page w v c.write_for-book.result.1 x.seen c.in-Writes.ensures.went c.in-Writes.ensures.ascending.0 c.in-Writes.ensures.ascending.1
+    c.next_at.ensures.begun c.write_for-book.ensures.begun)

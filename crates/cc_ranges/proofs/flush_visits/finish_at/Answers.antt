@@ -6,12 +6,13 @@ use Rattle.cc_entry.specs.declared.error.CcError.{CcError}
 use Rattle.cc_effects.specs.Calls.{CallLeft}
 use Rattle.cc_turns.specs.Standing.{Standing}
 use Rattle.cc_turns.specs.Takes.{without_journal}
+use Rattle.cc_writes.specs.Begins.{BeginsNone}
 use Rattle.cc_writes.specs.Hands.{HasBook, IsAtRest, SameDisk, WentWith}
 use Rattle.cc_writes.specs.Ways.{IsFull}
 use Rattle.cc_writes.proofs.Resting.{rest-went}
 use Rattle.cc_writes.proofs.Visiting.{few-left, visiting}
 use Rattle.cc_ranges.specs.Flush.{answer_of, outcome_of}
-use Rattle.cc_ranges.proofs.Finishing.{may-finish, finished-so, left-finish, visited-finish, disk-finish, full-finish}
+use Rattle.cc_ranges.proofs.Finishing.{may-finish, finished-so, left-finish, visited-finish, disk-finish, begun-finish, full-finish}
 use Rattle.cc_ranges.proofs.flush_visits.finish_at.Goals as goal
 
 pub finish-ended-requires : goal.finish-ended-requires
@@ -170,6 +171,25 @@ returns-clause-disk g c =
     let left = finished-so posted w v file span b n j k has vis here rest c.requires.synced.0 c.requires.synced.1 c.me-pass.result ended c.me-pass.ensures c.finish-ended.ensures in
     subst (λ (x : Standing). SameDisk w.seen x.seen file.stream) (sym c.give_journal.ensures)
     (subst (λ (m : ℕ). SameDisk w.seen k.entries m) here (disk-finish posted w v file span b n j k has vis here rest ended left))
+
+pub returns-clause-begun : goal.returns-clause-begun
+returns-clause-begun g c =
+    let w = g.T.Turns.standing c.args.turns.now in
+    let v = g.T.Turns.standing c.take_journal-journal.new.self in
+    let posted = g.T.Post.PostRoutine.posted in
+    let file = c.args.file in
+    let span = c.args.span.now in
+    let b = c.args.book.now in
+    let j = c.take_journal-journal.result in
+    let here = c.requires.book.stream in
+    let has = subst (λ (n : ℕ). HasBook w n b) (sym here) c.requires.book in
+    let rest = subst (λ (n : ℕ). IsAtRest w n) (sym here) c.requires.rest in
+    let vis = visiting posted w v b.stream b j has c.take_journal-journal.ensures.took c.take_journal-journal.ensures.stands in
+    let n = c.finish-ended.new.book in
+    let k = c.finish-ended.new.journal in
+    let ended = c.finish-ended.result in
+    let left = finished-so posted w v file span b n j k has vis here rest c.requires.synced.0 c.requires.synced.1 c.me-pass.result ended c.me-pass.ensures c.finish-ended.ensures in
+    subst (λ (x : Standing). BeginsNone w.number w.seen x.seen) (sym c.give_journal.ensures) (begun-finish posted w v file span b n j k has vis here rest ended left)
 
 pub returns-clause-left : goal.returns-clause-left
 returns-clause-left g c begun is =

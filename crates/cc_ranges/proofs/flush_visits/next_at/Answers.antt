@@ -3,12 +3,13 @@ use Rattle.std.specs.Prelude.{ℕ}
 use Rattle.std.proofs.Common.{sym, subst}
 use Rattle.cc_turns.specs.Standing.{Standing}
 use Rattle.cc_turns.specs.Takes.{without_journal}
+use Rattle.cc_writes.specs.Begins.{BeginsNone}
 use Rattle.cc_writes.specs.Hands.{HasBook, IsAtRest, SameDisk}
 use Rattle.cc_writes.proofs.Resting.{rest-went}
 use Rattle.cc_writes.proofs.Visiting.{few-left, visiting}
 use Rattle.cc_ranges.specs.Flush.{StepLeft, StepWent, IsFullStep, IsAscending, step_of}
 use Rattle.cc_ranges.specs.declared.flush_visits.Step.{Step}
-use Rattle.cc_ranges.proofs.FlushNexting.{may-next, gone-on, flight_after, few-after, visited-next, disk-next, went-next, left-next, ascending, full-next}
+use Rattle.cc_ranges.proofs.FlushNexting.{may-next, gone-on, flight_after, few-after, visited-next, disk-next, begun-next, went-next, left-next, ascending, full-next}
 use Rattle.cc_ranges.proofs.flush_visits.next_at.Goals as goal
 
 pub next_step-went-requires : goal.next_step-went-requires
@@ -170,6 +171,25 @@ returns-clause-disk g c =
     let left = gone-on posted w v file span c.args.from b n j k has vis here rest c.me-pass.result ended c.me-pass.ensures c.next_step-went.ensures.left in
     subst (λ (x : Standing). SameDisk w.seen x.seen file.stream) (sym c.give_journal.ensures)
     (subst (λ (m : ℕ). SameDisk w.seen k.entries m) here (disk-next posted w v file span c.args.from b n j k has vis here rest ended left))
+
+pub returns-clause-begun : goal.returns-clause-begun
+returns-clause-begun g c =
+    let w = g.T.Turns.standing c.args.turns.now in
+    let v = g.T.Turns.standing c.take_journal-journal.new.self in
+    let posted = g.T.Post.PostRoutine.posted in
+    let file = c.args.file in
+    let span = c.args.span.now in
+    let b = c.args.book.now in
+    let j = c.take_journal-journal.result in
+    let here = c.requires.book.stream in
+    let has = subst (λ (n : ℕ). HasBook w n b) (sym here) c.requires.book in
+    let rest = subst (λ (n : ℕ). IsAtRest w n) (sym here) c.requires.rest in
+    let vis = visiting posted w v b.stream b j has c.take_journal-journal.ensures.took c.take_journal-journal.ensures.stands in
+    let n = c.next_step-went.new.book in
+    let k = c.next_step-went.new.journal in
+    let ended = c.next_step-went.result in
+    let left = gone-on posted w v file span c.args.from b n j k has vis here rest c.me-pass.result ended c.me-pass.ensures c.next_step-went.ensures.left in
+    subst (λ (x : Standing). BeginsNone w.number w.seen x.seen) (sym c.give_journal.ensures) (begun-next posted w v file span c.args.from b n j k has vis here rest ended left)
 
 pub returns-clause-left : goal.returns-clause-left
 returns-clause-left g c begun is =
