@@ -1,8 +1,8 @@
 -- What a flush that was done leaves of its span, and what it leaves with the disk and the book given back.
-use Rattle.std.specs.Prelude.{◌≡◌, ℕ, Bool, true, false, not, ◌==◌, List, [], ◌∷◌, ◌++◌, Contains, Result, Ok, Err, refl}
+use Rattle.std.specs.Prelude.{◌≡◌, ℕ, ◌^◌, Bool, true, false, not, ◌==◌, List, [], ◌∷◌, ◌++◌, Contains, Result, Ok, Err, refl}
 use Rattle.std.specs.declared.option.Option.{Option}
 use Rattle.std.specs.declared.option.Option.TheVariants.{Some, None}
-use Rattle.std.proofs.Common.{ap, sym, ◌∙◌, subst, append_assoc}
+use Rattle.std.proofs.Common.{ap, sym, ◌∙◌, subst, append_assoc, arith}
 use Rattle.std.proofs.lemmas.List.{append_cancel_right}
 use Rattle.cc_entry.specs.Place.{File, Range}
 use Rattle.cc_entry.specs.declared.call.Call.TheVariants as call
@@ -28,8 +28,10 @@ use Rattle.cc_model.specs.Setup.{Setup}
 use Rattle.cc_model.specs.Sizes.{Touch}
 use Rattle.cc_model.specs.Touches.{is_dirty}
 use Rattle.cc_turns.specs.Standing.{Standing, Held, nothing}
-use Rattle.cc_turns.specs.Takes.{Takes, with_device, with_book, without_device, without_book}
+use Rattle.cc_turns.specs.Takes.{Grows, Takes, with_device, with_book, without_device, without_book}
+use Rattle.cc_writes.specs.Begins.{BeginsAscending}
 use Rattle.cc_writes.specs.Hands.{Went}
+use Rattle.cc_writes.proofs.Begun.{ascend-none, ascend-then, none-idle}
 use Rattle.cc_writes.specs.Ways.{IsFull}
 use Rattle.cc_writes.specs.Fetch.{WentOn}
 use Rattle.cc_calls.specs.Answers.{outcome_of}
@@ -101,20 +103,22 @@ module _ (u : Setup) (me : ℕ) (file : File) (span : Option Range) (r : Reply) 
       longer later = ap (λ l. later ++ l) split ∙ sym (append_assoc later after (sync ∷ (left.has_done.before ++ old)))
 
 -- what a flush leaves, where the rest is known of it
-pub flush-ends : (w z : Standing) (file : File) (span : Option Range) (answer : Result (Unit {0}) CcError) → CallLeft w.setup w.number (call.Flush file span) (outcome_of answer) w.seen z.seen → IsFull 2 z answer → WentOn w z → IsGood w.setup z.seen → FlushEnds w z file span answer
-flush-ends w z file span (Ok _) left full on good = record {
+pub flush-ends : (w z : Standing) (file : File) (span : Option Range) (answer : Result (Unit {0}) CcError) → CallLeft w.setup w.number (call.Flush file span) (outcome_of answer) w.seen z.seen → IsFull 2 z answer → WentOn w z → IsGood w.setup z.seen → BeginsAscending w.number 0 (2 ^ 51) w.seen z.seen → FlushEnds w z file span answer
+flush-ends w z file span (Ok _) left full on good begun = record {
   left = left;
   full = full;
   goes_on = on;
   good = good;
+  ascending = begun;
   clean = clean-flush w.setup w.number file span reply.Unit w.seen z.seen left;
   durable = durable-flush w.setup w.number file span reply.Unit w.seen z.seen left;
 }
-flush-ends w z file span (Err e) left full on good = record {
+flush-ends w z file span (Err e) left full on good begun = record {
   left = left;
   full = full;
   goes_on = on;
   good = good;
+  ascending = begun;
   clean = tt;
   durable = tt;
 }
@@ -147,3 +151,19 @@ pub full-given : (y : Standing) (answer : Result (Unit {0}) CcError) → IsFull 
 full-given y (Ok _) full = tt
 full-given y (Err (error.JournalFull entries)) full = full
 full-given y (Err other) full = tt
+
+-- What the pass begins to write with both turns it begins since before it took them.
+pub begun-both : (w v x y z : Standing) (s : ℕ) → Takes (with_device s) w v → Takes (with_book s) v x → BeginsAscending x.number 0 (2 ^ 51) x.seen y.seen → z ≡ without_device (without_book y) → BeginsAscending w.number 0 (2 ^ 51) w.seen z.seen
+begun-both w v x y z s first second begun given =
+    subst (λ (past : List Entry). BeginsAscending w.number 0 (2 ^ 51) w.seen past) (sym (ap (λ (a : Standing). a.seen) given))
+    (since w v y.seen first.grows
+    (subst (λ (n : ℕ). BeginsAscending n 0 (2 ^ 51) v.seen y.seen) (ap (λ (a : Standing). a.number) first.same)
+    (since v x y.seen second.grows
+    (subst (λ (n : ℕ). BeginsAscending n 0 (2 ^ 51) x.seen y.seen) (ap (λ (a : Standing). a.number) second.same) begun))))
+  where
+    since : (old new : Standing) (last : List Entry) → Grows old new.seen → BeginsAscending old.number 0 (2 ^ 51) new.seen last → BeginsAscending old.number 0 (2 ^ 51) old.seen last
+    since old new last grows more =
+        ascend-then old.number 0 0 (2 ^ 51) old.seen new.seen last
+        (ascend-none old.number 0 0 old.seen new.seen (omega arith)
+        (none-idle old.number old.seen new.seen (record { during = grows.later; grew = grows.grew; others = grows.others })))
+        more

@@ -1,10 +1,10 @@
 -- The end of a repin: the hold is ended, and with write through its range is flushed.
-use Rattle.std.specs.Prelude.{◌≡◌, ℕ, ◌+◌, ◌<◌, ◌^◌, Bool, true, List, ◌∷◌, ◌++◌, length, Contains, Result, Ok, Err, OnOk, refl}
+use Rattle.std.specs.Prelude.{◌≡◌, ℕ, ◌+◌, ◌<◌, ◌^◌, Bool, true, false, ◌&&◌, List, ◌∷◌, ◌++◌, length, Contains, Result, Ok, Err, OnOk, refl}
 use Rattle.std.specs.declared.option.Option.{Option}
 use Rattle.std.specs.declared.option.Option.TheVariants.{Some}
 use Rattle.std.proofs.Common.{ap, sym, ◌∙◌, subst, arith, append_assoc}
 use Rattle.std.proofs.lemmas.Bool.{eq-eqb}
-use Rattle.cc_entry.specs.Place.{File, Range}
+use Rattle.cc_entry.specs.Place.{File, Page, Range}
 use Rattle.cc_entry.specs.declared.call.Call.TheVariants as call
 use Rattle.cc_entry.specs.declared.entry.End.TheVariants as how
 use Rattle.cc_entry.specs.declared.entry.Entry.{Entry}
@@ -15,6 +15,7 @@ use Rattle.cc_entry.specs.declared.reply.Outcome.TheVariants as outcome
 use Rattle.cc_entry.specs.declared.reply.Reply.TheVariants as reply
 use Rattle.cc_calls.specs.Answers.{outcome_of}
 use Rattle.cc_calls.specs.Flushes.{FlushEnds, IsDurable}
+use Rattle.cc_effects.specs.Asked.{Calls, is_admitted, may_write}
 use Rattle.cc_effects.specs.Calls.{CallLeft}
 use Rattle.cc_effects.specs.Repins.{IsHoldEnded}
 use Rattle.cc_ranges.specs.Crash.{IsKeptSince}
@@ -32,6 +33,8 @@ use Rattle.cc_own.specs.Own.{HasHold}
 use Rattle.cc_own.proofs.CallsKeep.{at-front, front-keeps, placed-here}
 use Rattle.cc_own.proofs.HeldPages.{held-within}
 use Rattle.cc_turns.specs.Standing.{Standing}
+use Rattle.cc_writes.specs.Begins.{BeginsAscending, BeginsNone}
+use Rattle.cc_writes.proofs.Begun.{ascend-none, ascend-then, none-behind, none-idle, none-then, none-works}
 use Rattle.cc_calls.specs.Held.{IsHolding, range_of}
 use Rattle.cc_calls.specs.Ends.{HoldEnded, UnpinEnds}
 use Rattle.cc_calls.specs.declared.held.Held.{Held}
@@ -58,6 +61,40 @@ durable-since u me s span middle old new d = record {
 durable-answer : (u : Setup) (me s : ℕ) (span : Option Range) (middle old new : List Entry) (answer : Result (Unit {0}) CcError) → OnOk answer (IsDurable u me s span (middle ++ old) new) → OnOk answer (IsDurable u me s span old new)
 durable-answer u me s span middle old new (Ok done) d = durable-since u me s span middle old new d
 durable-answer u me s span middle old new (Err e) d = d
+
+-- the end of a hold writes no page, so it begins no transfer
+never-writes : (id : ℕ) (page : Page) (past : List Entry) → may_write (Calls (call.EndHold id)) page past ≡ false
+never-writes id page past = by (is_admitted (call.EndHold id) page.stream past)
+  where
+    by : (b : Bool) → (b && false) ≡ false
+    by true = refl
+    by false = refl
+
+begun-ended : (w v : Standing) (held : Held) → HoldEnded w v held → BeginsNone w.number w.seen v.seen
+begun-ended w v held ended =
+    let placed = ended.left.placed in
+    let front = ended.left.earlier ++ w.seen in
+    let last = entry.Call w.number placed.nth placed.stream (call.EndHold held.id) (outcome.Done reply.Unit) in
+    subst (λ (past : List Entry). BeginsNone w.number w.seen past) (sym placed.grew)
+    (none-then w.number w.seen (last ∷ front) (placed.later ++ (last ∷ front))
+    (none-behind w.number last w.seen front refl
+    (record { during = ended.left.earlier; grew = refl; none = none-works w.number (call.EndHold held.id) ended.left.earlier w.seen (never-writes held.id) placed.works.each }))
+    (none-idle w.number (last ∷ front) (placed.later ++ (last ∷ front)) (record { during = placed.later; grew = refl; others = placed.quiet })))
+
+-- and without write through that is all
+pub unpinned-alone : (w v : Standing) (held : Held) → HoldEnded w v held → UnpinEnds w v held false (Ok tt)
+unpinned-alone w v held ended = record {
+  left = ended.left;
+  full = tt;
+  goes_on = record { same = same ∙ sym (ap (λ (y : Standing). record w { seen = v.seen; others = v.others; device_turns = y.device_turns }) same) };
+  good = ended.good;
+  ascending = ascend-none w.number 0 (2 ^ 51) w.seen v.seen (omega arith) (begun-ended w v held ended);
+  sure = λ alone. refl;
+  durable = λ through. absurd (cc);
+}
+  where
+    same : v ≡ record w { seen = v.seen; others = v.others; in_flight = w.in_flight }
+    same = ended.goes_on.same
 
 module _ (w v : Standing) (of_kind : HoldKind → Bool) (held : Held) (h : IsHolding w of_kind held) (ended : HoldEnded w v held) where
   abbrev front : List Entry
@@ -113,12 +150,18 @@ module _ (w v : Standing) (of_kind : HoldKind → Bool) (held : Held) (h : IsHol
         (subst (λ (r : Range). OnOk answer (IsDurable w.setup w.number held.file.stream (Some r) v.seen x.seen)) is
         (rw (same-setup, same-number) at flushed.durable)))
 
+    begun : BeginsAscending w.number 0 (2 ^ 51) w.seen x.seen
+    begun =
+        ascend-then w.number 0 0 (2 ^ 51) w.seen v.seen x.seen (ascend-none w.number 0 0 w.seen v.seen (omega arith) (begun-ended w v held ended))
+        (subst (λ (n : ℕ). BeginsAscending n 0 (2 ^ 51) v.seen x.seen) same-number flushed.ascending)
+
     pub unpinned-through : UnpinEnds w x held true answer
     unpinned-through = record {
       left = (v.seen, h.hold, hold-gone, flush-left);
       full = flushed.full;
       goes_on = record { same = flushed.goes_on.same ∙ ap (λ (y : Standing). record y { seen = x.seen; others = x.others; device_turns = x.device_turns }) ended.goes_on.same };
       good = rw same-setup at flushed.good;
+      ascending = begun;
       sure = λ through. absurd (cc);
       durable = λ through. since;
     }

@@ -1,5 +1,5 @@
 -- What the calls that make, use and end holds leave.
-use Rattle.std.specs.Prelude.{◌≡◌, ◌==◌, ℕ, Bool, true, false, Result, Ok, Err, IfOk, IfErr, IsOk, OnOk, List, length}
+use Rattle.std.specs.Prelude.{◌≡◌, ◌==◌, ℕ, ◌^◌, Bool, true, false, Result, Ok, Err, IfOk, IfErr, IsOk, OnOk, List, length}
 use Rattle.std.specs.declared.option.Option.{Option}
 use Rattle.std.specs.declared.option.Option.TheVariants.{Some}
 use Rattle.cc_entry.specs.Place.{File}
@@ -18,6 +18,7 @@ use Rattle.cc_model.specs.Good.{IsGood}
 use Rattle.cc_model.specs.History.{history}
 use Rattle.cc_model.specs.Holds.{holds_of, hold_at}
 use Rattle.cc_turns.specs.Standing.{Standing}
+use Rattle.cc_writes.specs.Begins.{BeginsAscending}
 use Rattle.cc_writes.specs.Hands.{Went}
 use Rattle.cc_writes.specs.Ways.{IsFull}
 use Rattle.cc_calls.specs.Answers.{CallEnds, outcome_of}
@@ -140,13 +141,14 @@ pub record RepinEnds (old new : Standing) (of_kind : HoldKind → Bool) (pinned 
   pub holding : IfOk answer (IsHolding new of_kind)
   pub pinned_still : IsHolding new is_pin pinned
 
--- The end of a repin was answered so. Without write through nothing refuses it. With write through, and done, the range
--- is durable: a sync settled each touch of it that was there as the call began.
+-- The end of a repin was answered so. The pages that it began to write ascend. Without write through nothing refuses it.
+-- With write through, and done, the range is durable: a sync settled each touch of it that was there as the call began.
 pub record UnpinEnds (old new : Standing) (repinned : Held) (through : Bool) (answer : Result (Unit {0}) CcError) : Type 0 where
   pub left : UnpinLeft old.setup old.number repinned.id through (outcome_of answer) old.seen new.seen
   pub full : IsFullOf new answer
   pub goes_on : WentOn old new
   pub good : IsGood old.setup new.seen
+  pub ascending : BeginsAscending old.number 0 (2 ^ 51) old.seen new.seen
   pub sure : through ≡ false → IsOk answer
   pub durable : through ≡ true →
       OnOk answer (IsDurable old.setup old.number repinned.file.stream (Some (range_of repinned)) old.seen new.seen)

@@ -1,5 +1,5 @@
 -- What a flush leaves, and what holds of its span where it was done.
-use Rattle.std.specs.Prelude.{◌≡◌, ℕ, true, false, Result, OnOk, List, ◌∷◌, ◌++◌, length, Contains}
+use Rattle.std.specs.Prelude.{◌≡◌, ℕ, ◌^◌, true, false, Result, OnOk, List, ◌∷◌, ◌++◌, length, Contains}
 use Rattle.std.specs.declared.option.Option.{Option}
 use Rattle.std.specs.declared.option.Option.TheVariants.{Some}
 use Rattle.cc_entry.specs.Place.{File, Range}
@@ -19,6 +19,7 @@ use Rattle.cc_model.specs.Ranges.{span_has}
 use Rattle.cc_model.specs.Setup.{Setup}
 use Rattle.cc_model.specs.Touches.{is_dirty}
 use Rattle.cc_turns.specs.Standing.{Standing}
+use Rattle.cc_writes.specs.Begins.{BeginsAscending}
 use Rattle.cc_calls.specs.Answers.{outcome_of}
 use Rattle.cc_calls.specs.Pages.{IsFullOf, WentOn}
 
@@ -48,13 +49,14 @@ pub record IsDurable (u : Setup) (me s : ℕ) (span : Option Range) (old new : L
       IsKeptSince pages s p bytes (later ++ after) (entry.Sync me s how.Good ∷ (before ++ old)) content
 
 -- A flush of a span was answered so: it left what explains its answer, a journal that is full is full, the pass goes
--- on as it stood and may call again, and what it has seen is good. Where the flush was done, the span is clean if the
--- pass was alone, and durable whoever else was there.
+-- on as it stood and may call again, and what it has seen is good. Whatever it was answered, the pages that it began to
+-- write ascend. Where it was done, the span is clean if the pass was alone, and durable whoever else was there.
 pub record FlushEnds (old new : Standing) (file : File) (span : Option Range)
     (answer : Result (Unit {0}) CcError) : Type 0 where
   pub left : CallLeft old.setup old.number (call.Flush file span) (outcome_of answer) old.seen new.seen
   pub full : IsFullOf new answer
   pub goes_on : WentOn old new
   pub good : IsGood old.setup new.seen
+  pub ascending : BeginsAscending old.number 0 (2 ^ 51) old.seen new.seen
   pub clean : OnOk answer (LeavesClean old.number file.stream span old.seen new.seen)
   pub durable : OnOk answer (IsDurable old.setup old.number file.stream span old.seen new.seen)

@@ -13,7 +13,7 @@ use Rattle.cc_writes.specs.Ways.{IsFull}
 use Rattle.cc_writes.specs.Fetch.{CanCall}
 use Rattle.cc_writes.proofs.TakingBoth.{both_begun, left_since}
 use Rattle.cc_calls.specs.Answers.{outcome_of}
-use Rattle.cc_calls.proofs.FlushCalls.{flush-ends, full-given, setup-both, went-both}
+use Rattle.cc_calls.proofs.FlushCalls.{begun-both, flush-ends, full-given, setup-both, went-both}
 use Rattle.cc_calls.proofs.flushes.flush.Goals as goal
 
 pub flush_held-book-requires-clause-both : goal.flush_held-book-requires-clause-both
@@ -47,5 +47,6 @@ returns g c =
           (subst (λ (a : Standing). IsFull 2 a answer) (sym given) (full-given y answer c.flush_held-book.ensures.full))
           (went-both w v x y z s can.free first second went given)
           (subst (λ (u : Setup). IsGood u z.seen) (setup-both w v x y s first second went)
-          (subst (λ (past : List Entry). IsGood y.setup past) (sym (ap (λ (a : Standing). a.seen) given)) both.book.good));
+          (subst (λ (past : List Entry). IsGood y.setup past) (sym (ap (λ (a : Standing). a.seen) given)) both.book.good))
+          (begun-both w v x y z s first second c.flush_held-book.ensures.ascending given);
     }
