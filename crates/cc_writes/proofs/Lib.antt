@@ -1,5 +1,4 @@
 -- Lemmas of the visits, of the writing of a page, and of the rounds of a call, each before those that cite it.
-pub mod Copying
 pub mod Telling
 pub mod Others
 pub mod Refusals

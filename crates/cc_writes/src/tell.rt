@@ -74,11 +74,6 @@ fn copy(bytes: &Bytes, out: &mut [u8]) -> usize
     ensures front { take result out.new ≡ bytes.now }
     ensures rest { drop result out.new ≡ drop result out.old }
 {
-    let mut told = 0;
-    for run in bytes.runs() {
-        let end = told + run.count as usize;
-        out[told..end].fill(run.byte);
-        told = end;
-    }
-    told
+    bytes.copy_to(out);
+    bytes.len() as usize
 }
