@@ -1,1 +1,3 @@
 pub mod Index
+pub mod Pairs
+pub mod Sections

@@ -1,6 +1,6 @@
 //! The text of a run: its five kinds of section.
 
-ghost use Rattle.std.specs.Prelude.{◌≡◌, ◌++◌, IfOk, OnOk, string_bytes};
+ghost use Rattle.std.specs.Prelude.{◌≡◌, ◌++◌, IfOk, OnOk, codes, string_bytes};
 ghost use Rattle.cc_print.specs.Entries.{entry_text};
 ghost use Rattle.cc_print.specs.Text.{numbered, section, reply_line, setup_lines, caller_lines, each_caller, callers_text, caller_heading, journal_from, table_lines, trace_lines, text_of};
 
@@ -134,18 +134,34 @@ fn push_entry_line(
     text.push_str("\n")
 }
 
-fn journal_lines(
-    alloc: Global,
+fn push_journal_lines(
+    text: &mut String,
     streams: &[StreamLine],
     journal: &[Entry],
-) -> Result<String, AllocError>
-    ensures { IfOk result (λ text. string_bytes text ≡ journal_from streams.now 1 journal.now) }
+) -> Result<(), AllocError>
+    ensures { OnOk result
+        (string_bytes text.new ≡ string_bytes text.old ++ journal_from streams.now 1 journal.now) }
 {
-    let mut text = String::new(alloc);
     for (i, entry) in journal.iter().enumerate() {
-        push_entry_line(&mut text, streams, i as u64 + 1, entry)?;
+        push_entry_line(text, streams, i as u64 + 1, entry)?;
     }
-    Ok(text)
+    Ok(())
+}
+
+// The journal's section. Most of a text is in it, so it is made at its place.
+fn push_journal(
+    text: &mut String,
+    streams: &[StreamLine],
+    journal: &[Entry],
+) -> Result<(), AllocError>
+    ensures { OnOk result
+        (string_bytes text.new ≡ string_bytes text.old ++ section (codes "journal") (journal_from streams.now 1 journal.now)) }
+{
+    if !journal.is_empty() {
+        text.push_str("journal\n")?;
+        push_journal_lines(text, streams, journal)?;
+    }
+    Ok(())
 }
 
 fn table_lines(
@@ -190,13 +206,12 @@ fn whole_text(
     let streams = script.streams.as_slice();
     let replies = Replies::new(alloc, replies)?;
     let setup = setup_lines(alloc, streams, &replies)?;
-    let entries = journal_lines(alloc, streams, journal)?;
     let rows = table_lines(alloc, streams, table)?;
     let trace = trace_lines(alloc, streams, journal)?;
     let mut text = String::new(alloc);
     push_section(&mut text, "setup", setup.as_str())?;
     push_callers(alloc, &mut text, streams, script.lines.as_slice(), &replies)?;
-    push_section(&mut text, "journal", entries.as_str())?;
+    push_journal(&mut text, streams, journal)?;
     push_section(&mut text, "table", rows.as_str())?;
     push_section(&mut text, "trace", trace.as_str())?;
     Ok(text)
