@@ -1,7 +1,7 @@
 -- A page was written for a call, or was not: what the call is then, and what it leaves.
 use Rattle.std.specs.Prelude.{◌≡◌, ℕ, Bool, true, false, Result, Ok, Err, IfErr, List, refl}
-use Rattle.std.specs.declared.option.Option.TheVariants.{None}
-use Rattle.std.proofs.Common.{sym, ap, subst}
+use Rattle.std.specs.declared.option.Option.TheVariants.{None, Some}
+use Rattle.std.proofs.Common.{sym, ap, subst, inl, inr, ◌∙◌}
 use Rattle.std.proofs.lemmas.Bool.{eq-eqb}
 use Rattle.cc_entry.specs.Place.{Page}
 use Rattle.cc_entry.specs.declared.call.Call.{Call}
@@ -13,18 +13,21 @@ use Rattle.cc_effects.specs.Calls.{IsUnderWay}
 use Rattle.cc_effects.specs.Stops.{tells}
 use Rattle.cc_effects.proofs.Starts.{begins}
 use Rattle.cc_model.specs.Faults.{Fault, WriteFailed, LogFailed}
-use Rattle.cc_model.specs.History.{history}
+use Rattle.cc_model.specs.History.{Effect, history}
 use Rattle.cc_model.specs.Refusals.{refusal}
 use Rattle.cc_model.specs.Setup.{Setup}
+use Rattle.cc_model.specs.Stamps.{is_unstamped}
+use Rattle.cc_model.specs.Touches.{is_dirty}
 use Rattle.cc_step.specs.Step.{is_answered}
 use Rattle.cc_turns.specs.Standing.{Standing}
 use Rattle.cc_writes.specs.Hands.{WentWith}
-use Rattle.cc_writes.specs.Ways.{IsAtWork, HasFailed, IsHalted, IsReason, is_met}
+use Rattle.cc_writes.specs.Ways.{IsAtWork, HasFailed, IsFull, IsHalted, IsReason, is_met}
 use Rattle.cc_writes.proofs.Refusals.{may_be_reserved, tells-free}
-use Rattle.cc_writes.specs.Calls.{MayFaultInWriting, PageLeft}
-use Rattle.cc_writes.specs.Writes.{WriteLeft, WriteShown}
+use Rattle.cc_writes.specs.Calls.{IsFullWriting, MayFaultInWriting, PageLeft}
+use Rattle.cc_writes.specs.Writes.{IsToWrite, WriteLeft, WriteShown}
 use Rattle.cc_writes.specs.declared.writes.PageWrite.{PageWrite}
 use Rattle.cc_writes.specs.declared.writes.PageWrite.TheVariants as write
+use Rattle.cc_writes.proofs.Works.{may_write-same}
 use Rattle.cc_writes.proofs.Halting.{at-work, under-way, halted-since, given-up}
 
 -- what the writing of a page of a stream left, of any work that may write it
@@ -53,6 +56,24 @@ tells-log it told handle same = rw same (eq-eqb handle handle refl)
 -- a call that may fault in writing has no reserved entry
 faults-free : (it : Call) → MayFaultInWriting it → may_be_reserved it ≡ false
 faults-free it faults = tells-free it (error.WriteFault 0) (faults.disk 0) refl
+
+-- where there was no room for the page's transfer, the call may write the page still, and it is as dirty
+pub full-write : (A : Type 0) (w v : Standing) (s page : ℕ) (keeps : Bool) (it : Call) (e : CcError) → w.held.book ≡ Some s → w.held.device ≡ Some s → may_write (Calls it) (record { stream = s; page = page }) w.seen ≡ true → IsToWrite (record { stream = s; page = page }) w.seen → WriteShown w (record { stream = s; page = page }) keeps (Err e) v.seen → IsFull {A = A} 2 v (Err e) → IsFullWriting {A = A} it v (Err e)
+full-write A w v s page keeps it (error.JournalFull entries) book device may to_write shown full =
+    let its : Page = record { stream = s; page = page } in
+    let same = shown.same s book device in
+    inr (
+      record {
+        page = its;
+        asked = may_write-same (Calls it) its w.seen v.seen same may;
+        to_write = record {
+          dirty = ap (λ (h : List Effect). is_dirty h page) same ∙ to_write.dirty;
+          stamped = ap (λ (h : List Effect). is_unstamped h page) same ∙ to_write.stamped;
+        };
+      },
+      full,
+    )
+full-write A w v s page keeps it other book device may to_write shown full = inl tt
 
 -- an error of the writing itself is for want of room or of memory
 pub gave_up-met : (w : Standing) (page : Page) (keeps : Bool) (e : CcError) (seen : List Entry) → WriteShown w page keeps (Err e) seen → is_met e ≡ true

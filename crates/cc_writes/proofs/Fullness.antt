@@ -1,15 +1,18 @@
 -- A call that found no room for so many places had none for more.
-use Rattle.std.specs.Prelude.{ℕ, ◌+◌, ◌<◌, ◌≤◌, Result, Ok, Err, length}
-use Rattle.std.proofs.Common.{arith}
-use Rattle.std.proofs.Math.Nat.{le-max_left, le-max_right}
+use Rattle.std.specs.Prelude.{◌≡◌, ℕ, ◌+◌, ◌<◌, ◌≤◌, true, false, Result, Ok, Err, length}
+use Rattle.std.proofs.Common.{arith, inl, inr, sym, true≢false}
 use Rattle.cc_entry.specs.declared.call.Call.{Call}
+use Rattle.cc_entry.specs.declared.call.Call.TheVariants as call
 use Rattle.cc_entry.specs.declared.error.CcError.{CcError}
 use Rattle.cc_entry.specs.declared.error.CcError.TheVariants as error
+use Rattle.cc_effects.specs.Asked.{brings_in}
 use Rattle.cc_model.specs.Room.{reserved_in}
 use Rattle.cc_step.specs.Step.{most_asked}
 use Rattle.cc_turns.specs.Standing.{Standing}
+use Rattle.cc_turns.specs.Takes.{without_book, without_device}
 use Rattle.cc_writes.specs.Ways.{IsFull, IsFullError}
-use Rattle.cc_writes.specs.Fetch.{most_room}
+use Rattle.cc_writes.specs.Calls.{IsFullWriting}
+use Rattle.cc_writes.specs.Fetch.{IsFullFetching}
 use Rattle.cc_writes.specs.Rounds.{IsFullCourse, course_of}
 
 pub full-more : (asked more : ℕ) (w : Standing) (e : CcError) → asked ≤ more → IsFullError asked w e → IsFullError more w e
@@ -25,10 +28,44 @@ full-answer asked more w (Ok a) most full = tt
 full-answer asked more w (Err e) most full = full-more asked more w e most full
 
 -- so of the places that a call asks where it is done
-pub full-ended : {A : Type 0} (it : Call) (w : Standing) (r : Result A CcError) → IsFull (most_asked it) w r → IsFull (most_room it) w r
-full-ended it w r full = full-answer (most_asked it) (most_room it) w r (le-max_right 2 (most_asked it)) full
+pub full-ended : {A : Type 0} (it : Call) (w : Standing) (r : Result A CcError) → IsFull (most_asked it) w r → IsFullFetching it w r
+full-ended it w r full = inl full
 
--- and of the two of a transfer
-pub full-page : (it : Call) (w : Standing) (r : Result Call CcError) → IsFull 2 w r → IsFullCourse (most_room it) w (course_of r)
-full-page it w (Ok again) full = tt
-full-page it w (Err e) full = full-more 2 (most_room it) w e (le-max_left 2 (most_asked it)) full
+-- a call that brings pages in asks one place at least
+asks-one : (it : Call) → brings_in it ≡ true → 1 ≤ most_asked it
+asks-one (call.CopyRead file at len wait) brings = omega arith
+asks-one (call.CopyWrite file at bytes) brings = omega arith
+asks-one (call.Zero file span) brings = omega arith
+asks-one (call.Map file at len) brings = omega arith
+asks-one (call.PinRead file at len exclusive) brings = omega arith
+asks-one (call.PreparePin file at len true exclusive) brings = omega arith
+asks-one (call.PreparePin file at len false exclusive) brings = omega arith
+asks-one (call.MdlRead file at len) brings = omega arith
+asks-one (call.MdlWrite file at len) brings = omega arith
+asks-one (call.AheadStep request) brings = omega arith
+asks-one other brings = absurd (true≢false (sym brings))
+
+-- and where a page of its range comes in, or fails to
+pub full-brought : (it : Call) (w : Standing) (r : Result Call CcError) → brings_in it ≡ true → IsFull 1 w r → IsFullCourse it w (course_of r)
+full-brought it w (Ok again) brings full = tt
+full-brought it w (Err e) brings full = inl (full-more 1 (most_asked it) w e (asks-one it brings) full)
+
+-- or where a page is written for it
+pub full-wrote : (it : Call) (w : Standing) (r : Result Call CcError) → brings_in it ≡ true → IsFullWriting it w r → IsFullCourse it w (course_of r)
+full-wrote it w (Ok again) brings full = tt
+full-wrote it w (Err e) brings (inl full) = inl (full-more 1 (most_asked it) w e (asks-one it brings) full)
+full-wrote it w (Err e) brings (inr full) = inr full
+
+-- so with the turns of the disk and of the book given back
+pub given-full : {A : Type 0} (asked : ℕ) (y : Standing) (answer : Result A CcError) → IsFull asked y answer → IsFull asked (without_device (without_book y)) answer
+given-full asked y (Ok told) full = tt
+given-full asked y (Err (error.JournalFull entries)) full = full
+given-full asked y (Err other) full = tt
+
+pub given-fetching : {A : Type 0} (it : Call) (y : Standing) (answer : Result A CcError) → IsFullFetching it y answer → IsFullFetching it (without_device (without_book y)) answer
+given-fetching it y answer (inl full) = inl (given-full (most_asked it) y answer full)
+given-fetching it y answer (inr full) = inr (full.0, given-full 2 y answer full.1)
+
+pub given-writing : {A : Type 0} (it : Call) (y : Standing) (answer : Result A CcError) → IsFullWriting it y answer → IsFullWriting it (without_device (without_book y)) answer
+given-writing it y answer (inl full) = inl (given-full 1 y answer full)
+given-writing it y answer (inr full) = inr (full.0, given-full 2 y answer full.1)

@@ -1,5 +1,5 @@
 -- A reserved place was given back in a visit: the pass stands as it did, and others went on.
-use Rattle.std.specs.Prelude.{◌≡◌, ℕ, ◌-◌, Bool, false, List, Some, refl}
+use Rattle.std.specs.Prelude.{◌≡◌, ℕ, Bool, false, List, Some, refl}
 use Rattle.std.proofs.Common.{ap, sym, ◌∙◌, subst}
 use Rattle.cc_entry.specs.declared.call.Call.{Call}
 use Rattle.cc_entry.specs.declared.entry.Entry.{Entry}
@@ -16,8 +16,8 @@ use Rattle.cc_writes.specs.Hands.{HasBook, IsAtRest, SameDisk}
 use Rattle.cc_writes.proofs.Others.{under_way-on}
 use Rattle.cc_writes.proofs.Resting.{disk-held, rest-same}
 
-module _ {Q : Type 0} (posted : Q → Bool) (w v : Standing) (j k : JournalState Q) (taken : Takes with_journal w v)
-    (stands : JournalStands posted v j) (released : k ≡ record j { reserved = j.reserved - 1 }) where
+module _ {Q : Type 0} {n : ℕ} (posted : Q → Bool) (w v : Standing) (j k : JournalState Q) (taken : Takes with_journal w v)
+    (stands : JournalStands posted v j) (released : k ≡ record j { reserved = n }) where
   entries_same : k.entries ≡ v.seen
   entries_same = ap (λ (i : JournalState Q). i.entries) released ∙ stands.entries_are
 
@@ -38,7 +38,7 @@ module _ {Q : Type 0} (posted : Q → Bool) (w v : Standing) (j k : JournalState
     grows : Grows w x.seen
     grows = record { later = taken.grows.later; grew = seen_same ∙ taken.grows.grew; quiet = taken.grows.quiet; others = taken.grows.others }
 
-    idle : IsIdle w.number w.seen x.seen
+    pub idle : IsIdle w.number w.seen x.seen
     idle = record { during = grows.later; grew = grows.grew; others = grows.others }
 
     pub book_released : (s : ℕ) (b : BookState) → HasBook w s b → HasBook x s b

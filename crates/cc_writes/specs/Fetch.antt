@@ -1,8 +1,11 @@
 -- What a call asks that fetches its pages, and what it leaves.
-use Rattle.std.specs.Prelude.{◌≡◌, ℕ, ◌<◌, max}
+use Rattle.std.specs.Prelude.{◌≡◌, ℕ, ◌<◌, ◌⊎◌, Result}
 use Rattle.cc_entry.specs.declared.call.Call.{Call}
+use Rattle.cc_entry.specs.declared.error.CcError.{CcError}
 use Rattle.cc_step.specs.Step.{most_asked}
 use Rattle.cc_turns.specs.Standing.{Standing, nothing}
+use Rattle.cc_writes.specs.Calls.{HasToWrite}
+use Rattle.cc_writes.specs.Ways.{IsFull}
 
 -- A pass may call on a stream: the stream has a disk, and the pass holds no turn and has nothing under way.
 pub record CanCall (w : Standing) (s : ℕ) : Type 0 where
@@ -10,9 +13,10 @@ pub record CanCall (w : Standing) (s : ℕ) : Type 0 where
   pub free : w.held ≡ nothing
   pub none : w.in_flight ≡ 0
 
--- As many places as a call asks that brings pages in: those that it may ask where it is done, or the two of a transfer.
-abbrev pub most_room : Call → ℕ
-most_room it = max 2 (most_asked it)
+-- Where a call that brings pages in finds the journal full, there is no room for what its entry asks; or a page is to be
+-- written for it as it finds that, and there is none for the begin of its transfer with the end.
+abbrev pub IsFullFetching : {A : Type 0} → Call → Standing → Result A CcError → Type 0
+IsFullFetching it w answer = IsFull (most_asked it) w answer ⊎ (HasToWrite it w.seen × IsFull 2 w answer)
 
 -- A pass goes on as it stood: it has seen more, what others have reserved may be other, and it may have taken the turn
 -- of a disk.

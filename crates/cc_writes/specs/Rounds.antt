@@ -22,8 +22,9 @@ use Rattle.cc_turns.specs.Transfers.{fill_failed}
 use Rattle.cc_turns.specs.Disk.{DiskStands}
 use Rattle.cc_turns.specs.Standing.{Standing}
 use Rattle.cc_writes.specs.Hands.{SameDisk}
-use Rattle.cc_writes.specs.Ways.{EndedSo, IsFull, WasWanted}
+use Rattle.cc_writes.specs.Ways.{EndedSo, WasWanted}
 use Rattle.cc_writes.specs.Visits.{HasLanded, HasPlaced}
+use Rattle.cc_writes.specs.Fetch.{IsFullFetching}
 use Rattle.cc_writes.specs.Work.{work_left}
 use Rattle.cc_writes.specs.declared.course.Course.{Course}
 use Rattle.cc_writes.specs.declared.course.Course.TheVariants as course
@@ -41,10 +42,10 @@ abbrev pub course_of : Result Call CcError → Course
 course_of (Ok again) = course.Goes again
 course_of (Err e) = course.Ended (Err e)
 
--- a call that found no room, with so many places asked, or goes on, or ended otherwise
-abbrev pub IsFullCourse : ℕ → Standing → Course → Type 0
-IsFullCourse asked w (course.Goes again) = Unit {0}
-IsFullCourse asked w (course.Ended answer) = IsFull asked w answer
+-- a call that found no room, or goes on, or ended otherwise
+abbrev pub IsFullCourse : Call → Standing → Course → Type 0
+IsFullCourse it w (course.Goes again) = Unit {0}
+IsFullCourse it w (course.Ended answer) = IsFullFetching it w answer
 
 -- The disk failed to read a page, and the pass may tell that: the disk stands for what the pass has seen with what
 -- others place meanwhile and the entry of the failure.

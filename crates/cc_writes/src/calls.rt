@@ -13,7 +13,7 @@ ghost use Rattle.cc_writes.specs.Begins.{BeginsAscending, BeginsNone};
 ghost use Rattle.cc_writes.specs.Hands.{HasBook, IsAtRest, SameDisk, Went};
 ghost use Rattle.cc_writes.specs.Ways.{IsFull, IsHalted, IsReason};
 ghost use Rattle.cc_writes.specs.Visits.{IsOf};
-ghost use Rattle.cc_writes.specs.Calls.{KeepsWork, MayFaultInWriting, PageLeft};
+ghost use Rattle.cc_writes.specs.Calls.{IsFullWriting, KeepsWork, MayFaultInWriting, PageLeft};
 ghost use Rattle.cc_writes.specs.Writes.{HasBoth, HasTransferred, IsToWrite};
 
 use crate::fail_at;
@@ -58,6 +58,7 @@ pub fn write_for<T: Turns>(
     ensures begun { BeginsAscending (T.standing turns.old).number page (page + 1)
         (T.standing turns.old).seen (T.standing turns.new).seen }
     ensures full { IsFull 2 (T.standing turns.new) result.1 }
+    ensures writing { IsFullWriting call (T.standing turns.new) result.1 }
 {
     let (book, written) = write_page(turns, disk, book, page, keeps);
     match written {
@@ -98,7 +99,7 @@ pub fn fail<T: Turns>(
     ensures begun { BeginsNone (T.standing turns.old).number (T.standing turns.old).seen (T.standing turns.new).seen }
     ensures reason { IfErr result.1 (IsReason (T.standing turns.old).setup book.stream call) }
     ensures failed { IsErr result.1 }
-    ensures full { IsFull 2 (T.standing turns.new) result.1 }
+    ensures full { IsFull 1 (T.standing turns.new) result.1 }
 {
     let error = fail_at(alloc, turns, &mut book, call, fault);
     (book, Err(error))

@@ -52,7 +52,7 @@ pub(crate) fn bring<T: Turns>(
     ensures kept { IsBroughtKept (T.standing turns.old) book.stream call page keeps result.1 (T.standing turns.new).seen }
     ensures unread { is_on_disk_alone (record { stream = book.stream; page = page }) (T.standing turns.old).seen ≡ false →
         disk.new ≡ disk.old }
-    ensures full { IsFull 2 (T.standing turns.new) result.1 }
+    ensures full { IsFull 1 (T.standing turns.new) result.1 }
 {
     if page < book.valid().div_ceil(4096) {
         bring_read(alloc, turns, disk, book, call, page, keeps)
@@ -87,7 +87,7 @@ fn bring_read<T: Turns>(
         begun (T.standing turns.new).seen }
     ensures brought { OnOk result.1 (BringLeft (T.standing turns.old) book.stream call page (T.standing turns.new).seen) }
     ensures kept { IsBroughtKept (T.standing turns.old) book.stream call page keeps result.1 (T.standing turns.new).seen }
-    ensures full { IsFull 2 (T.standing turns.new) result.1 }
+    ensures full { IsFull 1 (T.standing turns.new) result.1 }
 {
     let mut raw = [0; 4096];
     let (book, answer) = read_page(turns, disk, book, page, &mut raw, keeps);
@@ -175,7 +175,7 @@ fn land<T: Turns>(
         begun (T.standing turns.new).seen }
     ensures landed { OnOk result.1 (LandLeft (T.standing turns.old) book.stream call page (option_copied raw.entry)
         (T.standing turns.new).seen) }
-    ensures full { IsFull 2 (T.standing turns.new) result.1 }
+    ensures full { IsFull 1 (T.standing turns.new) result.1 }
 {
     match land_at(alloc, turns, &mut book, &call, page, raw) {
         Ok(()) => (book, Ok(call)),
@@ -210,7 +210,7 @@ fn unread<T: Turns>(
         begun (T.standing turns.new).seen }
     ensures passed_over { OnOk result.1
         (IsElsewhere (T.standing turns.old) book.stream page (T.standing turns.new).seen) }
-    ensures full { IsFull 2 (T.standing turns.new) result.1 }
+    ensures full { IsFull 1 (T.standing turns.new) result.1 }
 {
     if unread_at(turns, &book, page) {
         fail(alloc, turns, book, call, CcError::ReadFault { page })
@@ -235,7 +235,7 @@ fn release<T: Turns>(turns: &mut T, book: Book, call: Call) -> (Book, Result<Cal
         PageLeft (T.standing turns.old).setup (T.standing turns.old).number call result.1
         begun (T.standing turns.new).seen }
     ensures failed { IsErr result.1 }
-    ensures full { IsFull 2 (T.standing turns.new) result.1 }
+    ensures full { IsFull 1 (T.standing turns.new) result.1 }
 {
     release_at(turns);
     (book, given_up(call, CcError::NoMemory))

@@ -7,10 +7,10 @@ ghost use Rattle.cc_effects.specs.Calls.{IsUnderWay};
 ghost use Rattle.cc_model.specs.Good.{IsGood};
 ghost use Rattle.cc_step.specs.Step.{is_stepped};
 ghost use Rattle.cc_writes.specs.Hands.{Went};
-ghost use Rattle.cc_writes.specs.Ways.{EndedSo, FitsIn, IsFull};
+ghost use Rattle.cc_writes.specs.Ways.{EndedSo, FitsIn};
 ghost use Rattle.cc_writes.specs.Visits.{IsOf};
 ghost use Rattle.cc_writes.specs.Writes.{HasBoth};
-ghost use Rattle.cc_writes.specs.Fetch.{CanCall, WentOn, most_room};
+ghost use Rattle.cc_writes.specs.Fetch.{CanCall, IsFullFetching, WentOn};
 ghost use Rattle.cc_writes.specs.Rounds.{RoundLeft, IsFullCourse, IsNearer, course_of};
 
 use crate::calls::write_for;
@@ -45,7 +45,7 @@ pub fn fetch<T: Turns>(
         IsUnderWay (T.standing turns.old).number call begun (T.standing turns.old).seen →
         EndedSo (T.standing turns.old).setup (T.standing turns.old).number call result
         begun (T.standing turns.new).seen out.old out.new }
-    ensures full { IsFull (most_room call) (T.standing turns.new) result }
+    ensures full { IsFullFetching call (T.standing turns.new) result }
 {
     let mut disk = turns.take_device(stream);
     let book = turns.take_book(stream);
@@ -78,7 +78,7 @@ fn until_ended<T: Turns>(
         IsUnderWay (T.standing turns.old).number call begun (T.standing turns.old).seen →
         EndedSo (T.standing turns.old).setup (T.standing turns.old).number call result.1
         begun (T.standing turns.new).seen out.old out.new }
-    ensures full { IsFull (most_room call) (T.standing turns.new) result.1 }
+    ensures full { IsFullFetching call (T.standing turns.new) result.1 }
 {
     let mut rounds = Rounds::new();
     'pages: loop {
@@ -116,7 +116,7 @@ fn round<T: Turns>(
         begun (T.standing turns.new).seen out.old out.new }
     ensures nearer { IsNearer book.stream call result.1 rounds.old rounds.new
         (T.standing turns.old).seen (T.standing turns.new).seen }
-    ensures full { IsFullCourse (most_room call) (T.standing turns.new) result.1 }
+    ensures full { IsFullCourse call (T.standing turns.new) result.1 }
 {
     match next_at(alloc, turns, &mut book, call, out) {
         Step::Ended(answer) => (book, Course::Ended(answer)),

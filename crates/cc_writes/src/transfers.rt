@@ -1,6 +1,6 @@
 //! The transfer of a page: its begin, the transfer itself, and its end.
 
-ghost use Rattle.std.specs.Prelude.{◌≡◌, ◌<◌, true, None, Some};
+ghost use Rattle.std.specs.Prelude.{◌≡◌, ◌<◌, ◌≤◌, true, None, Some};
 ghost use Rattle.cc_entry.specs.declared.entry.Entry.TheVariants as entry;
 ghost use Rattle.cc_book.specs.Book.{MayPlace};
 ghost use Rattle.cc_model.specs.Covered.{IsLogged};
@@ -101,7 +101,7 @@ pub(crate) fn carry<T: Turns>(
 pub(crate) fn end_at<T: Turns>(turns: &mut T, book: &mut Book, page: PageId, how: End)
     requires book { HasBook (T.standing turns.old) page.stream book.old }
     requires device { (T.standing turns.old).held.device ≡ Some page.stream }
-    requires none { (T.standing turns.old).in_flight ≡ 0 }
+    requires few { (T.standing turns.old).in_flight ≤ 1 }
     requires begun { open_of (history (T.standing turns.old).seen page.stream)
         ≡ Some (record { pass = (T.standing turns.old).number; page = page.page }) }
     ensures book { HasBook (T.standing turns.new) page.stream book.new }

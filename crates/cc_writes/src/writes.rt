@@ -1,6 +1,6 @@
 //! The writing of a page: its log is flushed, then its transfer begins, goes to the disk, and ends.
 
-ghost use Rattle.std.specs.Prelude.{◌≡◌, ◌<◌, true, List};
+ghost use Rattle.std.specs.Prelude.{◌≡◌, ◌<◌, ◌≤◌, true, List};
 ghost use Rattle.cc_entry.specs.declared.entry.Entry.{Entry};
 ghost use Rattle.cc_effects.specs.Asked.{Work, may_write};
 ghost use Rattle.cc_model.specs.Covered.{IsLogged};
@@ -118,7 +118,7 @@ pub fn finish_transfer<T: Turns>(
 ) -> (Book, End)
     requires known { page.stream < (T.standing turns.old).streams }
     requires begun { IsUnderWay T.Disk.told T.Disk.faults (T.standing turns.old) page bytes.now book disk.old }
-    requires none { (T.standing turns.old).in_flight ≡ 0 }
+    requires few { (T.standing turns.old).in_flight ≤ 1 }
     ensures both { HasBoth T.Disk.told T.Disk.faults (T.standing turns.new) page.stream result.0 disk.new }
     ensures went { Went (T.standing turns.old) (T.standing turns.new) }
     ensures left { IsFinished (T.standing turns.old) page result.1 keeps (T.standing turns.new).seen }

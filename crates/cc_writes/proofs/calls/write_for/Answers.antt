@@ -1,16 +1,17 @@
 -- A page well written lets the call go on; a failed transfer or log is a fault that the call may tell.
 use Rattle.std.specs.Prelude.{◌+◌, Result, IfErr, refl}
-use Rattle.std.proofs.Common.{subst, sym, inl}
+use Rattle.std.proofs.Common.{ap, subst, sym, inl, arith}
 use Rattle.cc_entry.specs.declared.call.Call.{Call}
 use Rattle.cc_entry.specs.declared.error.CcError.{CcError}
 use Rattle.cc_entry.specs.declared.error.CcError.TheVariants as error
 use Rattle.cc_model.specs.Faults.{WriteFailed, LogFailed}
 use Rattle.cc_writes.specs.Ways.{IsReason}
 use Rattle.cc_writes.specs.declared.writes.PageWrite.TheVariants as write
-use Rattle.cc_writes.specs.Calls.{PageLeft}
+use Rattle.cc_writes.specs.Calls.{IsFullWriting, PageLeft}
 use Rattle.cc_writes.proofs.Disks.{still_of}
 use Rattle.cc_writes.proofs.Begun.{ascend-shown, ascend-ended}
-use Rattle.cc_writes.proofs.Calling.{tells-disk, tells-log, where_ok, shown_ok, written, not_written, not_logged, gave_up, is_halted, fault_left, gave_up-met, reason-since}
+use Rattle.cc_writes.proofs.Calling.{tells-disk, tells-log, where_ok, shown_ok, written, not_written, not_logged, gave_up, is_halted, fault_left, full-write, gave_up-met, reason-since}
+use Rattle.cc_writes.proofs.Fullness.{full-answer}
 use Rattle.cc_writes.proofs.calls.write_for.Goals as goal
 
 pub returns-in-Ok-Written-clause-left : goal.returns-in-Ok-Written-clause-left
@@ -137,3 +138,29 @@ returns-in-Err-clause-begun g c =
     let w = g.T.Turns.standing c.args.turns.now in
     let v = g.T.Turns.standing c.write_page-book.new.turns in
     ascend-shown w (record { stream = c.args.book.stream; page = c.args.page }) c.args.keeps c.write_page-book.result.1 v.seen c.write_page-book.ensures.shown
+
+pub returns-in-Ok-NotWritten-clause-full : goal.returns-in-Ok-NotWritten-clause-full
+returns-in-Ok-NotWritten-clause-full g c =
+    full-answer 1 2 (g.T.Turns.standing c.fail.new.turns) c.fail.result.1 (omega arith) c.fail.ensures.full
+
+pub returns-in-Ok-NotLogged-clause-full : goal.returns-in-Ok-NotLogged-clause-full
+returns-in-Ok-NotLogged-clause-full g c =
+    full-answer 1 2 (g.T.Turns.standing c.fail-in-Ok-NotLogged.new.turns) c.fail-in-Ok-NotLogged.result.1 (omega arith) c.fail-in-Ok-NotLogged.ensures.full
+
+pub returns-in-Ok-Written-clause-writing : goal.returns-in-Ok-Written-clause-writing
+returns-in-Ok-Written-clause-writing g c = inl tt
+
+pub returns-in-Ok-NotWritten-clause-writing : goal.returns-in-Ok-NotWritten-clause-writing
+returns-in-Ok-NotWritten-clause-writing g c = inl c.fail.ensures.full
+
+pub returns-in-Ok-NotLogged-clause-writing : goal.returns-in-Ok-NotLogged-clause-writing
+returns-in-Ok-NotLogged-clause-writing g c = inl c.fail-in-Ok-NotLogged.ensures.full
+
+pub returns-in-Err-clause-writing : goal.returns-in-Err-clause-writing
+returns-in-Err-clause-writing g c =
+    let w = g.T.Turns.standing c.args.turns.now in
+    let v = g.T.Turns.standing c.write_page-book.new.turns in
+    let error = c.in-Err.error in
+    subst (λ (r : Result Call CcError). IsFullWriting c.args.call v r) (sym c.given_up.ensures)
+    (full-write Call w v c.args.book.stream c.args.page c.args.keeps c.args.call error (ap (λ x. x.book) c.requires.both.book.held) c.requires.both.rest.device
+    c.requires.asked c.requires.to_write (rw c.in-Err.is at c.write_page-book.ensures.shown) (rw c.in-Err.is at c.write_page-book.ensures.full))

@@ -1,5 +1,8 @@
-use Rattle.std.proofs.Common.{ap, ◌∙◌}
+use Rattle.std.proofs.Common.{ap, sym, subst, ◌∙◌}
+use Rattle.cc_turns.specs.Standing.{Standing}
 use Rattle.cc_turns.specs.Takes.{without_device}
+use Rattle.cc_writes.specs.Fetch.{IsFullFetching}
+use Rattle.cc_writes.proofs.Fullness.{given-fetching}
 use Rattle.cc_writes.proofs.TakingBoth.{both_begun, ended_since}
 use Rattle.cc_writes.proofs.rounds.fetch.Goals as goal
 
@@ -16,3 +19,10 @@ returns-clause-left g c =
     c.args.stream c.requires.can c.take_device-disk.ensures.took c.take_book-book.ensures.took (g.T.Turns.standing c.until_ended-book.new.turns)
     (g.T.Turns.standing c.give_device.new.self) c.args.call c.until_ended-book.result.1 c.args.out.now c.until_ended-book.new.out
     (c.give_device.ensures ∙ ap without_device c.give_book.ensures) c.until_ended-book.ensures.left
+
+pub returns-clause-full : goal.returns-clause-full
+returns-clause-full g c =
+    let y = g.T.Turns.standing c.until_ended-book.new.turns in
+    let answer = c.until_ended-book.result.1 in
+    subst (λ (z : Standing). IsFullFetching c.args.call z answer) (sym (c.give_device.ensures ∙ ap without_device c.give_book.ensures))
+    (given-fetching c.args.call y answer c.until_ended-book.ensures.full)

@@ -10,13 +10,12 @@ use Rattle.cc_step.proofs.Waiting.{brings-room}
 use Rattle.cc_model.specs.History.{history}
 use Rattle.cc_step.specs.Room.{has_room}
 use Rattle.cc_writes.specs.Visits.{HasLanded, IsOf, IsToBeWritten, IsWaitedFor}
-use Rattle.cc_writes.specs.Calls.{MayFaultInWriting}
+use Rattle.cc_writes.specs.Calls.{IsFullWriting, MayFaultInWriting}
 use Rattle.cc_writes.specs.Writes.{HasBoth}
 use Rattle.cc_writes.proofs.Disks.{still_of}
-use Rattle.cc_writes.specs.Fetch.{most_room}
 use Rattle.cc_writes.specs.Rounds.{RoundLeft, IsNearer, IsFullCourse, course_of}
 use Rattle.cc_writes.specs.declared.course.Course.{Course}
-use Rattle.cc_writes.proofs.Fullness.{full-ended, full-page}
+use Rattle.cc_writes.proofs.Fullness.{full-ended, full-wrote, full-brought}
 use Rattle.cc_writes.proofs.Going.{may-fault, may-write}
 use Rattle.cc_writes.proofs.Stepping.{to_write_call, to_read_call, to_write, to_read, round_wrote, round_read}
 use Rattle.cc_writes.proofs.Lessening.{went-less, round-wrote, round-brought}
@@ -177,14 +176,19 @@ returns-in-Ended-clause-full g c =
 pub returns-in-Writes-clause-full : goal.returns-in-Writes-clause-full
 returns-in-Writes-clause-full g c =
     let x = g.T.Turns.standing c.write_for-book.new.turns in
-    subst (λ (o : Course). IsFullCourse (most_room c.args.call) x o) (sym c.course_of.ensures)
-    (full-page c.args.call x c.write_for-book.result.1 c.write_for-book.ensures.full)
+    let w = g.T.Turns.standing c.args.turns.now in
+    let v = g.T.Turns.standing c.next_at.new.turns in
+    let s = c.args.book.stream in
+    let same = to_write_call w v s w.in_flight c.args.call c.in-Writes.call c.in-Writes.page c.args.out.now c.next_at.new.out c.in-Writes.ensures.went c.in-Writes.ensures.left in
+    subst (λ (o : Course). IsFullCourse c.args.call x o) (sym c.course_of.ensures)
+    (full-wrote c.args.call x c.write_for-book.result.1 c.requires.brings
+    (subst (λ (it : Call). IsFullWriting it x c.write_for-book.result.1) same c.write_for-book.ensures.writing))
 
 pub returns-in-Reads-clause-full : goal.returns-in-Reads-clause-full
 returns-in-Reads-clause-full g c =
     let x = g.T.Turns.standing c.bring-book.new.turns in
-    subst (λ (o : Course). IsFullCourse (most_room c.args.call) x o) (sym c.course_of-in-Reads.ensures)
-    (full-page c.args.call x c.bring-book.result.1 c.bring-book.ensures.full)
+    subst (λ (o : Course). IsFullCourse c.args.call x o) (sym c.course_of-in-Reads.ensures)
+    (full-brought c.args.call x c.bring-book.result.1 c.requires.brings c.bring-book.ensures.full)
 
 pub returns-in-WentOut-clause-nearer : goal.returns-in-WentOut-clause-nearer
 returns-in-WentOut-clause-nearer g c =

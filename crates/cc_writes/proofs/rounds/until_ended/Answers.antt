@@ -3,8 +3,7 @@ use Rattle.std.specs.Prelude.{ℕ}
 use Rattle.std.proofs.Common.{subst}
 use Rattle.cc_writes.specs.Writes.{HasBoth}
 use Rattle.cc_entry.specs.declared.call.Call.{Call}
-use Rattle.cc_writes.specs.Ways.{IsFull}
-use Rattle.cc_writes.specs.Fetch.{most_room}
+use Rattle.cc_writes.specs.Fetch.{IsFullFetching}
 use Rattle.cc_writes.specs.Rounds.{IsFullCourse, IsNearer}
 use Rattle.cc_writes.specs.declared.course.Course.{Course}
 use Rattle.cc_writes.specs.declared.course.Course.TheVariants as course
@@ -25,8 +24,8 @@ returns-in-Ended-clause-left g c =
 pub returns-in-Ended-clause-full : goal.returns-in-Ended-clause-full
 returns-in-Ended-clause-full g c =
     let x = g.T.Turns.standing c.round-now.new.turns in
-    subst (λ (it : Call). IsFull (most_room it) x c.in-Ended.answer) c.pages.invariant.same
-    (subst (λ (o : Course). IsFullCourse (most_room c.pages.call) x o) c.in-Ended.is c.round-now.ensures.full)
+    subst (λ (it : Call). IsFullFetching it x c.in-Ended.answer) c.pages.invariant.same
+    (subst (λ (o : Course). IsFullCourse c.pages.call x o) c.in-Ended.is c.round-now.ensures.full)
 
 pub pages-preserved : goal.pages-preserved
 pages-preserved g c =

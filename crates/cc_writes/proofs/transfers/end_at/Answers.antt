@@ -1,5 +1,5 @@
 -- One visit: the transfer that the pass began may end on its own place, and the book stands with the end.
-use Rattle.std.proofs.Common.{◌≡◌, ◌<◌, ℕ, ap, sym, ◌∙◌, subst, arith}
+use Rattle.std.proofs.Common.{◌≡◌, ◌<◌, ℕ, ap, sym, ◌∙◌, subst}
 use Rattle.cc_turns.specs.Standing.{Standing}
 use Rattle.cc_writes.specs.Hands.{HasBook, WentWith}
 use Rattle.cc_writes.proofs.Visiting.{few-left}
@@ -53,7 +53,7 @@ give_journal-requires-clause-few g c =
     let me : c.me-pass.result ≡ w.number = c.me-pass.ensures ∙ ap (λ (y : Standing). y.number) c.take_journal-journal.ensures.took.same in
     let e = ending g.T.Post.PostRoutine.posted w v c.args.page c.args.how c.args.book.now c.take_journal-journal.result c.requires.book c.requires.device c.requires.begun (subst (λ (n : ℕ). n < 16) (c.number-stream.ensures.same ∙ c.stream.ensures) c.number-stream.ensures.in_range) vis
     c.me-pass.result me c.end.new.self c.end.new.journal c.end.ensures.placed c.end.ensures.stands c.end.ensures.stream in
-    few-left w.in_flight e.went (omega (arith, c.requires.none))
+    few-left w.in_flight e.went c.requires.few
 
 pub returns-clause-book : goal.returns-clause-book
 returns-clause-book g c =
