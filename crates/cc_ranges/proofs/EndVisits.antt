@@ -1,5 +1,5 @@
 -- The visit in which a noncached write ends.
-use Rattle.std.specs.Prelude.{◌≡◌, ℕ, suc, ◌+◌, ◌-◌, ◌<◌, Bool, true, false, List, [], ◌∷◌, ◌++◌, None, Some, refl, if◌then◌else◌}
+use Rattle.std.specs.Prelude.{◌≡◌, ℕ, suc, ◌+◌, ◌-◌, ◌<◌, ◌≤◌, Bool, true, false, List, [], ◌∷◌, ◌++◌, None, Some, refl, if◌then◌else◌}
 use Rattle.std.specs.List.{AllByRecursion}
 use Rattle.std.proofs.Common.{ap, sym, ◌∙◌, subst, arith}
 use Rattle.std.proofs.lemmas.Bool.{eq-eqb}
@@ -34,9 +34,11 @@ use Rattle.cc_turns.specs.Takes.{Adds, IsOneEvent, without_journal, may_be_of}
 use Rattle.cc_writes.specs.Hands.{HasBook, IsAtRest, WentWith}
 use Rattle.cc_writes.proofs.Owing.{reserved-page_out}
 use Rattle.cc_writes.proofs.Placing.{unneeded-call}
-use Rattle.cc_writes.proofs.OneVisit.{Visiting, Visited, visited, went-held}
+use Rattle.cc_writes.proofs.OneVisit.{Visiting, Visited, visited, stepping-none, went-held}
 use Rattle.cc_writes.proofs.Quiet.{history-kept, stands-same, book-after}
 use Rattle.cc_writes.proofs.Placed.{quiet-page}
+use Rattle.cc_dirty.specs.declared.row.Row.{Row}
+use Rattle.cc_ranges.specs.Stores.{places_kept}
 use Rattle.cc_ranges.specs.Ends.{MayFinishHere, IsOut, IsTidied, IsEnded, HasTidied, HasEndedWrite, HasFailedSince, HasFailedWrite, MayFailHere, write_done, write_failed}
 use Rattle.cc_ranges.proofs.WriteFinishing.{good-unwritten, stored-owes, finish-others, fails-others}
 
@@ -70,13 +72,22 @@ out-own pass page [] me same only = tt
 out-own pass page (e ∷ []) me same only = (subst (λ (x : Entry). may_be_of me x ≡ true) (sym only) (eq-eqb pass me same), tt)
 out-own pass page (e ∷ (other ∷ more)) me same only = absurd only
 
+-- one place is kept where one is kept
+pub kept-one : (kept : Bool) → places_kept kept ≡ 1 → kept ≡ true
+kept-one true one = refl
+kept-one false one = absurd (omega (arith, one))
+
+pub kept-most : (kept : Bool) → places_kept kept ≤ 1
+kept-most true = omega arith
+kept-most false = omega arith
+
 -- What the pass gives after the end, and how it goes on.
-pub record EndVisit {Q : Type 0} (posted : Q → Bool) (w v : Standing) (file : File) (page : Page) (c : BookState) (k : JournalState Q) (Left : Type 0) : Type 0 where
+pub record EndVisit {Q : Type 0} (posted : Q → Bool) (w v : Standing) (file : File) (page : Page) (flight : ℕ) (c : BookState) (k : JournalState Q) (Left : Type 0) : Type 0 where
   pub adds : Adds v k.entries
   pub journal : JournalStands posted (without_journal k v) k
   pub book : HasBook (without_journal k v) page.stream c
   pub rest : IsAtRest (without_journal k v) page.stream
-  pub went : WentWith w.in_flight w (without_journal k v)
+  pub went : WentWith flight w (without_journal k v)
   pub left : Left
 
 module _ {Q : Type 0} (posted : Q → Bool) (w v : Standing) (file : File) (page : Page) (b : BookState) (j : JournalState Q)
@@ -111,8 +122,8 @@ module _ {Q : Type 0} (posted : Q → Bool) (w v : Standing) (file : File) (page
   less-one : (n owed rest mine others : ℕ) → n ≡ owed + mine + others → owed ≡ suc rest → n - 1 ≡ rest + mine + others
   less-one n owed rest mine others is one = omega (arith, is, one)
 
-  rest-after : (k : JournalState Q) (went : WentWith w.in_flight w (without_journal k v)) → open_of (history k.entries page.stream) ≡ None → IsAtRest (without_journal k v) page.stream
-  rest-after k went none = record { device = ap (λ h. h.device) (went-held w.in_flight w (without_journal k v) went) ∙ rest.device; no_transfer = none }
+  rest-after : (flight : ℕ) (k : JournalState Q) (went : WentWith flight w (without_journal k v)) → open_of (history k.entries page.stream) ≡ None → IsAtRest (without_journal k v) page.stream
+  rest-after flight k went none = record { device = ap (λ h. h.device) (went-held flight w (without_journal k v) went) ∙ rest.device; no_transfer = none }
 
   module _ (pass : ℕ) (me : pass ≡ w.number) where
     -- the write of a page that is on the disk
@@ -143,29 +154,41 @@ module _ {Q : Type 0} (posted : Q → Bool) (w v : Standing) (file : File) (page
       out-quiet (e ∷ (other ∷ more)) only t free = absurd only
 
       -- its page went out where it could
-      module _ (c : BookState) (k : JournalState Q) (stream : c.stream ≡ b.stream) (is : IsTidied w.setup pass file page c j k) where
+      module _ (kept : Bool) (flight : w.in_flight ≡ places_kept kept) where
+        -- beside the place of the write's entry that which was kept is reserved
+        pub spare-tidied : places_kept kept < j.reserved
+        spare-tidied = beside j.reserved (reserved_in j.entries) (reserved_in (write_done pass file page j.entries ∷ j.entries)) w.in_flight (places_kept kept) v.others vis.reserved_is flight
+            (after-store j.entries pass (suc (calls_of j.entries pass)) page.stream its reply.Unit refl refl owes)
+          where
+            beside : (n owed less mine kept others : ℕ) → n ≡ owed + mine + others → mine ≡ kept → owed ≡ suc less → kept < n
+            beside n owed less mine kept others is same one = omega (arith, is, same, one)
+
+      module _ (kept : Bool) (flight : w.in_flight ≡ places_kept kept) (c : BookState) (k : JournalState Q) (stream : c.stream ≡ b.stream) (is : IsTidied w.setup pass file page kept c j k) where
         entries-tidied : k.entries ≡ is.tidied ++ j.entries
         entries-tidied = ap (λ x. x.entries) is.placed
 
-        given-tidied : Visited posted w v w.in_flight k
-        given-tidied = visited posted w v w.in_flight is.tidied j k (ap (λ h. h.journal) has.held) vis (record {
+        given-tidied : Visited posted w v 0 k
+        given-tidied = visited posted w v 0 is.tidied j k (ap (λ h. h.journal) has.held) vis (record {
           kept = is.placed ∙ ap (λ (n : ℕ). record j { entries = is.tidied ++ j.entries; reserved = n; rows = k.rows }) (sym (ap (λ x. x.reserved) is.placed));
           good = is.may.stand.good;
           event = out-event pass page is.tidied is.only;
           own = out-own pass page is.tidied w.number me is.only;
           held = out-quiet is.tidied is.only;
           reserved = ap (λ x. x.reserved) is.placed
-              ∙ (vis.reserved_is
-              ∙ ap (λ (n : ℕ). n + w.in_flight + v.others) (sym (ap reserved_in entries-tidied ∙ out-reserved pass page is.tidied j.entries is.only)));
+              ∙ (back j.reserved (reserved_in j.entries) w.in_flight (places_kept kept) v.others vis.reserved_is flight
+              ∙ ap (λ (n : ℕ). n + 0 + v.others) (sym (ap reserved_in entries-tidied ∙ out-reserved pass page is.tidied j.entries is.only)));
         })
+          where
+            back : (n owed mine kept others : ℕ) → n ≡ owed + mine + others → mine ≡ kept → n - kept ≡ owed + 0 + others
+            back n owed mine kept others is same = omega (arith, is, same)
 
-        pub tidying : EndVisit posted w v file page c k (HasTidied w page k.entries × MayFinish k.entries w.number page.stream page.page)
+        pub tidying : EndVisit posted w v file page 0 c k (HasTidied w page k.entries × MayFinish k.entries w.number page.stream page.page)
         tidying = record {
           adds = given-tidied.adds;
           journal = given-tidied.journal;
-          book = book-after w.in_flight w (without_journal k v) page.stream b c has given-tidied.went (stream ∙ has.stream)
+          book = book-after 0 w (without_journal k v) page.stream b c has given-tidied.went (stream ∙ has.stream)
               (subst (λ (n : ℕ). BookStands (w.setup.opening n) k.entries c) (stream ∙ has.stream) is.may.stand.stands) given-tidied.good;
-          rest = rest-after k given-tidied.went is.may.rest;
+          rest = rest-after 0 k given-tidied.went is.may.rest;
           went = given-tidied.went;
           left = (
             record {
@@ -173,6 +196,7 @@ module _ {Q : Type 0} (posted : Q → Bool) (w v : Standing) (file : File) (page
               grows = vis.grows;
               tidied = is.tidied;
               only = subst (λ (n : ℕ). IsOut n page is.tidied) me is.only;
+              out = λ one idle. subst (λ (n : ℕ). is.tidied ≡ entry.PageOut n page ∷ []) me (is.out (kept-one kept (sym flight ∙ one)) idle);
               placed = entries-tidied;
             },
             subst (λ (n : ℕ). MayFinish k.entries n page.stream page.page) me is.may.finishes,
@@ -205,13 +229,13 @@ module _ {Q : Type 0} (posted : Q → Bool) (w v : Standing) (file : File) (page
               ∙ ap (λ (n : ℕ). n + w.in_flight + v.others) (sym (ap reserved_in entries)));
         })
 
-        pub finishing : EndVisit posted w v file page c k (HasEndedWrite w file page k.entries)
+        pub finishing : EndVisit posted w v file page w.in_flight c k (HasEndedWrite w file page k.entries)
         finishing = record {
           adds = given.adds;
           journal = given.journal;
           book = book-after w.in_flight w (without_journal k v) page.stream b c has given.went (stream ∙ has.stream)
               (subst (λ (n : ℕ). BookStands (w.setup.opening n) k.entries c) (stream ∙ has.stream) is.stand.stands) given.good;
-          rest = rest-after k given.went
+          rest = rest-after w.in_flight k given.went
               (ap (λ past. open_of (history past page.stream)) entries
               ∙ (ap open_of (history-done pass (suc (calls_of j.entries pass)) page.stream its reply.Unit j.entries page.stream (eq-eqb page.stream page.stream refl))
               ∙ (open_of-done pass its reply.Unit (history j.entries page.stream) ∙ at_rest)));
@@ -244,12 +268,29 @@ module _ {Q : Type 0} (posted : Q → Bool) (w v : Standing) (file : File) (page
         reserved = some j.reserved (reserved_in j.entries) (reserved_in (write_failed pass file page j.entries ∷ j.entries)) w.in_flight v.others vis.reserved_is owed-failed;
       }
 
-      module _ (c : BookState) (k : JournalState Q) (same_book : c ≡ b) (gains : Gains (failed pass j.entries b.stream its (error.WriteFault page.page)) j k) (goes : GoesOn j.entries k.entries b c) where
+      module _ (kept : Bool) (flight : w.in_flight ≡ places_kept kept) (m : JournalState Q) (gained : Gains (failed pass j.entries b.stream its (error.WriteFault page.page)) j m) where
+        -- the place that was kept is reserved still
+        pub spare-failed : places_kept kept ≤ m.reserved
+        spare-failed = beside m.reserved j.reserved (reserved_in j.entries) (reserved_in (write_failed pass file page j.entries ∷ j.entries)) w.in_flight (places_kept kept) v.others (ap (λ x. x.reserved) gained) vis.reserved_is flight owed-failed
+          where
+            beside : (left n owed less mine kept others : ℕ) → left ≡ n - 1 → n ≡ owed + mine + others → mine ≡ kept → owed ≡ suc less → kept ≤ left
+            beside left n owed less mine kept others one is same owes = omega (arith, one, is, same, owes)
+
+      module _ (kept : Bool) (flight : w.in_flight ≡ places_kept kept) (c : BookState) (m k : JournalState Q) (same_book : c ≡ b) (gains : Gains (failed pass j.entries b.stream its (error.WriteFault page.page)) j m) (goes : GoesOn j.entries m.entries b c) (forgone : k ≡ record m { reserved = m.reserved - places_kept kept }) where
         abbrev end : Entry
         end = write_failed pass file page j.entries
 
-        placed : k ≡ record j { entries = end ∷ j.entries; reserved = j.reserved - 1; rows = k.rows }
-        placed = gains ∙ ap (λ (n : ℕ). record j { entries = failed pass j.entries n its (error.WriteFault page.page) ∷ j.entries; reserved = j.reserved - 1; rows = k.rows }) has.stream
+        placed-failed : m ≡ record j { entries = end ∷ j.entries; reserved = j.reserved - 1; rows = m.rows }
+        placed-failed = gains ∙ ap (λ (n : ℕ). record j { entries = failed pass j.entries n its (error.WriteFault page.page) ∷ j.entries; reserved = j.reserved - 1; rows = m.rows }) has.stream
+
+        rows-failed : k.rows ≡ m.rows
+        rows-failed = ap (λ x. x.rows) forgone
+
+        placed : k ≡ record j { entries = end ∷ j.entries; reserved = (j.reserved - 1) - places_kept kept; rows = k.rows }
+        placed =
+            forgone
+            ∙ (ap (λ (x : JournalState Q). record x { reserved = x.reserved - places_kept kept; rows = m.rows }) placed-failed
+            ∙ ap (λ (l : List Row). record j { entries = end ∷ j.entries; reserved = (j.reserved - 1) - places_kept kept; rows = l }) (sym rows-failed))
 
         entries-failed : k.entries ≡ end ∷ j.entries
         entries-failed = ap (λ x. x.entries) placed
@@ -257,25 +298,28 @@ module _ {Q : Type 0} (posted : Q → Bool) (w v : Standing) (file : File) (page
         quiet-failed : (t : Turn) → holds (record w.held { journal = true }) t ≡ false → is_quiet t (end ∷ []) ≡ true
         quiet-failed t free = is_quiet-unneeded t end [] (unneeded-call w.held pass (suc (calls_of j.entries pass)) page.stream its (outcome.Failed (error.WriteFault page.page)) tt the_book t free) ∙ is_quiet-none t
 
-        given-failed : Visited posted w v w.in_flight k
-        given-failed = visited posted w v w.in_flight (end ∷ []) j k (ap (λ h. h.journal) has.held) vis (record {
+        given-failed : Visited posted w v 0 k
+        given-failed = visited posted w v 0 (end ∷ []) j k (ap (λ h. h.journal) has.held) vis (record {
           kept = placed ∙ ap (λ (n : ℕ). record j { entries = end ∷ j.entries; reserved = n; rows = k.rows }) (sym (ap (λ x. x.reserved) placed));
           good = rw entries-failed (good-unwritten w.setup j.entries pass file page vis.good here fails-now);
           event = tt;
           own = (eq-eqb pass w.number me, tt);
           held = quiet-failed;
           reserved = ap (λ x. x.reserved) placed
-              ∙ (less-one j.reserved (reserved_in j.entries) (reserved_in (end ∷ j.entries)) w.in_flight v.others vis.reserved_is owed-failed
-              ∙ ap (λ (n : ℕ). n + w.in_flight + v.others) (sym (ap reserved_in entries-failed)));
+              ∙ (back j.reserved (reserved_in j.entries) (reserved_in (end ∷ j.entries)) w.in_flight (places_kept kept) v.others vis.reserved_is flight owed-failed
+              ∙ ap (λ (n : ℕ). n + 0 + v.others) (sym (ap reserved_in entries-failed)));
         })
+          where
+            back : (n owed less mine kept others : ℕ) → n ≡ owed + mine + others → mine ≡ kept → owed ≡ suc less → (n - 1) - kept ≡ less + 0 + others
+            back n owed less mine kept others is same owes = omega (arith, is, same, owes)
 
-        pub failing : EndVisit posted w v file page c k (HasFailedWrite w file page k.entries)
+        pub failing : EndVisit posted w v file page 0 c k (HasFailedWrite w file page k.entries)
         failing = record {
           adds = given-failed.adds;
           journal = given-failed.journal;
-          book = book-after w.in_flight w (without_journal k v) page.stream b c has given-failed.went (ap (λ x. x.stream) same_book ∙ has.stream)
-              (goes (w.setup.opening page.stream) (subst (λ (n : ℕ). BookStands (w.setup.opening n) j.entries b) has.stream stand.stands)) given-failed.good;
-          rest = rest-after k given-failed.went
+          book = book-after 0 w (without_journal k v) page.stream b c has given-failed.went (ap (λ x. x.stream) same_book ∙ has.stream)
+              (subst (λ (past : List Entry). BookStands (w.setup.opening page.stream) past c) (sym (ap (λ x. x.entries) forgone)) (goes (w.setup.opening page.stream) (subst (λ (n : ℕ). BookStands (w.setup.opening n) j.entries b) has.stream stand.stands))) given-failed.good;
+          rest = rest-after 0 k given-failed.went
               (ap (λ past. open_of (history past page.stream)) entries-failed
               ∙ (ap open_of (history-call_failed pass (suc (calls_of j.entries pass)) (Some page.stream) its (error.WriteFault page.page) j.entries page.stream) ∙ at_rest));
           went = given-failed.went;
@@ -285,3 +329,17 @@ module _ {Q : Type 0} (posted : Q → Bool) (w v : Standing) (file : File) (page
             placed = entries-failed ∙ ap (λ (n : ℕ). write_failed n file page j.entries ∷ j.entries) me;
           };
         }
+
+-- The place that was kept for a page to go out was given back in a visit that placed nothing.
+pub forgone : {Q : Type 0} (posted : Q → Bool) (w v : Standing) (kept : Bool) (j k : JournalState Q) → w.held.journal ≡ false → Visiting posted w v j → w.in_flight ≡ places_kept kept → k ≡ record j { reserved = j.reserved - places_kept kept } → Visited posted w v 0 k
+forgone posted w v kept j k away vis flight same =
+    visited posted w v 0 [] j k away vis (stepping-none posted w v 0 (j.reserved - places_kept kept) j k vis same (back j.reserved (reserved_in j.entries) w.in_flight (places_kept kept) v.others vis.reserved_is flight))
+  where
+    back : (n owed mine kept others : ℕ) → n ≡ owed + mine + others → mine ≡ kept → n - kept ≡ owed + 0 + others
+    back n owed mine kept others is same = omega (arith, is, same)
+
+pub forgone-spare : {Q : Type 0} (posted : Q → Bool) (w v : Standing) (kept : Bool) (j : JournalState Q) → Visiting posted w v j → w.in_flight ≡ places_kept kept → places_kept kept ≤ j.reserved
+forgone-spare posted w v kept j vis flight = within j.reserved (reserved_in j.entries) w.in_flight (places_kept kept) v.others vis.reserved_is flight
+  where
+    within : (n owed mine kept others : ℕ) → n ≡ owed + mine + others → mine ≡ kept → kept ≤ n
+    within n owed mine kept others is same = omega (arith, is, same)

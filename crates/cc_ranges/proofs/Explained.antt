@@ -15,7 +15,7 @@ use Rattle.cc_entry.specs.declared.reply.Outcome.TheVariants as outcome
 use Rattle.cc_entry.specs.declared.reply.Reply.TheVariants as reply
 use Rattle.cc_book.specs.Stored.{store_done}
 use Rattle.cc_effects.specs.Asked.{Calls, makes_way, may_take_out}
-use Rattle.cc_effects.specs.Moments.{own, Others, EachOwn}
+use Rattle.cc_effects.specs.Moments.{own, IsIdle, Others, EachOwn}
 use Rattle.cc_effects.specs.Noncached.{IsTransferred, IsPageWritten, TakesOut, TransferRefused, bytes_stored}
 use Rattle.cc_effects.proofs.Stretches.{each-append, each-others, own-append, own-others}
 use Rattle.cc_model.specs.Conditions.{MayFinish}
@@ -30,7 +30,7 @@ use Rattle.cc_writes.specs.Transfers.{IsFinished}
 use Rattle.cc_writes.proofs.OneVisit.{went-number}
 use Rattle.cc_writes.proofs.Works.{work-grown}
 use Rattle.cc_ranges.specs.Ends.{IsOut, HasTidied, HasFinished, write_done, write_failed}
-use Rattle.cc_ranges.specs.Pages.{FinishedLeft, PutLeft, IsUnwritten}
+use Rattle.cc_ranges.specs.Pages.{FinishedLeft, PutLeft, IsGivenUp, IsUnwritten}
 use Rattle.cc_ranges.specs.Stores.{HasStored}
 use Rattle.cc_ranges.proofs.WriteFinishing.{finish-others}
 use Rattle.cc_ranges.proofs.Goods.{stored-end}
@@ -158,7 +158,7 @@ module _ (n : ℕ) (w x : Standing) (file : File) (page : Page) (bytes : List �
 
         -- and then others went on, before the entry of the write
         number-then : ended.then_was.number ≡ me
-        number-then = went-number z.in_flight z ended.then_was ended.went ∙ number-is
+        number-then = went-number 0 z ended.then_was ended.went ∙ number-is
 
         others-after : Others me ended.ended.grows.later
         others-after = subst (λ (k : ℕ). Others k ended.ended.grows.later) number-then ended.ended.grows.others
@@ -187,8 +187,8 @@ module _ (n : ℕ) (w x : Standing) (file : File) (page : Page) (bytes : List �
       number-there = went-number x.in_flight x un.then_was un.went ∙ went-number n w x went
 
   -- or that it found no memory
-  pub page-wanted : (seen : List Entry) → IsFinished x page how.NoMemory false seen → TransferRefused me file page.page bytes error.NoMemory begun seen
-  page-wanted seen is = (seen, transferred-so how.NoMemory seen is, record { during = []; grew = refl; others = tt })
+  pub page-wanted : (seen : List Entry) → IsGivenUp x page seen → TransferRefused me file page.page bytes error.NoMemory begun seen
+  page-wanted seen is = (is.then_was.seen, transferred-so how.NoMemory is.then_was.seen is.finished, subst (λ (m : ℕ). IsIdle m is.then_was.seen seen) (went-number n w x went) is.idle)
 
   -- what follows the store leaves what the writing of the page does
   pub put-left : (size : ℕ) → is_the_page page (store_of x.seen x.number) ≡ true → size ≡ size_of (history stored.front page.stream) → 4096 * page.page < size → (answer : Result ℕ CcError) (seen : List Entry) → FinishedLeft x file page (min (size - 4096 * page.page) 4096) answer seen → PutLeft w file page.page bytes answer begun seen

@@ -40,6 +40,7 @@ mod Idle
 mod WriteFinishing
 mod EndVisits
 mod PageWriting
+mod TidyEnds
 mod Explained
 mod WriteReady
 mod Callers

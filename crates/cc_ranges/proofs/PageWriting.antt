@@ -107,7 +107,7 @@ module _ {D : Type 0} (told : D → Option Disk) (faults : D → ℕ) (n : ℕ) 
       hands (subst (λ (past : List Entry). DiskStands told faults (w.disks page.stream) past page.stream disk) (sym is.ended.placed)
       (disk_still told faults (w.disks page.stream) front (write_done y.number file page front ∷ front) page.stream disk
       (disk-call y.number (suc (calls_of front y.number)) (Some page.stream) (call.NcWrite file page.page) (outcome.Done reply.Unit) front page.stream)
-      (disk-grown told faults (w.disks page.stream) y page.stream disk (ap (λ h. h.device) (went-held w.in_flight w y is.went) ∙ both.rest.device)
+      (disk-grown told faults (w.disks page.stream) y page.stream disk (ap (λ h. h.device) (went-held 0 w y is.went) ∙ both.rest.device)
       (tidied y.seen is.tidied) front is.ended.grows)))
 
   pub both-told : HasFailedWrite w file page x.seen → HasBoth told faults x page.stream c disk

@@ -1,8 +1,8 @@
 -- The end of a noncached write on a book and a journal: its page goes out where it can, and its entry is placed.
-use Rattle.std.specs.Prelude.{◌≡◌, ℕ, ◌-◌, ◌<◌, true, List, [], ◌∷◌, ◌++◌, None, Some, refl}
+use Rattle.std.specs.Prelude.{◌≡◌, ℕ, ◌+◌, ◌-◌, ◌<◌, Bool, true, List, [], ◌∷◌, ◌++◌, None, Some, refl}
 use Rattle.std.specs.declared.option.Option.{Option}
 use Rattle.std.specs.List.{list_any}
-use Rattle.std.proofs.Common.{ap, sym, ◌∙◌, subst}
+use Rattle.std.proofs.Common.{ap, sym, ◌∙◌, subst, arith}
 use Rattle.std.proofs.lemmas.Bool.{eq-eqb}
 use Rattle.cc_entry.specs.Place.{File, Page}
 use Rattle.cc_entry.specs.declared.call.Call.{Call}
@@ -31,8 +31,8 @@ use Rattle.cc_model.specs.Legal.{IsLegal, IsLegalEntry}
 use Rattle.cc_model.specs.Passes.{store_of, stored_by, stored_page, is_store, is_the_page, is_written_since, up_to_call}
 use Rattle.cc_model.specs.Setup.{Setup}
 use Rattle.cc_journal.specs.Calls.{ends_in_store}
-use Rattle.cc_step.proofs.Attempts.{reserving, adds-reserving}
 use Rattle.cc_step.proofs.Placed.{so-far}
+use Rattle.cc_ranges.specs.Stores.{places_kept}
 use Rattle.cc_ranges.specs.Ends.{MayFinishHere, IsTidied, IsEnded, IsIdlePage, HasFailedSince, MayFailHere, write_done, write_failed}
 
 nothing_owed : (e : Entry) (past : List Entry) → owed_begin past ≡ None → IsOwed (owed_begin past) e
@@ -81,14 +81,18 @@ module _ {Q : Type 0} (u : Setup) (pass : ℕ) (file : File) (page : Page) (b : 
     pub may-go : MayPlace j.entries out b
     may-go = (u, so-far u (out ∷ j.entries) good-gone, may.stand.stands)
 
-    -- it went out
-    pub gone : (c : BookState) (k : JournalState Q) → Gains out (reserving j) k → GoesOn j.entries k.entries b c → c.stream ≡ b.stream → IsTidied u pass file page c j k
-    gone c k gains goes stream =
-        let placed : k ≡ record j { entries = out ∷ j.entries; rows = k.rows } = adds-reserving out j k gains in
+    -- it went out, at a place that was kept or is reserved now
+    pub gone : (kept : Bool) (c : BookState) (r k : JournalState Q) → places_kept kept < j.reserved → r ≡ record j { reserved = (j.reserved + 1) - places_kept kept } → Gains out r k → GoesOn j.entries k.entries b c → c.stream ≡ b.stream → IsTidied u pass file page kept c j k
+    gone kept c r k spare there gains goes stream =
+        let placed : k ≡ record j { entries = out ∷ j.entries; reserved = j.reserved - places_kept kept; rows = k.rows } =
+        gains
+        ∙ (ap (λ (y : JournalState Q). record y { entries = out ∷ y.entries; reserved = y.reserved - 1; rows = k.rows }) there
+        ∙ ap (λ (n : ℕ). record j { entries = out ∷ j.entries; reserved = n; rows = k.rows }) (less j.reserved (places_kept kept))) in
         let entries : k.entries ≡ out ∷ j.entries = ap (λ x. x.entries) placed in
         record {
           tidied = out ∷ [];
           only = refl;
+          out = λ kept_is idle_is. refl;
           placed = placed;
           may = record {
             stand = record {
@@ -107,18 +111,34 @@ module _ {Q : Type 0} (u : Setup) (pass : ℕ) (file : File) (page : Page) (b : 
               written = ap (λ past. is_written_since past pass (record { stream = page.stream; page = page.page })) entries
                   ∙ (is_written_since-other out j.entries pass (record { stream = page.stream; page = page.page }) refl refl ∙ may.finishes.written);
             };
-            reserved = subst (λ (x : JournalState Q). 0 < x.reserved) (sym placed) may.reserved;
+            reserved = subst (λ (x : JournalState Q). 0 < x.reserved) (sym placed) (more j.reserved (places_kept kept) spare);
           };
         }
+      where
+        less : (n kept : ℕ) → (n + 1 - kept) - 1 ≡ n - kept
+        less n kept = omega arith
 
-  -- it stayed
-  pub stayed : (k : JournalState Q) → k ≡ j → IsTidied u pass file page b j k
-  stayed k same = record {
+        more : (n kept : ℕ) → kept < n → 0 < n - kept
+        more n kept below = omega (arith, below)
+
+  -- it stayed, for it was not idle, or there was no place
+  pub stayed : (kept : Bool) (k : JournalState Q) → places_kept kept < j.reserved → k ≡ record j { reserved = j.reserved - places_kept kept } → (kept ≡ true → IsIdlePage (history j.entries page.stream) page.page → ⊥) → IsTidied u pass file page kept b j k
+  stayed kept k spare same busy = record {
     tidied = [];
     only = tt;
-    placed = same ∙ ap (λ (x : JournalState Q). record j { rows = x.rows }) (sym same);
-    may = subst (λ (x : JournalState Q). MayFinishHere u pass file page b x) (sym same) may;
+    out = λ kept_is idle. absurd (busy kept_is idle);
+    placed = same ∙ ap (λ (x : JournalState Q). record j { reserved = j.reserved - places_kept kept; rows = x.rows }) (sym same);
+    may = subst (λ (x : JournalState Q). MayFinishHere u pass file page b x) (sym same) (record {
+      stand = record { good = may.stand.good; stands = may.stand.stands; logs_are = may.stand.logs_are; threshold_is = may.stand.threshold_is };
+      here = may.here;
+      rest = may.rest;
+      finishes = may.finishes;
+      reserved = more j.reserved (places_kept kept) spare;
+    });
   }
+    where
+      more : (n kept : ℕ) → kept < n → 0 < n - kept
+      more n kept below = omega (arith, below)
 
   abbrev its : Call
   its = call.NcWrite file page.page

@@ -18,6 +18,8 @@ use Rattle.cc_writes.specs.Hands.{Went, WentWith}
 use Rattle.cc_writes.specs.Ways.{IsAtWork, IsReason}
 use Rattle.cc_writes.specs.Calls.{KeepsWork, MayFaultInWriting, PageLeft}
 use Rattle.cc_writes.specs.Writes.{HasBoth}
+use Rattle.cc_effects.proofs.Starts.{begins}
+use Rattle.cc_writes.proofs.Halting.{at-work}
 use Rattle.cc_writes.proofs.OneVisit.{went-then}
 use Rattle.cc_writes.proofs.Works.{either}
 use Rattle.cc_writes.specs.Rounds.{course_of}
@@ -28,6 +30,13 @@ use Rattle.cc_ranges.specs.WriteVisits.{IsTurnedAway, IsWriting, page_in}
 use Rattle.cc_ranges.specs.declared.write_held.Round.{Round}
 use Rattle.cc_ranges.proofs.Goods.{store-step_refusal}
 use Rattle.cc_ranges.proofs.Misshapen.{unshaped}
+
+-- the write of a page begins
+pub begins-writing : (me : ℕ) (file : File) (page : ℕ) (seen : List Entry) → IsWriting me file page seen seen
+begins-writing me file page seen = record {
+  way = begins me (call.NcWrite file page) seen;
+  stores = λ bytes. at-work me (call.NcStore file page bytes) seen seen (begins me (call.NcStore file page bytes) seen);
+}
 
 -- a page in the way may be written for the write, and for its store
 pub may-fault : (file : File) (page : ℕ) → MayFaultInWriting (call.NcWrite file page)

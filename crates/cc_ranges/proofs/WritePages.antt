@@ -1,12 +1,15 @@
 -- The pages of a noncached write, one after the other, each with the turns of its disk and its book.
-use Rattle.std.specs.Prelude.{◌≡◌, ℕ, suc, ◌+◌, ◌-◌, ◌*◌, ◌/◌, ◌<◌, ◌≤◌, Bool, true, false, nat_lt, min, Result, Ok, Err, List, [], ◌∷◌, length, take, drop, Some, None, refl, if◌then◌else◌}
+use Rattle.std.specs.Prelude.{◌≡◌, ℕ, suc, ◌+◌, ◌-◌, ◌*◌, ◌/◌, ◌<◌, ◌≤◌, Bool, true, false, nat_lt, min, Result, Ok, Err, OnOk, List, [], ◌∷◌, ◌++◌, length, take, drop, Some, None, refl, if◌then◌else◌}
 use Rattle.std.specs.declared.option.Option.{Option}
 use Rattle.std.proofs.Common.{ap, sym, ◌∙◌, subst, arith}
 use Rattle.std.proofs.lemmas.List.{drop-drop}
-use Rattle.cc_entry.specs.Place.{File}
+use mathlib.Core.Logic.{dite}
+use native.Mathlib.Decide.{ℕ_discrete}
+use Rattle.cc_entry.specs.Place.{File, Page}
 use Rattle.cc_entry.specs.declared.call.Call.TheVariants as call
 use Rattle.cc_entry.specs.declared.entry.Entry.{Entry}
 use Rattle.cc_entry.specs.declared.error.CcError.{CcError}
+use Rattle.cc_effects.specs.Moments.{AtSome}
 use Rattle.cc_effects.specs.Noncached.{AlignedWriteLeft, IsPageWritten, MisshapenLeft, PageWritesRefused, PagesWritten, ShapedWriteLeft, shape_refusal}
 use Rattle.cc_effects.proofs.Starts.{begins}
 use Rattle.cc_effects.proofs.Stretches.{idle-none}
@@ -22,18 +25,14 @@ use Rattle.cc_writes.proofs.Fullness.{full-more}
 use Rattle.cc_writes.proofs.Halting.{at-work}
 use Rattle.cc_ranges.specs.Answers.{write_of}
 use Rattle.cc_ranges.specs.WriteHeld.{PageLeft}
-use Rattle.cc_ranges.specs.WriteVisits.{IsWriting}
-use Rattle.cc_ranges.specs.Writes.{NcWriteEnds, PageWriteEnds, PagesLeft, PagesWriteEnds}
+use Rattle.cc_ranges.specs.WriteVisits.{IsWriting, page_in}
+use Rattle.cc_ranges.specs.Writes.{AreTidied, NcWriteEnds, PageWriteEnds, PagesLeft, PagesWriteEnds}
 use Rattle.cc_ranges.specs.declared.error.NcError.{NcError}
 use Rattle.cc_ranges.proofs.Callers.{went-then}
+use Rattle.cc_ranges.specs.Ends.{IsTidyEnd, write_done}
+use Rattle.cc_ranges.proofs.TidyEnds.{Behind, at-later, behind-then, refused-behind, tidy-as, tidy-went-on}
+use Rattle.cc_ranges.proofs.WriteHolding.{begins-writing}
 use Rattle.cc_ranges.proofs.WriteNexting.{writing-on}
-
--- the write of a page begins
-begins-writing : (me : ℕ) (file : File) (page : ℕ) (seen : List Entry) → IsWriting me file page seen seen
-begins-writing me file page seen = record {
-  way = begins me (call.NcWrite file page) seen;
-  stores = λ bytes. at-work me (call.NcStore file page bytes) seen seen (begins me (call.NcStore file page bytes) seen);
-}
 
 -- what it leaves from the takes on, it leaves from before them, with both given back
 pub page-since : (w v x : Standing) (s : ℕ) → CanCall w s → Takes (with_device s) w v → Takes (with_book s) v x → (y z : Standing) (file : File) (page : ℕ) (bytes : List ℕ) (answer : Result ℕ CcError) → z ≡ without_device (without_book y) → ((begun : List Entry) → IsWriting x.number file page begun x.seen → PageLeft x.setup x.number file page bytes answer begun y.seen) → PageLeft w.setup w.number file page bytes answer w.seen z.seen
@@ -44,6 +43,13 @@ page-since w v x s can first second y z file page bytes answer given left =
     subst (λ (past : List Entry). PageLeft w.setup w.number file page bytes answer w.seen past) (sym (ap (λ (a : Standing). a.seen) given))
     (subst (λ (n : ℕ). PageLeft w.setup n file page bytes answer w.seen y.seen) (number_both w v x s can first second)
     (subst (λ (u : Setup). PageLeft u x.number file page bytes answer w.seen y.seen) (setup_both w v x s can first second) (left w.seen here)))
+
+-- so that its page went out where it could
+pub tidy-both : (w v x : Standing) (s : ℕ) → CanCall w s → Takes (with_device s) w v → Takes (with_book s) v x → (file : File) (page : Page) (answer : Result ℕ CcError) (seen now : List Entry) → now ≡ seen → OnOk answer (IsTidyEnd x.setup x.most_others x.number file page x.seen seen) → OnOk answer (IsTidyEnd w.setup w.most_others w.number file page w.seen now)
+tidy-both w v x s can first second file page answer seen now same is =
+    subst (λ (past : List Entry). OnOk answer (IsTidyEnd w.setup w.most_others w.number file page w.seen past)) (sym same)
+    (tidy-as w x file page answer seen (setup_both w v x s can first second) (ap (λ (a : Standing). a.most_others) second.same ∙ ap (λ (a : Standing). a.most_others) first.same) (number_both w v x s can first second)
+    (let on = idle w v x s can first second in (on.during, on.grew)) is)
 
 -- a store changes a page at most
 stored-few : (page size : ℕ) → (stored_range page size).to - 4096 * page ≤ 4096
@@ -68,6 +74,8 @@ pub record WritesOn (w v : Standing) (file : File) (first done changed : ℕ) (p
   pub went : WentOn w v
   pub within : changed ≤ 4096 * done
   pub good : IsGood w.setup w.seen → IsGood w.setup v.seen
+  pub behind : Behind v.seen w.seen
+  pub tidied : AreTidied w v file first done
   pub ahead : (n rest : ℕ) (new : List Entry) →
       PagesWritten w.number file (first + done) n (drop (4096 * done) piece) rest v.seen new →
       PagesWritten w.number file first (done + n) piece (changed + rest) w.seen new
@@ -77,6 +85,8 @@ writes-begin w file first piece = record {
   went = record { same = refl };
   within = omega arith;
   good = λ good. good;
+  behind = ([], refl);
+  tidied = λ k none. absurd (omega (arith, none));
   ahead = λ n rest new written.
       subst (λ (m : ℕ). PagesWritten w.number file first m piece (0 + rest) w.seen new) (from n)
       (subst (λ (m : ℕ). PagesWritten w.number file first n piece m w.seen new) (from rest)
@@ -110,12 +120,31 @@ module _ (w v x : Standing) (file : File) (first done changed : ℕ) (piece : Li
   pub count-few : (bytes : List ℕ) (count : ℕ) → PageWriteEnds v x file (first + done) bytes (Ok count) → count ≤ 4096
   count-few bytes count page = counted-few v.number file (first + done) bytes count v.seen x.seen page.left
 
+  -- its entries stand behind those of the pages before
+  page-behind : (bytes : List ℕ) (count : ℕ) → PageWriteEnds v x file (first + done) bytes (Ok count) → Behind x.seen v.seen
+  page-behind bytes count page =
+      let end = page.tidy in
+      (write_done v.number file (page_in file (first + done)) end.front ∷ end.later, end.placed ∙ ap (λ past. write_done v.number file (page_in file (first + done)) end.front ∷ past) end.grew)
+
+  tidied-more : (k : ℕ) → Behind x.seen v.seen → IsTidyEnd w.setup w.most_others w.number file (page_in file (first + done)) w.seen x.seen → k < suc done → AtSome (IsTidyEnd w.setup w.most_others w.number file (page_in file (first + k)) w.seen) w.seen x.seen
+  tidied-more k since end below =
+      dite (ℕ_discrete k done)
+      (λ same.
+      subst (λ (n : ℕ). AtSome (IsTidyEnd w.setup w.most_others w.number file (page_in file (first + n)) w.seen) w.seen x.seen) (sym same)
+      (let all = behind-then x.seen v.seen w.seen since on.behind in record { moment = x.seen; later = []; since = all.0; ends = refl; begins = all.1; holds = end }))
+      (λ other. at-later (IsTidyEnd w.setup w.most_others w.number file (page_in file (first + k)) w.seen) w.seen v.seen x.seen since (on.tidied k (less k done other below)))
+    where
+      less : (k n : ℕ) → (k ≡ n → ⊥) → k < suc n → k < n
+      less k n other below = omega (arith, other, below)
+
   -- it was written
   pub writes-more : (bytes : List ℕ) → bytes ≡ take 4096 (drop (4096 * done) piece) → (count : ℕ) → PageWriteEnds v x file (first + done) bytes (Ok count) → WritesOn w x file first (suc done) (changed + count) piece
   writes-more bytes is count page = record {
     went = went-then w v x on.went page.goes_on;
     within = omega (arith, on.within, count-few bytes count page);
     good = λ good. good_on bytes is (Ok count) page;
+    behind = behind-then x.seen v.seen w.seen (page-behind bytes count page) on.behind;
+    tidied = λ k below. tidied-more k (page-behind bytes count page) (tidy-went-on w v file (page_in file (first + done)) (Ok count) x.seen on.went on.behind page.tidy) below;
     ahead = λ n rest new written.
         subst (λ (m : ℕ). PagesWritten w.number file first m piece (changed + count + rest) w.seen new) (more done n)
         (subst (λ (m : ℕ). PagesWritten w.number file first (done + suc n) piece m w.seen new) (sum changed count rest)
@@ -167,6 +196,7 @@ module _ (w v x : Standing) (file : File) (first done changed : ℕ) (piece : Li
 pub ends-all : (w v : Standing) (file : File) (first done changed pages : ℕ) (piece : List ℕ) → WritesOn w v file first done changed piece → done ≡ pages → pages ≡ length piece / 4096 → PagesWriteEnds w v file first piece (Ok changed)
 ends-all w v file first done changed pages piece on same is = record {
   left = subst (λ (n : ℕ). PagesWritten w.number file first n piece changed w.seen v.seen) is (writes-all w v v file first done changed piece on pages same);
+  tidied = subst (λ (n : ℕ). AreTidied w v file first n) (same ∙ is) on.tidied;
   full = tt;
   goes_on = on.went;
   good = on.good;
@@ -178,6 +208,7 @@ ends-refused w v x file first done changed pages piece bytes failed on same page
     subst (λ (n : ℕ). done < n) is below,
     writes-refused w v x file first done changed piece on bytes same failed.cause page,
   );
+  tidied = subst (λ (n : ℕ). AreTidied w x file first n) (sym count) (λ k below. at-later (IsTidyEnd w.setup w.most_others w.number file (page_in file (first + k)) w.seen) w.seen v.seen x.seen (refused-behind v.setup v.number file (first + done) bytes failed.cause v.seen x.seen page.left) (on.tidied k below));
   full = page.full;
   goes_on = went-then w v x on.went page.goes_on;
   good = λ good. good-after w v x file first done changed piece on bytes (Err failed.cause) page;
@@ -194,6 +225,7 @@ pub whole-write : (w v : Standing) (file : File) (at : ℕ) (piece : List ℕ) (
 whole-write w v file at piece answer shape ends = record {
   left = subst (λ (o : Option CcError). ShapedWriteLeft w.setup w.number file at piece o (write_of answer) w.seen v.seen) (sym shape)
       (aligned w.setup w.number file at piece (write_of answer) w.seen v.seen ends.left);
+  tidied = ends.tidied;
   full = ends.full;
   goes_on = ends.goes_on;
   good = ends.good;
@@ -203,6 +235,7 @@ whole-write w v file at piece answer shape ends = record {
 pub misshapen-write : (w v : Standing) (file : File) (at : ℕ) (shape : CcError) (failed : NcError) (piece : List ℕ) → shape_refusal at (length piece) ≡ Some shape → failed.done ≡ 0 → MisshapenLeft w.number file (call.NcWrite file (at / 4096)) shape failed.cause w.seen v.seen → IsFullError 1 v failed.cause → WentOn w v → IsGood w.setup v.seen → NcWriteEnds w v file at piece (Err failed)
 misshapen-write w v file at shape failed piece is none left full went good = record {
   left = subst (λ (o : Option CcError). ShapedWriteLeft w.setup w.number file at piece o (Err (failed.done, failed.cause)) w.seen v.seen) (sym is) (none, left);
+  tidied = λ k below. absurd (omega (arith, below, none));
   full = full-more 1 4 v failed.cause (omega arith) full;
   goes_on = went;
   good = λ was_good. good;

@@ -1,5 +1,5 @@
 -- How a noncached write ends whose page was stored: what its end asks, and what it leaves.
-use Rattle.std.specs.Prelude.{◌≡◌, ℕ, ◌-◌, ◌<◌, true, false, List, [], ◌∷◌, ◌++◌}
+use Rattle.std.specs.Prelude.{◌≡◌, ℕ, ◌+◌, ◌-◌, ◌<◌, Bool, true, false, List, [], ◌∷◌, ◌++◌}
 use Rattle.std.specs.List.{list_any}
 use Rattle.std.specs.declared.option.Option.TheVariants.{None}
 use Rattle.cc_entry.specs.Place.{File, Page}
@@ -9,6 +9,7 @@ use Rattle.cc_entry.specs.declared.entry.Entry.TheVariants as entry
 use Rattle.cc_entry.specs.declared.error.CcError.TheVariants as error
 use Rattle.cc_entry.specs.declared.reply.Reply.TheVariants as reply
 use Rattle.cc_book.specs.Book.{BookState, done, failed}
+use Rattle.cc_effects.specs.Moments.{AtSome}
 use Rattle.cc_journal.specs.Journal.{JournalState}
 use Rattle.cc_model.specs.Conditions.{MayFinish}
 use Rattle.cc_model.specs.Faults.{faults_since, is_failed_write}
@@ -22,7 +23,8 @@ use Rattle.cc_model.specs.Touches.{is_dirty}
 use Rattle.cc_step.specs.Step.{StandUnder}
 use Rattle.cc_turns.specs.Standing.{Standing}
 use Rattle.cc_turns.specs.Takes.{Grows}
-use Rattle.cc_writes.specs.Hands.{Went}
+use Rattle.cc_writes.specs.Hands.{WentWith}
+use Rattle.cc_ranges.specs.Stores.{IsTightStore, places_kept}
 
 -- What a pass asks of a book and a journal in hand for the end of a write: the two stand under the setup, no transfer of
 -- the stream is under way, the pass's last call stored the page, which is on the disk, and the end has its place.
@@ -40,13 +42,25 @@ IsOut pass page [] = Unit {0}
 IsOut pass page (e ∷ []) = e ≡ entry.PageOut pass page
 IsOut pass page (e ∷ (other ∷ more)) = ⊥
 
--- The page went out where it could.
-pub record IsTidied {Q : Type 0} (u : Setup) (pass : ℕ) (file : File) (page : Page) (c : BookState) (j k : JournalState Q)
-    : Type 0 where
+-- A page is resident and clean, and no hold has it.
+pub record IsIdlePage (h : List Effect) (page : ℕ) : Type 0 where
+  pub resident : is_resident h page ≡ true
+  pub not_held : is_held (holds_of h) page ≡ false
+  pub clean : is_dirty h page ≡ false
+
+-- The page went out where it could; where a place was kept for that, it did if it was idle. That place is kept no longer.
+pub record IsTidied {Q : Type 0} (u : Setup) (pass : ℕ) (file : File) (page : Page) (kept : Bool) (c : BookState)
+    (j k : JournalState Q) : Type 0 where
   pub tidied : List Entry
   pub only : IsOut pass page tidied
-  pub placed : k ≡ record j { entries = tidied ++ j.entries; rows = k.rows }
+  pub out : kept ≡ true → IsIdlePage (history j.entries page.stream) page.page → tidied ≡ entry.PageOut pass page ∷ []
+  pub placed : k ≡ record j { entries = tidied ++ j.entries; reserved = j.reserved - places_kept kept; rows = k.rows }
   pub may : MayFinishHere u pass file page c k
+
+-- a place is there for a page to go out: one that was kept is
+pub record PlaceLeft {Q : Type 0} (kept there : Bool) (j k : JournalState Q) : Type 0 where
+  pub sure : kept ≡ true → there ≡ true
+  pub reserved : k ≡ record j { reserved = (j.reserved + places_kept there) - places_kept kept }
 
 -- the entry of a noncached write of a page that was done
 abbrev pub write_done : ℕ → File → Page → List Entry → Entry
@@ -62,12 +76,14 @@ pub record IsEnded {Q : Type 0} (u : Setup) (pass : ℕ) (file : File) (page : P
   }
   pub stand : StandUnder u c k
 
--- Others went on, and then the pass took the page out where it could.
+-- Others went on, and then the pass took the page out where it could; where it had a place for that, it did if the page
+-- was idle.
 pub record HasTidied (w : Standing) (page : Page) (seen : List Entry) : Type 0 where
   pub front : List Entry
   pub grows : Grows w front
   pub tidied : List Entry
   pub only : IsOut w.number page tidied
+  pub out : w.in_flight ≡ 1 → IsIdlePage (history front page.stream) page.page → tidied ≡ entry.PageOut w.number page ∷ []
   pub placed : seen ≡ tidied ++ front
 
 -- Others went on, and then the pass placed the entry of the write.
@@ -79,7 +95,7 @@ pub record HasEndedWrite (w : Standing) (file : File) (page : Page) (seen : List
 -- The pass took the page out where it could, and then placed the entry of the write; others went on before each.
 pub record HasFinished (w : Standing) (file : File) (page : Page) (seen : List Entry) : Type 0 where
   pub then_was : Standing
-  pub went : Went w then_was
+  pub went : WentWith 0 w then_was
   pub tidied : HasTidied w page then_was.seen
   pub ended : HasEndedWrite then_was file page seen
 
@@ -106,8 +122,20 @@ pub record HasFailedWrite (w : Standing) (file : File) (page : Page) (seen : Lis
   pub grows : Grows w front
   pub placed : seen ≡ write_failed w.number file page front ∷ front
 
--- A page is resident and clean, and no hold has it.
-pub record IsIdlePage (h : List Effect) (page : ℕ) : Type 0 where
-  pub resident : is_resident h page ≡ true
-  pub not_held : is_held (holds_of h) page ≡ false
-  pub clean : is_dirty h page ≡ false
+-- The write of a page was done, the last that the pass placed since it went on from here, and left the page idle only where
+-- no place was kept for it to go out.
+pub record HasEndedTidy (w : Standing) (file : File) (page : Page) (kept : Bool) (seen : List Entry) : Type 0 where
+  pub front : List Entry
+  pub later : List Entry
+  pub grew : front ≡ later ++ w.seen
+  pub placed : seen ≡ write_done w.number file page front ∷ front
+  pub gone : kept ≡ true → IsIdlePage (history front page.stream) page.page → ⊥
+
+-- The write of a page was done, the last that this past tells, behind a moment. It left the page idle only where, as the page
+-- was stored since that moment, there was no room for it to go out too.
+pub record IsTidyEnd (u : Setup) (most me : ℕ) (file : File) (page : Page) (old past : List Entry) : Type 0 where
+  pub front : List Entry
+  pub later : List Entry
+  pub grew : front ≡ later ++ old
+  pub placed : past ≡ write_done me file page front ∷ front
+  pub left_in : IsIdlePage (history front page.stream) page.page → AtSome (IsTightStore u most me file page) old front

@@ -5,6 +5,7 @@ use Rattle.cc_entry.specs.declared.entry.End.TheVariants as how
 use Rattle.cc_entry.specs.declared.entry.Entry.{Entry}
 use Rattle.cc_entry.specs.declared.error.CcError.{CcError}
 use Rattle.cc_entry.specs.declared.error.CcError.TheVariants as error
+use Rattle.cc_effects.specs.Moments.{IsIdle}
 use Rattle.cc_effects.specs.Noncached.{IsPageWritten, TransferRefused}
 use Rattle.cc_turns.specs.Standing.{Standing}
 use Rattle.cc_turns.specs.Takes.{Grows}
@@ -27,11 +28,17 @@ pub record IsUnwritten (w : Standing) (file : File) (page : Page) (seen : List E
   pub finished : IsFinished w page how.Failed false then_was.seen
   pub ended : HasFailedWrite then_was file page seen
 
+-- It found no memory, and then the pass placed nothing.
+pub record IsGivenUp (w : Standing) (page : Page) (seen : List Entry) : Type 0 where
+  pub then_was : Standing
+  pub finished : IsFinished w page how.NoMemory false then_was.seen
+  pub idle : IsIdle w.number then_was.seen seen
+
 -- What follows the store of a page, by cases over the answer.
 abbrev pub FinishedLeft : Standing → File → Page → ℕ → Result ℕ CcError → List Entry → Type 0
 FinishedLeft w file page count (Ok n) seen = (n ≡ count) × IsWritten w file page seen
 FinishedLeft w file page count (Err (error.WriteFault failed)) seen = (failed ≡ page.page) × IsUnwritten w file page seen
-FinishedLeft w file page count (Err error.NoMemory) seen = IsFinished w page how.NoMemory false seen
+FinishedLeft w file page count (Err error.NoMemory) seen = IsGivenUp w page seen
 FinishedLeft w file page count (Err other) seen = ⊥
 
 -- What the writing of a page leaves that was ready to be stored, by cases over the answer: it was written; there was no

@@ -1,8 +1,8 @@
 -- What a noncached write leaves.
-use Rattle.std.specs.Prelude.{ℕ, ◌/◌, ◌<◌, Result, Ok, Err, List, length}
+use Rattle.std.specs.Prelude.{ℕ, ◌+◌, ◌/◌, ◌<◌, Result, Ok, Err, OnOk, List, length}
 use Rattle.cc_entry.specs.Place.{File}
 use Rattle.cc_entry.specs.declared.error.CcError.{CcError}
-use Rattle.cc_effects.specs.Moments.{Between}
+use Rattle.cc_effects.specs.Moments.{AtSome, Between}
 use Rattle.cc_effects.specs.Noncached.{NcWriteLeft, PagesWritten, PageWritesRefused}
 use Rattle.cc_model.specs.Good.{IsGood}
 use Rattle.cc_model.specs.Setup.{Setup}
@@ -10,14 +10,29 @@ use Rattle.cc_turns.specs.Standing.{Standing}
 use Rattle.cc_writes.specs.Ways.{IsFull}
 use Rattle.cc_writes.specs.Fetch.{WentOn}
 use Rattle.cc_ranges.specs.Answers.{IsFullAfter, write_of}
+use Rattle.cc_ranges.specs.Ends.{IsTidyEnd}
 use Rattle.cc_ranges.specs.WriteHeld.{PageLeft}
+use Rattle.cc_ranges.specs.WriteVisits.{page_in}
 use Rattle.cc_ranges.specs.declared.error.NcError.{NcError}
+
+-- how many pages of a write of so many bytes were written
+abbrev pub written_of : ℕ → Result ℕ NcError → ℕ
+written_of len (Ok count) = len / 4096
+written_of len (Err e) = e.done
+
+-- Each page that was written, from this one on, left at a moment the page idle only where, as it was stored, there was no room
+-- for it to go out.
+abbrev pub AreTidied : Standing → Standing → File → ℕ → ℕ → Type 0
+AreTidied old new file first count =
+    (k : ℕ) → k < count →
+    AtSome (IsTidyEnd old.setup old.most_others old.number file (page_in file (first + k)) old.seen) old.seen new.seen
 
 -- A write of these bytes was answered so: it left what explains its answer, page by page; a journal that is full is
 -- full; the pass goes on as it stood, and what it has seen stays good. Where a transfer failed or found no memory, the
 -- store of its page stands.
 pub record NcWriteEnds (old new : Standing) (file : File) (at : ℕ) (piece : List ℕ) (answer : Result ℕ NcError) : Type 0 where
   pub left : NcWriteLeft old.setup old.number file at piece (write_of answer) old.seen new.seen
+  pub tidied : AreTidied old new file (at / 4096) (written_of (length piece) answer)
   pub full : IsFullAfter new answer
   pub goes_on : WentOn old new
   pub good : IsGood old.setup old.seen → IsGood old.setup new.seen
@@ -31,6 +46,7 @@ PagesLeft u me file first count bytes (Err failed) old new =
 -- The same of a write whose place and length are in order, from the number of its first page on.
 pub record PagesWriteEnds (old new : Standing) (file : File) (first : ℕ) (piece : List ℕ) (answer : Result ℕ NcError) : Type 0 where
   pub left : PagesLeft old.setup old.number file first (length piece / 4096) piece (write_of answer) old.seen new.seen
+  pub tidied : AreTidied old new file first (written_of (length piece) answer)
   pub full : IsFullAfter new answer
   pub goes_on : WentOn old new
   pub good : IsGood old.setup old.seen → IsGood old.setup new.seen
@@ -38,6 +54,7 @@ pub record PagesWriteEnds (old new : Standing) (file : File) (first : ℕ) (piec
 -- The same of one page.
 pub record PageWriteEnds (old new : Standing) (file : File) (page : ℕ) (bytes : List ℕ) (answer : Result ℕ CcError) : Type 0 where
   pub left : PageLeft old.setup old.number file page bytes answer old.seen new.seen
+  pub tidy : OnOk answer (IsTidyEnd old.setup old.most_others old.number file (page_in file page) old.seen new.seen)
   pub full : IsFull 4 new answer
   pub goes_on : WentOn old new
   pub good : IsGood old.setup new.seen

@@ -1,11 +1,12 @@
 //! The store of a page into the cache, and the begin of its transfer.
 
-ghost use Rattle.std.specs.Prelude.{◌≡◌, length};
+ghost use Rattle.std.specs.Prelude.{◌≡◌, ◌+◌, nat_le, length};
+ghost use Rattle.cc_journal.specs.Journal.{room_of};
 ghost use Rattle.cc_model.specs.Covered.{IsLogged};
 ghost use Rattle.cc_model.specs.Setup.{Setup};
-ghost use Rattle.cc_writes.specs.Hands.{HasBook, IsAtRest, Went};
+ghost use Rattle.cc_writes.specs.Hands.{HasBook, IsAtRest, WentWith};
 ghost use Rattle.cc_writes.specs.Ways.{IsFull};
-ghost use Rattle.cc_ranges.specs.Stores.{IsReadyToStore, MayStoreHere, StoredLeft, StoreLeft};
+ghost use Rattle.cc_ranges.specs.Stores.{IsReadyToStore, IsTightUnkept, MayStoreHere, StoredLeft, StoreLeft, kept_in, places_kept};
 
 use cc_book::Book;
 use cc_entry::{Bytes, CcError, FileId, NoMemory, PageId};
@@ -14,7 +15,8 @@ use cc_turns::Turns;
 use std::alloc::Global;
 
 /// Stores the bytes of a page into the cache, which makes the page resident and dirty, and begins the page's transfer.
-/// Places stay reserved for the end of the transfer and for that of the write.
+/// Places stay reserved for the end of the transfer and for that of the write, and where there is room for one more, a place
+/// is kept for the page to go out again. Answers whether one is.
 ///
 /// `JournalFull`, `NoMemory`.
 pub(crate) fn store_at<T: Turns>(
@@ -24,7 +26,7 @@ pub(crate) fn store_at<T: Turns>(
     file: FileId,
     page: PageId,
     bytes: Bytes,
-) -> Result<(), CcError>
+) -> Result<bool, CcError>
     requires book { HasBook (T.standing turns.old) page.stream book.old }
     requires rest { IsAtRest (T.standing turns.old) page.stream }
     requires none { (T.standing turns.old).in_flight ≡ 0 }
@@ -32,9 +34,11 @@ pub(crate) fn store_at<T: Turns>(
     requires ready { IsReadyToStore (T.standing turns.old).setup (T.standing turns.old).seen file page }
     requires logged { IsLogged (T.standing turns.old).seen page.stream page.page }
     ensures book { HasBook (T.standing turns.new) page.stream book.new }
-    ensures went { Went (T.standing turns.old) (T.standing turns.new) }
+    ensures went { WentWith (kept_in result) (T.standing turns.old) (T.standing turns.new) }
     ensures left { StoreLeft (T.standing turns.old) file page bytes result (T.standing turns.new).seen }
     ensures full { IsFull 4 (T.standing turns.new) result }
+    ensures tight { IsTightUnkept (T.standing turns.old) (T.standing turns.new).most_others file page result
+        (T.standing turns.new).seen }
 {
     // The stream's number is what says that the journal counts what the stream owes.
     let _stream = page.stream().number();
@@ -45,8 +49,9 @@ pub(crate) fn store_at<T: Turns>(
     stored
 }
 
-// Stores a page that is ready, where the journal has room for the store, the begin, and the ends of both. The place of
-// the end of another write that the pass owed is given back.
+// Stores a page that is ready, where the journal has room for the store, the begin, and the ends of both. A place is kept
+// for the page to go out where there is room for it too: it is taken here, since once the page is stored nothing may be
+// refused for want of memory. The place of the end of another write that the pass owed is given back.
 fn store<Q>(
     alloc: Global,
     book: &mut Book,
@@ -55,7 +60,7 @@ fn store<Q>(
     file: FileId,
     page: PageId,
     bytes: Bytes,
-) -> Result<(), CcError>
+) -> Result<bool, CcError>
     requires stream { page.stream ≡ book.old.stream }
     requires may { (u : Setup) × MayStoreHere u pass file page bytes book.old journal.old }
     ensures stored { (u : Setup) → MayStoreHere u pass file page bytes book.old journal.old →
@@ -63,17 +68,33 @@ fn store<Q>(
     ensures stream { book.new.stream ≡ book.old.stream }
 {
     let owed = journal.owed_end(pass);
-    match journal.reserve(4) {
+    let kept = has_room(journal);
+    let places = places_of(kept);
+    match journal.reserve(places) {
         Ok(()) => match book.store(alloc, journal, pass, file, page, bytes) {
             Ok(()) => {
                 journal.release(owed);
-                Ok(())
+                Ok(kept)
             }
             Err(NoMemory) => {
-                journal.release(4);
+                journal.release(places);
                 Err(CcError::NoMemory)
             }
         },
         Err(error) => Err(error),
     }
+}
+
+// Whether the journal has room for the four entries of a store and one more.
+fn has_room<Q>(journal: &Journal<Q>) -> bool
+    ensures { result ≡ nat_le 5 (room_of journal.now) }
+{
+    journal.room() >= 5
+}
+
+// How many places a store reserves that keeps one for its page to go out, or none.
+fn places_of(kept: bool) -> u64
+    ensures { result ≡ 4 + places_kept kept }
+{
+    if kept { 5 } else { 4 }
 }

@@ -5,6 +5,7 @@ ghost use Rattle.cc_entry.specs.declared.entry.Entry.{Entry};
 ghost use Rattle.cc_writes.specs.Hands.{Went};
 ghost use Rattle.cc_writes.specs.Ways.{IsFull};
 ghost use Rattle.cc_writes.specs.Writes.{HasBoth};
+ghost use Rattle.cc_ranges.specs.Ends.{IsTidyEnd};
 ghost use Rattle.cc_ranges.specs.Stores.{IsReadyToStore};
 ghost use Rattle.cc_ranges.specs.WriteHeld.{HasLess, IsFullRound, IsReadyAfter, PageLeft, RoomLeft, RoundLeft, RoundReady, round_of};
 ghost use Rattle.cc_ranges.specs.WriteVisits.{IsWriting, page_in};
@@ -54,6 +55,8 @@ pub(crate) fn write_held<T: Turns>(
         PageLeft (T.standing turns.old).setup (T.standing turns.old).number file page bytes.now result.1
         begun (T.standing turns.new).seen }
     ensures full { IsFull 4 (T.standing turns.new) result.1 }
+    ensures tidy { OnOk result.1 (IsTidyEnd (T.standing turns.old).setup (T.standing turns.old).most_others
+        (T.standing turns.old).number file (page_in file page) (T.standing turns.old).seen (T.standing turns.new).seen) }
 {
     let (book, room) = make_room(alloc, turns, disk, book, file, page);
     match room {
@@ -202,6 +205,8 @@ fn write_ready<T: Turns>(
         PageLeft (T.standing turns.old).setup (T.standing turns.old).number file page bytes.now result.1
         begun (T.standing turns.new).seen }
     ensures full { IsFull 4 (T.standing turns.new) result.1 }
+    ensures tidy { OnOk result.1 (IsTidyEnd (T.standing turns.old).setup (T.standing turns.old).most_others
+        (T.standing turns.old).number file (page_in file page) (T.standing turns.old).seen (T.standing turns.new).seen) }
 {
     let stored = PageId::new(file.stream(), page).unwrap();
     match flush_log(turns, &book, stored) {

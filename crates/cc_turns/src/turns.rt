@@ -98,7 +98,8 @@ pub trait Turns {
     fn take_journal(&mut self) -> Journal<Self::Post>
         requires free { (standing self.old).held.journal ≡ false }
         ensures took { Takes with_journal (standing self.old) (standing self.new) }
-        ensures stands { JournalStands Self.Post.posted (standing self.new) result };
+        ensures stands { JournalStands Self.Post.posted (standing self.new) result }
+        ensures few { (standing self.new).others ≤ (standing self.new).most_others };
 
     /// Gives the turn of the journal, with one event of the pass at most: an entry, or a noncached store with the begin of
     /// its transfer. So others may see the journal between any two events. Each entry stands where the turns that it needs

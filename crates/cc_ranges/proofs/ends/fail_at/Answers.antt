@@ -7,7 +7,7 @@ use Rattle.cc_writes.proofs.Visiting.{few-left}
 use Rattle.cc_writes.proofs.OneVisit.{visiting}
 use Rattle.cc_ranges.specs.Ends.{HasFailedWrite}
 use Rattle.cc_ranges.proofs.WriteFinishing.{may-fail}
-use Rattle.cc_ranges.proofs.EndVisits.{may-fail-visit, failing}
+use Rattle.cc_ranges.proofs.EndVisits.{may-fail-visit, failing, spare-failed}
 use Rattle.cc_ranges.proofs.ends.fail_at.Goals as goal
 
 pub fail-requires-clause-may : goal.fail-requires-clause-may
@@ -30,6 +30,16 @@ fail-requires-clause-reserved g c =
     let me : c.me-pass.result ≡ w.number = c.me-pass.ensures ∙ ap (λ (y : Standing). y.number) c.take_journal-journal.ensures.took.same in
     (may-fail-visit posted w v c.args.file c.args.page c.args.book.now j c.requires.book c.requires.rest c.requires.here vis c.me-pass.result me c.requires.fails).reserved
 
+pub give_back-requires : goal.give_back-requires
+give_back-requires g c =
+    let w = g.T.Turns.standing c.args.turns.now in
+    let v = g.T.Turns.standing c.take_journal-journal.new.self in
+    let posted = g.T.Post.PostRoutine.posted in
+    let j = c.take_journal-journal.result in
+    let vis = visiting posted w v j c.take_journal-journal.ensures.took c.take_journal-journal.ensures.stands in
+    let me : c.me-pass.result ≡ w.number = c.me-pass.ensures ∙ ap (λ (y : Standing). y.number) c.take_journal-journal.ensures.took.same in
+    spare-failed posted w v c.args.file c.args.page c.args.book.now j c.requires.book c.requires.rest c.requires.here vis c.me-pass.result me c.requires.fails c.args.kept c.requires.kept c.fail.new.journal (rw (c.page.ensures.same, c.page-2.ensures.same) at c.fail.ensures.placed)
+
 pub give_journal-requires-clause-adds : goal.give_journal-requires-clause-adds
 give_journal-requires-clause-adds g c =
     let w = g.T.Turns.standing c.args.turns.now in
@@ -38,8 +48,8 @@ give_journal-requires-clause-adds g c =
     let j = c.take_journal-journal.result in
     let vis = visiting posted w v j c.take_journal-journal.ensures.took c.take_journal-journal.ensures.stands in
     let me : c.me-pass.result ≡ w.number = c.me-pass.ensures ∙ ap (λ (y : Standing). y.number) c.take_journal-journal.ensures.took.same in
-    let e = failing posted w v c.args.file c.args.page c.args.book.now j c.requires.book c.requires.rest c.requires.here vis c.me-pass.result me c.requires.fails
-    c.fail.new.self c.fail.new.journal c.fail.ensures.same (rw (c.page.ensures.same, c.page-2.ensures.same) at c.fail.ensures.placed) c.fail.ensures.stands in
+    let e = failing posted w v c.args.file c.args.page c.args.book.now j c.requires.book c.requires.rest c.requires.here vis c.me-pass.result me c.requires.fails c.args.kept c.requires.kept
+    c.fail.new.self c.fail.new.journal c.give_back.new.journal c.fail.ensures.same (rw (c.page.ensures.same, c.page-2.ensures.same) at c.fail.ensures.placed) c.fail.ensures.stands c.give_back.ensures in
     e.adds
 
 pub give_journal-requires-clause-stands : goal.give_journal-requires-clause-stands
@@ -50,8 +60,8 @@ give_journal-requires-clause-stands g c =
     let j = c.take_journal-journal.result in
     let vis = visiting posted w v j c.take_journal-journal.ensures.took c.take_journal-journal.ensures.stands in
     let me : c.me-pass.result ≡ w.number = c.me-pass.ensures ∙ ap (λ (y : Standing). y.number) c.take_journal-journal.ensures.took.same in
-    let e = failing posted w v c.args.file c.args.page c.args.book.now j c.requires.book c.requires.rest c.requires.here vis c.me-pass.result me c.requires.fails
-    c.fail.new.self c.fail.new.journal c.fail.ensures.same (rw (c.page.ensures.same, c.page-2.ensures.same) at c.fail.ensures.placed) c.fail.ensures.stands in
+    let e = failing posted w v c.args.file c.args.page c.args.book.now j c.requires.book c.requires.rest c.requires.here vis c.me-pass.result me c.requires.fails c.args.kept c.requires.kept
+    c.fail.new.self c.fail.new.journal c.give_back.new.journal c.fail.ensures.same (rw (c.page.ensures.same, c.page-2.ensures.same) at c.fail.ensures.placed) c.fail.ensures.stands c.give_back.ensures in
     e.journal
 
 pub give_journal-requires-clause-few : goal.give_journal-requires-clause-few
@@ -62,9 +72,9 @@ give_journal-requires-clause-few g c =
     let j = c.take_journal-journal.result in
     let vis = visiting posted w v j c.take_journal-journal.ensures.took c.take_journal-journal.ensures.stands in
     let me : c.me-pass.result ≡ w.number = c.me-pass.ensures ∙ ap (λ (y : Standing). y.number) c.take_journal-journal.ensures.took.same in
-    let e = failing posted w v c.args.file c.args.page c.args.book.now j c.requires.book c.requires.rest c.requires.here vis c.me-pass.result me c.requires.fails
-    c.fail.new.self c.fail.new.journal c.fail.ensures.same (rw (c.page.ensures.same, c.page-2.ensures.same) at c.fail.ensures.placed) c.fail.ensures.stands in
-    few-left w.in_flight e.went (omega (arith, c.requires.none))
+    let e = failing posted w v c.args.file c.args.page c.args.book.now j c.requires.book c.requires.rest c.requires.here vis c.me-pass.result me c.requires.fails c.args.kept c.requires.kept
+    c.fail.new.self c.fail.new.journal c.give_back.new.journal c.fail.ensures.same (rw (c.page.ensures.same, c.page-2.ensures.same) at c.fail.ensures.placed) c.fail.ensures.stands c.give_back.ensures in
+    few-left 0 e.went (omega arith)
 
 pub returns-clause-book : goal.returns-clause-book
 returns-clause-book g c =
@@ -74,8 +84,8 @@ returns-clause-book g c =
     let j = c.take_journal-journal.result in
     let vis = visiting posted w v j c.take_journal-journal.ensures.took c.take_journal-journal.ensures.stands in
     let me : c.me-pass.result ≡ w.number = c.me-pass.ensures ∙ ap (λ (y : Standing). y.number) c.take_journal-journal.ensures.took.same in
-    let e = failing posted w v c.args.file c.args.page c.args.book.now j c.requires.book c.requires.rest c.requires.here vis c.me-pass.result me c.requires.fails
-    c.fail.new.self c.fail.new.journal c.fail.ensures.same (rw (c.page.ensures.same, c.page-2.ensures.same) at c.fail.ensures.placed) c.fail.ensures.stands in
+    let e = failing posted w v c.args.file c.args.page c.args.book.now j c.requires.book c.requires.rest c.requires.here vis c.me-pass.result me c.requires.fails c.args.kept c.requires.kept
+    c.fail.new.self c.fail.new.journal c.give_back.new.journal c.fail.ensures.same (rw (c.page.ensures.same, c.page-2.ensures.same) at c.fail.ensures.placed) c.fail.ensures.stands c.give_back.ensures in
     subst (λ (x : Standing). HasBook x c.args.page.stream c.fail.new.self) (sym c.give_journal.ensures) e.book
 
 pub returns-clause-rest : goal.returns-clause-rest
@@ -86,8 +96,8 @@ returns-clause-rest g c =
     let j = c.take_journal-journal.result in
     let vis = visiting posted w v j c.take_journal-journal.ensures.took c.take_journal-journal.ensures.stands in
     let me : c.me-pass.result ≡ w.number = c.me-pass.ensures ∙ ap (λ (y : Standing). y.number) c.take_journal-journal.ensures.took.same in
-    let e = failing posted w v c.args.file c.args.page c.args.book.now j c.requires.book c.requires.rest c.requires.here vis c.me-pass.result me c.requires.fails
-    c.fail.new.self c.fail.new.journal c.fail.ensures.same (rw (c.page.ensures.same, c.page-2.ensures.same) at c.fail.ensures.placed) c.fail.ensures.stands in
+    let e = failing posted w v c.args.file c.args.page c.args.book.now j c.requires.book c.requires.rest c.requires.here vis c.me-pass.result me c.requires.fails c.args.kept c.requires.kept
+    c.fail.new.self c.fail.new.journal c.give_back.new.journal c.fail.ensures.same (rw (c.page.ensures.same, c.page-2.ensures.same) at c.fail.ensures.placed) c.fail.ensures.stands c.give_back.ensures in
     subst (λ (x : Standing). IsAtRest x c.args.page.stream) (sym c.give_journal.ensures) e.rest
 
 pub returns-clause-went : goal.returns-clause-went
@@ -98,9 +108,9 @@ returns-clause-went g c =
     let j = c.take_journal-journal.result in
     let vis = visiting posted w v j c.take_journal-journal.ensures.took c.take_journal-journal.ensures.stands in
     let me : c.me-pass.result ≡ w.number = c.me-pass.ensures ∙ ap (λ (y : Standing). y.number) c.take_journal-journal.ensures.took.same in
-    let e = failing posted w v c.args.file c.args.page c.args.book.now j c.requires.book c.requires.rest c.requires.here vis c.me-pass.result me c.requires.fails
-    c.fail.new.self c.fail.new.journal c.fail.ensures.same (rw (c.page.ensures.same, c.page-2.ensures.same) at c.fail.ensures.placed) c.fail.ensures.stands in
-    subst (λ (x : Standing). WentWith w.in_flight w x) (sym c.give_journal.ensures) e.went
+    let e = failing posted w v c.args.file c.args.page c.args.book.now j c.requires.book c.requires.rest c.requires.here vis c.me-pass.result me c.requires.fails c.args.kept c.requires.kept
+    c.fail.new.self c.fail.new.journal c.give_back.new.journal c.fail.ensures.same (rw (c.page.ensures.same, c.page-2.ensures.same) at c.fail.ensures.placed) c.fail.ensures.stands c.give_back.ensures in
+    subst (λ (x : Standing). WentWith 0 w x) (sym c.give_journal.ensures) e.went
 
 pub returns-clause-left : goal.returns-clause-left
 returns-clause-left g c =
@@ -110,6 +120,6 @@ returns-clause-left g c =
     let j = c.take_journal-journal.result in
     let vis = visiting posted w v j c.take_journal-journal.ensures.took c.take_journal-journal.ensures.stands in
     let me : c.me-pass.result ≡ w.number = c.me-pass.ensures ∙ ap (λ (y : Standing). y.number) c.take_journal-journal.ensures.took.same in
-    let e = failing posted w v c.args.file c.args.page c.args.book.now j c.requires.book c.requires.rest c.requires.here vis c.me-pass.result me c.requires.fails
-    c.fail.new.self c.fail.new.journal c.fail.ensures.same (rw (c.page.ensures.same, c.page-2.ensures.same) at c.fail.ensures.placed) c.fail.ensures.stands in
+    let e = failing posted w v c.args.file c.args.page c.args.book.now j c.requires.book c.requires.rest c.requires.here vis c.me-pass.result me c.requires.fails c.args.kept c.requires.kept
+    c.fail.new.self c.fail.new.journal c.give_back.new.journal c.fail.ensures.same (rw (c.page.ensures.same, c.page-2.ensures.same) at c.fail.ensures.placed) c.fail.ensures.stands c.give_back.ensures in
     subst (λ (x : Standing). HasFailedWrite w c.args.file c.args.page x.seen) (sym c.give_journal.ensures) e.left

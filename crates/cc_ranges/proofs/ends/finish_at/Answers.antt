@@ -1,13 +1,13 @@
 -- The page goes out, and then the write ends: the pass goes on as it stood over both.
 use Rattle.std.specs.Prelude.{ℕ}
-use Rattle.std.proofs.Common.{ap, ◌∙◌, subst}
+use Rattle.std.proofs.Common.{ap, subst}
 use Rattle.cc_turns.specs.Standing.{Standing}
 use Rattle.cc_writes.specs.Hands.{WentWith}
 use Rattle.cc_writes.proofs.OneVisit.{went-then}
 use Rattle.cc_ranges.proofs.ends.finish_at.Goals as goal
 
 pub done_at-requires-clause-none : goal.done_at-requires-clause-none
-done_at-requires-clause-none g c κs within = ap (λ (y : Standing). y.in_flight) c.tidy_at.ensures.went.same ∙ c.requires.none
+done_at-requires-clause-none g c κs within = ap (λ (y : Standing). y.in_flight) c.tidy_at.ensures.went.same
 
 pub returns-clause-went : goal.returns-clause-went
 returns-clause-went g c =
@@ -15,7 +15,7 @@ returns-clause-went g c =
     let x = g.T.Turns.standing c.tidy_at.new.turns in
     let y = g.T.Turns.standing c.done_at.new.turns in
     subst (λ (n : ℕ). WentWith n w y) (ap (λ (z : Standing). z.in_flight) c.tidy_at.ensures.went.same)
-    (went-then w.in_flight x.in_flight w x y c.tidy_at.ensures.went c.done_at.ensures.went)
+    (went-then 0 x.in_flight w x y c.tidy_at.ensures.went c.done_at.ensures.went)
 
 pub returns-clause-left : goal.returns-clause-left
 returns-clause-left g c = record {

@@ -3,7 +3,7 @@
 use Rattle.std.proofs.Common.{sym, subst}
 use Rattle.cc_journal.specs.Journal.{JournalState}
 use Rattle.cc_book.specs.Stored.{MayStoreAndBegin}
-use Rattle.cc_ranges.proofs.Storing.{has-owed, may-store, stored-here, unstored-here}
+use Rattle.cc_ranges.proofs.Storing.{has-owed, may-store, no-room-here, stored-here, unstored-here}
 use Rattle.cc_ranges.proofs.stores.store.Goals as goal
 
 pub store-requires-clause-may : goal.store-requires-clause-may
@@ -21,16 +21,21 @@ returns-in-Ok-store-clause-stored g c u may =
     let j = c.args.journal.now in
     let here = subst (λ (x : JournalState g.row.Q.Denot). MayStoreAndBegin u x.entries c.args.pass c.args.file c.args.page c.args.bytes b) (sym c.in-Ok.ensures.reserved)
     (may-store u c.args.pass c.args.file c.args.page c.args.bytes b j c.requires.stream may) in
-    stored-here u c.args.pass c.args.file c.args.page c.args.bytes b j c.requires.stream may c.store.new.self c.reserve.new.self c.store.new.journal c.release.new.self c.owed_end-owed.result
-    c.in-Ok.ensures.reserved c.in-Ok-store.ensures.placed c.owed_end-owed.ensures c.release.ensures c.store.ensures.stream (c.in-Ok-store.ensures.stands u here)
+    stored-here u c.args.pass c.args.file c.args.page c.args.bytes b j c.requires.stream may c.store.new.self c.reserve.new.self c.store.new.journal c.release.new.self c.has_room-kept.result c.places_of-places.result c.owed_end-owed.result
+    c.has_room-kept.ensures c.places_of-places.ensures c.in-Ok.ensures.reserved c.in-Ok-store.ensures.placed c.owed_end-owed.ensures c.release.ensures c.store.ensures.stream (c.in-Ok-store.ensures.stands u here)
 
 pub release-requires : goal.release-requires
 release-requires g c =
     let u = c.requires.may.0 in
-    has-owed u c.args.pass c.args.file c.args.page c.args.bytes c.args.book.now c.args.journal.now c.requires.stream c.requires.may.1 c.reserve.new.self c.store.new.journal c.owed_end-owed.result
-    c.in-Ok.ensures.reserved c.in-Ok-store.ensures.placed c.owed_end-owed.ensures
+    has-owed u c.args.pass c.args.file c.args.page c.args.bytes c.args.book.now c.args.journal.now c.requires.stream c.requires.may.1 c.reserve.new.self c.store.new.journal c.has_room-kept.result c.places_of-places.result c.owed_end-owed.result
+    c.places_of-places.ensures c.in-Ok.ensures.reserved c.in-Ok-store.ensures.placed c.owed_end-owed.ensures
 
 pub returns-in-Err-store-clause-stored : goal.returns-in-Err-store-clause-stored
 returns-in-Err-store-clause-stored g c u may =
-    unstored-here u c.args.pass c.args.file c.args.page c.args.bytes c.args.book.now c.args.journal.now c.requires.stream may c.store.new.self c.reserve.new.self c.store.new.journal c.release-in-Err-store.new.self
+    unstored-here u c.args.pass c.args.file c.args.page c.args.bytes c.args.book.now c.args.journal.now c.requires.stream may c.store.new.self c.reserve.new.self c.store.new.journal c.release-in-Err-store.new.self c.places_of-places.result
     c.in-Ok.ensures.reserved c.in-Err-store.ensures.err c.release-in-Err-store.ensures
+
+pub returns-in-Err-clause-stored : goal.returns-in-Err-clause-stored
+returns-in-Err-clause-stored g c u may =
+    no-room-here u c.args.pass c.args.file c.args.page c.args.bytes c.args.book.now c.args.journal.now c.requires.stream may c.in-Err.error c.reserve.new.self
+    c.has_room-kept.result c.places_of-places.result c.has_room-kept.ensures c.places_of-places.ensures c.in-Err.ensures.causes c.in-Err.ensures.full c.in-Err.ensures.err

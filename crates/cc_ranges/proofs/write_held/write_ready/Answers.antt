@@ -1,6 +1,6 @@
 -- A log that was flushed leaves the page ready and logged, so it may be put; a log that failed halts the write; want of
 -- room or memory turns it away.
-use Rattle.std.specs.Prelude.{◌≡◌, ℕ, false, Result, Ok, List}
+use Rattle.std.specs.Prelude.{◌≡◌, ℕ, false, Result, Ok, OnOk, List}
 use Rattle.std.proofs.Common.{ap, sym, ◌∙◌, subst}
 use Rattle.cc_entry.specs.Place.{Page}
 use Rattle.cc_entry.specs.declared.call.Call.TheVariants as call
@@ -20,10 +20,12 @@ use Rattle.cc_writes.specs.declared.log.LogFlush.{LogFlush}
 use Rattle.cc_writes.specs.declared.log.LogFlush.TheVariants as flush
 use Rattle.cc_writes.proofs.Disks.{both_still}
 use Rattle.cc_writes.proofs.Numbered.{same-place}
+use Rattle.cc_ranges.specs.Ends.{IsTidyEnd}
 use Rattle.cc_ranges.specs.Pages.{PutLeft}
 use Rattle.cc_ranges.specs.Stores.{IsReadyToStore}
 use Rattle.cc_ranges.specs.WriteVisits.{page_in}
 use Rattle.cc_ranges.proofs.WriteReady.{both-after, failed-left, halted-after, put-left-since, ready-after, ready-numbered, stamped-page, turned-after}
+use Rattle.cc_ranges.proofs.TidyEnds.{flushed-behind, tidy-went}
 use Rattle.cc_ranges.proofs.write_held.write_ready.Goals as goal
 
 pub unwrap-stored-requires : goal.unwrap-stored-requires
@@ -174,3 +176,16 @@ returns-in-Err-clause-left g c begun is =
     let left : FlushLeft w (page_in file c.args.page) c.flush_log.result x.seen = subst (λ (q : Page). FlushLeft w q c.flush_log.result x.seen) same c.flush_log.ensures.left in
     turned-after g.T.Disk.Told.told g.T.Disk.Told.faults w.in_flight w x file c.args.page b disk both c.requires.ready c.flush_log.ensures.went has c.flush_log.result left
     c.args.bytes.now begun is c.in-Err.error c.in-Err.is
+
+pub returns-in-Ok-Reached-clause-tidy : goal.returns-in-Ok-Reached-clause-tidy
+returns-in-Ok-Reached-clause-tidy g c =
+    let w = g.T.Turns.standing c.args.turns.now in
+    let x = g.T.Turns.standing c.flush_log.new.turns in
+    let file = c.args.file in
+    let page = c.unwrap-stored.result in
+    let same : page ≡ page_in file c.args.page = same-place c.new.result page c.stream.result file.stream c.args.page c.unwrap-stored.ensures c.new.ensures.stream c.new.ensures.page c.stream.ensures in
+    let reached : FlushLeft w page (Ok flush.Reached) x.seen =
+    subst (λ (r : Result LogFlush CcError). FlushLeft w page r x.seen) (c.in-Ok-Reached.is ∙ ap (λ (f : LogFlush). Ok f) c.in-Ok-Reached.field-0-is) c.flush_log.ensures.left in
+    let y = g.T.Turns.standing c.put_page.new.turns in
+    tidy-went w.in_flight w x file (page_in file c.args.page) c.put_page.result.1 y.seen c.flush_log.ensures.went (flushed-behind w page x.seen reached.0)
+    (subst (λ (q : Page). OnOk c.put_page.result.1 (IsTidyEnd x.setup x.most_others x.number file q x.seen y.seen)) same c.put_page.ensures.tidy)

@@ -11,7 +11,8 @@ use Rattle.cc_writes.specs.Ways.{IsFull}
 use Rattle.cc_writes.specs.Fetch.{CanCall}
 use Rattle.cc_writes.proofs.TakingBoth.{both_begun, setup_both}
 use Rattle.cc_ranges.proofs.Callers.{went-both, full-both}
-use Rattle.cc_ranges.proofs.WritePages.{page-since}
+use Rattle.cc_ranges.specs.WriteVisits.{page_in}
+use Rattle.cc_ranges.proofs.WritePages.{page-since, tidy-both}
 use Rattle.cc_ranges.proofs.writes.write_page.Goals as goal
 
 pub write_held-book-requires-clause-both : goal.write_held-book-requires-clause-both
@@ -39,6 +40,7 @@ returns g c =
     record {
       ends = record {
         left = page-since w v x s can first second y z c.args.file c.args.page c.args.bytes.now answer given c.write_held-book.ensures.left;
+        tidy = tidy-both w v x s can first second c.args.file (page_in c.args.file c.args.page) answer y.seen z.seen (ap (λ (a : Standing). a.seen) given) c.write_held-book.ensures.tidy;
         full = subst (λ (a : Standing). IsFull 4 a answer) (sym given) (full-both 4 y answer c.write_held-book.ensures.full);
         goes_on = went-both w v x y z s can.free first second went given;
         good = subst (λ (u : Setup). IsGood u z.seen) (ap (λ (a : Standing). a.setup) went.same ∙ setup_both w v x s can first second)
