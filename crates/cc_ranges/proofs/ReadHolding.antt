@@ -52,16 +52,3 @@ no-room u me file page begun new was way = record {
   behind = refl;
   unshaped = refl;
 }
-
--- a call that found no room for so many places had none for more
-pub full-more : (asked more : ℕ) (w : Standing) (e : CcError) → asked ≤ more → IsFullError asked w e → IsFullError more w e
-full-more asked more w (error.JournalFull entries) most full =
-    (full.0, less w.setup.capacity (length w.seen) _ full.1)
-  where
-    less : (capacity long owed : ℕ) → capacity < long + owed + asked → capacity < long + owed + more
-    less capacity long owed short = omega (arith, short, most)
-full-more asked more w other most full = tt
-
-pub full-answer : {A : Type 0} (asked more : ℕ) (w : Standing) (r : Result A CcError) → asked ≤ more → IsFull asked w r → IsFull more w r
-full-answer asked more w (Ok a) most full = tt
-full-answer asked more w (Err e) most full = full-more asked more w e most full

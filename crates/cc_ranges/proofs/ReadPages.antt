@@ -8,6 +8,7 @@ use Rattle.std.proofs.lemmas.List.FromFn.{length-range_with_len}
 use Rattle.std.proofs.lemmas.Slice.{take-put_mid, drop-put_mid}
 use borrow.Rule.Slice.PartMut.{put_mid}
 use Rattle.cc_entry.specs.Place.{File}
+use Rattle.cc_entry.specs.declared.call.Call.{Call}
 use Rattle.cc_entry.specs.declared.call.Call.TheVariants as call
 use Rattle.cc_entry.specs.declared.entry.Entry.{Entry}
 use Rattle.cc_entry.specs.declared.error.CcError.{CcError}
@@ -23,13 +24,13 @@ use Rattle.cc_turns.specs.Standing.{Standing, Held, nothing}
 use Rattle.cc_turns.specs.Takes.{Takes, with_device, with_book, without_device, without_book}
 use Rattle.cc_writes.specs.Hands.{Went}
 use Rattle.cc_writes.specs.Ways.{IsFull, IsFullError}
+use Rattle.cc_writes.specs.Calls.{IsFullWriting}
 use Rattle.cc_writes.specs.Fetch.{CanCall, WentOn}
 use Rattle.cc_ranges.specs.Answers.{read_of}
 use Rattle.cc_ranges.specs.ReadVisits.{outcome_of}
 use Rattle.cc_ranges.specs.Reads.{NcReadEnds, PageReadEnds, PagesReadEnds, PagesLeft}
 use Rattle.cc_ranges.specs.Shapes.{IsShape}
 use Rattle.cc_ranges.specs.declared.error.NcError.{NcError}
-use Rattle.cc_ranges.proofs.ReadHolding.{full-more}
 
 -- With the disk and the book given back the pass goes on as it stood, but has taken the turn of the disk.
 pub went-both : (w v x y z : Standing) (s : ℕ) → w.held ≡ nothing → Takes (with_device s) w v → Takes (with_book s) v x → Went x y → z ≡ without_device (without_book y) → WentOn w z
@@ -52,11 +53,6 @@ went-both w v x y z s free first second went given = record {
 pub setup-both : (w v x y : Standing) (s : ℕ) → Takes (with_device s) w v → Takes (with_book s) v x → Went x y → y.setup ≡ w.setup
 setup-both w v x y s first second went =
     ap (λ (a : Standing). a.setup) went.same ∙ (ap (λ (a : Standing). a.setup) second.same ∙ ap (λ (a : Standing). a.setup) first.same)
-
-pub full-both : (y : Standing) (answer : Result ℕ CcError) → IsFull 2 y answer → IsFull 2 (without_device (without_book y)) answer
-full-both y (Ok n) full = tt
-full-both y (Err (error.JournalFull entries)) full = full
-full-both y (Err other) full = tt
 
 -- How the pages go on: so many are read, their bytes stand in the front of what was handed in. Where all are whole, what
 -- the further ones leave is left by all of them; where the last came short, so is what is not told, or refused.
@@ -255,10 +251,6 @@ module _ (w v x : Standing) (file : File) (first done told : ℕ) (was now : Lis
   pub good-after : (answer : Result ℕ CcError) (before after : List ℕ) → PageReadEnds v x file (first + done) answer before after → IsGood w.setup x.seen
   good-after answer before after page = good_on answer before after page
 
--- a journal that is full for the two places of a transfer has no room for four
-pub full-after : (w : Standing) (e : CcError) → IsFullError 2 w e → IsFullError 4 w e
-full-after w e full = full-more 2 4 w e (omega arith) full
-
 -- the pass may call again
 pub can-again : (w v : Standing) (s : ℕ) → CanCall w s → WentOn w v → CanCall v s
 can-again w v s can went = record {
@@ -266,6 +258,10 @@ can-again w v s can went = record {
   free = ap (λ (a : Standing). a.held) went.same ∙ can.free;
   none = ap (λ (a : Standing). a.in_flight) went.same ∙ can.none;
 }
+
+-- so of the page that was refused
+refused-full : (w : Standing) (file : File) (first : ℕ) (e : CcError) (done : ℕ) → IsFullWriting {A = ℕ} (call.NcRead file (first + done)) w (Err e) → IsFullWriting {A = Unit {0}} (call.NcRead file (first + done)) w (Err e)
+refused-full w file first e done full = full
 
 -- What the pages left, with what is known of the rest.
 pub ends-untold : (w v x : Standing) (file : File) (first done told pages count : ℕ) (was now before after : List ℕ) → ReadsOn w v file first done told was now → PageReadEnds v x file (first + done) (Ok count) before after → told < 4096 * done → done < pages → pages ≡ length was / 4096 → told ≤ length was → PagesReadEnds w x file first (Ok told) was now
@@ -305,7 +301,7 @@ ends-refused w v x file first done told pages was now before after failed on pag
     rw count (reads-refused w v x file first done told was now on failed.cause before after page),
   );
   rest = rw count (rest-refused w v x file first done told was now on);
-  full = full-after x failed.cause page.full;
+  full = refused-full x file first failed.cause failed.done (rw count page.full);
   goes_on = went-then w v x on.went page.goes_on;
   good = λ good. good-after w v x file first done told was now on (Err failed.cause) before after page;
 }
@@ -332,7 +328,7 @@ pub misshapen-read : (w v : Standing) (file : File) (at : ℕ) (shape : CcError)
 misshapen-read w v file at shape failed was is none left full went good = record {
   left = subst (λ (o : Option CcError). ShapedReadLeft w.setup w.number file at (length was) o (Err (failed.done, failed.cause)) w.seen v.seen) (sym is) (none, left);
   rest = refl;
-  full = full-more 1 4 v failed.cause (omega arith) full;
+  full = inl full;
   goes_on = went;
   good = λ was_good. good;
 }

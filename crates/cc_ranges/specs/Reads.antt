@@ -1,18 +1,25 @@
 -- What a noncached read leaves.
-use Rattle.std.specs.Prelude.{ℕ, ◌<◌, ◌/◌, Result, Ok, Err, List, length}
+use Rattle.std.specs.Prelude.{ℕ, ◌+◌, ◌<◌, ◌/◌, Result, Ok, Err, List, length}
 use Rattle.std.specs.List.{range_with_len}
 use Rattle.cc_entry.specs.Place.{File}
+use Rattle.cc_entry.specs.declared.call.Call.TheVariants as call
 use Rattle.cc_entry.specs.declared.error.CcError.{CcError}
 use Rattle.cc_effects.specs.Moments.{Between}
 use Rattle.cc_effects.specs.Noncached.{NcReadLeft, PagesRead, PageReadsRefused}
 use Rattle.cc_model.specs.Good.{IsGood}
 use Rattle.cc_model.specs.Setup.{Setup}
 use Rattle.cc_turns.specs.Standing.{Standing}
-use Rattle.cc_writes.specs.Ways.{IsFull}
+use Rattle.cc_writes.specs.Calls.{IsFullWriting}
 use Rattle.cc_writes.specs.Fetch.{WentOn}
-use Rattle.cc_ranges.specs.Answers.{IsFullAfter, KeepsRest, read_of}
+use Rattle.cc_ranges.specs.Answers.{KeepsRest, read_of}
 use Rattle.cc_ranges.specs.ReadVisits.{ReadEnded}
 use Rattle.cc_ranges.specs.declared.error.NcError.{NcError}
+
+-- Where a read from a page on finds the journal full, there is no room for the entry of the page that it refuses; or that
+-- page is to be written first, and there is none for the begin of its transfer with the end.
+abbrev pub IsFullRead : Standing → File → ℕ → Result ℕ NcError → Type 0
+IsFullRead w file first (Ok n) = Unit {0}
+IsFullRead w file first (Err e) = IsFullWriting {A = Unit {0}} (call.NcRead file (first + e.done)) w (Err e.cause)
 
 -- A read into so many bytes was answered so: it left what explains its answer, page by page; what was handed in is as it
 -- was beyond that; a journal that is full is full; the pass goes on as it stood and may call again, and what it has seen
@@ -20,7 +27,7 @@ use Rattle.cc_ranges.specs.declared.error.NcError.{NcError}
 pub record NcReadEnds (old new : Standing) (file : File) (at : ℕ) (answer : Result ℕ NcError) (was now : List ℕ) : Type 0 where
   pub left : NcReadLeft old.setup old.number file at (length was) (read_of answer now) old.seen new.seen
   pub rest : KeepsRest answer was now
-  pub full : IsFullAfter new answer
+  pub full : IsFullRead new file (at / 4096) answer
   pub goes_on : WentOn old new
   pub good : IsGood old.setup old.seen → IsGood old.setup new.seen
 
@@ -35,7 +42,7 @@ pub record PagesReadEnds (old new : Standing) (file : File) (first : ℕ) (answe
     : Type 0 where
   pub left : PagesLeft old.setup old.number file first (length was / 4096) (read_of answer now) old.seen new.seen
   pub rest : KeepsRest answer was now
-  pub full : IsFullAfter new answer
+  pub full : IsFullRead new file first answer
   pub goes_on : WentOn old new
   pub good : IsGood old.setup old.seen → IsGood old.setup new.seen
 
@@ -43,6 +50,6 @@ pub record PagesReadEnds (old new : Standing) (file : File) (first : ℕ) (answe
 pub record PageReadEnds (old new : Standing) (file : File) (page : ℕ) (answer : Result ℕ CcError) (was now : List ℕ)
     : Type 0 where
   pub ended : ReadEnded old.setup old.number file page answer old.seen new.seen was now
-  pub full : IsFull 2 new answer
+  pub full : IsFullWriting (call.NcRead file page) new answer
   pub goes_on : WentOn old new
   pub good : IsGood old.setup new.seen

@@ -8,6 +8,7 @@ ghost use Rattle.cc_model.specs.History.{history};
 ghost use Rattle.cc_model.specs.Touches.{size_of};
 ghost use Rattle.cc_writes.specs.Hands.{HasBook, IsAtRest, SameDisk, Went, WentWith};
 ghost use Rattle.cc_writes.specs.Ways.{IsFull, IsFullError};
+ghost use Rattle.cc_writes.specs.Calls.{IsFullWriting};
 ghost use Rattle.cc_writes.specs.Writes.{HasBoth};
 ghost use Rattle.cc_writes.specs.Rounds.{WasTold};
 ghost use Rattle.cc_ranges.specs.ReadVisits.{IsAtRead, IsReading, IsToWriteFirst, ReadEnded};
@@ -46,7 +47,7 @@ pub(crate) fn read_held<T: Turns>(
         ReadEnded (T.standing turns.old).setup (T.standing turns.old).number file page result.1
         begun (T.standing turns.new).seen out.old out.new }
     ensures unread { size_of (history (T.standing turns.old).seen file.stream) ≤ 4096 * page → disk.new ≡ disk.old }
-    ensures full { IsFull 2 (T.standing turns.new) result.1 }
+    ensures full { IsFullWriting (call.NcRead file page) (T.standing turns.new) result.1 }
 {
     match look_at(alloc, turns, &mut book, file, page, false) {
         Look::Ended(answer) => (book, answer),
@@ -77,7 +78,7 @@ fn write_first<T: Turns>(
         IsUnderWay (T.standing turns.old).number (call.NcRead file page) begun (T.standing turns.old).seen →
         ReadEnded (T.standing turns.old).setup (T.standing turns.old).number file page result.1
         begun (T.standing turns.new).seen out.old out.new }
-    ensures full { IsFull 2 (T.standing turns.new) result.1 }
+    ensures full { IsFullWriting (call.NcRead file page) (T.standing turns.new) result.1 }
 {
     let call = Call::NcRead { file, page };
     let (book, written) = write_for(alloc, turns, disk, book, call, page, false);
@@ -110,7 +111,7 @@ fn read_written<T: Turns>(
         IsReading (T.standing turns.old).number file page true begun (T.standing turns.old).seen →
         ReadEnded (T.standing turns.old).setup (T.standing turns.old).number file page result.1
         begun (T.standing turns.new).seen out.old out.new }
-    ensures full { IsFull 2 (T.standing turns.new) result.1 }
+    ensures full { IsFullWriting (call.NcRead file page) (T.standing turns.new) result.1 }
 {
     match look_at(alloc, turns, &mut book, file, page, true) {
         Look::Ended(answer) => (book, answer),
@@ -144,7 +145,7 @@ fn read_disk<T: Turns>(
         begun (T.standing turns.old).seen →
         ReadEnded (T.standing turns.old).setup (T.standing turns.old).number file page result.1
         begun (T.standing turns.new).seen out.old out.new }
-    ensures full { IsFull 2 (T.standing turns.new) result.1 }
+    ensures full { IsFull 1 (T.standing turns.new) result.1 }
 {
     let mut raw = [0; 4096];
     let (mut book, answer) = read_free(turns, disk, book, page, &mut raw);

@@ -1,6 +1,6 @@
 -- By the first look: the read ended, its dirty page is written first, or a place is reserved and the disk is read.
 use Rattle.std.specs.Prelude.{ℕ, false, List}
-use Rattle.std.proofs.Common.{sym, ◌∙◌, subst, arith}
+use Rattle.std.proofs.Common.{sym, ◌∙◌, subst, arith, inl}
 use Rattle.cc_entry.specs.declared.entry.Entry.{Entry}
 use Rattle.cc_effects.specs.Calls.{IsUnderWay}
 use Rattle.cc_effects.proofs.Starts.{begins}
@@ -85,3 +85,9 @@ returns-in-Writes-clause-unread g c beyond = absurd (omega (arith, beyond, c.in-
 
 pub returns-in-Reads-clause-unread : goal.returns-in-Reads-clause-unread
 returns-in-Reads-clause-unread g c beyond = absurd (omega (arith, beyond, c.in-Reads.ensures.below))
+
+pub returns-in-Ended-clause-full : goal.returns-in-Ended-clause-full
+returns-in-Ended-clause-full g c = inl c.in-Ended.ensures.full
+
+pub returns-in-Reads-clause-full : goal.returns-in-Reads-clause-full
+returns-in-Reads-clause-full g c = inl c.read_disk.ensures.full

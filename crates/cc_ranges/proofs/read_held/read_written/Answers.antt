@@ -1,6 +1,6 @@
 -- By the look at a page that was written for the read: the read ended, or a place is reserved and the disk is read.
 use Rattle.std.specs.Prelude.{ℕ}
-use Rattle.std.proofs.Common.{sym, ◌∙◌, subst}
+use Rattle.std.proofs.Common.{sym, ◌∙◌, subst, inl}
 use Rattle.cc_writes.specs.Writes.{HasBoth}
 use Rattle.cc_writes.proofs.Disks.{still_of}
 use Rattle.cc_ranges.specs.ReadVisits.{IsAtRead, ReadEnded}
@@ -45,3 +45,9 @@ returns-in-Reads-clause-left g c begun is =
     let page = c.args.page in
     said-before (λ u n. ReadEnded u n file page c.read_disk.result.1 begun (g.T.Turns.standing c.read_disk.new.turns).seen c.args.out.now c.read_disk.new.out) 1 w v c.in-Reads.ensures.went
     (c.read_disk.ensures.left begun (said-after (λ u n. IsAtRead u n file page begun v.seen) 1 w v c.in-Reads.ensures.went (c.in-Reads.ensures.left begun (is))))
+
+pub returns-in-Ended-clause-full : goal.returns-in-Ended-clause-full
+returns-in-Ended-clause-full g c = inl c.in-Ended.ensures.full
+
+pub returns-in-Reads-clause-full : goal.returns-in-Reads-clause-full
+returns-in-Reads-clause-full g c = inl c.read_disk.ensures.full

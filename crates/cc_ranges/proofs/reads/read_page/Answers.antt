@@ -9,11 +9,12 @@ use Rattle.cc_model.specs.Good.{IsGood}
 use Rattle.cc_model.specs.Setup.{Setup}
 use Rattle.cc_turns.specs.Standing.{Standing}
 use Rattle.cc_turns.specs.Takes.{without_device}
-use Rattle.cc_writes.specs.Ways.{IsFull}
+use Rattle.cc_writes.specs.Calls.{IsFullWriting}
 use Rattle.cc_writes.specs.Fetch.{CanCall}
 use Rattle.cc_writes.proofs.TakingBoth.{both_begun, left_since}
 use Rattle.cc_ranges.specs.ReadVisits.{ReadEnded}
-use Rattle.cc_ranges.proofs.ReadPages.{went-both, setup-both, full-both}
+use Rattle.cc_writes.proofs.Fullness.{given-writing}
+use Rattle.cc_ranges.proofs.ReadPages.{went-both, setup-both}
 use Rattle.cc_ranges.proofs.reads.read_page.Goals as goal
 
 pub read_held-book-requires-clause-both : goal.read_held-book-requires-clause-both
@@ -43,7 +44,7 @@ returns g c =
       ends = record {
         ended = left_since w v x s can first second (λ u me begun past. ReadEnded u me c.args.file c.args.page answer begun past c.args.out.now c.read_held-book.new.out) y z it given
             c.read_held-book.ensures.left w.seen (begins w.number it w.seen);
-        full = subst (λ (a : Standing). IsFull 2 a answer) (sym given) (full-both y answer c.read_held-book.ensures.full);
+        full = subst (λ (a : Standing). IsFullWriting it a answer) (sym given) (given-writing it y answer c.read_held-book.ensures.full);
         goes_on = went-both w v x y z s can.free first second went given;
         good = subst (λ (u : Setup). IsGood u z.seen) (setup-both w v x y s first second went)
             (subst (λ (past : List Entry). IsGood y.setup past) (sym (ap (λ (a : Standing). a.seen) given)) both.book.good);
