@@ -1,6 +1,7 @@
 -- What a call leaves that needs pages: in one turn of its stream's book, or with the turn of the disk too.
 use Rattle.std.specs.Prelude.{◌≡◌, ℕ, Bool, true, false, ◌==◌, List, [], ◌∷◌, ◌++◌, max, Result, Ok, Err, refl}
-use Rattle.std.proofs.Common.{ap, sym, ◌∙◌, arith, inl, inr, append_assoc, subst, true≢false}
+use Rattle.std.proofs.Common.{ap, sym, ◌∙◌, inl, inr, append_assoc, subst, true≢false}
+use Rattle.std.proofs.Math.Nat.{le-max_left, le-max_right}
 use Rattle.cc_entry.specs.declared.call.Call.{Call}
 use Rattle.cc_entry.specs.declared.entry.Entry.{Entry}
 use Rattle.cc_entry.specs.declared.entry.Entry.TheVariants as entry
@@ -26,20 +27,24 @@ use Rattle.cc_writes.specs.declared.visits.Tried.{Tried}
 use Rattle.cc_writes.specs.declared.visits.Tried.TheVariants as tried
 use Rattle.cc_writes.specs.declared.tell.Returned.{Returned}
 use Rattle.cc_writes.specs.Ways.{EndedSo, IsFull}
-use Rattle.cc_writes.specs.Fetch.{WentOn, most_room}
+use Rattle.cc_writes.specs.Fetch.{IsFullFetching, WentOn}
 use Rattle.cc_calls.specs.Paged.{Paged, is_paged}
 use Rattle.cc_calls.specs.Pages.{HadMissed, IsFullFor}
+use Rattle.cc_writes.proofs.Fullness.{full-answer}
 use Rattle.cc_calls.proofs.Waiting.{IsMissed, brings, missed-page}
 
--- where there is no room for so many entries more, there is none for those of a transfer too
-fuller : {A : Type 0} (w : Standing) (asked : ℕ) (answer : Result A CcError) → IsFull asked w answer → IsFull (max 2 asked) w answer
-fuller w asked (Ok told) full = tt
-fuller w asked (Err (error.JournalFull entries)) full = (full.0, omega (arith, full.1))
-fuller w asked (Err other) full = tt
+-- as many places as a call or a step of it may ask that brings pages in: those of its entry, or the two of a transfer
+abbrev pub most_room : Call → ℕ
+most_room it = max 2 (most_asked it)
 
 pub full-within : {A : Type 0} (it : Call) (w v : Standing) (answer : Result A CcError) → IsFullFor it w v answer → IsFull (most_room it) v answer
-full-within it w v answer (inl full) = fuller v (most_asked it) answer full
-full-within it w v answer (inr full) = full.1
+full-within it w v answer (inl full) = full-answer (most_asked it) (most_room it) v answer (le-max_right 2 (most_asked it)) full
+full-within it w v answer (inr full) = full-answer 2 (most_room it) v answer (le-max_left 2 (most_asked it)) full.2
+
+-- what its steps asked is said of the call
+full-for : {A : Type 0} (it : Call) (w v : Standing) (answer : Result A CcError) → HadMissed w.number it w.seen v.seen → IsFullFetching it v answer → IsFullFor it w v answer
+full-for it w v answer missed (inl full) = inl full
+full-for it w v answer missed (inr full) = inr (missed, full.0, full.1)
 
 same-turns : (w v : Standing) → Went w v → v.device_turns ≡ w.device_turns
 same-turns w v went = ap (λ x. x.device_turns) went.same
@@ -97,10 +102,10 @@ has-waited w v s page it again was now ended is left =
     let k = rw is at (left w.seen (begins w.number it w.seen)) in
     record { call_is = k.0; way = k.1; waits = k.2; same = k.3 }
 
-pub with-disk : (w v x : Standing) (s page : ℕ) (it again : Call) (answer : Result Returned CcError) (was between now : List ℕ) → is_paged it ≡ true → IsOf it s → Went w v → HasWaited w v s page it again was between → WentOn v x → IsGood x.setup x.seen → IsFull (most_room again) x answer → ((begun : List Entry) → IsUnderWay v.number again begun v.seen → EndedSo v.setup v.number again answer begun x.seen between now) → Paged w x it answer was now
+pub with-disk : (w v x : Standing) (s page : ℕ) (it again : Call) (answer : Result Returned CcError) (was between now : List ℕ) → is_paged it ≡ true → IsOf it s → Went w v → HasWaited w v s page it again was between → WentOn v x → IsGood x.setup x.seen → IsFullFetching again x answer → ((begun : List Entry) → IsUnderWay v.number again begun v.seen → EndedSo v.setup v.number again answer begun x.seen between now) → Paged w x it answer was now
 with-disk w v x s page it again answer was between now paged filed went has on good full left = record {
   left = rw (setup, number, has.call_is, has.same) at (left w.seen way);
-  full = inr (had-missed, subst (λ (call : Call). IsFull (most_room call) x answer) has.call_is full);
+  full = full-for it w x answer had-missed (subst (λ (call : Call). IsFullFetching call x answer) has.call_is full);
   goes_on = record { same = on.same ∙ ap (λ (y : Standing). record y { seen = x.seen; others = x.others; device_turns = x.device_turns }) went.same };
   good = rw (ap (λ y. y.setup) on.same, setup) at good;
   missed = inr had-missed;

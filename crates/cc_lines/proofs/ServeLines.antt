@@ -28,8 +28,7 @@ use Rattle.cc_turns.specs.Standing.{Standing}
 use Rattle.cc_writes.specs.Ways.{IsFull}
 use Rattle.cc_lines.specs.Holds.{NamesState}
 use Rattle.cc_lines.specs.Line.{CanServe, IsFullTold, LineEnds, flag_told, lsns_told, rows_told, state_told, told_of}
-use Rattle.cc_writes.specs.Fetch.{most_room}
-use Rattle.cc_calls.proofs.Paging.{full-within}
+use Rattle.cc_calls.proofs.Paging.{full-within, most_room}
 use Rattle.cc_lines.proofs.WordLines.{full-told, went-on}
 use Rattle.cc_lines.proofs.UseLines.{told-answered, told-full}
 use Rattle.cc_lines.proofs.PlainLines.{log_flush-line, plain-line, plain_call}

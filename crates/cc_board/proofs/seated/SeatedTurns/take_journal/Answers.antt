@@ -27,6 +27,15 @@ invariant_of-self g c =
     (ap (λ s. s.knows.journal) is ∙ c.requires.free) c.self.invariant.7 c.self.invariant.2 c.take.ensures.out in
     (search rules, search rules, seats.carried_is, search rules, search rules, search rules, within-took _ _ _ _ took c.self.invariant.6, seats.own)
 
+pub returns-clause-few : goal.returns-clause-few
+returns-clause-few g c =
+    let begun = c.self.inside.board.now.begun in
+    let tells = tells_of g.D.Told.told g.D.Told.faults g.L.LogFile.told g.L.LogFile.faults g.Q.PostRoutine.posted in
+    let slot : 2 * c.from.result + c.from-2.result ≡ slot_of begun Journal = omega (arith, c.from.ensures, c.streams.ensures, c.from-2.ensures, c.logs.ensures) in
+    let took = took-turn tells journal_at begun Journal (2 * c.from.result + c.from-2.result) c.self.inside.seat.me
+    (c.take.new.seat.me.0, (2 * c.from.result + c.from-2.result, c.take.result) ∷ c.self.inside.seat.me.1) c.self.invariant.1 slot refl c.take.ensures.told in
+    (within-took _ _ _ _ took c.self.invariant.6).few
+
 pub returns-clause-took : goal.returns-clause-took
 returns-clause-took g c =
     let begun = c.self.inside.board.now.begun in
