@@ -16,8 +16,11 @@ pub mod FlushHolding
 pub mod Residing
 pub mod Unheld
 pub mod Emptying
+pub mod Alone
 pub mod PurgeStepping
 pub mod PurgeNexting
+pub mod PurgeRounds
+mod PurgeLessening
 pub mod PurgeHolding
 pub mod Misshapen
 pub mod ReadStepping

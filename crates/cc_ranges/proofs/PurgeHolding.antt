@@ -1,16 +1,14 @@
 -- A purge with the disk and the book of its stream in hand: its rounds, and how they go on.
-use Rattle.std.specs.Prelude.{◌≡◌, ℕ, ◌<◌, ◌≤◌, ◌^◌, true, ◌==◌, Result, Ok, Err, Some, None, List, refl}
+use Rattle.std.specs.Prelude.{◌≡◌, ℕ, ◌<◌, ◌≤◌, ◌^◌, Bool, true, ◌==◌, Result, Ok, Err, Some, None, List, refl}
 use Rattle.std.specs.declared.option.Option.{Option}
-use Rattle.std.proofs.Common.{ap, sym, ◌∙◌, subst}
+use Rattle.std.proofs.Common.{ap, sym, ◌∙◌, subst, arith}
 use Rattle.std.proofs.lemmas.Bool.{and_from, eq-eqb}
 use Rattle.cc_entry.specs.Place.{File, Range}
 use Rattle.cc_entry.specs.declared.call.Call.{Call}
 use Rattle.cc_entry.specs.declared.call.Call.TheVariants as call
 use Rattle.cc_entry.specs.declared.entry.Entry.{Entry}
 use Rattle.cc_entry.specs.declared.error.CcError.{CcError}
-use Rattle.cc_entry.specs.declared.error.CcError.TheVariants as error
 use Rattle.cc_entry.specs.declared.reply.Outcome.{Outcome}
-use Rattle.cc_entry.specs.declared.reply.Outcome.TheVariants as outcome
 use Rattle.cc_traits.specs.Disk.{Disk}
 use Rattle.cc_book.specs.Book.{BookState}
 use Rattle.cc_effects.specs.Asked.{Calls, is_admitted, may_write}
@@ -21,11 +19,11 @@ use Rattle.cc_turns.specs.Standing.{Standing}
 use Rattle.cc_writes.specs.Hands.{Went, WentWith}
 use Rattle.cc_writes.specs.Calls.{MayFaultInWriting, PageLeft}
 use Rattle.cc_writes.specs.Writes.{HasBoth}
-use Rattle.cc_writes.proofs.Halting.{no-memory}
 use Rattle.cc_writes.proofs.OneVisit.{went-then}
 use Rattle.cc_writes.specs.Ways.{IsFull}
 use Rattle.cc_ranges.specs.Flush.{outcome_of}
-use Rattle.cc_ranges.specs.Purge.{RoundLeft, IsFullRound, ended_of, round_of}
+use Rattle.cc_ranges.specs.Alone.{NobodyElseChanged}
+use Rattle.cc_ranges.specs.Purge.{RoundLeft, RoundPlaced, IsFullRound, WentUpOnce, ended_of, round_of}
 use Rattle.cc_ranges.specs.declared.purge.Round.{Round}
 use Rattle.cc_ranges.specs.declared.purge.Round.TheVariants as round
 
@@ -79,10 +77,6 @@ ended-full asked w (round.Ended other) answer is full = subst (λ (a : Option (R
 ended-full asked w (round.CameTo to) answer is full = absurd (cc)
 ended-full asked w round.GoesOn answer is full = absurd (cc)
 
--- where the rounds end without its end it leaves nothing but what it placed
-pub spent : (u : Setup) (me : ℕ) (file : File) (span : Option Range) (begun new : List Entry) → IsUnderWay me (call.Purge file span) begun new → CallLeft u me (call.Purge file span) (outcome.Failed error.NoMemory) begun new
-spent u me file span begun new way = no-memory me (call.Purge file span) begun new refl refl way
-
 -- How the rounds go on: what is in hand stands, and a purge that was under way as they began is still.
 pub record ComesOn {D : Type 0} (told : D → Option Disk) (faults : D → ℕ) (w v : Standing) (file : File) (span : Option Range)
     (from : ℕ) (b : BookState) (disk : D) : Type 0 where
@@ -93,6 +87,30 @@ pub record ComesOn {D : Type 0} (told : D → Option Disk) (faults : D → ℕ) 
   pub went : Went w v
   pub left : (begun : List Entry) → IsUnderWay w.number (call.Purge file span) begun w.seen → IsUnderWay w.number (call.Purge file span) begun v.seen
   pub within : from ≤ 2 ^ 51
+
+-- they begin
+pub comes-first : {D : Type 0} (told : D → Option Disk) (faults : D → ℕ) (w : Standing) (file : File) (span : Option Range) (b : BookState) (disk : D) → b.stream ≡ file.stream → b.stream < w.streams → HasBoth told faults w b.stream b disk → w.in_flight ≡ 0 → ComesOn told faults w w file span 0 b disk
+comes-first told faults w file span b disk stream known both none = record {
+  stream = stream;
+  known = known;
+  both = both;
+  none = none;
+  went = record { same = refl };
+  left = λ begun way. way;
+  within = omega arith;
+}
+
+-- The same on the way up the span: each page was written once so far.
+pub record ComesOnUp {D : Type 0} (told : D → Option Disk) (faults : D → ℕ) (w v : Standing) (file : File) (span : Option Range)
+    (from : ℕ) (b : BookState) (disk : D) : Type 0 where
+  pub on : ComesOn told faults w v file span from b disk
+  pub up : WentUpOnce w.number from w.seen v.seen
+
+-- The same with the book kept: nobody else has changed the stream so far.
+pub record ComesOnAlone {D : Type 0} (told : D → Option Disk) (faults : D → ℕ) (w v : Standing) (file : File) (span : Option Range)
+    (b : BookState) (disk : D) : Type 0 where
+  pub on : ComesOn told faults w v file span 0 b disk
+  pub alone : NobodyElseChanged w.number file.stream w.seen v.seen
 
 module _ {D : Type 0} (told : D → Option Disk) (faults : D → ℕ) (w v x : Standing) (file : File) (span : Option Range) (from : ℕ)
     (b c : BookState) (disk now : D) (on : ComesOn told faults w v file span from b disk) where
@@ -110,6 +128,12 @@ module _ {D : Type 0} (told : D → Option Disk) (faults : D → ℕ) (w v x : S
   round-on came left begun way =
       subst (λ (n : ℕ). RoundLeft w.setup n file span came begun x.seen) number_on
       (subst (λ (u : Setup). RoundLeft u v.number file span came begun x.seen) setup_on (left begun (way_on begun way)))
+
+  -- what it placed
+  pub placed-on : (at : ℕ) (keeps : Bool) (came : Round) → RoundPlaced v.number b.stream at keeps came v.seen x.seen → RoundPlaced w.number file.stream at keeps came v.seen x.seen
+  placed-on at keeps came placed =
+      subst (λ (n : ℕ). RoundPlaced n file.stream at keeps came v.seen x.seen) number_on
+      (subst (λ (n : ℕ). RoundPlaced v.number n at keeps came v.seen x.seen) on.stream placed)
 
   -- it goes on, from this page
   module _ (both : HasBoth told faults x b.stream c now) (went : Went v x) where

@@ -1,7 +1,7 @@
 -- The next step of a purge, in a visit with the stream's disk in hand.
 use Rattle.std.specs.Prelude.{◌≡◌, ℕ, suc, ◌<◌, ◌^◌, Bool, true, List, [], ◌∷◌, ◌++◌, Some, refl}
 use Rattle.std.specs.declared.option.Option.{Option}
-use Rattle.std.proofs.Common.{ap, sym, subst}
+use Rattle.std.proofs.Common.{ap, sym, ◌∙◌, subst, inl, inr}
 use Rattle.std.proofs.lemmas.Bool.{or_right, eq-eqb}
 use Rattle.cc_entry.specs.Place.{File, Page, Range}
 use Rattle.cc_entry.specs.declared.call.Call.{Call}
@@ -20,9 +20,9 @@ use Rattle.cc_model.specs.History.{history}
 use Rattle.cc_model.specs.Holds.{holds_of}
 use Rattle.cc_model.specs.Passes.{calls_of}
 use Rattle.cc_model.specs.Setup.{Setup}
-use Rattle.cc_step.specs.Step.{StandUnder}
+use Rattle.cc_step.specs.Step.{AttemptDone, StandUnder}
 use Rattle.cc_turns.specs.Standing.{Standing}
-use Rattle.cc_turns.specs.Takes.{without_journal}
+use Rattle.cc_turns.specs.Takes.{Grows, without_journal}
 use Rattle.cc_writes.specs.Hands.{HasBook, IsAtRest, SameDisk}
 use Rattle.cc_writes.specs.Visits.{IsFiledNow, IsOf}
 use Rattle.cc_writes.proofs.Attempting.{filed-front, number-is, way-on, visited-done, visited-refused, visited-same, left-refused, left-stopped, full-refused, full-stop}
@@ -33,7 +33,7 @@ use Rattle.cc_writes.proofs.Refusals.{stops-free}
 use Rattle.cc_writes.proofs.VisitStepping.{disk-grew, fill-as}
 use Rattle.cc_writes.proofs.Visiting.{Visiting, Visited, visited}
 use Rattle.cc_ranges.specs.Dirty.{IsNext}
-use Rattle.cc_ranges.specs.Purge.{IsAtPage, IsAsking, IsFullStep, StepLeft, step_of}
+use Rattle.cc_ranges.specs.Purge.{HasEnded, HasGone, IsAtPage, IsAsking, IsFullStep, StepLeft, StepPlaced, step_of}
 use Rattle.cc_ranges.specs.PurgeSteps.{NextLeft, HasToWrite, HasTakenOut, IsNumbered}
 use Rattle.cc_ranges.specs.declared.purge_steps.Next.{Next}
 use Rattle.cc_ranges.specs.declared.purge_steps.Next.TheVariants as next
@@ -148,6 +148,38 @@ module _ {Q : Type 0} (posted : Q → Bool) (w v : Standing) (file : File) (span
   asking next.Cleaned numbered left = tt
   asking next.WentOut numbered left = tt
   asking (next.Stopped e) numbered left = tt
+
+  -- and what it placed
+  grows-same : k ≡ j → Grows w k.entries
+  grows-same same = subst (λ (x : JournalState Q). Grows w x.entries) (sym same) vis.grows
+
+  ended-here : AttemptDone w.setup w.number it reply.Unit b c j k → HasEnded w file span k.entries
+  ended-here left = record {
+    nth = suc (calls_of j.entries w.number);
+    placed = record {
+      front = j.entries;
+      grows = vis.grows;
+      placed = ap (λ (x : JournalState Q). x.entries) left.placed
+          ∙ ap (λ (n : ℕ). entry.Call w.number (suc (calls_of j.entries w.number)) (Some n) it (outcome.Done reply.Unit) ∷ j.entries) here;
+    };
+  }
+
+  gone-here : HasTakenOut w.setup w.number file span b c j k → HasGone w file.stream k.entries
+  gone-here left =
+      subst (λ (n : ℕ). HasGone w n k.entries) here
+      (record {
+        page = left.page;
+        placed = record { front = j.entries; grows = vis.grows; placed = ap (λ (x : JournalState Q). x.entries) left.placed };
+        resident = left.resident;
+      })
+
+  pub placed-next : (ended : Next) → NextLeft w.setup w.number file span from ended b c j k → StepPlaced w file span from (step_of ended) k.entries
+  placed-next next.Done left = ended-here left
+  placed-next (next.Refused e) left = tt
+  placed-next (next.Writes page) left = grows-same left.same_journal
+  placed-next next.Cleaned left = inr (left.later, grows-same left.same_journal)
+  placed-next next.WentOut left = inl (gone-here left)
+  placed-next (next.Stopped e) left = tt
 
   pub full-next : (ended : Next) → NextLeft w.setup w.number file span from ended b c j k → IsFullStep (without_journal k v) (step_of ended)
   full-next next.Done left = tt

@@ -93,8 +93,8 @@ module _ {Q : Type 0} (u : Setup) (pass : ℕ) (file : File) (span : Option Rang
     stream = stream;
   }
 
-  pub cleaned : (from : ℕ) (k : JournalState Q) → IsCleanFrom (history j.entries b.stream) span from → k ≡ record j { reserved = j.reserved - 1 } → HasCleaned span from b b (without_one j) k
-  cleaned from k clean released = record { clean = clean; same_book = refl; same_journal = released }
+  pub cleaned : (from : ℕ) (k : JournalState Q) → 0 < from → IsCleanFrom (history j.entries b.stream) span from → k ≡ record j { reserved = j.reserved - 1 } → HasCleaned span from b b (without_one j) k
+  cleaned from k later clean released = record { later = later; clean = clean; same_book = refl; same_journal = released }
 
   module _ (admitted : refusal u j.entries (history j.entries b.stream) it ≡ None) where
     pub to-write : (from page : ℕ) (k : JournalState Q) → IsNext (history j.entries b.stream) span from page → k ≡ record j { reserved = j.reserved - 1 } → HasToWrite u file span from page b b (without_one j) k
@@ -125,6 +125,7 @@ module _ {Q : Type 0} (u : Setup) (pass : ℕ) (file : File) (span : Option Rang
           let adds = adds-reserving (entry.PageOut pass (page_of b page)) (without_one j) k (subst (λ (x : JournalState Q). Gains (entry.PageOut pass (page_of b page)) x k) (sym back) gains) in
           record {
             page = page;
+            resident = least.resident;
             asked = asked-out j.entries pass b.stream file span page (admitted-steps u j.entries b.stream it admitted) (inner b.stream file.stream may.may.filed) clean least;
             placed = adds;
             stand = stand-onto u (entry.PageOut pass (page_of b page)) b c (without_one j) k may.may.stand good-going (ap (λ (x : JournalState Q). x.entries) adds) (ap (λ (x : JournalState Q). x.logs) adds) (ap (λ (x : JournalState Q). x.threshold) adds) same (goes (u.opening b.stream) may.may.stand.stands);

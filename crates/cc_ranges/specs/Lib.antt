@@ -5,6 +5,7 @@ pub mod Dirty
 pub mod FlushSteps
 pub mod Flush
 pub mod Residents
+pub mod Alone
 pub mod PurgeSteps
 pub mod Purge
 pub mod Answers

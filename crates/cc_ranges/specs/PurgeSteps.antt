@@ -15,7 +15,7 @@ use Rattle.cc_journal.specs.Journal.{JournalState}
 use Rattle.cc_model.specs.History.{history}
 use Rattle.cc_model.specs.Ranges.{span_has}
 use Rattle.cc_model.specs.Refusals.{refusal}
-use Rattle.cc_model.specs.Residency.{residents}
+use Rattle.cc_model.specs.Residency.{is_resident, residents}
 use Rattle.cc_model.specs.Setup.{Setup}
 use Rattle.cc_model.specs.Stamps.{is_unstamped}
 use Rattle.cc_step.specs.Step.{StandUnder, Adds, AttemptDone, AttemptRefused, IsStop, FoundNone}
@@ -33,8 +33,9 @@ pub record HasToWrite {Q : Type 0} (u : Setup) (file : File) (span : Option Rang
   pub same_book : c ≡ b
   pub same_journal : k ≡ j
 
--- No page of the span is dirty from one on, and nothing changed.
+-- No page of the span is dirty from one on, which is not the stream's first, and nothing changed.
 pub record HasCleaned {Q : Type 0} (span : Option Range) (from : ℕ) (b c : BookState) (j k : JournalState Q) : Type 0 where
+  pub later : 0 < from
   pub clean : IsCleanFrom (history j.entries b.stream) span from
   pub same_book : c ≡ b
   pub same_journal : k ≡ j
@@ -43,6 +44,7 @@ pub record HasCleaned {Q : Type 0} (span : Option Range) (from : ℕ) (b c : Boo
 pub record HasTakenOut {Q : Type 0} (u : Setup) (pass : ℕ) (file : File) (span : Option Range)
     (b c : BookState) (j k : JournalState Q) : Type 0 where
   pub page : ℕ
+  pub resident : is_resident (history j.entries b.stream) page ≡ true
   pub asked : asks_out pass (call.Purge file span) (page_of b page) j.entries ≡ true
   pub placed : Adds (entry.PageOut pass (page_of b page)) j k
   pub stand : StandUnder u c k

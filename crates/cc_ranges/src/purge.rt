@@ -1,14 +1,15 @@
 //! A purge, with the disk and the book of its stream in hand.
 
-ghost use Rattle.std.specs.Prelude.{◌≡◌, ◌<◌, ◌≤◌, ◌^◌, List};
+ghost use Rattle.std.specs.Prelude.{◌≡◌, ◌<◌, ◌≤◌, ◌^◌, true, List, OnOk};
 ghost use Rattle.cc_entry.specs.declared.call.Call.TheVariants as call;
 ghost use Rattle.cc_entry.specs.declared.entry.Entry.{Entry};
 ghost use Rattle.cc_effects.specs.Calls.{CallLeft, IsUnderWay};
 ghost use Rattle.cc_writes.specs.Hands.{Went};
 ghost use Rattle.cc_writes.specs.Ways.{IsFull};
 ghost use Rattle.cc_writes.specs.Writes.{HasBoth};
+ghost use Rattle.cc_ranges.specs.Alone.{NobodyElseChanged};
 ghost use Rattle.cc_ranges.specs.Flush.{outcome_of};
-ghost use Rattle.cc_ranges.specs.Purge.{RoundLeft, IsFullRound, IsRising, ended_of, round_of};
+ghost use Rattle.cc_ranges.specs.Purge.{HasLess, IsFullRound, IsRising, RoundLeft, RoundPlaced, WasEmptiedAlone, ended_of, round_of};
 
 use crate::purge_visits::{Step, next_at};
 use cc_book::Book;
@@ -16,10 +17,6 @@ use cc_entry::{Call, CcError, FileId, Span};
 use cc_turns::Turns;
 use cc_writes::write_for;
 use std::alloc::Global;
-
-// More rounds than a purge takes with the book kept. At most 16,384 pages of a stream are resident, those of 256 view
-// blocks: each is written at most once, and goes out.
-const ROUNDS: u32 = 65_536;
 
 /// How far a purge came in a round.
 #[derive(Drop)]
@@ -55,6 +52,8 @@ pub fn purge_held<T: Turns>(
         IsUnderWay (T.standing turns.old).number (call.Purge file span) begun (T.standing turns.old).seen →
         CallLeft (T.standing turns.old).setup (T.standing turns.old).number (call.Purge file span) (outcome_of result.1)
         begun (T.standing turns.new).seen }
+    ensures emptied { OnOk result.1 (WasEmptiedAlone (T.standing turns.old).number file.stream (T.standing turns.old).seen
+        (T.standing turns.new).seen) }
     ensures full { IsFull 2 (T.standing turns.new) result.1 }
 {
     let mut from = 0;
@@ -69,7 +68,8 @@ pub fn purge_held<T: Turns>(
     }
 }
 
-// Goes on with a purge that has come to the end of its span, with the book kept, until it ends.
+// Goes on with a purge that has come to the end of its span, with the book kept, until it ends. Each round leaves less to
+// do.
 fn empty_held<T: Turns>(
     alloc: Global,
     turns: &mut T,
@@ -88,9 +88,11 @@ fn empty_held<T: Turns>(
         IsUnderWay (T.standing turns.old).number (call.Purge file span.now) begun (T.standing turns.old).seen →
         CallLeft (T.standing turns.old).setup (T.standing turns.old).number (call.Purge file span.now)
         (outcome_of result.1) begun (T.standing turns.new).seen }
+    ensures alone { OnOk result.1 (NobodyElseChanged (T.standing turns.old).number file.stream (T.standing turns.old).seen
+        (T.standing turns.new).seen) }
     ensures full { IsFull 2 (T.standing turns.new) result.1 }
 {
-    for _round in 0..ROUNDS {
+    'pages: loop {
         let (now, came) = advance(alloc, turns, disk, book, file, span, 0, true);
         book = now;
         match ended_of(came) {
@@ -98,7 +100,6 @@ fn empty_held<T: Turns>(
             None => {}
         }
     }
-    (book, Err(CcError::NoMemory))
 }
 
 // One round of a purge that has come to a page: its next step, with the writing of the page that the step asks for,
@@ -124,6 +125,10 @@ fn advance<T: Turns>(
         RoundLeft (T.standing turns.old).setup (T.standing turns.old).number file span.now result.1
         begun (T.standing turns.new).seen }
     ensures rising { IsRising result.1 from }
+    ensures placed { RoundPlaced (T.standing turns.old).number book.stream from keeps result.1 (T.standing turns.old).seen
+        (T.standing turns.new).seen }
+    ensures lessens { keeps ≡ true → from ≡ 0 →
+        HasLess book.stream result.1 (T.standing turns.old).seen (T.standing turns.new).seen }
     ensures full { IsFullRound 2 (T.standing turns.new) result.1 }
 {
     match next_at(alloc, turns, &mut book, file, span, from) {

@@ -5,7 +5,7 @@ ghost use Rattle.cc_entry.specs.declared.entry.Entry.{Entry};
 ghost use Rattle.cc_entry.specs.declared.call.Call.TheVariants as call;
 ghost use Rattle.cc_effects.specs.Calls.{IsUnderWay};
 ghost use Rattle.cc_writes.specs.Hands.{HasBook, IsAtRest, SameDisk, Went};
-ghost use Rattle.cc_ranges.specs.Purge.{IsAsking, IsFullStep, StepLeft, step_of};
+ghost use Rattle.cc_ranges.specs.Purge.{IsAsking, IsFullStep, StepLeft, StepPlaced, step_of};
 
 use crate::purge_steps::{Next, next_step};
 use cc_book::Book;
@@ -45,6 +45,7 @@ pub(crate) fn next_at<T: Turns>(
         StepLeft (T.standing turns.old).setup (T.standing turns.old).number file span.now result
         begun (T.standing turns.new).seen }
     ensures asking { IsAsking (T.standing turns.old).setup file span.now from result (T.standing turns.new).seen }
+    ensures placed { StepPlaced (T.standing turns.old) file span.now from result (T.standing turns.new).seen }
     ensures full { IsFullStep (T.standing turns.new) result }
 {
     let mut journal = turns.take_journal();

@@ -6,9 +6,9 @@ use Rattle.cc_turns.specs.Takes.{without_journal}
 use Rattle.cc_writes.specs.Hands.{HasBook, IsAtRest, SameDisk, WentWith}
 use Rattle.cc_writes.proofs.Resting.{rest-went}
 use Rattle.cc_writes.proofs.Visiting.{few-left, visiting}
-use Rattle.cc_ranges.specs.Purge.{StepLeft, IsAsking, IsFullStep, step_of}
+use Rattle.cc_ranges.specs.Purge.{StepLeft, StepPlaced, IsAsking, IsFullStep, step_of}
 use Rattle.cc_ranges.specs.declared.purge_visits.Step.{Step}
-use Rattle.cc_ranges.proofs.PurgeNexting.{may-next, gone-on, visited-next, disk-next, left-next, asking, full-next}
+use Rattle.cc_ranges.proofs.PurgeNexting.{may-next, gone-on, visited-next, disk-next, left-next, asking, placed-next, full-next}
 use Rattle.cc_ranges.proofs.purge_visits.next_at.Goals as goal
 
 pub next_step-went-requires : goal.next_step-went-requires
@@ -231,3 +231,24 @@ returns-clause-full g c =
     subst (λ (r : Step). IsFullStep (g.T.Turns.standing c.give_journal.new.self) r) (sym c.step_of.ensures)
     (subst (λ (x : Standing). IsFullStep x (step_of ended)) (sym c.give_journal.ensures)
     (full-next posted w v file span c.args.from b n j k has vis here rest ended left))
+
+pub returns-clause-placed : goal.returns-clause-placed
+returns-clause-placed g c =
+    let w = g.T.Turns.standing c.args.turns.now in
+    let v = g.T.Turns.standing c.take_journal-journal.new.self in
+    let posted = g.T.Post.PostRoutine.posted in
+    let file = c.args.file in
+    let span = c.args.span.now in
+    let b = c.args.book.now in
+    let j = c.take_journal-journal.result in
+    let here = c.requires.book.stream in
+    let has = subst (λ (n : ℕ). HasBook w n b) (sym here) c.requires.book in
+    let rest = subst (λ (n : ℕ). IsAtRest w n) (sym here) c.requires.rest in
+    let vis = visiting posted w v b.stream b j has c.take_journal-journal.ensures.took c.take_journal-journal.ensures.stands in
+    let n = c.next_step-went.new.book in
+    let k = c.next_step-went.new.journal in
+    let ended = c.next_step-went.result in
+    let left = gone-on posted w v file span c.args.from b n j k has vis here rest c.me-pass.result ended c.me-pass.ensures c.next_step-went.ensures.left in
+    subst (λ (r : Step). StepPlaced w file span c.args.from r (g.T.Turns.standing c.give_journal.new.self).seen) (sym c.step_of.ensures)
+    (subst (λ (x : Standing). StepPlaced w file span c.args.from (step_of ended) x.seen) (sym c.give_journal.ensures)
+    (placed-next posted w v file span c.args.from b n j k has vis here rest ended left))
