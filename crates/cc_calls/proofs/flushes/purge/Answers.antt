@@ -1,5 +1,5 @@
 -- The purge begins with disk and book of a stream at rest; what it left holds still after both turns are given.
-use Rattle.std.specs.Prelude.{ℕ, List}
+use Rattle.std.specs.Prelude.{ℕ, OnOk, List}
 use Rattle.std.proofs.Common.{ap, sym, ◌∙◌, subst}
 use Rattle.cc_entry.specs.declared.call.Call.TheVariants as call
 use Rattle.cc_entry.specs.declared.entry.Entry.{Entry}
@@ -11,7 +11,9 @@ use Rattle.cc_turns.specs.Standing.{Standing}
 use Rattle.cc_turns.specs.Takes.{without_device}
 use Rattle.cc_writes.specs.Ways.{IsFull}
 use Rattle.cc_writes.specs.Fetch.{CanCall}
-use Rattle.cc_writes.proofs.TakingBoth.{both_begun, left_since}
+use Rattle.cc_writes.proofs.TakingBoth.{both_begun, idle, left_since, number_both}
+use Rattle.cc_ranges.specs.Purge.{WasEmptiedAlone}
+use Rattle.cc_ranges.proofs.PurgeRounds.{emptied-since}
 use Rattle.cc_calls.specs.Answers.{outcome_of}
 use Rattle.cc_calls.proofs.FlushCalls.{full-given, setup-both, went-both}
 use Rattle.cc_calls.proofs.PurgeCalls.{purge-ends}
@@ -48,5 +50,8 @@ returns g c =
           (subst (λ (a : Standing). IsFull 2 a answer) (sym given) (full-given y answer c.purge_held-book.ensures.full))
           (went-both w v x y z s can.free first second went given)
           (subst (λ (u : Setup). IsGood u z.seen) (setup-both w v x y s first second went)
-          (subst (λ (past : List Entry). IsGood y.setup past) (sym (ap (λ (a : Standing). a.seen) given)) both.book.good));
+          (subst (λ (past : List Entry). IsGood y.setup past) (sym (ap (λ (a : Standing). a.seen) given)) both.book.good))
+          (subst (λ (past : List Entry). OnOk answer (WasEmptiedAlone w.number c.args.file.stream w.seen past)) (sym (ap (λ (a : Standing). a.seen) given))
+          (emptied-since w.number c.args.file.stream answer w.seen x.seen y.seen (idle w v x s can first second)
+          (subst (λ (n : ℕ). OnOk answer (WasEmptiedAlone n c.args.file.stream x.seen y.seen)) (number_both w v x s can first second) c.purge_held-book.ensures.emptied)));
     }
