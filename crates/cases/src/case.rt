@@ -1,7 +1,9 @@
 //! A case: what is handed in to a run of the program, and what has to come of it.
 
+use crate::moments::Work;
 use crate::stage::Event;
 use crate::trouble::{Device, Kind, Trouble};
+use crate::words::Words;
 use anyhow::Result;
 use std::alloc::Global;
 
@@ -19,6 +21,7 @@ pub struct Case {
     pub takes: usize,
     pub troubles: Vec<Trouble>,
     pub orders: Vec<(Event, Event)>,
+    pub works: Vec<Work>,
     pub sweep: Option<Sweep>,
     /// What has to hold in each run.
     pub wants: Vec<Want>,
@@ -29,25 +32,21 @@ pub struct Case {
 impl Case {
     /// A case that says nothing yet: `run s` with no script over a disk of 5A and 16 routines.
     pub fn new(alloc: Global, title: &str) -> Result<Case> {
-        let disk = DiskPlan {
-            fill: 0x5A,
-            tells: true,
-            pages: Vec::new(alloc),
-        };
+        let title = String::from_str(alloc, title)?;
+        let words = Words::of("run s").rest(alloc)?;
+        let disks = disks(alloc, 1)?;
         Ok(Case {
-            title: String::from_str(alloc, title)?,
-            words: vec![in alloc;
-                String::from_str(alloc, "run")?,
-                String::from_str(alloc, "s")?,
-            ]?,
+            title,
+            words,
             script: Script::Lines(String::new(alloc)),
-            disks: vec![in alloc; disk]?,
+            disks,
             logs: Vec::new(alloc),
             routines: 16,
             gives: 4096,
             takes: 4096,
             troubles: Vec::new(alloc),
             orders: Vec::new(alloc),
+            works: Vec::new(alloc),
             sweep: None,
             wants: Vec::new(alloc),
             at: Vec::new(alloc),
@@ -79,6 +78,19 @@ pub struct DiskPlan {
     pub pages: Vec<(u64, Vec<u8>)>,
 }
 
+/// So many disks of 5A.
+pub fn disks(alloc: Global, many: u64) -> Result<Vec<DiskPlan>> {
+    let mut disks = Vec::new(alloc);
+    for _ in 0..many {
+        disks.push(DiskPlan {
+            fill: 0x5A,
+            tells: true,
+            pages: Vec::new(alloc),
+        })?;
+    }
+    Ok(disks)
+}
+
 /// A log as it is handed in.
 #[derive(Drop)]
 pub struct LogPlan {
@@ -99,7 +111,7 @@ pub enum Sweep {
 }
 
 /// A number that a run leaves.
-#[derive(Clone, Copy, Debug)]
+#[derive(Clone, Copy)]
 pub enum Count {
     /// The exit status.
     Status,
@@ -111,8 +123,27 @@ pub enum Count {
     Aheads,
     /// Calls that failed, on everything that was handed in.
     Faults,
+    /// Calls of the callers that passed the gate and told it their end.
+    Passed,
     /// Calls on a device.
     Made(Device, Kind),
+}
+
+impl Count {
+    /// The word that begins its line in a case.
+    pub fn word(self) -> &'static str {
+        match self {
+            Count::Status => "status",
+            Count::Lines => "lines",
+            Count::Replies => "replies",
+            Count::Entries => "entries",
+            Count::Ticks => "ticks",
+            Count::Aheads => "aheads",
+            Count::Faults => "faults",
+            Count::Passed => "passed",
+            Count::Made(..) => "made",
+        }
+    }
 }
 
 /// A part of a text.

@@ -123,17 +123,29 @@ pub struct CaseLog<'a> {
     pub inner: MemLog,
 }
 
+impl<'a> CaseLog<'a> {
+    /// Makes the log ready for a call, so that it fails where it has to.
+    fn begin(&mut self, kind: Kind) -> Result<(), Stop>
+        ensures log { self.new.inner.log ≡ self.old.inner.log }
+        ensures faults { self.new.inner.faults ≡ self.old.inner.faults }
+        ensures err { IfErr result (λ stop. stop ≡ NoMemory) }
+    {
+        match self.calls.next(kind) {
+            Fate::Good => self.inner.stop_after(u64::MAX),
+            Fate::Fails => self.inner.stop_after(0),
+            Fate::NoMemory => return Err(Stop::NoMemory),
+        }
+        Ok(())
+    }
+}
+
 impl<'a> LogFile for CaseLog<'a> {
     ghost told = { λ log. Some log.inner.log };
 
     ghost faults = { λ log. log.inner.faults };
 
     fn append(&mut self, lsn: u64, bytes: &[u8]) -> Result<(), Stop> {
-        match self.calls.next(Kind::Append) {
-            Fate::Good => self.inner.stop_after(u64::MAX),
-            Fate::Fails => self.inner.stop_after(0),
-            Fate::NoMemory => return Err(Stop::NoMemory),
-        }
+        self.begin(Kind::Append)?;
         self.inner.append(lsn, bytes)
     }
 
@@ -147,11 +159,7 @@ impl<'a> LogFile for CaseLog<'a> {
     }
 
     fn entry(&mut self, n: u64, out: &mut Vec<u8>) -> Result<Option<u64>, Stop> {
-        match self.calls.next(Kind::Entry) {
-            Fate::Good => self.inner.stop_after(u64::MAX),
-            Fate::Fails => self.inner.stop_after(0),
-            Fate::NoMemory => return Err(Stop::NoMemory),
-        }
+        self.begin(Kind::Entry)?;
         self.inner.entry(n, out)
     }
 }

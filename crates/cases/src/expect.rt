@@ -23,8 +23,8 @@ pub fn was_reached(trouble: Trouble, stage: &Stage, left: &Left) -> bool {
     }
 }
 
-/// What has to hold in every run: each trouble came and each fault was counted, nothing waited in vain, and what was handed
-/// in is back in its order.
+/// What has to hold in every run: each trouble came and each fault was counted, nothing waited in vain, the gate was told of
+/// each call's two moments, and what was handed in is back in its order.
 pub fn check_run(case: &Case, stage: &Stage, left: &Left) -> Result<()> {
     for trouble in stage.troubles.iter() {
         ensure!(
@@ -35,6 +35,14 @@ pub fn check_run(case: &Case, stage: &Stage, left: &Left) -> Result<()> {
     ensure!(
         stage.orders.iter().all(|order| order.was_kept()),
         "something waited in vain, or never came"
+    );
+    ensure!(
+        stage.moments.are_in_order(),
+        "a call did not pass the gate once, and tell it its end once, behind that"
+    );
+    ensure!(
+        stage.moments.were_kept(),
+        "a call made more calls on disks and logs, or fewer, or never came"
     );
     ensure!(
         left.disks.len() == case.disks.len() && left.logs.len() == case.logs.len(),
@@ -194,6 +202,7 @@ fn count_of(count: Count, left: &Left) -> u64 {
         Count::Ticks => left.ticks as u64,
         Count::Aheads => left.aheads as u64,
         Count::Faults => faults(left),
+        Count::Passed => left.passed,
         Count::Made(device, kind) => match left.calls(device) {
             Some(calls) => calls.made(kind),
             None => 0,
@@ -217,7 +226,14 @@ fn faults(left: &Left) -> u64 {
 /// A run left this number.
 fn check_count(count: Count, wanted: u64, left: &Left) -> Result<()> {
     let was = count_of(count, left);
-    ensure!(was == wanted, "{count:?}: {was}, wanted {wanted}");
+    let word = count.word();
+    match count {
+        Count::Made(device, kind) => ensure!(
+            was == wanted,
+            "{word} {device} {kind}: {was}, wanted {wanted}"
+        ),
+        _ => ensure!(was == wanted, "{word}: {was}, wanted {wanted}"),
+    }
     Ok(())
 }
 

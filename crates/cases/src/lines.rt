@@ -1,5 +1,6 @@
 //! The lines of a case file, and its blocks of lines.
 
+use crate::words::number_of;
 use anyhow::{Result, anyhow, bail, ensure};
 use std::alloc::Global;
 
@@ -81,9 +82,7 @@ impl<'a> Lines<'a> {
 
     /// Puts the lines up to the end of a repetition behind a text, so many times.
     fn push_repeated(&mut self, text: &mut String, times: &str) -> Result<()> {
-        let times = times
-            .parse::<u64>()
-            .map_err(|_| anyhow!("`{times}` is no number"))?;
+        let times = number_of(times)?;
         let body = self.body()?;
         if !body.contains('{') {
             return push_times(self.alloc, text, &body, times);
@@ -185,7 +184,6 @@ fn counted(counter: &str, n: u64) -> Result<u64> {
     let (product, added) = counter.split_once('+').unwrap_or((counter, "0"));
     let (factor, name) = product.split_once('*').unwrap_or(("1", product));
     ensure!(name == "n", "`{counter}` does not follow from n");
-    let factor = factor.parse::<u64>()?;
-    let added = added.parse::<u64>()?;
-    Ok(factor.saturating_mul(n).saturating_add(added))
+    let product = number_of(factor)?.saturating_mul(n);
+    Ok(product.saturating_add(number_of(added)?))
 }

@@ -1,7 +1,8 @@
 //! Reads the cases of a file.
 
-use crate::case::{Case, Count, DiskPlan, LogPlan, Part, Script, Sweep, Want};
+use crate::case::{Case, Count, DiskPlan, LogPlan, Part, Script, Sweep, Want, disks};
 use crate::lines::Lines;
+use crate::moments::Work;
 use crate::stage::Event;
 use crate::trouble::Device;
 use crate::words::{Words, byte_of, bytes_of, caller_of, kind_of, number_of};
@@ -42,40 +43,42 @@ fn read_line(alloc: Global, case: &mut Case, lines: &mut Lines, line: &str) -> R
     let mut words = Words::of(line);
     let first = words.word()?;
     match first {
-        "disk" | "log" | "source" | "sink" => {
-            let device = words.device(first)?;
-            let verb = words.word()?;
-            read_device(alloc, case, device, verb, &mut words)
-        }
-        "devices" => {
-            case.troubles.push(words.trouble_of_all()?)?;
-            Ok(())
-        }
-        "at" => {
-            case.at.push((words.trouble()?, Vec::new(alloc)))?;
-            Ok(())
-        }
-        "text" | "begins" | "ends" | "has" | "lacks" => {
-            words.end()?;
-            case.add(Want::Text(part_of(first), lines.text()?))
-        }
-        "each" => {
-            let from = words.size()?;
-            words.expect("to")?;
-            let to = words.size()?;
-            words.end()?;
-            let forms = lines.block()?;
-            case.add(Want::Each { from, to, forms })
-        }
+        "disk" | "log" | "source" | "sink" => read_device(alloc, case, first, &mut words),
+        "devices" | "at" => read_trouble(alloc, case, first, &mut words),
+        "text" | "begins" | "ends" | "has" | "lacks" => read_text(case, lines, first, &mut words),
+        "each" => read_each(case, lines, &mut words),
         "words" | "disks" | "logs" | "routines" | "script" | "sweep" => {
             read_setup(alloc, case, lines, first, &mut words)
         }
         "during" => read_during(case, &mut words),
         _ => match caller_of(first) {
-            Some(caller) => read_order(case, caller, &mut words),
+            Some(caller) => read_call(case, caller, &mut words),
             None => read_want(alloc, case, first, &mut words),
         },
     }
+}
+
+/// Reads a trouble of all devices, or that of the run to which the lines behind belong.
+fn read_trouble(alloc: Global, case: &mut Case, first: &str, words: &mut Words) -> Result<()> {
+    match first {
+        "devices" => case.troubles.push(words.trouble_of_all()?)?,
+        _ => case.at.push((words.trouble()?, Vec::new(alloc)))?,
+    }
+    Ok(())
+}
+
+/// Reads a part of the text.
+fn read_text(case: &mut Case, lines: &mut Lines, first: &str, words: &mut Words) -> Result<()> {
+    words.end()?;
+    let text = lines.text()?;
+    case.add(Want::Text(part_of(first), text))
+}
+
+/// Reads the forms of some lines of the text.
+fn read_each(case: &mut Case, lines: &mut Lines, words: &mut Words) -> Result<()> {
+    let (from, to) = words.range()?;
+    let forms = lines.block()?;
+    case.add(Want::Each { from, to, forms })
 }
 
 /// The part of the text that a word speaks of.
@@ -98,7 +101,7 @@ fn read_setup(
     words: &mut Words,
 ) -> Result<()> {
     match first {
-        "words" => case.words = words_of(alloc, words)?,
+        "words" => case.words = words.rest(alloc)?,
         "disks" => case.disks = disks(alloc, words.last_number()?)?,
         "logs" => case.logs = logs(alloc, words.last_number()?)?,
         "routines" => case.routines = words.last_number()?,
@@ -106,32 +109,6 @@ fn read_setup(
         _ => case.script = read_script(alloc, lines, words)?,
     }
     Ok(())
-}
-
-/// The words that are left; two quotation marks are an empty one.
-fn words_of(alloc: Global, words: &mut Words) -> Result<Vec<String>> {
-    let mut all = Vec::new(alloc);
-    for _ in 0..u8::MAX {
-        match words.maybe() {
-            Some("\"\"") => all.push(String::new(alloc))?,
-            Some(word) => all.push(String::from_str(alloc, word)?)?,
-            None => break,
-        }
-    }
-    Ok(all)
-}
-
-/// So many disks of 5A.
-fn disks(alloc: Global, many: u64) -> Result<Vec<DiskPlan>> {
-    let mut disks = Vec::new(alloc);
-    for _ in 0..many {
-        disks.push(DiskPlan {
-            fill: 0x5A,
-            tells: true,
-            pages: Vec::new(alloc),
-        })?;
-    }
-    Ok(disks)
 }
 
 /// So many empty logs.
@@ -171,13 +148,9 @@ fn read_script(alloc: Global, lines: &mut Lines, words: &mut Words) -> Result<Sc
 }
 
 /// Reads a line on a device: how it is handed in, its trouble, or what it has in the end.
-fn read_device(
-    alloc: Global,
-    case: &mut Case,
-    device: Device,
-    verb: &str,
-    words: &mut Words,
-) -> Result<()> {
+fn read_device(alloc: Global, case: &mut Case, first: &str, words: &mut Words) -> Result<()> {
+    let device = words.device(first)?;
+    let verb = words.word()?;
     match (device, verb) {
         (Device::Source, "gives") => {
             case.gives = words.size()?;
@@ -279,32 +252,55 @@ fn read_entries(alloc: Global, words: &mut Words) -> Result<Vec<(u64, Vec<u8>)>>
 
 /// Reads that calls of a caller come during a call on a device: `DEVICE CALL N tC calls A to B`.
 fn read_during(case: &mut Case, words: &mut Words) -> Result<()> {
-    let first = words.word()?;
-    let device = words.device(first)?;
-    let kind = words.word()?;
-    let inside = Event::Inside(words.place(device, kind)?);
+    let inside = read_inside(words)?;
     let caller = words.caller()?;
     words.expect("calls")?;
-    let call = words.call()?;
-    case.orders.push((inside, Event::Before { caller, call }))?;
-    words.expect("to")?;
-    let call = words.call()?;
-    words.end()?;
-    case.orders.push((Event::After { caller, call }, inside))?;
+    let (from, to) = words.range()?;
+    let before = Event::Before {
+        caller,
+        call: from as u64,
+    };
+    let after = Event::After {
+        caller,
+        call: to as u64,
+    };
+    case.orders.push((inside, before))?;
+    case.orders.push((after, inside))?;
     Ok(())
 }
 
-/// Reads that a call of a caller comes after one of another: `call N after tC call M`, whose first word was taken.
-fn read_order(case: &mut Case, caller: u32, words: &mut Words) -> Result<()> {
+/// Reads that a device is inside a call: `DEVICE CALL N`.
+fn read_inside(words: &mut Words) -> Result<Event> {
+    let first = words.word()?;
+    let device = words.device(first)?;
+    let kind = words.word()?;
+    Ok(Event::Inside(words.place(device, kind)?))
+}
+
+/// Reads a line on a call of a caller, whose first word was taken: what it comes after, or how many calls it makes.
+fn read_call(case: &mut Case, caller: u64, words: &mut Words) -> Result<()> {
     words.expect("call")?;
-    let then = Event::Before {
-        caller,
-        call: words.call()?,
-    };
-    words.expect("after")?;
+    let call = words.number()?;
+    match words.word()? {
+        "makes" => {
+            let calls = words.last_number()?;
+            case.works.push(Work {
+                caller,
+                call,
+                calls,
+            })?;
+            Ok(())
+        }
+        "after" => read_order(case, Event::Before { caller, call }, words),
+        word => bail!("`{word}` says nothing of a call"),
+    }
+}
+
+/// Reads that an event comes after a call of a caller: `tC call N`.
+fn read_order(case: &mut Case, then: Event, words: &mut Words) -> Result<()> {
     let caller = words.caller()?;
     words.expect("call")?;
-    let call = words.call()?;
+    let call = words.number()?;
     words.end()?;
     case.orders.push((Event::After { caller, call }, then))?;
     Ok(())
@@ -329,6 +325,7 @@ fn read_want(alloc: Global, case: &mut Case, first: &str, words: &mut Words) -> 
         "ticks" => Count::Ticks,
         "aheads" => Count::Aheads,
         "faults" => Count::Faults,
+        "passed" => Count::Passed,
         _ => bail!("`{first}` begins no line"),
     };
     let wanted = words.last_number()?;

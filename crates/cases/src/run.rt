@@ -27,6 +27,8 @@ pub struct Left<'a> {
     pub posted: usize,
     pub ticks: usize,
     pub aheads: usize,
+    /// How many calls passed the gate and told it their end.
+    pub passed: u64,
     pub source: CaseSource<'a>,
     pub sink: CaseSink<'a>,
     pub disks: Vec<CaseDisk<'a>>,
@@ -108,6 +110,7 @@ pub fn run_once<'a, R: Threads + Wait + Sync>(
         posted: journal.iter().filter(|entry| is_post(entry)).count(),
         ticks: ticks.len(),
         aheads: aheads.len(),
+        passed: stage.moments.passed(),
         source,
         sink,
         disks,

@@ -1,5 +1,6 @@
-//! What the devices and the callers of one run share: the troubles of the calls, and what waits for what.
+//! What the devices and the callers of one run share: the troubles of the calls, what waits for what, and what the gate is told.
 
+use crate::moments::Moments;
 use crate::trouble::{Fate, Place, Trouble};
 use cc_traits::Gate;
 use std::sync::atomic::{AtomicBool, AtomicU64, Ordering};
@@ -9,9 +10,9 @@ use std::thread;
 #[derive(Clone, Copy, PartialEq, Eq)]
 pub enum Event {
     /// A caller is about to make the call of this number.
-    Before { caller: u32, call: u32 },
+    Before { caller: u64, call: u64 },
     /// That call was answered.
-    After { caller: u32, call: u32 },
+    After { caller: u64, call: u64 },
     /// A device is inside a call.
     Inside(Place),
 }
@@ -63,20 +64,22 @@ impl Order {
     }
 }
 
-/// The troubles and the orders of one run, and how many calls there were on all disks and logs.
+/// The troubles and the orders of one run, how many calls there were on all disks and logs, and the moments of the callers'.
 #[derive(Drop)]
 pub struct Stage {
     pub troubles: Vec<Trouble>,
     pub orders: Vec<Order>,
+    pub moments: Moments,
     calls: AtomicU64,
 }
 
 impl Stage {
     /// A stage on which nothing happened.
-    pub fn new(troubles: Vec<Trouble>, orders: Vec<Order>) -> Stage {
+    pub fn new(troubles: Vec<Trouble>, orders: Vec<Order>, moments: Moments) -> Stage {
         Stage {
             troubles,
             orders,
+            moments,
             calls: AtomicU64::new(0),
         }
     }
@@ -123,10 +126,14 @@ impl Stage {
 
 impl Gate for Stage {
     fn before(&self, caller: u32, call: u32) {
+        let (caller, call) = (u64::from(caller), u64::from(call));
         self.wait(Event::Before { caller, call });
+        self.moments.begin(caller, call, self.calls());
     }
 
     fn after(&self, caller: u32, call: u32) {
+        let (caller, call) = (u64::from(caller), u64::from(call));
+        self.moments.end(caller, call, self.calls());
         self.come(Event::After { caller, call });
     }
 }

@@ -2,6 +2,7 @@
 
 use crate::case::{Case, Sweep, Want};
 use crate::expect::{check_failures, check_run, check_status, check_wants, was_reached};
+use crate::moments::Moments;
 use crate::run::run_once;
 use crate::stage::{Order, Stage};
 use crate::trouble::{Device, Kind, Place, Trouble};
@@ -107,7 +108,8 @@ fn run_with<R: Threads + Wait + Sync>(
     script: &str,
     more: Option<Trouble>,
 ) -> Result<bool> {
-    let stage = Stage::new(troubles(alloc, case, more)?, orders(alloc, case)?);
+    let moments = Moments::new(alloc, &case.works)?;
+    let stage = Stage::new(troubles(alloc, case, more)?, orders(alloc, case)?, moments);
     let left = run_once(rt, alloc, case, script, &stage)?;
     let wants = match more {
         Some(trouble) => {

@@ -5,7 +5,7 @@ ghost use Rattle.std.specs.Prelude.{◌<◌};
 use std::fmt;
 
 /// A kind of call on a device.
-#[derive(Clone, Copy, Debug, PartialEq, Eq)]
+#[derive(Clone, Copy, PartialEq, Eq)]
 pub enum Kind {
     Read,
     Write,
@@ -69,7 +69,7 @@ impl fmt::Display for Kind {
 }
 
 /// What a case hands in, and may trouble. Disks and logs are numbered from 0.
-#[derive(Clone, Copy, Debug, PartialEq, Eq)]
+#[derive(Clone, Copy, PartialEq, Eq)]
 pub enum Device {
     Disk(usize),
     Log(usize),

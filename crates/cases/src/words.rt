@@ -3,30 +3,37 @@
 use crate::trouble::{Device, Kind, Place, Trouble};
 use anyhow::{Result, anyhow, bail, ensure};
 use std::alloc::Global;
-use std::str::SplitWhitespace;
 
-/// The words of a line that are left.
+/// The words of a line that are left. A space stands between two of them.
 #[derive(Drop)]
 pub struct Words<'a> {
-    left: SplitWhitespace<'a>,
+    left: Option<&'a str>,
 }
 
 impl<'a> Words<'a> {
     /// All words of a line.
     pub fn of(line: &'a str) -> Words<'a> {
-        Words {
-            left: line.split_whitespace(),
-        }
+        Words { left: Some(line) }
     }
 
     /// The next word, where there is one.
     pub fn maybe(&mut self) -> Option<&'a str> {
-        self.left.next()
+        let left = self.left?;
+        match left.split_once(' ') {
+            Some((word, rest)) => {
+                self.left = Some(rest);
+                Some(word)
+            }
+            None => {
+                self.left = None;
+                Some(left)
+            }
+        }
     }
 
     /// The next word.
     pub fn word(&mut self) -> Result<&'a str> {
-        self.left.next().ok_or(anyhow!("a word is missing"))
+        self.maybe().ok_or(anyhow!("a word is missing"))
     }
 
     /// The next word, which is this one.
@@ -38,7 +45,7 @@ impl<'a> Words<'a> {
 
     /// No word is left.
     pub fn end(&mut self) -> Result<()> {
-        match self.left.next() {
+        match self.maybe() {
             Some(word) => bail!("`{word}` is one word too many"),
             None => Ok(()),
         }
@@ -56,24 +63,41 @@ impl<'a> Words<'a> {
         Ok(number)
     }
 
+    /// The words that are left; two quotation marks are an empty one.
+    pub fn rest(&mut self, alloc: Global) -> Result<Vec<String>> {
+        let mut all = Vec::new(alloc);
+        for _ in 0..u8::MAX {
+            match self.maybe() {
+                Some("\"\"") => all.push(String::new(alloc))?,
+                Some(word) => all.push(String::from_str(alloc, word)?)?,
+                None => break,
+            }
+        }
+        Ok(all)
+    }
+
+    /// From where to where something goes, to the end of the line: `A to B`.
+    pub fn range(&mut self) -> Result<(usize, usize)> {
+        let from = self.size()?;
+        self.expect("to")?;
+        let to = self.size()?;
+        self.end()?;
+        Ok((from, to))
+    }
+
     /// A number of something that is kept in memory.
     pub fn size(&mut self) -> Result<usize> {
         let word = self.word()?;
-        word.parse::<usize>()
-            .map_err(|_| anyhow!("`{word}` is no number"))
+        match word.parse::<usize>() {
+            Ok(number) => Ok(number),
+            Err(_) => bail!("`{word}` is no number"),
+        }
     }
 
     /// A caller.
-    pub fn caller(&mut self) -> Result<u32> {
+    pub fn caller(&mut self) -> Result<u64> {
         let word = self.word()?;
         caller_of(word).ok_or(anyhow!("`{word}` is no caller"))
-    }
-
-    /// The number of a caller's call.
-    pub fn call(&mut self) -> Result<u32> {
-        let word = self.word()?;
-        word.parse::<u32>()
-            .map_err(|_| anyhow!("`{word}` is no number"))
     }
 
     /// Bytes as scripts write them.
@@ -146,8 +170,10 @@ impl<'a> Words<'a> {
 
 /// The number that a word is.
 pub fn number_of(word: &str) -> Result<u64> {
-    word.parse::<u64>()
-        .map_err(|_| anyhow!("`{word}` is no number"))
+    match word.parse::<u64>() {
+        Ok(number) => Ok(number),
+        Err(_) => bail!("`{word}` is no number"),
+    }
 }
 
 /// The kind of call that a word names, which a device has.
@@ -159,8 +185,11 @@ pub fn kind_of(device: Device, word: &str) -> Result<Kind> {
 }
 
 /// The caller that a word names.
-pub fn caller_of(word: &str) -> Option<u32> {
-    word.strip_prefix('t')?.parse::<u32>().ok()
+pub fn caller_of(word: &str) -> Option<u64> {
+    match number_of(word.strip_prefix("t")?) {
+        Ok(caller) => Some(caller),
+        Err(_) => None,
+    }
 }
 
 /// The bytes that a word spells.
@@ -181,7 +210,10 @@ pub fn bytes_of(alloc: Global, word: &str) -> Result<Vec<u8>> {
 /// The byte that a pair of hexadecimal digits is.
 pub fn byte_of(pair: &str) -> Result<u8> {
     ensure!(pair.len() == 2, "`{pair}` is no byte");
-    u8::from_str_radix(pair, 16).map_err(|_| anyhow!("`{pair}` is no byte"))
+    match u8::from_str_radix(pair, 16) {
+        Ok(byte) => Ok(byte),
+        Err(_) => bail!("`{pair}` is no byte"),
+    }
 }
 
 /// Puts one byte so many times behind others.
