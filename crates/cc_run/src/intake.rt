@@ -7,22 +7,18 @@ ghost use Rattle.cc_run.specs.declared.intake.IntakeError.TheVariants as unread;
 
 use cc_traits::{Source, Stop};
 use std::alloc::Global;
-use thiserror::Error;
 
 /// The most bytes of a script.
 const MOST: usize = 16777216;
 
 /// Why the bytes were not taken.
-#[derive(Clone, Copy, Debug, PartialEq, Eq, Error)]
+#[derive(Clone, Copy)]
 pub enum IntakeError {
     /// The source failed.
-    #[error("the source of the script failed")]
     Failed,
     /// The script has more bytes than a script may have.
-    #[error("the script has more than 16777216 bytes")]
     TooLong,
     /// No memory was found; the bytes that were taken are lost.
-    #[error("out of memory: the script was not read")]
     NoMemory,
 }
 

@@ -4,29 +4,22 @@ ghost use Rattle.std.specs.Prelude.{◌≡◌, false, IfOk, string_bytes};
 ghost use Rattle.cc_run.specs.Ends.{status_of, fault_text, syntax_text as the_syntax_text, is_syntax};
 
 use std::alloc::{AllocError, Global};
-use thiserror::Error;
 
 /// Why no run was made.
-#[derive(Clone, Copy, Debug, PartialEq, Eq, Error)]
+#[derive(Clone, Copy)]
 pub enum NoRun {
     /// The words are none of the program's commands.
-    #[error("the words are none of the program's commands")]
     Usage,
     /// The line of this number, counted from 1, is the first that is not in the grammar.
-    #[error("line {line} of the script is not in the grammar")]
     Syntax { line: u32 },
     /// The source of the script failed.
-    #[error("the source of the script failed")]
     ReadFault,
     /// The script has more bytes than a script may have.
-    #[error("the script has more than 16777216 bytes")]
     TooLong,
     /// No memory was found.
-    #[error("out of memory")]
     NoMemory,
     /// The script has more streams than there are disks, a stream names a log that there is not, or more writes are deferred
     /// than there are post routines.
-    #[error("the script needs more disks, logs or post routines than there are")]
     TooFewDevices,
 }
 

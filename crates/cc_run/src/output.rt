@@ -6,16 +6,13 @@ ghost use Rattle.cc_run.specs.Ends.{TookPart};
 ghost use Rattle.cc_run.specs.declared.output.OutputError.TheVariants as unput;
 
 use cc_traits::{Sink, Stop};
-use thiserror::Error;
 
 /// Why a text was not put out whole.
-#[derive(Clone, Copy, Debug, PartialEq, Eq, Error)]
+#[derive(Clone, Copy)]
 pub enum OutputError {
     /// The sink failed, or took nothing where there were bytes.
-    #[error("the sink failed, or took nothing where there were bytes")]
     Failed,
     /// No memory was found; what was put before is out.
-    #[error("out of memory: the text was put out in part")]
     NoMemory,
 }
 
