@@ -76,7 +76,8 @@ after_unlock table file id = record table { locks = filter (λ l. not (is_named 
 
 -- after one more call
 abbrev pub after_call : LockTable → LockCall → LockTable
-after_call table (call.Lock file range exclusive granted id) = after_lock table file range exclusive (lock_conflict table.locks range exclusive)
+after_call table (call.Lock file range exclusive granted id) =
+    after_lock table file range exclusive (lock_conflict table.locks range exclusive)
 after_call table (call.Unlock file id gone) = after_unlock table file id
 
 -- the locks after calls of one stream, whatever they were answered

@@ -16,7 +16,7 @@ pub struct Tick {
     pub failed: u32,
 }
 
-/// A read-ahead request that was served, and whether every page of it is resident.
+/// A read-ahead request that was served, and whether every page of it, cut at the size, is resident.
 #[derive(Clone, Copy)]
 pub struct AheadDone {
     pub request: Request,
@@ -78,7 +78,7 @@ pub enum Answer {
     Restarted(u64),
     /// The id of a lock of a range.
     LockId(u64),
-    /// The hold that the line names was never made, or not of the kind needed.
+    /// The hold or the lock that the line names was never made, or the hold is not of the kind needed.
     NoHold,
     /// The event may not happen now.
     NotNow,

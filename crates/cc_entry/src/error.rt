@@ -24,7 +24,7 @@ impl<T: Drop> From<AllocFailed<T>> for NoMemory {
 }
 
 /// The refusals of the calls. Sizes, places and lengths are in bytes; a page is the page's number in
-/// its stream; an id is that of a hold.
+/// its stream; an id is that of a hold or of a lock.
 #[derive(Clone, Copy, Debug, PartialEq, Eq, Error)]
 pub enum CcError {
     /// The file object has no private cache map.
@@ -51,7 +51,8 @@ pub enum CcError {
     /// An open hold forbids the call; the least such id.
     #[error("open hold {id} forbids the call")]
     Held { id: u64 },
-    /// An open pin forbids the pin, or owes a stamp to the page that would be written; the least such id.
+    /// An open pin forbids the pin, or owes a stamp to a page that would be written; the least such id of the least
+    /// such page.
     #[error("open pin {id} forbids the pin, or owes a stamp to a page to be written")]
     Busy { id: u64 },
     /// The blocks of open holds and of the range exceed the quota; `active` counts those of open holds.
@@ -78,7 +79,7 @@ pub enum CcError {
     /// The log has used every LSN.
     #[error("log {handle} has used every LSN")]
     LogFull { handle: u64 },
-    /// 64 deferred writes, or 64 read-ahead requests, are queued.
+    /// 64 deferred writes, read-ahead requests or reads are queued.
     #[error("the queue is full: it holds 64 requests")]
     QueueFull,
     /// Memory ran out: the one refusal without a cause in the journal.
@@ -90,8 +91,8 @@ pub enum CcError {
     /// There is no log of this handle; 255 where the stream has none.
     #[error("there is no log {handle} (255 where the stream has none)")]
     NoLog { handle: u64 },
-    /// A dirty page that a discard would drop has an image that is not known, since its last transfer
-    /// failed; the least such page.
+    /// A dirty page that a discard would drop has an image that is not known, since its last transfer did not
+    /// end well; the least such page.
     #[error("page {page} cannot be discarded: its last transfer failed, so what the disk holds of it is not known")]
     Unsettled { page: u64 },
     /// A dirty page that a discard would drop has bytes that became valid since the disk last took it,

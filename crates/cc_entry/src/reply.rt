@@ -21,7 +21,7 @@ pub enum Reply {
     State(FileState),
     /// The read-ahead that was asked for, where there is one.
     Ahead(Option<Request>),
-    /// Whether every page of the request is resident.
+    /// Of a read-ahead step: whether every page of the request, cut at the size, is resident.
     Whole(bool),
 }
 

@@ -41,7 +41,7 @@ pub(crate) struct Finished<D: Told, L: LogFile, Q: PostRoutine> {
 /// one that starts it.
 pub(crate) fn run_callers<
     R: Threads + Wait + Sync,
-    D: PageDisk,
+    D: PageDisk + Send,
     L: LogFile + Send,
     Q: PostRoutine + Send,
     P: Gate,

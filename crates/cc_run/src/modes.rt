@@ -41,7 +41,7 @@ pub(crate) struct RunResult<D, L, Q> {
 /// back with the others, and over the post routines. Where memory is wanting before the run begins, all comes back as it was.
 pub(crate) fn run_in_mode<
     R: Threads + Wait + Sync,
-    D: PageDisk,
+    D: PageDisk + Send,
     L: LogFile + Send,
     Q: PostRoutine + Send,
     P: Gate,

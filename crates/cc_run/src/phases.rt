@@ -28,7 +28,7 @@ use std::thread::Threads;
 /// Serves the lines phase by phase, and puts the answer of each behind the replies, in the order of the lines.
 pub(crate) fn serve_phases<
     R: Threads + Wait + Sync,
-    D: PageDisk,
+    D: PageDisk + Send,
     L: LogFile + Send,
     Q: PostRoutine + Send,
     P: Gate,
@@ -89,7 +89,7 @@ fn count_of_phase(lines: &[ActionLine], phase: u32) -> usize
 // are served in their order.
 fn serve_phase<
     R: Threads + Wait + Sync,
-    D: PageDisk,
+    D: PageDisk + Send,
     L: LogFile + Send,
     Q: PostRoutine + Send,
     P: Gate,

@@ -34,7 +34,7 @@ use std::thread::Threads;
 /// with the others. Where memory is wanting before the run begins, they come back as they were.
 pub(crate) fn run_script<
     R: Threads + Wait + Sync,
-    D: PageDisk,
+    D: PageDisk + Send,
     L: LogFile + Send,
     Q: PostRoutine + Send,
     P: Gate,
@@ -118,7 +118,7 @@ fn names_for(alloc: Global, script: &Script) -> Result<Vec<Names>, NoMemory>
 }
 
 // Runs a script on a desk of which nothing happened yet, with room for the replies and for the callers' words.
-fn run_on<R: Threads + Wait + Sync, D: PageDisk, L: LogFile + Send, Q: PostRoutine + Send, P: Gate>(
+fn run_on<R: Threads + Wait + Sync, D: PageDisk + Send, L: LogFile + Send, Q: PostRoutine + Send, P: Gate>(
     rt: &R,
     alloc: Global,
     script: &Script,

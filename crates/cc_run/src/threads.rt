@@ -39,7 +39,7 @@ const CALLERS: u16 = 16;
 /// the order of the lines. Where memory is wanting for the threads, nothing was done and the desk comes back.
 pub(crate) fn serve_on_threads<
     R: Threads + Wait + Sync,
-    D: PageDisk,
+    D: PageDisk + Send,
     L: LogFile + Send,
     Q: PostRoutine + Send,
     P: Gate,

@@ -7,8 +7,7 @@ ghost use Rattle.cc_traits.specs.Disk.{Disk, Found, Wrote, WriteFailed, Settled}
 
 use crate::Stop;
 
-/// What a disk tells. It stands apart from [`PageDisk`], so that code which only holds a disk can
-/// speak of it without the bound that it moves between threads.
+/// What a disk tells. It stands apart from [`PageDisk`], for code that only holds a disk and makes no call of it.
 pub trait Told {
     // The content of each page, and what a crash now can leave.
     ghost told: { Self → Option Disk };
@@ -18,7 +17,7 @@ pub trait Told {
 }
 
 /// A disk of pages of 4096 bytes, numbered from 0. A number is below 2 ^ 64.
-pub trait PageDisk: Told + Send {
+pub trait PageDisk: Told {
     /// Reads a page. What `out` has where the call stops is left open.
     fn read_page(&mut self, page: u64, out: &mut [u8; 4096]) -> Result<(), Stop>
         ensures found { OnOk result (IfTold (Self.told self.old) (Found page out.new)) }

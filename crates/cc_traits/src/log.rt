@@ -33,7 +33,7 @@ pub trait LogFile: Drop {
         ensures counted { faults self.new ≡ faults self.old + faults_in result };
 
     /// Reads the `n`-th entry, counted from 0. Answers its LSN, and `out` has its bytes then; or `None`, where
-    /// there is no such entry.
+    /// there is no such entry. What `out` has where it answers anything else is left open.
     fn entry(&mut self, n: u64, out: &mut Vec<u8>) -> Result<Option<u64>, Stop>
         ensures held { IfOk result (λ lsn. IfTold (told self.old) (Holds n lsn out.new.items)) }
         ensures stays { told self.new ≡ told self.old }

@@ -1,5 +1,4 @@
 -- One line more, the caller's or another's.
-use mir.Syntax.{of_param}
 use Rattle.std.proofs.Common.{rules, ◌≡◌, ℕ, suc, ◌+◌, ◌<◌, ◌++◌, ◌∷◌, [], List, length, take, drop, get_or, vec_capacity, refl, sym, ap, subst, ◌∙◌, arith}
 use Rattle.std.proofs.lemmas.List.{take_all, take_more}
 use Rattle.cc_turns.specs.Desk.{tells_of}
@@ -44,12 +43,9 @@ serve_at-answer-requires g c =
     subst (λ (l : ActionLine). IsServable (length c.args.board.now.begun.disks) l.action) (sym c.line-item.is)
     (all-at (λ line. IsServable (length c.args.board.now.begun.disks) line.action) lines i line c.loop-line-test.true c.requires.may.servable) in
     λ k. (
-      record { owned = search rules; leaving = λ kept. let one = kept (of_param 2) in c.type_bounds.send-D.leaving (λ ty. one) },
-      (
-        search rules,
-        can-serve (tells_of g.D.Told.told g.D.Told.faults g.L.LogFile.told g.L.LogFile.faults g.Q.PostRoutine.posted) c.args.board.now lines c.args.caller c.requires.may (take i lines) c.loop-line.answers.items c.loop-line.seated c.loop-line.names
-            c.loop-line.invariant.ran line (drop (suc i) lines) (parts-at lines i line c.loop-line-test.true c.line-item.is) (c.if-line-me.true ∙ c.loop-line.invariant.me_is) servable,
-      ),
+      search rules,
+      can-serve (tells_of g.D.Told.told g.D.Told.faults g.L.LogFile.told g.L.LogFile.faults g.Q.PostRoutine.posted) c.args.board.now lines c.args.caller c.requires.may (take i lines) c.loop-line.answers.items c.loop-line.seated c.loop-line.names
+          c.loop-line.invariant.ran line (drop (suc i) lines) (parts-at lines i line c.loop-line-test.true c.line-item.is) (c.if-line-me.true ∙ c.loop-line.invariant.me_is) servable,
     )
 
 pub loop-line-preserved : goal.loop-line-preserved

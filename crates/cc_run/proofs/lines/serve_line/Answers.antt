@@ -1,5 +1,4 @@
 -- The desk acts as the caller, so the line is served as that caller's pass; what it left is the line's piece.
-use mir.Syntax.{of_param}
 use Rattle.std.proofs.Common.{rules, refl, ap, subst}
 use Rattle.cc_model.specs.Good.{IsGood}
 use Rattle.cc_turns.specs.Desk.{standing_of}
@@ -15,13 +14,10 @@ returns-clause-left g c = λ bounds bindings stand right.
 
 pub serve_at-answer-requires : goal.serve_at-answer-requires
 serve_at-answer-requires g c = (
-  record { owned = search rules; leaving = λ k. let kept = k (of_param 2) in c.type_bounds.send-D.leaving (λ ty. kept) },
-  (
-    search rules,
-    can-serve-line (standing_of g.D.Told.told g.D.Told.faults g.L.LogFile.told g.L.LogFile.faults c.args.desk.now) _ c.args.line.now _
-        (ap (λ d. standing_of g.D.Told.told g.D.Told.faults g.L.LogFile.told g.L.LogFile.faults d) c.act_as.ensures)
-        c.requires.ready c.requires.servable c.good.ensures c.requires.words,
-  ),
+  search rules,
+  can-serve-line (standing_of g.D.Told.told g.D.Told.faults g.L.LogFile.told g.L.LogFile.faults c.args.desk.now) _ c.args.line.now _
+      (ap (λ d. standing_of g.D.Told.told g.D.Told.faults g.L.LogFile.told g.L.LogFile.faults d) c.act_as.ensures)
+      c.requires.ready c.requires.servable c.good.ensures c.requires.words,
 )
 
 pub returns-clause-good : goal.returns-clause-good
