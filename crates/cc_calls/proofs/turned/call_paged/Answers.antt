@@ -5,28 +5,28 @@ use Rattle.cc_calls.proofs.Waiting.{brings, stepped}
 use Rattle.cc_calls.proofs.turned.call_paged.Goals as goal
 
 pub fetch-requires-clause-stepped : goal.fetch-requires-clause-stepped
-fetch-requires-clause-stepped g c κs within =
+fetch-requires-clause-stepped g c =
     let w = g.T.Turns.standing c.args.turns.now in
     let v = g.T.Turns.standing c.turned.new.turns in
     let has = has-waited w v c.args.stream c.in-Waits.field-0 c.args.call c.in-Waits.call c.args.out.now c.turned.new.out c.turned.result c.in-Waits.is c.turned.ensures.left in
     rw has.call_is (stepped c.args.call c.requires.paged)
 
 pub fetch-requires-clause-brings : goal.fetch-requires-clause-brings
-fetch-requires-clause-brings g c κs within =
+fetch-requires-clause-brings g c =
     let w = g.T.Turns.standing c.args.turns.now in
     let v = g.T.Turns.standing c.turned.new.turns in
     let has = has-waited w v c.args.stream c.in-Waits.field-0 c.args.call c.in-Waits.call c.args.out.now c.turned.new.out c.turned.result c.in-Waits.is c.turned.ensures.left in
     rw has.call_is (brings w.setup c.args.call c.args.stream c.in-Waits.field-0 v.seen c.requires.paged has.waits)
 
 pub fetch-requires-clause-filed : goal.fetch-requires-clause-filed
-fetch-requires-clause-filed g c κs within =
+fetch-requires-clause-filed g c =
     let w = g.T.Turns.standing c.args.turns.now in
     let v = g.T.Turns.standing c.turned.new.turns in
     let has = has-waited w v c.args.stream c.in-Waits.field-0 c.args.call c.in-Waits.call c.args.out.now c.turned.new.out c.turned.result c.in-Waits.is c.turned.ensures.left in
     rw has.call_is c.requires.filed
 
 pub fetch-requires-clause-fits : goal.fetch-requires-clause-fits
-fetch-requires-clause-fits g c κs within =
+fetch-requires-clause-fits g c =
     let w = g.T.Turns.standing c.args.turns.now in
     let v = g.T.Turns.standing c.turned.new.turns in
     let has = has-waited w v c.args.stream c.in-Waits.field-0 c.args.call c.in-Waits.call c.args.out.now c.turned.new.out c.turned.result c.in-Waits.is c.turned.ensures.left in

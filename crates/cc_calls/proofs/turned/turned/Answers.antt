@@ -2,12 +2,12 @@ use Rattle.cc_calls.proofs.Turning.{filed-now, has-book, turn-left}
 use Rattle.cc_calls.proofs.turned.turned.Goals as goal
 
 pub attempt_at-tried-requires-clause-book : goal.attempt_at-tried-requires-clause-book
-attempt_at-tried-requires-clause-book g c κs within =
+attempt_at-tried-requires-clause-book g c =
     has-book (g.T.Turns.standing c.args.turns.now) (g.T.Turns.standing c.take_book-book.new.self) c.args.stream c.take_book-book.result
     c.take_book-book.ensures.took c.take_book-book.ensures.stream c.requires.can c.take_book-book.ensures.stands
 
 pub attempt_at-tried-requires-clause-filed : goal.attempt_at-tried-requires-clause-filed
-attempt_at-tried-requires-clause-filed g c κs within =
+attempt_at-tried-requires-clause-filed g c =
     filed-now (g.T.Turns.standing c.args.turns.now) (g.T.Turns.standing c.take_book-book.new.self) c.args.stream c.take_book-book.result
     c.take_book-book.ensures.took c.take_book-book.ensures.stream c.args.call c.requires.filed
 

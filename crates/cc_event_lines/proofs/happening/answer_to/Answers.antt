@@ -2,7 +2,7 @@ use Rattle.cc_event_lines.proofs.Quiet.{posts-no-routine, queue-same, quiet-left
 use Rattle.cc_event_lines.proofs.happening.answer_to.Goals as goal
 
 pub happen-requires-clause-unposted : goal.happen-requires-clause-unposted
-happen-requires-clause-unposted g c = λ κs lives. unposted-plainly g.Q.PostRoutine.posted c.args.event c.requires.plain
+happen-requires-clause-unposted g c = unposted-plainly g.Q.PostRoutine.posted c.args.event c.requires.plain
 
 pub answer_of-requires : goal.answer_of-requires
 answer_of-requires g c = posts-no-routine _ c.args.event c.happen.result _ _ c.requires.plain c.happen.ensures.left

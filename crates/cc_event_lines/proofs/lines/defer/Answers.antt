@@ -2,7 +2,7 @@ use Rattle.cc_event_lines.proofs.Deferrals.{next-unposted, went-deferred, went-r
 use Rattle.cc_event_lines.proofs.lines.defer.Goals as goal
 
 pub happen-requires-clause-unposted : goal.happen-requires-clause-unposted
-happen-requires-clause-unposted g c κs within =
+happen-requires-clause-unposted g c =
     next-unposted g.Q.PostRoutine.posted _ _ c.args.routines.now c.next.result _ c.requires.routines c.next.ensures.taken
 
 pub returns-in-Deferred : goal.returns-in-Deferred

@@ -17,7 +17,6 @@ returns-in_default g c = line-wanting _ _ _ _ c.args.line.now c.in_default.ensur
 
 pub answer_to-requires-clause-known : goal.answer_to-requires-clause-known
 answer_to-requires-clause-known g c =
-    λ κs lives.
     let disks = length c.args.world.now.begun.disks in
     let me = c.args.line.now.caller in
     event-known disks c.in-Happens.event
@@ -25,7 +24,6 @@ answer_to-requires-clause-known g c =
 
 pub answer_to-requires-in-Makes-clause-known : goal.answer_to-requires-in-Makes-clause-known
 answer_to-requires-in-Makes-clause-known g c =
-    λ κs lives.
     let disks = length c.args.world.now.begun.disks in
     let me = c.args.line.now.caller in
     subst (IsKnown disks) (sym c.called.ensures)

@@ -5,7 +5,7 @@ use Rattle.cc_event_lines.proofs.openings.open_streams.Goals as goal
 
 pub open_stream-answer-requires-clause-known : goal.open_stream-answer-requires-clause-known
 open_stream-answer-requires-clause-known g c =
-    λ κs lives. subst (λ begun. c.loop-number.number < length begun.disks) (sym c.loop-number.invariant.so_far.begun) (omega (arith, c.loop-number-test.true, c.requires.known))
+    subst (λ begun. c.loop-number.number < length begun.disks) (sym c.loop-number.invariant.so_far.begun) (omega (arith, c.loop-number-test.true, c.requires.known))
 
 pub loop-number-init : goal.loop-number-init
 loop-number-init g c = record { so_far = none-yet _ _ _ _; counted = omega arith; capacity = search rules }

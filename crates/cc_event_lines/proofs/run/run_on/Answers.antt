@@ -4,7 +4,7 @@ use Rattle.cc_event_lines.proofs.RoutineSteps.{stand-new}
 use Rattle.cc_event_lines.proofs.run.run_on.Goals as goal
 
 pub step_lines-requires-clause-routines : goal.step_lines-requires-clause-routines
-step_lines-requires-clause-routines g c κs within =
+step_lines-requires-clause-routines g c =
     let fresh = c.requires.fresh.journal_is in
     stand-new g.Q.PostRoutine.posted c.open_streams.new.world.journal.entries c.open_streams.new.world.journal.queue
     c.args.routines

@@ -5,8 +5,8 @@ use Rattle.cc_lines.proofs.HoldLines.{chain-ends}
 use Rattle.cc_lines.proofs.ServeLines.{may-on, told-as}
 use Rattle.cc_lines.proofs.held_lines.chain.Goals as goal
 
-pub mdl_read-requires-clause-can : goal.mdl_read-requires-clause-can
-mdl_read-requires-clause-can g c κs within = may-on (g.T.Turns.standing c.args.turns.now) _ _ c.args.file.stream c.requires c.requires.servable
+pub mdl_read-requires : goal.mdl_read-requires
+mdl_read-requires g c = record { can = may-on (g.T.Turns.standing c.args.turns.now) _ _ c.args.file.stream c.requires c.requires.servable }
 
 pub bind-requires : goal.bind-requires
 bind-requires g c = c.requires.room refl

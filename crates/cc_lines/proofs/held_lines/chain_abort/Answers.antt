@@ -14,10 +14,10 @@ pub take-requires : goal.take-requires
 take-requires g c = word-within _ _ _ c.requires.bounds c.requires.bindings _ need.WriteChain c.args.word c.requires.stand c.requires.right
 
 pub mdl_write_abort-requires-clause-can : goal.mdl_write_abort-requires-clause-can
-mdl_write_abort-requires-clause-can g c κs within = may-call (g.T.Turns.standing c.args.turns.now) _ c.args.names.now need.WriteChain c.args.word (named.WriteChain c.in-WriteChain.chain) c.requires c.requires.right (sym c.in-Some.ensures.taken ∙ ap (λ (n : Named). Some n) c.in-WriteChain.is)
+mdl_write_abort-requires-clause-can g c = may-call (g.T.Turns.standing c.args.turns.now) _ c.args.names.now need.WriteChain c.args.word (named.WriteChain c.in-WriteChain.chain) c.requires c.requires.right (sym c.in-Some.ensures.taken ∙ ap (λ (n : Named). Some n) c.in-WriteChain.is)
 
 pub mdl_write_abort-requires-clause-holding : goal.mdl_write_abort-requires-clause-holding
-mdl_write_abort-requires-clause-holding g c κs within = may-hold (g.T.Turns.standing c.args.turns.now) _ c.args.names.now need.WriteChain c.args.word (named.WriteChain c.in-WriteChain.chain) c.requires c.requires.right (sym c.in-Some.ensures.taken ∙ ap (λ (n : Named). Some n) c.in-WriteChain.is)
+mdl_write_abort-requires-clause-holding g c = may-hold (g.T.Turns.standing c.args.turns.now) _ c.args.names.now need.WriteChain c.args.word (named.WriteChain c.in-WriteChain.chain) c.requires c.requires.right (sym c.in-Some.ensures.taken ∙ ap (λ (n : Named). Some n) c.in-WriteChain.is)
 
 pub returns-in-WriteChain : goal.returns-in-WriteChain
 returns-in-WriteChain g c =

@@ -15,20 +15,20 @@ pub take-requires : goal.take-requires
 take-requires g c = word-within _ _ _ c.requires.bounds c.requires.bindings _ need.Chain c.args.word c.requires.stand c.requires.right
 
 pub mdl_read_complete-requires-clause-can : goal.mdl_read_complete-requires-clause-can
-mdl_read_complete-requires-clause-can g c κs within = may-call (g.T.Turns.standing c.args.turns.now) _ c.args.names.now need.Chain c.args.word (named.ReadChain c.in-ReadChain.chain) c.requires c.requires.right (sym c.in-Some.ensures.taken ∙ ap (λ (n : Named). Some n) c.in-ReadChain.is)
+mdl_read_complete-requires-clause-can g c = may-call (g.T.Turns.standing c.args.turns.now) _ c.args.names.now need.Chain c.args.word (named.ReadChain c.in-ReadChain.chain) c.requires c.requires.right (sym c.in-Some.ensures.taken ∙ ap (λ (n : Named). Some n) c.in-ReadChain.is)
 
 pub mdl_read_complete-requires-clause-holding : goal.mdl_read_complete-requires-clause-holding
-mdl_read_complete-requires-clause-holding g c κs within = may-hold (g.T.Turns.standing c.args.turns.now) _ c.args.names.now need.Chain c.args.word (named.ReadChain c.in-ReadChain.chain) c.requires c.requires.right (sym c.in-Some.ensures.taken ∙ ap (λ (n : Named). Some n) c.in-ReadChain.is)
+mdl_read_complete-requires-clause-holding g c = may-hold (g.T.Turns.standing c.args.turns.now) _ c.args.names.now need.Chain c.args.word (named.ReadChain c.in-ReadChain.chain) c.requires c.requires.right (sym c.in-Some.ensures.taken ∙ ap (λ (n : Named). Some n) c.in-ReadChain.is)
 
 pub returns-in-ReadChain : goal.returns-in-ReadChain
 returns-in-ReadChain g c =
     done-line _ _ _ _ c.args.word c.take.ensures.rest (named.ReadChain c.in-ReadChain.chain) (sym c.in-Some.ensures.taken ∙ ap (λ (n : Named). Some n) c.in-ReadChain.is) c.mdl_read_complete.ensures.ends refl
 
 pub mdl_write_complete-requires-clause-can : goal.mdl_write_complete-requires-clause-can
-mdl_write_complete-requires-clause-can g c κs within = may-call (g.T.Turns.standing c.args.turns.now) _ c.args.names.now need.Chain c.args.word (named.WriteChain c.in-WriteChain.chain) c.requires c.requires.right (sym c.in-Some.ensures.taken ∙ ap (λ (n : Named). Some n) c.in-WriteChain.is)
+mdl_write_complete-requires-clause-can g c = may-call (g.T.Turns.standing c.args.turns.now) _ c.args.names.now need.Chain c.args.word (named.WriteChain c.in-WriteChain.chain) c.requires c.requires.right (sym c.in-Some.ensures.taken ∙ ap (λ (n : Named). Some n) c.in-WriteChain.is)
 
 pub mdl_write_complete-requires-clause-holding : goal.mdl_write_complete-requires-clause-holding
-mdl_write_complete-requires-clause-holding g c κs within = may-hold (g.T.Turns.standing c.args.turns.now) _ c.args.names.now need.Chain c.args.word (named.WriteChain c.in-WriteChain.chain) c.requires c.requires.right (sym c.in-Some.ensures.taken ∙ ap (λ (n : Named). Some n) c.in-WriteChain.is)
+mdl_write_complete-requires-clause-holding g c = may-hold (g.T.Turns.standing c.args.turns.now) _ c.args.names.now need.Chain c.args.word (named.WriteChain c.in-WriteChain.chain) c.requires c.requires.right (sym c.in-Some.ensures.taken ∙ ap (λ (n : Named). Some n) c.in-WriteChain.is)
 
 pub returns-in-WriteChain : goal.returns-in-WriteChain
 returns-in-WriteChain g c =

@@ -10,13 +10,13 @@ use Rattle.cc_lines.proofs.UseLines.{chain-read, may-call, may-cover, may-hold, 
 use Rattle.cc_lines.proofs.held_lines.chain_read.Goals as goal
 
 pub read_chain-requires-clause-can : goal.read_chain-requires-clause-can
-read_chain-requires-clause-can g c κs within = may-call (g.T.Turns.standing c.args.turns.now) _ c.args.names.now need.ReadChain c.args.word (named.ReadChain c.in-ReadChain.chain) c.requires c.requires.right.uses (sym c.in-Some.ensures ∙ ap (λ (n : Named). Some n) c.in-ReadChain.is)
+read_chain-requires-clause-can g c = may-call (g.T.Turns.standing c.args.turns.now) _ c.args.names.now need.ReadChain c.args.word (named.ReadChain c.in-ReadChain.chain) c.requires c.requires.right.uses (sym c.in-Some.ensures ∙ ap (λ (n : Named). Some n) c.in-ReadChain.is)
 
 pub read_chain-requires-clause-holding : goal.read_chain-requires-clause-holding
-read_chain-requires-clause-holding g c κs within = may-hold (g.T.Turns.standing c.args.turns.now) _ c.args.names.now need.ReadChain c.args.word (named.ReadChain c.in-ReadChain.chain) c.requires c.requires.right.uses (sym c.in-Some.ensures ∙ ap (λ (n : Named). Some n) c.in-ReadChain.is)
+read_chain-requires-clause-holding g c = may-hold (g.T.Turns.standing c.args.turns.now) _ c.args.names.now need.ReadChain c.args.word (named.ReadChain c.in-ReadChain.chain) c.requires c.requires.right.uses (sym c.in-Some.ensures ∙ ap (λ (n : Named). Some n) c.in-ReadChain.is)
 
 pub read_chain-requires-clause-covers : goal.read_chain-requires-clause-covers
-read_chain-requires-clause-covers g c κs within = may-cover (g.T.Turns.standing c.args.turns.now) _ c.args.names.now need.ReadChain c.args.word c.args.at c.args.len (named.ReadChain c.in-ReadChain.chain) c.requires c.requires.right (sym c.in-Some.ensures ∙ ap (λ (n : Named). Some n) c.in-ReadChain.is)
+read_chain-requires-clause-covers g c = may-cover (g.T.Turns.standing c.args.turns.now) _ c.args.names.now need.ReadChain c.args.word c.args.at c.args.len (named.ReadChain c.in-ReadChain.chain) c.requires c.requires.right (sym c.in-Some.ensures ∙ ap (λ (n : Named). Some n) c.in-ReadChain.is)
 
 pub returns-in-ReadChain : goal.returns-in-ReadChain
 returns-in-ReadChain g c =

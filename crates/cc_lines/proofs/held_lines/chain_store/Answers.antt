@@ -10,13 +10,13 @@ use Rattle.cc_lines.proofs.UseLines.{chain-store, may-call, may-cover, may-hold,
 use Rattle.cc_lines.proofs.held_lines.chain_store.Goals as goal
 
 pub store-requires-clause-can : goal.store-requires-clause-can
-store-requires-clause-can g c κs within = may-call (g.T.Turns.standing c.args.turns.now) _ c.args.names.now need.WriteChain c.args.word (named.WriteChain c.in-WriteChain.chain) c.requires c.requires.right.uses (sym c.in-Some.ensures ∙ ap (λ (n : Named). Some n) c.in-WriteChain.is)
+store-requires-clause-can g c = may-call (g.T.Turns.standing c.args.turns.now) _ c.args.names.now need.WriteChain c.args.word (named.WriteChain c.in-WriteChain.chain) c.requires c.requires.right.uses (sym c.in-Some.ensures ∙ ap (λ (n : Named). Some n) c.in-WriteChain.is)
 
 pub store-requires-clause-holding : goal.store-requires-clause-holding
-store-requires-clause-holding g c κs within = may-hold (g.T.Turns.standing c.args.turns.now) _ c.args.names.now need.WriteChain c.args.word (named.WriteChain c.in-WriteChain.chain) c.requires c.requires.right.uses (sym c.in-Some.ensures ∙ ap (λ (n : Named). Some n) c.in-WriteChain.is)
+store-requires-clause-holding g c = may-hold (g.T.Turns.standing c.args.turns.now) _ c.args.names.now need.WriteChain c.args.word (named.WriteChain c.in-WriteChain.chain) c.requires c.requires.right.uses (sym c.in-Some.ensures ∙ ap (λ (n : Named). Some n) c.in-WriteChain.is)
 
 pub store-requires-clause-covers : goal.store-requires-clause-covers
-store-requires-clause-covers g c κs within = may-cover (g.T.Turns.standing c.args.turns.now) _ c.args.names.now need.WriteChain c.args.word c.args.at _ (named.WriteChain c.in-WriteChain.chain) c.requires c.requires.right (sym c.in-Some.ensures ∙ ap (λ (n : Named). Some n) c.in-WriteChain.is)
+store-requires-clause-covers g c = may-cover (g.T.Turns.standing c.args.turns.now) _ c.args.names.now need.WriteChain c.args.word c.args.at _ (named.WriteChain c.in-WriteChain.chain) c.requires c.requires.right (sym c.in-Some.ensures ∙ ap (λ (n : Named). Some n) c.in-WriteChain.is)
 
 pub returns-in-WriteChain : goal.returns-in-WriteChain
 returns-in-WriteChain g c =

@@ -10,26 +10,26 @@ use Rattle.cc_lines.proofs.UseLines.{map-read, may-call, may-cover, may-hold, no
 use Rattle.cc_lines.proofs.held_lines.held_read.Goals as goal
 
 pub read_map-requires-clause-can : goal.read_map-requires-clause-can
-read_map-requires-clause-can g c κs within = may-call (g.T.Turns.standing c.args.turns.now) _ c.args.names.now need.MapOrPin c.args.word (named.Map c.in-Map.hold) c.requires c.requires.right.uses (sym c.in-Some.ensures ∙ ap (λ (n : Named). Some n) c.in-Map.is)
+read_map-requires-clause-can g c = may-call (g.T.Turns.standing c.args.turns.now) _ c.args.names.now need.MapOrPin c.args.word (named.Map c.in-Map.hold) c.requires c.requires.right.uses (sym c.in-Some.ensures ∙ ap (λ (n : Named). Some n) c.in-Map.is)
 
 pub read_map-requires-clause-holding : goal.read_map-requires-clause-holding
-read_map-requires-clause-holding g c κs within = may-hold (g.T.Turns.standing c.args.turns.now) _ c.args.names.now need.MapOrPin c.args.word (named.Map c.in-Map.hold) c.requires c.requires.right.uses (sym c.in-Some.ensures ∙ ap (λ (n : Named). Some n) c.in-Map.is)
+read_map-requires-clause-holding g c = may-hold (g.T.Turns.standing c.args.turns.now) _ c.args.names.now need.MapOrPin c.args.word (named.Map c.in-Map.hold) c.requires c.requires.right.uses (sym c.in-Some.ensures ∙ ap (λ (n : Named). Some n) c.in-Map.is)
 
 pub read_map-requires-clause-covers : goal.read_map-requires-clause-covers
-read_map-requires-clause-covers g c κs within = may-cover (g.T.Turns.standing c.args.turns.now) _ c.args.names.now need.MapOrPin c.args.word c.args.at c.args.len (named.Map c.in-Map.hold) c.requires c.requires.right (sym c.in-Some.ensures ∙ ap (λ (n : Named). Some n) c.in-Map.is)
+read_map-requires-clause-covers g c = may-cover (g.T.Turns.standing c.args.turns.now) _ c.args.names.now need.MapOrPin c.args.word c.args.at c.args.len (named.Map c.in-Map.hold) c.requires c.requires.right (sym c.in-Some.ensures ∙ ap (λ (n : Named). Some n) c.in-Map.is)
 
 pub returns-in-Map : goal.returns-in-Map
 returns-in-Map g c =
     map-read _ _ _ c.args.word c.in-Map.hold _ c.args.at c.args.len (sym c.in-Some.ensures ∙ ap (λ (n : Named). Some n) c.in-Map.is) c.requires c.read_map.ensures
 
 pub read_pin-requires-clause-can : goal.read_pin-requires-clause-can
-read_pin-requires-clause-can g c κs within = may-call (g.T.Turns.standing c.args.turns.now) _ c.args.names.now need.MapOrPin c.args.word (named.Pin c.in-Pin.hold) c.requires c.requires.right.uses (sym c.in-Some.ensures ∙ ap (λ (n : Named). Some n) c.in-Pin.is)
+read_pin-requires-clause-can g c = may-call (g.T.Turns.standing c.args.turns.now) _ c.args.names.now need.MapOrPin c.args.word (named.Pin c.in-Pin.hold) c.requires c.requires.right.uses (sym c.in-Some.ensures ∙ ap (λ (n : Named). Some n) c.in-Pin.is)
 
 pub read_pin-requires-clause-holding : goal.read_pin-requires-clause-holding
-read_pin-requires-clause-holding g c κs within = may-hold (g.T.Turns.standing c.args.turns.now) _ c.args.names.now need.MapOrPin c.args.word (named.Pin c.in-Pin.hold) c.requires c.requires.right.uses (sym c.in-Some.ensures ∙ ap (λ (n : Named). Some n) c.in-Pin.is)
+read_pin-requires-clause-holding g c = may-hold (g.T.Turns.standing c.args.turns.now) _ c.args.names.now need.MapOrPin c.args.word (named.Pin c.in-Pin.hold) c.requires c.requires.right.uses (sym c.in-Some.ensures ∙ ap (λ (n : Named). Some n) c.in-Pin.is)
 
 pub read_pin-requires-clause-covers : goal.read_pin-requires-clause-covers
-read_pin-requires-clause-covers g c κs within = may-cover (g.T.Turns.standing c.args.turns.now) _ c.args.names.now need.MapOrPin c.args.word c.args.at c.args.len (named.Pin c.in-Pin.hold) c.requires c.requires.right (sym c.in-Some.ensures ∙ ap (λ (n : Named). Some n) c.in-Pin.is)
+read_pin-requires-clause-covers g c = may-cover (g.T.Turns.standing c.args.turns.now) _ c.args.names.now need.MapOrPin c.args.word c.args.at c.args.len (named.Pin c.in-Pin.hold) c.requires c.requires.right (sym c.in-Some.ensures ∙ ap (λ (n : Named). Some n) c.in-Pin.is)
 
 pub returns-in-Pin : goal.returns-in-Pin
 returns-in-Pin g c =

@@ -10,13 +10,13 @@ use Rattle.cc_lines.proofs.UseLines.{may-call, may-cover, may-hold, no-write, pi
 use Rattle.cc_lines.proofs.held_lines.held_write.Goals as goal
 
 pub write_pin-requires-clause-can : goal.write_pin-requires-clause-can
-write_pin-requires-clause-can g c κs within = may-call (g.T.Turns.standing c.args.turns.now) _ c.args.names.now need.Pin c.args.word (named.Pin c.in-Pin.hold) c.requires c.requires.right.uses (sym c.in-Some.ensures ∙ ap (λ (n : Named). Some n) c.in-Pin.is)
+write_pin-requires-clause-can g c = may-call (g.T.Turns.standing c.args.turns.now) _ c.args.names.now need.Pin c.args.word (named.Pin c.in-Pin.hold) c.requires c.requires.right.uses (sym c.in-Some.ensures ∙ ap (λ (n : Named). Some n) c.in-Pin.is)
 
 pub write_pin-requires-clause-holding : goal.write_pin-requires-clause-holding
-write_pin-requires-clause-holding g c κs within = may-hold (g.T.Turns.standing c.args.turns.now) _ c.args.names.now need.Pin c.args.word (named.Pin c.in-Pin.hold) c.requires c.requires.right.uses (sym c.in-Some.ensures ∙ ap (λ (n : Named). Some n) c.in-Pin.is)
+write_pin-requires-clause-holding g c = may-hold (g.T.Turns.standing c.args.turns.now) _ c.args.names.now need.Pin c.args.word (named.Pin c.in-Pin.hold) c.requires c.requires.right.uses (sym c.in-Some.ensures ∙ ap (λ (n : Named). Some n) c.in-Pin.is)
 
 pub write_pin-requires-clause-covers : goal.write_pin-requires-clause-covers
-write_pin-requires-clause-covers g c κs within = may-cover (g.T.Turns.standing c.args.turns.now) _ c.args.names.now need.Pin c.args.word c.args.at _ (named.Pin c.in-Pin.hold) c.requires c.requires.right (sym c.in-Some.ensures ∙ ap (λ (n : Named). Some n) c.in-Pin.is)
+write_pin-requires-clause-covers g c = may-cover (g.T.Turns.standing c.args.turns.now) _ c.args.names.now need.Pin c.args.word c.args.at _ (named.Pin c.in-Pin.hold) c.requires c.requires.right (sym c.in-Some.ensures ∙ ap (λ (n : Named). Some n) c.in-Pin.is)
 
 pub returns-in-Pin : goal.returns-in-Pin
 returns-in-Pin g c =

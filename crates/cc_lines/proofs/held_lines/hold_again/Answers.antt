@@ -13,10 +13,10 @@ use Rattle.cc_lines.proofs.ServeLines.{told-as}
 use Rattle.cc_lines.proofs.held_lines.hold_again.Goals as goal
 
 pub repin-requires-clause-can : goal.repin-requires-clause-can
-repin-requires-clause-can g c κs within = may-call (g.T.Turns.standing c.args.turns.now) _ c.args.names.now need.Pin c.args.word (named.Pin c.in-Pin.hold) c.requires c.requires.right.0 (sym c.in-Some.ensures ∙ ap (λ (n : Named). Some n) c.in-Pin.is)
+repin-requires-clause-can g c = may-call (g.T.Turns.standing c.args.turns.now) _ c.args.names.now need.Pin c.args.word (named.Pin c.in-Pin.hold) c.requires c.requires.right.0 (sym c.in-Some.ensures ∙ ap (λ (n : Named). Some n) c.in-Pin.is)
 
 pub repin-requires-clause-holding : goal.repin-requires-clause-holding
-repin-requires-clause-holding g c κs within = may-hold (g.T.Turns.standing c.args.turns.now) _ c.args.names.now need.Pin c.args.word (named.Pin c.in-Pin.hold) c.requires c.requires.right.0 (sym c.in-Some.ensures ∙ ap (λ (n : Named). Some n) c.in-Pin.is)
+repin-requires-clause-holding g c = may-hold (g.T.Turns.standing c.args.turns.now) _ c.args.names.now need.Pin c.args.word (named.Pin c.in-Pin.hold) c.requires c.requires.right.0 (sym c.in-Some.ensures ∙ ap (λ (n : Named). Some n) c.in-Pin.is)
 
 pub bind-requires : goal.bind-requires
 bind-requires g c = c.requires.room refl

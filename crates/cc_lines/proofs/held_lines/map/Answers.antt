@@ -5,8 +5,8 @@ use Rattle.cc_lines.proofs.HoldLines.{map-ends}
 use Rattle.cc_lines.proofs.ServeLines.{may-on, told-as}
 use Rattle.cc_lines.proofs.held_lines.map.Goals as goal
 
-pub map_data-requires-clause-can : goal.map_data-requires-clause-can
-map_data-requires-clause-can g c κs within = may-on (g.T.Turns.standing c.args.turns.now) _ _ c.args.file.stream c.requires c.requires.servable
+pub map_data-requires : goal.map_data-requires
+map_data-requires g c = record { can = may-on (g.T.Turns.standing c.args.turns.now) _ _ c.args.file.stream c.requires c.requires.servable }
 
 pub bind-requires : goal.bind-requires
 bind-requires g c = c.requires.room refl

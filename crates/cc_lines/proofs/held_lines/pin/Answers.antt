@@ -5,8 +5,8 @@ use Rattle.cc_lines.proofs.HoldLines.{pin-ends}
 use Rattle.cc_lines.proofs.ServeLines.{may-on, told-as}
 use Rattle.cc_lines.proofs.held_lines.pin.Goals as goal
 
-pub pin_read-requires-clause-can : goal.pin_read-requires-clause-can
-pin_read-requires-clause-can g c κs within = may-on (g.T.Turns.standing c.args.turns.now) _ _ c.args.file.stream c.requires c.requires.servable
+pub pin_read-requires : goal.pin_read-requires
+pin_read-requires g c = record { can = may-on (g.T.Turns.standing c.args.turns.now) _ _ c.args.file.stream c.requires c.requires.servable }
 
 pub bind-requires : goal.bind-requires
 bind-requires g c = c.requires.room refl

@@ -18,10 +18,10 @@ pub take-requires : goal.take-requires
 take-requires g c = word-within _ _ _ c.requires.bounds c.requires.bindings _ need.Map c.args.word c.requires.stand c.requires.right
 
 pub pin_mapped-requires-clause-can : goal.pin_mapped-requires-clause-can
-pin_mapped-requires-clause-can g c κs within = may-call (g.T.Turns.standing c.args.turns.now) _ c.args.names.now need.Map c.args.word (named.Map c.in-Map.hold) c.requires c.requires.right (sym c.in-Some.ensures.taken ∙ ap (λ (n : Named). Some n) c.in-Map.is)
+pin_mapped-requires-clause-can g c = may-call (g.T.Turns.standing c.args.turns.now) _ c.args.names.now need.Map c.args.word (named.Map c.in-Map.hold) c.requires c.requires.right (sym c.in-Some.ensures.taken ∙ ap (λ (n : Named). Some n) c.in-Map.is)
 
 pub pin_mapped-requires-clause-holding : goal.pin_mapped-requires-clause-holding
-pin_mapped-requires-clause-holding g c κs within = may-hold (g.T.Turns.standing c.args.turns.now) _ c.args.names.now need.Map c.args.word (named.Map c.in-Map.hold) c.requires c.requires.right (sym c.in-Some.ensures.taken ∙ ap (λ (n : Named). Some n) c.in-Map.is)
+pin_mapped-requires-clause-holding g c = may-hold (g.T.Turns.standing c.args.turns.now) _ c.args.names.now need.Map c.args.word (named.Map c.in-Map.hold) c.requires c.requires.right (sym c.in-Some.ensures.taken ∙ ap (λ (n : Named). Some n) c.in-Map.is)
 
 pub put-requires : goal.put-requires
 put-requires g c = still-within _ _ c.args.word c.take.ensures.rest (word-within _ _ _ c.requires.bounds c.requires.bindings _ need.Map c.args.word c.requires.stand c.requires.right)

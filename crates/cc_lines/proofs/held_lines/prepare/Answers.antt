@@ -5,8 +5,8 @@ use Rattle.cc_lines.proofs.HoldLines.{prepare-ends}
 use Rattle.cc_lines.proofs.ServeLines.{may-on, told-as}
 use Rattle.cc_lines.proofs.held_lines.prepare.Goals as goal
 
-pub prepare_pin_write-requires-clause-can : goal.prepare_pin_write-requires-clause-can
-prepare_pin_write-requires-clause-can g c κs within = may-on (g.T.Turns.standing c.args.turns.now) _ _ c.args.file.stream c.requires c.requires.servable
+pub prepare_pin_write-requires : goal.prepare_pin_write-requires
+prepare_pin_write-requires g c = record { can = may-on (g.T.Turns.standing c.args.turns.now) _ _ c.args.file.stream c.requires c.requires.servable }
 
 pub bind-requires : goal.bind-requires
 bind-requires g c = c.requires.room refl

@@ -15,20 +15,20 @@ pub take-requires : goal.take-requires
 take-requires g c = word-within _ _ _ c.requires.bounds c.requires.bindings _ need.MapOrPin c.args.word c.requires.stand c.requires.right
 
 pub unmap-requires-clause-can : goal.unmap-requires-clause-can
-unmap-requires-clause-can g c κs within = may-call (g.T.Turns.standing c.args.turns.now) _ c.args.names.now need.MapOrPin c.args.word (named.Map c.in-Map.hold) c.requires c.requires.right (sym c.in-Some.ensures.taken ∙ ap (λ (n : Named). Some n) c.in-Map.is)
+unmap-requires-clause-can g c = may-call (g.T.Turns.standing c.args.turns.now) _ c.args.names.now need.MapOrPin c.args.word (named.Map c.in-Map.hold) c.requires c.requires.right (sym c.in-Some.ensures.taken ∙ ap (λ (n : Named). Some n) c.in-Map.is)
 
 pub unmap-requires-clause-holding : goal.unmap-requires-clause-holding
-unmap-requires-clause-holding g c κs within = may-hold (g.T.Turns.standing c.args.turns.now) _ c.args.names.now need.MapOrPin c.args.word (named.Map c.in-Map.hold) c.requires c.requires.right (sym c.in-Some.ensures.taken ∙ ap (λ (n : Named). Some n) c.in-Map.is)
+unmap-requires-clause-holding g c = may-hold (g.T.Turns.standing c.args.turns.now) _ c.args.names.now need.MapOrPin c.args.word (named.Map c.in-Map.hold) c.requires c.requires.right (sym c.in-Some.ensures.taken ∙ ap (λ (n : Named). Some n) c.in-Map.is)
 
 pub returns-in-Map : goal.returns-in-Map
 returns-in-Map g c =
     unpin-line _ _ _ _ c.args.word c.take.ensures.rest (named.Map c.in-Map.hold) (sym c.in-Some.ensures.taken ∙ ap (λ (n : Named). Some n) c.in-Map.is) c.unmap.ensures.ends refl
 
 pub unpin-requires-clause-can : goal.unpin-requires-clause-can
-unpin-requires-clause-can g c κs within = may-call (g.T.Turns.standing c.args.turns.now) _ c.args.names.now need.MapOrPin c.args.word (named.Pin c.in-Pin.hold) c.requires c.requires.right (sym c.in-Some.ensures.taken ∙ ap (λ (n : Named). Some n) c.in-Pin.is)
+unpin-requires-clause-can g c = may-call (g.T.Turns.standing c.args.turns.now) _ c.args.names.now need.MapOrPin c.args.word (named.Pin c.in-Pin.hold) c.requires c.requires.right (sym c.in-Some.ensures.taken ∙ ap (λ (n : Named). Some n) c.in-Pin.is)
 
 pub unpin-requires-clause-holding : goal.unpin-requires-clause-holding
-unpin-requires-clause-holding g c κs within = may-hold (g.T.Turns.standing c.args.turns.now) _ c.args.names.now need.MapOrPin c.args.word (named.Pin c.in-Pin.hold) c.requires c.requires.right (sym c.in-Some.ensures.taken ∙ ap (λ (n : Named). Some n) c.in-Pin.is)
+unpin-requires-clause-holding g c = may-hold (g.T.Turns.standing c.args.turns.now) _ c.args.names.now need.MapOrPin c.args.word (named.Pin c.in-Pin.hold) c.requires c.requires.right (sym c.in-Some.ensures.taken ∙ ap (λ (n : Named). Some n) c.in-Pin.is)
 
 pub returns-in-Pin : goal.returns-in-Pin
 returns-in-Pin g c =

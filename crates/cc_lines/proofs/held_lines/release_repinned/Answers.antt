@@ -15,10 +15,10 @@ pub take-requires : goal.take-requires
 take-requires g c = word-within _ _ _ c.requires.bounds c.requires.bindings _ need.Repin c.args.word c.requires.stand c.requires.right
 
 pub unpin_repinned-requires-clause-can : goal.unpin_repinned-requires-clause-can
-unpin_repinned-requires-clause-can g c κs within = may-call (g.T.Turns.standing c.args.turns.now) _ c.args.names.now need.Repin c.args.word (named.Repin c.in-Repin.hold) c.requires c.requires.right (sym c.in-Some.ensures.taken ∙ ap (λ (n : Named). Some n) c.in-Repin.is)
+unpin_repinned-requires-clause-can g c = may-call (g.T.Turns.standing c.args.turns.now) _ c.args.names.now need.Repin c.args.word (named.Repin c.in-Repin.hold) c.requires c.requires.right (sym c.in-Some.ensures.taken ∙ ap (λ (n : Named). Some n) c.in-Repin.is)
 
 pub unpin_repinned-requires-clause-holding : goal.unpin_repinned-requires-clause-holding
-unpin_repinned-requires-clause-holding g c κs within = may-hold (g.T.Turns.standing c.args.turns.now) _ c.args.names.now need.Repin c.args.word (named.Repin c.in-Repin.hold) c.requires c.requires.right (sym c.in-Some.ensures.taken ∙ ap (λ (n : Named). Some n) c.in-Repin.is)
+unpin_repinned-requires-clause-holding g c = may-hold (g.T.Turns.standing c.args.turns.now) _ c.args.names.now need.Repin c.args.word (named.Repin c.in-Repin.hold) c.requires c.requires.right (sym c.in-Some.ensures.taken ∙ ap (λ (n : Named). Some n) c.in-Repin.is)
 
 pub returns-in-Repin : goal.returns-in-Repin
 returns-in-Repin g c =

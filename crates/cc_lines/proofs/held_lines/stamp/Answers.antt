@@ -12,10 +12,10 @@ use Rattle.cc_lines.proofs.ServeLines.{told-as}
 use Rattle.cc_lines.proofs.held_lines.stamp.Goals as goal
 
 pub set_dirty-requires-clause-can : goal.set_dirty-requires-clause-can
-set_dirty-requires-clause-can g c κs within = may-call (g.T.Turns.standing c.args.turns.now) _ c.args.names.now need.Pin c.args.word (named.Pin c.in-Pin.hold) c.requires c.requires.right (sym c.in-Some.ensures ∙ ap (λ (n : Named). Some n) c.in-Pin.is)
+set_dirty-requires-clause-can g c = may-call (g.T.Turns.standing c.args.turns.now) _ c.args.names.now need.Pin c.args.word (named.Pin c.in-Pin.hold) c.requires c.requires.right (sym c.in-Some.ensures ∙ ap (λ (n : Named). Some n) c.in-Pin.is)
 
 pub set_dirty-requires-clause-holding : goal.set_dirty-requires-clause-holding
-set_dirty-requires-clause-holding g c κs within = may-hold (g.T.Turns.standing c.args.turns.now) _ c.args.names.now need.Pin c.args.word (named.Pin c.in-Pin.hold) c.requires c.requires.right (sym c.in-Some.ensures ∙ ap (λ (n : Named). Some n) c.in-Pin.is)
+set_dirty-requires-clause-holding g c = may-hold (g.T.Turns.standing c.args.turns.now) _ c.args.names.now need.Pin c.args.word (named.Pin c.in-Pin.hold) c.requires c.requires.right (sym c.in-Some.ensures ∙ ap (λ (n : Named). Some n) c.in-Pin.is)
 
 pub returns-in-Pin : goal.returns-in-Pin
 returns-in-Pin g c =

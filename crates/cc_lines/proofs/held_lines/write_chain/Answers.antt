@@ -5,8 +5,8 @@ use Rattle.cc_lines.proofs.HoldLines.{write_chain-ends}
 use Rattle.cc_lines.proofs.ServeLines.{may-on, told-as}
 use Rattle.cc_lines.proofs.held_lines.write_chain.Goals as goal
 
-pub prepare_mdl_write-requires-clause-can : goal.prepare_mdl_write-requires-clause-can
-prepare_mdl_write-requires-clause-can g c κs within = may-on (g.T.Turns.standing c.args.turns.now) _ _ c.args.file.stream c.requires c.requires.servable
+pub prepare_mdl_write-requires : goal.prepare_mdl_write-requires
+prepare_mdl_write-requires g c = record { can = may-on (g.T.Turns.standing c.args.turns.now) _ _ c.args.file.stream c.requires c.requires.servable }
 
 pub bind-requires : goal.bind-requires
 bind-requires g c = c.requires.room refl

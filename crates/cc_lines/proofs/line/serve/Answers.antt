@@ -5,241 +5,241 @@ use Rattle.cc_lines.proofs.PlainLines.{append-line, nc_read-line, nc_write-line,
 use Rattle.cc_lines.proofs.ServeLines.{asked-as, can-as, change-line, flag-line, flush-line, flushed-line, lsns-line, may-free, may-on, next-chain, next-map, next-pin, next-prepare, next-repin, next-write_chain, purge-line, rows-line, set-line, state-line}
 use Rattle.cc_lines.proofs.line.serve.Goals as goal
 
-pub initialize-requires-after_bounds : goal.initialize-requires-after_bounds
-initialize-requires-after_bounds g c κs within = may-on (g.T.Turns.standing c.args.turns.now) _ c.args.names.now c.in-Initialise.file.stream c.requires (can-as (g.T.Turns.standing c.args.turns.now) _ _ c.args.names.now c.in-Initialise.is c.requires).servable
+pub initialize-requires : goal.initialize-requires
+initialize-requires g c = may-on (g.T.Turns.standing c.args.turns.now) _ c.args.names.now c.in-Initialise.file.stream c.requires (can-as (g.T.Turns.standing c.args.turns.now) _ _ c.args.names.now c.in-Initialise.is c.requires).servable
 
 pub returns-in-Initialise : goal.returns-in-Initialise
 returns-in-Initialise g c =
     set-line _ _ c.args.names.now _ _ c.requires.good (call.Initialise c.in-Initialise.file c.in-Initialise.sizes c.in-Initialise.quota c.in-Initialise.temporary) c.initialize.result (ap plain_call c.in-Initialise.is) (omega arith) c.answered.ensures c.initialize.ensures
 
-pub uninitialize-requires-clause-can : goal.uninitialize-requires-clause-can
-uninitialize-requires-clause-can g c κs within = may-on (g.T.Turns.standing c.args.turns.now) _ c.args.names.now c.in-Uninitialise.file.stream c.requires (can-as (g.T.Turns.standing c.args.turns.now) _ _ c.args.names.now c.in-Uninitialise.is c.requires).servable
+pub uninitialize-requires : goal.uninitialize-requires
+uninitialize-requires g c = record { can = may-on (g.T.Turns.standing c.args.turns.now) _ c.args.names.now c.in-Uninitialise.file.stream c.requires (can-as (g.T.Turns.standing c.args.turns.now) _ _ c.args.names.now c.in-Uninitialise.is c.requires).servable }
 
 pub returns-in-Uninitialise : goal.returns-in-Uninitialise
 returns-in-Uninitialise g c =
     flag-line _ _ c.args.names.now _ _ c.requires.good (call.Uninitialise c.in-Uninitialise.file c.in-Uninitialise.truncate) c.uninitialize.result (ap plain_call c.in-Uninitialise.is) (omega arith) c.flag.ensures c.uninitialize.ensures.ends.ends
 
-pub purge-requires-clause-can : goal.purge-requires-clause-can
-purge-requires-clause-can g c κs within = may-on (g.T.Turns.standing c.args.turns.now) _ c.args.names.now c.in-Purge.file.stream c.requires (can-as (g.T.Turns.standing c.args.turns.now) _ _ c.args.names.now c.in-Purge.is c.requires).servable
+pub purge-requires : goal.purge-requires
+purge-requires g c = record { can = may-on (g.T.Turns.standing c.args.turns.now) _ c.args.names.now c.in-Purge.file.stream c.requires (can-as (g.T.Turns.standing c.args.turns.now) _ _ c.args.names.now c.in-Purge.is c.requires).servable }
 
 pub returns-in-Purge : goal.returns-in-Purge
 returns-in-Purge g c =
     purge-line _ _ c.args.names.now _ _ c.requires.good c.in-Purge.file c.in-Purge.span c.purge.result (ap plain_call c.in-Purge.is) c.answered-in-Purge.ensures c.purge.ensures.ends
 
-pub read_noncached-requires-after_bounds : goal.read_noncached-requires-after_bounds
-read_noncached-requires-after_bounds g c κs within = may-on (g.T.Turns.standing c.args.turns.now) _ c.args.names.now c.in-NcRead.file.stream c.requires (can-as (g.T.Turns.standing c.args.turns.now) _ _ c.args.names.now c.in-NcRead.is c.requires).servable
+pub read_noncached-requires : goal.read_noncached-requires
+read_noncached-requires g c = may-on (g.T.Turns.standing c.args.turns.now) _ c.args.names.now c.in-NcRead.file.stream c.requires (can-as (g.T.Turns.standing c.args.turns.now) _ _ c.args.names.now c.in-NcRead.is c.requires).servable
 
 pub returns-in-NcRead : goal.returns-in-NcRead
 returns-in-NcRead g c =
     asked-as _ _ _ _ _ _ _ c.in-NcRead.is
     (nc_read-line _ _ _ c.args.names.now c.read_noncached.ensures.full c.read_noncached.ensures.goes_on (c.read_noncached.ensures.good c.requires.good) c.in-NcRead.file c.in-NcRead.at c.in-NcRead.len c.read_noncached.ensures.answered)
 
-pub write_noncached-requires-after_bounds : goal.write_noncached-requires-after_bounds
-write_noncached-requires-after_bounds g c κs within = may-on (g.T.Turns.standing c.args.turns.now) _ c.args.names.now c.in-NcWrite.file.stream c.requires (can-as (g.T.Turns.standing c.args.turns.now) _ _ c.args.names.now c.in-NcWrite.is c.requires).servable
+pub write_noncached-requires : goal.write_noncached-requires
+write_noncached-requires g c = may-on (g.T.Turns.standing c.args.turns.now) _ c.args.names.now c.in-NcWrite.file.stream c.requires (can-as (g.T.Turns.standing c.args.turns.now) _ _ c.args.names.now c.in-NcWrite.is c.requires).servable
 
 pub returns-in-NcWrite : goal.returns-in-NcWrite
 returns-in-NcWrite g c =
     asked-as _ _ _ _ _ _ _ c.in-NcWrite.is
     (nc_write-line _ _ _ c.args.names.now c.write_noncached.ensures.full c.write_noncached.ensures.goes_on (c.write_noncached.ensures.good c.requires.good) c.in-NcWrite.file c.in-NcWrite.at c.in-NcWrite.bytes c.write_noncached.ensures.answered)
 
-pub read-requires-after_bounds : goal.read-requires-after_bounds
-read-requires-after_bounds g c κs within = may-on (g.T.Turns.standing c.args.turns.now) _ c.args.names.now c.in-CopyRead.file.stream c.requires (can-as (g.T.Turns.standing c.args.turns.now) _ _ c.args.names.now c.in-CopyRead.is c.requires).servable
+pub read-requires : goal.read-requires
+read-requires g c = may-on (g.T.Turns.standing c.args.turns.now) _ c.args.names.now c.in-CopyRead.file.stream c.requires (can-as (g.T.Turns.standing c.args.turns.now) _ _ c.args.names.now c.in-CopyRead.is c.requires).servable
 
 pub returns-in-CopyRead : goal.returns-in-CopyRead
 returns-in-CopyRead g c =
     plain-line _ _ _ _ c.read.ensures.full c.read.ensures.goes_on (c.read.ensures.good c.requires.good) _ (call.CopyRead c.in-CopyRead.file c.in-CopyRead.at c.in-CopyRead.len c.in-CopyRead.wait) (ap plain_call c.in-CopyRead.is) c.read.ensures.answered
 
-pub write-requires-after_bounds : goal.write-requires-after_bounds
-write-requires-after_bounds g c κs within = may-on (g.T.Turns.standing c.args.turns.now) _ c.args.names.now c.in-CopyWrite.file.stream c.requires (can-as (g.T.Turns.standing c.args.turns.now) _ _ c.args.names.now c.in-CopyWrite.is c.requires).servable
+pub write-requires : goal.write-requires
+write-requires g c = may-on (g.T.Turns.standing c.args.turns.now) _ c.args.names.now c.in-CopyWrite.file.stream c.requires (can-as (g.T.Turns.standing c.args.turns.now) _ _ c.args.names.now c.in-CopyWrite.is c.requires).servable
 
 pub returns-in-CopyWrite : goal.returns-in-CopyWrite
 returns-in-CopyWrite g c =
     plain-line _ _ _ _ c.write.ensures.full c.write.ensures.goes_on (c.write.ensures.good c.requires.good) _ (call.CopyWrite c.in-CopyWrite.file c.in-CopyWrite.at c.in-CopyWrite.bytes) (ap plain_call c.in-CopyWrite.is) c.write.ensures.answered
 
-pub zero_data-requires-clause-can : goal.zero_data-requires-clause-can
-zero_data-requires-clause-can g c κs within = may-on (g.T.Turns.standing c.args.turns.now) _ c.args.names.now c.in-Zero.file.stream c.requires (can-as (g.T.Turns.standing c.args.turns.now) _ _ c.args.names.now c.in-Zero.is c.requires).servable
+pub zero_data-requires : goal.zero_data-requires
+zero_data-requires g c = record { can = may-on (g.T.Turns.standing c.args.turns.now) _ c.args.names.now c.in-Zero.file.stream c.requires (can-as (g.T.Turns.standing c.args.turns.now) _ _ c.args.names.now c.in-Zero.is c.requires).servable }
 
 pub returns-in-Zero : goal.returns-in-Zero
 returns-in-Zero g c =
     change-line _ _ c.args.names.now _ _ c.requires.good (call.Zero c.in-Zero.file c.in-Zero.span) c.zero_data.result (ap plain_call c.in-Zero.is) (omega arith) c.answered-in-Zero.ensures c.zero_data.ensures.ends
 
-pub map-requires-after_bounds : goal.map-requires-after_bounds
-map-requires-after_bounds g c κs within = can-as _ _ _ _ (next-map (g.T.Turns.standing c.args.turns.now) _ c.args.names.now c.requires _ _ _ _ c.in-Map.is) c.requires
+pub map-requires : goal.map-requires
+map-requires g c = can-as _ _ _ _ (next-map (g.T.Turns.standing c.args.turns.now) _ c.args.names.now c.requires _ _ _ _ c.in-Map.is) c.requires
 
 pub returns-in-Map : goal.returns-in-Map
 returns-in-Map g c = asked-as _ _ _ _ _ _ _ (next-map (g.T.Turns.standing c.args.turns.now) _ c.args.names.now c.requires _ _ _ _ c.in-Map.is) c.map.ensures
 
-pub pin-requires-after_bounds : goal.pin-requires-after_bounds
-pin-requires-after_bounds g c κs within = can-as _ _ _ _ (next-pin (g.T.Turns.standing c.args.turns.now) _ c.args.names.now c.requires _ _ _ _ _ c.in-PinRead.is) c.requires
+pub pin-requires : goal.pin-requires
+pin-requires g c = can-as _ _ _ _ (next-pin (g.T.Turns.standing c.args.turns.now) _ c.args.names.now c.requires _ _ _ _ _ c.in-PinRead.is) c.requires
 
 pub returns-in-PinRead : goal.returns-in-PinRead
 returns-in-PinRead g c = asked-as _ _ _ _ _ _ _ (next-pin (g.T.Turns.standing c.args.turns.now) _ c.args.names.now c.requires _ _ _ _ _ c.in-PinRead.is) c.pin.ensures
 
-pub prepare-requires-after_bounds : goal.prepare-requires-after_bounds
-prepare-requires-after_bounds g c κs within = can-as _ _ _ _ (next-prepare (g.T.Turns.standing c.args.turns.now) _ c.args.names.now c.requires _ _ _ _ _ _ c.in-PreparePin.is) c.requires
+pub prepare-requires : goal.prepare-requires
+prepare-requires g c = can-as _ _ _ _ (next-prepare (g.T.Turns.standing c.args.turns.now) _ c.args.names.now c.requires _ _ _ _ _ _ c.in-PreparePin.is) c.requires
 
 pub returns-in-PreparePin : goal.returns-in-PreparePin
 returns-in-PreparePin g c = asked-as _ _ _ _ _ _ _ (next-prepare (g.T.Turns.standing c.args.turns.now) _ c.args.names.now c.requires _ _ _ _ _ _ c.in-PreparePin.is) c.prepare.ensures
 
-pub hold_again-requires-after_bounds : goal.hold_again-requires-after_bounds
-hold_again-requires-after_bounds g c κs within = can-as _ _ _ _ (next-repin (g.T.Turns.standing c.args.turns.now) _ c.args.names.now c.requires _ _ c.in-Repin.is) c.requires
+pub hold_again-requires : goal.hold_again-requires
+hold_again-requires g c = can-as _ _ _ _ (next-repin (g.T.Turns.standing c.args.turns.now) _ c.args.names.now c.requires _ _ c.in-Repin.is) c.requires
 
 pub returns-in-Repin : goal.returns-in-Repin
 returns-in-Repin g c = asked-as _ _ _ _ _ _ _ (next-repin (g.T.Turns.standing c.args.turns.now) _ c.args.names.now c.requires _ _ c.in-Repin.is) c.hold_again.ensures
 
-pub chain-requires-after_bounds : goal.chain-requires-after_bounds
-chain-requires-after_bounds g c κs within = can-as _ _ _ _ (next-chain (g.T.Turns.standing c.args.turns.now) _ c.args.names.now c.requires _ _ _ _ c.in-MdlRead.is) c.requires
+pub chain-requires : goal.chain-requires
+chain-requires g c = can-as _ _ _ _ (next-chain (g.T.Turns.standing c.args.turns.now) _ c.args.names.now c.requires _ _ _ _ c.in-MdlRead.is) c.requires
 
 pub returns-in-MdlRead : goal.returns-in-MdlRead
 returns-in-MdlRead g c = asked-as _ _ _ _ _ _ _ (next-chain (g.T.Turns.standing c.args.turns.now) _ c.args.names.now c.requires _ _ _ _ c.in-MdlRead.is) c.chain.ensures
 
-pub write_chain-requires-after_bounds : goal.write_chain-requires-after_bounds
-write_chain-requires-after_bounds g c κs within = can-as _ _ _ _ (next-write_chain (g.T.Turns.standing c.args.turns.now) _ c.args.names.now c.requires _ _ _ _ c.in-MdlWrite.is) c.requires
+pub write_chain-requires : goal.write_chain-requires
+write_chain-requires g c = can-as _ _ _ _ (next-write_chain (g.T.Turns.standing c.args.turns.now) _ c.args.names.now c.requires _ _ _ _ c.in-MdlWrite.is) c.requires
 
 pub returns-in-MdlWrite : goal.returns-in-MdlWrite
 returns-in-MdlWrite g c = asked-as _ _ _ _ _ _ _ (next-write_chain (g.T.Turns.standing c.args.turns.now) _ c.args.names.now c.requires _ _ _ _ c.in-MdlWrite.is) c.write_chain.ensures
 
-pub pin_map-requires-after_bounds : goal.pin_map-requires-after_bounds
-pin_map-requires-after_bounds g c κs within = can-as _ _ _ _ c.in-PinMapped.is c.requires
+pub pin_map-requires : goal.pin_map-requires
+pin_map-requires g c = can-as _ _ _ _ c.in-PinMapped.is c.requires
 
 pub returns-in-PinMapped : goal.returns-in-PinMapped
 returns-in-PinMapped g c = asked-as _ _ _ _ _ _ _ c.in-PinMapped.is c.pin_map.ensures
 
-pub held_read-requires-after_bounds : goal.held_read-requires-after_bounds
-held_read-requires-after_bounds g c κs within = can-as _ _ _ _ c.in-HeldRead.is c.requires
+pub held_read-requires : goal.held_read-requires
+held_read-requires g c = can-as _ _ _ _ c.in-HeldRead.is c.requires
 
 pub returns-in-HeldRead : goal.returns-in-HeldRead
 returns-in-HeldRead g c = asked-as _ _ _ _ _ _ _ c.in-HeldRead.is c.held_read.ensures
 
-pub held_write-requires-after_bounds : goal.held_write-requires-after_bounds
-held_write-requires-after_bounds g c κs within = can-as _ _ _ _ c.in-PinnedWrite.is c.requires
+pub held_write-requires : goal.held_write-requires
+held_write-requires g c = can-as _ _ _ _ c.in-PinnedWrite.is c.requires
 
 pub returns-in-PinnedWrite : goal.returns-in-PinnedWrite
 returns-in-PinnedWrite g c = asked-as _ _ _ _ _ _ _ c.in-PinnedWrite.is c.held_write.ensures
 
-pub stamp-requires-after_bounds : goal.stamp-requires-after_bounds
-stamp-requires-after_bounds g c κs within = can-as _ _ _ _ c.in-SetDirty.is c.requires
+pub stamp-requires : goal.stamp-requires
+stamp-requires g c = can-as _ _ _ _ c.in-SetDirty.is c.requires
 
 pub returns-in-SetDirty : goal.returns-in-SetDirty
 returns-in-SetDirty g c = asked-as _ _ _ _ _ _ _ c.in-SetDirty.is c.stamp.ensures
 
-pub release-requires-after_bounds : goal.release-requires-after_bounds
-release-requires-after_bounds g c κs within = can-as _ _ _ _ c.in-Unpin.is c.requires
+pub release-requires : goal.release-requires
+release-requires g c = can-as _ _ _ _ c.in-Unpin.is c.requires
 
 pub returns-in-Unpin : goal.returns-in-Unpin
 returns-in-Unpin g c = asked-as _ _ _ _ _ _ _ c.in-Unpin.is c.release.ensures
 
-pub release_repinned-requires-after_bounds : goal.release_repinned-requires-after_bounds
-release_repinned-requires-after_bounds g c κs within = can-as _ _ _ _ c.in-UnpinRepinned.is c.requires
+pub release_repinned-requires : goal.release_repinned-requires
+release_repinned-requires g c = can-as _ _ _ _ c.in-UnpinRepinned.is c.requires
 
 pub returns-in-UnpinRepinned : goal.returns-in-UnpinRepinned
 returns-in-UnpinRepinned g c = asked-as _ _ _ _ _ _ _ c.in-UnpinRepinned.is c.release_repinned.ensures
 
-pub chain_read-requires-after_bounds : goal.chain_read-requires-after_bounds
-chain_read-requires-after_bounds g c κs within = can-as _ _ _ _ c.in-MdlBytes.is c.requires
+pub chain_read-requires : goal.chain_read-requires
+chain_read-requires g c = can-as _ _ _ _ c.in-MdlBytes.is c.requires
 
 pub returns-in-MdlBytes : goal.returns-in-MdlBytes
 returns-in-MdlBytes g c = asked-as _ _ _ _ _ _ _ c.in-MdlBytes.is c.chain_read.ensures
 
-pub chain_store-requires-after_bounds : goal.chain_store-requires-after_bounds
-chain_store-requires-after_bounds g c κs within = can-as _ _ _ _ c.in-MdlStore.is c.requires
+pub chain_store-requires : goal.chain_store-requires
+chain_store-requires g c = can-as _ _ _ _ c.in-MdlStore.is c.requires
 
 pub returns-in-MdlStore : goal.returns-in-MdlStore
 returns-in-MdlStore g c = asked-as _ _ _ _ _ _ _ c.in-MdlStore.is c.chain_store.ensures
 
-pub chain_done-requires-after_bounds : goal.chain_done-requires-after_bounds
-chain_done-requires-after_bounds g c κs within = can-as _ _ _ _ c.in-MdlDone.is c.requires
+pub chain_done-requires : goal.chain_done-requires
+chain_done-requires g c = can-as _ _ _ _ c.in-MdlDone.is c.requires
 
 pub returns-in-MdlDone : goal.returns-in-MdlDone
 returns-in-MdlDone g c = asked-as _ _ _ _ _ _ _ c.in-MdlDone.is c.chain_done.ensures
 
-pub chain_abort-requires-after_bounds : goal.chain_abort-requires-after_bounds
-chain_abort-requires-after_bounds g c κs within = can-as _ _ _ _ c.in-MdlAbort.is c.requires
+pub chain_abort-requires : goal.chain_abort-requires
+chain_abort-requires g c = can-as _ _ _ _ c.in-MdlAbort.is c.requires
 
 pub returns-in-MdlAbort : goal.returns-in-MdlAbort
 returns-in-MdlAbort g c = asked-as _ _ _ _ _ _ _ c.in-MdlAbort.is c.chain_abort.ensures
 
-pub set_file_sizes-requires-after_bounds : goal.set_file_sizes-requires-after_bounds
-set_file_sizes-requires-after_bounds g c κs within = may-on (g.T.Turns.standing c.args.turns.now) _ c.args.names.now c.in-SetSizes.file.stream c.requires (can-as (g.T.Turns.standing c.args.turns.now) _ _ c.args.names.now c.in-SetSizes.is c.requires).servable
+pub set_file_sizes-requires : goal.set_file_sizes-requires
+set_file_sizes-requires g c = may-on (g.T.Turns.standing c.args.turns.now) _ c.args.names.now c.in-SetSizes.file.stream c.requires (can-as (g.T.Turns.standing c.args.turns.now) _ _ c.args.names.now c.in-SetSizes.is c.requires).servable
 
 pub returns-in-SetSizes : goal.returns-in-SetSizes
 returns-in-SetSizes g c =
     set-line _ _ c.args.names.now _ _ c.requires.good (call.SetSizes c.in-SetSizes.file c.in-SetSizes.allocation c.in-SetSizes.size) c.set_file_sizes.result (ap plain_call c.in-SetSizes.is) (omega arith) c.answered-in-SetSizes.ensures c.set_file_sizes.ensures
 
-pub file_state-requires-clause-can : goal.file_state-requires-clause-can
-file_state-requires-clause-can g c κs within = may-on (g.T.Turns.standing c.args.turns.now) _ c.args.names.now c.in-State.file.stream c.requires (can-as (g.T.Turns.standing c.args.turns.now) _ _ c.args.names.now c.in-State.is c.requires).servable
+pub file_state-requires : goal.file_state-requires
+file_state-requires g c = record { can = may-on (g.T.Turns.standing c.args.turns.now) _ c.args.names.now c.in-State.file.stream c.requires (can-as (g.T.Turns.standing c.args.turns.now) _ _ c.args.names.now c.in-State.is c.requires).servable }
 
 pub returns-in-State : goal.returns-in-State
 returns-in-State g c =
     state-line _ _ c.args.names.now _ _ c.requires.good (call.State c.in-State.file) c.file_state.result (ap plain_call c.in-State.is) (omega arith) c.state.ensures c.file_state.ensures.ends
 
-pub flush-requires-clause-can : goal.flush-requires-clause-can
-flush-requires-clause-can g c κs within = may-on (g.T.Turns.standing c.args.turns.now) _ c.args.names.now c.in-Flush.file.stream c.requires (can-as (g.T.Turns.standing c.args.turns.now) _ _ c.args.names.now c.in-Flush.is c.requires).servable
+pub flush-requires : goal.flush-requires
+flush-requires g c = record { can = may-on (g.T.Turns.standing c.args.turns.now) _ c.args.names.now c.in-Flush.file.stream c.requires (can-as (g.T.Turns.standing c.args.turns.now) _ _ c.args.names.now c.in-Flush.is c.requires).servable }
 
 pub returns-in-Flush : goal.returns-in-Flush
 returns-in-Flush g c =
     flush-line _ _ c.args.names.now _ _ c.requires.good c.in-Flush.file c.in-Flush.span c.flush.result (ap plain_call c.in-Flush.is) c.answered-in-Flush.ensures c.flush.ensures.ends
 
-pub is_dirty_data-requires-clause-can : goal.is_dirty_data-requires-clause-can
-is_dirty_data-requires-clause-can g c κs within = may-free _ _ c.args.names.now c.requires
+pub is_dirty_data-requires : goal.is_dirty_data-requires
+is_dirty_data-requires g c = record { can = may-free _ _ c.args.names.now c.requires }
 
 pub returns-in-IsDirtyData : goal.returns-in-IsDirtyData
 returns-in-IsDirtyData g c =
     flag-line _ _ c.args.names.now _ _ c.requires.good call.IsDirtyData c.is_dirty_data.result (ap plain_call c.in-IsDirtyData.is) (omega arith) c.flag-in-IsDirtyData.ensures c.is_dirty_data.ensures.ends
 
-pub dirty_pages-requires-clause-can : goal.dirty_pages-requires-clause-can
-dirty_pages-requires-clause-can g c κs within = may-free _ _ c.args.names.now c.requires
+pub dirty_pages-requires : goal.dirty_pages-requires
+dirty_pages-requires g c = record { can = may-free _ _ c.args.names.now c.requires }
 
 pub returns-in-DirtyPages : goal.returns-in-DirtyPages
 returns-in-DirtyPages g c =
     rows-line _ _ c.args.names.now _ _ c.requires.good (call.DirtyPages c.in-DirtyPages.handle) c.dirty_pages.result (ap plain_call c.in-DirtyPages.is) (omega arith) c.rows.ensures c.dirty_pages.ensures.ends
 
-pub lsn_for_file-requires-clause-can : goal.lsn_for_file-requires-clause-can
-lsn_for_file-requires-clause-can g c κs within = may-on (g.T.Turns.standing c.args.turns.now) _ c.args.names.now c.in-LsnForFile.file.stream c.requires (can-as (g.T.Turns.standing c.args.turns.now) _ _ c.args.names.now c.in-LsnForFile.is c.requires).servable
+pub lsn_for_file-requires : goal.lsn_for_file-requires
+lsn_for_file-requires g c = record { can = may-on (g.T.Turns.standing c.args.turns.now) _ c.args.names.now c.in-LsnForFile.file.stream c.requires (can-as (g.T.Turns.standing c.args.turns.now) _ _ c.args.names.now c.in-LsnForFile.is c.requires).servable }
 
 pub returns-in-LsnForFile : goal.returns-in-LsnForFile
 returns-in-LsnForFile g c =
     lsns-line _ _ c.args.names.now _ _ c.requires.good (call.LsnForFile c.in-LsnForFile.file) c.lsn_for_file.result (ap plain_call c.in-LsnForFile.is) (omega arith) c.lsns.ensures c.lsn_for_file.ensures.ends
 
-pub set_log_handle-requires-after_bounds : goal.set_log_handle-requires-after_bounds
-set_log_handle-requires-after_bounds g c κs within = may-on (g.T.Turns.standing c.args.turns.now) _ c.args.names.now c.in-SetLog.file.stream c.requires (can-as (g.T.Turns.standing c.args.turns.now) _ _ c.args.names.now c.in-SetLog.is c.requires).servable
+pub set_log_handle-requires : goal.set_log_handle-requires
+set_log_handle-requires g c = may-on (g.T.Turns.standing c.args.turns.now) _ c.args.names.now c.in-SetLog.file.stream c.requires (can-as (g.T.Turns.standing c.args.turns.now) _ _ c.args.names.now c.in-SetLog.is c.requires).servable
 
 pub returns-in-SetLog : goal.returns-in-SetLog
 returns-in-SetLog g c =
     set-line _ _ c.args.names.now _ _ c.requires.good (call.SetLog c.in-SetLog.file c.in-SetLog.handle) c.set_log_handle.result (ap plain_call c.in-SetLog.is) (omega arith) c.answered-in-SetLog.ensures c.set_log_handle.ensures
 
-pub append-requires-after_bounds : goal.append-requires-after_bounds
-append-requires-after_bounds g c κs within = may-free _ _ c.args.names.now c.requires
+pub append-requires : goal.append-requires
+append-requires g c = may-free _ _ c.args.names.now c.requires
 
 pub returns-in-Append : goal.returns-in-Append
 returns-in-Append g c =
     asked-as _ _ _ _ _ _ _ c.in-Append.is
     (append-line _ _ _ c.args.names.now c.append.ensures.full c.append.ensures.goes_on (c.append.ensures.good c.requires.good) c.in-Append.handle c.in-Append.bytes c.append.ensures.answered)
 
-pub log_flush-requires-clause-can : goal.log_flush-requires-clause-can
-log_flush-requires-clause-can g c κs within = may-free _ _ c.args.names.now c.requires
+pub log_flush-requires : goal.log_flush-requires
+log_flush-requires g c = record { can = may-free _ _ c.args.names.now c.requires }
 
 pub returns-in-LogFlush : goal.returns-in-LogFlush
 returns-in-LogFlush g c =
     asked-as _ _ _ _ _ _ _ c.in-LogFlush.is
     (flushed-line _ _ c.args.names.now c.args.action.now _ c.requires.good c.in-LogFlush.handle c.in-LogFlush.lsn c.log_flush.result c.answered-in-LogFlush.ensures c.log_flush.ensures.ends)
 
-pub set_granularity-requires-after_bounds : goal.set_granularity-requires-after_bounds
-set_granularity-requires-after_bounds g c κs within = may-on (g.T.Turns.standing c.args.turns.now) _ c.args.names.now c.in-SetGranularity.file.stream c.requires (can-as (g.T.Turns.standing c.args.turns.now) _ _ c.args.names.now c.in-SetGranularity.is c.requires).servable
+pub set_granularity-requires : goal.set_granularity-requires
+set_granularity-requires g c = may-on (g.T.Turns.standing c.args.turns.now) _ c.args.names.now c.in-SetGranularity.file.stream c.requires (can-as (g.T.Turns.standing c.args.turns.now) _ _ c.args.names.now c.in-SetGranularity.is c.requires).servable
 
 pub returns-in-SetGranularity : goal.returns-in-SetGranularity
 returns-in-SetGranularity g c =
     set-line _ _ c.args.names.now _ _ c.requires.good (call.SetGranularity c.in-SetGranularity.file c.in-SetGranularity.bytes) c.set_granularity.result (ap plain_call c.in-SetGranularity.is) (omega arith) c.answered-in-SetGranularity.ensures c.set_granularity.ensures
 
-pub set_attributes-requires-after_bounds : goal.set_attributes-requires-after_bounds
-set_attributes-requires-after_bounds g c κs within = may-on (g.T.Turns.standing c.args.turns.now) _ c.args.names.now c.in-SetAttributes.file.stream c.requires (can-as (g.T.Turns.standing c.args.turns.now) _ _ c.args.names.now c.in-SetAttributes.is c.requires).servable
+pub set_attributes-requires : goal.set_attributes-requires
+set_attributes-requires g c = may-on (g.T.Turns.standing c.args.turns.now) _ c.args.names.now c.in-SetAttributes.file.stream c.requires (can-as (g.T.Turns.standing c.args.turns.now) _ _ c.args.names.now c.in-SetAttributes.is c.requires).servable
 
 pub returns-in-SetAttributes : goal.returns-in-SetAttributes
 returns-in-SetAttributes g c =
     set-line _ _ c.args.names.now _ _ c.requires.good (call.SetAttributes c.in-SetAttributes.file c.in-SetAttributes.no_read_ahead c.in-SetAttributes.no_write_behind) c.set_attributes.result (ap plain_call c.in-SetAttributes.is) (omega arith) c.answered-in-SetAttributes.ensures c.set_attributes.ensures
 
-pub set_threshold-requires-after_bounds : goal.set_threshold-requires-after_bounds
-set_threshold-requires-after_bounds g c κs within = may-on (g.T.Turns.standing c.args.turns.now) _ c.args.names.now c.in-SetThreshold.file.stream c.requires (can-as (g.T.Turns.standing c.args.turns.now) _ _ c.args.names.now c.in-SetThreshold.is c.requires).servable
+pub set_threshold-requires : goal.set_threshold-requires
+set_threshold-requires g c = may-on (g.T.Turns.standing c.args.turns.now) _ c.args.names.now c.in-SetThreshold.file.stream c.requires (can-as (g.T.Turns.standing c.args.turns.now) _ _ c.args.names.now c.in-SetThreshold.is c.requires).servable
 
 pub returns-in-SetThreshold : goal.returns-in-SetThreshold
 returns-in-SetThreshold g c =

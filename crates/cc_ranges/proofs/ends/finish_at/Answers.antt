@@ -7,7 +7,7 @@ use Rattle.cc_writes.proofs.OneVisit.{went-then}
 use Rattle.cc_ranges.proofs.ends.finish_at.Goals as goal
 
 pub done_at-requires-clause-none : goal.done_at-requires-clause-none
-done_at-requires-clause-none g c κs within = ap (λ (y : Standing). y.in_flight) c.tidy_at.ensures.went.same
+done_at-requires-clause-none g c = ap (λ (y : Standing). y.in_flight) c.tidy_at.ensures.went.same
 
 pub returns-clause-went : goal.returns-clause-went
 returns-clause-went g c =

@@ -11,7 +11,7 @@ use Rattle.cc_ranges.proofs.FlushHolding.{begun-ended, begun-on, comes-first, so
 use Rattle.cc_ranges.proofs.flush.flush_held.Goals as goal
 
 pub write_next-now-requires-clause-flushing : goal.write_next-now-requires-clause-flushing
-write_next-now-requires-clause-flushing g c κs within =
+write_next-now-requires-clause-flushing g c =
     let w = g.T.Turns.standing c.args.turns.now in
     let v = g.T.Turns.standing c.pages.turns in
     some-flushing g.T.Disk.Told.told g.T.Disk.Told.faults w v v c.args.file c.args.span c.pages.from c.pages.book c.pages.book c.pages.disk c.pages.disk c.pages.invariant
@@ -38,7 +38,7 @@ pages-preserved g c =
     c.in-CameTo.page c.write_next-now.ensures.both went rising.1 more left
 
 pub sync_held-requires-clause-at : goal.sync_held-requires-clause-at
-sync_held-requires-clause-at g c κs within =
+sync_held-requires-clause-at g c =
     let w = g.T.Turns.standing c.args.turns.now in
     let v = g.T.Turns.standing c.pages.turns in
     let x = g.T.Turns.standing c.write_next-now.new.turns in
@@ -62,7 +62,7 @@ returns-in-Syncs-clause-left g c begun way =
     (at-sync-on g.T.Disk.Told.told g.T.Disk.Told.faults w v x c.args.file c.args.span c.pages.from c.pages.book c.write_next-now.result.0 c.pages.disk c.write_next-now.new.disk c.pages.invariant 1 went left begun way))
 
 pub write_next-now-requires-clause-within : goal.write_next-now-requires-clause-within
-write_next-now-requires-clause-within g c κs within = c.pages.invariant.within
+write_next-now-requires-clause-within g c = c.pages.invariant.within
 
 pub returns-in-Ended-clause-ascending : goal.returns-in-Ended-clause-ascending
 returns-in-Ended-clause-ascending g c =

@@ -7,7 +7,7 @@ use Rattle.cc_ranges.proofs.FlushHolding.{at-end-of, begun-end, ended-of}
 use Rattle.cc_ranges.proofs.flush.sync_held.Goals as goal
 
 pub end-answer-requires-clause-at : goal.end-answer-requires-clause-at
-end-answer-requires-clause-at g c κs within =
+end-answer-requires-clause-at g c =
     let w = g.T.Turns.standing c.args.turns.now in
     let v = g.T.Turns.standing c.sync_free-book.new.turns in
     let told = subst (λ (s : ℕ). IsSyncTold w s c.sync_free-book.result.1 v.seen) c.requires.stream c.sync_free-book.ensures.told in

@@ -17,7 +17,7 @@ use Rattle.cc_ranges.proofs.FlushHolding.{asks-page, begun-round, round-wrote}
 use Rattle.cc_ranges.proofs.flush.write_next.Goals as goal
 
 pub write_for-book-requires-clause-both : goal.write_for-book-requires-clause-both
-write_for-book-requires-clause-both g c κs within =
+write_for-book-requires-clause-both g c =
     let w = g.T.Turns.standing c.args.turns.now in
     let v = g.T.Turns.standing c.next_at.new.turns in
     subst (λ (n : ℕ). HasBoth g.T.Disk.Told.told g.T.Disk.Told.faults v n c.next_at.new.book c.args.disk.now) (c.requires.stream ∙ sym c.next_at.ensures.book.stream)
@@ -25,7 +25,7 @@ write_for-book-requires-clause-both g c κs within =
     (sym c.requires.stream) c.requires.both c.next_at.ensures.book c.next_at.ensures.rest c.in-Writes.ensures.went c.next_at.ensures.disk)
 
 pub write_for-book-requires-clause-admitted : goal.write_for-book-requires-clause-admitted
-write_for-book-requires-clause-admitted g c κs within =
+write_for-book-requires-clause-admitted g c =
     let v = g.T.Turns.standing c.next_at.new.turns in
     let it = call.Flush c.args.file c.args.span.now in
     let at = c.in-Writes.ensures.left c.requires.flushing.0 c.requires.flushing.1 in
@@ -33,7 +33,7 @@ write_for-book-requires-clause-admitted g c κs within =
     (subst (λ (u : Setup). refusal u v.seen (history v.seen c.args.file.stream) it ≡ None) (sym (ap (λ (x : Standing). x.setup) c.in-Writes.ensures.went.same)) at.admitted)
 
 pub write_for-book-requires-clause-asked : goal.write_for-book-requires-clause-asked
-write_for-book-requires-clause-asked g c κs within =
+write_for-book-requires-clause-asked g c =
     let v = g.T.Turns.standing c.next_at.new.turns in
     let at = c.in-Writes.ensures.left c.requires.flushing.0 c.requires.flushing.1 in
     let it = call.Flush c.args.file c.args.span.now in
@@ -43,7 +43,7 @@ write_for-book-requires-clause-asked g c κs within =
     c.next_at.ensures.book.stream at.in_span
 
 pub write_for-book-requires-clause-to_write : goal.write_for-book-requires-clause-to_write
-write_for-book-requires-clause-to_write g c κs within =
+write_for-book-requires-clause-to_write g c =
     let v = g.T.Turns.standing c.next_at.new.turns in
     let at = c.in-Writes.ensures.left c.requires.flushing.0 c.requires.flushing.1 in
     subst (λ (n : ℕ). IsToWrite (record { stream = n; page = c.in-Writes.page }) v.seen) (sym c.next_at.ensures.book.stream) at.to_write

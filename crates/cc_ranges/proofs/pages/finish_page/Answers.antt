@@ -15,14 +15,14 @@ use Rattle.cc_ranges.proofs.PageWriting.{finishes-after, fails-after, both-done,
 use Rattle.cc_ranges.proofs.pages.finish_page.Goals as goal
 
 pub finish_at-requires-clause-finishes : goal.finish_at-requires-clause-finishes
-finish_at-requires-clause-finishes g c κs within =
+finish_at-requires-clause-finishes g c =
     let w = g.T.Turns.standing c.args.turns.now in
     let x = g.T.Turns.standing c.finish_transfer-book.new.turns in
     finishes-after w.in_flight w x c.args.page c.finish_transfer-book.ensures.went c.requires.stored
     (subst (λ (how : End). IsFinished w c.args.page how false x.seen) c.in-Good.is c.finish_transfer-book.ensures.left)
 
 pub fail_at-requires-clause-fails : goal.fail_at-requires-clause-fails
-fail_at-requires-clause-fails g c κs within =
+fail_at-requires-clause-fails g c =
     let w = g.T.Turns.standing c.args.turns.now in
     let x = g.T.Turns.standing c.finish_transfer-book.new.turns in
     fails-after w.in_flight w x c.args.page c.finish_transfer-book.ensures.went c.requires.stored
@@ -80,16 +80,16 @@ returns-in-NoMemory-clause-left g c =
     }
 
 pub finish_transfer-book-requires-clause-few : goal.finish_transfer-book-requires-clause-few
-finish_transfer-book-requires-clause-few g c κs within = rw c.requires.kept (kept-most c.args.kept)
+finish_transfer-book-requires-clause-few g c = rw c.requires.kept (kept-most c.args.kept)
 
 pub finish_at-requires-clause-kept : goal.finish_at-requires-clause-kept
-finish_at-requires-clause-kept g c κs within = ap (λ y. y.in_flight) c.finish_transfer-book.ensures.went.same ∙ c.requires.kept
+finish_at-requires-clause-kept g c = ap (λ y. y.in_flight) c.finish_transfer-book.ensures.went.same ∙ c.requires.kept
 
 pub fail_at-requires-clause-kept : goal.fail_at-requires-clause-kept
-fail_at-requires-clause-kept g c κs within = ap (λ y. y.in_flight) c.finish_transfer-book.ensures.went.same ∙ c.requires.kept
+fail_at-requires-clause-kept g c = ap (λ y. y.in_flight) c.finish_transfer-book.ensures.went.same ∙ c.requires.kept
 
 pub forgo_at-requires-clause-kept : goal.forgo_at-requires-clause-kept
-forgo_at-requires-clause-kept g c κs within = ap (λ y. y.in_flight) c.finish_transfer-book.ensures.went.same ∙ c.requires.kept
+forgo_at-requires-clause-kept g c = ap (λ y. y.in_flight) c.finish_transfer-book.ensures.went.same ∙ c.requires.kept
 
 pub returns-in-Good-clause-went : goal.returns-in-Good-clause-went
 returns-in-Good-clause-went g c =

@@ -23,7 +23,7 @@ use Rattle.cc_ranges.proofs.PageWriting.{as-cut, begun-there, size-there, stored
 use Rattle.cc_ranges.proofs.pages.put_page.Goals as goal
 
 pub finish_page-requires-clause-stored : goal.finish_page-requires-clause-stored
-finish_page-requires-clause-stored g c κs within =
+finish_page-requires-clause-stored g c =
     let w = g.T.Turns.standing c.args.turns.now in
     let x = g.T.Turns.standing c.store_at.new.turns in
     let page = c.args.page in
@@ -32,7 +32,7 @@ finish_page-requires-clause-stored g c κs within =
     both c.store_at.ensures.went c.store_at.ensures.book c.requires.ready c.requires.logged (ap length c.in-Ok.ensures ∙ c.told-bytes) c.in-Ok-store_at.ensures.left
 
 pub finish_page-requires-clause-begun : goal.finish_page-requires-clause-begun
-finish_page-requires-clause-begun g c κs within =
+finish_page-requires-clause-begun g c =
     let w = g.T.Turns.standing c.args.turns.now in
     let x = g.T.Turns.standing c.store_at.new.turns in
     let page = c.args.page in
@@ -90,7 +90,7 @@ returns-in-Err-store_at-clause-both g c =
     c.requires.both c.store_at.ensures.went c.store_at.ensures.book c.in-Err-store_at.ensures.left.0
 
 pub finish_page-requires-clause-kept : goal.finish_page-requires-clause-kept
-finish_page-requires-clause-kept g c κs within =
+finish_page-requires-clause-kept g c =
     ap (λ y. y.in_flight) c.store_at.ensures.went.same ∙ ap kept_in c.in-Ok-store_at.is
 
 pub returns-in-Ok-store_at-clause-went : goal.returns-in-Ok-store_at-clause-went

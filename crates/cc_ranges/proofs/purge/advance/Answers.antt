@@ -20,7 +20,7 @@ use Rattle.cc_ranges.proofs.PurgeRounds.{placed-ended, placed-went, placed-wrote
 use Rattle.cc_ranges.proofs.purge.advance.Goals as goal
 
 pub write_for-book-requires-clause-both : goal.write_for-book-requires-clause-both
-write_for-book-requires-clause-both g c κs within =
+write_for-book-requires-clause-both g c =
     let w = g.T.Turns.standing c.args.turns.now in
     let v = g.T.Turns.standing c.next_at.new.turns in
     subst (λ (n : ℕ). HasBoth g.T.Disk.Told.told g.T.Disk.Told.faults v n c.next_at.new.book c.args.disk.now) (c.requires.stream ∙ sym c.next_at.ensures.book.stream)
@@ -28,14 +28,14 @@ write_for-book-requires-clause-both g c κs within =
     (sym c.requires.stream) c.requires.both c.next_at.ensures.book c.next_at.ensures.rest c.next_at.ensures.went c.next_at.ensures.disk)
 
 pub write_for-book-requires-clause-admitted : goal.write_for-book-requires-clause-admitted
-write_for-book-requires-clause-admitted g c κs within =
+write_for-book-requires-clause-admitted g c =
     let v = g.T.Turns.standing c.next_at.new.turns in
     let it = call.Purge c.args.file c.args.span.now in
     subst (λ (n : ℕ). refusal v.setup v.seen (history v.seen n) it ≡ None) (sym c.next_at.ensures.book.stream)
     (subst (λ (u : Setup). refusal u v.seen (history v.seen c.args.file.stream) it ≡ None) (sym (ap (λ (x : Standing). x.setup) c.next_at.ensures.went.same)) c.in-Writes.ensures.asking.admitted)
 
 pub write_for-book-requires-clause-asked : goal.write_for-book-requires-clause-asked
-write_for-book-requires-clause-asked g c κs within =
+write_for-book-requires-clause-asked g c =
     let v = g.T.Turns.standing c.next_at.new.turns in
     let it = call.Purge c.args.file c.args.span.now in
     asks-page c.args.file c.args.span.now c.next_at.new.book.stream c.in-Writes.page v.seen
@@ -44,7 +44,7 @@ write_for-book-requires-clause-asked g c κs within =
     c.next_at.ensures.book.stream c.in-Writes.ensures.asking.in_span
 
 pub write_for-book-requires-clause-to_write : goal.write_for-book-requires-clause-to_write
-write_for-book-requires-clause-to_write g c κs within =
+write_for-book-requires-clause-to_write g c =
     let v = g.T.Turns.standing c.next_at.new.turns in
     subst (λ (n : ℕ). IsToWrite (record { stream = n; page = c.in-Writes.page }) v.seen) (sym c.next_at.ensures.book.stream) c.in-Writes.ensures.asking.to_write
 

@@ -15,7 +15,7 @@ use Rattle.cc_ranges.proofs.ReadHolding.{said-before, said-after, no-room}
 use Rattle.cc_ranges.proofs.read_held.read_disk.Goals as goal
 
 pub unread-error-requires-clause-wanted : goal.unread-error-requires-clause-wanted
-unread-error-requires-clause-wanted g c κs within =
+unread-error-requires-clause-wanted g c =
     let w = g.T.Turns.standing c.args.turns.now in
     let v = g.T.Turns.standing c.read_free-book.new.turns in
     let file = c.args.file in
@@ -27,7 +27,7 @@ unread-error-requires-clause-wanted g c κs within =
     )
 
 pub land_at-told-requires-clause-read : goal.land_at-told-requires-clause-read
-land_at-told-requires-clause-read g c κs within absent below =
+land_at-told-requires-clause-read g c absent below =
     let v = g.T.Turns.standing c.read_free-book.new.turns in
     let page = c.args.page in
     subst (λ (n : ℕ). WasReadFor v n page (Some c.read_free-book.new.raw)) (c.requires.stream)

@@ -12,7 +12,7 @@ use Rattle.cc_ranges.proofs.ReadHolding.{said-before, said-after, begins-reading
 use Rattle.cc_ranges.proofs.read_held.read_held.Goals as goal
 
 pub write_first-requires-clause-both : goal.write_first-requires-clause-both
-write_first-requires-clause-both g c κs within =
+write_first-requires-clause-both g c =
     let w = g.T.Turns.standing c.args.turns.now in
     let v = g.T.Turns.standing c.look_at.new.turns in
     let file = c.args.file in
@@ -21,7 +21,7 @@ write_first-requires-clause-both g c κs within =
     (sym c.requires.stream) c.requires.both c.look_at.ensures.book c.look_at.ensures.rest c.in-Writes.ensures.went c.look_at.ensures.disk)
 
 pub write_first-requires-clause-dirty : goal.write_first-requires-clause-dirty
-write_first-requires-clause-dirty g c κs within =
+write_first-requires-clause-dirty g c =
     let w = g.T.Turns.standing c.args.turns.now in
     let v = g.T.Turns.standing c.look_at.new.turns in
     let file = c.args.file in
@@ -29,7 +29,7 @@ write_first-requires-clause-dirty g c κs within =
     said-after (λ u n. IsToWriteFirst u file page v.seen) w.in_flight w v c.in-Writes.ensures.went c.in-Writes.ensures.asks.1
 
 pub read_disk-requires-clause-both : goal.read_disk-requires-clause-both
-read_disk-requires-clause-both g c κs within =
+read_disk-requires-clause-both g c =
     let w = g.T.Turns.standing c.args.turns.now in
     let v = g.T.Turns.standing c.look_at.new.turns in
     let file = c.args.file in
@@ -38,7 +38,7 @@ read_disk-requires-clause-both g c κs within =
     (sym c.requires.stream) c.requires.both c.look_at.ensures.book c.look_at.ensures.rest c.in-Reads.ensures.went c.look_at.ensures.disk)
 
 pub read_disk-requires-clause-wanted : goal.read_disk-requires-clause-wanted
-read_disk-requires-clause-wanted g c κs within =
+read_disk-requires-clause-wanted g c =
     let w = g.T.Turns.standing c.args.turns.now in
     let v = g.T.Turns.standing c.look_at.new.turns in
     let file = c.args.file in

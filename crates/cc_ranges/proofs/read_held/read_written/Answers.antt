@@ -8,7 +8,7 @@ use Rattle.cc_ranges.proofs.ReadHolding.{said-before, said-after}
 use Rattle.cc_ranges.proofs.read_held.read_written.Goals as goal
 
 pub read_disk-requires-clause-both : goal.read_disk-requires-clause-both
-read_disk-requires-clause-both g c κs within =
+read_disk-requires-clause-both g c =
     let w = g.T.Turns.standing c.args.turns.now in
     let v = g.T.Turns.standing c.look_at.new.turns in
     let file = c.args.file in
@@ -17,7 +17,7 @@ read_disk-requires-clause-both g c κs within =
     (sym c.requires.stream) c.requires.both c.look_at.ensures.book c.look_at.ensures.rest c.in-Reads.ensures.went c.look_at.ensures.disk)
 
 pub read_disk-requires-clause-wanted : goal.read_disk-requires-clause-wanted
-read_disk-requires-clause-wanted g c κs within =
+read_disk-requires-clause-wanted g c =
     let w = g.T.Turns.standing c.args.turns.now in
     let v = g.T.Turns.standing c.look_at.new.turns in
     let file = c.args.file in

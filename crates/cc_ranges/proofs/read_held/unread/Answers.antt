@@ -13,13 +13,13 @@ use Rattle.cc_ranges.proofs.ReadHolding.{said-before, said-after}
 use Rattle.cc_ranges.proofs.read_held.unread.Goals as goal
 
 pub fail_at-requires-clause-filed : goal.fail_at-requires-clause-filed
-fail_at-requires-clause-filed g c κs within =
+fail_at-requires-clause-filed g c =
     let file = c.args.file in
     let page = c.args.page in
     read-filed file page c.args.book.now.stream c.unread_at.ensures.book.stream
 
 pub fail_at-requires-clause-halted : goal.fail_at-requires-clause-halted
-fail_at-requires-clause-halted g c κs within =
+fail_at-requires-clause-halted g c =
     let w = g.T.Turns.standing c.args.turns.now in
     let v = g.T.Turns.standing c.unread_at.new.turns in
     let file = c.args.file in

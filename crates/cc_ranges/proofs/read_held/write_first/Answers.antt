@@ -25,35 +25,35 @@ use Rattle.cc_ranges.proofs.read_held.write_first.Goals.{in-Ok, in-Err}
 use Rattle.cc_ranges.proofs.read_held.write_first.Goals as goal
 
 pub write_for-book-requires-clause-faults : goal.write_for-book-requires-clause-faults
-write_for-book-requires-clause-faults g c κs within =
+write_for-book-requires-clause-faults g c =
     may-fault c.args.file c.args.page
 
 pub write_for-book-requires-clause-filed : goal.write_for-book-requires-clause-filed
-write_for-book-requires-clause-filed g c κs within =
+write_for-book-requires-clause-filed g c =
     read-filed c.args.file c.args.page c.args.book.stream c.requires.stream
 
 pub write_for-book-requires-clause-admitted : goal.write_for-book-requires-clause-admitted
-write_for-book-requires-clause-admitted g c κs within =
+write_for-book-requires-clause-admitted g c =
     let w = g.T.Turns.standing c.args.turns.now in
     let file = c.args.file in
     let page = c.args.page in
     subst (λ (n : ℕ). refusal w.setup w.seen (history w.seen n) (call.NcRead file page) ≡ None) (sym c.requires.stream) c.requires.dirty.admitted
 
 pub write_for-book-requires-clause-asked : goal.write_for-book-requires-clause-asked
-write_for-book-requires-clause-asked g c κs within =
+write_for-book-requires-clause-asked g c =
     let w = g.T.Turns.standing c.args.turns.now in
     let file = c.args.file in
     let page = c.args.page in
     subst (λ (n : ℕ). may_write (Calls (call.NcRead file page)) (record { stream = n; page = page }) w.seen ≡ true) (sym c.requires.stream) (asks-page file page w.seen (admitted w.setup w.seen file.stream (call.NcRead file page) c.requires.dirty.admitted) c.requires.dirty.reached)
 
 pub write_for-book-requires-clause-to_write : goal.write_for-book-requires-clause-to_write
-write_for-book-requires-clause-to_write g c κs within =
+write_for-book-requires-clause-to_write g c =
     let w = g.T.Turns.standing c.args.turns.now in
     let page = c.args.page in
     subst (λ (n : ℕ). IsToWrite (record { stream = n; page = page }) w.seen) (sym c.requires.stream) c.requires.dirty.to_write
 
 pub read_written-requires-clause-reading : goal.read_written-requires-clause-reading
-read_written-requires-clause-reading g c κs within =
+read_written-requires-clause-reading g c =
     let w = g.T.Turns.standing c.args.turns.now in
     let v = g.T.Turns.standing c.write_for-book.new.turns in
     let file = c.args.file in

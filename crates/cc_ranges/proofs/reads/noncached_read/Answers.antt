@@ -6,7 +6,7 @@ use Rattle.cc_ranges.proofs.ReadPages.{whole-read, misshapen-read, shape-is, sha
 use Rattle.cc_ranges.proofs.reads.noncached_read.Goals as goal
 
 pub refuse-cause-requires-clause-shape : goal.refuse-cause-requires-clause-shape
-refuse-cause-requires-clause-shape g c κs within = shape-is c.args.at (length c.args.out.now) c.in-Some.refusal (sym c.shape_refusal.ensures ∙ c.in-Some.is)
+refuse-cause-requires-clause-shape g c = shape-is c.args.at (length c.args.out.now) c.in-Some.refusal (sym c.shape_refusal.ensures ∙ c.in-Some.is)
 
 pub returns-in-Some : goal.returns-in-Some
 returns-in-Some g c = record {
@@ -17,7 +17,7 @@ returns-in-Some g c = record {
 }
 
 pub read_pages-requires-clause-most : goal.read_pages-requires-clause-most
-read_pages-requires-clause-most g c κs within =
+read_pages-requires-clause-most g c =
     shape-fits c.args.at (length c.args.out.now) (sym c.shape_refusal.ensures ∙ c.in-None.is)
 
 pub returns-in-None : goal.returns-in-None

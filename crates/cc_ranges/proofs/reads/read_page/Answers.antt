@@ -18,7 +18,7 @@ use Rattle.cc_ranges.proofs.ReadPages.{went-both, setup-both}
 use Rattle.cc_ranges.proofs.reads.read_page.Goals as goal
 
 pub read_held-book-requires-clause-both : goal.read_held-book-requires-clause-both
-read_held-book-requires-clause-both g c κs within =
+read_held-book-requires-clause-both g c =
     both_begun (g.T.Turns.standing c.args.turns.now) (g.T.Turns.standing c.take_device-disk.new.self) (g.T.Turns.standing c.take_book-book.new.self)
     c.stream-stream.result (subst (λ (n : ℕ). CanCall (g.T.Turns.standing c.args.turns.now) n) (sym c.stream-stream.ensures) c.requires.can) c.take_device-disk.ensures.took c.take_book-book.ensures.took g.T.Disk.Told.told g.T.Disk.Told.faults
     c.take_book-book.result c.take_device-disk.result c.take_device-disk.ensures.opening c.take_device-disk.ensures.stands c.take_device-disk.ensures.at_rest

@@ -15,7 +15,7 @@ pub loop-done-init : goal.loop-done-init
 loop-done-init g c = reads-begin (g.T.Turns.standing c.args.turns.now) c.args.file c.args.first c.args.out.now
 
 pub read_page-requires-clause-can : goal.read_page-requires-clause-can
-read_page-requires-clause-can g c κs within =
+read_page-requires-clause-can g c =
     can-again (g.T.Turns.standing c.args.turns.now) (g.T.Turns.standing c.loop-done.turns) c.args.file.stream c.requires.can c.loop-done.invariant.went
 
 pub returns-then-told-whole : goal.returns-then-told-whole

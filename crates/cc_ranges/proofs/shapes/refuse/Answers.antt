@@ -13,7 +13,7 @@ use Rattle.cc_ranges.proofs.ShapeVisits.{misshapen-before, book-taken, book-idle
 use Rattle.cc_ranges.proofs.shapes.refuse.Goals as goal
 
 pub refuse_at-error-requires-clause-book : goal.refuse_at-error-requires-clause-book
-refuse_at-error-requires-clause-book g c κs within =
+refuse_at-error-requires-clause-book g c =
     let w = g.T.Turns.standing c.args.turns.now in
     let v = g.T.Turns.standing c.take_book-book.new.self in
     let file = c.args.file in

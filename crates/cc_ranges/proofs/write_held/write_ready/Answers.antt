@@ -34,7 +34,7 @@ unwrap-stored-requires g c =
     c.new.ensures.in_range.1 (ready-numbered w.setup w.seen c.args.file.stream c.args.file c.args.page c.requires.both.book.good c.requires.ready.admitted)
 
 pub flush_log-requires-clause-stamped : goal.flush_log-requires-clause-stamped
-flush_log-requires-clause-stamped g c κs within =
+flush_log-requires-clause-stamped g c =
     let w = g.T.Turns.standing c.args.turns.now in
     let page = c.unwrap-stored.result in
     let same : page ≡ page_in c.args.file c.args.page = same-place c.new.result page c.stream.result c.args.file.stream c.args.page c.unwrap-stored.ensures c.new.ensures.stream c.new.ensures.page c.stream.ensures in
@@ -42,7 +42,7 @@ flush_log-requires-clause-stamped g c κs within =
     (stamped-page w.setup w.seen (history w.seen c.args.file.stream) c.args.file c.args.page c.requires.ready.admitted)
 
 pub put_page-requires-clause-both : goal.put_page-requires-clause-both
-put_page-requires-clause-both g c κs within =
+put_page-requires-clause-both g c =
     let w = g.T.Turns.standing c.args.turns.now in
     let x = g.T.Turns.standing c.flush_log.new.turns in
     let file = c.args.file in
@@ -57,7 +57,7 @@ put_page-requires-clause-both g c κs within =
     (both-after g.T.Disk.Told.told g.T.Disk.Told.faults w.in_flight w x file c.args.page b disk both c.requires.ready c.flush_log.ensures.went has c.flush_log.result left)
 
 pub put_page-requires-clause-ready : goal.put_page-requires-clause-ready
-put_page-requires-clause-ready g c κs within =
+put_page-requires-clause-ready g c =
     let w = g.T.Turns.standing c.args.turns.now in
     let x = g.T.Turns.standing c.flush_log.new.turns in
     let file = c.args.file in
@@ -72,7 +72,7 @@ put_page-requires-clause-ready g c κs within =
     (ready-after g.T.Disk.Told.told g.T.Disk.Told.faults w.in_flight w x file c.args.page b disk both c.requires.ready c.flush_log.ensures.went has c.flush_log.result left)
 
 pub fail_at-error-requires-clause-halted : goal.fail_at-error-requires-clause-halted
-fail_at-error-requires-clause-halted g c κs within =
+fail_at-error-requires-clause-halted g c =
     let w = g.T.Turns.standing c.args.turns.now in
     let x = g.T.Turns.standing c.flush_log.new.turns in
     let file = c.args.file in

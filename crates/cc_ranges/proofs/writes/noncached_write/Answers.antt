@@ -7,7 +7,7 @@ use Rattle.cc_ranges.proofs.WritePages.{misshapen-write, whole-write}
 use Rattle.cc_ranges.proofs.writes.noncached_write.Goals as goal
 
 pub refuse-cause-requires-clause-shape : goal.refuse-cause-requires-clause-shape
-refuse-cause-requires-clause-shape g c κs within = shape-is c.args.at (length c.args.piece.now) c.in-Some.refusal (sym c.shape_refusal.ensures ∙ c.in-Some.is)
+refuse-cause-requires-clause-shape g c = shape-is c.args.at (length c.args.piece.now) c.in-Some.refusal (sym c.shape_refusal.ensures ∙ c.in-Some.is)
 
 pub returns-in-Some : goal.returns-in-Some
 returns-in-Some g c =

@@ -10,9 +10,9 @@ use Rattle.cc_ranges.proofs.writes.write_pages.Goals as goal
 pub loop-done-init : goal.loop-done-init
 loop-done-init g c = writes-begin (g.T.Turns.standing c.args.turns.now) c.args.file c.args.first c.args.piece.now
 
-pub write_page-requires-clause-can : goal.write_page-requires-clause-can
-write_page-requires-clause-can g c κs within =
-    can-again (g.T.Turns.standing c.args.turns.now) (g.T.Turns.standing c.loop-done.turns) c.args.file.stream c.requires.can c.loop-done.invariant.went
+pub write_page-requires : goal.write_page-requires
+write_page-requires g c =
+    record { can = can-again (g.T.Turns.standing c.args.turns.now) (g.T.Turns.standing c.loop-done.turns) c.args.file.stream c.requires.can c.loop-done.invariant.went }
 
 pub loop-done-preserved : goal.loop-done-preserved
 loop-done-preserved g c =

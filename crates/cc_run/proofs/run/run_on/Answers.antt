@@ -15,7 +15,7 @@ use Rattle.cc_run.proofs.RunSteps.{servable-all, opened-long, disks-stand, logs-
 use Rattle.cc_run.proofs.run.run_on.Goals as goal
 
 pub open_streams-requires-clause-ready : goal.open_streams-requires-clause-ready
-open_streams-requires-clause-ready g c κs within = record {
+open_streams-requires-clause-ready g c = record {
   free = c.requires.fresh.held_is;
   at_rest = omega (arith, c.requires.fresh.journal_is.empty.1);
 }

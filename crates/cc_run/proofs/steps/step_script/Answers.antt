@@ -30,13 +30,13 @@ invariant_of-setup-clause-few_logs g c =
     omega (arith, c.in-Ok-first_of.logs.ok.0, ap length c.in-Ok-first_of.ensures.first, length-take 4 c.args.logs.items)
 
 pub run_steps-requires-clause-disks : goal.run_steps-requires-clause-disks
-run_steps-requires-clause-disks g c κs within =
+run_steps-requires-clause-disks g c =
     let few = c.requires.within.few_streams in
     let enough = enough-disks (length c.args.disks.items) (length c.args.logs.items) (length c.args.posts.items) c.args.script.now c.requires.enough in
     omega (arith, ap length c.in-Ok.ensures.first, length-take 16 c.args.disks.items, few, enough)
 
 pub run_steps-requires-clause-posts : goal.run_steps-requires-clause-posts
-run_steps-requires-clause-posts g c κs within =
+run_steps-requires-clause-posts g c =
     enough-posts (length c.args.disks.items) (length c.args.logs.items) (length c.args.posts.items) c.args.script.now c.requires.enough
 
 pub put_back-requires-in-Ok-run_steps : goal.put_back-requires-in-Ok-run_steps

@@ -5,7 +5,7 @@ use Rattle.cc_run.proofs.OnBoard.{are-rows, back-ready, back-run, keep-room, may
 use Rattle.cc_run.proofs.threads.serve_on_threads.Goals as goal
 
 pub split_all-callers-requires-clause-names : goal.split_all-callers-requires-clause-names
-split_all-callers-requires-clause-names g c κs within =
+split_all-callers-requires-clause-names g c =
     ap length c.reverse.ensures.items ∙ (length-reverse c.args.names.now.items ∙ c.requires.words.stand.counted)
 
 pub run_callers-ended-requires-clause-may : goal.run_callers-ended-requires-clause-may
@@ -13,11 +13,11 @@ run_callers-ended-requires-clause-may g c κs within =
     may-all-run g.D.Told.told g.D.Told.faults g.L.LogFile.told g.L.LogFile.faults g.Q.PostRoutine.posted c.args.desk _ _ c.requires.ready c.in-Ok-new.ensures.opened c.args.lines.now c.args.names.now.items _ c.reverse.ensures.items c.requires.words.stand.counted _ _ _ c.split_all-callers.ensures.split c.in-Ok.ensures.rooms c.requires.servable c.good.ensures c.requires.words
 
 pub join_all-rows-requires-clause-may : goal.join_all-rows-requires-clause-may
-join_all-rows-requires-clause-may g c κs within =
+join_all-rows-requires-clause-may g c =
     may-join g.D.Told.told g.D.Told.faults g.L.LogFile.told g.L.LogFile.faults g.Q.PostRoutine.posted c.args.desk _ _ c.requires.ready c.in-Ok-new.ensures.opened c.args.lines.now c.args.names.now.items _ c.reverse.ensures.items c.requires.words.stand.counted _ _ _ c.split_all-callers.ensures.split _ c.run_callers-ended.ensures.ran
 
 pub join_all-rows-requires-clause-name_room : goal.join_all-rows-requires-clause-name_room
-join_all-rows-requires-clause-name_room g c κs within = record {
+join_all-rows-requires-clause-name_room g c = record {
   empty = c.split_all-callers.ensures.emptied.0;
   room = omega (arith, c.split_all-callers.ensures.emptied.1, c.reverse.ensures.capacity, c.args.names.now.ok.0, c.requires.words.stand.counted);
 }

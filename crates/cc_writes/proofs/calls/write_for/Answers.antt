@@ -33,13 +33,13 @@ returns-in-Ok-Written-clause-works g c =
     where_ok w v c.args.book.stream c.args.page c.write_page-book.result.1 c.in-Ok-Written.field-0 write.Written c.in-Ok-Written.is (rw c.in-Ok-Written.is at c.in-Ok-Written.field-0-is) c.write_page-book.ensures.left
 
 pub fail-requires-clause-listed : goal.fail-requires-clause-listed
-fail-requires-clause-listed g c κs within = c.requires.faults.disk c.args.page
+fail-requires-clause-listed g c = c.requires.faults.disk c.args.page
 
 pub fail-requires-in-Ok-NotLogged-clause-listed : goal.fail-requires-in-Ok-NotLogged-clause-listed
-fail-requires-in-Ok-NotLogged-clause-listed g c κs within = c.requires.faults.log c.from-handle.result
+fail-requires-in-Ok-NotLogged-clause-listed g c = c.requires.faults.log c.from-handle.result
 
 pub fail-requires-clause-halted : goal.fail-requires-clause-halted
-fail-requires-clause-halted g c κs within =
+fail-requires-clause-halted g c =
     let w = g.T.Turns.standing c.args.turns.now in
     let v = g.T.Turns.standing c.write_page-book.new.turns in
     is_halted w v c.args.book.stream c.args.page c.args.call c.requires.admitted c.requires.asked w.in_flight c.write_page-book.result.0.stream c.write_page-book.ensures.went
@@ -63,7 +63,7 @@ returns-in-Ok-NotWritten-clause-left g c =
     c.fail.result.1 (g.T.Turns.standing c.fail.new.turns).seen c.fail.ensures.left
 
 pub fail-requires-in-Ok-NotLogged-clause-halted : goal.fail-requires-in-Ok-NotLogged-clause-halted
-fail-requires-in-Ok-NotLogged-clause-halted g c κs within =
+fail-requires-in-Ok-NotLogged-clause-halted g c =
     let w = g.T.Turns.standing c.args.turns.now in
     let v = g.T.Turns.standing c.write_page-book.new.turns in
     is_halted w v c.args.book.stream c.args.page c.args.call c.requires.admitted c.requires.asked w.in_flight c.write_page-book.result.0.stream c.write_page-book.ensures.went

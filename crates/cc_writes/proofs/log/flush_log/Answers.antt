@@ -9,13 +9,13 @@ use Rattle.cc_writes.proofs.Flushing.{flush-book, logged-logless}
 use Rattle.cc_writes.proofs.log.flush_log.Goals as goal
 
 pub flush_of-requires-clause-log : goal.flush_of-requires-clause-log
-flush_of-requires-clause-log g c κs within =
+flush_of-requires-clause-log g c =
     let w = g.T.Turns.standing c.args.turns.now in
     subst (λ (n : ℕ). log_of (history w.seen n) ≡ Some c.in-Some.handle) c.requires.book.stream
     (sym (c.log.ensures (w.setup.opening c.args.page.stream) w.seen c.requires.book.stands) ∙ c.in-Some.is)
 
 pub flush_of-requires-clause-known : goal.flush_of-requires-clause-known
-flush_of-requires-clause-known g c κs within =
+flush_of-requires-clause-known g c =
     let w = g.T.Turns.standing c.args.turns.now in
     handle-below w.setup w.seen c.args.page.stream c.in-Some.handle c.requires.book.good.legal
     (subst (λ (n : ℕ). log_of (history w.seen n) ≡ Some c.in-Some.handle) c.requires.book.stream

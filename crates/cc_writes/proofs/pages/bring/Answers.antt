@@ -41,7 +41,7 @@ returns-else-page-div_ceil-clause-brought g c =
     c.land.ensures.landed
 
 pub bring_read-requires-clause-alone : goal.bring_read-requires-clause-alone
-bring_read-requires-clause-alone g c κs within =
+bring_read-requires-clause-alone g c =
     let w = g.T.Turns.standing c.args.turns.now in
     let s = c.args.book.stream in
     let valid = valid_of (history w.seen s) in

@@ -17,7 +17,7 @@ use Rattle.cc_writes.proofs.Brought.{brought, brought-not, on-err, on-ok-weaker}
 use Rattle.cc_writes.proofs.pages.bring_read.Goals as goal
 
 pub unread-requires-clause-wanted : goal.unread-requires-clause-wanted
-unread-requires-clause-wanted g c κs within =
+unread-requires-clause-wanted g c =
     let w = g.T.Turns.standing c.args.turns.now in
     let v = g.T.Turns.standing c.read_page-book.new.turns in
     subst (λ (n : ℕ). IsWanted v n c.args.call c.args.page) (sym c.read_page-book.ensures.both.book.stream)

@@ -11,13 +11,13 @@ use Rattle.cc_writes.proofs.Refusals.{may-tell}
 use Rattle.cc_writes.proofs.pages.unread.Goals as goal
 
 pub fail-requires-clause-listed : goal.fail-requires-clause-listed
-fail-requires-clause-listed g c κs within = may-tell c.args.call (error.ReadFault c.args.page) (stepped-answered c.args.call c.requires.stepped) c.requires.brings refl
+fail-requires-clause-listed g c = may-tell c.args.call (error.ReadFault c.args.page) (stepped-answered c.args.call c.requires.stepped) c.requires.brings refl
 
 pub fail-requires-clause-answered : goal.fail-requires-clause-answered
-fail-requires-clause-answered g c κs within = stepped-answered c.args.call c.requires.stepped
+fail-requires-clause-answered g c = stepped-answered c.args.call c.requires.stepped
 
 pub fail-requires-clause-halted : goal.fail-requires-clause-halted
-fail-requires-clause-halted g c κs within =
+fail-requires-clause-halted g c =
     let w = g.T.Turns.standing c.args.turns.now in
     let v = g.T.Turns.standing c.unread_at.new.turns in
     let wanted = c.requires.wanted in

@@ -7,7 +7,7 @@ use Rattle.cc_writes.proofs.TakingBoth.{both_begun, ended_since}
 use Rattle.cc_writes.proofs.rounds.fetch.Goals as goal
 
 pub until_ended-book-requires-clause-both : goal.until_ended-book-requires-clause-both
-until_ended-book-requires-clause-both g c κs within =
+until_ended-book-requires-clause-both g c =
     both_begun (g.T.Turns.standing c.args.turns.now) (g.T.Turns.standing c.take_device-disk.new.self) (g.T.Turns.standing c.take_book-book.new.self)
     c.args.stream c.requires.can c.take_device-disk.ensures.took c.take_book-book.ensures.took g.T.Disk.Told.told g.T.Disk.Told.faults
     c.take_book-book.result c.take_device-disk.result c.take_device-disk.ensures.opening c.take_device-disk.ensures.stands c.take_device-disk.ensures.at_rest

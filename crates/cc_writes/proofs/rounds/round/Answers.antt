@@ -39,7 +39,7 @@ returns-in-WentOut-clause-both g c =
     c.next_at.ensures.book c.next_at.ensures.rest c.in-WentOut.ensures.went c.next_at.ensures.disk
 
 pub write_for-book-requires-clause-both : goal.write_for-book-requires-clause-both
-write_for-book-requires-clause-both g c κs within =
+write_for-book-requires-clause-both g c =
     let w = g.T.Turns.standing c.args.turns.now in
     let v = g.T.Turns.standing c.next_at.new.turns in
     let s = c.args.book.stream in
@@ -50,7 +50,7 @@ write_for-book-requires-clause-both g c κs within =
     c.next_at.ensures.book c.next_at.ensures.rest c.in-Writes.ensures.went c.next_at.ensures.disk)
 
 pub write_for-book-requires-clause-answered : goal.write_for-book-requires-clause-answered
-write_for-book-requires-clause-answered g c κs within =
+write_for-book-requires-clause-answered g c =
     let w = g.T.Turns.standing c.args.turns.now in
     let v = g.T.Turns.standing c.next_at.new.turns in
     let s = c.args.book.stream in
@@ -59,7 +59,7 @@ write_for-book-requires-clause-answered g c κs within =
     (stepped-answered c.args.call c.requires.stepped)
 
 pub write_for-book-requires-clause-faults : goal.write_for-book-requires-clause-faults
-write_for-book-requires-clause-faults g c κs within =
+write_for-book-requires-clause-faults g c =
     let w = g.T.Turns.standing c.args.turns.now in
     let v = g.T.Turns.standing c.next_at.new.turns in
     let s = c.args.book.stream in
@@ -68,7 +68,7 @@ write_for-book-requires-clause-faults g c κs within =
     (may-fault c.args.call c.requires.stepped c.requires.brings)
 
 pub write_for-book-requires-clause-filed : goal.write_for-book-requires-clause-filed
-write_for-book-requires-clause-filed g c κs within =
+write_for-book-requires-clause-filed g c =
     let w = g.T.Turns.standing c.args.turns.now in
     let v = g.T.Turns.standing c.next_at.new.turns in
     let s = c.args.book.stream in
@@ -77,7 +77,7 @@ write_for-book-requires-clause-filed g c κs within =
     (subst (λ (n : ℕ). IsOf c.args.call n) (sym c.next_at.ensures.book.stream) c.requires.filed)
 
 pub write_for-book-requires-clause-admitted : goal.write_for-book-requires-clause-admitted
-write_for-book-requires-clause-admitted g c κs within =
+write_for-book-requires-clause-admitted g c =
     let w = g.T.Turns.standing c.args.turns.now in
     let v = g.T.Turns.standing c.next_at.new.turns in
     let s = c.args.book.stream in
@@ -86,7 +86,7 @@ write_for-book-requires-clause-admitted g c κs within =
     to.admitted
 
 pub write_for-book-requires-clause-asked : goal.write_for-book-requires-clause-asked
-write_for-book-requires-clause-asked g c κs within =
+write_for-book-requires-clause-asked g c =
     let w = g.T.Turns.standing c.args.turns.now in
     let v = g.T.Turns.standing c.next_at.new.turns in
     let s = c.args.book.stream in
@@ -95,7 +95,7 @@ write_for-book-requires-clause-asked g c κs within =
     may-write c.in-Writes.call (record { stream = c.next_at.new.book.stream; page = c.in-Writes.page }) v.seen to.in_the_way
 
 pub write_for-book-requires-clause-to_write : goal.write_for-book-requires-clause-to_write
-write_for-book-requires-clause-to_write g c κs within =
+write_for-book-requires-clause-to_write g c =
     let w = g.T.Turns.standing c.args.turns.now in
     let v = g.T.Turns.standing c.next_at.new.turns in
     let s = c.args.book.stream in
@@ -114,7 +114,7 @@ returns-in-Writes-clause-left g c begun way =
     c.write_for-book.result.1 new c.in-Writes.ensures.left c.write_for-book.ensures.left begun way)
 
 pub bring-book-requires-clause-both : goal.bring-book-requires-clause-both
-bring-book-requires-clause-both g c κs within =
+bring-book-requires-clause-both g c =
     let w = g.T.Turns.standing c.args.turns.now in
     let v = g.T.Turns.standing c.next_at.new.turns in
     let s = c.args.book.stream in
@@ -125,7 +125,7 @@ bring-book-requires-clause-both g c κs within =
     c.next_at.ensures.book c.next_at.ensures.rest c.in-Reads.ensures.went c.next_at.ensures.disk)
 
 pub bring-book-requires-clause-stepped : goal.bring-book-requires-clause-stepped
-bring-book-requires-clause-stepped g c κs within =
+bring-book-requires-clause-stepped g c =
     let w = g.T.Turns.standing c.args.turns.now in
     let v = g.T.Turns.standing c.next_at.new.turns in
     let s = c.args.book.stream in
@@ -134,7 +134,7 @@ bring-book-requires-clause-stepped g c κs within =
     c.requires.stepped
 
 pub bring-book-requires-clause-brings : goal.bring-book-requires-clause-brings
-bring-book-requires-clause-brings g c κs within =
+bring-book-requires-clause-brings g c =
     let w = g.T.Turns.standing c.args.turns.now in
     let v = g.T.Turns.standing c.next_at.new.turns in
     let s = c.args.book.stream in
@@ -143,7 +143,7 @@ bring-book-requires-clause-brings g c κs within =
     c.requires.brings
 
 pub bring-book-requires-clause-filed : goal.bring-book-requires-clause-filed
-bring-book-requires-clause-filed g c κs within =
+bring-book-requires-clause-filed g c =
     let w = g.T.Turns.standing c.args.turns.now in
     let v = g.T.Turns.standing c.next_at.new.turns in
     let s = c.args.book.stream in
@@ -152,7 +152,7 @@ bring-book-requires-clause-filed g c κs within =
     (subst (λ (n : ℕ). IsOf c.args.call n) (sym c.next_at.ensures.book.stream) c.requires.filed)
 
 pub bring-book-requires-clause-waited : goal.bring-book-requires-clause-waited
-bring-book-requires-clause-waited g c κs within =
+bring-book-requires-clause-waited g c =
     let w = g.T.Turns.standing c.args.turns.now in
     let v = g.T.Turns.standing c.next_at.new.turns in
     let s = c.args.book.stream in

@@ -6,7 +6,7 @@ use Rattle.cc_writes.proofs.Writing.{finish-left}
 use Rattle.cc_writes.proofs.writes.finish.Goals as goal
 
 pub finish_transfer-book-requires-clause-begun : goal.finish_transfer-book-requires-clause-begun
-finish_transfer-book-requires-clause-begun g c κs within =
+finish_transfer-book-requires-clause-begun g c =
     let w = g.T.Turns.standing c.args.turns.now in
     subst (λ (bytes : List ℕ). IsUnderWay g.T.Disk.Told.told g.T.Disk.Told.faults w c.args.page bytes c.args.book c.args.disk.now) (sym c.bytes.ensures) c.requires.begun
 

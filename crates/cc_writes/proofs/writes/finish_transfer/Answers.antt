@@ -6,7 +6,7 @@ use Rattle.cc_writes.proofs.Writing.{still_begun, finished, both-finished}
 use Rattle.cc_writes.proofs.writes.finish_transfer.Goals as goal
 
 pub end_at-requires-clause-begun : goal.end_at-requires-clause-begun
-end_at-requires-clause-begun g c κs within =
+end_at-requires-clause-begun g c =
     let w = g.T.Turns.standing c.args.turns.now in
     still_begun w.in_flight w (g.T.Turns.standing c.carry-book.new.turns) c.args.page c.args.keeps c.requires.begun.before c.carry-book.ensures.went c.requires.begun.placed c.carry-book.ensures.grows
 

@@ -15,7 +15,7 @@ unwrap-page-requires g c =
     c.new.ensures.in_range.1 (numbered (g.T.Turns.standing c.args.turns.now).setup (g.T.Turns.standing c.args.turns.now).seen c.args.book.stream c.args.page c.requires.both.book.good c.requires.to_write.dirty)
 
 pub put-requires-clause-both : goal.put-requires-clause-both
-put-requires-clause-both g c κs within =
+put-requires-clause-both g c =
     let w = g.T.Turns.standing c.args.turns.now in
     let x = g.T.Turns.standing c.flush_log.new.turns in
     let page = c.unwrap-page.result in
@@ -26,7 +26,7 @@ put-requires-clause-both g c κs within =
     both-flushed g.T.Disk.Told.told g.T.Disk.Told.faults w.in_flight w x page c.args.book c.args.disk.now both c.flush_log.ensures.went c.flush_log.ensures.book c.flush_log.result c.flush_log.ensures.left
 
 pub put-requires-clause-dirty : goal.put-requires-clause-dirty
-put-requires-clause-dirty g c κs within =
+put-requires-clause-dirty g c =
     let w = g.T.Turns.standing c.args.turns.now in
     let x = g.T.Turns.standing c.flush_log.new.turns in
     let page = c.unwrap-page.result in

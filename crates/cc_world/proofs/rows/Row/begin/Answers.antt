@@ -31,7 +31,7 @@ returns-then-not-may_begin g c u first stand =
     )
 
 pub keep-requires-clause-standing : goal.keep-requires-clause-standing
-keep-requires-clause-standing g c lifetimes within =
+keep-requires-clause-standing g c =
     let u = c.requires.standing.0 in
     let first = c.requires.standing.1 in
     let stand = c.requires.standing.2 in

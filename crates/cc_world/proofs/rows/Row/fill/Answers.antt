@@ -31,7 +31,7 @@ returns-then-not-may_come_in-clause-left g c u first stand =
     )
 
 pub bring-requires-clause-standing : goal.bring-requires-clause-standing
-bring-requires-clause-standing g c lifetimes within =
+bring-requires-clause-standing g c =
     let u = c.requires.standing.0 in
     let first = c.requires.standing.1 in
     let stand = c.requires.standing.2 in

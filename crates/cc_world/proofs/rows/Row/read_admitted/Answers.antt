@@ -15,8 +15,8 @@ returns-then-not-may_read g c u first made = (
   refl,
 )
 
-pub read_ready-requires-after_bounds : goal.read_ready-requires-after_bounds
-read_ready-requires-after_bounds g c lifetimes within =
+pub read_ready-requires : goal.read_ready-requires
+read_ready-requires g c =
     let u = c.requires.0 in
     let first = c.requires.1 in
     let made = c.requires.2 in (

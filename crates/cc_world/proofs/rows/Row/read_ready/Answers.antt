@@ -19,8 +19,8 @@ use Rattle.cc_world.proofs.rows.Row.read_ready.Goals as goal
 no-more : (a b : ℕ) → a ≡ b + 0 → a ≡ b
 no-more a b is = omega (arith, is)
 
-pub end_read-requires-after_bounds : goal.end_read-requires-after_bounds
-end_read-requires-after_bounds g c lifetimes within =
+pub end_read-requires : goal.end_read-requires
+end_read-requires g c =
     let first = c.requires.1 in
     let ready = c.requires.2 in
     let j = c.args.journal.now in (
@@ -38,8 +38,8 @@ returns-then-div_ceil-page g c u first ready =
     (λ absent below. absurd (lies-past c.size.result (size_of (history j.entries c.args.self.now.book.stream)) c.args.page (c.size.ensures (opening_of first.told) j.entries ready.made.stands.row_is.book)
     (subst (λ (n : ℕ). n ≤ c.args.page) c.div_ceil.ensures c.if-div_ceil-page.true) below))
 
-pub end_read-requires-in-Ok-after_bounds : goal.end_read-requires-in-Ok-after_bounds
-end_read-requires-in-Ok-after_bounds g c lifetimes within =
+pub end_read-requires-in-Ok : goal.end_read-requires-in-Ok
+end_read-requires-in-Ok g c =
     let u = c.requires.0 in
     let first = c.requires.1 in
     let ready = c.requires.2 in

@@ -8,8 +8,8 @@ use Rattle.cc_world.proofs.CallRows.{row-left}
 use Rattle.cc_world.proofs.UncachedCalls.{admitted-on, refused-on}
 use Rattle.cc_world.proofs.rows.Row.read_uncached.Goals as goal
 
-pub read_admitted-requires-after_bounds : goal.read_admitted-requires-after_bounds
-read_admitted-requires-after_bounds g c lifetimes within =
+pub read_admitted-requires : goal.read_admitted-requires
+read_admitted-requires g c =
     let u = c.requires.standing.0 in
     let first = c.requires.standing.1 in
     let stand = c.requires.standing.2 in

@@ -48,7 +48,7 @@ returns-then-not-may_store g c u first made =
     )
 
 pub store_ready-requires-clause-may : goal.store_ready-requires-clause-may
-store_ready-requires-clause-may g c lifetimes within =
+store_ready-requires-clause-may g c =
     let u = c.requires.may.0 in
     let first = c.requires.may.1 in
     let made = c.requires.may.2 in

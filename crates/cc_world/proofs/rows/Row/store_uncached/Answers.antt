@@ -13,7 +13,7 @@ use Rattle.cc_world.proofs.UncachedCalls.{admitted-on, refused-on}
 use Rattle.cc_world.proofs.rows.Row.store_uncached.Goals as goal
 
 pub store_admitted-requires-clause-may : goal.store_admitted-requires-clause-may
-store_admitted-requires-clause-may g c lifetimes within =
+store_admitted-requires-clause-may g c =
     let u = c.requires.standing.0 in
     let first = c.requires.standing.1 in
     let stand = c.requires.standing.2 in

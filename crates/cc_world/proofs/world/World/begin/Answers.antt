@@ -16,14 +16,14 @@ index_mut-row-requires g c =
     omega (arith, c.from.ensures, c.number.ensures.same, c.self.inside.rows.ok.0, c.self.invariant.0.rows.counted, known)
 
 pub begin-reply-requires-clause-stream : goal.begin-reply-requires-clause-stream
-begin-reply-requires-clause-stream g c lifetimes met =
+begin-reply-requires-clause-stream g c =
     let known : c.args.page.stream < length c.self.inside.begun.value.disks.items = subst (λ w. c.args.page.stream < length w.begun.disks) (sym c.self.view_is) c.requires in
     let within : c.from.result < length c.self.inside.rows.items = omega (arith, c.from.ensures, c.number.ensures.same, c.self.invariant.0.rows.counted, known) in
     let there = read-there c.self.inside.rows.items c.from.result c.index_mut-row.result.now within c.index_mut-row.ensures.value in
     sym (row-stream _ _ c.self.invariant.0 c.from.result c.index_mut-row.result.now there ∙ (c.from.ensures ∙ (c.number.ensures.same ∙ c.stream.ensures)))
 
 pub begin-reply-requires-clause-standing : goal.begin-reply-requires-clause-standing
-begin-reply-requires-clause-standing g c lifetimes met =
+begin-reply-requires-clause-standing g c =
     let known : c.args.page.stream < length c.self.inside.begun.value.disks.items = subst (λ w. c.args.page.stream < length w.begun.disks) (sym c.self.view_is) c.requires in
     let within : c.from.result < length c.self.inside.rows.items = omega (arith, c.from.ensures, c.number.ensures.same, c.self.invariant.0.rows.counted, known) in
     let there = read-there c.self.inside.rows.items c.from.result c.index_mut-row.result.now within c.index_mut-row.ensures.value in
@@ -49,7 +49,7 @@ returns g c =
     (world_of c.self.inside.begun.value (slice_set c.self.inside.rows.items c.from.result c.begin-reply.new.self) c.self.inside.logs.items c.begin-reply.new.journal)) c.self.view_is both.1
 
 pub begin-reply-requires-clause-logs : goal.begin-reply-requires-clause-logs
-begin-reply-requires-clause-logs g c lifetimes met =
+begin-reply-requires-clause-logs g c =
     let known : c.args.page.stream < length c.self.inside.begun.value.disks.items = subst (λ w. c.args.page.stream < length w.begun.disks) (sym c.self.view_is) c.requires in
     let within : c.from.result < length c.self.inside.rows.items = omega (arith, c.from.ensures, c.number.ensures.same, c.self.invariant.0.rows.counted, known) in
     let there = read-there c.self.inside.rows.items c.from.result c.index_mut-row.result.now within c.index_mut-row.ensures.value in

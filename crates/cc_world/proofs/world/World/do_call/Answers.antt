@@ -22,7 +22,7 @@ index_mut-row-requires g c =
     omega (arith, c.from.ensures, c.number.ensures.same, c.self.inside.rows.ok.0, known)
 
 pub do_call-reply-requires-clause-filed : goal.do_call-reply-requires-clause-filed
-do_call-reply-requires-clause-filed g c lifetimes met =
+do_call-reply-requires-clause-filed g c =
     let inv = c.self.invariant.0 in
     let names = subst (λ w. NamesOf (length w.begun.disks) (file_of c.args.call)) (sym c.self.view_is) c.requires in
     let under = c.in-Stream.ensures c.self.inside.journal.entries (books-there _ _ inv c.deref.result.now c.deref.ensures.value) in
@@ -32,7 +32,7 @@ do_call-reply-requires-clause-filed g c lifetimes met =
     under.0 ∙ ap (λ (n : ℕ). Some n) (sym (row-stream _ _ inv c.from.result c.index_mut-row.result.now there ∙ (c.from.ensures ∙ c.number.ensures.same)))
 
 pub do_call-reply-requires-clause-standing : goal.do_call-reply-requires-clause-standing
-do_call-reply-requires-clause-standing g c lifetimes met =
+do_call-reply-requires-clause-standing g c =
     let inv = c.self.invariant.0 in
     let names = subst (λ w. NamesOf (length w.begun.disks) (file_of c.args.call)) (sym c.self.view_is) c.requires in
     let under = c.in-Stream.ensures c.self.inside.journal.entries (books-there _ _ inv c.deref.result.now c.deref.ensures.value) in
@@ -42,7 +42,7 @@ do_call-reply-requires-clause-standing g c lifetimes met =
     (_, _, row-stands _ _ inv c.from.result c.index_mut-row.result.now there)
 
 pub do_call-reply-requires-clause-logs : goal.do_call-reply-requires-clause-logs
-do_call-reply-requires-clause-logs g c lifetimes met =
+do_call-reply-requires-clause-logs g c =
     let inv = c.self.invariant.0 in
     let names = subst (λ w. NamesOf (length w.begun.disks) (file_of c.args.call)) (sym c.self.view_is) c.requires in
     let under = c.in-Stream.ensures c.self.inside.journal.entries (books-there _ _ inv c.deref.result.now c.deref.ensures.value) in

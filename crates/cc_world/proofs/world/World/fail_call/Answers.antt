@@ -21,7 +21,7 @@ index_mut-row-requires g c =
     omega (arith, c.from.ensures, c.number.ensures.same, c.self.inside.rows.ok.0, known)
 
 pub fail_call-reply-requires-clause-filed : goal.fail_call-reply-requires-clause-filed
-fail_call-reply-requires-clause-filed g c lifetimes met =
+fail_call-reply-requires-clause-filed g c =
     let inv = c.self.invariant.0 in
     let names = subst (λ w. NamesOf (length w.begun.disks) (file_of c.args.call)) (sym c.self.view_is) c.requires in
     let under = c.in-Stream.ensures c.self.inside.journal.entries (books-there _ _ inv c.deref.result.now c.deref.ensures.value) in
@@ -31,7 +31,7 @@ fail_call-reply-requires-clause-filed g c lifetimes met =
     under.0 ∙ ap (λ (n : ℕ). Some n) (sym (row-stream _ _ inv c.from.result c.index_mut-row.result.now there ∙ (c.from.ensures ∙ c.number.ensures.same)))
 
 pub fail_call-reply-requires-clause-standing : goal.fail_call-reply-requires-clause-standing
-fail_call-reply-requires-clause-standing g c lifetimes met =
+fail_call-reply-requires-clause-standing g c =
     let inv = c.self.invariant.0 in
     let names = subst (λ w. NamesOf (length w.begun.disks) (file_of c.args.call)) (sym c.self.view_is) c.requires in
     let under = c.in-Stream.ensures c.self.inside.journal.entries (books-there _ _ inv c.deref.result.now c.deref.ensures.value) in

@@ -14,14 +14,14 @@ index_mut-row-requires g c =
     omega (arith, c.from.ensures, c.number.ensures.same, c.self.inside.rows.ok.0, c.self.invariant.0.rows.counted, known)
 
 pub fill-reply-requires-clause-stream : goal.fill-reply-requires-clause-stream
-fill-reply-requires-clause-stream g c lifetimes met =
+fill-reply-requires-clause-stream g c =
     let known : c.args.page.stream < length c.self.inside.begun.value.disks.items = subst (λ w. c.args.page.stream < length w.begun.disks) (sym c.self.view_is) c.requires in
     let within : c.from.result < length c.self.inside.rows.items = omega (arith, c.from.ensures, c.number.ensures.same, c.self.invariant.0.rows.counted, known) in
     let there = read-there c.self.inside.rows.items c.from.result c.index_mut-row.result.now within c.index_mut-row.ensures.value in
     sym (row-stream _ _ c.self.invariant.0 c.from.result c.index_mut-row.result.now there ∙ (c.from.ensures ∙ (c.number.ensures.same ∙ c.stream.ensures)))
 
 pub fill-reply-requires-clause-standing : goal.fill-reply-requires-clause-standing
-fill-reply-requires-clause-standing g c lifetimes met =
+fill-reply-requires-clause-standing g c =
     let known : c.args.page.stream < length c.self.inside.begun.value.disks.items = subst (λ w. c.args.page.stream < length w.begun.disks) (sym c.self.view_is) c.requires in
     let within : c.from.result < length c.self.inside.rows.items = omega (arith, c.from.ensures, c.number.ensures.same, c.self.invariant.0.rows.counted, known) in
     let there = read-there c.self.inside.rows.items c.from.result c.index_mut-row.result.now within c.index_mut-row.ensures.value in
