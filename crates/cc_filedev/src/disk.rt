@@ -70,7 +70,7 @@ impl<P: InFolder> PageDisk for FileDisk<P> {
     }
 
     fn sync(&mut self) -> Result<(), Stop>
-        ensures state { self.new ≡ record self.new { faults = self.old.faults + faults_in result } }
+        ensures counted { self.new.faults ≡ self.old.faults + faults_in result }
         ensures lost { self.old.has_lost ≡ true → IsErr result }
         ensures stays_lost { self.old.has_lost ≡ true → self.new.has_lost ≡ true }
         ensures full { OnNoMemory result (self.old.faults ≡ 2 ^ 64 - 1) }
