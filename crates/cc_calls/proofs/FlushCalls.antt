@@ -29,9 +29,9 @@ use Rattle.cc_model.specs.Sizes.{Touch}
 use Rattle.cc_model.specs.Touches.{is_dirty}
 use Rattle.cc_turns.specs.Standing.{Standing, Held, nothing}
 use Rattle.cc_turns.specs.Takes.{Grows, Takes, with_device, with_book, without_device, without_book}
-use Rattle.cc_writes.specs.Begins.{BeginsAscending}
+use Rattle.cc_effects.specs.Begins.{BeginsAscending}
 use Rattle.cc_writes.specs.Hands.{Went}
-use Rattle.cc_writes.proofs.Begun.{ascend-none, ascend-then, none-idle}
+use Rattle.cc_effects.proofs.Begun.{ascend-none, ascend-then, none-idle}
 use Rattle.cc_writes.specs.Ways.{IsFull}
 use Rattle.cc_writes.specs.Fetch.{WentOn}
 use Rattle.cc_calls.specs.Answers.{outcome_of}

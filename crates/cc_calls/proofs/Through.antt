@@ -33,8 +33,8 @@ use Rattle.cc_own.specs.Own.{HasHold}
 use Rattle.cc_own.proofs.CallsKeep.{at-front, front-keeps, placed-here}
 use Rattle.cc_own.proofs.HeldPages.{held-within}
 use Rattle.cc_turns.specs.Standing.{Standing}
-use Rattle.cc_writes.specs.Begins.{BeginsAscending, BeginsNone}
-use Rattle.cc_writes.proofs.Begun.{ascend-none, ascend-then, none-behind, none-idle, none-then, none-works}
+use Rattle.cc_effects.specs.Begins.{BeginsAscending, BeginsNone}
+use Rattle.cc_effects.proofs.Begun.{ascend-none, ascend-then, none-behind, none-idle, none-then, none-works}
 use Rattle.cc_calls.specs.Held.{IsHolding, range_of}
 use Rattle.cc_calls.specs.Ends.{HoldEnded, UnpinEnds}
 use Rattle.cc_calls.specs.declared.held.Held.{Held}

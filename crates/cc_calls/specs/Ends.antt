@@ -18,7 +18,7 @@ use Rattle.cc_model.specs.Good.{IsGood}
 use Rattle.cc_model.specs.History.{history}
 use Rattle.cc_model.specs.Holds.{holds_of, hold_at}
 use Rattle.cc_turns.specs.Standing.{Standing}
-use Rattle.cc_writes.specs.Begins.{BeginsAscending}
+use Rattle.cc_effects.specs.Begins.{BeginsAscending}
 use Rattle.cc_writes.specs.Hands.{Went}
 use Rattle.cc_writes.specs.Ways.{IsFull}
 use Rattle.cc_calls.specs.Answers.{CallEnds, outcome_of}

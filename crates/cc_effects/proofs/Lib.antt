@@ -3,6 +3,7 @@ pub mod WorkSteps
 pub mod CallSteps
 pub mod OtherSteps
 pub mod PageSteps
+pub mod Begun
 pub mod NoncachedSteps
 pub mod FrontLaws
 pub mod Starts

@@ -9,6 +9,7 @@ pub mod Licences
 pub mod LogCalls
 pub mod Throttle
 pub mod PageWrites
+pub mod Begins
 pub mod ReadAhead
 pub mod Levels
 pub mod Noncached

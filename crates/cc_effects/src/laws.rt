@@ -26,6 +26,7 @@ ghost use Rattle.cc_effects.specs.Calls.{IsUnderWay, CallLeft, leaves_entry};
 ghost use Rattle.cc_effects.specs.LogCalls.{AppendLeft, LogFlushLeft};
 ghost use Rattle.cc_effects.specs.Throttle.{DeferLeft, PostLeft};
 ghost use Rattle.cc_effects.specs.PageWrites.{PageWrite, PageWriteLeft, TickLeft};
+ghost use Rattle.cc_effects.specs.Begins.{BeginsAscending};
 ghost use Rattle.cc_effects.specs.ReadAhead.{AheadLeft};
 ghost use Rattle.cc_effects.specs.Levels.{LevelsLeft};
 ghost use Rattle.cc_effects.specs.Noncached.{NcReadLeft, NcWriteLeft};
@@ -120,6 +121,17 @@ pub fn repins_stay_explained()
         UnpinLeft u me id through answered old new → IsIdle me new newer → UnpinLeft u me id through answered old newer }
     ensures before { (u : Setup) (me id : ℕ) (through : Bool) (answered : Outcome) (older old new : List Entry) →
         IsIdle me older old → UnpinLeft u me id through answered old new → UnpinLeft u me id through answered older new }
+{}
+
+/// The transfers that a pass began ascend in every longer stretch in which it placed nothing else, and in two stretches
+/// together of which the second goes on from where the first ended.
+pub fn begins_stay_ascending()
+    ensures after { (me low high : ℕ) (old new newer : List Entry) →
+        BeginsAscending me low high old new → IsIdle me new newer → BeginsAscending me low high old newer }
+    ensures before { (me low high : ℕ) (older old new : List Entry) →
+        IsIdle me older old → BeginsAscending me low high old new → BeginsAscending me low high older new }
+    ensures joined { (me low mid high : ℕ) (old between new : List Entry) →
+        BeginsAscending me low mid old between → BeginsAscending me mid high between new → BeginsAscending me low high old new }
 {}
 
 /// The entry of a call stands after all that its pass had seen as the call began, and in what it has seen

@@ -20,8 +20,9 @@ mod laws;
 
 pub use events::{Event, StepReply};
 pub use laws::{
-    calls_stay_explained, entries_may_stand_where_they_do, entries_stand_after_what_was_seen,
-    faults_are_shown, log_calls_stay_explained, noncached_calls_stay_explained,
-    outcomes_are_as_defined, own_entries_are_licensed, page_writes_stay_explained,
-    repins_stay_explained, steps_and_levels_stay_explained, throttle_stays_explained,
+    begins_stay_ascending, calls_stay_explained, entries_may_stand_where_they_do,
+    entries_stand_after_what_was_seen, faults_are_shown, log_calls_stay_explained,
+    noncached_calls_stay_explained, outcomes_are_as_defined, own_entries_are_licensed,
+    page_writes_stay_explained, repins_stay_explained, steps_and_levels_stay_explained,
+    throttle_stays_explained,
 };

@@ -20,12 +20,12 @@ use Rattle.cc_model.specs.Setup.{Setup}
 use Rattle.cc_step.specs.Step.{IsStop}
 use Rattle.cc_turns.specs.Standing.{Standing}
 use Rattle.cc_turns.specs.Takes.{without_journal}
-use Rattle.cc_writes.specs.Begins.{BeginsNone}
+use Rattle.cc_effects.specs.Begins.{BeginsNone}
 use Rattle.cc_writes.specs.Hands.{HasBook, IsAtRest, SameDisk}
 use Rattle.cc_writes.specs.Visits.{IsFiledNow}
 use Rattle.cc_writes.specs.Ways.{IsFull}
 use Rattle.cc_writes.proofs.Attempting.{number-is, may-as, visited-done, visited-refused, visited-same, full-refused, full-stop}
-use Rattle.cc_writes.proofs.Begun.{none-behind, none-idle}
+use Rattle.cc_effects.proofs.Begun.{none-behind, none-idle}
 use Rattle.cc_writes.proofs.VisitDisks.{disk-same, disk-call}
 use Rattle.cc_writes.proofs.VisitStepping.{disk-grew}
 use Rattle.cc_writes.proofs.Visiting.{Visiting, Visited}

@@ -35,11 +35,11 @@ use Rattle.cc_turns.specs.Standing.{Standing, Held, DiskAtFirst, nothing}
 use Rattle.cc_turns.specs.Takes.{Takes, with_book, without_book}
 use Rattle.cc_turns.proofs.DiskGrows.{open_of-quiet}
 use Rattle.cc_turns.proofs.Taking.{disk_kept, transfer_kept}
-use Rattle.cc_writes.specs.Begins.{BeginsAscending, BeginsNone}
+use Rattle.cc_effects.specs.Begins.{BeginsAscending, BeginsNone}
 use Rattle.cc_writes.specs.Hands.{WentWith}
 use Rattle.cc_writes.specs.Visits.{HasPlaced}
 use Rattle.cc_writes.specs.Ways.{WasAdmitted}
-use Rattle.cc_writes.proofs.Begun.{ascend-none, ascend-then, none-behind, none-idle, none-then}
+use Rattle.cc_effects.proofs.Begun.{ascend-none, ascend-then, none-behind, none-idle, none-then}
 use Rattle.cc_writes.proofs.Others.{under_way-on, some-on}
 use Rattle.cc_writes.proofs.Resting.{is-held}
 use Rattle.cc_writes.specs.Calls.{MayFaultInWriting, PageLeft}

@@ -16,11 +16,11 @@ use Rattle.cc_model.specs.Setup.{Setup}
 use Rattle.cc_step.specs.Step.{StandUnder, MayStep}
 use Rattle.cc_turns.specs.Standing.{Standing}
 use Rattle.cc_turns.specs.Takes.{without_journal}
-use Rattle.cc_writes.specs.Begins.{BeginsNone}
+use Rattle.cc_effects.specs.Begins.{BeginsNone}
 use Rattle.cc_writes.specs.Hands.{HasBook, IsAtRest, SameDisk, WentWith}
 use Rattle.cc_writes.specs.Visits.{IsFiledNow, IsOf}
 use Rattle.cc_writes.proofs.Attempting.{number-is, may-as, visited-refused, visited-same, left-refused, left-stopped, full-refused, full-stop}
-use Rattle.cc_writes.proofs.Begun.{none-behind, none-idle}
+use Rattle.cc_effects.proofs.Begun.{none-behind, none-idle}
 use Rattle.cc_writes.proofs.VisitDisks.{disk-same, disk-call}
 use Rattle.cc_writes.proofs.Placing.{stepping-none}
 use Rattle.cc_writes.proofs.Refusals.{stops-free}

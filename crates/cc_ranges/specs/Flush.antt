@@ -24,7 +24,7 @@ use Rattle.cc_model.specs.Ranges.{span_has, first_of_span}
 use Rattle.cc_model.specs.Refusals.{refusal}
 use Rattle.cc_model.specs.Setup.{Setup}
 use Rattle.cc_turns.specs.Standing.{Standing}
-use Rattle.cc_writes.specs.Begins.{BeginsAscending, BeginsNone}
+use Rattle.cc_effects.specs.Begins.{BeginsAscending, BeginsNone}
 use Rattle.cc_writes.specs.Hands.{Went, WentWith}
 use Rattle.cc_writes.specs.Ways.{IsFullError, IsHalted}
 use Rattle.cc_writes.specs.Writes.{IsToWrite, WantedMemory}

@@ -5,7 +5,7 @@ ghost use Rattle.cc_entry.specs.declared.call.Call.TheVariants as call;
 ghost use Rattle.cc_entry.specs.declared.entry.Entry.{Entry};
 ghost use Rattle.cc_effects.specs.Calls.{CallLeft, IsUnderWay};
 ghost use Rattle.cc_model.specs.Ranges.{first_of_span};
-ghost use Rattle.cc_writes.specs.Begins.{BeginsAscending, BeginsNone};
+ghost use Rattle.cc_effects.specs.Begins.{BeginsAscending, BeginsNone};
 ghost use Rattle.cc_writes.specs.Hands.{HasBook, IsAtRest, SameDisk, Went, WentWith};
 ghost use Rattle.cc_writes.specs.Ways.{IsFull};
 ghost use Rattle.cc_writes.specs.Writes.{HasBoth};

@@ -10,7 +10,7 @@ ghost use Rattle.cc_model.specs.History.{history};
 ghost use Rattle.cc_model.specs.Images.{open_of};
 ghost use Rattle.std.specs.Prelude.{None, Some};
 ghost use Rattle.cc_turns.specs.Standing.{nothing};
-ghost use Rattle.cc_writes.specs.Begins.{BeginsNone};
+ghost use Rattle.cc_effects.specs.Begins.{BeginsNone};
 ghost use Rattle.cc_writes.specs.Hands.{HasBook, IsAtRest, SameDisk, Went, WentWith};
 ghost use Rattle.cc_writes.specs.Visits.{HasPlaced};
 ghost use Rattle.cc_writes.specs.Ways.{IsFull};

@@ -24,13 +24,13 @@ use Rattle.cc_step.specs.declared.faults.Failed.{Failed}
 use Rattle.cc_step.specs.declared.faults.Failed.TheVariants as ended
 use Rattle.cc_turns.specs.Standing.{Standing}
 use Rattle.cc_turns.specs.Takes.{without_journal}
-use Rattle.cc_writes.specs.Begins.{BeginsNone}
+use Rattle.cc_effects.specs.Begins.{BeginsNone}
 use Rattle.cc_writes.specs.Hands.{HasBook, SameDisk}
 use Rattle.cc_writes.specs.Told.{answer_of}
 use Rattle.cc_writes.specs.Visits.{IsFiledNow}
 use Rattle.cc_writes.specs.Ways.{IsFull, IsHalted, IsReason, is_met}
 use Rattle.cc_writes.proofs.Attempting.{filed-front, may-step, number-is, visited-refused, visited-same, full-refused, full-stop}
-use Rattle.cc_writes.proofs.Begun.{none-behind, none-idle}
+use Rattle.cc_effects.proofs.Begun.{none-behind, none-idle}
 use Rattle.cc_writes.proofs.VisitDisks.{disk-call, disk-then}
 use Rattle.cc_writes.proofs.VisitEnding.{fault-is, told-left, overtaken-left, full-halted, memoryless-halted}
 use Rattle.cc_writes.proofs.VisitHalting.{met}

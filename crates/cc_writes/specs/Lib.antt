@@ -6,7 +6,6 @@ pub mod Told
 pub mod Writes
 pub mod Logs
 pub mod Transfers
-pub mod Begins
 pub mod Calls
 pub mod Fetch
 pub mod Work

@@ -9,7 +9,7 @@ ghost use Rattle.cc_effects.specs.Refusals.{may_refuse};
 ghost use Rattle.cc_model.specs.History.{history};
 ghost use Rattle.cc_model.specs.Refusals.{refusal};
 ghost use Rattle.cc_step.specs.Step.{is_answered};
-ghost use Rattle.cc_writes.specs.Begins.{BeginsAscending, BeginsNone};
+ghost use Rattle.cc_effects.specs.Begins.{BeginsAscending, BeginsNone};
 ghost use Rattle.cc_writes.specs.Hands.{HasBook, IsAtRest, SameDisk, Went};
 ghost use Rattle.cc_writes.specs.Ways.{IsFull, IsHalted, IsReason};
 ghost use Rattle.cc_writes.specs.Visits.{IsOf};

@@ -10,7 +10,7 @@ ghost use Rattle.cc_effects.specs.Refusals.{may_refuse};
 ghost use Rattle.cc_step.specs.Fill.{MayLand, LandLeft as BookLandLeft};
 ghost use Rattle.cc_model.specs.Setup.{Setup};
 ghost use Rattle.cc_step.specs.Step.{StandUnder, is_answered, is_stepped};
-ghost use Rattle.cc_writes.specs.Begins.{BeginsNone};
+ghost use Rattle.cc_effects.specs.Begins.{BeginsNone};
 ghost use Rattle.cc_writes.specs.Hands.{HasBook, IsAtRest, SameDisk, Went, WentWith};
 ghost use Rattle.cc_writes.specs.Told.{FitsNext, FitsStepped, StepAs, TriedAs, UnreadTold, answer_of};
 ghost use Rattle.cc_writes.specs.Ways.{FitsIn, IsFull, IsHalted, IsReason, WasWanted};

@@ -10,7 +10,7 @@ use Rattle.cc_step.proofs.Admitted.{admitted}
 use Rattle.cc_turns.specs.Standing.{Standing}
 use Rattle.cc_writes.specs.Writes.{HasBoth, IsToWrite}
 use Rattle.cc_writes.proofs.Disks.{still_of}
-use Rattle.cc_writes.proofs.Begun.{ascend-none}
+use Rattle.cc_effects.proofs.Begun.{ascend-none}
 use Rattle.cc_ranges.specs.Flush.{RoundBegins, RoundLeft}
 use Rattle.cc_ranges.specs.declared.flush.Round.{Round}
 use Rattle.cc_ranges.proofs.FlushHolding.{asks-page, begun-round, round-wrote}

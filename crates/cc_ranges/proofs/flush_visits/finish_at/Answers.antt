@@ -6,7 +6,7 @@ use Rattle.cc_entry.specs.declared.error.CcError.{CcError}
 use Rattle.cc_effects.specs.Calls.{CallLeft}
 use Rattle.cc_turns.specs.Standing.{Standing}
 use Rattle.cc_turns.specs.Takes.{without_journal}
-use Rattle.cc_writes.specs.Begins.{BeginsNone}
+use Rattle.cc_effects.specs.Begins.{BeginsNone}
 use Rattle.cc_writes.specs.Hands.{HasBook, IsAtRest, SameDisk, WentWith}
 use Rattle.cc_writes.specs.Ways.{IsFull}
 use Rattle.cc_writes.proofs.Resting.{rest-went}

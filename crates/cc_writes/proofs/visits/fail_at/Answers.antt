@@ -5,7 +5,7 @@ use Rattle.cc_entry.specs.declared.error.CcError.{CcError}
 use Rattle.cc_entry.specs.declared.reply.Outcome.TheVariants as outcome
 use Rattle.cc_effects.specs.Calls.{CallLeft}
 use Rattle.cc_turns.specs.Standing.{Standing}
-use Rattle.cc_writes.specs.Begins.{BeginsNone}
+use Rattle.cc_effects.specs.Begins.{BeginsNone}
 use Rattle.cc_writes.specs.Hands.{HasBook, SameDisk, WentWith}
 use Rattle.cc_writes.specs.Told.{answer_of}
 use Rattle.cc_writes.specs.Ways.{IsFull, IsReason}
