@@ -1,5 +1,5 @@
 -- Lines that end the hold that a word names, pin it or hold it again: that they end as a line is to.
-use Rattle.std.specs.Prelude.{◌≡◌, ◌≢◌, ℕ, ◌||◌, Bool, true, false, Result, Ok, Err, List, slice_get, slice_set, refl}
+use Rattle.std.specs.Prelude.{◌≡◌, ◌≢◌, ℕ, ◌^◌, ◌||◌, Bool, true, false, Result, Ok, Err, List, slice_get, slice_set, refl}
 use Rattle.std.specs.declared.option.Option.TheVariants.{Some, None}
 use Rattle.std.proofs.Common.{sym, ap, arith}
 use Rattle.std.proofs.lemmas.Bool.{ne_eqb}
@@ -18,6 +18,7 @@ use Rattle.cc_script.specs.declared.script.Action.{Action}
 use Rattle.cc_script.specs.declared.script.Action.TheVariants as action
 use Rattle.cc_model.specs.Good.{IsGood}
 use Rattle.cc_model.specs.Setup.{Setup}
+use Rattle.cc_effects.specs.Begins.{BeginsAscending}
 use Rattle.cc_effects.specs.Repins.{UnpinLeft}
 use Rattle.cc_effects.proofs.Stretches.{idle-none}
 use Rattle.cc_own.specs.Own.{IsUnchanged}
@@ -92,9 +93,9 @@ module _ (old new : Standing) (names now : NamesState) (word : ℕ) (taken : now
         (by-kind bounds bindings need.WriteChain is_write_chain stand used serves) ends.left)
         (λ bounds bindings stand. stand)
 
-  unrepin-answered : (u : Setup) (me id : ℕ) (through : Bool) (ended : Result (Unit {0}) CcError) → UnpinLeft u me id through (outcome_of ended) old.seen new.seen → UnpinAnswered u me through id (told_of ended) old.seen new.seen
-  unrepin-answered u me id through (Ok done) left = left
-  unrepin-answered u me id through (Err e) left = left
+  unrepin-answered : (u : Setup) (me id : ℕ) (through : Bool) (ended : Result (Unit {0}) CcError) → UnpinLeft u me id through (outcome_of ended) old.seen new.seen → BeginsAscending me 0 (2 ^ 51) old.seen new.seen → UnpinAnswered u me through id (told_of ended) old.seen new.seen
+  unrepin-answered u me id through (Ok done) left ascending = record { left = left; ascending = ascending }
+  unrepin-answered u me id through (Err e) left ascending = record { left = left; ascending = ascending }
 
   pub unrepin-line : (held : Held) (through : Bool) (ended : Result (Unit {0}) CcError) → named_at names.named word ≡ Some (named.Repin held) → UnpinEnds old new held through ended → LineEnds old new (action.UnpinRepinned word through) (told_of ended) names now
   unrepin-line held through ended is ends =
@@ -103,7 +104,7 @@ module _ (old new : Standing) (names now : NamesState) (word : ℕ) (taken : now
       (ne_eqb held.id (held_of another).id (stand.apart word other (named.Repin held) another (λ e. differ (sym e)) is also)))
       (λ bounds bindings stand used. on-hold old.number held.id _ (UnpinAnswered old.setup old.number through) (told_of ended) old.seen new.seen
       (named-hold old.streams old.number old.seen word used.bound bindings (named.Repin held) is_repin (has-word old names bounds bindings need.Repin word (named.Repin held) stand used is) refl)
-      (unrepin-answered old.setup old.number held.id through ended ends.left))
+      (unrepin-answered old.setup old.number held.id through ended ends.left ends.ascending))
       (λ bounds bindings stand. stand)
 
 -- The word names no hold that the line may end.

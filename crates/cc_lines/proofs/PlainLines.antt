@@ -38,7 +38,6 @@ plain_call (action.CopyWrite file at bytes) = Some (call.CopyWrite file at bytes
 plain_call (action.Zero file span) = Some (call.Zero file span)
 plain_call (action.SetSizes file allocation size) = Some (call.SetSizes file allocation size)
 plain_call (action.State file) = Some (call.State file)
-plain_call (action.Flush file span) = Some (call.Flush file span)
 plain_call (action.Purge file span) = Some (call.Purge file span)
 plain_call action.IsDirtyData = Some call.IsDirtyData
 plain_call (action.DirtyPages handle) = Some (call.DirtyPages handle)
@@ -64,7 +63,6 @@ module _ (u : Setup) (me : ℕ) (it : Call) (told : Answer) (old new : List Entr
   plain-unchanged (action.Zero file span) is id = answered-unchanged u me id (call.Zero file span) told old new (is-call _ is) refl
   plain-unchanged (action.SetSizes file allocation size) is id = answered-unchanged u me id (call.SetSizes file allocation size) told old new (is-call _ is) refl
   plain-unchanged (action.State file) is id = answered-unchanged u me id (call.State file) told old new (is-call _ is) refl
-  plain-unchanged (action.Flush file span) is id = answered-unchanged u me id (call.Flush file span) told old new (is-call _ is) refl
   plain-unchanged (action.Purge file span) is id = answered-unchanged u me id (call.Purge file span) told old new (is-call _ is) refl
   plain-unchanged action.IsDirtyData is id = answered-unchanged u me id call.IsDirtyData told old new (is-call _ is) refl
   plain-unchanged (action.DirtyPages handle) is id = answered-unchanged u me id (call.DirtyPages handle) told old new (is-call _ is) refl
@@ -83,7 +81,6 @@ module _ (u : Setup) (me : ℕ) (it : Call) (told : Answer) (old new : List Entr
   plain-served bindings (action.Zero file span) is = is-call _ is
   plain-served bindings (action.SetSizes file allocation size) is = is-call _ is
   plain-served bindings (action.State file) is = is-call _ is
-  plain-served bindings (action.Flush file span) is = is-call _ is
   plain-served bindings (action.Purge file span) is = is-call _ is
   plain-served bindings action.IsDirtyData is = is-call _ is
   plain-served bindings (action.DirtyPages handle) is = is-call _ is
@@ -103,7 +100,6 @@ plain-stand new (action.CopyWrite file at bytes) it told bounds bindings names i
 plain-stand new (action.Zero file span) it told bounds bindings names is stand = stand
 plain-stand new (action.SetSizes file allocation size) it told bounds bindings names is stand = stand
 plain-stand new (action.State file) it told bounds bindings names is stand = stand
-plain-stand new (action.Flush file span) it told bounds bindings names is stand = stand
 plain-stand new (action.Purge file span) it told bounds bindings names is stand = stand
 plain-stand new action.IsDirtyData it told bounds bindings names is stand = stand
 plain-stand new (action.DirtyPages handle) it told bounds bindings names is stand = stand

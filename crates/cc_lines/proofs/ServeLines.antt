@@ -1,5 +1,5 @@
 -- How a line that is served goes by its action and its answer: what its call asks, and that it ends as a line is to.
-use Rattle.std.specs.Prelude.{◌≡◌, ℕ, ◌<◌, ◌≤◌, Bool, Result, Ok, Err, List, length}
+use Rattle.std.specs.Prelude.{◌≡◌, ℕ, ◌<◌, ◌≤◌, Bool, Result, Ok, Err, List, length, refl}
 use Rattle.std.specs.declared.option.Option.{Option}
 use Rattle.std.specs.declared.option.Option.TheVariants.{Some}
 use Rattle.std.proofs.Common.{sym, ap, subst, ◌∙◌, arith}
@@ -17,7 +17,7 @@ use Rattle.cc_model.specs.Good.{IsGood}
 use Rattle.cc_model.specs.Setup.{Setup}
 use Rattle.cc_effects.specs.Calls.{CallLeft}
 use Rattle.cc_effects.specs.LogCalls.{LogFlushLeft}
-use Rattle.cc_pieces.specs.Answered.{CallAnswered}
+use Rattle.cc_pieces.specs.Answered.{CallAnswered, FlushAnswered}
 use Rattle.cc_step.specs.Step.{most_asked}
 use Rattle.cc_calls.specs.Answers.{CallEnds, CanCall, IsFree, flag_outcome, lsns_outcome, outcome_of, rows_outcome, state_outcome}
 use Rattle.cc_calls.specs.Flushes.{FlushEnds}
@@ -29,7 +29,7 @@ use Rattle.cc_writes.specs.Ways.{IsFull}
 use Rattle.cc_lines.specs.Holds.{NamesState}
 use Rattle.cc_lines.specs.Line.{CanServe, IsFullTold, LineEnds, flag_told, lsns_told, rows_told, state_told, told_of}
 use Rattle.cc_calls.proofs.Paging.{full-within, most_room}
-use Rattle.cc_lines.proofs.WordLines.{full-told, went-on}
+use Rattle.cc_lines.proofs.WordLines.{answered-unchanged, full-told, stand-on, went-on}
 use Rattle.cc_lines.proofs.UseLines.{told-answered, told-full}
 use Rattle.cc_lines.proofs.PlainLines.{log_flush-line, plain-line, plain_call}
 
@@ -133,11 +133,26 @@ module _ (old new : Standing) (names : NamesState) (asked : Action) (told : Answ
       (plain-line old new (told_of ended) names (told-full (most_asked it) new ended less ends.full) (went-on old new ends.goes_on) (ends.good good) asked it is
       (told-answered old.setup old.number it ended old.seen new.seen ends.left))
 
-  pub flush-line : (file : File) (span : Option Range) (ended : Result (Unit {0}) CcError) → plain_call asked ≡ Some (call.Flush file span) → told ≡ told_of ended → FlushEnds old new file span ended → LineEnds old new asked told names names
-  flush-line file span ended is tells ends =
-      told-as old new asked told (told_of ended) names names tells
-      (plain-line old new (told_of ended) names (told-full 2 new ended (omega arith) ends.full) ends.goes_on ends.good asked (call.Flush file span) is
-      (told-answered old.setup old.number (call.Flush file span) ended old.seen new.seen ends.left))
+  -- a flush, of which the order of its begins is asked too
+  pub flush-line : (file : File) (span : Option Range) (ended : Result (Unit {0}) CcError) → asked ≡ action.Flush file span → told ≡ told_of ended → FlushEnds old new file span ended → LineEnds old new asked told names names
+  flush-line file span ended is tells ends = asked-as old new asked (action.Flush file span) told names names is (told-as old new (action.Flush file span) told (told_of ended) names names tells line)
+    where
+      flushed : FlushAnswered old.setup old.number file span (told_of ended) old.seen new.seen
+      flushed = record { left = told-answered old.setup old.number (call.Flush file span) ended old.seen new.seen ends.left; ascending = ends.ascending }
+
+      line : LineEnds old new (action.Flush file span) (told_of ended) names names
+      line = record {
+        served = λ bounds bindings stand right. (
+          flushed,
+          stand-on old new ends.goes_on ends.good bounds bindings names
+              (λ id. answered-unchanged old.setup old.number id (call.Flush file span) (told_of ended) old.seen new.seen flushed.left refl)
+              stand,
+        );
+        full = told-full 2 new ended (omega arith) ends.full;
+        goes_on = ends.goes_on;
+        good = ends.good;
+        room = refl;
+      }
 
   pub purge-line : (file : File) (span : Option Range) (ended : Result (Unit {0}) CcError) → plain_call asked ≡ Some (call.Purge file span) → told ≡ told_of ended → PurgeEnds old new file span ended → LineEnds old new asked told names names
   purge-line file span ended is tells ends =

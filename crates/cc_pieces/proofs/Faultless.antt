@@ -192,7 +192,7 @@ unrepin-none u me bindings word through told old new left none =
   where
     by : (id : ℕ) (told : Answer) → UnpinAnswered u me through id told old new → tells_fault told ≡ false
     by id (answer.Given r) left = refl
-    by id (answer.Refused e) left = unpin-none u me id through e old new left none
+    by id (answer.Refused e) left = unpin-none u me id through e old new left.left none
     by id other left = absurd left
 
 -- a line of a run
@@ -228,7 +228,7 @@ served-none u me bindings (action.MdlDone word) told old new left none =
 served-none u me bindings (action.MdlAbort word) told old new left none = hold-line-none u me bindings word is_write_chain (λ id. call.EndHold id) told old new left none
 served-none u me bindings (action.SetSizes file allocation size) told old new left none = answered-none u me (call.SetSizes file allocation size) told old new left none
 served-none u me bindings (action.State file) told old new left none = answered-none u me (call.State file) told old new left none
-served-none u me bindings (action.Flush file span) told old new left none = answered-none u me (call.Flush file span) told old new left none
+served-none u me bindings (action.Flush file span) told old new left none = answered-none u me (call.Flush file span) told old new left.left none
 served-none u me bindings (action.Purge file span) told old new left none = answered-none u me (call.Purge file span) told old new left none
 served-none u me bindings (action.NcRead file at len) told old new left none = nc-read-none u me file at len told old new left none
 served-none u me bindings (action.NcWrite file at bytes) told old new left none = nc-write-none u me file at bytes told old new left none

@@ -380,8 +380,8 @@ module _ (u : Setup) (n : ℕ) (handles : HasHandles u) where
   left-held-read me bindings word at len None told old new left = left-hold-line me bindings word is_pin (λ id. call.PinnedRead id at len) told old new (λ id. tt) left
 
   left-unpinned : (me : ℕ) (through : Bool) (id : ℕ) (told : Answer) (old new : List Entry) → UnpinAnswered u me through id told old new → IsLeft u n me old new
-  left-unpinned me through id (answer.Given r) old new left = left-unpin me id through (outcome.Done r) old new left
-  left-unpinned me through id (answer.Refused e) old new left = left-unpin me id through (outcome.Failed e) old new left
+  left-unpinned me through id (answer.Given r) old new left = left-unpin me id through (outcome.Done r) old new left.left
+  left-unpinned me through id (answer.Refused e) old new left = left-unpin me id through (outcome.Failed e) old new left.left
   left-unpinned me through id other old new left = absurd left
 
   left-unrepin : (me : ℕ) (bindings : List Binding) (word : ℕ) (through : Bool) (told : Answer) (old new : List Entry) → UnrepinLine u me bindings word through told old new → IsLeft u n me old new
@@ -424,7 +424,7 @@ module _ (u : Setup) (n : ℕ) (handles : HasHandles u) where
       left-hold-line me bindings word is_write_chain (λ id. call.EndHold id) told old new (λ id. tt) left
   left-served me bindings (action.SetSizes file allocation size) told old new below left = left-answered me (call.SetSizes file allocation size) told old new below left
   left-served me bindings (action.State file) told old new below left = left-answered me (call.State file) told old new below left
-  left-served me bindings (action.Flush file span) told old new below left = left-answered me (call.Flush file span) told old new below left
+  left-served me bindings (action.Flush file span) told old new below left = left-answered me (call.Flush file span) told old new below left.left
   left-served me bindings (action.Purge file span) told old new below left = left-answered me (call.Purge file span) told old new below left
   left-served me bindings (action.NcRead file at len) told old new below left = left-nc-read file below me at len told old new left
   left-served me bindings (action.NcWrite file at bytes) told old new below left = left-nc-write file below me at bytes told old new left

@@ -1,15 +1,16 @@
 -- Lines in longer stretches, one more line of a caller, and the lines that a caller has.
-use Rattle.std.specs.Prelude.{◌≡◌, ℕ, ◌<◌, Bool, true, false, List, [], ◌∷◌, ◌++◌, ◌||◌, length, refl, if◌then◌else◌, Ok, Err}
+use Rattle.std.specs.Prelude.{◌≡◌, ℕ, ◌<◌, ◌^◌, Bool, true, false, List, [], ◌∷◌, ◌++◌, ◌||◌, length, refl, if◌then◌else◌, Ok, Err}
 use Rattle.std.specs.declared.option.Option.{Option}
 use Rattle.std.specs.declared.option.Option.TheVariants.{Some, None}
 use Rattle.std.proofs.Common.{ap, arith}
-use Rattle.cc_entry.specs.Place.{File}
+use Rattle.cc_entry.specs.Place.{File, Range}
 use Rattle.cc_entry.specs.Kinds.{is_map, is_pin, is_repin, is_read_chain, is_write_chain}
 use Rattle.cc_entry.specs.declared.hold.HoldKind.{HoldKind}
 use Rattle.cc_entry.specs.declared.call.Call.{Call}
 use Rattle.cc_entry.specs.declared.call.Call.TheVariants as call
 use Rattle.cc_entry.specs.declared.error.CcError.TheVariants as error
 use Rattle.cc_entry.specs.declared.reply.Reply.TheVariants as reply
+use Rattle.cc_entry.specs.declared.reply.Outcome.{Outcome}
 use Rattle.cc_entry.specs.declared.reply.Outcome.TheVariants as outcome
 use Rattle.cc_entry.specs.declared.answer.Answer.{Answer}
 use Rattle.cc_entry.specs.declared.answer.Answer.TheVariants as answer
@@ -21,13 +22,14 @@ use Rattle.cc_script.specs.declared.script.ActionLine.{ActionLine}
 use Rattle.cc_model.specs.Setup.{Setup}
 use Rattle.cc_model.specs.Room.{room_in}
 use Rattle.cc_effects.specs.Moments.{IsIdle, Between}
+use Rattle.cc_effects.proofs.Begun.{ascend-after, ascend-before}
 use Rattle.cc_effects.proofs.Stretches.{idle-then, idle-none, some-after, some-before}
 use Rattle.cc_effects.proofs.CallSteps.{left-after, left-before}
 use Rattle.cc_effects.proofs.NoncachedSteps.{nc-read-after, nc-read-before, nc-write-after, nc-write-before, unpin-after, unpin-before}
 use Rattle.cc_effects.proofs.OtherSteps.{append-after, append-before, log-flush-after, log-flush-before}
 use Rattle.cc_pieces.specs.Bindings.{Binding, hold_named, OnHold}
-use Rattle.cc_pieces.specs.Answered.{CallAnswered, AppendAnswered, LogFlushAnswered, NcReadAnswered, NcWriteAnswered}
-use Rattle.cc_pieces.specs.HoldLines.{HoldLine, HeldReadBy, UnpinAnswered, UnrepinLine}
+use Rattle.cc_pieces.specs.Answered.{CallAnswered, FlushAnswered, AppendAnswered, LogFlushAnswered, NcReadAnswered, NcWriteAnswered}
+use Rattle.cc_pieces.specs.HoldLines.{HoldLine, HeldReadBy, UnpinAnswered, UnpinEnded, UnrepinLine}
 use Rattle.cc_pieces.specs.Served.{Served, bindings_after}
 use Rattle.cc_pieces.specs.Rooms.{WasFull, HadNoRoom}
 use Rattle.cc_pieces.specs.Runs.{Explains, Ran, bindings_of, asked_of}
@@ -41,6 +43,18 @@ answered-after : (u : Setup) (me : ℕ) (it : Call) (told : Answer) (old new new
 answered-after u me it (answer.Given r) old new newer left idle = left-after u me it (outcome.Done r) old new newer left idle
 answered-after u me it (answer.Refused e) old new newer left idle = left-after u me it (outcome.Failed e) old new newer left idle
 answered-after u me it other old new newer left idle = absurd left
+
+flushed-before : (u : Setup) (me : ℕ) (file : File) (span : Option Range) (told : Answer) (older old new : List Entry) → IsIdle me older old → FlushAnswered u me file span told old new → FlushAnswered u me file span told older new
+flushed-before u me file span told older old new idle flushed = record {
+  left = answered-before u me (call.Flush file span) told older old new idle flushed.left;
+  ascending = ascend-before me 0 (2 ^ 51) older old new idle flushed.ascending;
+}
+
+flushed-after : (u : Setup) (me : ℕ) (file : File) (span : Option Range) (told : Answer) (old new newer : List Entry) → FlushAnswered u me file span told old new → IsIdle me new newer → FlushAnswered u me file span told old newer
+flushed-after u me file span told old new newer flushed idle = record {
+  left = answered-after u me (call.Flush file span) told old new newer flushed.left idle;
+  ascending = ascend-after me 0 (2 ^ 51) old new newer flushed.ascending idle;
+}
 
 appended-before : (u : Setup) (me handle : ℕ) (bytes : List ℕ) (told : Answer) (older old new : List Entry) → IsIdle me older old → AppendAnswered u me handle bytes told old new → AppendAnswered u me handle bytes told older new
 appended-before u me handle bytes (answer.NewLsn lsn) older old new idle left = append-before u me handle bytes (Ok lsn) older old new idle left
@@ -95,9 +109,15 @@ held_read-before : (u : Setup) (me : ℕ) (bindings : List Binding) (word at len
 held_read-before u me bindings word at len (Some id) told older old new idle left = answered-before u me (call.MappedRead id at len) told older old new idle left
 held_read-before u me bindings word at len None told older old new idle left = hold_line-before u me bindings word is_pin (λ id. call.PinnedRead id at len) told older old new idle left
 
+ended-before : (u : Setup) (me : ℕ) (through : Bool) (id : ℕ) (answered : Outcome) (older old new : List Entry) → IsIdle me older old → UnpinEnded u me through id answered old new → UnpinEnded u me through id answered older new
+ended-before u me through id answered older old new idle ended = record {
+  left = unpin-before u me id through answered older old new idle ended.left;
+  ascending = ascend-before me 0 (2 ^ 51) older old new idle ended.ascending;
+}
+
 unpinned-before : (u : Setup) (me : ℕ) (through : Bool) (id : ℕ) (told : Answer) (older old new : List Entry) → IsIdle me older old → UnpinAnswered u me through id told old new → UnpinAnswered u me through id told older new
-unpinned-before u me through id (answer.Given r) older old new idle left = unpin-before u me id through (outcome.Done r) older old new idle left
-unpinned-before u me through id (answer.Refused e) older old new idle left = unpin-before u me id through (outcome.Failed e) older old new idle left
+unpinned-before u me through id (answer.Given r) older old new idle left = ended-before u me through id (outcome.Done r) older old new idle left
+unpinned-before u me through id (answer.Refused e) older old new idle left = ended-before u me through id (outcome.Failed e) older old new idle left
 unpinned-before u me through id other older old new idle left = absurd left
 
 unrepinned-before : (u : Setup) (me : ℕ) (bindings : List Binding) (word : ℕ) (through : Bool) (told : Answer) (older old new : List Entry) → IsIdle me older old → UnrepinLine u me bindings word through told old new → UnrepinLine u me bindings word through told older new
@@ -116,9 +136,15 @@ held_read-after : (u : Setup) (me : ℕ) (bindings : List Binding) (word at len 
 held_read-after u me bindings word at len (Some id) told old new newer left idle = answered-after u me (call.MappedRead id at len) told old new newer left idle
 held_read-after u me bindings word at len None told old new newer left idle = hold_line-after u me bindings word is_pin (λ id. call.PinnedRead id at len) told old new newer left idle
 
+ended-after : (u : Setup) (me : ℕ) (through : Bool) (id : ℕ) (answered : Outcome) (old new newer : List Entry) → UnpinEnded u me through id answered old new → IsIdle me new newer → UnpinEnded u me through id answered old newer
+ended-after u me through id answered old new newer ended idle = record {
+  left = unpin-after u me id through answered old new newer ended.left idle;
+  ascending = ascend-after me 0 (2 ^ 51) old new newer ended.ascending idle;
+}
+
 unpinned-after : (u : Setup) (me : ℕ) (through : Bool) (id : ℕ) (told : Answer) (old new newer : List Entry) → UnpinAnswered u me through id told old new → IsIdle me new newer → UnpinAnswered u me through id told old newer
-unpinned-after u me through id (answer.Given r) old new newer left idle = unpin-after u me id through (outcome.Done r) old new newer left idle
-unpinned-after u me through id (answer.Refused e) old new newer left idle = unpin-after u me id through (outcome.Failed e) old new newer left idle
+unpinned-after u me through id (answer.Given r) old new newer left idle = ended-after u me through id (outcome.Done r) old new newer left idle
+unpinned-after u me through id (answer.Refused e) old new newer left idle = ended-after u me through id (outcome.Failed e) old new newer left idle
 unpinned-after u me through id other old new newer left idle = absurd left
 
 unrepinned-after : (u : Setup) (me : ℕ) (bindings : List Binding) (word : ℕ) (through : Bool) (told : Answer) (old new newer : List Entry) → UnrepinLine u me bindings word through told old new → IsIdle me new newer → UnrepinLine u me bindings word through told old newer
@@ -158,7 +184,7 @@ served-before u me bindings (action.MdlDone word) told older old new idle left =
 served-before u me bindings (action.MdlAbort word) told older old new idle left = hold_line-before u me bindings word is_write_chain (λ id. call.EndHold id) told older old new idle left
 served-before u me bindings (action.SetSizes file allocation size) told older old new idle left = answered-before u me (call.SetSizes file allocation size) told older old new idle left
 served-before u me bindings (action.State file) told older old new idle left = answered-before u me (call.State file) told older old new idle left
-served-before u me bindings (action.Flush file span) told older old new idle left = answered-before u me (call.Flush file span) told older old new idle left
+served-before u me bindings (action.Flush file span) told older old new idle left = flushed-before u me file span told older old new idle left
 served-before u me bindings (action.Purge file span) told older old new idle left = answered-before u me (call.Purge file span) told older old new idle left
 served-before u me bindings (action.NcRead file at len) told older old new idle left = nc_read-before u me file at len told older old new idle left
 served-before u me bindings (action.NcWrite file at bytes) told older old new idle left = nc_write-before u me file at bytes told older old new idle left
@@ -206,7 +232,7 @@ served-after u me bindings (action.MdlDone word) told old new newer left idle =
 served-after u me bindings (action.MdlAbort word) told old new newer left idle = hold_line-after u me bindings word is_write_chain (λ id. call.EndHold id) told old new newer left idle
 served-after u me bindings (action.SetSizes file allocation size) told old new newer left idle = answered-after u me (call.SetSizes file allocation size) told old new newer left idle
 served-after u me bindings (action.State file) told old new newer left idle = answered-after u me (call.State file) told old new newer left idle
-served-after u me bindings (action.Flush file span) told old new newer left idle = answered-after u me (call.Flush file span) told old new newer left idle
+served-after u me bindings (action.Flush file span) told old new newer left idle = flushed-after u me file span told old new newer left idle
 served-after u me bindings (action.Purge file span) told old new newer left idle = answered-after u me (call.Purge file span) told old new newer left idle
 served-after u me bindings (action.NcRead file at len) told old new newer left idle = nc_read-after u me file at len told old new newer left idle
 served-after u me bindings (action.NcWrite file at bytes) told old new newer left idle = nc_write-after u me file at bytes told old new newer left idle

@@ -1,10 +1,11 @@
 -- What a line left, by its answer: a line of one call, and the lines of the calls without an entry.
-use Rattle.std.specs.Prelude.{ℕ, Bool, List, [], ◌∷◌, Ok, Err}
+use Rattle.std.specs.Prelude.{ℕ, ◌^◌, Bool, List, [], ◌∷◌, Ok, Err}
 use Rattle.std.specs.declared.option.Option.{Option}
 use Rattle.std.specs.declared.option.Option.TheVariants.{Some, None}
-use Rattle.cc_entry.specs.Place.{File}
+use Rattle.cc_entry.specs.Place.{File, Range}
 use Rattle.cc_entry.specs.declared.place.Request.{Request}
 use Rattle.cc_entry.specs.declared.call.Call.{Call}
+use Rattle.cc_entry.specs.declared.call.Call.TheVariants as call
 use Rattle.cc_entry.specs.declared.error.CcError.{CcError}
 use Rattle.cc_entry.specs.declared.reply.Reply.TheVariants as reply
 use Rattle.cc_entry.specs.declared.reply.Outcome.TheVariants as outcome
@@ -13,6 +14,7 @@ use Rattle.cc_entry.specs.declared.answer.Answer.TheVariants as answer
 use Rattle.cc_entry.specs.declared.entry.Entry.{Entry}
 use Rattle.cc_model.specs.Setup.{Setup}
 use Rattle.cc_effects.specs.Moments.{Between}
+use Rattle.cc_effects.specs.Begins.{BeginsAscending}
 use Rattle.cc_effects.specs.Calls.{CallLeft}
 use Rattle.cc_effects.specs.LogCalls.{AppendLeft, LogFlushLeft}
 use Rattle.cc_effects.specs.Throttle.{DeferLeft, PostLeft}
@@ -26,6 +28,12 @@ abbrev pub CallAnswered : Setup → ℕ → Call → Answer → Between
 CallAnswered u me it (answer.Given r) old new = CallLeft u me it (outcome.Done r) old new
 CallAnswered u me it (answer.Refused e) old new = CallLeft u me it (outcome.Failed e) old new
 CallAnswered u me it other old new = ⊥
+
+-- a flush: whatever it was answered, the pages that it began to write ascend
+pub record FlushAnswered (u : Setup) (me : ℕ) (file : File) (span : Option Range) (told : Answer) (old new : List Entry)
+    : Type 0 where
+  pub left : CallAnswered u me (call.Flush file span) told old new
+  pub ascending : BeginsAscending me 0 (2 ^ 51) old new
 
 -- an append to a log
 abbrev pub AppendAnswered : Setup → ℕ → ℕ → List ℕ → Answer → Between

@@ -1,16 +1,19 @@
 -- Lines on holds: the word names the hold, by the caller's bindings, and the line makes its call on it.
-use Rattle.std.specs.Prelude.{ℕ, Bool, ◌||◌, List}
+use Rattle.std.specs.Prelude.{ℕ, ◌^◌, Bool, ◌||◌, List}
 use Rattle.std.specs.declared.option.Option.{Option}
 use Rattle.std.specs.declared.option.Option.TheVariants.{Some, None}
 use Rattle.cc_entry.specs.Kinds.{is_map, is_pin, is_repin, is_read_chain, is_write_chain}
 use Rattle.cc_entry.specs.declared.hold.HoldKind.{HoldKind}
 use Rattle.cc_entry.specs.declared.call.Call.{Call}
 use Rattle.cc_entry.specs.declared.call.Call.TheVariants as call
+use Rattle.cc_entry.specs.declared.reply.Outcome.{Outcome}
 use Rattle.cc_entry.specs.declared.reply.Outcome.TheVariants as outcome
 use Rattle.cc_entry.specs.declared.answer.Answer.{Answer}
 use Rattle.cc_entry.specs.declared.answer.Answer.TheVariants as answer
+use Rattle.cc_entry.specs.declared.entry.Entry.{Entry}
 use Rattle.cc_model.specs.Setup.{Setup}
 use Rattle.cc_effects.specs.Moments.{Between}
+use Rattle.cc_effects.specs.Begins.{BeginsAscending}
 use Rattle.cc_effects.specs.Repins.{UnpinLeft}
 use Rattle.cc_pieces.specs.Bindings.{Binding, hold_named, OnHold}
 use Rattle.cc_pieces.specs.Answered.{CallAnswered}
@@ -52,10 +55,15 @@ UnpinLine u me bindings word told old new =
 abbrev pub RepinLine : Setup → ℕ → List Binding → ℕ → Answer → Between
 RepinLine u me bindings word told old new = HoldLine u me bindings word is_pin (λ id. call.Repin id) told old new
 
+-- what the end of a repin left that is answered so: the pages that it began to write ascend
+pub record UnpinEnded (u : Setup) (me : ℕ) (through : Bool) (id : ℕ) (answered : Outcome) (old new : List Entry) : Type 0 where
+  pub left : UnpinLeft u me id through answered old new
+  pub ascending : BeginsAscending me 0 (2 ^ 51) old new
+
 -- the end of a repin
 abbrev pub UnpinAnswered : Setup → ℕ → Bool → ℕ → Answer → Between
-UnpinAnswered u me through id (answer.Given r) old new = UnpinLeft u me id through (outcome.Done r) old new
-UnpinAnswered u me through id (answer.Refused e) old new = UnpinLeft u me id through (outcome.Failed e) old new
+UnpinAnswered u me through id (answer.Given r) old new = UnpinEnded u me through id (outcome.Done r) old new
+UnpinAnswered u me through id (answer.Refused e) old new = UnpinEnded u me through id (outcome.Failed e) old new
 UnpinAnswered u me through id other old new = ⊥
 
 abbrev pub UnrepinLine : Setup → ℕ → List Binding → ℕ → Bool → Answer → Between

@@ -11,7 +11,7 @@ use Rattle.cc_entry.specs.declared.hold.HoldKind.TheVariants as kind
 use Rattle.cc_pieces.specs.Bindings.{Binding, bound, pinned}
 use Rattle.cc_pieces.specs.HoldLines.{PinMappedLine, HeldReadLine, PinnedWriteLine, StampLine, UnpinLine, RepinLine, UnrepinLine}
 use Rattle.cc_pieces.specs.HoldLines.{ChainReadLine, ChainStoreLine, ChainDoneLine, ChainAbortLine}
-use Rattle.cc_pieces.specs.Answered.{CallAnswered, AppendAnswered, LogFlushAnswered, NcReadAnswered, NcWriteAnswered}
+use Rattle.cc_pieces.specs.Answered.{CallAnswered, FlushAnswered, AppendAnswered, LogFlushAnswered, NcReadAnswered, NcWriteAnswered}
 
 -- From one moment to another, the caller's line left what explains its answer. The lines of `steps` alone are none of a
 -- run: their events stand in `Steps`.
@@ -43,7 +43,7 @@ Served u me bindings (action.MdlAbort word) told old new = ChainAbortLine u me b
 Served u me bindings (action.SetSizes file allocation size) told old new =
     CallAnswered u me (call.SetSizes file allocation size) told old new
 Served u me bindings (action.State file) told old new = CallAnswered u me (call.State file) told old new
-Served u me bindings (action.Flush file span) told old new = CallAnswered u me (call.Flush file span) told old new
+Served u me bindings (action.Flush file span) told old new = FlushAnswered u me file span told old new
 Served u me bindings (action.Purge file span) told old new = CallAnswered u me (call.Purge file span) told old new
 Served u me bindings (action.NcRead file at len) told old new = NcReadAnswered u me file at len told old new
 Served u me bindings (action.NcWrite file at bytes) told old new = NcWriteAnswered u me file at bytes told old new

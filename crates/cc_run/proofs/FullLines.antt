@@ -19,6 +19,7 @@ use Rattle.cc_script.specs.declared.script.Action.{Action}
 use Rattle.cc_script.specs.declared.script.Action.TheVariants as action
 use Rattle.cc_model.specs.Setup.{Setup}
 use Rattle.cc_effects.specs.Moments.{Between}
+use Rattle.cc_effects.specs.Repins.{UnpinLeft}
 use Rattle.cc_effects.proofs.Stretches.{grew-after}
 use Rattle.cc_own.proofs.VerbsKeep.{nc_read-unchanged, nc_write-unchanged}
 use Rattle.cc_pieces.specs.Answered.{AppendAnswered, CallAnswered, LogFlushAnswered}
@@ -50,7 +51,7 @@ module _ (u : Setup) (me entries : ℕ) (old new : List Entry) where
   grew-read bindings word at len (Some id) left = grew-call (call.MappedRead id at len) left
   grew-read bindings word at len None left = grew-hold (hold_named bindings word is_pin) (λ id. call.PinnedRead id at len) left
 
-  grew-unpin : (through : Bool) (id : ℕ) → UnpinAnswered u me through id full old new → Grew old new
+  grew-unpin : (through : Bool) (id : ℕ) → UnpinLeft u me id through (outcome.Failed (error.JournalFull entries)) old new → Grew old new
   grew-unpin false id left = record { during = left.during; grew = left.grew }
   grew-unpin true id left =
       let ended = left.2.done.placed in
@@ -64,7 +65,7 @@ module _ (u : Setup) (me entries : ℕ) (old new : List Entry) where
 
   grew-end : (through : Bool) (o : Option ℕ) → OnHold me o (UnpinAnswered u me through) full old new → Grew old new
   grew-end through None left = absurd (cc (left.0))
-  grew-end through (Some id) left = grew-unpin through id left
+  grew-end through (Some id) ended = grew-unpin through id ended.left
 
   grew-append : (handle : ℕ) (bytes : List ℕ) → AppendAnswered u me handle bytes full old new → Grew old new
   grew-append handle bytes left = record { during = left.during; grew = left.grew }
@@ -96,7 +97,7 @@ module _ (u : Setup) (me entries : ℕ) (old new : List Entry) where
   grew-served bindings (action.MdlAbort word) left = grew-hold (hold_named bindings word is_write_chain) (λ id. call.EndHold id) left
   grew-served bindings (action.SetSizes file allocation size) left = grew-call (call.SetSizes file allocation size) left
   grew-served bindings (action.State file) left = grew-call (call.State file) left
-  grew-served bindings (action.Flush file span) left = grew-call (call.Flush file span) left
+  grew-served bindings (action.Flush file span) left = grew-call (call.Flush file span) left.left
   grew-served bindings (action.Purge file span) left = grew-call (call.Purge file span) left
   grew-served bindings (action.NcRead file at len) left = absurd left
   grew-served bindings (action.NcWrite file at bytes) left = absurd left
@@ -158,7 +159,7 @@ module _ (u : Setup) (me done : ℕ) (cause : CcError) (old new : List Entry) wh
   grew-cut_off bindings (action.MdlAbort word) left = absurd (never-call bindings word is_write_chain (λ id. call.EndHold id) left)
   grew-cut_off bindings (action.SetSizes file allocation size) left = absurd left
   grew-cut_off bindings (action.State file) left = absurd left
-  grew-cut_off bindings (action.Flush file span) left = absurd left
+  grew-cut_off bindings (action.Flush file span) left = absurd left.left
   grew-cut_off bindings (action.Purge file span) left = absurd left
   grew-cut_off bindings action.IsDirtyData left = absurd left
   grew-cut_off bindings (action.DirtyPages handle) left = absurd left

@@ -2,6 +2,7 @@ pub mod Opened
 pub mod PiecesOpened
 pub mod Ticks
 pub mod RepinEnds
+pub mod BeginOrders
 pub mod Marks
 pub mod ShimMarks
 pub mod UpdateMarks

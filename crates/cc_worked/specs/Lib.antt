@@ -35,6 +35,7 @@ pub mod PiecesWithoutEntry
 pub mod PiecesLines
 pub mod PiecesShim
 pub mod PiecesRuns
+pub mod PiecesFlushes
 pub mod PiecesAnswered
 pub mod PiecesQueue
 pub mod PiecesEvents

@@ -27,6 +27,7 @@ pub mod noncached;
 pub mod pages;
 pub mod pieces_answered;
 pub mod pieces_events;
+pub mod pieces_flushes;
 pub mod pieces_lines;
 pub mod pieces_noncached;
 pub mod pieces_reads;

@@ -178,7 +178,7 @@ flush-requires g c = record { can = may-on (g.T.Turns.standing c.args.turns.now)
 
 pub returns-in-Flush : goal.returns-in-Flush
 returns-in-Flush g c =
-    flush-line _ _ c.args.names.now _ _ c.requires.good c.in-Flush.file c.in-Flush.span c.flush.result (ap plain_call c.in-Flush.is) c.answered-in-Flush.ensures c.flush.ensures.ends
+    flush-line _ _ c.args.names.now _ _ c.requires.good c.in-Flush.file c.in-Flush.span c.flush.result c.in-Flush.is c.answered-in-Flush.ensures c.flush.ensures.ends
 
 pub is_dirty_data-requires : goal.is_dirty_data-requires
 is_dirty_data-requires g c = record { can = may-free _ _ c.args.names.now c.requires }

@@ -14,8 +14,9 @@ use Rattle.cc_model.specs.Legal.{stream_history}
 use Rattle.cc_model.specs.Filing.{IsFiled}
 use Rattle.cc_effects.specs.Calls.{HasDone, CallLeft}
 use Rattle.cc_effects.proofs.Starts.{begins, ends_done}
-use Rattle.cc_worked.specs.Values.{setup, a}
+use Rattle.cc_worked.specs.Values.{setup, a, done}
 use Rattle.cc_worked.specs.PiecesReads.{a_byte}
+use Rattle.cc_worked.specs.PiecesNoncached.{written_through, hold_alone}
 use Rattle.cc_worked.specs.PiecesLines.{mapped, held_by, pinned_range, repinned_range, next}
 use Rattle.cc_worked.proofs.PiecesOpened.{computed}
 use Rattle.cc_worked.proofs.RepinEnds.{flushed-through, not-flushed}
@@ -68,14 +69,22 @@ returns-clause-chain_aborted c = calls (call.EndHold 1) reply.Unit (held_by (cal
 
 pub returns-clause-unrepinned : goal.returns-clause-unrepinned
 unfolding computed
-returns-clause-unrepinned c =
-    ends_done 1 4 (Some 0) (call.EndHold 2) reply.Unit repinned_range repinned_range (begins 1 (call.EndHold 2) repinned_range) refl (λ during. tt)
+returns-clause-unrepinned c = record {
+  left = ends_done 1 4 (Some 0) (call.EndHold 2) reply.Unit repinned_range repinned_range (begins 1 (call.EndHold 2) repinned_range) refl (λ during. tt);
+  ascending = record { during = done 1 4 (call.EndHold 2) ∷ []; grew = refl; ascend = omega arith };
+}
 
 pub returns-clause-flushed : goal.returns-clause-flushed
-returns-clause-flushed c = flushed-through
+returns-clause-flushed c = record {
+  left = flushed-through;
+  ascending = record { during = written_through; grew = refl; ascend = (omega arith, omega arith) };
+}
 
 pub returns-clause-not_flushed : goal.returns-clause-not_flushed
-returns-clause-not_flushed c = not-flushed
+returns-clause-not_flushed c = record {
+  left = not-flushed;
+  ascending = record { during = hold_alone; grew = refl; ascend = omega arith };
+}
 
 -- a stretch of one call is left by no other
 one_call : (it other : Call) (r : Reply) (old : List Entry) → CallLeft setup 1 other (outcome.Done r) old (next it r ++ old) → Ended it (outcome.Done r) ∷ [] ≡ Ended other (outcome.Done r) ∷ []

@@ -16,7 +16,7 @@ use Rattle.cc_effects.proofs.Stretches.{idle-none, some-begin}
 use Rattle.cc_effects.proofs.Licences.{only-own}
 use Rattle.cc_worked.specs.Values.{setup, a, second, sized, done, answers, synced}
 use Rattle.cc_worked.specs.PiecesReads.{first_resident, two_pages}
-use Rattle.cc_worked.specs.PiecesRuns.{first_bytes, two_full}
+use Rattle.cc_worked.specs.PiecesRuns.{first_bytes, flushes, two_full}
 use Rattle.cc_worked.specs.PiecesWithoutEntry.{flushed_to_three, appended}
 use Rattle.cc_worked.proofs.PiecesOpened.{computed}
 use Rattle.cc_worked.proofs.Marks.{Ended, marks, marked-call, shows}
@@ -40,8 +40,10 @@ returns-clause-asked c = state-told 1 two_full first_resident
 
 pub returns-clause-flushed : goal.returns-clause-flushed
 unfolding computed
-returns-clause-flushed c =
-    done_by 1 1 (Some 0) (call.Flush a None) reply.Unit (synced 1 ∷ []) first_resident (record { each = ((λ is. (refl, some-begin (λ moment. is_admitted (call.Flush a None) 0 moment ≡ true) [] first_resident refl)), tt); one_sync = omega arith; whole = refl }) refl refl (record { after = []; before = []; split = refl; quiet = tt; settled = refl })
+returns-clause-flushed c = record {
+  left = done_by 1 1 (Some 0) (call.Flush a None) reply.Unit (synced 1 ∷ []) first_resident (record { each = ((λ is. (refl, some-begin (λ moment. is_admitted (call.Flush a None) 0 moment ≡ true) [] first_resident refl)), tt); one_sync = omega arith; whole = refl }) refl refl (record { after = []; before = []; split = refl; quiet = tt; settled = refl });
+  ascending = record { during = flushes None; grew = refl; ascend = omega arith };
+}
 
 pub returns-clause-asked_dirty : goal.returns-clause-asked_dirty
 returns-clause-asked_dirty c =
@@ -114,7 +116,7 @@ pub returns-clause-flush_has_no_lsn : goal.returns-clause-flush_has_no_lsn
 returns-clause-flush_has_no_lsn c left = left
 
 pub returns-clause-no_other_span : goal.returns-clause-no_other_span
-returns-clause-no_other_span c left = other (one_call (call.Flush a None) reply.Unit (done 1 1 (call.Flush a (Some first_bytes)) ∷ synced 1 ∷ []) left)
+returns-clause-no_other_span c left = other (one_call (call.Flush a None) reply.Unit (done 1 1 (call.Flush a (Some first_bytes)) ∷ synced 1 ∷ []) left.left)
   where
     other : Ended (call.Flush a (Some first_bytes)) (outcome.Done reply.Unit) ∷ [] ≡ Ended (call.Flush a None) (outcome.Done reply.Unit) ∷ [] → ⊥
     other same = absurd (cc)
