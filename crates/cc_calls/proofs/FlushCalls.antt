@@ -10,7 +10,6 @@ use Rattle.cc_entry.specs.declared.entry.Entry.{Entry}
 use Rattle.cc_entry.specs.declared.entry.Entry.TheVariants as entry
 use Rattle.cc_entry.specs.declared.entry.End.TheVariants as how
 use Rattle.cc_entry.specs.declared.error.CcError.{CcError}
-use Rattle.cc_entry.specs.declared.error.CcError.TheVariants as error
 use Rattle.cc_entry.specs.declared.reply.Outcome.TheVariants as outcome
 use Rattle.cc_entry.specs.declared.reply.Reply.{Reply}
 use Rattle.cc_entry.specs.declared.reply.Reply.TheVariants as reply
@@ -33,6 +32,7 @@ use Rattle.cc_effects.specs.Begins.{BeginsAscending}
 use Rattle.cc_writes.specs.Hands.{Went}
 use Rattle.cc_effects.proofs.Begun.{ascend-none, ascend-then, none-idle}
 use Rattle.cc_writes.specs.Ways.{IsFull}
+use Rattle.cc_writes.specs.Calls.{IsFullWriting}
 use Rattle.cc_writes.specs.Fetch.{WentOn}
 use Rattle.cc_calls.specs.Answers.{outcome_of}
 use Rattle.cc_calls.specs.Flushes.{LeavesClean, IsDurable, FlushEnds}
@@ -103,7 +103,7 @@ module _ (u : Setup) (me : ℕ) (file : File) (span : Option Range) (r : Reply) 
       longer later = ap (λ l. later ++ l) split ∙ sym (append_assoc later after (sync ∷ (left.has_done.before ++ old)))
 
 -- what a flush leaves, where the rest is known of it
-pub flush-ends : (w z : Standing) (file : File) (span : Option Range) (answer : Result (Unit {0}) CcError) → CallLeft w.setup w.number (call.Flush file span) (outcome_of answer) w.seen z.seen → IsFull 2 z answer → WentOn w z → IsGood w.setup z.seen → BeginsAscending w.number 0 (2 ^ 51) w.seen z.seen → FlushEnds w z file span answer
+pub flush-ends : (w z : Standing) (file : File) (span : Option Range) (answer : Result (Unit {0}) CcError) → CallLeft w.setup w.number (call.Flush file span) (outcome_of answer) w.seen z.seen → IsFullWriting (call.Flush file span) z answer → WentOn w z → IsGood w.setup z.seen → BeginsAscending w.number 0 (2 ^ 51) w.seen z.seen → FlushEnds w z file span answer
 flush-ends w z file span (Ok _) left full on good begun = record {
   left = left;
   full = full;
@@ -145,12 +145,6 @@ went-both w v x y z s free first second went given = record {
 pub setup-both : (w v x y : Standing) (s : ℕ) → Takes (with_device s) w v → Takes (with_book s) v x → Went x y → y.setup ≡ w.setup
 setup-both w v x y s first second went =
     ap (λ (a : Standing). a.setup) went.same ∙ (ap (λ (a : Standing). a.setup) second.same ∙ ap (λ (a : Standing). a.setup) first.same)
-
--- a journal that is full is so to the pass whatever turns it holds
-pub full-given : (y : Standing) (answer : Result (Unit {0}) CcError) → IsFull 2 y answer → IsFull 2 (without_device (without_book y)) answer
-full-given y (Ok _) full = tt
-full-given y (Err (error.JournalFull entries)) full = full
-full-given y (Err other) full = tt
 
 -- What the pass begins to write with both turns it begins since before it took them.
 pub begun-both : (w v x y z : Standing) (s : ℕ) → Takes (with_device s) w v → Takes (with_book s) v x → BeginsAscending x.number 0 (2 ^ 51) x.seen y.seen → z ≡ without_device (without_book y) → BeginsAscending w.number 0 (2 ^ 51) w.seen z.seen

@@ -1,6 +1,6 @@
 -- What a call leaves that needs pages: in one turn of its stream's book, or with the turn of the disk too.
 use Rattle.std.specs.Prelude.{◌≡◌, ℕ, Bool, true, false, ◌==◌, List, [], ◌∷◌, ◌++◌, max, Result, Ok, Err, refl}
-use Rattle.std.proofs.Common.{ap, sym, ◌∙◌, inl, inr, append_assoc, subst, true≢false}
+use Rattle.std.proofs.Common.{ap, sym, ◌∙◌, arith, inl, inr, append_assoc, subst, true≢false}
 use Rattle.std.proofs.Math.Nat.{le-max_left, le-max_right}
 use Rattle.cc_entry.specs.declared.call.Call.{Call}
 use Rattle.cc_entry.specs.declared.entry.Entry.{Entry}
@@ -27,6 +27,7 @@ use Rattle.cc_writes.specs.declared.visits.Tried.{Tried}
 use Rattle.cc_writes.specs.declared.visits.Tried.TheVariants as tried
 use Rattle.cc_writes.specs.declared.tell.Returned.{Returned}
 use Rattle.cc_writes.specs.Ways.{EndedSo, IsFull}
+use Rattle.cc_writes.specs.Calls.{IsFullWriting}
 use Rattle.cc_writes.specs.Fetch.{IsFullFetching, WentOn}
 use Rattle.cc_calls.specs.Paged.{Paged, is_paged}
 use Rattle.cc_calls.specs.Pages.{HadMissed, IsFullFor}
@@ -40,6 +41,11 @@ most_room it = max 2 (most_asked it)
 pub full-within : {A : Type 0} (it : Call) (w v : Standing) (answer : Result A CcError) → IsFullFor it w v answer → IsFull (most_room it) v answer
 full-within it w v answer (inl full) = full-answer (most_asked it) (most_room it) v answer (le-max_right 2 (most_asked it)) full
 full-within it w v answer (inr full) = full-answer 2 (most_room it) v answer (le-max_left 2 (most_asked it)) full.2
+
+-- and as many as one that writes pages may ask
+pub writing-within : {A : Type 0} (it : Call) (w : Standing) (answer : Result A CcError) → IsFullWriting it w answer → IsFull 2 w answer
+writing-within it w answer (inl full) = full-answer 1 2 w answer (omega arith) full
+writing-within it w answer (inr full) = full.1
 
 -- what its steps asked is said of the call
 full-for : {A : Type 0} (it : Call) (w v : Standing) (answer : Result A CcError) → HadMissed w.number it w.seen v.seen → IsFullFetching it v answer → IsFullFor it w v answer

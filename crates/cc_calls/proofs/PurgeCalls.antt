@@ -20,7 +20,7 @@ use Rattle.cc_model.specs.Residency.{residents}
 use Rattle.cc_model.specs.Setup.{Setup}
 use Rattle.cc_ranges.specs.Purge.{WasEmptiedAlone}
 use Rattle.cc_turns.specs.Standing.{Standing}
-use Rattle.cc_writes.specs.Ways.{IsFull}
+use Rattle.cc_writes.specs.Calls.{IsFullWriting}
 use Rattle.cc_writes.specs.Fetch.{WentOn}
 use Rattle.cc_calls.specs.Answers.{outcome_of}
 use Rattle.cc_calls.specs.Purges.{IsPurged, PurgeEnds}
@@ -52,7 +52,7 @@ module _ (u : Setup) (me : ℕ) (file : File) (span : Option Range) (old new : L
           (may-stand u me left.placed.nth left.placed.stream (call.Purge file span) (outcome.Done reply.Unit) left.placed.later (left.earlier ++ old) new left.placed.grew good).may_end.1
 
 -- what a purge leaves, where the rest is known of it
-pub purge-ends : (w z : Standing) (file : File) (span : Option Range) (answer : Result (Unit {0}) CcError) → CallLeft w.setup w.number (call.Purge file span) (outcome_of answer) w.seen z.seen → IsFull 2 z answer → WentOn w z → IsGood w.setup z.seen → OnOk answer (WasEmptiedAlone w.number file.stream w.seen z.seen) → PurgeEnds w z file span answer
+pub purge-ends : (w z : Standing) (file : File) (span : Option Range) (answer : Result (Unit {0}) CcError) → CallLeft w.setup w.number (call.Purge file span) (outcome_of answer) w.seen z.seen → IsFullWriting (call.Purge file span) z answer → WentOn w z → IsGood w.setup z.seen → OnOk answer (WasEmptiedAlone w.number file.stream w.seen z.seen) → PurgeEnds w z file span answer
 purge-ends w z file span (Ok _) left full on good emptied = record {
   left = left;
   full = full;

@@ -2,7 +2,7 @@
 use Rattle.std.specs.Prelude.{◌≡◌, ℕ, ◌+◌, ◌<◌, ◌^◌, Bool, true, false, ◌&&◌, List, ◌∷◌, ◌++◌, length, Contains, Result, Ok, Err, OnOk, refl}
 use Rattle.std.specs.declared.option.Option.{Option}
 use Rattle.std.specs.declared.option.Option.TheVariants.{Some}
-use Rattle.std.proofs.Common.{ap, sym, ◌∙◌, subst, arith, append_assoc}
+use Rattle.std.proofs.Common.{ap, sym, ◌∙◌, inl, subst, arith, append_assoc}
 use Rattle.std.proofs.lemmas.Bool.{eq-eqb}
 use Rattle.cc_entry.specs.Place.{File, Page, Range}
 use Rattle.cc_entry.specs.declared.call.Call.TheVariants as call
@@ -35,6 +35,7 @@ use Rattle.cc_own.proofs.HeldPages.{held-within}
 use Rattle.cc_turns.specs.Standing.{Standing}
 use Rattle.cc_effects.specs.Begins.{BeginsAscending, BeginsNone}
 use Rattle.cc_effects.proofs.Begun.{ascend-none, ascend-then, none-behind, none-idle, none-then, none-works}
+use Rattle.cc_writes.specs.Calls.{IsFullWriting}
 use Rattle.cc_calls.specs.Held.{IsHolding, range_of}
 use Rattle.cc_calls.specs.Ends.{HoldEnded, UnpinEnds}
 use Rattle.cc_calls.specs.declared.held.Held.{Held}
@@ -85,7 +86,7 @@ begun-ended w v held ended =
 pub unpinned-alone : (w v : Standing) (held : Held) → HoldEnded w v held → UnpinEnds w v held false (Ok tt)
 unpinned-alone w v held ended = record {
   left = ended.left;
-  full = tt;
+  full = inl tt;
   goes_on = record { same = same ∙ sym (ap (λ (y : Standing). record w { seen = v.seen; others = v.others; device_turns = y.device_turns }) same) };
   good = ended.good;
   ascending = ascend-none w.number 0 (2 ^ 51) w.seen v.seen (omega arith) (begun-ended w v held ended);
@@ -158,7 +159,7 @@ module _ (w v : Standing) (of_kind : HoldKind → Bool) (held : Held) (h : IsHol
     pub unpinned-through : UnpinEnds w x held true answer
     unpinned-through = record {
       left = (v.seen, h.hold, hold-gone, flush-left);
-      full = flushed.full;
+      full = subst (λ (r : Range). IsFullWriting (call.Flush held.file (Some r)) x answer) is flushed.full;
       goes_on = record { same = flushed.goes_on.same ∙ ap (λ (y : Standing). record y { seen = x.seen; others = x.others; device_turns = x.device_turns }) ended.goes_on.same };
       good = rw same-setup at flushed.good;
       ascending = begun;

@@ -19,11 +19,12 @@ use Rattle.cc_model.specs.History.{history}
 use Rattle.cc_model.specs.Holds.{holds_of, hold_at}
 use Rattle.cc_turns.specs.Standing.{Standing}
 use Rattle.cc_effects.specs.Begins.{BeginsAscending}
+use Rattle.cc_writes.specs.Calls.{IsFullWriting}
 use Rattle.cc_writes.specs.Hands.{Went}
 use Rattle.cc_writes.specs.Ways.{IsFull}
 use Rattle.cc_calls.specs.Answers.{CallEnds, outcome_of}
 use Rattle.cc_calls.specs.Flushes.{IsDurable}
-use Rattle.cc_calls.specs.Pages.{IsFullFor, IsFullOf, PagesLeft, StaysGood, WentOn}
+use Rattle.cc_calls.specs.Pages.{IsFullFor, PagesLeft, StaysGood, WentOn}
 use Rattle.cc_calls.specs.Held.{IsHolding, range_of}
 use Rattle.cc_calls.specs.declared.held.Held.{Held}
 use Rattle.cc_model.specs.Room.{owes_set_dirty}
@@ -141,11 +142,12 @@ pub record RepinEnds (old new : Standing) (of_kind : HoldKind → Bool) (pinned 
   pub holding : IfOk answer (IsHolding new of_kind)
   pub pinned_still : IsHolding new is_pin pinned
 
--- The end of a repin was answered so. The pages that it began to write ascend. Without write through nothing refuses it.
--- With write through, and done, the range is durable: a sync settled each touch of it that was there as the call began.
+-- The end of a repin was answered so. The pages that it began to write ascend, and it finds the journal full only where a flush
+-- of its range does. Without write through nothing refuses it. With write through, and done, the range is durable: a sync
+-- settled each touch of it that was there as the call began.
 pub record UnpinEnds (old new : Standing) (repinned : Held) (through : Bool) (answer : Result (Unit {0}) CcError) : Type 0 where
   pub left : UnpinLeft old.setup old.number repinned.id through (outcome_of answer) old.seen new.seen
-  pub full : IsFullOf new answer
+  pub full : IsFullWriting (call.Flush repinned.file (Some (range_of repinned))) new answer
   pub goes_on : WentOn old new
   pub good : IsGood old.setup new.seen
   pub ascending : BeginsAscending old.number 0 (2 ^ 51) old.seen new.seen

@@ -20,8 +20,9 @@ use Rattle.cc_model.specs.Setup.{Setup}
 use Rattle.cc_model.specs.Touches.{is_dirty}
 use Rattle.cc_turns.specs.Standing.{Standing}
 use Rattle.cc_effects.specs.Begins.{BeginsAscending}
+use Rattle.cc_writes.specs.Calls.{IsFullWriting}
 use Rattle.cc_calls.specs.Answers.{outcome_of}
-use Rattle.cc_calls.specs.Pages.{IsFullOf, WentOn}
+use Rattle.cc_calls.specs.Pages.{WentOn}
 
 -- Whatever was placed from one moment to another is the pass's own, as on a desk.
 pub record WasAlone (me : ℕ) (old new : List Entry) : Type 0 where
@@ -48,13 +49,14 @@ pub record IsDurable (u : Setup) (me s : ℕ) (span : Option Range) (old new : L
       Contains (crash_pages pages (history (later ++ new) s) p) content →
       IsKeptSince pages s p bytes (later ++ after) (entry.Sync me s how.Good ∷ (before ++ old)) content
 
--- A flush of a span was answered so: it left what explains its answer, a journal that is full is full, the pass goes
--- on as it stood and may call again, and what it has seen is good. Whatever it was answered, the pages that it began to
--- write ascend. Where it was done, the span is clean if the pass was alone, and durable whoever else was there.
+-- A flush of a span was answered so: it left what explains its answer; where it finds the journal full, there is no room for
+-- one entry, or for the two of the transfer of a page that is to be written then; the pass goes on as it stood and may call
+-- again, and what it has seen is good. Whatever it was answered, the pages that it began to write ascend. Where it was done,
+-- the span is clean if the pass was alone, and durable whoever else was there.
 pub record FlushEnds (old new : Standing) (file : File) (span : Option Range)
     (answer : Result (Unit {0}) CcError) : Type 0 where
   pub left : CallLeft old.setup old.number (call.Flush file span) (outcome_of answer) old.seen new.seen
-  pub full : IsFullOf new answer
+  pub full : IsFullWriting (call.Flush file span) new answer
   pub goes_on : WentOn old new
   pub good : IsGood old.setup new.seen
   pub ascending : BeginsAscending old.number 0 (2 ^ 51) old.seen new.seen

@@ -24,11 +24,6 @@ use Rattle.cc_ranges.specs.Flush.{outcome_of}
 -- turn of a disk.
 pub use Rattle.cc_writes.specs.Fetch.{WentOn}
 
--- Where a flush or a purge finds the journal full, it has so many entries, and no room beside what is owed and under way:
--- for one more, or for the two of a transfer.
-abbrev pub IsFullOf : {A : Type 0} → Standing → Result A CcError → Type 0
-IsFullOf w answer = IsFull 2 w answer
-
 -- What the pass has seen stays good.
 abbrev pub StaysGood : Standing → Standing → Type 0
 StaysGood old new = IsGood old.setup old.seen → IsGood old.setup new.seen

@@ -17,8 +17,9 @@ use Rattle.cc_model.specs.Ranges.{span_has}
 use Rattle.cc_model.specs.Residency.{is_resident}
 use Rattle.cc_ranges.specs.Purge.{WasEmptiedAlone}
 use Rattle.cc_turns.specs.Standing.{Standing}
+use Rattle.cc_writes.specs.Calls.{IsFullWriting}
 use Rattle.cc_calls.specs.Answers.{outcome_of}
-use Rattle.cc_calls.specs.Pages.{IsFullOf, WentOn}
+use Rattle.cc_calls.specs.Pages.{WentOn}
 
 -- The purge was done behind a front at which no page of its span was resident.
 pub record IsPurged (me : ℕ) (file : File) (span : Option Range) (old new : List Entry) : Type 0 where
@@ -32,13 +33,14 @@ pub record IsPurged (me : ℕ) (file : File) (span : Option Range) (old new : Li
   pub quiet : Others me later
   pub none : (p : ℕ) → span_has span p ≡ true → is_resident (history (earlier ++ old) file.stream) p ≡ false
 
--- A purge of a span was answered so: it left what explains its answer, a journal that is full is full, the pass goes on
--- as it stood and may call again, and what it has seen is good. Where it was done, no page of the span was resident, and
--- nobody else changed the stream while it was emptied.
+-- A purge of a span was answered so: it left what explains its answer; where it finds the journal full, there is no room for
+-- one entry, or for the two of the transfer of a page that is to be written then; the pass goes on as it stood and may call
+-- again, and what it has seen is good. Where it was done, no page of the span was resident, and nobody else changed the
+-- stream while it was emptied.
 pub record PurgeEnds (old new : Standing) (file : File) (span : Option Range)
     (answer : Result (Unit {0}) CcError) : Type 0 where
   pub left : CallLeft old.setup old.number (call.Purge file span) (outcome_of answer) old.seen new.seen
-  pub full : IsFullOf new answer
+  pub full : IsFullWriting (call.Purge file span) new answer
   pub goes_on : WentOn old new
   pub good : IsGood old.setup new.seen
   pub purged : OnOk answer (IsPurged old.number file span old.seen new.seen)

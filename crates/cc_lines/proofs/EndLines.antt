@@ -32,7 +32,9 @@ use Rattle.cc_calls.specs.Answers.{outcome_of}
 use Rattle.cc_calls.specs.Pages.{WentOn}
 use Rattle.cc_turns.specs.Standing.{Standing}
 use Rattle.cc_calls.specs.Ends.{HoldEnded, UnpinEnds}
+use Rattle.cc_calls.specs.Held.{range_of}
 use Rattle.cc_calls.specs.declared.held.Held.{Held}
+use Rattle.cc_calls.proofs.Paging.{writing-within}
 use Rattle.cc_lines.specs.Holds.{NamesState, held_of, kind_of, named_at}
 use Rattle.cc_lines.specs.Line.{CanServe, IsFullTold, LineEnds, StandFor, told_of}
 use Rattle.cc_lines.specs.declared.holds.Named.{Named}
@@ -99,7 +101,7 @@ module _ (old new : Standing) (names now : NamesState) (word : ℕ) (taken : now
 
   pub unrepin-line : (held : Held) (through : Bool) (ended : Result (Unit {0}) CcError) → named_at names.named word ≡ Some (named.Repin held) → UnpinEnds old new held through ended → LineEnds old new (action.UnpinRepinned word through) (told_of ended) names now
   unrepin-line held through ended is ends =
-      taking (action.UnpinRepinned word through) (told_of ended) need.Repin ends.goes_on ends.good (told-full 2 new ended (omega arith) ends.full) (λ bounds right. right)
+      taking (action.UnpinRepinned word through) (told_of ended) need.Repin ends.goes_on ends.good (told-full 2 new ended (omega arith) (writing-within (call.Flush held.file (Some (range_of held))) new ended ends.full)) (λ bounds right. right)
       (λ bounds bindings stand used other another differ also. unpin-unchanged old.setup old.number (held_of another).id held.id through (outcome_of ended) old.seen new.seen ends.left
       (ne_eqb held.id (held_of another).id (stand.apart word other (named.Repin held) another (λ e. differ (sym e)) is also)))
       (λ bounds bindings stand used. on-hold old.number held.id _ (UnpinAnswered old.setup old.number through) (told_of ended) old.seen new.seen

@@ -28,7 +28,7 @@ use Rattle.cc_turns.specs.Standing.{Standing}
 use Rattle.cc_writes.specs.Ways.{IsFull}
 use Rattle.cc_lines.specs.Holds.{NamesState}
 use Rattle.cc_lines.specs.Line.{CanServe, IsFullTold, LineEnds, flag_told, lsns_told, rows_told, state_told, told_of}
-use Rattle.cc_calls.proofs.Paging.{full-within, most_room}
+use Rattle.cc_calls.proofs.Paging.{full-within, most_room, writing-within}
 use Rattle.cc_lines.proofs.WordLines.{answered-unchanged, full-told, stand-on, went-on}
 use Rattle.cc_lines.proofs.UseLines.{told-answered, told-full}
 use Rattle.cc_lines.proofs.PlainLines.{log_flush-line, plain-line, plain_call}
@@ -148,7 +148,7 @@ module _ (old new : Standing) (names : NamesState) (asked : Action) (told : Answ
               (λ id. answered-unchanged old.setup old.number id (call.Flush file span) (told_of ended) old.seen new.seen flushed.left refl)
               stand,
         );
-        full = told-full 2 new ended (omega arith) ends.full;
+        full = told-full 2 new ended (omega arith) (writing-within (call.Flush file span) new ended ends.full);
         goes_on = ends.goes_on;
         good = ends.good;
         room = refl;
@@ -157,7 +157,7 @@ module _ (old new : Standing) (names : NamesState) (asked : Action) (told : Answ
   pub purge-line : (file : File) (span : Option Range) (ended : Result (Unit {0}) CcError) → plain_call asked ≡ Some (call.Purge file span) → told ≡ told_of ended → PurgeEnds old new file span ended → LineEnds old new asked told names names
   purge-line file span ended is tells ends =
       told-as old new asked told (told_of ended) names names tells
-      (plain-line old new (told_of ended) names (told-full 2 new ended (omega arith) ends.full) ends.goes_on ends.good asked (call.Purge file span) is
+      (plain-line old new (told_of ended) names (told-full 2 new ended (omega arith) (writing-within (call.Purge file span) new ended ends.full)) ends.goes_on ends.good asked (call.Purge file span) is
       (told-answered old.setup old.number (call.Purge file span) ended old.seen new.seen ends.left))
 
   -- the questions

@@ -42,11 +42,11 @@ use Rattle.cc_writes.specs.Ways.{WasAdmitted}
 use Rattle.cc_effects.proofs.Begun.{ascend-none, ascend-then, none-behind, none-idle, none-then}
 use Rattle.cc_writes.proofs.Others.{under_way-on, some-on}
 use Rattle.cc_writes.proofs.Resting.{is-held}
-use Rattle.cc_writes.specs.Calls.{MayFaultInWriting, PageLeft}
+use Rattle.cc_writes.specs.Calls.{IsFullWriting, MayFaultInWriting, PageLeft}
 use Rattle.cc_writes.specs.Writes.{HasBoth, HasTransferred, WantedMemory}
 use Rattle.cc_writes.proofs.Halting.{given-up}
 use Rattle.cc_writes.proofs.OneVisit.{went-then}
-use Rattle.cc_ranges.specs.Flush.{IsFlushing, IsAtPage, IsAtSync, IsAtEnd, IsSyncTold, RoundBegins, RoundLeft, round_of}
+use Rattle.cc_ranges.specs.Flush.{IsFlushing, IsAtPage, IsAtSync, IsAtEnd, IsSyncTold, IsFullRound, RoundBegins, RoundLeft, round_of}
 use Rattle.cc_ranges.specs.declared.flush.Round.{Round}
 use Rattle.cc_ranges.specs.declared.flush.Round.TheVariants as round
 use Rattle.cc_ranges.specs.Settled.{IsSettledAll}
@@ -71,6 +71,11 @@ round-left u w file span page (Ok again) begun new at left shown =
     one : (n : ℕ) → suc n ≡ n + 1
     one n = omega arith
 round-left u w file span page (Err e) begun new at left shown = left
+
+-- a round that wrote a page found no room as that did
+pub full-round : (it : Call) (w : Standing) (page : ℕ) (written : Result Call CcError) → IsFullWriting it w written → IsFullRound it w (round_of written page)
+full-round it w page (Ok again) full = tt
+full-round it w page (Err e) full = full
 
 -- the same where the pass is said to stand as it did before the step
 pub round-wrote : (w v : Standing) (flight n : ℕ) (file : File) (span : Option Range) (page : ℕ) (written : Result Call CcError) (new : List Entry) → WentWith flight w v → n ≡ file.stream → ((begun : List Entry) → IsUnderWay v.number (call.Flush file span) begun v.seen → PageLeft v.setup v.number (call.Flush file span) written begun new) → IfOk written (λ again. HasTransferred v (record { stream = n; page = page }) how.Good false new) → (begun : List Entry) → IsAtPage w.setup w.number file span page begun v.seen → RoundLeft w.setup w.number file span (round_of written page) begun new

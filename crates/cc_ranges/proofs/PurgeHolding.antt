@@ -17,10 +17,9 @@ use Rattle.cc_model.specs.Ranges.{span_has}
 use Rattle.cc_model.specs.Setup.{Setup}
 use Rattle.cc_turns.specs.Standing.{Standing}
 use Rattle.cc_writes.specs.Hands.{Went, WentWith}
-use Rattle.cc_writes.specs.Calls.{MayFaultInWriting, PageLeft}
+use Rattle.cc_writes.specs.Calls.{IsFullWriting, MayFaultInWriting, PageLeft}
 use Rattle.cc_writes.specs.Writes.{HasBoth}
 use Rattle.cc_writes.proofs.OneVisit.{went-then}
-use Rattle.cc_writes.specs.Ways.{IsFull}
 use Rattle.cc_ranges.specs.Flush.{outcome_of}
 use Rattle.cc_ranges.specs.Alone.{NobodyElseChanged}
 use Rattle.cc_ranges.specs.Purge.{RoundLeft, RoundPlaced, IsFullRound, WentUpOnce, ended_of, round_of}
@@ -40,6 +39,11 @@ asks-page file span s page past admitted here has =
 round-left : (u : Setup) (me : ℕ) (file : File) (span : Option Range) (page : ℕ) (written : Result Call CcError) (begun new : List Entry) → PageLeft u me (call.Purge file span) written begun new → RoundLeft u me file span (round_of written page) begun new
 round-left u me file span page (Ok again) begun new left = left.1
 round-left u me file span page (Err e) begun new left = left
+
+-- a round that wrote a page found no room as that did
+pub full-round : (it : Call) (w : Standing) (page : ℕ) (written : Result Call CcError) → IsFullWriting it w written → IsFullRound it w (round_of written page)
+full-round it w page (Ok again) full = tt
+full-round it w page (Err e) full = full
 
 -- the same where the pass is said to stand as it did before the step
 pub round-wrote : (w v : Standing) (file : File) (span : Option Range) (page : ℕ) (written : Result Call CcError) (new : List Entry) → Went w v → ((begun : List Entry) → IsUnderWay v.number (call.Purge file span) begun v.seen → PageLeft v.setup v.number (call.Purge file span) written begun new) → (begun : List Entry) → IsUnderWay w.number (call.Purge file span) begun v.seen → RoundLeft w.setup w.number file span (round_of written page) begun new
@@ -68,14 +72,14 @@ ended-left u me file span (round.Ended other) answer begun new is left = subst (
 ended-left u me file span (round.CameTo to) answer begun new is left = absurd (cc)
 ended-left u me file span round.GoesOn answer begun new is left = absurd (cc)
 
-pub ended-full : (asked : ℕ) (w : Standing) (came : Round) (answer : Result (Unit {0}) CcError) → ended_of came ≡ Some answer → IsFullRound asked w came → IsFull asked w answer
-ended-full asked w (round.Ended other) answer is full = subst (λ (a : Option (Result (Unit {0}) CcError)). Full a) is full
+pub ended-full : (it : Call) (w : Standing) (came : Round) (answer : Result (Unit {0}) CcError) → ended_of came ≡ Some answer → IsFullRound it w came → IsFullWriting it w answer
+ended-full it w (round.Ended other) answer is full = subst (λ (a : Option (Result (Unit {0}) CcError)). Full a) is full
   where
     Full : Option (Result (Unit {0}) CcError) → Type 0
-    Full (Some a) = IsFull asked w a
+    Full (Some a) = IsFullWriting it w a
     Full None = Unit {0}
-ended-full asked w (round.CameTo to) answer is full = absurd (cc)
-ended-full asked w round.GoesOn answer is full = absurd (cc)
+ended-full it w (round.CameTo to) answer is full = absurd (cc)
+ended-full it w round.GoesOn answer is full = absurd (cc)
 
 -- How the rounds go on: what is in hand stands, and a purge that was under way as they began is still.
 pub record ComesOn {D : Type 0} (told : D → Option Disk) (faults : D → ℕ) (w v : Standing) (file : File) (span : Option Range)

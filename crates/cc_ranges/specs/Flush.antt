@@ -25,6 +25,7 @@ use Rattle.cc_model.specs.Refusals.{refusal}
 use Rattle.cc_model.specs.Setup.{Setup}
 use Rattle.cc_turns.specs.Standing.{Standing}
 use Rattle.cc_effects.specs.Begins.{BeginsAscending, BeginsNone}
+use Rattle.cc_writes.specs.Calls.{IsFullWriting}
 use Rattle.cc_writes.specs.Hands.{Went, WentWith}
 use Rattle.cc_writes.specs.Ways.{IsFullError, IsHalted}
 use Rattle.cc_writes.specs.Writes.{IsToWrite, WantedMemory}
@@ -125,9 +126,10 @@ abbrev pub RoundWent : Round → Standing → Standing → Type 0
 RoundWent round.Syncs old new = WentWith 1 old new
 RoundWent other old new = Went old new
 
-abbrev pub IsFullRound : ℕ → Standing → Round → Type 0
-IsFullRound asked w (round.Ended e) = IsFullError asked w e
-IsFullRound asked w other = Unit {0}
+-- a round of a flush that found no room for one entry, or none for the transfer of a page that is to be written then
+abbrev pub IsFullRound : Call → Standing → Round → Type 0
+IsFullRound it w (round.Ended e) = IsFullWriting {A = Unit {0}} it w (Err e)
+IsFullRound it w other = Unit {0}
 
 -- A page to which it has come is past the one from which it went on.
 abbrev pub IsRising : Round → ℕ → Type 0

@@ -20,6 +20,7 @@ use Rattle.cc_model.specs.Residency.{is_resident}
 use Rattle.cc_model.specs.Setup.{Setup}
 use Rattle.cc_turns.specs.Standing.{Standing}
 use Rattle.cc_turns.specs.Takes.{Grows}
+use Rattle.cc_writes.specs.Calls.{IsFullWriting}
 use Rattle.cc_writes.specs.Visits.{HasPlaced}
 use Rattle.cc_writes.specs.Ways.{IsFull}
 use Rattle.cc_writes.specs.Work.{work_left}
@@ -90,10 +91,10 @@ RoundLeft u me file span (round.Ended answer) old new = CallLeft u me (call.Purg
 RoundLeft u me file span (round.CameTo to) old new = IsUnderWay me (call.Purge file span) old new
 RoundLeft u me file span round.GoesOn old new = IsUnderWay me (call.Purge file span) old new
 
--- a purge that found no room, with so many places asked
-abbrev pub IsFullRound : ℕ → Standing → Round → Type 0
-IsFullRound asked w (round.Ended answer) = IsFull asked w answer
-IsFullRound asked w other = Unit {0}
+-- a round of a purge that found no room for one entry, or none for the transfer of a page that is to be written then
+abbrev pub IsFullRound : Call → Standing → Round → Type 0
+IsFullRound it w (round.Ended answer) = IsFullWriting it w answer
+IsFullRound it w other = Unit {0}
 
 -- A page to which it has come is past the one from which it went on.
 abbrev pub IsRising : Round → ℕ → Type 0

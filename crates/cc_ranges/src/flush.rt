@@ -6,6 +6,7 @@ ghost use Rattle.cc_entry.specs.declared.entry.Entry.{Entry};
 ghost use Rattle.cc_effects.specs.Calls.{CallLeft, IsUnderWay};
 ghost use Rattle.cc_model.specs.Ranges.{first_of_span};
 ghost use Rattle.cc_effects.specs.Begins.{BeginsAscending, BeginsNone};
+ghost use Rattle.cc_writes.specs.Calls.{IsFullWriting};
 ghost use Rattle.cc_writes.specs.Hands.{HasBook, IsAtRest, SameDisk, Went, WentWith};
 ghost use Rattle.cc_writes.specs.Ways.{IsFull};
 ghost use Rattle.cc_writes.specs.Writes.{HasBoth};
@@ -54,7 +55,7 @@ pub fn flush_held<T: Turns>(
         begun (T.standing turns.new).seen }
     ensures ascending { BeginsAscending (T.standing turns.old).number 0 (2 ^ 51)
         (T.standing turns.old).seen (T.standing turns.new).seen }
-    ensures full { IsFull 2 (T.standing turns.new) result.1 }
+    ensures full { IsFullWriting (call.Flush file span) (T.standing turns.new) result.1 }
 {
     let mut from = 0;
     'pages: loop {
@@ -95,7 +96,7 @@ fn write_next<T: Turns>(
     ensures ascending { RoundBegins (T.standing turns.old).number result.1 from
         (T.standing turns.old).seen (T.standing turns.new).seen }
     ensures rising { IsRising result.1 from }
-    ensures full { IsFullRound 2 (T.standing turns.new) result.1 }
+    ensures full { IsFullRound (call.Flush file span.now) (T.standing turns.new) result.1 }
 {
     match next_at(alloc, turns, &mut book, file, span, from) {
         Step::Ended(error) => (book, Round::Ended(error)),
@@ -142,7 +143,7 @@ fn sync_held<T: Turns>(
         CallLeft (T.standing turns.old).setup (T.standing turns.old).number (call.Flush file span.now)
         (outcome_of result.1) begun (T.standing turns.new).seen }
     ensures begun { BeginsNone (T.standing turns.old).number (T.standing turns.old).seen (T.standing turns.new).seen }
-    ensures full { IsFull 2 (T.standing turns.new) result.1 }
+    ensures full { IsFull 1 (T.standing turns.new) result.1 }
 {
     let (mut book, how) = sync_free(turns, disk, book);
     let answer = end(alloc, turns, &mut book, file, span, how);

@@ -4,8 +4,8 @@ ghost use Rattle.std.specs.Prelude.{◌≡◌, ◌<◌, ◌≤◌, ◌^◌, true
 ghost use Rattle.cc_entry.specs.declared.call.Call.TheVariants as call;
 ghost use Rattle.cc_entry.specs.declared.entry.Entry.{Entry};
 ghost use Rattle.cc_effects.specs.Calls.{CallLeft, IsUnderWay};
+ghost use Rattle.cc_writes.specs.Calls.{IsFullWriting};
 ghost use Rattle.cc_writes.specs.Hands.{Went};
-ghost use Rattle.cc_writes.specs.Ways.{IsFull};
 ghost use Rattle.cc_writes.specs.Writes.{HasBoth};
 ghost use Rattle.cc_ranges.specs.Alone.{NobodyElseChanged};
 ghost use Rattle.cc_ranges.specs.Flush.{outcome_of};
@@ -54,7 +54,7 @@ pub fn purge_held<T: Turns>(
         begun (T.standing turns.new).seen }
     ensures emptied { OnOk result.1 (WasEmptiedAlone (T.standing turns.old).number file.stream (T.standing turns.old).seen
         (T.standing turns.new).seen) }
-    ensures full { IsFull 2 (T.standing turns.new) result.1 }
+    ensures full { IsFullWriting (call.Purge file span) (T.standing turns.new) result.1 }
 {
     let mut from = 0;
     'pages: loop {
@@ -90,7 +90,7 @@ fn empty_held<T: Turns>(
         (outcome_of result.1) begun (T.standing turns.new).seen }
     ensures alone { OnOk result.1 (NobodyElseChanged (T.standing turns.old).number file.stream (T.standing turns.old).seen
         (T.standing turns.new).seen) }
-    ensures full { IsFull 2 (T.standing turns.new) result.1 }
+    ensures full { IsFullWriting (call.Purge file span.now) (T.standing turns.new) result.1 }
 {
     'pages: loop {
         let (now, came) = advance(alloc, turns, disk, book, file, span, 0, true);
@@ -129,7 +129,7 @@ fn advance<T: Turns>(
         (T.standing turns.new).seen }
     ensures lessens { keeps ≡ true → from ≡ 0 →
         HasLess book.stream result.1 (T.standing turns.old).seen (T.standing turns.new).seen }
-    ensures full { IsFullRound 2 (T.standing turns.new) result.1 }
+    ensures full { IsFullRound (call.Purge file span.now) (T.standing turns.new) result.1 }
 {
     match next_at(alloc, turns, &mut book, file, span, from) {
         Step::Ended(answer) => (book, Round::Ended(answer)),

@@ -9,11 +9,12 @@ use Rattle.cc_model.specs.Good.{IsGood}
 use Rattle.cc_model.specs.Setup.{Setup}
 use Rattle.cc_turns.specs.Standing.{Standing}
 use Rattle.cc_turns.specs.Takes.{without_device}
-use Rattle.cc_writes.specs.Ways.{IsFull}
+use Rattle.cc_writes.specs.Calls.{IsFullWriting}
 use Rattle.cc_writes.specs.Fetch.{CanCall}
+use Rattle.cc_writes.proofs.Fullness.{given-writing}
 use Rattle.cc_writes.proofs.TakingBoth.{both_begun, left_since}
 use Rattle.cc_calls.specs.Answers.{outcome_of}
-use Rattle.cc_calls.proofs.FlushCalls.{begun-both, flush-ends, full-given, setup-both, went-both}
+use Rattle.cc_calls.proofs.FlushCalls.{begun-both, flush-ends, setup-both, went-both}
 use Rattle.cc_calls.proofs.flushes.flush.Goals as goal
 
 pub flush_held-book-requires-clause-both : goal.flush_held-book-requires-clause-both
@@ -44,7 +45,7 @@ returns g c =
           flush-ends w z c.args.file c.args.span answer
           (left_since w v x s can first second (λ u me begun past. CallLeft u me it (outcome_of answer) begun past) y z it given
           c.flush_held-book.ensures.left w.seen (begins w.number it w.seen))
-          (subst (λ (a : Standing). IsFull 2 a answer) (sym given) (full-given y answer c.flush_held-book.ensures.full))
+          (subst (λ (a : Standing). IsFullWriting it a answer) (sym given) (given-writing it y answer c.flush_held-book.ensures.full))
           (went-both w v x y z s can.free first second went given)
           (subst (λ (u : Setup). IsGood u z.seen) (setup-both w v x y s first second went)
           (subst (λ (past : List Entry). IsGood y.setup past) (sym (ap (λ (a : Standing). a.seen) given)) both.book.good))

@@ -9,13 +9,14 @@ use Rattle.cc_model.specs.Good.{IsGood}
 use Rattle.cc_model.specs.Setup.{Setup}
 use Rattle.cc_turns.specs.Standing.{Standing}
 use Rattle.cc_turns.specs.Takes.{without_device}
-use Rattle.cc_writes.specs.Ways.{IsFull}
+use Rattle.cc_writes.specs.Calls.{IsFullWriting}
 use Rattle.cc_writes.specs.Fetch.{CanCall}
+use Rattle.cc_writes.proofs.Fullness.{given-writing}
 use Rattle.cc_writes.proofs.TakingBoth.{both_begun, idle, left_since, number_both}
 use Rattle.cc_ranges.specs.Purge.{WasEmptiedAlone}
 use Rattle.cc_ranges.proofs.PurgeRounds.{emptied-since}
 use Rattle.cc_calls.specs.Answers.{outcome_of}
-use Rattle.cc_calls.proofs.FlushCalls.{full-given, setup-both, went-both}
+use Rattle.cc_calls.proofs.FlushCalls.{setup-both, went-both}
 use Rattle.cc_calls.proofs.PurgeCalls.{purge-ends}
 use Rattle.cc_calls.proofs.flushes.purge.Goals as goal
 
@@ -47,7 +48,7 @@ returns g c =
           purge-ends w z c.args.file c.args.span answer
           (left_since w v x s can first second (λ u me begun past. CallLeft u me it (outcome_of answer) begun past) y z it given
           c.purge_held-book.ensures.left w.seen (begins w.number it w.seen))
-          (subst (λ (a : Standing). IsFull 2 a answer) (sym given) (full-given y answer c.purge_held-book.ensures.full))
+          (subst (λ (a : Standing). IsFullWriting it a answer) (sym given) (given-writing it y answer c.purge_held-book.ensures.full))
           (went-both w v x y z s can.free first second went given)
           (subst (λ (u : Setup). IsGood u z.seen) (setup-both w v x y s first second went)
           (subst (λ (past : List Entry). IsGood y.setup past) (sym (ap (λ (a : Standing). a.seen) given)) both.book.good))

@@ -1,10 +1,10 @@
 -- The page that the flush came to rises; each round leaves a flush under way, its sync or its end.
 use Rattle.std.specs.Prelude.{◌^◌, List}
-use Rattle.std.proofs.Common.{subst}
+use Rattle.std.proofs.Common.{inl, subst}
 use Rattle.cc_entry.specs.declared.entry.Entry.{Entry}
 use Rattle.cc_effects.proofs.Starts.{begins}
 use Rattle.cc_entry.specs.declared.call.Call.TheVariants as call
-use Rattle.cc_ranges.specs.Flush.{IsFlushing, IsRising, RoundBegins, RoundLeft, RoundWent, outcome_of}
+use Rattle.cc_ranges.specs.Flush.{IsFlushing, IsFullRound, IsRising, RoundBegins, RoundLeft, RoundWent, outcome_of}
 use Rattle.cc_ranges.specs.declared.flush.Round.{Round}
 use Rattle.cc_ranges.specs.declared.flush.Round.TheVariants as round
 use Rattle.cc_ranges.proofs.FlushHolding.{begun-ended, begun-on, comes-first, some-flushing, round-on, comes-on, at-sync-on, ended-on}
@@ -86,3 +86,11 @@ pub pages-init : goal.pages-init
 pages-init g c =
     comes-first g.T.Disk.Told.told g.T.Disk.Told.faults (g.T.Turns.standing c.args.turns.now) c.args.file c.args.span c.args.book c.args.disk.now
     c.requires.stream c.requires.known c.requires.both c.requires.none
+
+pub returns-in-Ended-clause-full : goal.returns-in-Ended-clause-full
+returns-in-Ended-clause-full g c =
+    let x = g.T.Turns.standing c.write_next-now.new.turns in
+    subst (λ (r : Round). IsFullRound (call.Flush c.args.file c.args.span) x r) c.in-Ended.is c.write_next-now.ensures.full
+
+pub returns-in-Syncs-clause-full : goal.returns-in-Syncs-clause-full
+returns-in-Syncs-clause-full g c = inl c.sync_held.ensures.full

@@ -1,6 +1,6 @@
 -- The page that the step names is dirty, and the flush admitted; so it may be written, and the round is what it left.
 use Rattle.std.specs.Prelude.{◌≡◌, ℕ, ◌^◌, true, None}
-use Rattle.std.proofs.Common.{ap, sym, ◌∙◌, subst}
+use Rattle.std.proofs.Common.{ap, sym, ◌∙◌, inl, subst}
 use Rattle.cc_entry.specs.declared.call.Call.TheVariants as call
 use Rattle.cc_effects.specs.Asked.{is_admitted}
 use Rattle.cc_model.specs.History.{history}
@@ -11,9 +11,9 @@ use Rattle.cc_turns.specs.Standing.{Standing}
 use Rattle.cc_writes.specs.Writes.{HasBoth, IsToWrite}
 use Rattle.cc_writes.proofs.Disks.{still_of}
 use Rattle.cc_effects.proofs.Begun.{ascend-none}
-use Rattle.cc_ranges.specs.Flush.{RoundBegins, RoundLeft}
+use Rattle.cc_ranges.specs.Flush.{RoundBegins, RoundLeft, IsFullRound}
 use Rattle.cc_ranges.specs.declared.flush.Round.{Round}
-use Rattle.cc_ranges.proofs.FlushHolding.{asks-page, begun-round, round-wrote}
+use Rattle.cc_ranges.proofs.FlushHolding.{asks-page, begun-round, full-round, round-wrote}
 use Rattle.cc_ranges.proofs.flush.write_next.Goals as goal
 
 pub write_for-book-requires-clause-both : goal.write_for-book-requires-clause-both
@@ -85,3 +85,13 @@ returns-in-Writes-clause-ascending g c =
     subst (λ (r : Round). RoundBegins w.number r c.args.from w.seen x.seen) (sym c.round_of.ensures)
     (begun-round w.in_flight c.args.from c.in-Writes.page w v c.write_for-book.result.1 x.seen c.in-Writes.ensures.went c.in-Writes.ensures.ascending.0 c.in-Writes.ensures.ascending.1
     c.next_at.ensures.begun c.write_for-book.ensures.begun)
+
+pub returns-in-Ended-clause-full : goal.returns-in-Ended-clause-full
+returns-in-Ended-clause-full g c = inl c.in-Ended.ensures.full
+
+pub returns-in-Writes-clause-full : goal.returns-in-Writes-clause-full
+returns-in-Writes-clause-full g c =
+    let x = g.T.Turns.standing c.write_for-book.new.turns in
+    let it = call.Flush c.args.file c.args.span.now in
+    subst (λ (r : Round). IsFullRound it x r) (sym c.round_of.ensures)
+    (full-round it x c.in-Writes.page c.write_for-book.result.1 c.write_for-book.ensures.writing)

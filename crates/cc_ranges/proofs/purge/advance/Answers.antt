@@ -1,6 +1,6 @@
 -- By what the step asks: the page is dirty and the purge admitted, so it may be written; the round is what that left.
 use Rattle.std.specs.Prelude.{◌≡◌, ℕ, true, None, Some}
-use Rattle.std.proofs.Common.{ap, sym, ◌∙◌, subst}
+use Rattle.std.proofs.Common.{ap, sym, ◌∙◌, inl, subst}
 use Rattle.cc_entry.specs.declared.call.Call.TheVariants as call
 use Rattle.cc_effects.specs.Asked.{is_admitted}
 use Rattle.cc_model.specs.History.{history}
@@ -11,10 +11,10 @@ use Rattle.cc_turns.specs.Standing.{Standing}
 use Rattle.cc_writes.specs.Hands.{HasBook}
 use Rattle.cc_writes.specs.Writes.{HasBoth, IsToWrite}
 use Rattle.cc_writes.proofs.Disks.{still_of}
-use Rattle.cc_ranges.specs.Purge.{HasLess, RoundLeft, RoundPlaced, round_of}
+use Rattle.cc_ranges.specs.Purge.{HasLess, IsFullRound, RoundLeft, RoundPlaced, round_of}
 use Rattle.cc_ranges.specs.declared.purge.Round.{Round}
 use Rattle.cc_ranges.specs.declared.purge.Round.TheVariants as round
-use Rattle.cc_ranges.proofs.PurgeHolding.{asks-page, round-wrote}
+use Rattle.cc_ranges.proofs.PurgeHolding.{asks-page, full-round, round-wrote}
 use Rattle.cc_ranges.proofs.PurgeLessening.{less-on, less-wrote}
 use Rattle.cc_ranges.proofs.PurgeRounds.{placed-ended, placed-went, placed-wrote}
 use Rattle.cc_ranges.proofs.purge.advance.Goals as goal
@@ -125,3 +125,13 @@ returns-in-Writes-clause-lessens g c kept first =
     (subst (λ (n : ℕ). HasBook w n c.args.book) stream c.requires.both.book) (c.requires.both.rest.device ∙ ap (λ (n : ℕ). Some n) stream)
     c.next_at.ensures.book c.next_at.ensures.rest.device (ap (λ (y : Standing). y.setup) c.next_at.ensures.went.same)
     c.next_at.ensures.book.stream kept c.in-Writes.ensures.placed c.in-Writes.ensures.asking c.write_for-book.ensures.written))
+
+pub returns-in-Ended-clause-full : goal.returns-in-Ended-clause-full
+returns-in-Ended-clause-full g c = inl c.in-Ended.ensures.full
+
+pub returns-in-Writes-clause-full : goal.returns-in-Writes-clause-full
+returns-in-Writes-clause-full g c =
+    let x = g.T.Turns.standing c.write_for-book.new.turns in
+    let it = call.Purge c.args.file c.args.span.now in
+    subst (λ (r : Round). IsFullRound it x r) (sym c.round_of.ensures)
+    (full-round it x c.in-Writes.page c.write_for-book.result.1 c.write_for-book.ensures.writing)

@@ -29,7 +29,7 @@ returns-in-Some-clause-left g c begun way =
 
 pub returns-in-Some-clause-full : goal.returns-in-Some-clause-full
 returns-in-Some-clause-full g c =
-    ended-full 2 (g.T.Turns.standing c.advance-now.new.turns) c.advance-now.result.1 c.in-Some.answer (sym c.ended_of.ensures ∙ c.in-Some.is) c.advance-now.ensures.full
+    ended-full (call.Purge c.args.file c.args.span.now) (g.T.Turns.standing c.advance-now.new.turns) c.advance-now.result.1 c.in-Some.answer (sym c.ended_of.ensures ∙ c.in-Some.is) c.advance-now.ensures.full
 
 pub returns-in-Some-clause-alone : goal.returns-in-Some-clause-alone
 returns-in-Some-clause-alone g c =

@@ -7,7 +7,7 @@ use Rattle.cc_effects.specs.Calls.{IsUnderWay}
 use Rattle.cc_turns.specs.Standing.{Standing}
 use Rattle.cc_ranges.specs.Alone.{NobodyElseChanged}
 use Rattle.cc_ranges.specs.Flush.{outcome_of}
-use Rattle.cc_ranges.specs.Purge.{IsRising, RoundLeft, RoundPlaced}
+use Rattle.cc_ranges.specs.Purge.{IsFullRound, IsRising, RoundLeft, RoundPlaced}
 use Rattle.cc_ranges.specs.declared.purge.Round.{Round}
 use Rattle.cc_ranges.specs.declared.purge.Round.TheVariants as round
 use Rattle.cc_ranges.proofs.PurgeHolding.{comes-first, round-on, comes-on, placed-on, ended-on}
@@ -85,3 +85,8 @@ returns-in-GoesOn-clause-emptied g c =
     emptied-then w.number c.args.file.stream c.pages.from c.empty_held.result.1 w.seen v.seen x.seen (g.T.Turns.standing c.empty_held.new.turns).seen c.pages.invariant.up
     (subst (λ (r : Round). RoundPlaced w.number c.args.file.stream c.pages.from false r v.seen x.seen) c.in-GoesOn.is placed)
     (subst (λ (n : ℕ). OnOk c.empty_held.result.1 (NobodyElseChanged n c.args.file.stream x.seen (g.T.Turns.standing c.empty_held.new.turns).seen)) number c.empty_held.ensures.alone)
+
+pub returns-in-Ended-clause-full : goal.returns-in-Ended-clause-full
+returns-in-Ended-clause-full g c =
+    let x = g.T.Turns.standing c.advance-now.new.turns in
+    subst (λ (r : Round). IsFullRound (call.Purge c.args.file c.args.span) x r) c.in-Ended.is c.advance-now.ensures.full
