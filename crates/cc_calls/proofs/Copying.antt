@@ -38,7 +38,7 @@ module _ (w v : Standing) (file : File) (at : ℕ) (wait : Bool) (was now : List
           good = λ was_good. c.good;
           missed = c.missed;
         };
-        full = inl tt;
+        full = inl (tt, inl tt);
         rest = (omega (arith, is, read.0.within), rw is read.1.2);
         no_wait = c.no_wait;
       }
@@ -69,7 +69,7 @@ change-done w v it told was now none c = record {
     good = λ was_good. c.good;
     missed = c.missed;
   };
-  full = inl tt;
+  full = inl (tt, inl tt);
 }
 
 -- one for whose bytes no memory was found left nothing
@@ -82,5 +82,5 @@ change-none w s it (Err e) can listed wants none = rw none (record {
     good = λ was_good. was_good;
     missed = inl refl;
   };
-  full = inl tt;
+  full = inl (tt, inl tt);
 })

@@ -71,7 +71,7 @@ module _ (w v : Standing) (of_kind : HoldKind → Bool) (file : File) (at len : 
       let left = rw (same-id told.0 id told.1.0) at told.1.1 in
       record {
         pages = record { left = left; goes_on = ended.goes_on; good = λ was_good. ended.good; missed = ended.missed };
-        full = inl tt;
+        full = inl (tt, inl tt);
         range = refl;
         holding = made-held w v of_kind (ap (λ (x : Standing). x.number) ended.goes_on.same) file at len id it of makes left (so-far w.setup v.seen ended.good);
       }

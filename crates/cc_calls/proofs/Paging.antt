@@ -26,7 +26,7 @@ use Rattle.cc_writes.specs.Visits.{IsOf, IsWaitedFor, TriedLeft}
 use Rattle.cc_writes.specs.declared.visits.Tried.{Tried}
 use Rattle.cc_writes.specs.declared.visits.Tried.TheVariants as tried
 use Rattle.cc_writes.specs.declared.tell.Returned.{Returned}
-use Rattle.cc_writes.specs.Ways.{EndedSo, IsFull}
+use Rattle.cc_writes.specs.Ways.{EndedSo, IsFull, IsFullCall}
 use Rattle.cc_writes.specs.Calls.{IsFullWriting}
 use Rattle.cc_writes.specs.Fetch.{IsFullFetching, WentOn}
 use Rattle.cc_calls.specs.Paged.{Paged, is_paged}
@@ -39,7 +39,7 @@ abbrev pub most_room : Call → ℕ
 most_room it = max 2 (most_asked it)
 
 pub full-within : {A : Type 0} (it : Call) (w v : Standing) (answer : Result A CcError) → IsFullFor it w v answer → IsFull (most_room it) v answer
-full-within it w v answer (inl full) = full-answer (most_asked it) (most_room it) v answer (le-max_right 2 (most_asked it)) full
+full-within it w v answer (inl full) = full-answer (most_asked it) (most_room it) v answer (le-max_right 2 (most_asked it)) full.0
 full-within it w v answer (inr full) = full-answer 2 (most_room it) v answer (le-max_left 2 (most_asked it)) full.2
 
 -- and as many as one that writes pages may ask
@@ -73,7 +73,7 @@ works-uncalled me work base (e ∷ during) old each =
     calls_of-other e (during ++ old) me (call-never me work base (during ++ old) e each.0) ∙ works-uncalled me work base during old each.1
 
 -- it ended in that one turn
-pub in-turn : (w v : Standing) (it : Call) (answer : Result Returned CcError) (was now : List ℕ) → Went w v → IsGood w.setup v.seen → IsFull (most_asked it) v answer → EndedSo w.setup w.number it answer w.seen v.seen was now → Paged w v it answer was now
+pub in-turn : (w v : Standing) (it : Call) (answer : Result Returned CcError) (was now : List ℕ) → Went w v → IsGood w.setup v.seen → IsFullCall it v answer → EndedSo w.setup w.number it answer w.seen v.seen was now → Paged w v it answer was now
 in-turn w v it answer was now went good full left = record {
   left = left;
   full = inl full;

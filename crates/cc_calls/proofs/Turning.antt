@@ -73,7 +73,7 @@ module _ (w v : Standing) (s : ℕ) (b : BookState) (took : Takes (with_book s) 
 pub at-once : (w v : Standing) (s : ℕ) (it : Call) (ended : Tried) (answer : Result Returned CcError) (was now : List ℕ) → ended ≡ tried.Ended answer → Went w v → IsGood w.setup v.seen → IsFullTried v it ended → TriedLeft w.setup w.number s it ended w.seen v.seen was now → CalledAtOnce w v it answer was now
 at-once w v s it ended answer was now is went good full left = record {
   left = subst (λ (t : Tried). TriedLeft w.setup w.number s it t w.seen v.seen was now) is left;
-  full = subst (λ (t : Tried). IsFullTried v it t) is full;
+  full = (subst (λ (t : Tried). IsFullTried v it t) is full).0;
   goes_on = went;
   good = good;
 }

@@ -15,9 +15,8 @@ use Rattle.cc_model.specs.Good.{IsGood}
 use Rattle.cc_model.specs.History.{history}
 use Rattle.cc_model.specs.Passes.{calls_of}
 use Rattle.cc_model.specs.Residency.{is_resident}
-use Rattle.cc_step.specs.Step.{most_asked}
 use Rattle.cc_turns.specs.Standing.{Standing}
-use Rattle.cc_writes.specs.Ways.{IsFull}
+use Rattle.cc_writes.specs.Ways.{IsFull, IsFullCall}
 use Rattle.cc_writes.specs.Calls.{HasToWrite}
 use Rattle.cc_ranges.specs.Flush.{outcome_of}
 -- A pass goes on as it stood: it has seen more, what others have reserved may be other, and it may have taken the
@@ -40,11 +39,12 @@ HadMissed me it old new =
 abbrev pub TookDeviceFor : Call → Standing → Standing → Type 0
 TookDeviceFor it old new = (new.device_turns ≡ old.device_turns) ⊎ HadMissed old.number it old.seen new.seen
 
--- Where a call that needs pages finds the journal full, there is no room for what its entry asks; or a page of its range was
--- not resident, a page is to be written to make room for it, and there is none for the begin of that transfer with the end.
+-- Where a call that needs pages finds the journal full, there is no room for one entry; or it is ready to be done as it finds
+-- that, and there is none for what it asks; or a page of its range was not resident, a page is to be written to make room for
+-- it, and there is none for the begin of that transfer with the end.
 abbrev pub IsFullFor : {A : Type 0} → Call → Standing → Standing → Result A CcError → Type 0
 IsFullFor it old new answer =
-    IsFull (most_asked it) new answer
+    IsFullCall it new answer
     ⊎ (HadMissed old.number it old.seen new.seen × HasToWrite it new.seen × IsFull 2 new answer)
 
 -- What a call that needs pages left: what explains that it ended so, the pass as it stood, what it has seen

@@ -91,4 +91,4 @@ module _ {Q : Type 0} (u : Setup) (pass : ℕ) (file : File) (page : ℕ) (b : B
   made-room (way.WentOut again) c k makes left = (again, left)
   made-room (way.Writes dirty again) c k makes left = (again, left)
   made-room (way.Reads dirty again) c k makes left = absurd makes
-  made-room (way.Stopped e) c k makes left = left
+  made-room (way.Stopped e) c k makes left = (left.0, left.1)

@@ -139,6 +139,7 @@ left-attempt u pass more it (stepped.Stopped e) b c j k asks placed left = (
     stand = record { good = left.1.stand.good; stands = left.1.stand.stands; logs_are = left.1.stand.logs_are; threshold_is = left.1.stand.threshold_is };
     stream = left.1.stream;
   },
+  inr left.2,
 )
 
 pub one-reserved : {Q : Type 0} (u : Setup) (pass more : ℕ) (it : Call) (ended : Stepped) (b c : BookState) (j k : JournalState Q) → has_placed ended ≡ false → StepLeft u pass more it ended b c (reserving j) k → k.reserved ≡ j.reserved + 1

@@ -1,13 +1,16 @@
 -- The placing of a done call's entry, for which so many more places are reserved, ends its step.
-use Rattle.std.specs.Prelude.{◌≡◌, ℕ, ◌+◌, ◌-◌, ◌<◌, ◌≤◌, ◌∷◌}
-use Rattle.std.proofs.Common.{ap, ◌∙◌, arith, inr}
+use Rattle.std.specs.Prelude.{◌≡◌, ℕ, ◌+◌, ◌-◌, ◌<◌, ◌≤◌, List, ◌∷◌}
+use Rattle.std.proofs.Common.{ap, sym, ◌∙◌, arith, inr, subst}
 use Rattle.cc_entry.specs.declared.call.Call.{Call}
+use Rattle.cc_entry.specs.declared.entry.Entry.{Entry}
+use Rattle.cc_entry.specs.declared.error.CcError.{CcError}
+use Rattle.cc_entry.specs.declared.error.CcError.TheVariants as error
 use Rattle.cc_entry.specs.declared.reply.Reply.{Reply}
 use Rattle.cc_book.specs.Book.{BookState, done}
 use Rattle.cc_journal.specs.Journal.{JournalState}
 use Rattle.cc_model.specs.Room.{reserved_in}
 use Rattle.cc_model.specs.Setup.{Setup}
-use Rattle.cc_step.specs.Step.{MayStep, StepLeft, PlaceLeft}
+use Rattle.cc_step.specs.Step.{IsReadyFor, IsReadyWhenFull, MayStep, StepLeft, PlaceLeft}
 use Rattle.cc_step.specs.declared.steps.Stepped.{Stepped}
 use Rattle.cc_step.specs.declared.steps.Stepped.TheVariants as stepped
 
@@ -24,6 +27,11 @@ may-more u pass more it b j may = record {
   where
     further : (owed n : ℕ) → owed ≤ n → owed ≤ n + more
     further owed n most = omega (arith, most)
+
+-- a call that is ready is so whatever it finds
+pub ready-full : (u : Setup) (past : List Entry) (s : ℕ) (it : Call) (e : CcError) → IsReadyFor u past s it → IsReadyWhenFull u past s it e
+ready-full u past s it (error.JournalFull entries) ready = ready
+ready-full u past s it other ready = tt
 
 pub placed-step : {Q : Type 0} (u : Setup) (pass more : ℕ) (it : Call) (r : Reply) (ended : Stepped) (b c : BookState) (j k : JournalState Q) → 0 < j.reserved → PlaceLeft u pass more it r ended b c (reserving-more more j) k → StepLeft u pass more it ended b c j k
 placed-step u pass more it r stepped.Done b c j k some left = (
@@ -44,6 +52,7 @@ placed-step u pass more it r (stepped.Stopped e) b c j k some left = (
     stand = left.2;
     stream = left.3;
   },
+  subst (λ (x : CcError). IsReadyWhenFull u j.entries b.stream it x) (sym left.0) tt,
 )
   where
     back : (n : ℕ) → (n + more) - more ≡ n

@@ -22,7 +22,7 @@ use Rattle.cc_model.specs.Settings.{quota_of}
 use Rattle.cc_model.specs.Setup.{Setup}
 use Rattle.cc_model.specs.Stamps.{is_unstamped}
 use Rattle.cc_model.specs.Touches.{size_of, valid_of, is_dirty}
-use Rattle.cc_step.specs.Step.{StandUnder, MayStep, least_absent, is_awaited, most_asked, Adds, AttemptDone, AttemptRefused, IsStop, FoundNone}
+use Rattle.cc_step.specs.Step.{StandUnder, MayStep, least_absent, is_awaited, most_asked, Adds, AttemptDone, AttemptRefused, IsShort, IsStop, FoundNone}
 use Rattle.cc_step.specs.Room.{has_room}
 use Rattle.cc_step.specs.declared.ways.Next.{Next}
 use Rattle.cc_step.specs.declared.ways.Next.TheVariants as next
@@ -77,7 +77,7 @@ NextLeft u pass it (next.Refused e) b c j k = AttemptRefused u pass it e b c j k
 NextLeft u pass it (next.WentOut again) b c j k = MadeWay u pass it again b c j k
 NextLeft u pass it (next.Writes page again) b c j k = HasToWrite u page it again b c j k
 NextLeft u pass it (next.Reads page again) b c j k = HasToRead u page it again b c j k
-NextLeft u pass it (next.Stopped e) b c j k = IsStop (most_asked it) e j × FoundNone u b c j k
+NextLeft u pass it (next.Stopped e) b c j k = IsStop (most_asked it) e j × FoundNone u b c j k × IsShort u b.stream it e j
 
 -- Room is made: a page went out, or one is to be written before, or the journal's room or memory was wanting.
 abbrev pub MakesWay : Next → Type 0

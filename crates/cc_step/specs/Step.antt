@@ -118,12 +118,18 @@ PlaceLeft u pass more it r (stepped.Stopped e) b c j k =
     (e ≡ error.NoMemory) × (k ≡ record j { reserved = j.reserved - more }) × StandUnder u c k × (c.stream ≡ b.stream)
 PlaceLeft u pass more it r other b c j k = ⊥
 
+-- A call that finds the journal full is to be done: nothing refuses it, and each page of its range is resident.
+abbrev pub IsReadyWhenFull : Setup → List Entry → ℕ → Call → CcError → Type 0
+IsReadyWhenFull u past s it (error.JournalFull entries) = IsReadyFor u past s it
+IsReadyWhenFull u past s it other = Unit {0}
+
 -- What the step of a call leaves, that reserves so many more places where it is done, by cases over how it ended.
 abbrev pub StepLeft : {Q : Type 0} → Setup → ℕ → ℕ → Call → Stepped → BookState → BookState → JournalState Q → JournalState Q → Type 0
 StepLeft u pass more it stepped.Done b c j k = (r : Reply) × IsDone u pass more it r b c j k
 StepLeft u pass more it (stepped.Refused e) b c j k = IsRefused u pass it e b c j k
 StepLeft u pass more it (stepped.Waits page again) b c j k = Waits u page it again b c j k
-StepLeft u pass more it (stepped.Stopped e) b c j k = IsWantOf more e j × FoundNone u b c j k
+StepLeft u pass more it (stepped.Stopped e) b c j k =
+    IsWantOf more e j × FoundNone u b c j k × IsReadyWhenFull u j.entries b.stream it e
 
 -- Whether the entry of a call that is refused or fails is placed here: that of each call that is stepped, and of those
 -- that are done elsewhere, once they have synced, emptied a span, read the disk or stored a page.
@@ -184,12 +190,18 @@ abbrev pub IsStop : {Q : Type 0} → ℕ → CcError → JournalState Q → Type
 IsStop asked e j =
     ((e ≡ error.JournalFull (length j.entries)) × (room_of j < asked)) ⊎ ((e ≡ error.NoMemory) × (0 < asked))
 
+-- What an attempt at a call that stopped was short of, beside memory: the room for one entry, or, as the call is to be done,
+-- that for all that it asks.
+abbrev pub IsShort : {Q : Type 0} → Setup → ℕ → Call → CcError → JournalState Q → Type 0
+IsShort u s it e j = (room_of j < 1) ⊎ IsReadyWhenFull u j.entries s it e
+
 -- What an attempt at a call leaves, by cases over how it ended.
 abbrev pub AttemptLeft : {Q : Type 0} → Setup → ℕ → Call → Stepped → BookState → BookState → JournalState Q → JournalState Q → Type 0
 AttemptLeft u pass it stepped.Done b c j k = (r : Reply) × AttemptDone u pass it r b c j k
 AttemptLeft u pass it (stepped.Refused e) b c j k = AttemptRefused u pass it e b c j k
 AttemptLeft u pass it (stepped.Waits page again) b c j k = Waits u page it again b c j k
-AttemptLeft u pass it (stepped.Stopped e) b c j k = IsStop (asked_now j.entries b.stream it) e j × FoundNone u b c j k
+AttemptLeft u pass it (stepped.Stopped e) b c j k =
+    IsStop (asked_now j.entries b.stream it) e j × FoundNone u b c j k × IsShort u b.stream it e j
 
 -- whether the step of a call that ended so placed an entry
 abbrev pub has_placed : Stepped → Bool

@@ -1,9 +1,11 @@
 -- One attempt at a call in a visit: what it gives, and what it leaves of the call.
-use Rattle.std.specs.Prelude.{◌≡◌, ℕ, suc, ◌+◌, ◌<◌, ◌≤◌, Bool, true, false, List, [], ◌∷◌, Some, Err}
+use Rattle.std.specs.Prelude.{◌≡◌, ℕ, suc, ◌+◌, ◌<◌, ◌≤◌, ◌⊎◌, Bool, true, false, List, [], ◌∷◌, IfSome, Some, Err}
 use Rattle.std.proofs.Common.{ap, sym, ◌∙◌, subst, inl, inr, arith}
 use Rattle.cc_entry.specs.declared.call.Call.{Call}
+use Rattle.cc_entry.specs.declared.call.Call.TheVariants as call
 use Rattle.cc_entry.specs.declared.entry.Entry.{Entry}
 use Rattle.cc_entry.specs.declared.error.CcError.{CcError}
+use Rattle.cc_entry.specs.declared.error.CcError.TheVariants as error
 use Rattle.cc_entry.specs.declared.reply.Outcome.TheVariants as outcome
 use Rattle.cc_entry.specs.declared.reply.Reply.{Reply}
 use Rattle.cc_book.specs.Book.{BookState, done, failed}
@@ -14,11 +16,11 @@ use Rattle.cc_model.specs.Acts.{file_of}
 use Rattle.cc_model.specs.Filing.{IsFiled}
 use Rattle.cc_model.specs.Good.{IsGood}
 use Rattle.cc_model.specs.History.{history}
-use Rattle.cc_model.specs.Holds.{holds_of}
+use Rattle.cc_model.specs.Holds.{Hold, holds_of}
 use Rattle.cc_model.specs.Passes.{calls_of}
 use Rattle.cc_model.specs.Room.{reserved_in}
 use Rattle.cc_model.specs.Setup.{Setup}
-use Rattle.cc_step.specs.Step.{StandUnder, MayStep, AttemptLeft, AttemptDone, AttemptRefused, IsStop, is_answered, is_stepped, asked_now, most_asked}
+use Rattle.cc_step.specs.Step.{StandUnder, MayStep, AttemptLeft, AttemptDone, AttemptRefused, IsReadyFor, IsShort, IsStop, is_answered, is_stepped, asked_now, most_asked}
 use Rattle.cc_step.specs.declared.steps.Stepped.{Stepped}
 use Rattle.cc_step.specs.declared.steps.Stepped.TheVariants as stepped
 use Rattle.cc_step.proofs.Asking.{most}
@@ -28,7 +30,7 @@ use Rattle.cc_turns.specs.Takes.{without_journal}
 use Rattle.cc_writes.specs.Hands.{HasBook}
 use Rattle.cc_writes.specs.Told.{HasAnswered, FitsReply, FitsLast, FitsStepped, TriedAs}
 use Rattle.cc_writes.specs.Visits.{IsFiledNow, IsWaitedFor, TriedLeft, IsFullTried}
-use Rattle.cc_writes.specs.Ways.{FitsIn, IsFull}
+use Rattle.cc_writes.specs.Ways.{FitsIn, IsFull, IsReady}
 use Rattle.cc_writes.specs.declared.tell.Returned.{Returned}
 use Rattle.cc_writes.specs.declared.visits.Tried.{Tried}
 use Rattle.cc_writes.proofs.VisitEnding.{done-left, refused-left, full-left, memoryless-left}
@@ -40,6 +42,39 @@ use Rattle.cc_writes.proofs.Resting.{filed-held}
 use Rattle.cc_writes.proofs.Telling.{same-reply}
 use Rattle.cc_writes.proofs.Visiting.{Visiting, Visited, visited}
 use Rattle.cc_writes.proofs.Wanting.{stops-asked}
+
+moved : (Says : ℕ → Type 0) (s n : ℕ) → Some s ≡ Some n → Says s → Says n
+moved Says s n is said = subst Says (cc) said
+
+-- what holds of the stream under which a call on a file is filed holds of the file's
+of-file : (Says : ℕ → Type 0) (holds : List Hold) (pass s : ℕ) (it : Call) → IsFiled holds pass (Some s) it (file_of it) → Says s → IfSome (file_of it) (λ file. Says file.stream)
+of-file Says holds pass s (call.Initialise file sizes quota temporary) filed said = moved Says s file.stream filed said
+of-file Says holds pass s (call.Uninitialise file truncate) filed said = moved Says s file.stream filed said
+of-file Says holds pass s (call.CopyRead file at len wait) filed said = moved Says s file.stream filed said
+of-file Says holds pass s (call.CopyWrite file at bytes) filed said = moved Says s file.stream filed said
+of-file Says holds pass s (call.Zero file span) filed said = moved Says s file.stream filed said
+of-file Says holds pass s (call.Map file at len) filed said = moved Says s file.stream filed said
+of-file Says holds pass s (call.PinRead file at len exclusive) filed said = moved Says s file.stream filed said
+of-file Says holds pass s (call.PreparePin file at len zero exclusive) filed said = moved Says s file.stream filed said
+of-file Says holds pass s (call.MdlRead file at len) filed said = moved Says s file.stream filed said
+of-file Says holds pass s (call.MdlWrite file at len) filed said = moved Says s file.stream filed said
+of-file Says holds pass s (call.NcRead file page) filed said = moved Says s file.stream filed said
+of-file Says holds pass s (call.NcStore file page bytes) filed said = moved Says s file.stream filed said
+of-file Says holds pass s (call.NcWrite file page) filed said = moved Says s file.stream filed said
+of-file Says holds pass s (call.SetSizes file allocation size) filed said = moved Says s file.stream filed said
+of-file Says holds pass s (call.State file) filed said = moved Says s file.stream filed said
+of-file Says holds pass s (call.Flush file span) filed said = moved Says s file.stream filed said
+of-file Says holds pass s (call.Purge file span) filed said = moved Says s file.stream filed said
+of-file Says holds pass s (call.Discard file span) filed said = moved Says s file.stream filed said
+of-file Says holds pass s (call.SetLog file handle) filed said = moved Says s file.stream filed said
+of-file Says holds pass s (call.LsnForFile file) filed said = moved Says s file.stream filed said
+of-file Says holds pass s (call.SetGranularity file bytes) filed said = moved Says s file.stream filed said
+of-file Says holds pass s (call.SetAttributes file no_read_ahead no_write_behind) filed said = moved Says s file.stream filed said
+of-file Says holds pass s (call.SetThreshold file pages) filed said = moved Says s file.stream filed said
+of-file Says holds pass s (call.AskAhead file at len) filed said = moved Says s file.stream filed said
+of-file Says holds pass s (call.CanWrite file bytes) filed said = moved Says s file.stream filed said
+of-file Says holds pass s (call.AheadStep request) filed said = moved Says s request.file.stream filed said
+of-file Says holds pass s other filed said = tt
 
 module _ {Q : Type 0} (posted : Q → Bool) (w v : Standing) (it : Call) (b c : BookState) (j k : JournalState Q)
     (has : HasBook w b.stream b) (vis : Visiting posted w v b.stream b j) (here : is_answered it ≡ true) (filed : IsFiledNow w b.stream it) where
@@ -138,6 +173,20 @@ module _ {Q : Type 0} (posted : Q → Bool) (w v : Standing) (it : Call) (b c : 
   full-stop A asked e stop same given =
       full-stopped A posted asked (without_journal k v) k e given.journal (subst (λ (x : JournalState Q). IsStop asked e x) (sym same) stop)
 
+  -- there was no room for one entry, or the call was ready to be done
+  pub full-short : (A : Type 0) (asked : ℕ) (e : CcError) → IsStop asked e j → IsShort w.setup b.stream it e j → k ≡ j → Visited posted w v b.stream w.in_flight c k → IsFull {A = A} 1 (without_journal k v) (Err e) ⊎ IsReady (without_journal k v).setup it (without_journal k v).seen
+  full-short A asked e stop (inl none) unchanged given = inl (full-stop A 1 e (one stop) unchanged given)
+    where
+      one : IsStop asked e j → IsStop 1 e j
+      one (inl full) = inl (full.0, none)
+      one (inr memory) = inr (memory.0, omega arith)
+  full-short A asked (error.JournalFull entries) stop (inr ready) unchanged given =
+      inr
+      (subst (λ (u : Setup). IsReady u it k.entries) (sym vis.setup_is)
+      (subst (λ (x : JournalState Q). IsReady w.setup it x.entries) (sym unchanged)
+      (of-file (λ (s : ℕ). IsReadyFor w.setup j.entries s it) (holds_of (history j.entries b.stream)) w.number b.stream it filed-front ready)))
+  full-short A asked other stop (inr ready) unchanged given = inl tt
+
   -- an attempt, by how it ended
   pub visited-attempt : is_stepped it ≡ true → (ended : Stepped) → AttemptLeft w.setup w.number it ended b c j k → Visited posted w v b.stream w.in_flight c k
   visited-attempt is stepped.Done left = visited-done (diskless it is) left.0 left.1
@@ -167,11 +216,18 @@ module _ {Q : Type 0} (posted : Q → Bool) (w v : Standing) (it : Call) (b c : 
       stops = stops-asked j.entries b.stream w.number it known here filed-front (stop-asks (asked_now j.entries b.stream it) e j left.0)
 
   pub full-attempt : (ended : Stepped) (answer : Tried) (was now : List ℕ) → AttemptLeft w.setup w.number it ended b c j k → TriedAs ended answer k.entries was now → IsFullTried (without_journal k v) it answer
-  full-attempt stepped.Done answer was now left told = subst (λ (x : Tried). IsFullTried (without_journal k v) it x) (sym told.1) tt
-  full-attempt (stepped.Refused e) answer was now left told = subst (λ (x : Tried). IsFullTried (without_journal k v) it x) (sym told.0) (full-refused Returned (most_asked it) e left)
+  full-attempt stepped.Done answer was now left told = subst (λ (x : Tried). IsFullTried (without_journal k v) it x) (sym told.1) (tt, inl tt)
+  full-attempt (stepped.Refused e) answer was now left told =
+      subst (λ (x : Tried). IsFullTried (without_journal k v) it x) (sym told.0)
+      (full-refused Returned (most_asked it) e left, inl (full-refused Returned 1 e left))
   full-attempt (stepped.Waits page again) answer was now left told = subst (λ (x : Tried). IsFullTried (without_journal k v) it x) (sym told.0) tt
   full-attempt (stepped.Stopped e) answer was now left told =
-      subst (λ (x : Tried). IsFullTried (without_journal k v) it x) (sym told.0)
-      (full-stop Returned (most_asked it) e
-      (stops-for (asked_now j.entries b.stream it) (most_asked it) e j (most (holds_of (history j.entries b.stream)) it) left.0)
-      left.1.same_journal (visited-same left.1.same_journal left.1.stand left.1.stream))
+      subst (λ (x : Tried). IsFullTried (without_journal k v) it x) (sym told.0) (
+        full-stop Returned (most_asked it) e
+            (stops-for (asked_now j.entries b.stream it) (most_asked it) e j (most (holds_of (history j.entries b.stream)) it) left.0)
+            left.1.same_journal given,
+        full-short Returned (asked_now j.entries b.stream it) e left.0 left.2 left.1.same_journal given,
+      )
+    where
+      given : Visited posted w v b.stream w.in_flight c k
+      given = visited-same left.1.same_journal left.1.stand left.1.stream

@@ -1,5 +1,5 @@
 -- A call that found no room for so many places had none for more.
-use Rattle.std.specs.Prelude.{◌≡◌, ℕ, ◌+◌, ◌<◌, ◌≤◌, true, false, Result, Ok, Err, length}
+use Rattle.std.specs.Prelude.{◌≡◌, ℕ, ◌+◌, ◌<◌, ◌≤◌, ◌⊎◌, true, false, Result, Ok, Err, length}
 use Rattle.std.proofs.Common.{arith, inl, inr, sym, true≢false}
 use Rattle.cc_entry.specs.declared.call.Call.{Call}
 use Rattle.cc_entry.specs.declared.call.Call.TheVariants as call
@@ -10,10 +10,11 @@ use Rattle.cc_model.specs.Room.{reserved_in}
 use Rattle.cc_step.specs.Step.{most_asked}
 use Rattle.cc_turns.specs.Standing.{Standing}
 use Rattle.cc_turns.specs.Takes.{without_book, without_device}
-use Rattle.cc_writes.specs.Ways.{IsFull, IsFullError}
+use Rattle.cc_writes.specs.Ways.{IsFull, IsFullCall, IsFullError, IsReady}
 use Rattle.cc_writes.specs.Calls.{IsFullWriting}
 use Rattle.cc_writes.specs.Fetch.{IsFullFetching}
 use Rattle.cc_writes.specs.Rounds.{IsFullCourse, course_of}
+use Rattle.cc_writes.specs.declared.tell.Returned.{Returned}
 
 pub full-more : (asked more : ℕ) (w : Standing) (e : CcError) → asked ≤ more → IsFullError asked w e → IsFullError more w e
 full-more asked more w (error.JournalFull entries) most full =
@@ -27,8 +28,12 @@ pub full-answer : {A : Type 0} (asked more : ℕ) (w : Standing) (r : Result A C
 full-answer asked more w (Ok a) most full = tt
 full-answer asked more w (Err e) most full = full-more asked more w e most full
 
+-- where there is no room for one entry, there is none for all that a call asks
+pub full-one : {A : Type 0} (it : Call) (w : Standing) (r : Result A CcError) → 1 ≤ most_asked it → IsFull 1 w r → IsFullCall it w r
+full-one it w r some full = (full-answer 1 (most_asked it) w r some full, inl full)
+
 -- so of the places that a call asks where it is done
-pub full-ended : {A : Type 0} (it : Call) (w : Standing) (r : Result A CcError) → IsFull (most_asked it) w r → IsFullFetching it w r
+pub full-ended : {A : Type 0} (it : Call) (w : Standing) (r : Result A CcError) → IsFullCall it w r → IsFullFetching it w r
 full-ended it w r full = inl full
 
 -- a call that brings pages in asks one place at least
@@ -48,12 +53,12 @@ asks-one other brings = absurd (true≢false (sym brings))
 -- and where a page of its range comes in, or fails to
 pub full-brought : (it : Call) (w : Standing) (r : Result Call CcError) → brings_in it ≡ true → IsFull 1 w r → IsFullCourse it w (course_of r)
 full-brought it w (Ok again) brings full = tt
-full-brought it w (Err e) brings full = inl (full-more 1 (most_asked it) w e (asks-one it brings) full)
+full-brought it w (Err e) brings full = inl (full-one {A = Returned} it w (Err e) (asks-one it brings) full)
 
 -- or where a page is written for it
 pub full-wrote : (it : Call) (w : Standing) (r : Result Call CcError) → brings_in it ≡ true → IsFullWriting it w r → IsFullCourse it w (course_of r)
 full-wrote it w (Ok again) brings full = tt
-full-wrote it w (Err e) brings (inl full) = inl (full-more 1 (most_asked it) w e (asks-one it brings) full)
+full-wrote it w (Err e) brings (inl full) = inl (full-one {A = Returned} it w (Err e) (asks-one it brings) full)
 full-wrote it w (Err e) brings (inr full) = inr full
 
 -- so with the turns of the disk and of the book given back
@@ -63,7 +68,11 @@ given-full asked y (Err (error.JournalFull entries)) full = full
 given-full asked y (Err other) full = tt
 
 pub given-fetching : {A : Type 0} (it : Call) (y : Standing) (answer : Result A CcError) → IsFullFetching it y answer → IsFullFetching it (without_device (without_book y)) answer
-given-fetching it y answer (inl full) = inl (given-full (most_asked it) y answer full)
+given-fetching it y answer (inl full) = inl (given-full (most_asked it) y answer full.0, given-ready full.1)
+  where
+    given-ready : IsFull 1 y answer ⊎ IsReady y.setup it y.seen → IsFull 1 (without_device (without_book y)) answer ⊎ IsReady y.setup it y.seen
+    given-ready (inl none) = inl (given-full 1 y answer none)
+    given-ready (inr ready) = inr ready
 given-fetching it y answer (inr full) = inr (full.0, given-full 2 y answer full.1)
 
 pub given-writing : {A : Type 0} (it : Call) (y : Standing) (answer : Result A CcError) → IsFullWriting it y answer → IsFullWriting it (without_device (without_book y)) answer

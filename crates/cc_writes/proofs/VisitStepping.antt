@@ -1,6 +1,6 @@
 -- One step of a call that may bring pages in, in a visit with the stream's disk in hand.
 use Rattle.std.specs.Prelude.{◌≡◌, ℕ, suc, ◌+◌, ◌≤◌, Bool, true, List, [], ◌∷◌, Some, refl}
-use Rattle.std.proofs.Common.{ap, sym, ◌∙◌, subst, arith}
+use Rattle.std.proofs.Common.{ap, sym, ◌∙◌, inl, subst, arith}
 use Rattle.std.proofs.lemmas.Bool.{eq-eqb}
 use Rattle.cc_entry.specs.declared.call.Call.{Call}
 use Rattle.cc_entry.specs.declared.entry.Entry.{Entry}
@@ -26,7 +26,7 @@ use Rattle.cc_writes.specs.Visits.{IsFiledNow, IsToBeWritten, IsWaitedFor, StepL
 use Rattle.cc_writes.specs.Ways.{FitsIn}
 use Rattle.cc_writes.specs.declared.tell.Returned.{Returned}
 use Rattle.cc_writes.specs.declared.visits.Step.{Step}
-use Rattle.cc_writes.proofs.Attempting.{may-step, number-is, way-on, last-done, fits-done, visited-done, visited-refused, visited-same, left-done, left-refused, left-stopped, full-refused, full-stop}
+use Rattle.cc_writes.proofs.Attempting.{may-step, number-is, way-on, last-done, fits-done, visited-done, visited-refused, visited-same, left-done, left-refused, left-stopped, full-refused, full-short, full-stop}
 use Rattle.cc_writes.proofs.VisitDisks.{disk-same, disk-then, disk-call, disk-page_out}
 use Rattle.cc_writes.proofs.Owing.{reserved-page_out}
 use Rattle.cc_writes.proofs.PagesPlaced.{takes_out}
@@ -164,15 +164,18 @@ module _ {Q : Type 0} (posted : Q → Bool) (w v : Standing) (it : Call) (b c : 
       (left-stopped posted w v it b c j k has vis here filed begun way (most_asked it) e (stops-free it j.entries here (brings-free it brings)) left.0 left.1.same_journal, told.1)
 
   pub full-next : is_stepped it ≡ true → (ended : Next) (answer : Step) (was now : List ℕ) → NextLeft w.setup w.number it ended b c j k → StepAs ended answer k.entries was now → IsFullStep (without_journal k v) it answer
-  full-next is next.Done answer was now left told = subst (λ (x : Step). IsFullStep (without_journal k v) it x) (sym told.1) tt
+  full-next is next.Done answer was now left told = subst (λ (x : Step). IsFullStep (without_journal k v) it x) (sym told.1) (tt, inl tt)
   full-next is (next.Refused e) answer was now left told =
-      subst (λ (x : Step). IsFullStep (without_journal k v) it x) (sym told.0) (full-refused posted w v it b c j k has vis here filed Returned (most_asked it) e left)
+      subst (λ (x : Step). IsFullStep (without_journal k v) it x) (sym told.0)
+      (full-refused posted w v it b c j k has vis here filed Returned (most_asked it) e left, inl (full-refused posted w v it b c j k has vis here filed Returned 1 e left))
   full-next is (next.WentOut again) answer was now left told = subst (λ (x : Step). IsFullStep (without_journal k v) it x) (sym told.0) tt
   full-next is (next.Writes page again) answer was now left told = subst (λ (x : Step). IsFullStep (without_journal k v) it x) (sym told.0) tt
   full-next is (next.Reads page again) answer was now left told = subst (λ (x : Step). IsFullStep (without_journal k v) it x) (sym told.0) tt
   full-next is (next.Stopped e) answer was now left told =
-      subst (λ (x : Step). IsFullStep (without_journal k v) it x) (sym told.0)
-      (full-stop posted w v it b c j k has vis here filed Returned (most_asked it) e left.0 left.1.same_journal (visited-next is (next.Stopped e) left))
+      subst (λ (x : Step). IsFullStep (without_journal k v) it x) (sym told.0) (
+        full-stop posted w v it b c j k has vis here filed Returned (most_asked it) e left.0 left.1.same_journal (visited-next is (next.Stopped e) left),
+        full-short posted w v it b c j k has vis here filed Returned (most_asked it) e left.0 left.2 left.1.same_journal (visited-next is (next.Stopped e) left),
+      )
 
   -- and what was placed
   pub placed-next : (ended : Next) (answer : Step) (was now : List ℕ) → NextLeft w.setup w.number it ended b c j k → StepAs ended answer k.entries was now → StepPlaced w b.stream it answer k.entries

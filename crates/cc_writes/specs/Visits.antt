@@ -21,11 +21,11 @@ use Rattle.cc_model.specs.Stamps.{is_unstamped}
 use Rattle.cc_model.specs.Touches.{is_dirty, size_of}
 use Rattle.cc_step.specs.Fill.{IsNotToLand}
 use Rattle.cc_step.specs.Room.{has_room}
-use Rattle.cc_step.specs.Step.{is_awaited, least_absent, most_asked}
+use Rattle.cc_step.specs.Step.{is_awaited, least_absent}
 use Rattle.cc_turns.specs.Standing.{Standing}
 use Rattle.cc_turns.specs.Takes.{Grows}
 use Rattle.cc_writes.specs.Hands.{SameDisk, Went, WentWith}
-use Rattle.cc_writes.specs.Ways.{EndedSo, IsFull, IsHalted}
+use Rattle.cc_writes.specs.Ways.{EndedSo, IsFullCall, IsHalted}
 use Rattle.cc_writes.specs.declared.visits.Tried.{Tried}
 use Rattle.cc_writes.specs.declared.visits.Tried.TheVariants as tried
 use Rattle.cc_writes.specs.declared.visits.Step.{Step}
@@ -69,12 +69,12 @@ StepLeft u me s it (step.Reads page again) old new was now =
 
 -- an attempt at a call that stopped for want of room, or ended otherwise
 abbrev pub IsFullTried : Standing → Call → Tried → Type 0
-IsFullTried w it (tried.Ended answer) = IsFull (most_asked it) w answer
+IsFullTried w it (tried.Ended answer) = IsFullCall it w answer
 IsFullTried w it (tried.Waits page again) = Unit {0}
 
 -- the same of a step of a call that may bring pages in, each of which asks a place too
 abbrev pub IsFullStep : Standing → Call → Step → Type 0
-IsFullStep w it (step.Ended answer) = IsFull (most_asked it) w answer
+IsFullStep w it (step.Ended answer) = IsFullCall it w answer
 IsFullStep w it other = Unit {0}
 
 -- The pass goes on as it stood; with a page that is to be read it has a place reserved for the entry.

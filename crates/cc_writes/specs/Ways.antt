@@ -1,5 +1,5 @@
 -- How far a call came, or another work of a pass: it is under way, or was stopped, or ended.
-use Rattle.std.specs.Prelude.{◌≡◌, ℕ, ◌+◌, ◌<◌, ◌≤◌, ◌⊎◌, Bool, true, false, Result, Ok, Err, List, [], ◌∷◌, ◌++◌, length, take, drop}
+use Rattle.std.specs.Prelude.{◌≡◌, ℕ, ◌+◌, ◌<◌, ◌≤◌, ◌⊎◌, Bool, true, false, Result, Ok, Err, IfSome, List, [], ◌∷◌, ◌++◌, length, take, drop}
 use Rattle.std.specs.declared.option.Option.TheVariants.{Some, None}
 use Rattle.cc_entry.specs.Place.{Page}
 use Rattle.cc_entry.specs.declared.call.Call.{Call}
@@ -15,11 +15,13 @@ use Rattle.cc_effects.specs.Calls.{CallLeft}
 use Rattle.cc_effects.specs.Moments.{AtSome}
 use Rattle.cc_effects.specs.Places.{Works, syncs_of}
 use Rattle.cc_effects.specs.Stops.{IsUnstopped, IsStopped, tells}
+use Rattle.cc_model.specs.Acts.{file_of}
 use Rattle.cc_model.specs.Faults.{Fault, fault_of, faults_since}
 use Rattle.cc_model.specs.History.{history}
 use Rattle.cc_model.specs.Refusals.{refusal}
 use Rattle.cc_model.specs.Room.{reserved_in}
 use Rattle.cc_model.specs.Setup.{Setup}
+use Rattle.cc_step.specs.Step.{IsReadyFor, most_asked}
 use Rattle.cc_turns.specs.Standing.{Standing}
 use Rattle.cc_writes.specs.declared.tell.Returned.{Returned}
 use Rattle.cc_writes.specs.declared.tell.Returned.TheVariants as returned
@@ -115,3 +117,12 @@ IsFullError asked w other = Unit {0}
 abbrev pub IsFull : {A : Type 0} → ℕ → Standing → Result A CcError → Type 0
 IsFull asked w (Ok a) = Unit {0}
 IsFull asked w (Err e) = IsFullError asked w e
+
+-- Nothing refuses a call on a file, and each page of its range is resident.
+abbrev pub IsReady : Setup → Call → List Entry → Type 0
+IsReady u it past = IfSome (file_of it) (λ file. IsReadyFor u past file.stream it)
+
+-- Where a call finds the journal full, there is no room for all that it asks; and there is none for one entry, or the call is
+-- ready to be done as it finds that.
+abbrev pub IsFullCall : {A : Type 0} → Call → Standing → Result A CcError → Type 0
+IsFullCall it w answer = IsFull (most_asked it) w answer × (IsFull 1 w answer ⊎ IsReady w.setup it w.seen)

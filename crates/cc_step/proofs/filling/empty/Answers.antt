@@ -1,6 +1,6 @@
 -- A block of the range to give up has a least resident page, which is not dirty; its page out keeps the journal good.
 use Rattle.std.specs.Prelude.{ℕ, List, Option, Some, None, IsSome, refl}
-use Rattle.std.proofs.Common.{ap, subst}
+use Rattle.std.proofs.Common.{ap, sym, subst}
 use Rattle.cc_entry.specs.Place.{Page}
 use Rattle.cc_entry.specs.declared.entry.Entry.TheVariants as entry
 use Rattle.cc_book.specs.Book.{Gains, GoesOn}
@@ -10,6 +10,8 @@ use Rattle.cc_step.proofs.Placed.{so-far}
 use Rattle.cc_step.specs.Fill.{page_of}
 use Rattle.cc_step.specs.Room.{IsLeastIn}
 use Rattle.cc_step.proofs.Emptied.{block-numbered, has-least, page-numbered, good-going, made-way}
+use Rattle.cc_step.specs.Step.{StandUnder, most_asked}
+use Rattle.cc_step.proofs.Stops.{room-asks, stop-one, stops-for, stops-short}
 use Rattle.cc_step.proofs.filling.empty.Goals as goal
 
 -- a page was found, since there is one
@@ -54,3 +56,18 @@ returns-in-Ok-clause-left g c u waited may crowded to_go clean =
     (subst (λ (p : Page). Gains (entry.PageOut c.args.pass p) c.reserve.new.self c.take_out.new.journal) c.page_id-going.ensures c.take_out.ensures.placed))
     (subst (λ (j : JournalState g.row.Q.Denot). GoesOn j.entries c.take_out.new.journal.entries b c.take_out.new.self) c.in-Ok.ensures.reserved c.take_out.ensures.stands)
     c.take_out.ensures.stream
+
+pub returns-in-Err-clause-left : goal.returns-in-Err-clause-left
+returns-in-Err-clause-left g c u waited may crowded to_go clean =
+    let b = c.args.book.now in
+    let j = c.args.journal.now in
+    let e = c.in-Err.error in
+    let stop = stop-one e j c.in-Err.ensures.full.0 c.in-Err.ensures.causes in (
+      stops-for 1 (most_asked c.args.call) e j (room-asks c.args.call c.requires.room) stop,
+      record {
+        same_journal = c.in-Err.ensures.err;
+        stand = subst (λ (k : JournalState g.row.Q.Denot). StandUnder u b k) (sym c.in-Err.ensures.err) may.may.stand;
+        stream = refl;
+      },
+      stops-short u b.stream c.args.call e j stop,
+    )
