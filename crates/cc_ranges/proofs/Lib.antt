@@ -16,7 +16,6 @@ pub mod FlushHolding
 pub mod Residing
 pub mod Unheld
 pub mod Emptying
-pub mod Alone
 pub mod PurgeStepping
 pub mod PurgeNexting
 pub mod PurgeRounds

@@ -21,7 +21,7 @@ use Rattle.cc_writes.specs.Calls.{IsFullWriting, MayFaultInWriting, PageLeft}
 use Rattle.cc_writes.specs.Writes.{HasBoth}
 use Rattle.cc_writes.proofs.OneVisit.{went-then}
 use Rattle.cc_ranges.specs.Flush.{outcome_of}
-use Rattle.cc_ranges.specs.Alone.{NobodyElseChanged}
+use Rattle.cc_writes.specs.Alone.{NobodyElseChanged}
 use Rattle.cc_ranges.specs.Purge.{RoundLeft, RoundPlaced, IsFullRound, WentUpOnce, ended_of, round_of}
 use Rattle.cc_ranges.specs.declared.purge.Round.{Round}
 use Rattle.cc_ranges.specs.declared.purge.Round.TheVariants as round

@@ -8,6 +8,7 @@ use Rattle.cc_entry.specs.declared.call.Call.{Call}
 use Rattle.cc_entry.specs.declared.call.Call.TheVariants as call
 use Rattle.cc_entry.specs.declared.entry.Entry.{Entry}
 use Rattle.cc_entry.specs.declared.entry.Entry.TheVariants as entry
+use Rattle.cc_entry.specs.declared.error.CcError.{CcError}
 use Rattle.cc_entry.specs.declared.reply.Outcome.TheVariants as outcome
 use Rattle.cc_entry.specs.declared.reply.Reply.TheVariants as reply
 use Rattle.cc_book.specs.Book.{BookState}
@@ -20,7 +21,7 @@ use Rattle.cc_model.specs.History.{history}
 use Rattle.cc_model.specs.Holds.{holds_of}
 use Rattle.cc_model.specs.Passes.{calls_of}
 use Rattle.cc_model.specs.Setup.{Setup}
-use Rattle.cc_step.specs.Step.{AttemptDone, StandUnder}
+use Rattle.cc_step.specs.Step.{AttemptDone, AttemptRefused, StandUnder}
 use Rattle.cc_turns.specs.Standing.{Standing}
 use Rattle.cc_turns.specs.Takes.{Grows, without_journal}
 use Rattle.cc_writes.specs.Hands.{HasBook, IsAtRest, SameDisk}
@@ -33,7 +34,7 @@ use Rattle.cc_writes.proofs.Refusals.{stops-free}
 use Rattle.cc_writes.proofs.VisitStepping.{disk-grew, fill-as}
 use Rattle.cc_writes.proofs.Visiting.{Visiting, Visited, visited}
 use Rattle.cc_ranges.specs.Dirty.{IsNext}
-use Rattle.cc_ranges.specs.Purge.{HasEnded, HasGone, IsAtPage, IsAsking, IsFullStep, StepLeft, StepPlaced, step_of}
+use Rattle.cc_ranges.specs.Purge.{HasEnded, HasFailed, HasGone, IsAtPage, IsAsking, IsFullStep, StepLeft, StepPlaced, step_of}
 use Rattle.cc_ranges.specs.PurgeSteps.{NextLeft, HasToWrite, HasTakenOut, IsNumbered}
 use Rattle.cc_ranges.specs.declared.purge_steps.Next.{Next}
 use Rattle.cc_ranges.specs.declared.purge_steps.Next.TheVariants as next
@@ -164,6 +165,18 @@ module _ {Q : Type 0} (posted : Q → Bool) (w v : Standing) (file : File) (span
     };
   }
 
+  refused-here : (e : CcError) → AttemptRefused w.setup w.number it e b c j k → HasFailed w file span e k.entries
+  refused-here e left =
+      inl (
+        suc (calls_of j.entries w.number),
+        record {
+          front = j.entries;
+          grows = vis.grows;
+          placed = ap (λ (x : JournalState Q). x.entries) left.placed
+              ∙ ap (λ (n : ℕ). entry.Call w.number (suc (calls_of j.entries w.number)) (Some n) it (outcome.Failed e) ∷ j.entries) here;
+        },
+      )
+
   gone-here : HasTakenOut w.setup w.number file span b c j k → HasGone w file.stream k.entries
   gone-here left =
       subst (λ (n : ℕ). HasGone w n k.entries) here
@@ -175,11 +188,11 @@ module _ {Q : Type 0} (posted : Q → Bool) (w v : Standing) (file : File) (span
 
   pub placed-next : (ended : Next) → NextLeft w.setup w.number file span from ended b c j k → StepPlaced w file span from (step_of ended) k.entries
   placed-next next.Done left = ended-here left
-  placed-next (next.Refused e) left = tt
+  placed-next (next.Refused e) left = refused-here e left
   placed-next (next.Writes page) left = grows-same left.same_journal
   placed-next next.Cleaned left = inr (left.later, grows-same left.same_journal)
   placed-next next.WentOut left = inl (gone-here left)
-  placed-next (next.Stopped e) left = tt
+  placed-next (next.Stopped e) left = inr (grows-same left.1.same_journal)
 
   pub full-next : (ended : Next) → NextLeft w.setup w.number file span from ended b c j k → IsFullStep (without_journal k v) (step_of ended)
   full-next next.Done left = tt

@@ -1,119 +1,65 @@
 -- How a purge goes up its span once, and then empties it with nobody else there.
-use Rattle.std.specs.Prelude.{◌≡◌, ℕ, ◌+◌, ◌<◌, ◌≤◌, ◌⊎◌, Bool, true, false, ◌||◌, Result, Ok, Err, IfOk, OnOk, List, [], ◌∷◌, ◌++◌, refl}
+use Rattle.std.specs.Prelude.{◌≡◌, ℕ, ◌+◌, ◌<◌, ◌≤◌, ◌⊎◌, Bool, true, Result, Ok, Err, IfErr, OnOk, List, refl}
 use Rattle.std.specs.declared.option.Option.{Option}
 use Rattle.std.specs.declared.option.Option.TheVariants.{Some, None}
-use Rattle.std.specs.List.{filter_map, list_any}
-use Rattle.std.proofs.Common.{ap, sym, ◌∙◌, subst, arith, append_assoc, inl, inr}
+use Rattle.std.proofs.Common.{sym, subst, arith, inl, inr}
 use Rattle.std.proofs.lemmas.Bool.{eq-eqb}
-use Rattle.std.proofs.lemmas.List.Elements.{filter_map-append}
-use Rattle.std.proofs.lemmas.List.Folds.{list_any-append}
-use Rattle.cc_entry.specs.Place.{File, Page, Range}
+use Rattle.cc_entry.specs.Place.{File, Range}
 use Rattle.cc_entry.specs.declared.call.Call.{Call}
 use Rattle.cc_entry.specs.declared.call.Call.TheVariants as call
-use Rattle.cc_entry.specs.declared.entry.End.TheVariants as how
 use Rattle.cc_entry.specs.declared.entry.Entry.{Entry}
 use Rattle.cc_entry.specs.declared.entry.Entry.TheVariants as entry
 use Rattle.cc_entry.specs.declared.error.CcError.{CcError}
 use Rattle.cc_entry.specs.declared.reply.Outcome.TheVariants as outcome
 use Rattle.cc_entry.specs.declared.reply.Reply.TheVariants as reply
-use Rattle.cc_effects.specs.Moments.{IsIdle, own}
-use Rattle.cc_effects.proofs.Stretches.{grew-after, own-after, own-append, own-before}
+use Rattle.cc_effects.specs.Moments.{IsIdle}
+use Rattle.cc_effects.proofs.Stretches.{idle-none}
 use Rattle.cc_model.specs.History.{Did, WentOut}
 use Rattle.cc_turns.specs.Standing.{Standing}
 use Rattle.cc_turns.specs.Takes.{Grows}
-use Rattle.cc_writes.specs.Writes.{HasTransferred}
-use Rattle.cc_ranges.specs.Alone.{NobodyElseChanged}
-use Rattle.cc_ranges.specs.Purge.{AreRising, HasLess, HasWritten, RoundPlaced, StepPlaced, WasEmptiedAlone, WentUpOnce, begun_by, begun_page, ended_of, is_page_out, left_to_empty, round_of, takes_out}
+use Rattle.cc_writes.specs.Alone.{NobodyElseChanged}
+use Rattle.cc_effects.specs.Begins.{BeginsAscending, BeginsNone, TakesNoneOut}
+use Rattle.cc_writes.proofs.Alone.{alone-effectless, alone-grows, alone-placed, alone-then}
+use Rattle.cc_effects.proofs.Begun.{ascend-none, ascend-then, none-behind, none-idle}
+use Rattle.cc_writes.proofs.Begun.{stays-behind, stays-idle, stays-then}
+use Rattle.cc_ranges.specs.Purge.{CameSoFar, HasFailed, HasLess, HasWritten, RoundPlaced, StepPlaced, WasEmptiedAlone, WentUpOnce, ended_of, left_to_empty, round_of}
 use Rattle.cc_ranges.specs.declared.purge.Round.{Round}
 use Rattle.cc_ranges.specs.declared.purge.Round.TheVariants as round
 use Rattle.cc_ranges.specs.declared.purge_visits.Step.TheVariants as step
-use Rattle.cc_ranges.proofs.Alone.{alone-grows, alone-placed, alone-then, alone-transferred}
 
-rising-more : (a b : ℕ) (pages : List ℕ) → a ≤ b → AreRising a pages → AreRising b pages
-rising-more a b [] more rising = tt
-rising-more a b (p ∷ pages) more rising = (below p a b rising.0 more, rising.1)
-  where
-    below : (p a b : ℕ) → p < a → a ≤ b → p < b
-    below p a b less more = omega (arith, less, more)
-
-neither : (a b : Bool) → a ≡ false → b ≡ false → (a || b) ≡ false
-neither false false a b = refl
-neither true b a other = absurd (cc)
-neither false true a b = absurd (cc)
+idle-grows : (w : Standing) (seen : List Entry) → Grows w seen → IsIdle w.number w.seen seen
+idle-grows w seen grows = record { during = grows.later; grew = grows.grew; others = grows.others }
 
 -- it begins
 pub up-begins : (me : ℕ) (past : List Entry) → WentUpOnce me 0 past past
-up-begins me past = record { during = []; grew = refl; rising = tt; stays = refl }
+up-begins me past =
+    let idle = idle-none me past in
+    record { begun = ascend-none me 0 0 past past (omega arith) (none-idle me past past idle); stays = stays-idle me past past idle }
 
 -- it writes the next page
 pub up-wrote : (me from to : ℕ) (old between new : List Entry) → WentUpOnce me from old between → HasWritten me from to between new → WentUpOnce me to old new
 up-wrote me from to old between new first wrote = record {
-  during = wrote.during ++ first.during;
-  grew = grew-after wrote.during first.during old between new wrote.grew first.grew;
-  rising = subst (AreRising to)
-      (sym (ap (filter_map begun_page) (own-append me wrote.during first.during)
-      ∙ (filter_map-append begun_page (own me wrote.during) (own me first.during) ∙ ap (λ (pages : List ℕ). pages ++ begun_by me first.during) wrote.written)))
-      (wrote.below, rising-more from wrote.page (begun_by me first.during) wrote.from_is first.rising);
-  stays = ap (list_any is_page_out) (own-append me wrote.during first.during)
-      ∙ (list_any-append is_page_out (own me wrote.during) (own me first.during) ∙ neither (takes_out me wrote.during) (takes_out me first.during) wrote.stays first.stays);
+  begun = ascend-then me 0 from to old between new first.begun wrote.begun;
+  stays = stays-then me old between new first.stays wrote.stays;
 }
 
 -- others went on, and then a page was written
-pub written-since : (me from to : ℕ) (old between new : List Entry) → IsIdle me old between → HasWritten me from to between new → HasWritten me from to old new
+written-since : (me from to : ℕ) (old between new : List Entry) → IsIdle me old between → HasWritten me from to between new → HasWritten me from to old new
 written-since me from to old between new idle wrote = record {
-  during = wrote.during ++ idle.during;
-  grew = grew-after wrote.during idle.during old between new wrote.grew idle.grew;
-  page = wrote.page;
-  from_is = wrote.from_is;
-  below = wrote.below;
-  written = ap (filter_map begun_page) (own-before me wrote.during idle.during idle.others) ∙ wrote.written;
-  stays = ap (list_any is_page_out) (own-before me wrote.during idle.during idle.others) ∙ wrote.stays;
+  begun = ascend-then me from from to old between new (ascend-none me from from old between (omega arith) (none-idle me old between idle)) wrote.begun;
+  stays = stays-then me old between new (stays-idle me old between idle) wrote.stays;
 }
 
--- a page was transferred
-module _ (v : Standing) (s from page : ℕ) (keeps : Bool) (seen : List Entry) (done : HasTransferred v (record { stream = s; page = page }) how.Good keeps seen) where
-  this : Page
-  this = record { stream = s; page = page }
+-- the page lies from one page on
+written-from : (me from page to : ℕ) (old new : List Entry) → from ≤ page → BeginsAscending me page to old new → TakesNoneOut me old new → HasWritten me from to old new
+written-from me from page to old new from_is begun stays = record {
+  begun = ascend-then me from page to old old new (ascend-none me from page old old from_is (none-idle me old old (idle-none me old))) begun;
+  stays = stays;
+}
 
-  during : List Entry
-  during = entry.WriteEnd v.number this how.Good ∷ (done.later ++ (entry.WriteBegin v.number this ∷ done.is_before.since))
-
-  own-during : own v.number during ≡ entry.WriteEnd v.number this how.Good ∷ (entry.WriteBegin v.number this ∷ own v.number done.is_before.since)
-  unfolding during
-  own-during =
-      rw (eq-eqb v.number v.number refl)
-      (ap (λ (l : List Entry). entry.WriteEnd v.number this how.Good ∷ l)
-      (own-after v.number done.later (entry.WriteBegin v.number this ∷ done.is_before.since) done.others ∙ rw (eq-eqb v.number v.number refl) refl))
-
-  -- only the flush of a log may stand before it
-  pages-before : begun_by v.number done.is_before.since ≡ []
-  pages-before = by done.is_before.only
-    where
-      by : (own v.number done.is_before.since ≡ []) ⊎ ((handle : ℕ) × (to : ℕ) × (own v.number done.is_before.since ≡ entry.Flushed v.number handle to ∷ [])) → begun_by v.number done.is_before.since ≡ []
-      by (inl none) = ap (filter_map begun_page) none
-      by (inr (handle, to, flushed)) = ap (filter_map begun_page) flushed
-
-  none-out : takes_out v.number done.is_before.since ≡ false
-  none-out = by done.is_before.only
-    where
-      by : (own v.number done.is_before.since ≡ []) ⊎ ((handle : ℕ) × (to : ℕ) × (own v.number done.is_before.since ≡ entry.Flushed v.number handle to ∷ [])) → takes_out v.number done.is_before.since ≡ false
-      by (inl none) = ap (list_any is_page_out) none
-      by (inr (handle, to, flushed)) = ap (list_any is_page_out) flushed
-
-  pub written-page : from ≤ page → HasWritten v.number from (page + 1) v.seen seen
-  unfolding during this
-  written-page from_is = record {
-    during = during;
-    grew = done.placed
-        ∙ ap (λ (past : List Entry). entry.WriteEnd v.number this how.Good ∷ past)
-        (ap (λ (past : List Entry). done.later ++ (entry.WriteBegin v.number this ∷ past)) done.is_before.grew
-        ∙ sym (append_assoc done.later (entry.WriteBegin v.number this ∷ done.is_before.since) v.seen));
-    page = page;
-    from_is = from_is;
-    below = omega arith;
-    written = ap (filter_map begun_page) own-during ∙ ap (λ (pages : List ℕ). page ∷ pages) pages-before;
-    stays = ap (list_any is_page_out) own-during ∙ none-out;
-  }
+-- the entry of a purge that failed
+abbrev failing : ℕ → File → Option Range → CcError → ℕ → Entry
+failing me file span e nth = entry.Call me nth (Some file.stream) (call.Purge file span) (outcome.Failed e)
 
 -- what a round placed, by what its step did
 module _ (w : Standing) (file : File) (span : Option Range) (from : ℕ) (keeps : Bool) (book : w.held.book ≡ Some file.stream) (device : w.held.device ≡ Some file.stream) where
@@ -121,7 +67,26 @@ module _ (w : Standing) (file : File) (span : Option Range) (from : ℕ) (keeps 
   placed-ended (Ok done) seen ended =
       alone-placed w file.stream book device (entry.Call w.number ended.nth (Some file.stream) (call.Purge file span) (outcome.Done reply.Unit)) (Did w.number (call.Purge file span) reply.Unit) seen
       (rw (eq-eqb file.stream file.stream refl) refl) refl ended.placed
-  placed-ended (Err e) seen ended = tt
+  placed-ended (Err e) seen failed = (
+    (from, record { begun = ascend-none w.number from from w.seen seen (omega arith) (none-failed failed); stays = stays-failed failed }),
+    λ kept. alone-failed failed,
+  )
+    where
+      none-failed : HasFailed w file span e seen → BeginsNone w.number w.seen seen
+      none-failed (inl (nth, placed)) =
+          subst (λ (past : List Entry). BeginsNone w.number w.seen past) (sym placed.placed)
+          (none-behind w.number (failing w.number file span e nth) w.seen placed.front refl (none-idle w.number w.seen placed.front (idle-grows w placed.front placed.grows)))
+      none-failed (inr grows) = none-idle w.number w.seen seen (idle-grows w seen grows)
+
+      stays-failed : HasFailed w file span e seen → TakesNoneOut w.number w.seen seen
+      stays-failed (inl (nth, placed)) =
+          subst (λ (past : List Entry). TakesNoneOut w.number w.seen past) (sym placed.placed)
+          (stays-behind w.number (failing w.number file span e nth) w.seen placed.front refl (stays-idle w.number w.seen placed.front (idle-grows w placed.front placed.grows)))
+      stays-failed (inr grows) = stays-idle w.number w.seen seen (idle-grows w seen grows)
+
+      alone-failed : HasFailed w file span e seen → NobodyElseChanged w.number file.stream w.seen seen
+      alone-failed (inl (nth, placed)) = alone-effectless w file.stream book device (failing w.number file span e nth) seen refl placed
+      alone-failed (inr grows) = alone-grows w file.stream book device seen grows
 
   pub placed-went : (seen : List Entry) → StepPlaced w file span from step.GoesOn seen → RoundPlaced w.number file.stream from keeps round.GoesOn w.seen seen
   placed-went seen (inl gone) =
@@ -129,19 +94,24 @@ module _ (w : Standing) (file : File) (span : Option Range) (from : ℕ) (keeps 
       (rw (eq-eqb file.stream file.stream refl) refl) refl gone.placed
   placed-went seen (inr (later, grows)) = alone-grows w file.stream book device seen grows
 
--- where the step asked for a page, and it was written
-pub placed-wrote : (w v : Standing) (file : File) (s from page : ℕ) (keeps : Bool) (written : Result Call CcError) (seen : List Entry) → w.held.book ≡ Some file.stream → w.held.device ≡ Some file.stream → v.held.book ≡ Some file.stream → v.held.device ≡ Some file.stream → v.number ≡ w.number → s ≡ file.stream → from ≤ page → Grows w v.seen → IfOk written (λ again. HasTransferred v (record { stream = s; page = page }) how.Good keeps seen) → RoundPlaced w.number file.stream from keeps (round_of written page) w.seen seen
-placed-wrote w v file s from page keeps (Err e) seen book device book_then device_then number here from_is grows done = tt
-placed-wrote w v file s from page keeps (Ok again) seen book device book_then device_then number here from_is grows done = (
-  written-since w.number from (page + 1) w.seen v.seen seen (record { during = grows.later; grew = grows.grew; others = grows.others })
-      (subst (λ (n : ℕ). HasWritten n from (page + 1) v.seen seen) number (written-page v s from page keeps seen done from_is)),
-  λ kept.
-      alone-then w.number file.stream w.seen v.seen seen (alone-grows w file.stream book device v.seen grows)
-      (subst (λ (n : ℕ). NobodyElseChanged n file.stream v.seen seen) number
-      (alone-transferred v file.stream book_then device_then page seen
-      (subst (λ (t : ℕ). HasTransferred v (record { stream = t; page = page }) how.Good true seen) here
-      (subst (λ (k : Bool). HasTransferred v (record { stream = s; page = page }) how.Good k seen) kept done)))),
-)
+-- where the step asked for a page, which was written, or failed
+pub placed-wrote : (w v : Standing) (file : File) (s from page : ℕ) (keeps : Bool) (written : Result Call CcError) (seen : List Entry) → w.held.book ≡ Some file.stream → w.held.device ≡ Some file.stream → v.number ≡ w.number → s ≡ file.stream → from ≤ page → Grows w v.seen → BeginsAscending v.number page (page + 1) v.seen seen → TakesNoneOut v.number v.seen seen → (keeps ≡ true → NobodyElseChanged v.number s v.seen seen) → RoundPlaced w.number file.stream from keeps (round_of written page) w.seen seen
+placed-wrote w v file s from page keeps written seen book device number here from_is grows begun stays alone = by written
+  where
+    wrote : HasWritten w.number from (page + 1) w.seen seen
+    wrote =
+        written-since w.number from (page + 1) w.seen v.seen seen (idle-grows w v.seen grows)
+        (subst (λ (n : ℕ). HasWritten n from (page + 1) v.seen seen) number (written-from v.number from page (page + 1) v.seen seen from_is begun stays))
+
+    alone-on : keeps ≡ true → NobodyElseChanged w.number file.stream w.seen seen
+    alone-on kept =
+        alone-then w.number file.stream w.seen v.seen seen (alone-grows w file.stream book device v.seen grows)
+        (subst (λ (n : ℕ). NobodyElseChanged n file.stream v.seen seen) number
+        (subst (λ (t : ℕ). NobodyElseChanged v.number t v.seen seen) here (alone kept)))
+
+    by : (r : Result Call CcError) → RoundPlaced w.number file.stream from keeps (round_of r page) w.seen seen
+    by (Ok again) = (wrote, alone-on)
+    by (Err e) = ((page + 1, wrote), alone-on)
 
 -- a round that did not end the purge, with the book kept
 pub still-alone : (me s from : ℕ) (came : Round) (old new : List Entry) → ended_of came ≡ None → RoundPlaced me s from true came old new → NobodyElseChanged me s old new
@@ -155,40 +125,53 @@ still-less s (round.CameTo to) old new none less = less
 still-less s round.GoesOn old new none less = less
 
 -- one that ended it
-alone-answer : (me s from : ℕ) (keeps : Bool) (answer : Result (Unit {0}) CcError) (old between new : List Entry) → NobodyElseChanged me s old between → RoundPlaced me s from keeps (round.Ended answer) between new → OnOk answer (NobodyElseChanged me s old new)
-alone-answer me s from keeps (Ok done) old between new first placed = alone-then me s old between new first placed
-alone-answer me s from keeps (Err e) old between new first placed = tt
+pub ended-alone : (me s from : ℕ) (came : Round) (answer : Result (Unit {0}) CcError) (old between new : List Entry) → ended_of came ≡ Some answer → NobodyElseChanged me s old between → RoundPlaced me s from true came between new → NobodyElseChanged me s old new
+ended-alone me s from (round.Ended (Ok done)) answer old between new is first placed = alone-then me s old between new first placed
+ended-alone me s from (round.Ended (Err e)) answer old between new is first placed = alone-then me s old between new first (placed.1 refl)
+ended-alone me s from (round.CameTo to) answer old between new is first placed = absurd (cc)
+ended-alone me s from round.GoesOn answer old between new is first placed = absurd (cc)
 
-pub ended-alone : (me s from : ℕ) (keeps : Bool) (came : Round) (answer : Result (Unit {0}) CcError) (old between new : List Entry) → ended_of came ≡ Some answer → NobodyElseChanged me s old between → RoundPlaced me s from keeps came between new → OnOk answer (NobodyElseChanged me s old new)
-ended-alone me s from keeps (round.Ended other) answer old between new is first placed =
-    alone-answer me s from keeps answer old between new first
-    (subst (λ (a : Result (Unit {0}) CcError). RoundPlaced me s from keeps (round.Ended a) between new) (inner other answer is) placed)
-  where
-    inner : (a b : Result (Unit {0}) CcError) → Some a ≡ Some b → a ≡ b
-    inner a b same = cc
-ended-alone me s from keeps (round.CameTo to) answer old between new is first placed = absurd (cc)
-ended-alone me s from keeps round.GoesOn answer old between new is first placed = absurd (cc)
-
--- the purge was done: it had gone up its span once, and then nobody else changed the stream
+-- the purge ended on its way up: it was done with nobody else there, or it failed
 pub emptied-ended : (me s from : ℕ) (keeps : Bool) (answer : Result (Unit {0}) CcError) (old between new : List Entry) → WentUpOnce me from old between → RoundPlaced me s from keeps (round.Ended answer) between new → OnOk answer (WasEmptiedAlone me s old new)
 emptied-ended me s from keeps (Ok done) old between new first placed = record { to = from; moment = between; first = first; alone = placed }
 emptied-ended me s from keeps (Err e) old between new first placed = tt
 
-pub emptied-then : (me s from : ℕ) (answer : Result (Unit {0}) CcError) (old between then new : List Entry) → WentUpOnce me from old between → NobodyElseChanged me s between then → OnOk answer (NobodyElseChanged me s then new) → OnOk answer (WasEmptiedAlone me s old new)
-emptied-then me s from (Ok done) old between then new first on alone = record { to = from; moment = between; first = first; alone = alone-then me s between then new on alone }
-emptied-then me s from (Err e) old between then new first on alone = tt
+pub failed-ended : (me s from : ℕ) (keeps : Bool) (answer : Result (Unit {0}) CcError) (old between new : List Entry) → WentUpOnce me from old between → RoundPlaced me s from keeps (round.Ended answer) between new → IfErr answer (λ e. CameSoFar me s old new)
+failed-ended me s from keeps (Ok done) old between new first placed = tt
+failed-ended me s from keeps (Err e) old between new first placed = inl (placed.0.0, up-wrote me from placed.0.0 old between new first placed.0.1)
+
+-- or it had gone up its span once, and then nobody else changed the stream, whatever it answers
+pub emptied-then : (me s from : ℕ) (old between then new : List Entry) → WentUpOnce me from old between → NobodyElseChanged me s between then → NobodyElseChanged me s then new → WasEmptiedAlone me s old new
+emptied-then me s from old between then new first on alone = record { to = from; moment = between; first = first; alone = alone-then me s between then new on alone }
+
+pub emptied-done : (me s : ℕ) (answer : Result (Unit {0}) CcError) (old new : List Entry) → WasEmptiedAlone me s old new → OnOk answer (WasEmptiedAlone me s old new)
+emptied-done me s (Ok done) old new emptied = emptied
+emptied-done me s (Err e) old new emptied = tt
+
+pub emptied-failed : (me s : ℕ) (answer : Result (Unit {0}) CcError) (old new : List Entry) → WasEmptiedAlone me s old new → IfErr answer (λ e. CameSoFar me s old new)
+emptied-failed me s (Ok done) old new emptied = tt
+emptied-failed me s (Err e) old new emptied = inr emptied
 
 -- nor was anything placed by the pass before it began
-pub emptied-since : (me s : ℕ) (answer : Result (Unit {0}) CcError) (older old new : List Entry) → IsIdle me older old → OnOk answer (WasEmptiedAlone me s old new) → OnOk answer (WasEmptiedAlone me s older new)
-emptied-since me s (Ok done) older old new idle emptied = record {
+up-since : (me to : ℕ) (older old new : List Entry) → IsIdle me older old → WentUpOnce me to old new → WentUpOnce me to older new
+up-since me to older old new idle up = record {
+  begun = ascend-then me 0 0 to older old new (ascend-none me 0 0 older old (omega arith) (none-idle me older old idle)) up.begun;
+  stays = stays-then me older old new (stays-idle me older old idle) up.stays;
+}
+
+alone-since : (me s : ℕ) (older old new : List Entry) → IsIdle me older old → WasEmptiedAlone me s old new → WasEmptiedAlone me s older new
+alone-since me s older old new idle emptied = record {
   to = emptied.to;
   moment = emptied.moment;
-  first = record {
-    during = emptied.first.during ++ idle.during;
-    grew = grew-after emptied.first.during idle.during older old emptied.moment emptied.first.grew idle.grew;
-    rising = subst (AreRising emptied.to) (sym (ap (filter_map begun_page) (own-before me emptied.first.during idle.during idle.others))) emptied.first.rising;
-    stays = ap (list_any is_page_out) (own-before me emptied.first.during idle.during idle.others) ∙ emptied.first.stays;
-  };
+  first = up-since me emptied.to older old emptied.moment idle emptied.first;
   alone = emptied.alone;
 }
+
+pub emptied-since : (me s : ℕ) (answer : Result (Unit {0}) CcError) (older old new : List Entry) → IsIdle me older old → OnOk answer (WasEmptiedAlone me s old new) → OnOk answer (WasEmptiedAlone me s older new)
+emptied-since me s (Ok done) older old new idle emptied = alone-since me s older old new idle emptied
 emptied-since me s (Err e) older old new idle emptied = tt
+
+pub failed-since : (me s : ℕ) (answer : Result (Unit {0}) CcError) (older old new : List Entry) → IsIdle me older old → IfErr answer (λ e. CameSoFar me s old new) → IfErr answer (λ e. CameSoFar me s older new)
+failed-since me s (Ok done) older old new idle came = tt
+failed-since me s (Err e) older old new idle (inl (to, up)) = inl (to, up-since me to older old new idle up)
+failed-since me s (Err e) older old new idle (inr emptied) = inr (alone-since me s older old new idle emptied)

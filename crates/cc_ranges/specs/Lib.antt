@@ -5,7 +5,6 @@ pub mod Dirty
 pub mod FlushSteps
 pub mod Flush
 pub mod Residents
-pub mod Alone
 pub mod PurgeSteps
 pub mod Purge
 pub mod Answers

@@ -1,8 +1,7 @@
 -- What a purge leaves on its way, from whichever moment it is under way, and at its end.
-use Rattle.std.specs.Prelude.{◌≡◌, ℕ, ◌+◌, ◌<◌, ◌≤◌, ◌^◌, ◌⊎◌, Bool, true, false, Result, Ok, Err, List, [], ◌∷◌, ◌++◌}
+use Rattle.std.specs.Prelude.{◌≡◌, ℕ, ◌+◌, ◌<◌, ◌≤◌, ◌^◌, ◌⊎◌, Bool, true, Result, Ok, Err, List}
 use Rattle.std.specs.declared.option.Option.{Option}
 use Rattle.std.specs.declared.option.Option.TheVariants.{None, Some}
-use Rattle.std.specs.List.{filter_map, list_any}
 use Rattle.cc_entry.specs.Place.{File, Range}
 use Rattle.cc_entry.specs.declared.call.Call.{Call}
 use Rattle.cc_entry.specs.declared.call.Call.TheVariants as call
@@ -12,7 +11,6 @@ use Rattle.cc_entry.specs.declared.error.CcError.{CcError}
 use Rattle.cc_entry.specs.declared.reply.Outcome.TheVariants as outcome
 use Rattle.cc_entry.specs.declared.reply.Reply.TheVariants as reply
 use Rattle.cc_effects.specs.Calls.{CallLeft, IsUnderWay}
-use Rattle.cc_effects.specs.Moments.{own}
 use Rattle.cc_model.specs.History.{history}
 use Rattle.cc_model.specs.Ranges.{span_has}
 use Rattle.cc_model.specs.Refusals.{refusal}
@@ -21,11 +19,12 @@ use Rattle.cc_model.specs.Setup.{Setup}
 use Rattle.cc_turns.specs.Standing.{Standing}
 use Rattle.cc_turns.specs.Takes.{Grows}
 use Rattle.cc_writes.specs.Calls.{IsFullWriting}
+use Rattle.cc_writes.specs.Alone.{NobodyElseChanged}
+use Rattle.cc_effects.specs.Begins.{BeginsAscending, TakesNoneOut}
 use Rattle.cc_writes.specs.Visits.{HasPlaced}
 use Rattle.cc_writes.specs.Ways.{IsFull}
 use Rattle.cc_writes.specs.Work.{work_left}
 use Rattle.cc_writes.specs.Writes.{IsToWrite}
-use Rattle.cc_ranges.specs.Alone.{NobodyElseChanged}
 use Rattle.cc_ranges.specs.Flush.{outcome_of}
 use Rattle.cc_ranges.specs.declared.purge.Round.{Round}
 use Rattle.cc_ranges.specs.declared.purge.Round.TheVariants as round
@@ -64,10 +63,16 @@ pub record HasGone (w : Standing) (s : ℕ) (seen : List Entry) : Type 0 where
   pub placed : HasPlaced w (entry.PageOut w.number (record { stream = s; page = page })) seen
   pub resident : is_resident (history placed.front s) page ≡ true
 
+-- The purge failed: its entry is the last, or it left none.
+abbrev pub HasFailed : Standing → File → Option Range → CcError → List Entry → Type 0
+HasFailed w file span e seen =
+    ((nth : ℕ) × HasPlaced w (entry.Call w.number nth (Some file.stream) (call.Purge file span) (outcome.Failed e)) seen)
+    ⊎ Grows w seen
+
 -- What a step placed, by cases over it: away from the stream's first page it may go on with nothing placed.
 abbrev pub StepPlaced : Standing → File → Option Range → ℕ → Step → List Entry → Type 0
 StepPlaced w file span from (step.Ended (Ok done)) seen = HasEnded w file span seen
-StepPlaced w file span from (step.Ended (Err e)) seen = Unit {0}
+StepPlaced w file span from (step.Ended (Err e)) seen = HasFailed w file span e seen
 StepPlaced w file span from (step.Writes page) seen = Grows w seen
 StepPlaced w file span from step.GoesOn seen = HasGone w file.stream seen ⊎ ((0 < from) × Grows w seen)
 
@@ -112,36 +117,11 @@ abbrev pub round_of : Result Call CcError → ℕ → Round
 round_of (Ok again) page = round.CameTo (page + 1)
 round_of (Err e) page = round.Ended (Err e)
 
--- the page of a transfer that an entry begins
-abbrev pub begun_page : Entry → Option ℕ
-begun_page (entry.WriteBegin pass page) = Some page.page
-begun_page other = None
-
--- whether a page goes out by an entry
-abbrev pub is_page_out : Entry → Bool
-is_page_out (entry.PageOut pass page) = true
-is_page_out other = false
-
--- the pages of a stretch whose transfers the pass began, the latest first
-abbrev pub begun_by : ℕ → List Entry → List ℕ
-begun_by me during = filter_map begun_page (own me during)
-
--- whether the pass took a page out in a stretch
-abbrev pub takes_out : ℕ → List Entry → Bool
-takes_out me during = list_any is_page_out (own me during)
-
--- pages below one, the latest first, each above those before it
-abbrev pub AreRising : ℕ → List ℕ → Type 0
-AreRising to [] = Unit {0}
-AreRising to (page ∷ earlier) = (page < to) × AreRising page earlier
-
--- A pass went up the pages of a stream once: from one moment to another it wrote pages below one, each above those that
--- it wrote before, so each at most once, and took none out.
+-- A pass went up the pages of a stream once: from one moment to another the transfers that it began ascend, below a page,
+-- so it wrote each page at most once; and it took none out.
 pub record WentUpOnce (me to : ℕ) (old new : List Entry) : Type 0 where
-  pub during : List Entry
-  pub grew : new ≡ during ++ old
-  pub rising : AreRising to (begun_by me during)
-  pub stays : takes_out me during ≡ false
+  pub begun : BeginsAscending me 0 to old new
+  pub stays : TakesNoneOut me old new
 
 -- A span was emptied with nobody else there: the pass went up its pages once, and from the moment at which it had come
 -- to their end nobody else changed the stream.
@@ -151,21 +131,22 @@ pub record WasEmptiedAlone (me s : ℕ) (old new : List Entry) : Type 0 where
   pub first : WentUpOnce me to old moment
   pub alone : NobodyElseChanged me s moment new
 
--- One page was written in a round, which lies from one page on and below another, and none went out.
-pub record HasWritten (me from to : ℕ) (old new : List Entry) : Type 0 where
-  pub during : List Entry
-  pub grew : new ≡ during ++ old
-  pub page : ℕ
-  pub from_is : from ≤ page
-  pub below : page < to
-  pub written : begun_by me during ≡ page ∷ []
-  pub stays : takes_out me during ≡ false
+-- How far a purge had come that failed: it was on its way up its pages, or had come to their end, and from then on nobody
+-- else changed the stream.
+abbrev pub CameSoFar : ℕ → ℕ → List Entry → List Entry → Type 0
+CameSoFar me s old new = ((to : ℕ) × WentUpOnce me to old new) ⊎ WasEmptiedAlone me s old new
 
--- What a round placed, by cases over it, where it did not fail: it wrote a page, and where the book was kept nobody else
--- changed the stream meanwhile; or nobody else did in any case.
+-- In a round the transfers that were begun are of pages from one on and below another, and none went out.
+pub record HasWritten (me from to : ℕ) (old new : List Entry) : Type 0 where
+  pub begun : BeginsAscending me from to old new
+  pub stays : TakesNoneOut me old new
+
+-- What a round placed, by cases over it: where it wrote a page, or failed, and the book was kept, nobody else changed the
+-- stream meanwhile; or nobody else did in any case.
 abbrev pub RoundPlaced : ℕ → ℕ → ℕ → Bool → Round → List Entry → List Entry → Type 0
 RoundPlaced me s from keeps (round.Ended (Ok done)) old new = NobodyElseChanged me s old new
-RoundPlaced me s from keeps (round.Ended (Err e)) old new = Unit {0}
+RoundPlaced me s from keeps (round.Ended (Err e)) old new =
+    ((to : ℕ) × HasWritten me from to old new) × (keeps ≡ true → NobodyElseChanged me s old new)
 RoundPlaced me s from keeps (round.CameTo to) old new =
     HasWritten me from to old new × (keeps ≡ true → NobodyElseChanged me s old new)
 RoundPlaced me s from keeps round.GoesOn old new = NobodyElseChanged me s old new

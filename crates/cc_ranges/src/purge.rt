@@ -1,15 +1,15 @@
 //! A purge, with the disk and the book of its stream in hand.
 
-ghost use Rattle.std.specs.Prelude.{◌≡◌, ◌<◌, ◌≤◌, ◌^◌, true, List, OnOk};
+ghost use Rattle.std.specs.Prelude.{◌≡◌, ◌<◌, ◌≤◌, ◌^◌, true, List, IfErr, OnOk};
 ghost use Rattle.cc_entry.specs.declared.call.Call.TheVariants as call;
 ghost use Rattle.cc_entry.specs.declared.entry.Entry.{Entry};
 ghost use Rattle.cc_effects.specs.Calls.{CallLeft, IsUnderWay};
 ghost use Rattle.cc_writes.specs.Calls.{IsFullWriting};
+ghost use Rattle.cc_writes.specs.Alone.{NobodyElseChanged};
 ghost use Rattle.cc_writes.specs.Hands.{Went};
 ghost use Rattle.cc_writes.specs.Writes.{HasBoth};
-ghost use Rattle.cc_ranges.specs.Alone.{NobodyElseChanged};
 ghost use Rattle.cc_ranges.specs.Flush.{outcome_of};
-ghost use Rattle.cc_ranges.specs.Purge.{HasLess, IsFullRound, IsRising, RoundLeft, RoundPlaced, WasEmptiedAlone, ended_of, round_of};
+ghost use Rattle.cc_ranges.specs.Purge.{CameSoFar, HasLess, IsFullRound, IsRising, RoundLeft, RoundPlaced, WasEmptiedAlone, ended_of, round_of};
 
 use crate::purge_visits::{Step, next_at};
 use cc_book::Book;
@@ -54,6 +54,8 @@ pub fn purge_held<T: Turns>(
         begun (T.standing turns.new).seen }
     ensures emptied { OnOk result.1 (WasEmptiedAlone (T.standing turns.old).number file.stream (T.standing turns.old).seen
         (T.standing turns.new).seen) }
+    ensures failed { IfErr result.1 (λ error. CameSoFar (T.standing turns.old).number file.stream
+        (T.standing turns.old).seen (T.standing turns.new).seen) }
     ensures full { IsFullWriting (call.Purge file span) (T.standing turns.new) result.1 }
 {
     let mut from = 0;
@@ -88,8 +90,8 @@ fn empty_held<T: Turns>(
         IsUnderWay (T.standing turns.old).number (call.Purge file span.now) begun (T.standing turns.old).seen →
         CallLeft (T.standing turns.old).setup (T.standing turns.old).number (call.Purge file span.now)
         (outcome_of result.1) begun (T.standing turns.new).seen }
-    ensures alone { OnOk result.1 (NobodyElseChanged (T.standing turns.old).number file.stream (T.standing turns.old).seen
-        (T.standing turns.new).seen) }
+    ensures alone { NobodyElseChanged (T.standing turns.old).number file.stream (T.standing turns.old).seen
+        (T.standing turns.new).seen }
     ensures full { IsFullWriting (call.Purge file span.now) (T.standing turns.new) result.1 }
 {
     'pages: loop {

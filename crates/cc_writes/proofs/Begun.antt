@@ -1,7 +1,9 @@
--- The transfers that the writing of a page began.
-use Rattle.std.specs.Prelude.{◌≡◌, ℕ, ◌+◌, ◌⊎◌, Bool, Result, Ok, Err, List, [], ◌∷◌, ◌++◌, refl}
-use Rattle.std.proofs.Common.{ap, sym, subst, append_assoc, inl, inr, arith}
+-- The transfers that the writing of a page began, and that it took no page out.
+use Rattle.std.specs.Prelude.{◌≡◌, ℕ, ◌+◌, ◌⊎◌, Bool, true, false, ◌||◌, cond, Result, Ok, Err, List, [], ◌∷◌, ◌++◌, refl}
+use Rattle.std.specs.List.{list_any}
+use Rattle.std.proofs.Common.{ap, sym, ◌∙◌, subst, append_assoc, inl, inr, arith}
 use Rattle.std.proofs.lemmas.Bool.{eq-eqb}
+use Rattle.std.proofs.lemmas.List.Folds.{list_any-append}
 use Rattle.cc_entry.specs.Place.{Page}
 use Rattle.cc_entry.specs.declared.entry.End.{End}
 use Rattle.cc_entry.specs.declared.entry.End.TheVariants as how
@@ -9,12 +11,13 @@ use Rattle.cc_entry.specs.declared.entry.Entry.{Entry}
 use Rattle.cc_entry.specs.declared.entry.Entry.TheVariants as entry
 use Rattle.cc_entry.specs.declared.error.CcError.{CcError}
 use Rattle.cc_entry.specs.declared.error.CcError.TheVariants as error
-use Rattle.cc_effects.specs.Begins.{AscendWithin, BeginsNone, BeginsAscending}
-use Rattle.cc_effects.specs.Moments.{own}
+use Rattle.cc_model.specs.Passes.{is_mine}
+use Rattle.cc_effects.specs.Moments.{own, IsIdle}
 use Rattle.cc_effects.specs.PageWrites.{pages_begun}
 use Rattle.cc_effects.proofs.Begun.{ascend-none, ascend-then, none-behind, none-idle}
-use Rattle.cc_effects.proofs.Stretches.{own-after}
+use Rattle.cc_effects.proofs.Stretches.{own-after, own-append, own-others}
 use Rattle.cc_turns.specs.Standing.{Standing}
+use Rattle.cc_effects.specs.Begins.{AscendWithin, BeginsNone, BeginsAscending, TakesNoneOut, is_page_out}
 use Rattle.cc_writes.specs.Hands.{WentWith}
 use Rattle.cc_writes.specs.Writes.{IsBefore, HasTransferred, HasNotLogged, WriteShown}
 use Rattle.cc_writes.specs.declared.writes.PageWrite.{PageWrite}
@@ -66,3 +69,61 @@ ascend-ended flight low high w v new went first none =
     ascend-then w.number low high high w.seen v.seen new first
     (ascend-none w.number high high v.seen new (omega arith)
     (subst (λ (n : ℕ). BeginsNone n v.seen new) (ap (λ (x : Standing). x.number) went.same) none))
+
+neither : (a b : Bool) → a ≡ false → b ≡ false → (a || b) ≡ false
+neither false false a b = refl
+neither false true a b = absurd (cc)
+neither true b a other = absurd (cc)
+
+-- no page went out, by what was placed
+pub stays-idle : (me : ℕ) (old new : List Entry) → IsIdle me old new → TakesNoneOut me old new
+stays-idle me old new idle = record { during = idle.during; grew = idle.grew; none = ap (list_any is_page_out) (own-others me idle.during idle.others) }
+
+pub stays-then : (me : ℕ) (old between new : List Entry) → TakesNoneOut me old between → TakesNoneOut me between new → TakesNoneOut me old new
+stays-then me old between new first second = record {
+  during = second.during ++ first.during;
+  grew = second.grew ∙ (ap (λ l. second.during ++ l) first.grew ∙ sym (append_assoc second.during first.during old));
+  none = ap (list_any is_page_out) (own-append me second.during first.during)
+      ∙ (list_any-append is_page_out (own me second.during) (own me first.during)
+      ∙ neither (list_any is_page_out (own me second.during)) (list_any is_page_out (own me first.during)) second.none first.none);
+}
+
+pub stays-behind : (me : ℕ) (e : Entry) (old new : List Entry) → list_any is_page_out (e ∷ []) ≡ false → TakesNoneOut me old new → TakesNoneOut me old (e ∷ new)
+stays-behind me e old new none is = stays-then me old new (e ∷ new) is (record { during = e ∷ []; grew = refl; none = by (is_mine me e) })
+  where
+    by : (b : Bool) → list_any is_page_out (cond b (e ∷ []) []) ≡ false
+    by true = none
+    by false = refl
+
+stays-before : (w : Standing) (past : List Entry) → IsBefore w past → TakesNoneOut w.number w.seen past
+stays-before w past is = record { during = is.since; grew = is.grew; none = by is.only }
+  where
+    by : ((own w.number is.since ≡ []) ⊎ ((handle : ℕ) × (to : ℕ) × (own w.number is.since ≡ entry.Flushed w.number handle to ∷ []))) → list_any is_page_out (own w.number is.since) ≡ false
+    by (inl none) = ap (list_any is_page_out) none
+    by (inr flushed) = ap (list_any is_page_out) flushed.2
+
+stays-transferred : (w : Standing) (page : Page) (how : End) (keeps : Bool) (seen : List Entry) → HasTransferred w page how keeps seen → TakesNoneOut w.number w.seen seen
+stays-transferred w page how keeps seen is =
+    subst (λ (past : List Entry). TakesNoneOut w.number w.seen past) (sym is.placed)
+    (stays-behind w.number (entry.WriteEnd w.number page how) w.seen (is.later ++ (entry.WriteBegin w.number page ∷ is.before)) refl
+    (stays-then w.number w.seen (entry.WriteBegin w.number page ∷ is.before) (is.later ++ (entry.WriteBegin w.number page ∷ is.before))
+    (stays-behind w.number (entry.WriteBegin w.number page) w.seen is.before refl (stays-before w is.before is.is_before))
+    (stays-idle w.number (entry.WriteBegin w.number page ∷ is.before) (is.later ++ (entry.WriteBegin w.number page ∷ is.before)) (record { during = is.later; grew = refl; others = is.others }))))
+
+-- so where a page was written, whatever that answers
+pub stays-shown : (w : Standing) (page : Page) (keeps : Bool) (r : Result PageWrite CcError) (seen : List Entry) → WriteShown w page keeps r seen → TakesNoneOut w.number w.seen seen
+stays-shown w page keeps (Ok write.Written) seen shown = stays-transferred w page how.Good keeps seen shown
+stays-shown w page keeps (Ok write.NotWritten) seen shown = stays-transferred w page how.Failed keeps seen shown
+stays-shown w page keeps (Ok (write.NotLogged handle)) seen shown =
+    subst (λ (past : List Entry). TakesNoneOut w.number w.seen past) (sym shown.placed)
+    (stays-behind w.number (entry.LogFailed w.number handle) w.seen shown.front refl
+    (stays-idle w.number w.seen shown.front (record { during = shown.grows.later; grew = shown.grows.grew; others = shown.grows.others })))
+stays-shown w page keeps (Err (error.JournalFull entries)) seen shown = stays-before w seen shown
+stays-shown w page keeps (Err error.NoMemory) seen (inl before) = stays-before w seen before
+stays-shown w page keeps (Err error.NoMemory) seen (inr transferred) = stays-transferred w page how.NoMemory keeps seen transferred
+stays-shown w page keeps (Err other) seen shown = absurd shown
+
+-- and where the pass went on then
+pub stays-ended : (flight : ℕ) (w v : Standing) (new : List Entry) → WentWith flight w v → TakesNoneOut w.number w.seen v.seen → TakesNoneOut v.number v.seen new → TakesNoneOut w.number w.seen new
+stays-ended flight w v new went first then =
+    stays-then w.number w.seen v.seen new first (subst (λ (n : ℕ). TakesNoneOut n v.seen new) (ap (λ (x : Standing). x.number) went.same) then)

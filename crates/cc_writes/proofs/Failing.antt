@@ -1,5 +1,6 @@
 -- A call that was halted by a fault ends in a visit: with the fault, or with a refusal that others brought about.
-use Rattle.std.specs.Prelude.{◌≡◌, ℕ, suc, Bool, true, List, [], ◌∷◌, Some, Err, refl}
+use Rattle.std.specs.Prelude.{◌≡◌, ℕ, suc, Bool, true, false, List, [], ◌∷◌, Some, Err, refl}
+use Rattle.std.specs.List.{list_any}
 use Rattle.std.proofs.Common.{ap, sym, subst, inl, inr}
 use Rattle.cc_entry.specs.declared.call.Call.{Call}
 use Rattle.cc_entry.specs.declared.entry.Entry.{Entry}
@@ -24,13 +25,16 @@ use Rattle.cc_step.specs.declared.faults.Failed.{Failed}
 use Rattle.cc_step.specs.declared.faults.Failed.TheVariants as ended
 use Rattle.cc_turns.specs.Standing.{Standing}
 use Rattle.cc_turns.specs.Takes.{without_journal}
-use Rattle.cc_effects.specs.Begins.{BeginsNone}
+use Rattle.cc_effects.specs.Begins.{BeginsNone, TakesNoneOut, is_page_out}
+use Rattle.cc_writes.specs.Alone.{NobodyElseChanged}
 use Rattle.cc_writes.specs.Hands.{HasBook, SameDisk}
 use Rattle.cc_writes.specs.Told.{answer_of}
 use Rattle.cc_writes.specs.Visits.{IsFiledNow}
 use Rattle.cc_writes.specs.Ways.{IsFull, IsHalted, IsReason, is_met}
 use Rattle.cc_writes.proofs.Attempting.{filed-front, may-step, number-is, visited-refused, visited-same, full-refused, full-stop}
 use Rattle.cc_effects.proofs.Begun.{none-behind, none-idle}
+use Rattle.cc_writes.proofs.Alone.{alone-effectless, alone-grows}
+use Rattle.cc_writes.proofs.Begun.{stays-behind, stays-idle}
 use Rattle.cc_writes.proofs.VisitDisks.{disk-call, disk-then}
 use Rattle.cc_writes.proofs.VisitEnding.{fault-is, told-left, overtaken-left, full-halted, memoryless-halted}
 use Rattle.cc_writes.proofs.VisitHalting.{met}
@@ -108,6 +112,33 @@ module _ {Q : Type 0} (posted : Q → Bool) (w v : Standing) (it : Call) (b c : 
   begun-fail (ended.Stopped e) left =
       subst (λ (past : List Entry). BeginsNone w.number w.seen past) (sym (ap (λ (x : JournalState Q). x.entries) left.1.same_journal))
       (none-idle w.number w.seen j.entries vis.idle)
+
+  -- nor does it take a page out
+  stays-entry : (e : Entry) → list_any is_page_out (e ∷ []) ≡ false → k.entries ≡ e ∷ j.entries → TakesNoneOut w.number w.seen k.entries
+  stays-entry e none placed =
+      subst (λ (past : List Entry). TakesNoneOut w.number w.seen past) (sym placed)
+      (stays-behind w.number e w.seen j.entries none (stays-idle w.number w.seen j.entries vis.idle))
+
+  pub stays-fail : (end : Failed) → FailLeft w.setup w.number it fault end b c j k → TakesNoneOut w.number w.seen k.entries
+  stays-fail (ended.Refused e) left = stays-entry (failed w.number j.entries b.stream it e) refl (ap (λ (x : JournalState Q). x.entries) left.placed)
+  stays-fail ended.Told left = stays-entry (failed w.number j.entries b.stream it fault) refl (ap (λ (x : JournalState Q). x.entries) left.placed)
+  stays-fail (ended.Stopped e) left =
+      subst (λ (past : List Entry). TakesNoneOut w.number w.seen past) (sym (ap (λ (x : JournalState Q). x.entries) left.1.same_journal))
+      (stays-idle w.number w.seen j.entries vis.idle)
+
+  -- and nobody else changed the stream, where the pass holds its disk too
+  module _ (device : w.held.device ≡ Some b.stream) where
+    alone-entry : (e : CcError) → k.entries ≡ failed w.number j.entries b.stream it e ∷ j.entries → NobodyElseChanged w.number b.stream w.seen k.entries
+    alone-entry e placed =
+        alone-effectless w b.stream (ap (λ h. h.book) has.held) device (failed w.number j.entries b.stream it e) k.entries refl
+        (record { front = j.entries; grows = vis.grows; placed = placed })
+
+    pub alone-fail : (end : Failed) → FailLeft w.setup w.number it fault end b c j k → NobodyElseChanged w.number b.stream w.seen k.entries
+    alone-fail (ended.Refused e) left = alone-entry e (ap (λ (x : JournalState Q). x.entries) left.placed)
+    alone-fail ended.Told left = alone-entry fault (ap (λ (x : JournalState Q). x.entries) left.placed)
+    alone-fail (ended.Stopped e) left =
+        subst (λ (past : List Entry). NobodyElseChanged w.number b.stream w.seen past) (sym (ap (λ (x : JournalState Q). x.entries) left.1.same_journal))
+        (alone-grows w b.stream (ap (λ h. h.book) has.held) device j.entries vis.grows)
 
   -- what is left of the call, from whichever moment it was under way
   module _ (begun : List Entry) (halted : IsHalted w.setup w.number b.stream it fault begun w.seen) where

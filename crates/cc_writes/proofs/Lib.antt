@@ -16,6 +16,7 @@ pub mod VisitStepping
 pub mod VisitHalting
 pub mod Landing
 pub mod Begun
+pub mod Alone
 pub mod Failing
 pub mod Releasing
 pub mod OneVisit

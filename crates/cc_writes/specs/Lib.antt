@@ -6,6 +6,7 @@ pub mod Told
 pub mod Writes
 pub mod Logs
 pub mod Transfers
+pub mod Alone
 pub mod Calls
 pub mod Fetch
 pub mod Work

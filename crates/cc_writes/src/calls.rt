@@ -9,7 +9,8 @@ ghost use Rattle.cc_effects.specs.Refusals.{may_refuse};
 ghost use Rattle.cc_model.specs.History.{history};
 ghost use Rattle.cc_model.specs.Refusals.{refusal};
 ghost use Rattle.cc_step.specs.Step.{is_answered};
-ghost use Rattle.cc_effects.specs.Begins.{BeginsAscending, BeginsNone};
+ghost use Rattle.cc_effects.specs.Begins.{BeginsAscending, BeginsNone, TakesNoneOut};
+ghost use Rattle.cc_writes.specs.Alone.{NobodyElseChanged};
 ghost use Rattle.cc_writes.specs.Hands.{HasBook, IsAtRest, SameDisk, Went};
 ghost use Rattle.cc_writes.specs.Ways.{IsFull, IsHalted, IsReason};
 ghost use Rattle.cc_writes.specs.Visits.{IsOf};
@@ -57,6 +58,9 @@ pub fn write_for<T: Turns>(
         (record { stream = book.stream; page = page }) (T.standing turns.new).seen) }
     ensures begun { BeginsAscending (T.standing turns.old).number page (page + 1)
         (T.standing turns.old).seen (T.standing turns.new).seen }
+    ensures stays { TakesNoneOut (T.standing turns.old).number (T.standing turns.old).seen (T.standing turns.new).seen }
+    ensures alone { keeps ≡ true → NobodyElseChanged (T.standing turns.old).number book.stream
+        (T.standing turns.old).seen (T.standing turns.new).seen }
     ensures full { IsFull 2 (T.standing turns.new) result.1 }
     ensures writing { IsFullWriting call (T.standing turns.new) result.1 }
 {
@@ -97,6 +101,9 @@ pub fn fail<T: Turns>(
         PageLeft (T.standing turns.old).setup (T.standing turns.old).number call result.1
         begun (T.standing turns.new).seen }
     ensures begun { BeginsNone (T.standing turns.old).number (T.standing turns.old).seen (T.standing turns.new).seen }
+    ensures stays { TakesNoneOut (T.standing turns.old).number (T.standing turns.old).seen (T.standing turns.new).seen }
+    ensures alone { NobodyElseChanged (T.standing turns.old).number book.stream
+        (T.standing turns.old).seen (T.standing turns.new).seen }
     ensures reason { IfErr result.1 (IsReason (T.standing turns.old).setup book.stream call) }
     ensures failed { IsErr result.1 }
     ensures full { IsFull 1 (T.standing turns.new) result.1 }

@@ -10,7 +10,8 @@ ghost use Rattle.cc_effects.specs.Refusals.{may_refuse};
 ghost use Rattle.cc_step.specs.Fill.{MayLand, LandLeft as BookLandLeft};
 ghost use Rattle.cc_model.specs.Setup.{Setup};
 ghost use Rattle.cc_step.specs.Step.{StandUnder, is_answered, is_stepped};
-ghost use Rattle.cc_effects.specs.Begins.{BeginsNone};
+ghost use Rattle.cc_effects.specs.Begins.{BeginsNone, TakesNoneOut};
+ghost use Rattle.cc_writes.specs.Alone.{NobodyElseChanged};
 ghost use Rattle.cc_writes.specs.Hands.{HasBook, IsAtRest, SameDisk, Went, WentWith};
 ghost use Rattle.cc_writes.specs.Told.{FitsNext, FitsStepped, StepAs, TriedAs, UnreadTold, answer_of};
 ghost use Rattle.cc_writes.specs.Ways.{FitsIn, IsFull, IsHalted, IsReason, WasWanted};
@@ -196,6 +197,10 @@ pub fn fail_at<T: Turns>(
         CallLeft (T.standing turns.old).setup (T.standing turns.old).number call (outcome.Failed result)
         begun (T.standing turns.new).seen }
     ensures begun { BeginsNone (T.standing turns.old).number (T.standing turns.old).seen (T.standing turns.new).seen }
+    ensures stays { TakesNoneOut (T.standing turns.old).number (T.standing turns.old).seen (T.standing turns.new).seen }
+    ensures alone { (T.standing turns.old).held.device ≡ Some book.old.stream →
+        NobodyElseChanged (T.standing turns.old).number book.old.stream
+        (T.standing turns.old).seen (T.standing turns.new).seen }
     ensures reason { IsReason (T.standing turns.old).setup book.old.stream call result }
     ensures full { IsFull {A = Unit {0}} 1 (T.standing turns.new) (Err result) }
 {

@@ -1,5 +1,5 @@
 -- The purge begins with disk and book of a stream at rest; what it left holds still after both turns are given.
-use Rattle.std.specs.Prelude.{ℕ, OnOk, List}
+use Rattle.std.specs.Prelude.{ℕ, IfErr, OnOk, List}
 use Rattle.std.proofs.Common.{ap, sym, ◌∙◌, subst}
 use Rattle.cc_entry.specs.declared.call.Call.TheVariants as call
 use Rattle.cc_entry.specs.declared.entry.Entry.{Entry}
@@ -13,8 +13,8 @@ use Rattle.cc_writes.specs.Calls.{IsFullWriting}
 use Rattle.cc_writes.specs.Fetch.{CanCall}
 use Rattle.cc_writes.proofs.Fullness.{given-writing}
 use Rattle.cc_writes.proofs.TakingBoth.{both_begun, idle, left_since, number_both}
-use Rattle.cc_ranges.specs.Purge.{WasEmptiedAlone}
-use Rattle.cc_ranges.proofs.PurgeRounds.{emptied-since}
+use Rattle.cc_ranges.specs.Purge.{CameSoFar, WasEmptiedAlone}
+use Rattle.cc_ranges.proofs.PurgeRounds.{emptied-since, failed-since}
 use Rattle.cc_calls.specs.Answers.{outcome_of}
 use Rattle.cc_calls.proofs.FlushCalls.{setup-both, went-both}
 use Rattle.cc_calls.proofs.PurgeCalls.{purge-ends}
@@ -54,5 +54,8 @@ returns g c =
           (subst (λ (past : List Entry). IsGood y.setup past) (sym (ap (λ (a : Standing). a.seen) given)) both.book.good))
           (subst (λ (past : List Entry). OnOk answer (WasEmptiedAlone w.number c.args.file.stream w.seen past)) (sym (ap (λ (a : Standing). a.seen) given))
           (emptied-since w.number c.args.file.stream answer w.seen x.seen y.seen (idle w v x s can first second)
-          (subst (λ (n : ℕ). OnOk answer (WasEmptiedAlone n c.args.file.stream x.seen y.seen)) (number_both w v x s can first second) c.purge_held-book.ensures.emptied)));
+          (subst (λ (n : ℕ). OnOk answer (WasEmptiedAlone n c.args.file.stream x.seen y.seen)) (number_both w v x s can first second) c.purge_held-book.ensures.emptied)))
+          (subst (λ (past : List Entry). IfErr answer (λ e. CameSoFar w.number c.args.file.stream w.seen past)) (sym (ap (λ (a : Standing). a.seen) given))
+          (failed-since w.number c.args.file.stream answer w.seen x.seen y.seen (idle w v x s can first second)
+          (subst (λ (n : ℕ). IfErr answer (λ e. CameSoFar n c.args.file.stream x.seen y.seen)) (number_both w v x s can first second) c.purge_held-book.ensures.failed)));
     }

@@ -100,8 +100,8 @@ returns-in-Writes-clause-placed g c =
     (subst (λ (n : ℕ). RoundPlaced w.number n c.args.from c.args.keeps (round_of c.write_for-book.result.1 c.in-Writes.page) w.seen x.seen) (sym stream)
     (placed-wrote w v c.args.file c.next_at.new.book.stream c.args.from c.in-Writes.page c.args.keeps c.write_for-book.result.1 x.seen
     (ap (λ h. h.book) c.requires.both.book.held ∙ ap (λ (n : ℕ). Some n) stream) (c.requires.both.rest.device ∙ ap (λ (n : ℕ). Some n) stream)
-    (ap (λ h. h.book) c.next_at.ensures.book.held) c.next_at.ensures.rest.device (ap (λ (y : Standing). y.number) c.next_at.ensures.went.same)
-    c.next_at.ensures.book.stream c.in-Writes.ensures.asking.from_is c.in-Writes.ensures.placed c.write_for-book.ensures.written))
+    (ap (λ (y : Standing). y.number) c.next_at.ensures.went.same) c.next_at.ensures.book.stream c.in-Writes.ensures.asking.from_is c.in-Writes.ensures.placed
+    c.write_for-book.ensures.begun c.write_for-book.ensures.stays c.write_for-book.ensures.alone))
 
 -- with the book kept it leaves less to do
 pub returns-in-GoesOn-clause-lessens : goal.returns-in-GoesOn-clause-lessens

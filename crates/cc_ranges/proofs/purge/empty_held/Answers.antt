@@ -5,7 +5,7 @@ use Rattle.cc_entry.specs.declared.call.Call.TheVariants as call
 use Rattle.cc_entry.specs.declared.entry.Entry.{Entry}
 use Rattle.cc_effects.specs.Calls.{IsUnderWay}
 use Rattle.cc_ranges.specs.Purge.{left_to_empty}
-use Rattle.cc_ranges.proofs.Alone.{alone-begins, alone-then}
+use Rattle.cc_writes.proofs.Alone.{alone-begins, alone-then}
 use Rattle.cc_ranges.proofs.PurgeHolding.{comes-first, round-on, comes-on, placed-on, still-left, ended-left, ended-full}
 use Rattle.cc_ranges.proofs.PurgeRounds.{ended-alone, still-alone, still-less}
 use Rattle.cc_ranges.proofs.purge.empty_held.Goals as goal
@@ -36,7 +36,7 @@ returns-in-Some-clause-alone g c =
     let w = g.T.Turns.standing c.args.turns.now in
     let v = g.T.Turns.standing c.pages.turns in
     let x = g.T.Turns.standing c.advance-now.new.turns in
-    ended-alone w.number c.args.file.stream 0 true c.advance-now.result.1 c.in-Some.answer w.seen v.seen x.seen (sym c.ended_of.ensures ∙ c.in-Some.is) c.pages.invariant.alone
+    ended-alone w.number c.args.file.stream 0 c.advance-now.result.1 c.in-Some.answer w.seen v.seen x.seen (sym c.ended_of.ensures ∙ c.in-Some.is) c.pages.invariant.alone
     (placed-on g.T.Disk.Told.told g.T.Disk.Told.faults w v x c.args.file c.args.span.now 0 c.pages.book c.advance-now.result.0 c.pages.disk c.advance-now.new.disk c.pages.invariant.on
     0 true c.advance-now.result.1 c.advance-now.ensures.placed)
 

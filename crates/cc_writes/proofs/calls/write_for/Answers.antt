@@ -9,7 +9,8 @@ use Rattle.cc_writes.specs.Ways.{IsReason}
 use Rattle.cc_writes.specs.declared.writes.PageWrite.TheVariants as write
 use Rattle.cc_writes.specs.Calls.{IsFullWriting, PageLeft}
 use Rattle.cc_writes.proofs.Disks.{still_of}
-use Rattle.cc_writes.proofs.Begun.{ascend-shown, ascend-ended}
+use Rattle.cc_writes.proofs.Alone.{alone-shown, alone-ended}
+use Rattle.cc_writes.proofs.Begun.{ascend-shown, ascend-ended, stays-shown, stays-ended}
 use Rattle.cc_writes.proofs.Calling.{tells-disk, tells-log, where_ok, shown_ok, written, not_written, not_logged, gave_up, is_halted, fault_left, full-write, gave_up-met, reason-since}
 use Rattle.cc_writes.proofs.Fullness.{full-answer}
 use Rattle.cc_writes.proofs.calls.write_for.Goals as goal
@@ -164,3 +165,59 @@ returns-in-Err-clause-writing g c =
     subst (λ (r : Result Call CcError). IsFullWriting c.args.call v r) (sym c.given_up.ensures)
     (full-write Call w v c.args.book.stream c.args.page c.args.keeps c.args.call error (ap (λ x. x.book) c.requires.both.book.held) c.requires.both.rest.device
     c.requires.asked c.requires.to_write (rw c.in-Err.is at c.write_page-book.ensures.shown) (rw c.in-Err.is at c.write_page-book.ensures.full))
+
+pub returns-in-Ok-Written-clause-stays : goal.returns-in-Ok-Written-clause-stays
+returns-in-Ok-Written-clause-stays g c =
+    let w = g.T.Turns.standing c.args.turns.now in
+    let v = g.T.Turns.standing c.write_page-book.new.turns in
+    stays-shown w (record { stream = c.args.book.stream; page = c.args.page }) c.args.keeps c.write_page-book.result.1 v.seen c.write_page-book.ensures.shown
+
+pub returns-in-Ok-Written-clause-alone : goal.returns-in-Ok-Written-clause-alone
+returns-in-Ok-Written-clause-alone g c kept =
+    let w = g.T.Turns.standing c.args.turns.now in
+    let v = g.T.Turns.standing c.write_page-book.new.turns in
+    alone-shown w c.args.book.stream (ap (λ x. x.book) c.requires.both.book.held) c.requires.both.rest.device c.args.page c.args.keeps c.write_page-book.result.1 v.seen kept c.write_page-book.ensures.shown
+
+pub returns-in-Ok-NotWritten-clause-stays : goal.returns-in-Ok-NotWritten-clause-stays
+returns-in-Ok-NotWritten-clause-stays g c =
+    let w = g.T.Turns.standing c.args.turns.now in
+    let v = g.T.Turns.standing c.write_page-book.new.turns in
+    stays-ended w.in_flight w v (g.T.Turns.standing c.fail.new.turns).seen c.write_page-book.ensures.went
+    (stays-shown w (record { stream = c.args.book.stream; page = c.args.page }) c.args.keeps c.write_page-book.result.1 v.seen c.write_page-book.ensures.shown)
+    c.fail.ensures.stays
+
+pub returns-in-Ok-NotWritten-clause-alone : goal.returns-in-Ok-NotWritten-clause-alone
+returns-in-Ok-NotWritten-clause-alone g c kept =
+    let w = g.T.Turns.standing c.args.turns.now in
+    let v = g.T.Turns.standing c.write_page-book.new.turns in
+    alone-ended w.in_flight c.write_page-book.result.0.stream c.args.book.stream w v (g.T.Turns.standing c.fail.new.turns).seen c.write_page-book.ensures.went c.write_page-book.ensures.both.book.stream
+    (alone-shown w c.args.book.stream (ap (λ x. x.book) c.requires.both.book.held) c.requires.both.rest.device c.args.page c.args.keeps c.write_page-book.result.1 v.seen kept c.write_page-book.ensures.shown)
+    c.fail.ensures.alone
+
+pub returns-in-Ok-NotLogged-clause-stays : goal.returns-in-Ok-NotLogged-clause-stays
+returns-in-Ok-NotLogged-clause-stays g c =
+    let w = g.T.Turns.standing c.args.turns.now in
+    let v = g.T.Turns.standing c.write_page-book.new.turns in
+    stays-ended w.in_flight w v (g.T.Turns.standing c.fail-in-Ok-NotLogged.new.turns).seen c.write_page-book.ensures.went
+    (stays-shown w (record { stream = c.args.book.stream; page = c.args.page }) c.args.keeps c.write_page-book.result.1 v.seen c.write_page-book.ensures.shown)
+    c.fail-in-Ok-NotLogged.ensures.stays
+
+pub returns-in-Ok-NotLogged-clause-alone : goal.returns-in-Ok-NotLogged-clause-alone
+returns-in-Ok-NotLogged-clause-alone g c kept =
+    let w = g.T.Turns.standing c.args.turns.now in
+    let v = g.T.Turns.standing c.write_page-book.new.turns in
+    alone-ended w.in_flight c.write_page-book.result.0.stream c.args.book.stream w v (g.T.Turns.standing c.fail-in-Ok-NotLogged.new.turns).seen c.write_page-book.ensures.went c.write_page-book.ensures.both.book.stream
+    (alone-shown w c.args.book.stream (ap (λ x. x.book) c.requires.both.book.held) c.requires.both.rest.device c.args.page c.args.keeps c.write_page-book.result.1 v.seen kept c.write_page-book.ensures.shown)
+    c.fail-in-Ok-NotLogged.ensures.alone
+
+pub returns-in-Err-clause-stays : goal.returns-in-Err-clause-stays
+returns-in-Err-clause-stays g c =
+    let w = g.T.Turns.standing c.args.turns.now in
+    let v = g.T.Turns.standing c.write_page-book.new.turns in
+    stays-shown w (record { stream = c.args.book.stream; page = c.args.page }) c.args.keeps c.write_page-book.result.1 v.seen c.write_page-book.ensures.shown
+
+pub returns-in-Err-clause-alone : goal.returns-in-Err-clause-alone
+returns-in-Err-clause-alone g c kept =
+    let w = g.T.Turns.standing c.args.turns.now in
+    let v = g.T.Turns.standing c.write_page-book.new.turns in
+    alone-shown w c.args.book.stream (ap (λ x. x.book) c.requires.both.book.held) c.requires.both.rest.device c.args.page c.args.keeps c.write_page-book.result.1 v.seen kept c.write_page-book.ensures.shown

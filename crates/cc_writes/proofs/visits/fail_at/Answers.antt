@@ -5,11 +5,12 @@ use Rattle.cc_entry.specs.declared.error.CcError.{CcError}
 use Rattle.cc_entry.specs.declared.reply.Outcome.TheVariants as outcome
 use Rattle.cc_effects.specs.Calls.{CallLeft}
 use Rattle.cc_turns.specs.Standing.{Standing}
-use Rattle.cc_effects.specs.Begins.{BeginsNone}
+use Rattle.cc_effects.specs.Begins.{BeginsNone, TakesNoneOut}
+use Rattle.cc_writes.specs.Alone.{NobodyElseChanged}
 use Rattle.cc_writes.specs.Hands.{HasBook, SameDisk, WentWith}
 use Rattle.cc_writes.specs.Told.{answer_of}
 use Rattle.cc_writes.specs.Ways.{IsFull, IsReason}
-use Rattle.cc_writes.proofs.Failing.{is-fault, fail-as, has-failed, visited-fail, disk-fail, begun-fail, left-fail, reason-fail, full-fail}
+use Rattle.cc_writes.proofs.Failing.{is-fault, fail-as, has-failed, visited-fail, disk-fail, begun-fail, stays-fail, alone-fail, left-fail, reason-fail, full-fail}
 use Rattle.cc_writes.proofs.Resting.{filed-now}
 use Rattle.cc_writes.proofs.Visiting.{few-left, visiting}
 use Rattle.cc_writes.proofs.visits.fail_at.Goals as goal
@@ -129,6 +130,32 @@ returns-clause-begun g c =
     let k = c.fail-ended.new.journal in
     let left = has-failed posted w v c.args.call b n j k c.requires.book vis c.requires.answered (filed-now w b.stream c.args.call c.requires.filed) c.args.fault c.requires.listed c.requires.halted.0 c.requires.halted.1 c.me-pass.result c.fail-ended.result c.me-pass.ensures c.fail-ended.ensures in
     subst (λ (x : Standing). BeginsNone w.number w.seen x.seen) (sym c.give_journal.ensures) (begun-fail posted w v c.args.call b n j k c.requires.book vis c.requires.answered (filed-now w b.stream c.args.call c.requires.filed) c.args.fault c.requires.listed c.requires.halted.0 c.requires.halted.1 c.fail-ended.result left)
+
+pub returns-clause-stays : goal.returns-clause-stays
+returns-clause-stays g c =
+    let w = g.T.Turns.standing c.args.turns.now in
+    let v = g.T.Turns.standing c.take_journal-journal.new.self in
+    let posted = g.T.Post.PostRoutine.posted in
+    let b = c.args.book.now in
+    let j = c.take_journal-journal.result in
+    let vis = visiting posted w v b.stream b j c.requires.book c.take_journal-journal.ensures.took c.take_journal-journal.ensures.stands in
+    let n = c.fail-ended.new.book in
+    let k = c.fail-ended.new.journal in
+    let left = has-failed posted w v c.args.call b n j k c.requires.book vis c.requires.answered (filed-now w b.stream c.args.call c.requires.filed) c.args.fault c.requires.listed c.requires.halted.0 c.requires.halted.1 c.me-pass.result c.fail-ended.result c.me-pass.ensures c.fail-ended.ensures in
+    subst (λ (x : Standing). TakesNoneOut w.number w.seen x.seen) (sym c.give_journal.ensures) (stays-fail posted w v c.args.call b n j k c.requires.book vis c.requires.answered (filed-now w b.stream c.args.call c.requires.filed) c.args.fault c.requires.listed c.requires.halted.0 c.requires.halted.1 c.fail-ended.result left)
+
+pub returns-clause-alone : goal.returns-clause-alone
+returns-clause-alone g c device =
+    let w = g.T.Turns.standing c.args.turns.now in
+    let v = g.T.Turns.standing c.take_journal-journal.new.self in
+    let posted = g.T.Post.PostRoutine.posted in
+    let b = c.args.book.now in
+    let j = c.take_journal-journal.result in
+    let vis = visiting posted w v b.stream b j c.requires.book c.take_journal-journal.ensures.took c.take_journal-journal.ensures.stands in
+    let n = c.fail-ended.new.book in
+    let k = c.fail-ended.new.journal in
+    let left = has-failed posted w v c.args.call b n j k c.requires.book vis c.requires.answered (filed-now w b.stream c.args.call c.requires.filed) c.args.fault c.requires.listed c.requires.halted.0 c.requires.halted.1 c.me-pass.result c.fail-ended.result c.me-pass.ensures c.fail-ended.ensures in
+    subst (λ (x : Standing). NobodyElseChanged w.number b.stream w.seen x.seen) (sym c.give_journal.ensures) (alone-fail posted w v c.args.call b n j k c.requires.book vis c.requires.answered (filed-now w b.stream c.args.call c.requires.filed) c.args.fault c.requires.listed c.requires.halted.0 c.requires.halted.1 device c.fail-ended.result left)
 
 pub returns-clause-left : goal.returns-clause-left
 returns-clause-left g c begun halted =
