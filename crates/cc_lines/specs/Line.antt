@@ -1,6 +1,7 @@
 -- What a line of a script asks, and what it leaves.
-use Rattle.std.specs.Prelude.{◌≡◌, ℕ, Bool, ◌<◌, List, length, Result, Ok, Err}
+use Rattle.std.specs.Prelude.{◌≡◌, ℕ, Bool, ◌<◌, ◌⊎◌, List, length, Result, Ok, Err}
 use Rattle.std.specs.declared.option.Option.{Option}
+use Rattle.cc_entry.specs.Place.{File, Page}
 use Rattle.cc_entry.specs.declared.place.DirtyRow.{DirtyRow}
 use Rattle.cc_entry.specs.declared.place.FileState.{FileState}
 use Rattle.cc_entry.specs.declared.answer.Answer.{Answer}
@@ -20,6 +21,7 @@ use Rattle.cc_pieces.specs.Served.{Served, bindings_after}
 use Rattle.cc_turns.specs.Standing.{Standing, nothing}
 use Rattle.cc_writes.specs.Ways.{IsFullError}
 use Rattle.cc_calls.specs.Pages.{StaysGood, WentOn}
+use Rattle.cc_ranges.specs.Stores.{HasToStore}
 use Rattle.cc_ranges.specs.declared.error.NcError.{NcError}
 use Rattle.cc_calls.specs.Held.{IsHolding}
 use Rattle.cc_calls.specs.declared.held.Held.{Held}
@@ -94,11 +96,17 @@ pub record CanServe (w : Standing) (asked : Action) (names : NamesState) : Type 
   pub right : UsesRight bounds asked
   pub room : HasRoom asked names
 
+-- A page is to be stored by a noncached write.
+pub record IsStoring (w : Standing) : Type 0 where
+  pub file : File
+  pub page : Page
+  pub to_store : HasToStore w.setup file page w.seen
+
 -- An answer says that the journal is full only where it is: with no room for so many places as a call asks at once, 3 at
--- most, or 4 where it is a noncached one.
+-- most; or, where it is a noncached one, 2, or the 4 of a store where a page is to be stored as it finds that.
 abbrev pub IsFullTold : Standing → Answer → Type 0
 IsFullTold w (answer.Refused e) = IsFullError 3 w e
-IsFullTold w (answer.NcRefused done cause) = IsFullError 4 w cause
+IsFullTold w (answer.NcRefused done cause) = IsFullError 2 w cause ⊎ (IsStoring w × IsFullError 4 w cause)
 IsFullTold w other = Unit {0}
 
 -- A line was served: it left what explains its answer, over what the caller's words name, and what is kept of them

@@ -8,7 +8,6 @@ use Rattle.cc_effects.specs.Noncached.{shape_refusal}
 use Rattle.cc_turns.specs.Standing.{Held, Standing, nothing}
 use Rattle.cc_turns.specs.Takes.{Takes, with_book, with_device, without_book, without_device}
 use Rattle.cc_writes.specs.Hands.{Went}
-use Rattle.cc_writes.specs.Ways.{IsFull}
 use Rattle.cc_writes.specs.Fetch.{CanCall, WentOn}
 use Rattle.cc_ranges.specs.Shapes.{IsShape}
 
@@ -29,11 +28,6 @@ went-both w v x y z s free first second went given = record {
         ∙ (ap (λ (a : Standing). without_device (without_book (record (with_book s a) { seen = y.seen; others = y.others }))) first.same
         ∙ (ap (λ (h : Held). record w { held = record h { device = None; book = None }; seen = y.seen; others = y.others; device_turns = turns }) free
         ∙ ap (λ (h : Held). record w { held = h; seen = y.seen; others = y.others; device_turns = turns }) (sym free)))))
-
-pub full-both : (asked : ℕ) (y : Standing) (answer : Result ℕ CcError) → IsFull asked y answer → IsFull asked (without_device (without_book y)) answer
-full-both asked y (Ok n) full = tt
-full-both asked y (Err (error.JournalFull entries)) full = full
-full-both asked y (Err other) full = tt
 
 pub went-then : (w v x : Standing) → WentOn w v → WentOn v x → WentOn w x
 went-then w v x first second = record {

@@ -46,4 +46,5 @@ mod TidyEnds
 mod Explained
 mod WriteReady
 mod Callers
+pub mod WriteFull
 mod WritePages

@@ -23,8 +23,9 @@ use Rattle.cc_writes.proofs.Halting.{at-work}
 use Rattle.cc_writes.proofs.OneVisit.{went-then}
 use Rattle.cc_writes.proofs.Works.{either}
 use Rattle.cc_writes.specs.Rounds.{course_of}
-use Rattle.cc_writes.specs.Rounds.{HasLess as CallHasLess}
-use Rattle.cc_ranges.specs.WriteHeld.{HasLess, RoomLeft, RoundLeft, round_of}
+use Rattle.cc_writes.specs.Rounds.{IsNearer as CallIsNearer}
+use Rattle.cc_writes.specs.declared.keeping.Rounds.{Rounds}
+use Rattle.cc_ranges.specs.WriteHeld.{IsNearer, RoundLeft, round_of}
 use Rattle.cc_ranges.specs.WriteHeld.{PageLeft as PageLeftBy}
 use Rattle.cc_ranges.specs.WriteVisits.{IsTurnedAway, IsWriting, page_in}
 use Rattle.cc_ranges.specs.declared.write_held.Round.{Round}
@@ -79,17 +80,10 @@ module _ (w v : Standing) (file : File) (page dirty s : ℕ) (seen : List Entry)
       (subst (λ (u : Setup). IsTurnedAway u v.number file page e begun seen) setup
       (unshaped v.setup s it e tt reason, left begun (subst (λ (n : ℕ). IsUnderWay n it begun v.seen) (sym number) is.way)))
 
--- where a page was written for it, it has less left to do
-pub less-round : (file : File) (page : ℕ) (r : Result Call CcError) (old new : List Entry) → CallHasLess file.stream (call.NcWrite file page) (course_of r) old new → HasLess file page (round_of r) old new
-less-round file page (Ok again) old new less = less
-less-round file page (Err e) old new less = tt
-
--- what it leaves from a moment at which it was under way, where nothing else was placed for it
-pub since-left : (w v : Standing) (file : File) (page : ℕ) (r : Result (Unit {0}) CcError) (begun seen : List Entry) → Went w v → IsWriting w.number file page begun v.seen → ((begun : List Entry) → IsWriting v.number file page begun v.seen → RoomLeft v.setup v.number file page r begun seen) → RoomLeft w.setup w.number file page r begun seen
-since-left w v file page r begun seen went is left =
-    subst (λ (n : ℕ). RoomLeft w.setup n file page r begun seen) (ap (λ (y : Standing). y.number) went.same)
-    (subst (λ (u : Setup). RoomLeft u v.number file page r begun seen) (ap (λ (y : Standing). y.setup) went.same)
-    (left begun (subst (λ (n : ℕ). IsWriting n file page begun v.seen) (sym (ap (λ (y : Standing). y.number) went.same)) is)))
+-- where a page was written for it, it is nearer to being ready
+pub near-round : (file : File) (page : ℕ) (r : Result Call CcError) (was now : Rounds) (old new : List Entry) → CallIsNearer file.stream (call.NcWrite file page) (course_of r) was now old new → IsNearer file page (round_of r) was now old new
+near-round file page (Ok again) was now old new near = near
+near-round file page (Err e) was now old new near = tt
 
 -- How the rounds go on: what is in hand stands, and a write that was under way as they began is still.
 pub record ComesOn {D : Type 0} (told : D → Option Disk) (faults : D → ℕ) (w v : Standing) (file : File) (page : ℕ) (b : BookState) (disk : D)
@@ -100,12 +94,6 @@ pub record ComesOn {D : Type 0} (told : D → Option Disk) (faults : D → ℕ) 
   pub none : v.in_flight ≡ 0
   pub went : Went w v
   pub left : (begun : List Entry) → IsWriting w.number file page begun w.seen → IsWriting w.number file page begun v.seen
-
--- The same with the book kept until the page is ready.
-pub record ComesOnKept {D : Type 0} (told : D → Option Disk) (faults : D → ℕ) (w v : Standing) (file : File) (page : ℕ) (b : BookState) (disk : D)
-    (keeps : Bool) : Type 0 where
-  pub on : ComesOn told faults w v file page b disk
-  pub kept : keeps ≡ true
 
 module _ {D : Type 0} (told : D → Option Disk) (faults : D → ℕ) (w v x : Standing) (file : File) (page : ℕ) (b c : BookState) (disk now : D)
     (on : ComesOn told faults w v file page b disk) where

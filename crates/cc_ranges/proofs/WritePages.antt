@@ -1,7 +1,7 @@
 -- The pages of a noncached write, one after the other, each with the turns of its disk and its book.
 use Rattle.std.specs.Prelude.{◌≡◌, ℕ, suc, ◌+◌, ◌-◌, ◌*◌, ◌/◌, ◌<◌, ◌≤◌, Bool, true, false, nat_lt, min, Result, Ok, Err, OnOk, List, [], ◌∷◌, ◌++◌, length, take, drop, Some, None, refl, if◌then◌else◌}
 use Rattle.std.specs.declared.option.Option.{Option}
-use Rattle.std.proofs.Common.{ap, sym, ◌∙◌, subst, arith}
+use Rattle.std.proofs.Common.{ap, sym, ◌∙◌, subst, arith, inl}
 use Rattle.std.proofs.lemmas.List.{drop-drop}
 use mathlib.Core.Logic.{dite}
 use native.Mathlib.Decide.{ℕ_discrete}
@@ -21,9 +21,9 @@ use Rattle.cc_turns.specs.Takes.{Takes, with_book, with_device, without_book, wi
 use Rattle.cc_writes.specs.Ways.{IsFullError}
 use Rattle.cc_writes.specs.Fetch.{CanCall, WentOn}
 use Rattle.cc_writes.proofs.TakingBoth.{idle, number_both, setup_both}
-use Rattle.cc_writes.proofs.Fullness.{full-more}
 use Rattle.cc_writes.proofs.Halting.{at-work}
 use Rattle.cc_ranges.specs.Answers.{write_of}
+use Rattle.cc_ranges.specs.Stores.{IsFullStoring}
 use Rattle.cc_ranges.specs.WriteHeld.{PageLeft}
 use Rattle.cc_ranges.specs.WriteVisits.{IsWriting, page_in}
 use Rattle.cc_ranges.specs.Writes.{AreTidied, NcWriteEnds, PageWriteEnds, PagesLeft, PagesWriteEnds}
@@ -202,6 +202,9 @@ ends-all w v file first done changed pages piece on same is = record {
   good = on.good;
 }
 
+refused-full : (w : Standing) (file : File) (first : ℕ) (e : CcError) (done : ℕ) → IsFullStoring {A = ℕ} file (page_in file (first + done)) w (Err e) → IsFullStoring {A = Unit {0}} file (page_in file (first + done)) w (Err e)
+refused-full w file first e done full = full
+
 pub ends-refused : (w v x : Standing) (file : File) (first done changed pages : ℕ) (piece bytes : List ℕ) (failed : NcError) → WritesOn w v file first done changed piece → bytes ≡ take 4096 (drop (4096 * done) piece) → PageWriteEnds v x file (first + done) bytes (Err failed.cause) → failed.done ≡ done → done < pages → pages ≡ length piece / 4096 → PagesWriteEnds w x file first piece (Err failed)
 ends-refused w v x file first done changed pages piece bytes failed on same page count below is = record {
   left = subst (λ (n : ℕ). (n < length piece / 4096) × PageWritesRefused w.setup w.number file first n piece failed.cause w.seen x.seen) (sym count) (
@@ -209,7 +212,7 @@ ends-refused w v x file first done changed pages piece bytes failed on same page
     writes-refused w v x file first done changed piece on bytes same failed.cause page,
   );
   tidied = subst (λ (n : ℕ). AreTidied w x file first n) (sym count) (λ k below. at-later (IsTidyEnd w.setup w.most_others w.number file (page_in file (first + k)) w.seen) w.seen v.seen x.seen (refused-behind v.setup v.number file (first + done) bytes failed.cause v.seen x.seen page.left) (on.tidied k below));
-  full = page.full;
+  full = refused-full x file first failed.cause failed.done (rw count page.full);
   goes_on = went-then w v x on.went page.goes_on;
   good = λ good. good-after w v x file first done changed piece on bytes (Err failed.cause) page;
 }
@@ -236,7 +239,7 @@ pub misshapen-write : (w v : Standing) (file : File) (at : ℕ) (shape : CcError
 misshapen-write w v file at shape failed piece is none left full went good = record {
   left = subst (λ (o : Option CcError). ShapedWriteLeft w.setup w.number file at piece o (Err (failed.done, failed.cause)) w.seen v.seen) (sym is) (none, left);
   tidied = λ k below. absurd (omega (arith, below, none));
-  full = full-more 1 4 v failed.cause (omega arith) full;
+  full = inl (inl full);
   goes_on = went;
   good = λ was_good. good;
 }

@@ -1,8 +1,6 @@
 -- How a noncached call tells how far it came.
 use Rattle.std.specs.Prelude.{◌≡◌, ℕ, ◌*◌, ◌≤◌, Result, Ok, Err, List, length, take, drop}
 use Rattle.cc_entry.specs.declared.error.CcError.{CcError}
-use Rattle.cc_turns.specs.Standing.{Standing}
-use Rattle.cc_writes.specs.Ways.{IsFullError}
 use Rattle.cc_ranges.specs.declared.error.NcError.{NcError}
 
 -- how many pages were finished, and why the next one was refused
@@ -23,9 +21,3 @@ write_of (Err e) = Err (refused_of e)
 abbrev pub KeepsRest : Result ℕ NcError → List ℕ → List ℕ → Type 0
 KeepsRest (Ok n) was now = (n ≤ length was) × (drop n now ≡ drop n was)
 KeepsRest (Err e) was now = drop (4096 * e.done) now ≡ drop (4096 * e.done) was
-
--- A noncached call that finds the journal full has so many entries, and no room for so many more: a store asks its
--- place, that of its begin, and those of their two ends.
-abbrev pub IsFullAfter : Standing → Result ℕ NcError → Type 0
-IsFullAfter w (Ok n) = Unit {0}
-IsFullAfter w (Err e) = IsFullError 4 w e.cause

@@ -1,5 +1,5 @@
 -- What the store of a page asks of a book and a journal, and what it leaves with the begin of its transfer.
-use Rattle.std.specs.Prelude.{◌≡◌, ℕ, ◌+◌, ◌≤◌, ◌<◌, nat_lt, Bool, true, false, List, ◌∷◌, length, slice_index, if◌then◌else◌, Result, Ok, Err, ◌-◌, ◌*◌}
+use Rattle.std.specs.Prelude.{◌≡◌, ℕ, ◌+◌, ◌≤◌, ◌<◌, ◌⊎◌, nat_lt, Bool, true, false, List, ◌∷◌, length, slice_index, if◌then◌else◌, Result, Ok, Err, ◌-◌, ◌*◌}
 use Rattle.std.specs.declared.option.Option.TheVariants.{None}
 use Rattle.cc_entry.specs.Place.{File, Page}
 use Rattle.cc_entry.specs.declared.call.Call.TheVariants as call
@@ -11,6 +11,7 @@ use Rattle.cc_book.specs.Stored.{store_done}
 use Rattle.cc_journal.specs.Calls.{owed_end}
 use Rattle.cc_journal.specs.Journal.{JournalState, room_of}
 use Rattle.cc_model.specs.Conditions.{MayStore}
+use Rattle.cc_model.specs.Covered.{IsLogged}
 use Rattle.cc_model.specs.Good.{IsGood}
 use Rattle.cc_model.specs.History.{history}
 use Rattle.cc_model.specs.Refusals.{refusal}
@@ -21,7 +22,9 @@ use Rattle.cc_model.specs.Setup.{Setup}
 use Rattle.cc_step.specs.Step.{StandUnder}
 use Rattle.cc_turns.specs.Standing.{Standing}
 use Rattle.cc_turns.specs.Takes.{Grows}
+use Rattle.cc_writes.specs.Calls.{IsFullWriting}
 use Rattle.cc_writes.specs.Logs.{IsStopAt, IsWant}
+use Rattle.cc_writes.specs.Ways.{IsFull}
 
 -- A page is ready to be stored by a noncached write through a file object: nothing refuses the write, and there is room
 -- for the page's block.
@@ -29,6 +32,19 @@ pub record IsReadyToStore (u : Setup) (past : List Entry) (file : File) (page : 
   pub here : file.stream ≡ page.stream
   pub admitted : refusal u past (history past page.stream) (call.NcWrite file page.page) ≡ None
   pub in_quota : mapped_blocks_with (history past page.stream) page.page ≤ quota_of (history past page.stream)
+
+-- The store of a page is under way: the page is ready to be stored, and its log is flushed to the newest LSN that is stamped
+-- on it.
+pub record HasToStore (u : Setup) (file : File) (page : Page) (past : List Entry) : Type 0 where
+  pub ready : IsReadyToStore u past file page
+  pub logged : IsLogged past page.stream page.page
+
+-- Where the write of a page finds the journal full, there is no room for one entry; or a page is to be written for it as it
+-- finds that, to make room, and there is none for the begin of that transfer with its end; or its own page is to be stored
+-- then, and there is none for the store, the begin of its transfer, and the ends of both.
+abbrev pub IsFullStoring : {A : Type 0} → File → Page → Standing → Result A CcError → Type 0
+IsFullStoring file page w answer =
+    IsFullWriting (call.NcWrite file page.page) w answer ⊎ (HasToStore w.setup file page w.seen × IsFull 4 w answer)
 
 -- how many places are kept with a store for its page to go out again: one, or none
 abbrev pub places_kept : Bool → ℕ

@@ -1,5 +1,5 @@
 -- What the write of a page leaves, with the disk and the book of its stream in hand.
-use Rattle.std.specs.Prelude.{ℕ, ◌<◌, Result, Ok, Err, List}
+use Rattle.std.specs.Prelude.{ℕ, ◌<◌, ◌≤◌, ◌⊎◌, Result, Ok, Err, List}
 use Rattle.cc_entry.specs.Place.{File}
 use Rattle.cc_entry.specs.declared.call.Call.{Call}
 use Rattle.cc_entry.specs.declared.call.Call.TheVariants as call
@@ -8,8 +8,9 @@ use Rattle.cc_entry.specs.declared.error.CcError.{CcError}
 use Rattle.cc_effects.specs.Noncached.{IsPageWritten, PageRefused}
 use Rattle.cc_model.specs.Setup.{Setup}
 use Rattle.cc_turns.specs.Standing.{Standing}
-use Rattle.cc_writes.specs.Rounds.{left_for}
-use Rattle.cc_writes.specs.Ways.{IsFullError}
+use Rattle.cc_writes.specs.Calls.{IsFullWriting}
+use Rattle.cc_writes.specs.Rounds.{free_left, left_for}
+use Rattle.cc_writes.specs.declared.keeping.Rounds.{Rounds}
 use Rattle.cc_ranges.specs.Stores.{IsReadyToStore}
 use Rattle.cc_ranges.specs.WriteVisits.{IsTurnedAway, IsWriting, page_in}
 use Rattle.cc_ranges.specs.declared.write_held.Round.{Round}
@@ -39,18 +40,21 @@ abbrev pub RoundReady : Standing → File → ℕ → Round → Type 0
 RoundReady w file page round.Ready = IsReadyAfter w file page
 RoundReady w file page other = Unit {0}
 
--- a round that found no room, with so many places asked
-abbrev pub IsFullRound : ℕ → Standing → Round → Type 0
-IsFullRound asked w (round.Ended e) = IsFullError asked w e
-IsFullRound asked w other = Unit {0}
+-- a round that found no room for one entry, or for the transfer of a page that is to be written
+abbrev pub IsFullRound : File → ℕ → Standing → Round → Type 0
+IsFullRound file page w (round.Ended e) = IsFullWriting {A = Unit {0}} (call.NcWrite file page) w (Err e)
+IsFullRound file page w other = Unit {0}
 
 -- how the write stands for which a page was written, or failed
 abbrev pub round_of : Result Call CcError → Round
 round_of (Ok again) = round.GoesOn
 round_of (Err e) = round.Ended e
 
--- a write that goes on has less left to do
-abbrev pub HasLess : File → ℕ → Round → List Entry → List Entry → Type 0
-HasLess file page round.GoesOn old new =
-    left_for file.stream (call.NcWrite file page) new < left_for file.stream (call.NcWrite file page) old
-HasLess file page other old new = Unit {0}
+-- A write that goes on is nearer to its page being ready: fewer transfers with the book free are left to it, or no more, and
+-- less to do. Those that are left are of the block that is given up, and of pages above the last that was written so.
+abbrev pub IsNearer : File → ℕ → Round → Rounds → Rounds → List Entry → List Entry → Type 0
+IsNearer file page round.GoesOn was now old new =
+    (free_left (call.NcWrite file page) now < free_left (call.NcWrite file page) was)
+    ⊎ ((free_left (call.NcWrite file page) now ≤ free_left (call.NcWrite file page) was)
+    × (left_for file.stream (call.NcWrite file page) new < left_for file.stream (call.NcWrite file page) old))
+IsNearer file page other was now old new = Unit {0}

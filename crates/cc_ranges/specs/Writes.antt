@@ -7,13 +7,18 @@ use Rattle.cc_effects.specs.Noncached.{NcWriteLeft, PagesWritten, PageWritesRefu
 use Rattle.cc_model.specs.Good.{IsGood}
 use Rattle.cc_model.specs.Setup.{Setup}
 use Rattle.cc_turns.specs.Standing.{Standing}
-use Rattle.cc_writes.specs.Ways.{IsFull}
 use Rattle.cc_writes.specs.Fetch.{WentOn}
-use Rattle.cc_ranges.specs.Answers.{IsFullAfter, write_of}
+use Rattle.cc_ranges.specs.Answers.{write_of}
 use Rattle.cc_ranges.specs.Ends.{IsTidyEnd}
+use Rattle.cc_ranges.specs.Stores.{IsFullStoring}
 use Rattle.cc_ranges.specs.WriteHeld.{PageLeft}
 use Rattle.cc_ranges.specs.WriteVisits.{page_in}
 use Rattle.cc_ranges.specs.declared.error.NcError.{NcError}
+
+-- Where a write from a page on finds the journal full, the write of the page that it refuses does.
+abbrev pub IsFullWrite : Standing → File → ℕ → Result ℕ NcError → Type 0
+IsFullWrite w file first (Ok count) = Unit {0}
+IsFullWrite w file first (Err e) = IsFullStoring {A = Unit {0}} file (page_in file (first + e.done)) w (Err e.cause)
 
 -- how many pages of a write of so many bytes were written
 abbrev pub written_of : ℕ → Result ℕ NcError → ℕ
@@ -33,7 +38,7 @@ AreTidied old new file first count =
 pub record NcWriteEnds (old new : Standing) (file : File) (at : ℕ) (piece : List ℕ) (answer : Result ℕ NcError) : Type 0 where
   pub left : NcWriteLeft old.setup old.number file at piece (write_of answer) old.seen new.seen
   pub tidied : AreTidied old new file (at / 4096) (written_of (length piece) answer)
-  pub full : IsFullAfter new answer
+  pub full : IsFullWrite new file (at / 4096) answer
   pub goes_on : WentOn old new
   pub good : IsGood old.setup old.seen → IsGood old.setup new.seen
 
@@ -47,7 +52,7 @@ PagesLeft u me file first count bytes (Err failed) old new =
 pub record PagesWriteEnds (old new : Standing) (file : File) (first : ℕ) (piece : List ℕ) (answer : Result ℕ NcError) : Type 0 where
   pub left : PagesLeft old.setup old.number file first (length piece / 4096) piece (write_of answer) old.seen new.seen
   pub tidied : AreTidied old new file first (written_of (length piece) answer)
-  pub full : IsFullAfter new answer
+  pub full : IsFullWrite new file first answer
   pub goes_on : WentOn old new
   pub good : IsGood old.setup old.seen → IsGood old.setup new.seen
 
@@ -55,6 +60,6 @@ pub record PagesWriteEnds (old new : Standing) (file : File) (first : ℕ) (piec
 pub record PageWriteEnds (old new : Standing) (file : File) (page : ℕ) (bytes : List ℕ) (answer : Result ℕ CcError) : Type 0 where
   pub left : PageLeft old.setup old.number file page bytes answer old.seen new.seen
   pub tidy : OnOk answer (IsTidyEnd old.setup old.most_others old.number file (page_in file page) old.seen new.seen)
-  pub full : IsFull 4 new answer
+  pub full : IsFullStoring file (page_in file page) new answer
   pub goes_on : WentOn old new
   pub good : IsGood old.setup new.seen

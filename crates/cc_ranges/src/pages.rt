@@ -7,12 +7,12 @@ ghost use Rattle.cc_effects.specs.Asked.{Calls};
 ghost use Rattle.cc_model.specs.Covered.{IsLogged};
 ghost use Rattle.cc_model.specs.Passes.{is_the_page, store_of};
 ghost use Rattle.cc_writes.specs.Hands.{Went, WentWith};
-ghost use Rattle.cc_writes.specs.Ways.{IsAtWork, IsFull};
+ghost use Rattle.cc_writes.specs.Ways.{IsAtWork};
 ghost use Rattle.cc_writes.specs.Transfers.{IsUnderWay};
 ghost use Rattle.cc_writes.specs.Writes.{HasBoth};
 ghost use Rattle.cc_ranges.specs.Pages.{FinishedLeft, PutLeft};
 ghost use Rattle.cc_ranges.specs.Ends.{HasEndedTidy, IsTidyEnd};
-ghost use Rattle.cc_ranges.specs.Stores.{IsReadyToStore, places_kept};
+ghost use Rattle.cc_ranges.specs.Stores.{IsFullStoring, IsReadyToStore, places_kept};
 
 use crate::ends::{fail_at, finish_at, forgo_at};
 use crate::stores::store_at;
@@ -46,7 +46,7 @@ pub(crate) fn put_page<T: Turns>(
     ensures left { (begun : List Entry) →
         IsAtWork (T.standing turns.old).number (Calls (call.NcStore file page.page bytes.now)) begun (T.standing turns.old).seen →
         PutLeft (T.standing turns.old) file page.page bytes.now result.1 begun (T.standing turns.new).seen }
-    ensures full { IsFull 4 (T.standing turns.new) result.1 }
+    ensures full { IsFullStoring file page (T.standing turns.new) result.1 }
     ensures tidy { OnOk result.1 (IsTidyEnd (T.standing turns.old).setup (T.standing turns.old).most_others
         (T.standing turns.old).number file page (T.standing turns.old).seen (T.standing turns.new).seen) }
 {

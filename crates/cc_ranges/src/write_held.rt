@@ -1,13 +1,14 @@
 //! The noncached write of a page, with the disk and the book of its stream in hand.
 
-ghost use Rattle.std.specs.Prelude.{◌≡◌, ◌<◌, ◌≤◌, true, List, OnOk};
+ghost use Rattle.std.specs.Prelude.{◌≡◌, ◌<◌, List, OnOk};
+ghost use Rattle.cc_entry.specs.declared.call.Call.TheVariants as call;
 ghost use Rattle.cc_entry.specs.declared.entry.Entry.{Entry};
+ghost use Rattle.cc_writes.specs.Calls.{IsFullWriting};
 ghost use Rattle.cc_writes.specs.Hands.{Went};
-ghost use Rattle.cc_writes.specs.Ways.{IsFull};
 ghost use Rattle.cc_writes.specs.Writes.{HasBoth};
 ghost use Rattle.cc_ranges.specs.Ends.{IsTidyEnd};
-ghost use Rattle.cc_ranges.specs.Stores.{IsReadyToStore};
-ghost use Rattle.cc_ranges.specs.WriteHeld.{HasLess, IsFullRound, IsReadyAfter, PageLeft, RoomLeft, RoundLeft, RoundReady, round_of};
+ghost use Rattle.cc_ranges.specs.Stores.{IsFullStoring};
+ghost use Rattle.cc_ranges.specs.WriteHeld.{IsFullRound, IsNearer, IsReadyAfter, PageLeft, RoomLeft, RoundLeft, RoundReady, round_of};
 ghost use Rattle.cc_ranges.specs.WriteVisits.{IsWriting, page_in};
 
 use crate::pages::put_page;
@@ -17,10 +18,6 @@ use cc_entry::{Call, CcError, FileId, PageId};
 use cc_turns::Turns;
 use cc_writes::{LogFlush, Rounds, fail_at, flush_log, write_for};
 use std::alloc::Global;
-
-// After so many rounds the book is kept until the page is ready. The write of a page takes fewer that makes room: the 64
-// pages of the block to give up are written with the book free, then with the book kept, and go out.
-const ROUNDS: u32 = 256;
 
 // How the write of a page stands after a round.
 #[derive(Drop)]
@@ -54,7 +51,7 @@ pub(crate) fn write_held<T: Turns>(
         IsWriting (T.standing turns.old).number file page begun (T.standing turns.old).seen →
         PageLeft (T.standing turns.old).setup (T.standing turns.old).number file page bytes.now result.1
         begun (T.standing turns.new).seen }
-    ensures full { IsFull 4 (T.standing turns.new) result.1 }
+    ensures full { IsFullStoring file (page_in file page) (T.standing turns.new) result.1 }
     ensures tidy { OnOk result.1 (IsTidyEnd (T.standing turns.old).setup (T.standing turns.old).most_others
         (T.standing turns.old).number file (page_in file page) (T.standing turns.old).seen (T.standing turns.new).seen) }
 {
@@ -65,7 +62,9 @@ pub(crate) fn write_held<T: Turns>(
     }
 }
 
-// Goes on in rounds, until the page is ready to be stored.
+// Goes on in rounds, until the page is ready to be stored. The dirty pages of the block that is given up are written with
+// the book free once at most, and then with the book kept: each round leaves fewer transfers that may be made with the book
+// free, or less to do.
 fn make_room<T: Turns>(
     alloc: Global,
     turns: &mut T,
@@ -85,44 +84,9 @@ fn make_room<T: Turns>(
         RoomLeft (T.standing turns.old).setup (T.standing turns.old).number file page result.1
         begun (T.standing turns.new).seen }
     ensures ready { OnOk result.1 (IsReadyAfter (T.standing turns.new) file page) }
-    ensures full { IsFull 2 (T.standing turns.new) result.1 }
+    ensures full { IsFullWriting (call.NcWrite file page) (T.standing turns.new) result.1 }
 {
     let mut rounds = Rounds::new();
-    for _round in 0..ROUNDS {
-        let (now, came) = advance(alloc, turns, disk, book, file, page, &mut rounds);
-        book = now;
-        match came {
-            Round::Ended(error) => return (book, Err(error)),
-            Round::Ready => return (book, Ok(())),
-            Round::GoesOn => {}
-        }
-    }
-    make_room_kept(alloc, turns, disk, book, file, page)
-}
-
-// Goes on in rounds with the book kept, until the page is ready to be stored. Each round leaves less to do.
-fn make_room_kept<T: Turns>(
-    alloc: Global,
-    turns: &mut T,
-    disk: &mut T::Disk,
-    mut book: Book,
-    file: FileId,
-    page: u64,
-) -> (Book, Result<(), CcError>)
-    requires known { book.stream < (T.standing turns.old).streams }
-    requires stream { book.stream ≡ file.stream }
-    requires both { HasBoth T.Disk.told T.Disk.faults (T.standing turns.old) book.stream book disk.old }
-    requires none { (T.standing turns.old).in_flight ≡ 0 }
-    ensures both { HasBoth T.Disk.told T.Disk.faults (T.standing turns.new) book.stream result.0 disk.new }
-    ensures went { Went (T.standing turns.old) (T.standing turns.new) }
-    ensures left { (begun : List Entry) →
-        IsWriting (T.standing turns.old).number file page begun (T.standing turns.old).seen →
-        RoomLeft (T.standing turns.old).setup (T.standing turns.old).number file page result.1
-        begun (T.standing turns.new).seen }
-    ensures ready { OnOk result.1 (IsReadyAfter (T.standing turns.new) file page) }
-    ensures full { IsFull 2 (T.standing turns.new) result.1 }
-{
-    let mut rounds = Rounds::kept();
     'pages: loop {
         let (now, came) = advance(alloc, turns, disk, book, file, page, &mut rounds);
         book = now;
@@ -155,10 +119,9 @@ fn advance<T: Turns>(
         RoundLeft (T.standing turns.old).setup (T.standing turns.old).number file page result.1
         begun (T.standing turns.new).seen }
     ensures ready { RoundReady (T.standing turns.new) file page result.1 }
-    ensures kept { rounds.old.kept ≡ true → rounds.new.kept ≡ true }
-    ensures lessens { rounds.old.kept ≡ true →
-        HasLess file page result.1 (T.standing turns.old).seen (T.standing turns.new).seen }
-    ensures full { IsFullRound 2 (T.standing turns.new) result.1 }
+    ensures nearer { IsNearer file page result.1 rounds.old rounds.new
+        (T.standing turns.old).seen (T.standing turns.new).seen }
+    ensures full { IsFullRound file page (T.standing turns.new) result.1 }
 {
     match next_at(alloc, turns, &mut book, file, page) {
         Step::Ended(error) => (book, Round::Ended(error)),
@@ -204,7 +167,7 @@ fn write_ready<T: Turns>(
         IsWriting (T.standing turns.old).number file page begun (T.standing turns.old).seen →
         PageLeft (T.standing turns.old).setup (T.standing turns.old).number file page bytes.now result.1
         begun (T.standing turns.new).seen }
-    ensures full { IsFull 4 (T.standing turns.new) result.1 }
+    ensures full { IsFullStoring file (page_in file page) (T.standing turns.new) result.1 }
     ensures tidy { OnOk result.1 (IsTidyEnd (T.standing turns.old).setup (T.standing turns.old).most_others
         (T.standing turns.old).number file (page_in file page) (T.standing turns.old).seen (T.standing turns.new).seen) }
 {

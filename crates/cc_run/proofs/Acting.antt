@@ -1,9 +1,10 @@
 -- What a line of a caller leaves on a desk.
 use Rattle.std.specs.Prelude.{◌≡◌, ◌≢◌, ℕ, ◌+◌, ◌<◌, ◌≤◌, List, ◌++◌, length, refl}
-use Rattle.std.proofs.Common.{sym, subst, ap, ◌∙◌, arith}
+use Rattle.std.proofs.Common.{sym, subst, ap, ◌∙◌, arith, inl, inr}
 use Rattle.cc_entry.specs.declared.answer.Answer.{Answer}
 use Rattle.cc_entry.specs.declared.answer.Answer.TheVariants as answer
 use Rattle.cc_entry.specs.declared.call.Call.{Call}
+use Rattle.cc_entry.specs.declared.error.CcError.{CcError}
 use Rattle.cc_entry.specs.declared.error.CcError.TheVariants as error
 use Rattle.cc_entry.specs.declared.entry.Entry.{Entry}
 use Rattle.cc_script.specs.declared.bound.Bound.{Bound}
@@ -36,11 +37,17 @@ full-at w limit entries asked above during old grew rest few full =
     rw grew (some-end (λ moment. (entries ≡ length moment) × (room_in w.setup moment 0 < limit)) during old
     (rw (← grew) (full.0, omega (arith, full.1, rest, few, above))))
 
+-- a noncached line asks four places at most
+pub cut_off-most : (w : Standing) (done : ℕ) (cause : CcError) → IsFullTold w (answer.NcRefused done cause) → IsFullError 4 w cause
+cut_off-most w done (error.JournalFull entries) (inl two) = (two.0, omega (arith, two.1))
+cut_off-most w done other (inl two) = tt
+cut_off-most w done cause (inr four) = four.1
+
 room-at : (w : Standing) (limit : ℕ) (told : Answer) (during old : List Entry) → w.seen ≡ during ++ old → w.in_flight ≡ 0 → w.others + 4 ≤ limit → IsFullTold w told → HadNoRoom w.setup limit told old w.seen
 room-at w limit (answer.Refused (error.JournalFull entries)) during old grew rest few full =
     full-at w limit entries 3 (omega arith) during old grew rest (omega (arith, few)) full
 room-at w limit (answer.NcRefused done (error.JournalFull entries)) during old grew rest few full =
-    full-at w limit entries 4 (omega arith) during old grew rest few full
+    full-at w limit entries 4 (omega arith) during old grew rest few (cut_off-most w done (error.JournalFull entries) full)
 room-at w limit other during old grew rest few full = tt
 
 -- on a desk others have nothing under way

@@ -29,7 +29,7 @@ use Rattle.cc_pieces.specs.Rooms.{HadNoRoom}
 use Rattle.cc_pieces.specs.Served.{Served}
 use Rattle.cc_turns.specs.Standing.{Standing}
 use Rattle.cc_lines.specs.Line.{IsFullTold}
-use Rattle.cc_run.proofs.Acting.{full-at}
+use Rattle.cc_run.proofs.Acting.{cut_off-most, full-at}
 
 -- the journal has what it had, and more in front
 record Grew (old new : List Entry) : Type 0 where
@@ -179,5 +179,5 @@ room-served w limit u me bindings asked (answer.Refused (error.JournalFull entri
     full-at w limit entries 3 (omega arith) more.during old more.grew rest (omega (arith, few)) full
 room-served w limit u me bindings asked (answer.NcRefused done (error.JournalFull entries)) old left rest few full =
     let more = grew-cut_off u me done (error.JournalFull entries) old w.seen bindings asked left in
-    full-at w limit entries 4 (omega arith) more.during old more.grew rest few full
+    full-at w limit entries 4 (omega arith) more.during old more.grew rest few (cut_off-most w done (error.JournalFull entries) full)
 room-served w limit u me bindings asked other old left rest few _ = tt

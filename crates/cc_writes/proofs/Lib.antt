@@ -44,7 +44,7 @@ mod Brought
 pub mod Work
 mod Kept
 pub mod Lessening
-mod Nearing
+pub mod Nearing
 mod Stepping
 mod Repeated
 pub mod Fullness

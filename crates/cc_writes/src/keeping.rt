@@ -41,17 +41,6 @@ impl Rounds {
         }
     }
 
-    /// The book is kept until the call ends.
-    pub fn kept() -> Rounds
-        ensures kept { result.kept ≡ true }
-    {
-        Rounds {
-            kept: true,
-            read: None,
-            block: Writing::Begins,
-        }
-    }
-
     /// Whether the book is kept while this page is read, as the next transfer.
     pub fn keeps_for_read(&mut self, page: u64) -> bool
         ensures kept { result ≡ (self.old.kept || is_read self.old.read page) }

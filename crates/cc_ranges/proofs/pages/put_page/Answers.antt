@@ -1,13 +1,13 @@
 -- Behind the store, the transfer that it began is of the bytes as they are cut at the size, so the page may be
 -- finished; without room or memory for the store, nothing was placed.
 use Rattle.std.specs.Prelude.{◌≡◌, ℕ, ◌-◌, ◌*◌, ◌<◌, min, Bool, Result, List, length}
-use Rattle.std.proofs.Common.{ap, arith, inl, subst, sym, ◌∙◌}
+use Rattle.std.proofs.Common.{ap, arith, inl, inr, subst, sym, ◌∙◌}
 use Rattle.cc_entry.specs.declared.call.Call.TheVariants as call
 use Rattle.cc_content.specs.Filling.{IsClearedFrom}
 use Rattle.cc_effects.specs.Asked.{Calls}
 use Rattle.cc_model.specs.History.{history}
 use Rattle.cc_model.specs.Touches.{size_of}
-use Rattle.cc_writes.specs.Ways.{IsAtWork}
+use Rattle.cc_writes.specs.Ways.{IsAtWork, IsFull}
 use Rattle.cc_writes.proofs.OneVisit.{grows-none}
 use Rattle.cc_writes.proofs.Writing.{both-grown}
 use Rattle.cc_writes.specs.Hands.{WentWith}
@@ -17,6 +17,7 @@ use Rattle.cc_ranges.specs.Ends.{HasEndedTidy, IsTidyEnd}
 use Rattle.cc_ranges.specs.Pages.{FinishedLeft, PutLeft}
 use Rattle.cc_ranges.specs.Stores.{IsTightUnkept, kept_in, places_kept}
 use Rattle.cc_ranges.proofs.TidyEnds.{put-tidy}
+use Rattle.cc_ranges.proofs.WriteFull.{full-finished, still-to-store}
 use Rattle.cc_ranges.proofs.Explained.{put-left}
 use Rattle.cc_ranges.proofs.Goods.{below-size}
 use Rattle.cc_ranges.proofs.PageWriting.{as-cut, begun-there, size-there, stored-there}
@@ -113,3 +114,21 @@ returns-in-Ok-store_at-clause-tidy g c =
     let y = g.T.Turns.standing c.finish_page.new.turns in
     put-tidy (kept_in c.store_at.result) w x c.args.file c.args.page c.in-Ok.stored c.in-Ok-store_at.kept y.seen c.store_at.ensures.went c.in-Ok-store_at.ensures.left
     (subst (λ (r : Result Bool CcError). IsTightUnkept w x.most_others c.args.file c.args.page r x.seen) c.in-Ok-store_at.is c.store_at.ensures.tight) c.finish_page.result.1 c.finish_page.ensures.tidy
+
+pub returns-in-Ok-store_at-clause-full : goal.returns-in-Ok-store_at-clause-full
+returns-in-Ok-store_at-clause-full g c =
+    let y = g.T.Turns.standing c.finish_page.new.turns in
+    full-finished (g.T.Turns.standing c.store_at.new.turns) y c.args.file c.args.page _ c.finish_page.result.1 y.seen c.finish_page.ensures.left
+
+pub returns-in-Err-store_at-clause-full : goal.returns-in-Err-store_at-clause-full
+returns-in-Err-store_at-clause-full g c =
+    let w = g.T.Turns.standing c.args.turns.now in
+    let x = g.T.Turns.standing c.store_at.new.turns in
+    inr (
+      still-to-store (kept_in c.store_at.result) w x c.args.file c.args.page c.args.book c.requires.both.book c.requires.both.rest.device c.store_at.ensures.went
+          c.requires.ready c.requires.logged c.in-Err-store_at.ensures.left.0,
+      subst (λ (r : Result Bool CcError). IsFull 4 x r) c.in-Err-store_at.is c.store_at.ensures.full,
+    )
+
+pub returns-in-Err-clause-full : goal.returns-in-Err-clause-full
+returns-in-Err-clause-full g c = inl (inl tt)

@@ -1,8 +1,7 @@
 -- By the step: a page in the way is dirty, and the write admitted, so it may be written for it, and the round is what
 -- that left; any other step is the round.
 use Rattle.std.specs.Prelude.{◌≡◌, ℕ, true, None, Some, refl}
-use Rattle.std.proofs.Common.{ap, sym, ◌∙◌, subst}
-use Rattle.std.proofs.lemmas.Bool.{or_left}
+use Rattle.std.proofs.Common.{ap, sym, ◌∙◌, subst, inl}
 use Rattle.cc_entry.specs.declared.call.Call.TheVariants as call
 use Rattle.cc_effects.specs.Asked.{Calls, may_write}
 use Rattle.cc_model.specs.History.{history}
@@ -15,10 +14,13 @@ use Rattle.cc_writes.specs.Writes.{HasBoth, IsToWrite}
 use Rattle.cc_writes.proofs.Disks.{still_of}
 use Rattle.cc_writes.proofs.Lessening.{went-less}
 use Rattle.cc_writes.proofs.Lessening.{round-wrote as round-wrote-less}
-use Rattle.cc_ranges.specs.WriteHeld.{HasLess, RoundLeft}
+use Rattle.cc_writes.proofs.Nearing.{nearer-went, nearer-wrote}
+use Rattle.cc_writes.specs.Rounds.{course_of}
+use Rattle.cc_ranges.specs.WriteHeld.{IsFullRound, IsNearer, RoundLeft}
 use Rattle.cc_ranges.specs.WriteVisits.{page_in}
 use Rattle.cc_ranges.specs.declared.write_held.Round.{Round}
-use Rattle.cc_ranges.proofs.WriteHolding.{less-round, round-wrote, way-asked}
+use Rattle.cc_ranges.proofs.WriteFull.{full-round}
+use Rattle.cc_ranges.proofs.WriteHolding.{near-round, round-wrote, way-asked}
 use Rattle.cc_ranges.proofs.write_held.advance.Goals as goal
 
 pub write_for-book-requires-clause-both : goal.write_for-book-requires-clause-both
@@ -78,17 +80,18 @@ returns-in-Writes-clause-left g c begun is =
     (round-wrote w v c.args.file c.args.page c.in-Writes.dirty c.next_at.new.book.stream x.seen c.next_at.ensures.book.stream c.next_at.ensures.went c.in-Writes.ensures.asking.in_the_way
     c.write_for-book.result.1 c.write_for-book.ensures.left c.write_for-book.ensures.reason c.write_for-book.ensures.works begun (c.in-Writes.ensures.left begun is))
 
-pub returns-in-GoesOn-clause-lessens : goal.returns-in-GoesOn-clause-lessens
-returns-in-GoesOn-clause-lessens g c kept =
+pub returns-in-GoesOn-clause-nearer : goal.returns-in-GoesOn-clause-nearer
+returns-in-GoesOn-clause-nearer g c =
     let w = g.T.Turns.standing c.args.turns.now in
     let v = g.T.Turns.standing c.next_at.new.turns in
     let it = call.NcWrite c.args.file c.args.page in
-    went-less w c.args.file.stream c.args.book
+    nearer-went c.args.file.stream it it c.args.rounds.now w.seen v.seen
+    (went-less w c.args.file.stream c.args.book
     (subst (λ (n : ℕ). HasBook w n c.args.book) c.requires.stream c.requires.both.book) (c.requires.both.rest.device ∙ ap (λ (n : ℕ). Some n) c.requires.stream)
-    it refl refl v.seen c.in-GoesOn.ensures.placed
+    it refl refl v.seen c.in-GoesOn.ensures.placed)
 
-pub returns-in-Writes-clause-lessens : goal.returns-in-Writes-clause-lessens
-returns-in-Writes-clause-lessens g c kept =
+pub returns-in-Writes-clause-nearer : goal.returns-in-Writes-clause-nearer
+returns-in-Writes-clause-nearer g c =
     let w = g.T.Turns.standing c.args.turns.now in
     let v = g.T.Turns.standing c.next_at.new.turns in
     let file = c.args.file in
@@ -96,14 +99,27 @@ returns-in-Writes-clause-lessens g c kept =
     let n = c.next_at.new.book.stream in
     let dirty = c.in-Writes.dirty in
     let seen = (g.T.Turns.standing c.write_for-book.new.turns).seen in
+    let keeps = c.keeps_for_write-keeps in
     let asking = c.in-Writes.ensures.asking in
     let asked : IsToBeWritten v.setup n it dirty v.seen =
     subst (λ (u : Setup). IsToBeWritten u n it dirty v.seen) (sym (ap (λ (x : Standing). x.setup) c.next_at.ensures.went.same))
     (subst (λ (t : ℕ). IsToBeWritten w.setup t it dirty v.seen) (sym c.next_at.ensures.book.stream)
     (record { admitted = asking.admitted; in_the_way = asking.in_the_way; dirty = asking.to_write.dirty; stamped = asking.to_write.stamped })) in
-    subst (λ (r : Round). HasLess file c.args.page r w.seen seen) (sym c.round_of.ensures)
-    (less-round file c.args.page c.write_for-book.result.1 w.seen seen
-    (round-wrote-less w v file.stream c.args.book c.next_at.new.book
+    subst (λ (r : Round). IsNearer file c.args.page r c.args.rounds.now keeps.new.self w.seen seen) (sym c.round_of.ensures)
+    (near-round file c.args.page c.write_for-book.result.1 c.args.rounds.now keeps.new.self w.seen seen
+    (nearer-wrote file.stream it (course_of c.write_for-book.result.1) c.args.rounds.now keeps.new.self w.seen seen dirty keeps.result
+    keeps.ensures.kept keeps.ensures.stays keeps.ensures.block keeps.ensures.read
+    (λ kept.
+    round-wrote-less w v file.stream c.args.book c.next_at.new.book
     (subst (λ (t : ℕ). HasBook w t c.args.book) c.requires.stream c.requires.both.book) (c.requires.both.rest.device ∙ ap (λ (t : ℕ). Some t) c.requires.stream)
-    it refl refl c.in-Writes.ensures.placed c.next_at.ensures.book c.next_at.ensures.rest.device dirty n c.keeps_for_write-keeps.result c.write_for-book.result.1 seen
-    c.next_at.ensures.book.stream (c.keeps_for_write-keeps.ensures.kept ∙ or_left _ _ kept) asked c.write_for-book.ensures.written))
+    it refl refl c.in-Writes.ensures.placed c.next_at.ensures.book c.next_at.ensures.rest.device dirty n keeps.result c.write_for-book.result.1 seen
+    c.next_at.ensures.book.stream kept asked c.write_for-book.ensures.written)))
+
+pub returns-in-Ended-clause-full : goal.returns-in-Ended-clause-full
+returns-in-Ended-clause-full g c = inl c.in-Ended.ensures.full
+
+pub returns-in-Writes-clause-full : goal.returns-in-Writes-clause-full
+returns-in-Writes-clause-full g c =
+    let x = g.T.Turns.standing c.write_for-book.new.turns in
+    subst (λ (r : Round). IsFullRound c.args.file c.args.page x r) (sym c.round_of.ensures)
+    (full-round c.args.file c.args.page x c.write_for-book.result.1 c.write_for-book.ensures.writing)

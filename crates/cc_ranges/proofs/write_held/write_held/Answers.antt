@@ -1,7 +1,9 @@
 -- A page for which room was made is written as a page that is ready; a write that failed before is turned away.
 use Rattle.std.specs.Prelude.{Result}
-use Rattle.std.proofs.Common.{subst}
+use Rattle.std.proofs.Common.{subst, inl}
+use Rattle.cc_entry.specs.declared.call.Call.TheVariants as call
 use Rattle.cc_entry.specs.declared.error.CcError.{CcError}
+use Rattle.cc_writes.specs.Calls.{IsFullWriting}
 use Rattle.cc_ranges.specs.WriteHeld.{RoomLeft}
 use Rattle.cc_ranges.specs.WriteVisits.{page_in}
 use Rattle.cc_ranges.proofs.TidyEnds.{tidy-went}
@@ -30,3 +32,7 @@ returns-in-Ok-clause-tidy g c =
     let way = subst (λ (r : Result (Unit {0}) CcError). RoomLeft w.setup w.number c.args.file c.args.page r w.seen x.seen) c.in-Ok.is (c.make_room-book.ensures.left w.seen (begins-writing w.number c.args.file c.args.page w.seen)) in
     tidy-went w.in_flight w x c.args.file (page_in c.args.file c.args.page) c.write_ready.result.1 (g.T.Turns.standing c.write_ready.new.turns).seen c.make_room-book.ensures.went
     (way.way.during, way.way.grew) c.write_ready.ensures.tidy
+
+pub returns-in-Err-clause-full : goal.returns-in-Err-clause-full
+returns-in-Err-clause-full g c =
+    inl (subst (λ (r : Result (Unit {0}) CcError). IsFullWriting (call.NcWrite c.args.file c.args.page) (g.T.Turns.standing c.make_room-book.new.turns) r) c.in-Err.is c.make_room-book.ensures.full)

@@ -1,7 +1,7 @@
 -- A log that was flushed leaves the page ready and logged, so it may be put; a log that failed halts the write; want of
 -- room or memory turns it away.
 use Rattle.std.specs.Prelude.{◌≡◌, ℕ, false, Result, Ok, OnOk, List}
-use Rattle.std.proofs.Common.{ap, sym, ◌∙◌, subst}
+use Rattle.std.proofs.Common.{ap, sym, ◌∙◌, subst, inl}
 use Rattle.cc_entry.specs.Place.{Page}
 use Rattle.cc_entry.specs.declared.call.Call.TheVariants as call
 use Rattle.cc_entry.specs.declared.entry.Entry.{Entry}
@@ -12,7 +12,7 @@ use Rattle.cc_effects.proofs.Starts.{begins}
 use Rattle.cc_model.specs.History.{history}
 use Rattle.cc_model.specs.Stamps.{is_unstamped}
 use Rattle.cc_writes.specs.Hands.{HasBook}
-use Rattle.cc_writes.specs.Ways.{IsAtWork, IsHalted}
+use Rattle.cc_writes.specs.Ways.{IsAtWork, IsFull, IsHalted}
 use Rattle.cc_writes.proofs.Resting.{rest-went}
 use Rattle.cc_writes.specs.Logs.{FlushLeft}
 use Rattle.cc_writes.specs.Writes.{HasBoth}
@@ -22,7 +22,7 @@ use Rattle.cc_writes.proofs.Disks.{both_still}
 use Rattle.cc_writes.proofs.Numbered.{same-place}
 use Rattle.cc_ranges.specs.Ends.{IsTidyEnd}
 use Rattle.cc_ranges.specs.Pages.{PutLeft}
-use Rattle.cc_ranges.specs.Stores.{IsReadyToStore}
+use Rattle.cc_ranges.specs.Stores.{IsFullStoring, IsReadyToStore}
 use Rattle.cc_ranges.specs.WriteVisits.{page_in}
 use Rattle.cc_ranges.proofs.WriteReady.{both-after, failed-left, halted-after, put-left-since, ready-after, ready-numbered, stamped-page, turned-after}
 use Rattle.cc_ranges.proofs.TidyEnds.{flushed-behind, tidy-went}
@@ -189,3 +189,16 @@ returns-in-Ok-Reached-clause-tidy g c =
     let y = g.T.Turns.standing c.put_page.new.turns in
     tidy-went w.in_flight w x file (page_in file c.args.page) c.put_page.result.1 y.seen c.flush_log.ensures.went (flushed-behind w page x.seen reached.0)
     (subst (λ (q : Page). OnOk c.put_page.result.1 (IsTidyEnd x.setup x.most_others x.number file q x.seen y.seen)) same c.put_page.ensures.tidy)
+
+pub returns-in-Ok-Reached-clause-full : goal.returns-in-Ok-Reached-clause-full
+returns-in-Ok-Reached-clause-full g c =
+    let page = c.unwrap-stored.result in
+    let same : page ≡ page_in c.args.file c.args.page = same-place c.new.result page c.stream.result c.args.file.stream c.args.page c.unwrap-stored.ensures c.new.ensures.stream c.new.ensures.page c.stream.ensures in
+    subst (λ (q : Page). IsFullStoring c.args.file q (g.T.Turns.standing c.put_page.new.turns) c.put_page.result.1) same c.put_page.ensures.full
+
+pub returns-in-Ok-Failed-clause-full : goal.returns-in-Ok-Failed-clause-full
+returns-in-Ok-Failed-clause-full g c = inl (inl c.fail_at-error.ensures.full)
+
+pub returns-in-Err-clause-full : goal.returns-in-Err-clause-full
+returns-in-Err-clause-full g c =
+    inl (inl (subst (λ (r : Result LogFlush CcError). IsFull 1 (g.T.Turns.standing c.flush_log.new.turns) r) c.in-Err.is c.flush_log.ensures.full))
