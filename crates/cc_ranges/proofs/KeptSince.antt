@@ -23,7 +23,7 @@ use Rattle.cc_laws.proofs.HistorySteps.{history-write_begin, history-write_begin
 use Rattle.cc_laws.proofs.ImageSteps.{open_of-done, open_of-came_in, open_of-went_out, open_of-began, open_of-ended, open_of-synced, begun-done, begun-came_in, begun-went_out, begun-began_page, begun-synced, image-done, image-came_in, image-went_out, image-began, image-ended_good, image-ended_bad, image-ended_other, image-synced, crash_pages-done, crash_pages-came_in, crash_pages-went_out, crash_pages-began_page, crash_pages-began_other, crash_pages-ended, crash_pages-synced_known, crash_pages-synced_unknown, crash_pages-synced_bad}
 use Rattle.cc_laws.proofs.QuietSteps.{none_or}
 use Rattle.cc_ranges.specs.Crash.{IsBegunSince, IsKeptSince}
-use Rattle.cc_turns.proofs.DiskSynced.{only_one}
+use Rattle.cc_turns.proofs.RecordPage.{only_one}
 use Rattle.cc_turns.proofs.Keeping.{of_own}
 
 -- what stands in a stretch stands in a longer one

@@ -16,6 +16,8 @@ use Rattle.cc_laws.proofs.QuietSteps.{eqb-swapped, is_quiet-first, is_quiet-rest
 use Rattle.cc_effects.specs.Failures.{failures, is_failure}
 use Rattle.cc_turns.specs.Standing.{DiskAtFirst}
 use Rattle.cc_turns.specs.Disk.{DiskStands, HasGone, all_ended_well, is_transferred}
+use Rattle.cc_turns.specs.RecordPage.{RecordHasGone}
+use Rattle.cc_turns.proofs.RecordPage.{record-quiet, record_gone-same}
 
 -- an entry that does not need the disk shows no failure of it
 is_failure-unneeded : (e : Entry) (s : ℕ) → needs e (Device s) ≡ false → is_failure s e ≡ false
@@ -47,11 +49,11 @@ open_of-quiet later past s quiet = (SameImages-deviceless later past s quiet).sa
 -- what has gone with a history has gone with one of the same images and crashes
 pub has_gone_same : (h g : List Effect) (opening now : Disk) → SameImages g h → SameCrash g h → ((p : ℕ) → all_ended_well g p ≡ all_ended_well h p) → HasGone h opening now → HasGone g opening now
 has_gone_same h g opening now images crash ended gone = record {
-  images = λ p bytes is. gone.images p bytes (sym (images.same_image (page_of opening) p) ∙ is);
+  images = λ p bytes apart is. gone.images p bytes apart (sym (images.same_image (page_of opening) p) ∙ is);
   among = gone.among;
-  crash = λ p content alone among. rw (crash.same_crash (page_of opening) p) (gone.crash p content alone among);
-  exact = λ p alone free well.
-      gone.exact p alone (ap (λ t. is_transferred t p) (sym images.same_transfer) ∙ free) (sym (ended p) ∙ well)
+  crash = λ p content apart alone among. rw (crash.same_crash (page_of opening) p) (gone.crash p content apart alone among);
+  exact = λ p apart alone free well.
+      gone.exact p apart alone (ap (λ t. is_transferred t p) (sym images.same_transfer) ∙ free) (sym (ended p) ∙ well)
       ∙ sym (crash.same_crash (page_of opening) p);
 }
 
@@ -68,5 +70,7 @@ disk_grows told faults first later past s disk quiet stands = record {
       (λ opening now. has_gone_same (history past s) (history (later ++ past) s) opening now
       (SameImages-deviceless later past s quiet) (SameCrash-deviceless later past s quiet)
       (λ p. all_ended_well-quiet later past s p quiet)) stands.has_gone;
+  record_has_gone = both_same (RecordHasGone past s) (RecordHasGone (later ++ past) s) first.told (told disk)
+      (λ opening now. record_gone-same past (later ++ past) s opening now (record-quiet later past s quiet)) stands.record_has_gone;
   counted = rw (failures-quiet later past s quiet) stands.counted;
 }

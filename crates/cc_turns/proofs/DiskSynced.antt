@@ -1,10 +1,10 @@
 -- What a sync leaves of its disk.
-use Rattle.std.specs.Prelude.{◌≡◌, ℕ, ◌+◌, ◌<◌, Bool, true, false, not, ◌||◌, ◌==◌, List, [], ◌∷◌, ◌++◌, Contains, Result, Ok, Err, ◌⊎◌, OnOk, OnErr, refl}
+use Rattle.std.specs.Prelude.{◌≡◌, ℕ, ◌+◌, ◌<◌, Bool, true, false, not, ◌||◌, ◌==◌, List, [], ◌∷◌, ◌++◌, Contains, Result, Ok, Err, OnOk, OnErr, refl}
 use Rattle.std.specs.declared.option.Option.{Option}
 use Rattle.std.specs.declared.option.Option.TheVariants.{Some, None}
-use Rattle.std.proofs.Common.{arith, sym, ap, subst, ◌∙◌, inl, inr}
+use Rattle.std.proofs.Common.{arith, sym, ap, subst, ◌∙◌}
 use Rattle.std.proofs.lemmas.Bool.{eq-eqb, and_parts}
-use Rattle.std.proofs.lemmas.List.Elements.{Contains-push, Contains-push_cases}
+use Rattle.std.proofs.lemmas.List.Elements.{Contains-push}
 use Rattle.cc_entry.specs.declared.entry.Entry.{Entry}
 use Rattle.cc_entry.specs.declared.entry.Entry.TheVariants as entry
 use Rattle.cc_entry.specs.declared.entry.End.{End}
@@ -25,7 +25,9 @@ use Rattle.cc_model.specs.Sizes.{ended_ok}
 use Rattle.cc_model.specs.Turns.{Device, is_quiet}
 use Rattle.cc_turns.specs.Standing.{DiskAtFirst}
 use Rattle.cc_turns.specs.Disk.{DiskStands, HasGone, all_ended_well}
+use Rattle.cc_turns.specs.RecordPage.{record_number, RecordHasGone}
 use Rattle.cc_turns.proofs.DiskGrows.{disk_grows, has_gone_same}
+use Rattle.cc_turns.proofs.RecordPage.{only_one, record-left, record_gone-same, record_gone-synced}
 use Rattle.cc_turns.specs.Transfers.{end_of, faults_by, synced}
 use Rattle.cc_turns.proofs.Keeping.{both_so}
 use Rattle.cc_turns.proofs.PageWritten.{both_through, faults_by-end}
@@ -53,37 +55,29 @@ known pages (Ended pass page how ∷ h) p well =
     go false other before = before
 known pages (Synced pass how ∷ h) p well = known pages h p well
 
--- a list of one content has no other
-pub only_one : (bytes content : List ℕ) → Contains (bytes ∷ []) content → bytes ≡ content
-only_one bytes content among = go (Contains-push_cases [] bytes content among)
-  where
-    go : Contains [] content ⊎ (bytes ≡ content) → bytes ≡ content
-    go (inl none) = let below : none.0 < 0 = none.1 in absurd (omega (arith, below))
-    go (inr same) = same
-
 -- A good sync left the disk that stands for it,
 gone_settled : (h : List Effect) (pass : ℕ) (opening old new : Disk) → Settled old new → HasGone h opening old → HasGone (Synced pass end.Good ∷ h) opening new
 unfolding all_ended_well
 gone_settled h pass opening old new settled gone = record {
-  images = λ p bytes is. settled.holds p ∙ gone.images p bytes (sym (image-synced (page_of opening) pass end.Good h p) ∙ is);
-  among = λ p alone. rw (settled.may p, settled.holds p) (Contains-push [] (page_of old p));
-  crash = λ p content alone among.
-      crash p content alone (only_one (page_of old p) content (subst (λ contents. Contains contents content) (settled.may p) among))
+  images = λ p bytes apart is. settled.holds p ∙ gone.images p bytes apart (sym (image-synced (page_of opening) pass end.Good h p) ∙ is);
+  among = λ p apart alone. rw (settled.may p, settled.holds p) (Contains-push [] (page_of old p));
+  crash = λ p content apart alone among.
+      crash p content apart alone (only_one (page_of old p) content (subst (λ contents. Contains contents content) (settled.may p) among))
       (image (page_of opening) h p) refl;
-  exact = λ p alone free well.
+  exact = λ p apart alone free well.
       let image_is = known (page_of opening) h p well in
       settled.may p
-      ∙ (ap (λ bytes. bytes ∷ []) (gone.images p image_is.0 image_is.1)
+      ∙ (ap (λ bytes. bytes ∷ []) (gone.images p image_is.0 apart image_is.1)
       ∙ sym (crash_pages-synced_known (page_of opening) pass end.Good h p image_is.0 refl image_is.1));
 }
   where
-    crash : (p : ℕ) (content : List ℕ) → may_of opening p ≡ page_of opening p ∷ [] → page_of old p ≡ content → (o : Option (List ℕ)) → image (page_of opening) h p ≡ o → Contains (crash_pages (page_of opening) (Synced pass end.Good ∷ h) p) content
-    crash p content alone same None unknown =
+    crash : (p : ℕ) (content : List ℕ) → (p == record_number) ≡ false → may_of opening p ≡ page_of opening p ∷ [] → page_of old p ≡ content → (o : Option (List ℕ)) → image (page_of opening) h p ≡ o → Contains (crash_pages (page_of opening) (Synced pass end.Good ∷ h) p) content
+    crash p content apart alone same None unknown =
         rw (crash_pages-synced_unknown (page_of opening) pass end.Good h p refl unknown)
-        (gone.crash p content alone (subst (λ bytes. Contains (may_of old p) bytes) same (gone.among p alone)))
-    crash p content alone same (Some bytes) is =
+        (gone.crash p content apart alone (subst (λ bytes. Contains (may_of old p) bytes) same (gone.among p apart alone)))
+    crash p content apart alone same (Some bytes) is =
         rw (crash_pages-synced_known (page_of opening) pass end.Good h p bytes refl is)
-        (subst (λ held. Contains (bytes ∷ []) held) (sym (gone.images p bytes is) ∙ same) (Contains-push [] bytes))
+        (subst (λ held. Contains (bytes ∷ []) held) (sym (gone.images p bytes apart is) ∙ same) (Contains-push [] bytes))
 
 -- and one that was not good did too, with the disk as it was.
 gone_unsettled : (h : List Effect) (pass : ℕ) (how : End) (opening now : Disk) → ended_ok how ≡ false → HasGone h opening now → HasGone (Synced pass how ∷ h) opening now
@@ -103,6 +97,23 @@ both_synced h pass (Err stop.NoMemory) first old new settled same gone =
     subst (λ now. Both first now (HasGone (Synced pass end.NoMemory ∷ h))) (sym same)
     (both_so (HasGone h) (HasGone (Synced pass end.NoMemory ∷ h)) first old (λ x y is stood. gone_unsettled h pass end.NoMemory x y refl stood) gone)
 
+-- So has the record page.
+record_unsettled : (past : List Entry) (pass s : ℕ) (how : End) (first old new : Option Disk) → ended_ok how ≡ false → new ≡ old → Both first old (RecordHasGone past s) → Both first new (RecordHasGone (entry.Sync pass s how ∷ past) s)
+record_unsettled past pass s how first old new bad same gone =
+    subst (λ now. Both first now (RecordHasGone (entry.Sync pass s how ∷ past) s)) (sym same)
+    (both_so (RecordHasGone past s) (RecordHasGone (entry.Sync pass s how ∷ past) s) first old
+    (λ x y is. record_gone-same past (entry.Sync pass s how ∷ past) s x y (record-left (entry.Sync pass s how) past s (rw (eq-eqb s s refl, bad) refl)))
+    gone)
+
+record_synced : (past : List Entry) (pass s : ℕ) (answered : Result (Unit {0}) Stop) (first old new : Option Disk) → OnOk answered (Both old new Settled) → OnErr answered (new ≡ old) → Both first old (RecordHasGone past s) → Both first new (RecordHasGone (entry.Sync pass s (end_of answered) ∷ past) s)
+record_synced past pass s (Ok done) first old new settled same gone =
+    both_through (RecordHasGone past s) Settled (RecordHasGone (entry.Sync pass s end.Good ∷ past) s) first old new
+    (λ x y z is stood it. record_gone-synced past pass s x y z it stood) gone settled
+record_synced past pass s (Err stop.Failed) first old new settled same gone =
+    record_unsettled past pass s end.Failed first old new refl same gone
+record_synced past pass s (Err stop.NoMemory) first old new settled same gone =
+    record_unsettled past pass s end.NoMemory first old new refl same gone
+
 -- a sync shows a failure of its disk where its end says so
 failures-synced : (pass s : ℕ) (how : End) (past : List Entry) → failures s (entry.Sync pass s how ∷ past) ≡ failures s past + faults_by how
 unfolding failures
@@ -117,6 +128,7 @@ DiskStands-synced told faults first past later s pass answered old new settled s
     record {
       has_gone = rw (history-sync pass s (end_of answered) (later ++ past) s (eq-eqb s s refl))
           (both_synced (history (later ++ past) s) pass answered first.told (told old) (told new) settled same stood.has_gone);
+      record_has_gone = record_synced (later ++ past) pass s answered first.told (told old) (told new) settled same stood.record_has_gone;
       counted =
           let was = stood.counted in
           let told_by = faults_by-end answered in

@@ -27,10 +27,12 @@ use Rattle.cc_model.specs.Room.{reserved_in, stores_unfinished}
 use Rattle.cc_model.specs.Setup.{Setup as ModelSetup}
 use Rattle.cc_turns.specs.Standing.{nothing}
 use Rattle.cc_turns.specs.Disk.{HasGone}
+use Rattle.cc_turns.specs.RecordPage.{RecordHasGone}
 use Rattle.cc_turns.specs.Log.{FileStands, log_failures}
 use Rattle.cc_turns.specs.Places.{AreHome, IsRoomFor}
 use Rattle.cc_turns.specs.Desk.{Begun, DeskState, DeskStands, Tells, DiskIsHome, BookIsHome, LogIsHome, DisksEnded, LogsEnded, IsNew, made_from, openings, log_at_first}
 use Rattle.cc_turns.proofs.Capacity.{within_none}
+use Rattle.cc_turns.proofs.RecordPage.{record_gone-none}
 use Rattle.cc_turns.proofs.RowSteps.{all_at_home}
 
 -- the empty journal is good, and owes nothing
@@ -47,19 +49,23 @@ gone_none : (now : Option Disk) → Both now now (HasGone [])
 unfolding image crash_pages
 gone_none None = tt
 gone_none (Some disk) = record {
-  images = λ p bytes is. one (page_of disk p) bytes is;
-  among = λ p alone. subst (λ contents. Contains contents (page_of disk p)) (sym alone) (Contains-push [] (page_of disk p));
-  crash = λ p content alone among. subst (λ contents. Contains contents content) alone among;
-  exact = λ p alone free well. alone;
+  images = λ p bytes apart is. one (page_of disk p) bytes is;
+  among = λ p apart alone. subst (λ contents. Contains contents (page_of disk p)) (sym alone) (Contains-push [] (page_of disk p));
+  crash = λ p content apart alone among. subst (λ contents. Contains contents content) alone among;
+  exact = λ p apart alone free well. alone;
 }
   where
     one : (a b : List ℕ) → Some a ≡ Some b → a ≡ b
     one a b is = cc
 
+record_none : (s : ℕ) (now : Option Disk) → Both now now (RecordHasGone [] s)
+record_none s None = tt
+record_none s (Some disk) = record_gone-none s disk
+
 disk_fresh : {D : Type 0} (told : D → Option Disk) (faults : D → ℕ) (disks : List D) (s : ℕ) (disk : D) → slice_get disks s ≡ Some disk → DiskIsHome told faults disks [] s disk
 unfolding history failures open_of
 disk_fresh told faults disks s disk is = record {
-  stands = rw is (record { has_gone = gone_none (told disk); counted = omega arith });
+  stands = rw is (record { has_gone = gone_none (told disk); record_has_gone = record_none s (told disk); counted = omega arith });
   at_rest = refl;
 }
 

@@ -21,7 +21,9 @@ use Rattle.cc_laws.proofs.QuietSteps.{none_or}
 use Rattle.cc_effects.specs.Failures.{failures, is_failure}
 use Rattle.cc_turns.specs.Standing.{DiskAtFirst}
 use Rattle.cc_turns.specs.Disk.{DiskStands, HasGone, all_ended_well, is_transferred}
+use Rattle.cc_turns.specs.RecordPage.{RecordHasGone}
 use Rattle.cc_turns.specs.Transfers.{leaves_transfer}
+use Rattle.cc_turns.proofs.RecordPage.{leaves_record, record-left, record_gone-same}
 
 -- Whether an entry touches no image of the stream's disk and no failure of it. All do but these of the stream itself:
 -- a fill that failed, the begin and the end of a transfer, and a sync, unless it found no memory.
@@ -167,6 +169,12 @@ leaves_disk-transfer (entry.Sync pass stream how) s left = go (stream == s) how 
     go true end.NoMemory left = refl
 leaves_disk-transfer other s left = refl
 
+-- and the record page
+leaves_disk-record : (e : Entry) (s : ℕ) → leaves_disk s e ≡ true → leaves_record s e ≡ true
+leaves_disk-record (entry.Sync pass stream how) s left = leaves_disk-transfer (entry.Sync pass stream how) s left
+leaves_disk-record (entry.Record pass stream size valid how) s left = left
+leaves_disk-record other s left = refl
+
 -- what holds of what was told at first and is told now, as far as something is
 pub both_so : {A : Type 0} (P Q : A → A → Type 0) (first now : Option A) → ((x y : A) → first ≡ Some x → P x y → Q x y) → Both first now P → Both first now Q
 both_so P Q None None so both = both
@@ -179,12 +187,12 @@ gone_on : (e : Entry) (past : List Entry) (s : ℕ) (opening now : Disk) → lea
 gone_on e past s opening now left gone =
     let pages = page_of opening in
     record {
-      images = λ p bytes is. gone.images p bytes (sym (kept_by_entry (λ h. image pages h p) (image-left pages p) e past s left) ∙ is);
+      images = λ p bytes apart is. gone.images p bytes apart (sym (kept_by_entry (λ h. image pages h p) (image-left pages p) e past s left) ∙ is);
       among = gone.among;
-      crash = λ p content alone among.
-          rw (kept_by_entry (λ h. crash_pages pages h p) (crash_pages-left pages p) e past s left) (gone.crash p content alone among);
-      exact = λ p alone free well.
-          gone.exact p alone
+      crash = λ p content apart alone among.
+          rw (kept_by_entry (λ h. crash_pages pages h p) (crash_pages-left pages p) e past s left) (gone.crash p content apart alone among);
+      exact = λ p apart alone free well.
+          gone.exact p apart alone
           (ap (λ t. is_transferred t p) (sym (kept_by_entry open_of open_of-left e past s left)) ∙ free)
           (sym (kept_by_entry (λ h. all_ended_well h p) (all_ended_well-left p) e past s left) ∙ well)
           ∙ sym (kept_by_entry (λ h. crash_pages pages h p) (crash_pages-left pages p) e past s left);
@@ -195,5 +203,7 @@ pub DiskStands-kept : {D : Type 0} (told : D → Option Disk) (faults : D → �
 DiskStands-kept told faults first e past s disk left stands = record {
   has_gone = both_so (HasGone (history past s)) (HasGone (history (e ∷ past) s)) first.told (told disk)
       (λ opening now is. gone_on e past s opening now (leaves_disk-transfer e s left)) stands.has_gone;
+  record_has_gone = both_so (RecordHasGone past s) (RecordHasGone (e ∷ past) s) first.told (told disk)
+      (λ opening now is. record_gone-same past (e ∷ past) s opening now (record-left e past s (leaves_disk-record e s left))) stands.record_has_gone;
   counted = rw (failures-kept e past s left) stands.counted;
 }

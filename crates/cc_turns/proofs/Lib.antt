@@ -1,6 +1,7 @@
 -- Lemmas of turns, and of reads, transfers and syncs, each before those that cite it.
 pub mod Capacity
 pub mod BookGrows
+pub mod RecordPage
 pub mod DiskGrows
 pub mod LogGrows
 pub mod Homes

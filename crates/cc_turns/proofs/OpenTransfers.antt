@@ -21,6 +21,8 @@ use Rattle.cc_model.specs.Images.{Transfer, open_of, crash_pages}
 use Rattle.cc_model.specs.Turns.{Device, needs, is_quiet}
 use Rattle.cc_turns.specs.Standing.{DiskAtFirst}
 use Rattle.cc_turns.specs.Disk.{DiskStands, HasGone, all_ended_well, is_transferred}
+use Rattle.cc_turns.specs.RecordPage.{RecordHasGone}
+use Rattle.cc_turns.proofs.RecordPage.{record-left, record_gone-same}
 use Rattle.cc_turns.specs.Transfers.{CanTransfer, IsUnderWay, fill_failed, leaves_transfer}
 use Rattle.cc_turns.proofs.Keeping.{DiskStands-kept, both_so, kept_by_entries, leaves_disk, leaves_disk-transfer, open_of-left}
 
@@ -37,11 +39,11 @@ all_ended_well-began pass page h p = refl
 -- A begin leaves what the disk holds; a crash may leave what it could before.
 gone_begun : (h : List Effect) (pass page : ℕ) (opening now : Disk) → open_of h ≡ None → HasGone h opening now → HasGone (Began pass page ∷ h) opening now
 gone_begun h pass page opening now at_rest gone = record {
-  images = λ p bytes is. gone.images p bytes (sym (image-began (page_of opening) pass page h p) ∙ is);
+  images = λ p bytes apart is. gone.images p bytes apart (sym (image-began (page_of opening) pass page h p) ∙ is);
   among = gone.among;
-  crash = λ p content alone among. crash p content (gone.crash p content alone among) (page == p) refl;
-  exact = λ p alone free well.
-      gone.exact p alone (is_transferred-none (open_of h) p at_rest) (sym (all_ended_well-began pass page h p) ∙ well)
+  crash = λ p content apart alone among. crash p content (gone.crash p content apart alone among) (page == p) refl;
+  exact = λ p apart alone free well.
+      gone.exact p apart alone (is_transferred-none (open_of h) p at_rest) (sym (all_ended_well-began pass page h p) ∙ well)
       ∙ sym (crash_pages-began_other (page_of opening) pass page h p (ap (λ t. is_transferred t p) (sym (open_of-began pass page h)) ∙ free));
 }
   where
@@ -58,6 +60,10 @@ DiskStands-begun told faults first before pass s page disk at_rest stands = reco
   has_gone = rw (history-write_begin pass (record { stream = s; page = page }) before s (eq-eqb s s refl))
       (both_so (HasGone (history before s)) (HasGone (Began pass page ∷ history before s)) first.told (told disk)
       (λ opening now is. gone_begun (history before s) pass page opening now at_rest) stands.has_gone);
+  record_has_gone =
+      let begin : Entry = entry.WriteBegin pass (record { stream = s; page = page }) in
+      both_so (RecordHasGone before s) (RecordHasGone (begin ∷ before) s) first.told (told disk)
+      (λ opening now is. record_gone-same before (begin ∷ before) s opening now (record-left begin before s refl)) stands.record_has_gone;
   counted = stands.counted;
 }
 
@@ -133,6 +139,7 @@ module _ {D : Type 0} (told : D → Option Disk) (faults : D → ℕ) (first : D
     left = way.left;
     can = record {
       stands = kept first way.before s way.can.stands;
+      numbered = way.can.numbered;
       at_rest = way.can.at_rest;
       whole = way.can.whole;
       bytes_are = way.can.bytes_are;

@@ -1,5 +1,5 @@
 -- What a transfer leaves of its disk.
-use Rattle.std.specs.Prelude.{◌≡◌, ℕ, ◌+◌, ◌*◌, ◌<◌, Bool, true, false, not, ◌||◌, ◌==◌, List, [], ◌∷◌, ◌++◌, length, map, slice_index, Contains, Result, Ok, Err, ◌⊎◌, OnOk, refl, if◌then◌else◌}
+use Rattle.std.specs.Prelude.{◌≡◌, ℕ, ◌+◌, ◌*◌, ◌^◌, ◌<◌, Bool, true, false, not, ◌||◌, ◌==◌, List, [], ◌∷◌, ◌++◌, length, map, slice_index, Contains, Result, Ok, Err, ◌⊎◌, OnOk, refl, if◌then◌else◌}
 use Rattle.std.specs.declared.option.Option.{Option}
 use Rattle.std.specs.declared.option.Option.TheVariants.{Some, None}
 use Rattle.std.proofs.Common.{arith, sym, ap, subst, ◌∙◌, inl, inr}
@@ -27,8 +27,10 @@ use Rattle.cc_model.specs.Images.{open_of, begun, image, crash_pages}
 use Rattle.cc_model.specs.Sizes.{ended_ok}
 use Rattle.cc_turns.specs.Standing.{DiskAtFirst}
 use Rattle.cc_turns.specs.Disk.{DiskStands, HasGone, all_ended_well, opening_of}
+use Rattle.cc_turns.specs.RecordPage.{record_number, RecordHasGone}
 use Rattle.cc_turns.specs.Transfers.{IsUnderWay, end_of, faults_by, leaves_transfer}
 use Rattle.cc_turns.proofs.Keeping.{both_so, kept_by_entries, image-left, crash_pages-left, all_ended_well-left, begun-left}
+use Rattle.cc_turns.proofs.RecordPage.{record-left, record_gone-same, record_gone-wrote, record_gone-failed}
 use Rattle.cc_turns.proofs.OpenTransfers.{all_ended_well-began, is_transferred-none}
 
 -- A transfer of a page is under way, on a disk that stood for what was before its begin: h is the history then, g the
@@ -72,17 +74,17 @@ contains_onto xs ys last x so among = go (Contains-append_cases xs (last ∷ [])
     go (inr is) = Contains-append_right ys (last ∷ []) x is
 
 -- what a crash can leave of a page after the write, the stream allows
-crash-added : {h g : List Effect} {page : ℕ} {bytes : List ℕ} {opening old : Disk} (new : Disk) → UnderWay h g page bytes opening old → Adds page bytes old new → (pass : ℕ) (how : End) (p : ℕ) (content : List ℕ) → may_of opening p ≡ page_of opening p ∷ [] → Contains (may_of new p) content → Contains (crash_pages (page_of opening) (Ended pass page how ∷ g) p) content
-crash-added {h = h} {g = g} {page = page} {bytes = bytes} {opening = opening} {old = old} new way adds pass how p content alone among = go (page == p) refl
+crash-added : {h g : List Effect} {page : ℕ} {bytes : List ℕ} {opening old : Disk} (new : Disk) → UnderWay h g page bytes opening old → Adds page bytes old new → (pass : ℕ) (how : End) (p : ℕ) (content : List ℕ) → (p == record_number) ≡ false → may_of opening p ≡ page_of opening p ∷ [] → Contains (may_of new p) content → Contains (crash_pages (page_of opening) (Ended pass page how ∷ g) p) content
+crash-added {h = h} {g = g} {page = page} {bytes = bytes} {opening = opening} {old = old} new way adds pass how p content apart alone among = go (page == p) refl
   where
     go : (b : Bool) → (page == p) ≡ b → Contains (crash_pages (page_of opening) (Ended pass page how ∷ g) p) content
     go true same =
         rw (crash-page way pass p how same)
-        (contains_onto (may_of old p) (crash_pages (page_of opening) h p) bytes content (way.gone.crash p content alone)
+        (contains_onto (may_of old p) (crash_pages (page_of opening) h p) bytes content (way.gone.crash p content apart alone)
         (subst (λ contents. Contains contents content) (may-page page p bytes old new adds same) among))
     go false other =
         rw (crash-other way pass p how other)
-        (way.gone.crash p content alone (subst (λ contents. Contains contents content) (may-other page p bytes old new adds other) among))
+        (way.gone.crash p content apart alone (subst (λ contents. Contains contents content) (may-other page p bytes old new adds other) among))
 
 -- where with this end all transfers of a page ended well, those before did, and it did if it is of the page
 ended_before : (pass page : ℕ) (how : End) (g : List Effect) (p : ℕ) → all_ended_well (Ended pass page how ∷ g) p ≡ true → all_ended_well g p ≡ true
@@ -95,10 +97,10 @@ ended_now pass page how g p same well =
     ap (λ b. not b || ended_ok how) (sym same) ∙ (and_parts (not (page == p) || ended_ok how) (all_ended_well g p) well).0
 
 -- where the write added the bytes, just that can be left of a page whose transfers all ended well
-exact-added : {h g : List Effect} {page : ℕ} {bytes : List ℕ} {opening old : Disk} (new : Disk) → UnderWay h g page bytes opening old → Adds page bytes old new → (pass : ℕ) (how : End) (p : ℕ) → may_of opening p ≡ page_of opening p ∷ [] → all_ended_well (Ended pass page how ∷ g) p ≡ true → may_of new p ≡ crash_pages (page_of opening) (Ended pass page how ∷ g) p
-exact-added {h = h} {g = g} {page = page} {bytes = bytes} {opening = opening} {old = old} new way adds pass how p alone well =
+exact-added : {h g : List Effect} {page : ℕ} {bytes : List ℕ} {opening old : Disk} (new : Disk) → UnderWay h g page bytes opening old → Adds page bytes old new → (pass : ℕ) (how : End) (p : ℕ) → (p == record_number) ≡ false → may_of opening p ≡ page_of opening p ∷ [] → all_ended_well (Ended pass page how ∷ g) p ≡ true → may_of new p ≡ crash_pages (page_of opening) (Ended pass page how ∷ g) p
+exact-added {h = h} {g = g} {page = page} {bytes = bytes} {opening = opening} {old = old} new way adds pass how p apart alone well =
     go (page == p) refl
-    (way.gone.exact p alone (is_transferred-none (open_of h) p way.at_rest) (sym (way.well p) ∙ ended_before pass page how g p well))
+    (way.gone.exact p apart alone (is_transferred-none (open_of h) p way.at_rest) (sym (way.well p) ∙ ended_before pass page how g p well))
   where
     go : (b : Bool) → (page == p) ≡ b → may_of old p ≡ crash_pages (page_of opening) h p → may_of new p ≡ crash_pages (page_of opening) (Ended pass page how ∷ g) p
     go true same exact =
@@ -107,9 +109,9 @@ exact-added {h = h} {g = g} {page = page} {bytes = bytes} {opening = opening} {o
     go false other exact = may-other page p bytes old new adds other ∙ (exact ∙ sym (crash-other way pass p how other))
 
 -- the image of another page is as it was
-image-other : {h g : List Effect} {page : ℕ} {bytes : List ℕ} {opening old : Disk} → UnderWay h g page bytes opening old → (pass : ℕ) (how : End) (p : ℕ) (content : List ℕ) → (page == p) ≡ false → image (page_of opening) (Ended pass page how ∷ g) p ≡ Some content → page_of old p ≡ content
-image-other {g = g} {page = page} {opening = opening} way pass how p content other is =
-    way.gone.images p content (sym (way.images p) ∙ (sym (image-ended_other (page_of opening) pass page how g p other) ∙ is))
+image-other : {h g : List Effect} {page : ℕ} {bytes : List ℕ} {opening old : Disk} → UnderWay h g page bytes opening old → (pass : ℕ) (how : End) (p : ℕ) (content : List ℕ) → (p == record_number) ≡ false → (page == p) ≡ false → image (page_of opening) (Ended pass page how ∷ g) p ≡ Some content → page_of old p ≡ content
+image-other {g = g} {page = page} {opening = opening} way pass how p content apart other is =
+    way.gone.images p content apart (sym (way.images p) ∙ (sym (image-ended_other (page_of opening) pass page how g p other) ∙ is))
 
 same_some : (xs ys : List ℕ) → Some xs ≡ Some ys → xs ≡ ys
 same_some xs ys e = cc
@@ -117,27 +119,27 @@ same_some xs ys e = cc
 -- A write that ended well left the disk that stands for the end.
 gone_wrote : {h g : List Effect} {page : ℕ} {bytes : List ℕ} {opening old new : Disk} → UnderWay h g page bytes opening old → Wrote page bytes old new → (pass : ℕ) → HasGone (Ended pass page end.Good ∷ g) opening new
 gone_wrote {h = h} {g = g} {page = page} {bytes = bytes} {opening = opening} {old = old} {new = new} way wrote pass = record {
-  images = λ p content is. images p content is (page == p) refl;
-  among = λ p alone. among p alone (page == p) refl;
+  images = λ p content apart is. images p content apart is (page == p) refl;
+  among = λ p apart alone. among p apart alone (page == p) refl;
   crash = crash-added new way wrote.may pass end.Good;
-  exact = λ p alone free well. exact-added new way wrote.may pass end.Good p alone well;
+  exact = λ p apart alone free well. exact-added new way wrote.may pass end.Good p apart alone well;
 }
   where
-    images : (p : ℕ) (content : List ℕ) → image (page_of opening) (Ended pass page end.Good ∷ g) p ≡ Some content → (b : Bool) → (page == p) ≡ b → page_of new p ≡ content
-    images p content is true same =
+    images : (p : ℕ) (content : List ℕ) → (p == record_number) ≡ false → image (page_of opening) (Ended pass page end.Good ∷ g) p ≡ Some content → (b : Bool) → (page == p) ≡ b → page_of new p ≡ content
+    images p content apart is true same =
         wrote.holds p ∙ (ap (λ b. if b then bytes else page_of old p) same
         ∙ (way.bytes_are p same
         ∙ same_some _ _ (sym (image-ended_good (page_of opening) pass page end.Good g h p same refl (way.begun_is p same)) ∙ is)))
-    images p content is false other =
-        wrote.holds p ∙ (ap (λ b. if b then bytes else page_of old p) other ∙ image-other way pass end.Good p content other is)
+    images p content apart is false other =
+        wrote.holds p ∙ (ap (λ b. if b then bytes else page_of old p) other ∙ image-other way pass end.Good p content apart other is)
 
-    among : (p : ℕ) → may_of opening p ≡ page_of opening p ∷ [] → (b : Bool) → (page == p) ≡ b → Contains (may_of new p) (page_of new p)
-    among p alone true same =
+    among : (p : ℕ) → (p == record_number) ≡ false → may_of opening p ≡ page_of opening p ∷ [] → (b : Bool) → (page == p) ≡ b → Contains (may_of new p) (page_of new p)
+    among p apart alone true same =
         let holds : page_of new p ≡ bytes = wrote.holds p ∙ ap (λ b. if b then bytes else page_of old p) same in
         rw (may-page page p bytes old new wrote.may same, holds) (Contains-push (may_of old p) bytes)
-    among p alone false other =
+    among p apart alone false other =
         let holds : page_of new p ≡ page_of old p = wrote.holds p ∙ ap (λ b. if b then bytes else page_of old p) other in
-        rw (may-other page p bytes old new wrote.may other, holds) (way.gone.among p alone)
+        rw (may-other page p bytes old new wrote.may other, holds) (way.gone.among p apart alone)
 
 -- the image of a page whose transfer did not end well is not known
 image-bad : {h g : List Effect} {page : ℕ} {bytes : List ℕ} {opening old : Disk} → UnderWay h g page bytes opening old → (pass : ℕ) (how : End) (p : ℕ) (content : List ℕ) → ended_ok how ≡ false → (page == p) ≡ true → image (page_of opening) (Ended pass page how ∷ g) p ≡ Some content → ⊥
@@ -147,38 +149,38 @@ image-bad {h = h} {g = g} {page = page} {opening = opening} way pass how p conte
 -- A write that failed did too,
 gone_failed : {h g : List Effect} {page : ℕ} {bytes : List ℕ} {opening old new : Disk} → UnderWay h g page bytes opening old → WriteFailed page bytes old new → (pass : ℕ) → HasGone (Ended pass page end.Failed ∷ g) opening new
 gone_failed {h = h} {g = g} {page = page} {bytes = bytes} {opening = opening} {old = old} {new = new} way failed pass = record {
-  images = λ p content is. images p content is (page == p) refl;
-  among = λ p alone. among p alone (page == p) refl;
+  images = λ p content apart is. images p content apart is (page == p) refl;
+  among = λ p apart alone. among p apart alone (page == p) refl;
   crash = crash-added new way failed.may pass end.Failed;
-  exact = λ p alone free well. exact-added new way failed.may pass end.Failed p alone well;
+  exact = λ p apart alone free well. exact-added new way failed.may pass end.Failed p apart alone well;
 }
   where
-    images : (p : ℕ) (content : List ℕ) → image (page_of opening) (Ended pass page end.Failed ∷ g) p ≡ Some content → (b : Bool) → (page == p) ≡ b → page_of new p ≡ content
-    images p content is true same = absurd (image-bad way pass end.Failed p content refl same is)
-    images p content is false other = failed.others p other ∙ image-other way pass end.Failed p content other is
+    images : (p : ℕ) (content : List ℕ) → (p == record_number) ≡ false → image (page_of opening) (Ended pass page end.Failed ∷ g) p ≡ Some content → (b : Bool) → (page == p) ≡ b → page_of new p ≡ content
+    images p content apart is true same = absurd (image-bad way pass end.Failed p content refl same is)
+    images p content apart is false other = failed.others p other ∙ image-other way pass end.Failed p content apart other is
 
-    among : (p : ℕ) → may_of opening p ≡ page_of opening p ∷ [] → (b : Bool) → (page == p) ≡ b → Contains (may_of new p) (page_of new p)
-    among p alone true same =
+    among : (p : ℕ) → (p == record_number) ≡ false → may_of opening p ≡ page_of opening p ∷ [] → (b : Bool) → (page == p) ≡ b → Contains (may_of new p) (page_of new p)
+    among p apart alone true same =
         let is : page ≡ p = eqb-true page p same in
         subst (λ q. Contains (may_of new q) (page_of new q)) is
-        (failed.among (subst (λ q. Contains (may_of old q) (page_of old q)) (sym is) (way.gone.among p alone)))
-    among p alone false other =
-        rw (may-other page p bytes old new failed.may other, failed.others p other) (way.gone.among p alone)
+        (failed.among (subst (λ q. Contains (may_of old q) (page_of old q)) (sym is) (way.gone.among p apart alone)))
+    among p apart alone false other =
+        rw (may-other page p bytes old new failed.may other, failed.others p other) (way.gone.among p apart alone)
 
 -- and one that found no memory, which left the disk as it was.
 gone_nowhere : {h g : List Effect} {page : ℕ} {bytes : List ℕ} {opening old : Disk} → UnderWay h g page bytes opening old → (pass : ℕ) → HasGone (Ended pass page end.NoMemory ∷ g) opening old
 gone_nowhere {h = h} {g = g} {page = page} {bytes = bytes} {opening = opening} {old = old} way pass = record {
-  images = λ p content is. images p content is (page == p) refl;
+  images = λ p content apart is. images p content apart is (page == p) refl;
   among = way.gone.among;
-  crash = λ p content alone among. crash p content (way.gone.crash p content alone among) (page == p) refl;
-  exact = λ p alone free well.
-      exact p well (way.gone.exact p alone (is_transferred-none (open_of h) p way.at_rest) (sym (way.well p) ∙ ended_before pass page end.NoMemory g p well))
+  crash = λ p content apart alone among. crash p content (way.gone.crash p content apart alone among) (page == p) refl;
+  exact = λ p apart alone free well.
+      exact p well (way.gone.exact p apart alone (is_transferred-none (open_of h) p way.at_rest) (sym (way.well p) ∙ ended_before pass page end.NoMemory g p well))
       (page == p) refl;
 }
   where
-    images : (p : ℕ) (content : List ℕ) → image (page_of opening) (Ended pass page end.NoMemory ∷ g) p ≡ Some content → (b : Bool) → (page == p) ≡ b → page_of old p ≡ content
-    images p content is true same = absurd (image-bad way pass end.NoMemory p content refl same is)
-    images p content is false other = image-other way pass end.NoMemory p content other is
+    images : (p : ℕ) (content : List ℕ) → (p == record_number) ≡ false → image (page_of opening) (Ended pass page end.NoMemory ∷ g) p ≡ Some content → (b : Bool) → (page == p) ≡ b → page_of old p ≡ content
+    images p content apart is true same = absurd (image-bad way pass end.NoMemory p content refl same is)
+    images p content apart is false other = image-other way pass end.NoMemory p content apart other is
 
     crash : (p : ℕ) (content : List ℕ) → Contains (crash_pages (page_of opening) h p) content → (b : Bool) → (page == p) ≡ b → Contains (crash_pages (page_of opening) (Ended pass page end.NoMemory ∷ g) p) content
     crash p content among true same =
@@ -247,6 +249,17 @@ both_ended h g pass page bytes (Err stop.NoMemory) first old new way wrote faile
     subst (λ now. Both first now (HasGone (Ended pass page end.NoMemory ∷ g))) (sym no_memory)
     (both_so (HasGone h) (HasGone (Ended pass page end.NoMemory ∷ g)) first old (λ x y is stood. gone_nowhere (way x y is stood) pass) gone)
 
+-- The record page of a disk is as it was after a transfer of a data page.
+record_ended : (past : List Entry) (s page : ℕ) (bytes : List ℕ) (written : Result (Unit {0}) Stop) (first old new : Option Disk) → page < 2 ^ 51 → OnOk written (Both old new (Wrote page bytes)) → OnFailed written (Both old new (WriteFailed page bytes)) → OnNoMemory written (new ≡ old) → Both first old (RecordHasGone past s) → Both first new (RecordHasGone past s)
+record_ended past s page bytes (Ok done) first old new numbered wrote failed no_memory gone =
+    both_through (RecordHasGone past s) (Wrote page bytes) (RecordHasGone past s) first old new
+    (λ x y z is stood it. record_gone-wrote past s page bytes x y z numbered it stood) gone wrote
+record_ended past s page bytes (Err stop.Failed) first old new numbered wrote failed no_memory gone =
+    both_through (RecordHasGone past s) (WriteFailed page bytes) (RecordHasGone past s) first old new
+    (λ x y z is stood it. record_gone-failed past s page bytes x y z numbered it stood) gone failed
+record_ended past s page bytes (Err stop.NoMemory) first old new numbered wrote failed no_memory gone =
+    subst (λ now. Both first now (RecordHasGone past s)) (sym no_memory) gone
+
 -- the end of a transfer shows a failure of its disk where it says so
 failures-ended : (pass s page : ℕ) (how : End) (past : List Entry) → failures s (entry.WriteEnd pass (record { stream = s; page = page }) how ∷ past) ≡ failures s past + faults_by how
 unfolding failures
@@ -272,6 +285,11 @@ DiskStands-ended told faults first past pass s page bytes written old new wrote 
           (whole_page (page_of opening) h page bytes way.can.whole
           (λ i low. subst (λ o. IsByteOf (opening_of o) h (4096 * page + i) (slice_index bytes i)) is (way.can.bytes_are i low)))))
           wrote failed no_memory way.can.stands.has_gone);
+      record_has_gone =
+          let ended : Entry = entry.WriteEnd pass (record { stream = s; page = page }) (end_of written) in
+          both_so (RecordHasGone past s) (RecordHasGone (ended ∷ past) s) first.told (told new)
+          (λ opening now is. record_gone-same past (ended ∷ past) s opening now (record-left ended past s refl))
+          (record_ended past s page bytes written first.told (told old) (told new) way.can.numbered wrote failed no_memory way.stands.record_has_gone);
       counted =
           let was = way.stands.counted in
           let same = faults_by-end written in

@@ -1,5 +1,6 @@
 -- What the contracts cite.
 pub mod Standing
+pub mod RecordPage
 pub mod Disk
 pub mod Log
 pub mod Journal

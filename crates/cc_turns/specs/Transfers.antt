@@ -1,5 +1,5 @@
 -- What a read of a page, a transfer of one and a sync may rest on, and what they leave in the journal.
-use Rattle.std.specs.Prelude.{◌≡◌, ℕ, ◌+◌, ◌*◌, ◌<◌, Bool, true, false, not, ◌||◌, ◌==◌, List, ◌∷◌, ◌++◌, length, slice_index, Result, Ok, Err}
+use Rattle.std.specs.Prelude.{◌≡◌, ℕ, ◌+◌, ◌*◌, ◌^◌, ◌<◌, Bool, true, false, not, ◌||◌, ◌==◌, List, ◌∷◌, ◌++◌, length, slice_index, Result, Ok, Err}
 use Rattle.std.specs.declared.option.Option.{Option}
 use Rattle.std.specs.declared.option.Option.TheVariants.{None}
 use Rattle.std.specs.List.{list_all}
@@ -28,11 +28,12 @@ pub record CanRead {D : Type 0} (told : D → Option Disk) (faults : D → ℕ) 
   pub good : IsGoodSoFar u past
   pub absent : is_resident (history past s) page ≡ false
 
--- A page may be transferred: the disk stands for what was before the transfer began, when no other was under way,
+-- A data page may be transferred: the disk stands for what was before the transfer began, when no other was under way,
 -- and the bytes are a whole page, as the page then was.
 pub record CanTransfer {D : Type 0} (told : D → Option Disk) (faults : D → ℕ) (first : DiskAtFirst)
     (before : List Entry) (s page : ℕ) (bytes : List ℕ) (disk : D) : Type 0 where
   pub stands : DiskStands told faults first before s disk
+  pub numbered : page < 2 ^ 51
   pub at_rest : open_of (history before s) ≡ None
   pub whole : length bytes ≡ 4096
   pub bytes_are : (i : ℕ) → i < 4096 →

@@ -7,7 +7,8 @@
 //! book, a log, the journal; at most one of each kind is held, and the last taken is given first.
 //!
 //! A page is read from a disk, a page is transferred to it, and it is synced (`transfers`). A disk that tells what it
-//! holds goes on standing for what the journal says of its stream (`DiskStands`). What is read of a page that is not
+//! holds goes on standing for what the journal says of its stream (`DiskStands`): each page but the record page by the
+//! stream's history, the record page by the writes of the record, of which there are none yet. What is read of a page that is not
 //! resident is the plain file, below the valid data length; after a transfer the disk stands for the journal with the
 //! transfer's begin and its end; and after a sync for the journal with the sync, so that a crash can then leave of a page
 //! nothing but its image, where that is known and a crash could leave the page in one way at first. These functions take
