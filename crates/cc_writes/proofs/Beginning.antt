@@ -26,6 +26,7 @@ use Rattle.cc_writes.specs.Transfers.{BeginLeft, IsBegun, IsUnbegun, BegunLeft}
 use Rattle.cc_writes.proofs.OneVisit.{Visiting, Visited, visited, stepping-none}
 use Rattle.cc_writes.proofs.Quiet.{holds_no_journal, holds_the_book, history-kept, stands-same, flushed_to-grows, logged-kept, book-after}
 use Rattle.cc_writes.proofs.Placed.{may_begin, good-begun, quiet-page}
+use Rattle.cc_writes.proofs.Numbered.{numbered}
 use Rattle.cc_turns.proofs.Rooms.{reserved-begun}
 
 -- a begin with two places reserved before
@@ -105,6 +106,7 @@ module _ {Q : Type 0} (posted : Q → Bool) (w v : Standing) (page : Page) (b : 
         went = given.went;
         left = record {
           placed = placed;
+          numbered = numbered w.setup w.seen page.stream page.page has.good dirty;
           whole = begun.snapshot.whole;
           bytes_are = λ i within. subst (λ (n : ℕ). IsByteOf (w.setup.opening page.stream) (history j.entries n) (4096 * page.page + i) (slice_index bytes i)) has.stream
               (begun.snapshot.bytes_are (w.setup.opening page.stream) j.entries stands i within);

@@ -25,11 +25,11 @@ pub mod Placed
 pub mod Works
 pub mod Logging
 pub mod Flushing
+pub mod Numbered
 pub mod Beginning
 pub mod Ending
 pub mod Carrying
 pub mod Writing
-pub mod Numbered
 pub mod Explained
 pub mod Shown
 pub mod Disks

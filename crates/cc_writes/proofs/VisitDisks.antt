@@ -9,7 +9,6 @@ use Rattle.cc_entry.specs.declared.entry.Entry.TheVariants as entry
 use Rattle.cc_entry.specs.declared.reply.Outcome.{Outcome}
 use Rattle.cc_entry.specs.declared.reply.Outcome.TheVariants as outcome
 use Rattle.cc_traits.specs.Disk.{Disk}
-use Rattle.cc_traits.specs.Told.{Both}
 use Rattle.cc_effects.specs.Failures.{failures, is_failure}
 use Rattle.cc_laws.specs.Laws.{SameImages, SameCrash}
 use Rattle.cc_laws.proofs.DiskBytes.{on_disk-done}
@@ -21,7 +20,9 @@ use Rattle.cc_model.specs.History.{Effect, Did, CameIn, WentOut, effect_of, hist
 use Rattle.cc_model.specs.Turns.{Device, is_quiet}
 use Rattle.cc_turns.specs.Disk.{DiskStands, HasGone, all_ended_well}
 use Rattle.cc_turns.specs.Standing.{DiskAtFirst}
-use Rattle.cc_turns.proofs.DiskGrows.{failures-quiet, all_ended_well-quiet, has_gone_same}
+use Rattle.cc_turns.specs.RecordPage.{RecordHasGone}
+use Rattle.cc_turns.proofs.DiskGrows.{failures-quiet, all_ended_well-quiet, has_gone_same, both_same}
+use Rattle.cc_turns.proofs.RecordPage.{leaves_record, record-left, record-quiet, record-same, record-then, record_gone-same}
 use Rattle.cc_writes.specs.Hands.{SameDisk}
 
 -- entries that do not need the disk leave it
@@ -30,6 +31,7 @@ disk-quiet later past s quiet = record {
   images = SameImages-deviceless later past s quiet;
   crash = SameCrash-deviceless later past s quiet;
   ended = λ p. all_ended_well-quiet later past s p quiet;
+  record_page = record-quiet later past s quiet;
   failed = failures-quiet later past s quiet;
 }
 
@@ -38,6 +40,7 @@ disk-same past s = record {
   images = record { same_transfer = refl; same_front = λ p. refl; same_image = λ pages p. refl; same_disk = λ pages i. refl };
   crash = record { same_crash = λ pages p. refl };
   ended = λ p. refl;
+  record_page = record-same past s;
   failed = refl;
 }
 
@@ -51,6 +54,7 @@ disk-then past between now s first second = record {
   };
   crash = record { same_crash = λ pages p. second.crash.same_crash pages p ∙ first.crash.same_crash pages p };
   ended = λ p. second.ended p ∙ first.ended p;
+  record_page = record-then past between now s first.record_page second.record_page;
   failed = second.failed ∙ first.failed;
 }
 
@@ -105,12 +109,18 @@ still (Some (WentOut pass page)) h leaves = record {
 }
 still (Some other) h leaves = absurd (cc)
 
--- an entry that has no other effect, and shows no failure, leaves the disk
-disk-entry : (e : Entry) (past : List Entry) (s : ℕ) → none_or leaves_disk (effect_of e s) ≡ true → is_failure s e ≡ false → SameDisk past (e ∷ past) s
+-- an entry that has no other effect, leaves the record page, and shows no failure, leaves the disk
+disk-entry : (e : Entry) (past : List Entry) (s : ℕ) → none_or leaves_disk (effect_of e s) ≡ true → leaves_record s e ≡ true → is_failure s e ≡ false → SameDisk past (e ∷ past) s
 unfolding history failures
-disk-entry e past s leaves none =
+disk-entry e past s leaves kept_record none =
     let kept = still (effect_of e s) (history past s) leaves in
-    record { images = kept.images; crash = kept.crash; ended = kept.ended; failed = rw none refl }
+    record {
+      images = kept.images;
+      crash = kept.crash;
+      ended = kept.ended;
+      record_page = record-left e past s kept_record;
+      failed = rw none refl;
+    }
 
 leaves-if : (b : Bool) (effect : Effect) → leaves_disk effect ≡ true → none_or leaves_disk (if b then Some effect else None) ≡ true
 leaves-if true effect leaves = leaves
@@ -118,11 +128,11 @@ leaves-if false effect leaves = refl
 
 pub disk-page_in : (me : ℕ) (page : Page) (from_disk : Bool) (past : List Entry) (s : ℕ) → SameDisk past (entry.PageIn me page from_disk ∷ past) s
 disk-page_in me page from_disk past s =
-    disk-entry (entry.PageIn me page from_disk) past s (leaves-if (page.stream == s) (CameIn me page.page from_disk) refl) refl
+    disk-entry (entry.PageIn me page from_disk) past s (leaves-if (page.stream == s) (CameIn me page.page from_disk) refl) refl refl
 
 pub disk-page_out : (me : ℕ) (page : Page) (past : List Entry) (s : ℕ) → SameDisk past (entry.PageOut me page ∷ past) s
 disk-page_out me page past s =
-    disk-entry (entry.PageOut me page) past s (leaves-if (page.stream == s) (WentOut me page.page) refl) refl
+    disk-entry (entry.PageOut me page) past s (leaves-if (page.stream == s) (WentOut me page.page) refl) refl refl
 
 leaves-call : (me nth : ℕ) (stream : Option ℕ) (it : Call) (ended : Outcome) (s : ℕ) → none_or leaves_disk (effect_of (entry.Call me nth stream it ended) s) ≡ true
 leaves-call me nth None it ended s = refl
@@ -131,19 +141,14 @@ leaves-call me nth (Some stream) it (outcome.Failed e) s = refl
 
 pub disk-call : (me nth : ℕ) (stream : Option ℕ) (it : Call) (ended : Outcome) (past : List Entry) (s : ℕ) → SameDisk past (entry.Call me nth stream it ended ∷ past) s
 disk-call me nth stream it ended past s =
-    disk-entry (entry.Call me nth stream it ended) past s (leaves-call me nth stream it ended s) refl
-
--- what a disk tells goes with another history as it went with one
-both-gone : (h g : List Effect) (first now : Option Disk) → ((opening held : Disk) → HasGone h opening held → HasGone g opening held) → Both first now (HasGone h) → Both first now (HasGone g)
-both-gone h g None None so both = both
-both-gone h g None (Some now) so both = both
-both-gone h g (Some first) None so both = both
-both-gone h g (Some first) (Some now) so both = so first now both
+    disk-entry (entry.Call me nth stream it ended) past s (leaves-call me nth stream it ended s) refl refl
 
 -- a disk goes on standing for what it stood for
 pub disk_still : {D : Type 0} (told : D → Option Disk) (faults : D → ℕ) (first : DiskAtFirst) (past now : List Entry) (s : ℕ) (disk : D) → SameDisk past now s → DiskStands told faults first past s disk → DiskStands told faults first now s disk
 disk_still told faults first past now s disk same stands = record {
-  has_gone = both-gone (history past s) (history now s) first.told (told disk)
+  has_gone = both_same (HasGone (history past s)) (HasGone (history now s)) first.told (told disk)
       (λ opening held. has_gone_same (history past s) (history now s) opening held same.images same.crash same.ended) stands.has_gone;
+  record_has_gone = both_same (RecordHasGone past s) (RecordHasGone now s) first.told (told disk)
+      (λ opening held. record_gone-same past now s opening held same.record_page) stands.record_has_gone;
   counted = rw same.failed stands.counted;
 }

@@ -109,6 +109,7 @@ module _ {D : Type 0} (told : D → Option Disk) (faults : D → ℕ) (n : ℕ) 
     can = record {
       stands = subst (λ (first : DiskAtFirst). DiskStands told faults first begun.placed.front page.stream disk) (sym (disks-kept n w x page.stream went))
           (disk-grown told faults (w.disks page.stream) w page.stream disk both.rest.device both.disk begun.placed.front begun.placed.grows);
+      numbered = begun.numbered;
       at_rest = ap open_of (history-kept w page.stream begun.placed.front (holds_the_book w page.stream b both.book) both.rest.device begun.placed.grows) ∙ both.rest.no_transfer;
       whole = begun.whole;
       bytes_are = λ i within. subst (λ (opening : Option (ℕ → List ℕ)). IsByteOf opening (history begun.placed.front page.stream) (4096 * page.page + i) (slice_index bytes i))

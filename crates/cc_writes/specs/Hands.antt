@@ -9,6 +9,7 @@ use Rattle.cc_model.specs.Good.{IsGood}
 use Rattle.cc_model.specs.History.{history}
 use Rattle.cc_model.specs.Images.{open_of}
 use Rattle.cc_turns.specs.Disk.{all_ended_well}
+use Rattle.cc_turns.specs.RecordPage.{SameRecord}
 use Rattle.cc_turns.specs.Standing.{Standing, nothing}
 
 -- A pass has the book of a stream in its hands. It may hold the turn of a disk too, and no other. What it has seen is
@@ -25,11 +26,12 @@ pub record IsAtRest (w : Standing) (s : ℕ) : Type 0 where
   pub no_transfer : open_of (history w.seen s) ≡ None
 
 -- A disk that stood for one past of a stream stands for another: its images are the same, what a crash may leave, how
--- the transfers ended, and how often it failed.
+-- the transfers ended, what is said of its record page, and how often it failed.
 pub record SameDisk (past now : List Entry) (s : ℕ) : Type 0 where
   pub images : SameImages (history now s) (history past s)
   pub crash : SameCrash (history now s) (history past s)
   pub ended : (p : ℕ) → all_ended_well (history now s) p ≡ all_ended_well (history past s) p
+  pub record_page : SameRecord past now s
   pub failed : failures s now ≡ failures s past
 
 -- The pass goes on as it stood, with so much under way: it has seen more, and what others have reserved may be other.

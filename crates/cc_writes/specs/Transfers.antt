@@ -1,5 +1,5 @@
 -- What the begin of a page's transfer leaves, and its end.
-use Rattle.std.specs.Prelude.{◌≡◌, ℕ, ◌+◌, ◌*◌, ◌<◌, ◌⊎◌, Bool, true, Result, Ok, Err, List, ◌∷◌, ◌++◌, length, slice_index}
+use Rattle.std.specs.Prelude.{◌≡◌, ℕ, ◌+◌, ◌*◌, ◌^◌, ◌<◌, ◌⊎◌, Bool, true, Result, Ok, Err, List, ◌∷◌, ◌++◌, length, slice_index}
 use Rattle.std.specs.declared.option.Option.{Option}
 use Rattle.std.specs.declared.option.Option.TheVariants.{Some}
 use Rattle.cc_entry.specs.Place.{Page}
@@ -29,6 +29,7 @@ use Rattle.cc_writes.specs.declared.writes.PageWrite.TheVariants as write
 -- The transfer of a page began, with these bytes, which are the page's at the front of its entry.
 pub record HasBegun (w : Standing) (page : Page) (bytes : List ℕ) (seen : List Entry) : Type 0 where
   pub placed : HasPlaced w (entry.WriteBegin w.number page) seen
+  pub numbered : page.page < 2 ^ 51
   pub whole : length bytes ≡ 4096
   pub bytes_are : (i : ℕ) → i < 4096 →
       IsByteOf (w.setup.opening page.stream) (history placed.front page.stream) (4096 * page.page + i)
