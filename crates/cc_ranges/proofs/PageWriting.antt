@@ -1,5 +1,5 @@
 -- The writing of one page of a noncached write: its store with the begin of its transfer, and what follows.
-use Rattle.std.specs.Prelude.{◌≡◌, ℕ, suc, ◌+◌, ◌-◌, ◌*◌, Bool, true, false, ◌==◌, ◌||◌, nat_lt, List, [], ◌∷◌, ◌++◌, length, slice_index, Some, refl, if◌then◌else◌}
+use Rattle.std.specs.Prelude.{◌≡◌, ℕ, suc, ◌+◌, ◌-◌, ◌*◌, ◌^◌, ◌<◌, Bool, true, false, ◌==◌, ◌||◌, nat_lt, List, [], ◌∷◌, ◌++◌, length, slice_index, Some, refl, if◌then◌else◌}
 use Rattle.std.specs.declared.option.Option.{Option}
 use Rattle.std.specs.List.{list_any}
 use Rattle.std.proofs.Common.{ap, sym, ◌∙◌, subst, arith}
@@ -21,6 +21,7 @@ use Rattle.cc_content.specs.Filling.{IsClearedFrom}
 use Rattle.cc_effects.specs.Moments.{Others}
 use Rattle.cc_laws.proofs.FaultSteps.{faults_since-write_failed, is_written_since-write_end, store_of-store}
 use Rattle.cc_laws.proofs.PassSteps.{up_to_call-other}
+use Rattle.cc_laws.proofs.SoundFacts.{size_of-good}
 use Rattle.cc_model.specs.Conditions.{MayFinish, MayStore}
 use Rattle.cc_model.specs.Covered.{IsLogged}
 use Rattle.cc_model.specs.Faults.{faults_since, is_failed_write}
@@ -28,6 +29,7 @@ use Rattle.cc_model.specs.History.{history}
 use Rattle.cc_model.specs.Images.{open_of}
 use Rattle.cc_model.specs.Passes.{is_same_page, is_the_page, store_of, stored_by, calls_of}
 use Rattle.cc_model.specs.Touches.{size_of}
+use Rattle.cc_step.proofs.Placed.{so-far}
 use Rattle.cc_turns.specs.Disk.{DiskStands, opening_of}
 use Rattle.cc_turns.specs.Standing.{Standing, DiskAtFirst}
 use Rattle.cc_turns.specs.Takes.{Grows}
@@ -42,7 +44,7 @@ use Rattle.cc_writes.proofs.Writing.{opening-kept, disks-kept}
 use Rattle.cc_ranges.specs.Ends.{IsOut, HasTidied, HasFinished, HasFailedSince, HasFailedWrite, write_done, write_failed}
 use Rattle.cc_ranges.specs.Stores.{IsReadyToStore, HasStored, stored_byte}
 use Rattle.cc_ranges.proofs.WriteFinishing.{store-others}
-use Rattle.cc_ranges.proofs.Goods.{open-stored, bytes-with_store}
+use Rattle.cc_ranges.proofs.Goods.{below-size, open-stored, bytes-with_store}
 use Rattle.cc_ranges.proofs.Storing.{refusal-history}
 
 page-same : (page : Page) → is_same_page page page ≡ true
@@ -167,6 +169,9 @@ module _ {D : Type 0} (told : D → Option Disk) (faults : D → ℕ) (n : ℕ) 
           (disk_still told faults (w.disks page.stream) is.front (store ∷ is.front) page.stream disk
           (disk-call w.number (suc (calls_of is.front w.number)) (Some page.stream) (call.NcStore file page.page bytes) (outcome.Done reply.Unit) is.front page.stream)
           (disk-grown told faults (w.disks page.stream) w page.stream disk both.rest.device both.disk is.front is.grows));
+      numbered = number (size_of (history is.front page.stream))
+          (below-size w.setup is.front (history is.front page.stream) file page.page ready-there.admitted)
+          (size_of-good w.setup is.front page.stream (so-far w.setup is.front is.good));
       at_rest = open-stored w.setup is.front w.number file page bytes is.good ready-there may-there;
       whole = long;
       bytes_are = λ i within.
@@ -177,6 +182,9 @@ module _ {D : Type 0} (told : D → Option Disk) (faults : D → ℕ) (n : ℕ) 
           (bytes-with_store w.setup is.front w.number file page bytes is.good ready-there may-there i within));
     };
   }
+    where
+      number : (size : ℕ) → 4096 * page.page < size → size < 2 ^ 63 → page.page < 2 ^ 51
+      number size inside most = omega arith
 
 -- the bytes of a page that are cleared from the size on are those that are stored
 pub as-cut : (size page place : ℕ) (bytes cut : List ℕ) → place ≡ size - 4096 * page → IsClearedFrom place bytes cut → (i : ℕ) → slice_index cut i ≡ stored_byte size page bytes i
