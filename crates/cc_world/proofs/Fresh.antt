@@ -27,10 +27,12 @@ use Rattle.cc_model.specs.Room.{reserved_in, stores_unfinished}
 use Rattle.cc_model.specs.Setup.{Setup}
 use Rattle.cc_turns.specs.Desk.{Tells, LogIsHome, IsNew, disk_at_first, log_at_first, made_from, openings}
 use Rattle.cc_turns.specs.Disk.{HasGone}
+use Rattle.cc_turns.specs.RecordPage.{RecordHasGone}
 use Rattle.cc_turns.specs.Log.{FileStands}
 use Rattle.cc_turns.specs.Places.{IsRoomFor}
 use Rattle.cc_world.specs.Rows.{DiskIsUsed, IsAtRest}
 use Rattle.cc_turns.proofs.Capacity.{within_none}
+use Rattle.cc_turns.proofs.RecordPage.{record_gone-none}
 use Rattle.cc_world.specs.World.{AreAt, DisksEnded, IsNewRow, LogsEnded, RowIsHome, WorldStands, WorldState, setup_of, world_of}
 use Rattle.cc_world.specs.declared.rows.Kept.{Kept}
 use Rattle.cc_world.specs.declared.rows.Row.{Row}
@@ -57,19 +59,23 @@ gone-none : (now : Option Disk) → Both now now (HasGone [])
 unfolding image crash_pages
 gone-none None = tt
 gone-none (Some disk) = record {
-  images = λ p bytes is. one (page_of disk p) bytes is;
-  among = λ p alone. subst (λ contents. Contains contents (page_of disk p)) (sym alone) (Contains-push [] (page_of disk p));
-  crash = λ p content alone among. subst (λ contents. Contains contents content) alone among;
-  exact = λ p alone free well. alone;
+  images = λ p bytes apart is. one (page_of disk p) bytes is;
+  among = λ p apart alone. subst (λ contents. Contains contents (page_of disk p)) (sym alone) (Contains-push [] (page_of disk p));
+  crash = λ p content apart alone among. subst (λ contents. Contains contents content) alone among;
+  exact = λ p apart alone free well. alone;
 }
   where
     one : (a b : List ℕ) → Some a ≡ Some b → a ≡ b
     one a b is = cc
 
+record-none : (s : ℕ) (now : Option Disk) → Both now now (RecordHasGone [] s)
+record-none s None = tt
+record-none s (Some disk) = record_gone-none s disk
+
 disk-none : {D : Type 0} (told : D → Option Disk) (faults : D → ℕ) (disks : List D) (s : ℕ) (disk : D) → slice_get disks s ≡ Some disk → IsAtRest told faults (disk_at_first told faults (slice_get disks s)) [] s disk
 unfolding history failures open_of
 disk-none told faults disks s disk is = record {
-  stands = rw is (record { has_gone = gone-none (told disk); counted = omega arith });
+  stands = rw is (record { has_gone = gone-none (told disk); record_has_gone = record-none s (told disk); counted = omega arith });
   no_transfer = refl;
 }
 

@@ -1,5 +1,5 @@
 -- A page's transfer begins, and ends: what the row and the journal are then.
-use Rattle.std.specs.Prelude.{◌≡◌, ℕ, suc, ◌+◌, ◌-◌, ◌*◌, ◌<◌, List, [], ◌∷◌, length, slice_index, refl}
+use Rattle.std.specs.Prelude.{◌≡◌, ℕ, suc, ◌+◌, ◌-◌, ◌*◌, ◌^◌, ◌<◌, List, [], ◌∷◌, length, slice_index, refl}
 use Rattle.std.specs.declared.option.Option.{Option}
 use Rattle.std.specs.declared.option.Option.TheVariants.{Some, None}
 use Rattle.std.proofs.Common.{ap, sym, ◌∙◌, subst, arith}
@@ -33,12 +33,12 @@ use Rattle.cc_world.specs.declared.rows.Row.{Row}
 use Rattle.cc_world.proofs.Standing.{carried-open, gained-so, went-by}
 
 -- A disk at rest is carrying from the begin of a transfer on, whose bytes are the page's.
-pub begun-carries : {D : Type 0} (told : D → Option Disk) (faults : D → ℕ) (first : DiskAtFirst) (past : List Entry) (s : ℕ) (disk : D) (pass : ℕ) (page : Page) (bytes : List ℕ) → page.stream ≡ s → IsAtRest told faults first past s disk → length bytes ≡ 4096 → ((i : ℕ) → i < 4096 → IsByteOf (opening_of first.told) (history past s) (4096 * page.page + i) (slice_index bytes i)) → IsCarrying told faults first (entry.WriteBegin pass page ∷ past) s disk (record { pass = pass; page = page; bytes = bytes })
-begun-carries told faults first past s disk pass page bytes stream rest whole bytes_are = record {
+pub begun-carries : {D : Type 0} (told : D → Option Disk) (faults : D → ℕ) (first : DiskAtFirst) (past : List Entry) (s : ℕ) (disk : D) (pass : ℕ) (page : Page) (bytes : List ℕ) → page.stream ≡ s → page.page < 2 ^ 51 → IsAtRest told faults first past s disk → length bytes ≡ 4096 → ((i : ℕ) → i < 4096 → IsByteOf (opening_of first.told) (history past s) (4096 * page.page + i) (slice_index bytes i)) → IsCarrying told faults first (entry.WriteBegin pass page ∷ past) s disk (record { pass = pass; page = page; bytes = bytes })
+begun-carries told faults first past s disk pass page bytes stream numbered rest whole bytes_are = record {
   stream = stream;
   way = subst (λ (n : ℕ). IsUnderWay told faults first (entry.WriteBegin pass (record { stream = n; page = page.page }) ∷ past) pass s page.page bytes disk) (sym stream)
       (IsUnderWay-begun told faults first past pass s page.page bytes disk
-      (record { stands = rest.stands; at_rest = rest.no_transfer; whole = whole; bytes_are = bytes_are }));
+      (record { stands = rest.stands; numbered = numbered; at_rest = rest.no_transfer; whole = whole; bytes_are = bytes_are }));
 }
 
 -- what is replied to the end of a transfer, by how it ended

@@ -53,7 +53,7 @@ use Rattle.cc_world.proofs.Open.{open-kept}
 use Rattle.cc_world.proofs.PageBytes.{some-read}
 use Rattle.cc_world.proofs.Placing.{so-far}
 use Rattle.cc_world.proofs.Standing.{carried-open, gained-so, is-idle, is-resting, left-from, reserved-under, roomy, unreserved, went-none, went-one}
-use Rattle.cc_world.proofs.Stores.{bytes-begun, good-begun, reserved-both}
+use Rattle.cc_world.proofs.Stores.{below-size, bytes-begun, good-begun, numbered, reserved-both}
 use Rattle.cc_world.proofs.Transferring.{begun-carries}
 
 back : (k n owed : ℕ) → k ≡ n - 1 → n ≡ owed + 1 → k ≡ owed
@@ -334,7 +334,9 @@ module _ {D Q : Type 0} (told : D → Option Disk) (faults : D → ℕ) (u : Set
     stored-went stands same is =
         subst (λ (added : List Entry). RowWent told faults u first 0 added row (record { disk = row.disk; book = c; kept = Some (record { pass = pass; page = page; bytes = image }) }) j k) entries
         (row-went told faults u first 4 row j ready.made.stands 0 (begin ∷ store ∷ []) c row.disk (Some (record { pass = pass; page = page; bytes = image })) k (book-went stands same)
-        (begun-carries told faults first (store ∷ j.entries) row.book.stream row.disk pass page image stream rests is.whole
+        (begun-carries told faults first (store ∷ j.entries) row.book.stream row.disk pass page image stream
+        (numbered u j.entries page.stream page.page ready.made.stands.good (below-size u j.entries (history j.entries page.stream) file page.page bytes admitted))
+        rests is.whole
         (λ i small. subst (λ (s : ℕ). IsByteOf (opening_of first.told) (history (store ∷ j.entries) s) (4096 * page.page + i) (slice_index image i)) stream
         (subst (λ (byte : ℕ). IsByteOf (opening_of first.told) (history (store ∷ j.entries) page.stream) (4096 * page.page + i) byte)
         (ap (λ (s : ℕ). stored_byte (size_of (history j.entries s)) page.page bytes i) stream ∙ sym (is.bytes_are i small))

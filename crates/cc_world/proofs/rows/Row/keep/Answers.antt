@@ -8,8 +8,10 @@ use Rattle.cc_book.specs.Book.{BookStands}
 use Rattle.cc_journal.specs.Journal.{JournalState}
 use Rattle.cc_model.specs.History.{history}
 use Rattle.cc_model.specs.Images.{open_of}
+use Rattle.cc_step.proofs.Below.{resident-numbered}
 use Rattle.cc_turns.proofs.Rooms.{reserved-begun}
 use Rattle.cc_turns.specs.Disk.{opening_of}
+use Rattle.cc_world.proofs.Placing.{so-far}
 use Rattle.cc_world.proofs.Standing.{is-idle, is-resting, may-place, went-by, went-none, gained-so}
 use Rattle.cc_world.proofs.Transferring.{begun-carries}
 use Rattle.cc_world.proofs.rows.Row.keep.Goals as goal
@@ -65,6 +67,7 @@ returns-in-Ok g c u first stand =
     c.in-Ok.ensures.stream
     (subst (λ (past : List Entry). BookStands (opening_of first.told) past c.begin.new.self) grown (c.in-Ok.ensures.stands (opening_of first.told) stand.row_is.book))
     (begun-carries g.D.Told.told g.D.Told.faults first past row.book.stream row.disk c.args.pass c.args.page c.in-Ok.bytes c.requires.stream
+    (resident-numbered u past c.args.page.stream c.args.page.page (so-far u past stand.good) may.resident)
     (is-resting g.D.Told.told g.D.Told.faults u first 2 row j stand idle) c.in-Ok.ensures.snapshot.whole
     (c.in-Ok.ensures.snapshot.bytes_are (opening_of first.told) past stand.row_is.book))
     (no-more _) in
