@@ -16,6 +16,8 @@ use Rattle.cc_model.specs.Legal.{IsLegal}
 use Rattle.cc_model.specs.Setup.{Setup}
 use Rattle.cc_effects.specs.Failures.{failures}
 use Rattle.cc_turns.specs.Disk.{DiskStands, HasGone}
+use Rattle.cc_turns.specs.RecordPage.{RecordHasGone}
+use Rattle.cc_turns.proofs.RecordPage.{record_gone-none}
 use Rattle.cc_turns.specs.Desk.{disk_at_first}
 use Rattle.cc_run.specs.Disks.{Pairwise, DisksAre, DisksLeft, DisksStand, HaveRisen, AreCounted}
 use Rattle.cc_run.proofs.Returned.{some-same, pairwise-same, as-many, firsts, others, of-all}
@@ -35,6 +37,7 @@ module _ {D : Type 0} (told : D → Option Disk) (faults : D → ℕ) (past : Li
   disks-are = record {
     count = as-many 16 Stood old front new stand.counted stood back;
     went = λ s before after was is. (stood-back s before after was is).has_gone;
+    records = λ s before after was is. (stood-back s before after was is).record_has_gone;
     rest = others 16 Stood old front new stand.counted stood back;
   }
 
@@ -54,11 +57,15 @@ gone-none : (now : Option Disk) → Both now now (HasGone (history [] 0))
 unfolding history image crash_pages
 gone-none None = tt
 gone-none (Some disk) = record {
-  images = λ p bytes is. some-same (page_of disk p) bytes is;
-  among = λ p alone. subst (λ contents. Contains contents (page_of disk p)) (sym alone) (Contains-push [] (page_of disk p));
-  crash = λ p content alone among. subst (λ contents. Contains contents content) alone among;
-  exact = λ p alone free well. alone;
+  images = λ p bytes apart is. some-same (page_of disk p) bytes is;
+  among = λ p apart alone. subst (λ contents. Contains contents (page_of disk p)) (sym alone) (Contains-push [] (page_of disk p));
+  crash = λ p content apart alone among. subst (λ contents. Contains contents content) alone among;
+  exact = λ p apart alone free well. alone;
 }
+
+record-none : (s : ℕ) (now : Option Disk) → Both now now (RecordHasGone [] s)
+record-none s None = tt
+record-none s (Some disk) = record_gone-none s disk
 
 failures-none : (s : ℕ) → failures s [] ≡ 0
 unfolding failures
@@ -73,6 +80,7 @@ disks-same : {D : Type 0} (told : D → Option Disk) (disks : List D) → DisksA
 disks-same told disks = record {
   count = refl;
   went = pairwise-same (λ s before after. Both (told before) (told after) (HasGone (history [] s))) (take 16 disks) (λ s d. rw (history-none s) (gone-none (told d)));
+  records = pairwise-same (λ s before after. Both (told before) (told after) (RecordHasGone [] s)) (take 16 disks) (λ s d. record-none s (told d));
   rest = refl;
 }
 

@@ -9,6 +9,7 @@ use Rattle.cc_model.specs.History.{history}
 use Rattle.cc_effects.specs.Failures.{failures}
 use Rattle.cc_turns.specs.Standing.{DiskAtFirst}
 use Rattle.cc_turns.specs.Disk.{DiskStands, HasGone}
+use Rattle.cc_turns.specs.RecordPage.{RecordHasGone}
 use Rattle.cc_run.specs.Setups.{run_disks}
 
 -- a relation of each item of a row as it was handed in and as it came back, with its number: of each disk with that of
@@ -20,11 +21,17 @@ Pairwise {D} R old new = (s : ℕ) (before after : D) → slice_get old s ≡ So
 abbrev pub WentWith : {D : Type 0} → (D → Option Disk) → List Entry → ℕ → D → D → Type 0
 WentWith told past s before after = Both (told before) (told after) (HasGone (history past s))
 
--- As many disks come back, in their order. Those of the run have gone with their streams, and the others are as they
--- were.
+-- its record page has gone with the journal: it holds what the last write of the stream's record spelled, where that ended
+-- well, and its opening content where there was none
+abbrev pub RecordWentWith : {D : Type 0} → (D → Option Disk) → List Entry → ℕ → D → D → Type 0
+RecordWentWith told past s before after = Both (told before) (told after) (RecordHasGone past s)
+
+-- As many disks come back, in their order. Those of the run have gone with their streams, their record pages too, and the
+-- others are as they were.
 pub record DisksAre {D : Type 0} (told : D → Option Disk) (past : List Entry) (old new : List D) : Type 0 where
   pub count : length new ≡ length old
   pub went : Pairwise (WentWith told past) (run_disks old) (run_disks new)
+  pub records : Pairwise (RecordWentWith told past) (run_disks old) (run_disks new)
   pub rest : drop 16 new ≡ drop 16 old
 
 -- no count of faults fell

@@ -118,7 +118,13 @@ fn names_for(alloc: Global, script: &Script) -> Result<Vec<Names>, NoMemory>
 }
 
 // Runs a script on a desk of which nothing happened yet, with room for the replies and for the callers' words.
-fn run_on<R: Threads + Wait + Sync, D: PageDisk + Send, L: LogFile + Send, Q: PostRoutine + Send, P: Gate>(
+fn run_on<
+    R: Threads + Wait + Sync,
+    D: PageDisk + Send,
+    L: LogFile + Send,
+    Q: PostRoutine + Send,
+    P: Gate,
+>(
     rt: &R,
     alloc: Global,
     script: &Script,
