@@ -110,6 +110,25 @@ takes-journal {D} {L} {Q} tells id me now n took = record {
   same = ap (λ (x : View D L). standing_at tells id x n) took.same;
 }
 
+-- what was in the slot of a disk's turn
+first_same : {A : Type 0} (x y : A) (more others : List A) → x ∷ more ≡ y ∷ others → x ≡ y
+first_same x y more others is = cc
+
+place_same : {D L Q : Type 0} (p q : Place D L Q) → Some p ≡ Some q → p ≡ q
+place_same p q is = cc
+
+same_place : {D L Q : Type 0} (a b : ℕ) (p q : Place D L Q) (more others : List (ℕ × Slot D L Q)) → (a, Some p) ∷ more ≡ (b, Some q) ∷ others → p ≡ q
+same_place {D} {L} {Q} a b p q more others is =
+    place_same p q (ap (λ (z : ℕ × Slot D L Q). z.1) (first_same {A = ℕ × Slot D L Q} (a, Some p) (b, Some q) more others is))
+
+pub took-device : {D L Q : Type 0} (tells : Tells D L Q) (s slot : ℕ) (disk : D) (me now : Me (Slot D L Q) (View D L)) → Took tells (Device s) me now → now.1 ≡ (slot, Some (place.Device disk)) ∷ me.1 → DiskStands tells.disk tells.disk_faults (disk_at_first tells.disk tells.disk_faults (slice_get now.0.disks s)) now.0.seen s disk
+took-device {D} {L} {Q} tells s slot disk me now took is =
+    subst (λ (x : View D L). DiskStands tells.disk tells.disk_faults (disk_at_first tells.disk tells.disk_faults (slice_get x.disks s)) now.0.seen s disk) (sym took.same) own.stands
+  where
+    own : Fits tells (run_of me.0) now.0.seen (me.0.in_flight + now.0.others) (Device s) (place.Device disk)
+    own = subst (λ (p : Place D L Q). Fits tells (run_of me.0) now.0.seen (me.0.in_flight + now.0.others) (Device s) p)
+        (same_place _ slot took.place (place.Device disk) me.1 me.1 (sym took.carried ∙ is)) took.fits
+
 -- ---- a turn given back
 
 pub holds-the : (n : ℕ) (held : Option ℕ) → held ≡ Some n → is_the n held ≡ true

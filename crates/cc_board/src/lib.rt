@@ -16,4 +16,4 @@ mod steps;
 
 pub use board::{Board, FirstPass, Pass, StillOut};
 pub use rule::{BoardRule, Key, Slot, View};
-pub use seated::Seated;
+pub use seated::{SeatAtTake, Seated};

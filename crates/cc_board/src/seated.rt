@@ -10,7 +10,7 @@ ghost use Rattle.cc_turns.specs.Disk.{DiskStands, opening_of};
 ghost use Rattle.cc_turns.specs.Log.{LogStands};
 ghost use Rattle.cc_turns.specs.Journal.{JournalStands};
 ghost use Rattle.cc_turns.specs.Takes.{Takes, Adds, with_device, with_book, with_log, with_journal, without_device, without_book, without_log, without_journal};
-ghost use Rattle.cc_board.specs.View.{held_of};
+ghost use Rattle.cc_board.specs.View.{held_of, standing_of};
 ghost use Rattle.cc_board.specs.Board.{IsOf, pass_of, seated_standing};
 
 use crate::board::{Board, Pass};
@@ -24,8 +24,9 @@ use cc_entry::StreamId;
 use cc_journal::Journal;
 use cc_log::LogTurn;
 use cc_traits::{LogFile, PageDisk, PostRoutine, Told};
-use cc_turns::{Place, Turns};
+use cc_turns::{AtTake, HeldDisk, Place, Turns};
 use std::marker::Model;
+use std::snapshot::Snapshot;
 use std::sync::Wait;
 
 /// A pass of a board, as it takes turns and gives them. Taking one may wait.
@@ -35,6 +36,12 @@ pub struct Seated<'b, R: Wait, D: Told, L: LogFile, Q: PostRoutine> {
     seat: Seat<Slot<D, L, Q>, View<D, L>>,
     number: u32,
     device_turns: u64,
+}
+
+/// The seat of a pass as it takes a turn, for clauses alone.
+#[derive(Drop)]
+pub struct SeatAtTake<D: Told, L: LogFile, Q: PostRoutine> {
+    seat: Snapshot<Seat<Slot<D, L, Q>, View<D, L>>>,
 }
 
 impl<'b, R: Wait, D: Told, L: LogFile, Q: PostRoutine> Model for Seated<'b, R, D, L, Q> {
@@ -106,8 +113,23 @@ impl<'b, R: Wait, D: Told, L: LogFile, Q: PostRoutine> Seated<'b, R, D, L, Q> {
     }
 }
 
+// A seat as it is now.
+fn at_take_of<D: Told, L: LogFile, Q: PostRoutine>(
+    seat: &Seat<Slot<D, L, Q>, View<D, L>>,
+) -> Snapshot<SeatAtTake<D, L, Q>>
+    ensures { result.value.seat.value ≡ seat.now }
+{
+    Snapshot::of(&SeatAtTake {
+        seat: Snapshot::of(seat),
+    })
+}
+
+impl<D: Told, L: LogFile, Q: PostRoutine> AtTake for SeatAtTake<D, L, Q> {
+    ghost knew = { λ at_take. standing_of (tells_of D.told D.faults L.told L.faults Q.posted) at_take.seat.value.me.0 0 };
+}
+
 impl<'b, R: Wait, D: PageDisk, L: LogFile, Q: PostRoutine> Turns for Seated<'b, R, D, L, Q> {
-    type Disk = D;
+    type Disk = HeldDisk<D, SeatAtTake<D, L, Q>>;
 
     type Log = L;
 
@@ -127,22 +149,22 @@ impl<'b, R: Wait, D: PageDisk, L: LogFile, Q: PostRoutine> Turns for Seated<'b, 
         self.board.logs()
     }
 
-    fn take_device(&mut self, stream: StreamId) -> D {
+    fn take_device(&mut self, stream: StreamId) -> HeldDisk<D, SeatAtTake<D, L, Q>> {
         let slot = usize::from(stream.number());
         let place = self
             .board
             .take::<TakesDevice, R>(self.rt, &mut self.seat, slot);
         self.device_turns = self.device_turns.saturating_add(1);
         match place {
-            Some(Place::Device(disk)) => disk,
+            Some(Place::Device(disk)) => HeldDisk::new(disk, stream, at_take_of(&self.seat)),
             _ => unreachable!(),
         }
     }
 
-    fn give_device(&mut self, stream: StreamId, disk: D) {
+    fn give_device(&mut self, stream: StreamId, disk: HeldDisk<D, SeatAtTake<D, L, Q>>) {
         let slot = usize::from(stream.number());
         self.board
-            .give::<GivesDevice>(&mut self.seat, slot, Place::Device(disk));
+            .give::<GivesDevice>(&mut self.seat, slot, Place::Device(disk.into_disk()));
     }
 
     fn take_book(&mut self, stream: StreamId) -> Book {

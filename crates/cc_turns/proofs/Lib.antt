@@ -4,6 +4,7 @@ pub mod BookGrows
 pub mod RecordPage
 pub mod DiskGrows
 pub mod LogGrows
+pub mod HeldSteps
 pub mod Homes
 pub mod DeskSteps
 pub mod RowSteps

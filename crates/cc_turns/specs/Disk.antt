@@ -42,8 +42,9 @@ pub record HasGone (h : List Effect) (opening now : Disk) : Type 0 where
       is_transferred (open_of h) p ≡ false → all_ended_well h p ≡ true → may_of now p ≡ crash_pages (page_of opening) h p
 
 -- A disk stands for what a past says of its stream: its record page for the writes of the record, each other page for the
--- transfers of the page. Its count of faults rose at least by the failures that the
--- past shows: where a page failed to be read that need not come in any more, no entry says so.
+-- transfers of the page. Its count of faults rose at least by the failures that the past shows: where a page failed to be
+-- read that need not come in any more, no entry says so. Of a disk under its turn the faults before the take that no entry
+-- tells are not counted (`HeldDevice`).
 pub record DiskStands {D : Type 0} (told : D → Option Disk) (faults : D → ℕ) (first : DiskAtFirst) (past : List Entry)
     (s : ℕ) (disk : D) : Type 0 where
   pub has_gone : Both first.told (told disk) (HasGone (history past s))

@@ -3,6 +3,7 @@ pub mod Standing
 pub mod RecordPage
 pub mod Disk
 pub mod Log
+pub mod Held
 pub mod Journal
 pub mod Takes
 pub mod Places

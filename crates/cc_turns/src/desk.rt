@@ -11,6 +11,7 @@ ghost use Rattle.cc_turns.specs.Journal.{JournalStands};
 ghost use Rattle.cc_turns.specs.Takes.{Adds, HasActed, without_log, without_journal};
 ghost use Rattle.cc_turns.specs.Desk.{AreRowsFor, DisksEnded, LogsEnded, IsFresh, made_from, standing_of};
 
+use crate::held::{AtTake, HeldDisk};
 use crate::places;
 use crate::turns::Turns;
 use cc_book::Book;
@@ -210,8 +211,12 @@ impl<D: PageDisk, L: LogFile, Q: PostRoutine> Desk<D, L, Q> {
     }
 }
 
+impl<D: PageDisk, L: LogFile, Q: PostRoutine> AtTake for Desk<D, L, Q> {
+    ghost knew = { standing_of D.told D.faults L.told L.faults };
+}
+
 impl<D: PageDisk, L: LogFile, Q: PostRoutine> Turns for Desk<D, L, Q> {
-    type Disk = D;
+    type Disk = HeldDisk<D, Desk<D, L, Q>>;
 
     type Log = L;
 
@@ -231,15 +236,16 @@ impl<D: PageDisk, L: LogFile, Q: PostRoutine> Turns for Desk<D, L, Q> {
         self.logs.len() as u8
     }
 
-    fn take_device(&mut self, stream: StreamId) -> D {
+    fn take_device(&mut self, stream: StreamId) -> HeldDisk<D, Desk<D, L, Q>> {
+        let at_take = Snapshot::of(self);
         let disk = self.disks[usize::from(stream.number())].take().unwrap();
         self.held.device = Some(stream);
         self.device_turns = self.device_turns.saturating_add(1);
-        disk
+        HeldDisk::new(disk, stream, at_take)
     }
 
-    fn give_device(&mut self, stream: StreamId, disk: D) {
-        match self.disks[usize::from(stream.number())].replace(disk) {
+    fn give_device(&mut self, stream: StreamId, disk: HeldDisk<D, Desk<D, L, Q>>) {
+        match self.disks[usize::from(stream.number())].replace(disk.into_disk()) {
             None => self.held.device = None,
             Some(_) => unreachable!(),
         }

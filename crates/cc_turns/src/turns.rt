@@ -7,6 +7,7 @@ ghost use Rattle.cc_model.specs.Images.{open_of};
 ghost use Rattle.cc_turns.specs.Standing.{Standing, nothing};
 ghost use Rattle.cc_turns.specs.Disk.{DiskStands, opening_of};
 ghost use Rattle.cc_turns.specs.Log.{LogStands};
+ghost use Rattle.cc_turns.specs.Held.{DiskFaultsAreTold};
 ghost use Rattle.cc_turns.specs.Journal.{JournalStands};
 ghost use Rattle.cc_turns.specs.Takes.{Takes, Adds, with_device, with_book, with_log, with_journal, without_device, without_book, without_log, without_journal};
 
@@ -39,7 +40,8 @@ pub trait Turns {
     fn logs(&self) -> u8
         ensures { result ≡ (standing self.now).setup.logs };
 
-    /// Takes the turn of a stream's disk; no other turn is held. No transfer is under way on a disk at home.
+    /// Takes the turn of a stream's disk; no other turn is held. No transfer is under way on a disk at home. Of its faults
+    /// before, only those are counted that an entry tells.
     fn take_device(&mut self, stream: StreamId) -> Self::Disk
         requires known { stream < (standing self.old).streams }
         requires free { (standing self.old).held ≡ nothing }
@@ -48,9 +50,12 @@ pub trait Turns {
             ≡ opening_of ((standing self.new).disks stream).told }
         ensures stands { DiskStands Self.Disk.told Self.Disk.faults ((standing self.new).disks stream)
             (standing self.new).seen stream result }
+        ensures counted { DiskFaultsAreTold Self.Disk.faults ((standing self.new).disks stream)
+            (standing self.new).seen stream result }
         ensures at_rest { open_of (history (standing self.new).seen stream) ≡ None };
 
-    /// Gives the turn of a stream's disk, with no transfer under way.
+    /// Gives the turn of a stream's disk, with no transfer under way. Its count of faults rose since the take by at least
+    /// the failures that were placed since.
     fn give_device(&mut self, stream: StreamId, disk: Self::Disk)
         requires held { (standing self.old).held ≡ record nothing { device = Some stream } }
         requires stands { DiskStands Self.Disk.told Self.Disk.faults ((standing self.old).disks stream)

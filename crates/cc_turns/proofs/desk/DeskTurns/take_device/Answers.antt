@@ -1,8 +1,10 @@
 -- What was at home stands for the last journal, and nobody else went on; no transfer of the stream is under way.
 use Rattle.std.proofs.Common.{◌≡◌, ◌<◌, ◌-◌, ◌^◌, suc, min, arith, length, refl, sym, subst, ap, ◌∙◌}
+use Rattle.cc_turns.specs.Held.{untold_of_disk}
 use Rattle.cc_turns.specs.Takes.{with_device}
 use Rattle.cc_turns.specs.Desk.{standing_of}
 use Rattle.cc_turns.proofs.DeskSteps.{found, device_taken, takes_alone, seen_good}
+use Rattle.cc_turns.proofs.HeldSteps.{disk_stands, disk_told}
 use Rattle.cc_turns.proofs.desk.DeskTurns.take_device.Goals as goal
 
 pub invariant_of-self : goal.invariant_of-self
@@ -25,6 +27,18 @@ returns-clause-took g c =
 
 pub returns-clause-stands : goal.returns-clause-stands
 returns-clause-stands g c =
+    disk_stands g.D.Told.told g.D.Told.faults _ _ c.args.stream c.unwrap-disk.result c.new.result c.new.ensures.disk
+    (c.new.ensures.untold
+    ∙ ap (λ d. untold_of_disk (standing_of g.D.Told.told g.D.Told.faults g.L.LogFile.told g.L.LogFile.faults d) c.args.stream (g.D.Told.faults c.unwrap-disk.result)) (c.of-at_take.ensures ∙ sym c.self.view_is))
+    (found _ _ _ c.from.result c.args.stream c.index_mut.result.now c.take.result c.unwrap-disk.result c.self.invariant.0.disks_are
+    (c.from.ensures ∙ c.number.ensures.same) (subst (λ d. c.args.stream < length d.begun.disks) (sym c.self.view_is) c.requires.known)
+    c.index_mut.ensures.value c.take.ensures.value c.unwrap-disk.ensures).stands
+
+pub returns-clause-counted : goal.returns-clause-counted
+returns-clause-counted g c =
+    disk_told g.D.Told.told g.D.Told.faults _ _ c.args.stream c.unwrap-disk.result c.new.result c.new.ensures.disk
+    (c.new.ensures.untold
+    ∙ ap (λ d. untold_of_disk (standing_of g.D.Told.told g.D.Told.faults g.L.LogFile.told g.L.LogFile.faults d) c.args.stream (g.D.Told.faults c.unwrap-disk.result)) (c.of-at_take.ensures ∙ sym c.self.view_is))
     (found _ _ _ c.from.result c.args.stream c.index_mut.result.now c.take.result c.unwrap-disk.result c.self.invariant.0.disks_are
     (c.from.ensures ∙ c.number.ensures.same) (subst (λ d. c.args.stream < length d.begun.disks) (sym c.self.view_is) c.requires.known)
     c.index_mut.ensures.value c.take.ensures.value c.unwrap-disk.ensures).stands
