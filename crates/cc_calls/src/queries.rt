@@ -26,6 +26,7 @@ pub fn file_state<T: Turns>(
 ) -> Result<FileState, CcError>
     requires can { CanCall (T.standing turns.old) file.stream }
     ensures ends { CallEnds state_outcome (T.standing turns.old) (T.standing turns.new) (call.State file) result }
+    ensures good { IsGood (T.standing turns.old).setup (T.standing turns.new).seen }
 {
     match call_at_once(alloc, turns, file.stream(), Call::State { file }, &mut []) {
         Ok(told) => match told {

@@ -11,6 +11,7 @@ returns-in-State g c = record {
   ends =
       state-done (g.T.Turns.standing c.args.turns.now) (g.T.Turns.standing c.call_at_once.new.turns) c.args.file _ _ c.in-State.state
       (rw (c.in-Ok.is, c.in-State.is) at c.call_at_once.ensures);
+  good = c.call_at_once.ensures.good;
 }
 
 pub unreachable-requires : goal.unreachable-requires
@@ -23,4 +24,5 @@ returns-in-Err g c = record {
   ends =
       failed-at-once state_outcome (g.T.Turns.standing c.args.turns.now) (g.T.Turns.standing c.call_at_once.new.turns) (call.State c.args.file)
       c.in-Err.error _ _ refl (rw c.in-Err.is at c.call_at_once.ensures);
+  good = c.call_at_once.ensures.good;
 }
