@@ -1,0 +1,9 @@
+pub mod Naming
+pub mod Recording
+pub mod Going
+pub mod Told
+pub mod Lists
+pub mod Writing
+pub mod PartReads
+pub mod Pinning
+pub mod Reading

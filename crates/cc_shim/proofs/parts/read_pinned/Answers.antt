@@ -1,0 +1,24 @@
+-- The part was held, read and let go, or could not be held.
+use Rattle.cc_entry.specs.Kinds.{is_pin}
+use Rattle.cc_pieces.specs.Shim.{pinned_path}
+use Rattle.cc_shim.proofs.Going.{two-asked}
+use Rattle.cc_shim.proofs.PartReads.{part-made, part-unmade}
+use Rattle.cc_shim.proofs.parts.read_pinned.Goals as goal
+
+pub returns-in-Ok : goal.returns-in-Ok
+returns-in-Ok g c =
+    let w = g.T.Turns.standing c.args.turns.now in
+    let v = g.T.Turns.standing c.pin_read.new.turns in
+    record {
+      ends =
+          part-made w v (pinned_path c.args.file) is_pin c.args.file c.args.part two-asked (g.T.Turns.standing c.pinned_read-answer.new.turns) (g.T.Turns.standing c.unpin.new.turns) c.in-Ok.pin c.pinned_read-answer.result c.args.out.now c.pinned_read-answer.new.out
+          (rw (c.from-from.ensures.same, c.to.ensures.same) at c.in-Ok.ensures.ends)
+          (rw (c.from-from.ensures.same, c.requires.fits) at c.pinned_read-answer.ensures.ends)
+          c.unpin.ensures.ends;
+    }
+
+pub returns-in-Err : goal.returns-in-Err
+returns-in-Err g c =
+    let w = g.T.Turns.standing c.args.turns.now in
+    let v = g.T.Turns.standing c.pin_read.new.turns in
+    record { ends = part-unmade w v (pinned_path c.args.file) is_pin c.args.file c.args.part two-asked c.in-Err.error c.args.out.now (rw (c.from-from.ensures.same, c.to.ensures.same) at c.in-Err.ensures.ends) }

@@ -1,0 +1,4 @@
+-- What the contracts cite.
+pub mod Names
+pub mod Ends
+pub mod Reads

@@ -1,0 +1,104 @@
+-- What the reads of the shim leave, by their paths.
+use Rattle.std.specs.Prelude.{◌≡◌, ℕ, ◌≤◌, List, length, take, drop, Result, Ok, Err}
+use Rattle.std.specs.declared.option.Option.{Option}
+use Rattle.std.specs.declared.option.Option.TheVariants.{Some, None}
+use Rattle.cc_entry.specs.Place.{File, Range}
+use Rattle.cc_entry.specs.declared.error.CcError.{CcError}
+use Rattle.cc_entry.specs.declared.place.FileState.{FileState}
+use Rattle.cc_model.specs.Ranges.{cut_range}
+use Rattle.cc_model.specs.Setup.{Setup}
+use Rattle.cc_effects.specs.Moments.{Between}
+use Rattle.cc_ranges.specs.declared.error.NcError.{NcError}
+use Rattle.cc_turns.specs.Standing.{Standing}
+use Rattle.cc_pieces.specs.Shim.{HeldPartsLeft, HoldPath, PartRead, PartRefused, PartsLeft, ReadPath, ReadTested, descriptor_path, mapped_path, misaligned_for, parts_of, pinned_path, too_long_for, whole_part}
+use Rattle.cc_pieces.specs.Shim as shim
+use Rattle.cc_shim.specs.Ends.{ListEnds}
+use Rattle.cc_shim.specs.declared.parts.By.{By}
+use Rattle.cc_shim.specs.declared.parts.By.TheVariants as way
+use Rattle.cc_shim.specs.declared.reads.Path.{Path}
+use Rattle.cc_shim.specs.declared.reads.Path.TheVariants as asked
+
+-- the path of a read, in the words of what it leaves
+abbrev pub path_of : Path → ReadPath
+path_of asked.Cached = shim.Cached
+path_of asked.Mapped = shim.Mapped
+path_of asked.Pinned = shim.Pinned
+path_of asked.Descriptor = shim.Descriptor
+path_of asked.Noncached = shim.Noncached
+
+-- the first of two refusals
+abbrev pub first_of : Option CcError → Option CcError → Option CcError
+first_of (Some e) other = Some e
+first_of None other = other
+
+-- how a part is held, and of which parts a range is
+abbrev pub held_by : By → File → HoldPath
+held_by way.Map file = mapped_path file
+held_by way.Pin file = pinned_path file
+held_by way.Chain file = descriptor_path file
+
+abbrev pub path_by : By → ReadPath
+path_by way.Map = shim.Mapped
+path_by way.Pin = shim.Pinned
+path_by way.Chain = shim.Descriptor
+
+abbrev pub parts_by : By → Range → List Range
+parts_by way.Map r = parts_of r
+parts_by way.Pin r = parts_of r
+parts_by way.Chain r = whole_part r
+
+-- what a read answers that fills what its caller handed in, and one that answers how many bytes there are in its front
+abbrev pub filled : Result (Unit {0}) CcError → List ℕ → Result (List ℕ) CcError
+filled (Ok done) out = Ok out
+filled (Err e) out = Err e
+
+abbrev pub read_in : Result ℕ CcError → List ℕ → Result (List ℕ) CcError
+read_in (Ok n) out = Ok (take n out)
+read_in (Err e) out = Err e
+
+-- the cause alone of a noncached read that was refused
+abbrev pub nc_cause : Result ℕ NcError → Result ℕ CcError
+nc_cause (Ok n) = Ok n
+nc_cause (Err e) = Err e.cause
+
+-- What the caller handed in is as it was behind the answer. Where the read failed, it is not said what is there.
+abbrev pub KeepsBehind : Result ℕ CcError → List ℕ → List ℕ → Type 0
+KeepsBehind (Ok n) was now = (n ≤ length was) × (drop n now ≡ drop n was)
+KeepsBehind (Err e) was now = length now ≡ length was
+
+-- one part was held, read and let go, or refused
+abbrev pub PartLeft : Setup → ℕ → HoldPath → Range → Result (List ℕ) CcError → Between
+PartLeft u me path r (Ok bytes) old new = PartRead u me path r bytes old new
+PartLeft u me path r (Err e) old new = PartRefused u me path r e old new
+
+abbrev pub PartEnds : Standing → Standing → HoldPath → Range → Result (Unit {0}) CcError → List ℕ → List ℕ → Type 0
+PartEnds old new path r answer was now = ListEnds old new (PartLeft old.setup old.number path r) (filled answer now)
+
+-- parts were read one after the other
+abbrev pub PartsEnds : Standing → Standing → HoldPath → List Range → Result (Unit {0}) CcError → List ℕ → List ℕ → Type 0
+PartsEnds old new path parts answer was now = ListEnds old new (PartsLeft old.setup old.number path parts) (filled answer now)
+
+-- The parts of a range below the size were read, which the caller was told, or one of them was refused.
+pub record ToldSizeEnds (old new : Standing) (file : File) (how : By) (at : ℕ) (state : FileState) (answer : Result ℕ CcError)
+    (was now : List ℕ) : Type 0 where
+  pub ends : ListEnds old new
+      (PartsLeft old.setup old.number (held_by how file) (parts_by how (cut_range state.sizes.size at (length was)))) (read_in answer now)
+  pub rest : KeepsBehind answer was now
+
+-- A read of what of a range lies below the size was answered so.
+pub record BelowSizeEnds (old new : Standing) (file : File) (how : By) (at : ℕ) (answer : Result ℕ CcError) (was now : List ℕ)
+    : Type 0 where
+  pub ends : ListEnds old new
+      (HeldPartsLeft old.setup old.number file (held_by how file) (parts_by how) at (length was)) (read_in answer now)
+  pub rest : KeepsBehind answer was now
+
+-- a read by a path
+abbrev pub ReadLeft : Setup → ℕ → File → ReadPath → ℕ → ℕ → Result (List ℕ) CcError → Between
+ReadLeft u me file path at len answered old new =
+    ReadTested u me file path at len (too_long_for path len) (misaligned_for path at len) answered old new
+
+-- A read by a path into so many bytes was answered so, and what was handed in is as it was behind the answer.
+pub record PathReadEnds (old new : Standing) (file : File) (path : Path) (at : ℕ) (answer : Result ℕ CcError) (was now : List ℕ)
+    : Type 0 where
+  pub ends : ListEnds old new (ReadLeft old.setup old.number file (path_of path) at (length was)) (read_in answer now)
+  pub rest : KeepsBehind answer was now
