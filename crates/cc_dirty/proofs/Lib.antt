@@ -2,3 +2,4 @@ mod Search
 mod Lookup
 mod Edits
 mod Rows
+mod Gap

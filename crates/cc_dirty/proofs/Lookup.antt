@@ -1,5 +1,6 @@
 -- A look-up after an element went in or out.
 use Rattle.std.proofs.Common.{◌≡◌, ◌≢◌, ℕ, zero, suc, ◌<◌, ◌≤◌, Bool, true, false, not, cond, List, [], ◌∷◌, Option, None, Some, is_some, length, get_or, set, insert, remove, refl, ap, subst, arith}
+use Rattle.std.proofs.lemmas.List.Filters.{length-filter_both}
 use Rattle.std.specs.List.{find, filter, slice_get}
 
 pub is_some-none : {X : Type 0} (o : Option X) → is_some o ≡ false → o ≡ None
@@ -83,3 +84,6 @@ module _ {X : Type 0} (p : X → Bool) where
   pub find-filter_all : (xs : List X) → find p xs ≡ None → filter (λ x. not (p x)) xs ≡ xs
   find-filter_all [] none = refl
   find-filter_all (x ∷ xs) none = let parts = none-head x xs (p x) refl none in rw (parts.0) (ap (λ ys. x ∷ ys) (find-filter_all xs parts.1))
+
+pub length-filter-le : {X : Type 0} (keep : X → Bool) (xs : List X) → length (filter keep xs) ≤ length xs
+length-filter-le keep xs = let both = length-filter_both keep (λ x. not (keep x)) (λ x. refl) xs in omega arith

@@ -1,12 +1,13 @@
 //! Edits of the rows that keep their order.
 
-ghost use Rattle.std.specs.Prelude.{◌≡◌, ◌+◌, ◌<◌, ◌≤◌, true, None, Some, IfSome, IsSomeAnd, length, slice_get, insert, filter, not, vec_len, vec_capacity};
+ghost use Rattle.std.specs.Prelude.{◌≡◌, ◌+◌, ◌<◌, ◌≤◌, true, None, Some, IfSome, IsSomeAnd, length, slice_get, filter, not};
 ghost use Rattle.cc_dirty.specs.Order.{same_page, is_from, is_between, SplitsAt};
 ghost use Rattle.cc_dirty.specs.Unwritten.{is_touched};
 ghost use Rattle.cc_dirty.specs.Table.{row_of, KeepsOthers, Sound};
 
 use crate::find::{first_between, first_from, place_of};
-use crate::row::{Row, Unwritten, is_between, is_from, same_page};
+use crate::live::LiveRows;
+use crate::row::{Row, same_page};
 use cc_entry::{PageId, StreamId};
 
 /// The place of a page among the rows, and its row there.
@@ -36,90 +37,75 @@ pub(crate) fn find(rows: &[Row], page: PageId) -> (usize, Option<Row>)
 }
 
 /// Writes a page's row over the one that it has.
-pub(crate) fn replace(rows: &mut Vec<Row>, place: usize, row: Row)
-    requires sound { Sound rows.old.items }
-    requires split { SplitsAt rows.old.items row.page place }
-    requires at { IsSomeAnd (slice_get rows.old.items place) (λ r. same_page r.page row.page ≡ true) }
+pub(crate) fn replace(rows: &mut LiveRows, place: usize, row: Row)
+    requires sound { Sound rows.old.rows }
+    requires split { SplitsAt rows.old.rows row.page place }
+    requires at { IsSomeAnd (slice_get rows.old.rows place) (λ r. same_page r.page row.page ≡ true) }
     requires touched { is_touched row ≡ true }
     requires numbered { row.page.stream < 16 }
-    ensures row { row_of rows.new.items row.page ≡ Some row }
-    ensures others { KeepsOthers rows.old.items rows.new.items row.page }
-    ensures sound { Sound rows.new.items }
-    ensures len { vec_len rows.new ≡ vec_len rows.old }
-    ensures capacity { vec_capacity rows.new ≡ vec_capacity rows.old }
+    ensures row { row_of rows.new.rows row.page ≡ Some row }
+    ensures others { KeepsOthers rows.old.rows rows.new.rows row.page }
+    ensures sound { Sound rows.new.rows }
+    ensures len { length rows.new.rows ≡ length rows.old.rows }
+    ensures capacity { rows.new.capacity ≡ rows.old.capacity }
 {
-    rows[place] = row;
+    rows.set(place, row);
 }
 
 /// Puts in the row of a page that has none.
-pub(crate) fn insert(rows: &mut Vec<Row>, place: usize, row: Row)
-    requires sound { Sound rows.old.items }
-    requires split { SplitsAt rows.old.items row.page place }
-    requires within { place ≤ length rows.old.items }
-    requires absent { row_of rows.old.items row.page ≡ None }
+pub(crate) fn insert(rows: &mut LiveRows, place: usize, row: Row)
+    requires sound { Sound rows.old.rows }
+    requires split { SplitsAt rows.old.rows row.page place }
+    requires within { place ≤ length rows.old.rows }
+    requires absent { row_of rows.old.rows row.page ≡ None }
     requires touched { is_touched row ≡ true }
     requires numbered { row.page.stream < 16 }
-    requires room { vec_len rows.old < vec_capacity rows.old }
-    ensures row { row_of rows.new.items row.page ≡ Some row }
-    ensures others { KeepsOthers rows.old.items rows.new.items row.page }
-    ensures sound { Sound rows.new.items }
-    ensures len { vec_len rows.new ≡ vec_len rows.old + 1 }
-    ensures capacity { vec_capacity rows.new ≡ vec_capacity rows.old }
+    requires room { length rows.old.rows < rows.old.capacity }
+    ensures row { row_of rows.new.rows row.page ≡ Some row }
+    ensures others { KeepsOthers rows.old.rows rows.new.rows row.page }
+    ensures sound { Sound rows.new.rows }
+    ensures len { length rows.new.rows ≡ length rows.old.rows + 1 }
+    ensures capacity { rows.new.capacity ≡ rows.old.capacity }
 {
-    // Taken apart and put together again, so that the check finds the fields' types here.
-    let Row { page, begun, later } = row;
-    let Unwritten { oldest, lsns } = later;
-    let later = Unwritten { oldest, lsns };
-    insert_reserved(rows, place, Row { page, begun, later });
+    rows.insert(place, row);
 }
 
 /// Takes out the row of a page.
-pub(crate) fn remove(rows: &mut Vec<Row>, place: usize, page: PageId)
-    requires sound { Sound rows.old.items }
-    requires split { SplitsAt rows.old.items page place }
-    requires at { IsSomeAnd (slice_get rows.old.items place) (λ r. same_page r.page page ≡ true) }
-    ensures row { row_of rows.new.items page ≡ None }
-    ensures others { KeepsOthers rows.old.items rows.new.items page }
-    ensures sound { Sound rows.new.items }
-    ensures len { vec_len rows.new ≤ vec_len rows.old }
-    ensures capacity { vec_capacity rows.new ≡ vec_capacity rows.old }
+pub(crate) fn remove(rows: &mut LiveRows, place: usize, page: PageId)
+    requires sound { Sound rows.old.rows }
+    requires split { SplitsAt rows.old.rows page place }
+    requires at { IsSomeAnd (slice_get rows.old.rows place) (λ r. same_page r.page page ≡ true) }
+    ensures row { row_of rows.new.rows page ≡ None }
+    ensures others { KeepsOthers rows.old.rows rows.new.rows page }
+    ensures sound { Sound rows.new.rows }
+    ensures len { length rows.new.rows ≤ length rows.old.rows }
+    ensures capacity { rows.new.capacity ≡ rows.old.capacity }
 {
     rows.remove(place);
 }
 
 /// Takes out the rows of a stream's pages from this number on. Where there is none, it looks through no row.
-pub(crate) fn drop_from(rows: &mut Vec<Row>, stream: StreamId, page: u64)
-    requires { Sound rows.old.items }
-    ensures rows { rows.new.items ≡ filter (λ r. not (is_from stream page r.page)) rows.old.items }
-    ensures len { vec_len rows.new ≤ vec_len rows.old }
-    ensures capacity { vec_capacity rows.new ≡ vec_capacity rows.old }
+pub(crate) fn drop_from(rows: &mut LiveRows, stream: StreamId, page: u64)
+    requires { Sound rows.old.rows }
+    ensures rows { rows.new.rows ≡ filter (λ r. not (is_from stream page r.page)) rows.old.rows }
+    ensures len { length rows.new.rows ≤ length rows.old.rows }
+    ensures capacity { rows.new.capacity ≡ rows.old.capacity }
 {
-    if first_from(rows, stream, page).is_some() {
-        rows.retain(|row| !is_from(row.page, stream, page));
+    if first_from(rows.as_slice(), stream, page).is_some() {
+        rows.drop_from(stream, page);
     }
 }
 
 /// Takes out the rows of a stream's pages from `from` up to, and without, `to`. Where there is none, it looks through no
 /// row.
-pub(crate) fn drop_between(rows: &mut Vec<Row>, stream: StreamId, from: u64, to: u64)
-    requires { Sound rows.old.items }
-    ensures rows { rows.new.items
-        ≡ filter (λ r. not (is_between stream from to r.page)) rows.old.items }
-    ensures len { vec_len rows.new ≤ vec_len rows.old }
-    ensures capacity { vec_capacity rows.new ≡ vec_capacity rows.old }
+pub(crate) fn drop_between(rows: &mut LiveRows, stream: StreamId, from: u64, to: u64)
+    requires { Sound rows.old.rows }
+    ensures rows { rows.new.rows
+        ≡ filter (λ r. not (is_between stream from to r.page)) rows.old.rows }
+    ensures len { length rows.new.rows ≤ length rows.old.rows }
+    ensures capacity { rows.new.capacity ≡ rows.old.capacity }
 {
-    if first_between(rows, stream, from, to).is_some() {
-        rows.retain(|row| !is_between(row.page, stream, from, to));
+    if first_between(rows.as_slice(), stream, from, to).is_some() {
+        rows.drop_between(stream, from, to);
     }
-}
-
-// An insert where there is room, which can't fail.
-fn insert_reserved<T: Drop>(items: &mut Vec<T>, place: usize, item: T)
-    requires within { place ≤ vec_len items.old }
-    requires room { vec_len items.old < vec_capacity items.old }
-    ensures items { items.new.items ≡ insert items.old.items place item }
-    ensures len { vec_len items.new ≡ vec_len items.old + 1 }
-    ensures capacity { vec_capacity items.new ≡ vec_capacity items.old }
-{
-    let _ = items.insert(place, item);
 }

@@ -8,6 +8,7 @@ ghost use Rattle.cc_dirty.specs.Table.{row_of, new_rows, KeepsOthers, DropsPages
 
 use crate::edit::{drop_between, drop_from, find, insert, remove, replace};
 use crate::find::{first_between, first_from};
+use crate::live::LiveRows;
 use crate::row::Row;
 use cc_entry::{Lsn, NoMemory, PageId, StreamId};
 use std::alloc::Global;
@@ -16,18 +17,18 @@ use std::marker::Model;
 /// The dirty page table.
 #[derive(Drop)]
 pub struct DirtyTable {
-    rows: Vec<Row>,
+    rows: LiveRows,
 }
 
 impl Model for DirtyTable {
-    ghost use Rattle.std.specs.Prelude.{◌≤◌, vec_len, vec_capacity, min};
+    ghost use Rattle.std.specs.Prelude.{◌≤◌, length, min};
     ghost use Rattle.cc_dirty.specs.Table.{Table, Sound};
 
     ghost Value = { Table };
 
-    ghost view = { λ t. record { rows = t.rows.items; capacity = min (vec_capacity t.rows) 4294967295 } };
+    ghost view = { λ t. record { rows = t.rows.rows; capacity = min t.rows.capacity 4294967295 } };
 
-    ghost invariant = { λ t. Sound t.rows.items × (vec_len t.rows ≤ 4294967295) };
+    ghost invariant = { λ t. Sound t.rows.rows × (length t.rows.rows ≤ 4294967295) };
 }
 
 impl DirtyTable {
@@ -36,7 +37,7 @@ impl DirtyTable {
         ensures { result.rows ≡ [] }
     {
         DirtyTable {
-            rows: Vec::new(alloc),
+            rows: LiveRows::new(alloc),
         }
     }
 
@@ -47,8 +48,7 @@ impl DirtyTable {
         ensures capacity { self.old.capacity ≤ self.new.capacity }
         ensures err { OnErr result (self.new ≡ self.old) }
     {
-        let further = (rows as usize).saturating_sub(self.rows.len());
-        self.rows.reserve(further).map_err(|_| NoMemory)
+        self.rows.reserve(rows)
     }
 
     /// The rows by stream and page.
@@ -56,7 +56,7 @@ impl DirtyTable {
         ensures rows { result.now ≡ self.now.rows }
         ensures sound { Sound result.now }
     {
-        &self.rows
+        self.rows.as_slice()
     }
 
     /// The row of a page, where the page is dirty.
@@ -64,7 +64,7 @@ impl DirtyTable {
         ensures row { result ≡ row_of self.now.rows page }
         ensures sound { Sound self.now.rows }
     {
-        find(&self.rows, page).1
+        find(self.rows.as_slice(), page).1
     }
 
     /// The first row of a stream's pages from this number on.
@@ -72,7 +72,7 @@ impl DirtyTable {
         ensures first { result ≡ find (λ r. is_from stream from r.page) self.now.rows }
         ensures sound { Sound self.now.rows }
     {
-        first_from(&self.rows, stream, from)
+        first_from(self.rows.as_slice(), stream, from)
     }
 
     /// The first row of a stream's pages from `from` up to, and without, `to`.
@@ -80,7 +80,7 @@ impl DirtyTable {
         ensures first { result ≡ find (λ r. is_between stream from to r.page) self.now.rows }
         ensures sound { Sound self.now.rows }
     {
-        first_between(&self.rows, stream, from, to)
+        first_between(self.rows.as_slice(), stream, from, to)
     }
 
     /// How many pages of a stream are dirty.
@@ -89,6 +89,7 @@ impl DirtyTable {
         ensures sound { Sound self.now.rows }
     {
         self.rows
+            .as_slice()
             .iter()
             .filter(|row| row.page.stream().number() == stream.number())
             .count() as u32
@@ -102,7 +103,7 @@ impl DirtyTable {
         ensures len { length self.new.rows ≡ length self.old.rows + new_rows (row_of self.old.rows page) }
         ensures capacity { self.new.capacity ≡ self.old.capacity }
     {
-        match find(&self.rows, page) {
+        match find(self.rows.as_slice(), page) {
             (at, Some(row)) => replace(&mut self.rows, at, row.touched(place, lsn)),
             (at, None) => insert(&mut self.rows, at, Row::new(page, place, lsn)),
         }
@@ -114,7 +115,7 @@ impl DirtyTable {
         ensures others { KeepsOthers self.old.rows self.new.rows page }
         ensures capacity { self.new.capacity ≡ self.old.capacity }
     {
-        if let (place, Some(row)) = find(&self.rows, page) {
+        if let (place, Some(row)) = find(self.rows.as_slice(), page) {
             replace(&mut self.rows, place, row.begun());
         }
     }
@@ -126,7 +127,7 @@ impl DirtyTable {
         ensures others { KeepsOthers self.old.rows self.new.rows page }
         ensures capacity { self.new.capacity ≡ self.old.capacity }
     {
-        if let (place, Some(row)) = find(&self.rows, page) {
+        if let (place, Some(row)) = find(self.rows.as_slice(), page) {
             let row = row.ended(ok);
             if row.is_touched() {
                 replace(&mut self.rows, place, row);
