@@ -1,5 +1,5 @@
 -- Lists of blocks, and tests of them.
-use Rattle.std.proofs.Common.{◌≡◌, ℕ, ◌+◌, ◌-◌, ◌<◌, ◌≤◌, zero, suc, Bool, true, false, cond, not, ◌&&◌, ◌||◌, ◌==◌, if◌then◌else◌, List, [], ◌∷◌, ◌++◌, refl, sym, ap, ◌∙◌, true≢false, arith, Some}
+use Rattle.std.proofs.Common.{◌≡◌, ℕ, ◌+◌, ◌-◌, ◌<◌, ◌≤◌, zero, suc, Bool, true, false, cond, not, ◌&&◌, ◌||◌, ◌==◌, if◌then◌else◌, List, [], ◌∷◌, ◌++◌, None, Some, is_some, refl, sym, ap, subst, ◌∙◌, true≢false, arith}
 use Rattle.std.proofs.lemmas.Bool.{eqb-true, eq-eqb}
 use Rattle.std.specs.List.{filter, find, list_any, list_all, range_with_len}
 use Rattle.cc_resident.specs.Residents.{is_among, without, used}
@@ -35,6 +35,37 @@ pub find_more : (test : ℕ → Bool) (page end : ℕ) → page < end → find t
 find_more test page end h =
     let n : end - page ≡ suc (end - (page + 1)) = omega arith in
     ap (λ l. find test (range_with_len page l)) n
+
+-- the first of the numbers of two ranges, one behind the other
+pub find_past : (test : ℕ → Bool) (a k n m : ℕ) → k ≡ n + m → find test (range_with_len a n) ≡ None → find test (range_with_len a k) ≡ find test (range_with_len (a + n) m)
+find_past test a k zero m e none = ap (λ i. find test (range_with_len i k)) {x = a} {y = a + 0} (omega arith) ∙ ap (λ i. find test (range_with_len (a + 0) i)) {x = k} {y = m} (omega arith)
+find_past test a zero (suc n) m e none = absurd (omega arith)
+find_past test a (suc k) (suc n) m e none = go (test a) refl (λ rest. find_past test (a + 1) k n m (omega arith) rest)
+  where
+    go : (b : Bool) → test a ≡ b → (find test (range_with_len (a + 1) n) ≡ None → find test (range_with_len (a + 1) k) ≡ find test (range_with_len (a + 1 + n) m))
+        → find test (range_with_len a (suc k)) ≡ find test (range_with_len (a + suc n) m)
+    go true is after =
+        let found : cond true (Some a) (find test (range_with_len (a + 1) n)) ≡ None = subst (λ b. cond b (Some a) (find test (range_with_len (a + 1) n)) ≡ None) is none in
+        absurd (cc)
+    go false is after =
+        let rest : find test (range_with_len (a + 1) n) ≡ None = subst (λ b. cond b (Some a) (find test (range_with_len (a + 1) n)) ≡ None) is none in
+        ap (λ b. cond b (Some a) (find test (range_with_len (a + 1) k))) is
+        ∙ after rest
+        ∙ ap (λ i. find test (range_with_len i m)) {x = a + 1 + n} {y = a + suc n} (omega arith)
+
+pub find_before : (test : ℕ → Bool) (a k n : ℕ) → n ≤ k → is_some (find test (range_with_len a n)) ≡ true → find test (range_with_len a k) ≡ find test (range_with_len a n)
+find_before test a k zero le some = absurd (true≢false (sym some))
+find_before test a zero (suc n) le some = absurd (omega arith)
+find_before test a (suc k) (suc n) le some = go (test a) refl (λ rest. find_before test (a + 1) k n (omega arith) rest)
+  where
+    go : (b : Bool) → test a ≡ b → (is_some (find test (range_with_len (a + 1) n)) ≡ true → find test (range_with_len (a + 1) k) ≡ find test (range_with_len (a + 1) n))
+        → find test (range_with_len a (suc k)) ≡ find test (range_with_len a (suc n))
+    go true is after = ap (λ b. cond b (Some a) (find test (range_with_len (a + 1) k))) is ∙ sym (ap (λ b. cond b (Some a) (find test (range_with_len (a + 1) n))) is)
+    go false is after =
+        let rest : is_some (find test (range_with_len (a + 1) n)) ≡ true = subst (λ b. is_some (cond b (Some a) (find test (range_with_len (a + 1) n))) ≡ true) is some in
+        ap (λ b. cond b (Some a) (find test (range_with_len (a + 1) k))) is
+        ∙ after rest
+        ∙ sym (ap (λ b. cond b (Some a) (find test (range_with_len (a + 1) n))) is)
 
 -- a number of a range at which a test holds
 pub any_within : (f : ℕ → Bool) (a n i : ℕ) → i < n → f (a + i) ≡ true → list_any f (range_with_len a n) ≡ true

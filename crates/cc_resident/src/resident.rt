@@ -58,16 +58,21 @@ impl ResidentPages {
         }
     }
 
-    /// The least page with bytes of the range that is not resident.
+    /// The least page with bytes of the range that is not resident. Each block is looked up once.
     pub fn first_absent(&self, from: u64, to: u64) -> Option<u64>
         ensures { result
             ≡ find (λ p. not (is_resident self.now p)) (pages_of (record { from = from; to = to })) }
     {
         if from < to {
-            for page in from / 4096..(to - 1) / 4096 + 1 {
-                if self.get(page).is_none() {
-                    return Some(page);
+            let end = (to - 1) / 4096 + 1;
+            let mut page = from / 4096;
+            while page < end {
+                let next = end.min(64 * (page / 64) + 64);
+                let absent = steps::absent_in_block(&self.views, page, next);
+                if absent.is_some() {
+                    return absent;
                 }
+                page = next;
             }
         }
         None

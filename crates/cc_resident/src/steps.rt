@@ -1,11 +1,11 @@
 //! Steps on the mapped blocks, some of which may leave a block with no page.
 
-ghost use Rattle.std.specs.Prelude.{◌≡◌, ◌≢◌, ℕ, ◌+◌, ◌*◌, ◌/◌, ◌%◌, ◌^◌, ◌<◌, ◌≤◌, ◌==◌, ◌&&◌, nat_eq, [], ◌∷◌, length, IsSome, OnOk, OnErr, IfOk, None, Some, is_some, true, false, IfSome, if◌then◌else◌};
-ghost use Rattle.std.specs.List.{filter, list_any, range_with_len, IsDistinct};
+ghost use Rattle.std.specs.Prelude.{◌≡◌, ◌≢◌, ℕ, ◌+◌, ◌-◌, ◌*◌, ◌/◌, ◌%◌, ◌^◌, ◌<◌, ◌≤◌, ◌==◌, ◌&&◌, not, nat_eq, [], ◌∷◌, length, IsSome, OnOk, OnErr, IfOk, None, Some, is_some, true, false, IfSome, if◌then◌else◌};
+ghost use Rattle.std.specs.List.{filter, find, list_any, range_with_len, IsDistinct};
 ghost use Rattle.cc_entry.specs.Pages.{block_of};
 ghost use Rattle.cc_pages.specs.Pages.{owned, page_at as page_in, bytes_at, is_owned, overwritten, KeepsOthers};
 ghost use Rattle.cc_views.specs.Views.{frames_at, IsSound};
-ghost use Rattle.cc_resident.specs.Residents.{frame_at, page_at, shares, is_shared, blocks, has_pages, used, without};
+ghost use Rattle.cc_resident.specs.Residents.{frame_at, page_at, is_resident, shares, is_shared, blocks, has_pages, used, without};
 ghost use Rattle.cc_resident.specs.Changes.{Puts, Keeps, SameBytes, StaysOwned, SharesOnly, OwnsBetween, Clears, is_between};
 
 use cc_entry::NoMemory;
@@ -222,6 +222,24 @@ fn clear_if_between(views: &mut Views, page: u64, from: u64, to: u64)
 {
     if from <= page && page < to {
         clear(views, page);
+    }
+}
+
+// The least page from one up to, and without, another that is not resident; all are of one block.
+pub(crate) fn absent_in_block(views: &Views, from: u64, to: u64) -> Option<u64>
+    requires { to ≤ 64 * block_of from + 64 }
+    ensures { result ≡ find (λ p. not (is_resident views.now p)) (range_with_len from (to - from)) }
+{
+    match views.frames(from / 64) {
+        Some(frames) => {
+            for page in from..to {
+                if frames.get((page % 64) as u8).is_none() {
+                    return Some(page);
+                }
+            }
+            None
+        }
+        None => (from < to).then_some(from),
     }
 }
 

@@ -5,4 +5,7 @@ use Rattle.cc_resident.specs.Residents.{is_resident}
 use Rattle.cc_resident.proofs.resident.ResidentPages.first_absent.Given as goal
 
 abbrev pub invariant-loop-page : goal.invariant-loop-page
-invariant-loop-page l = find (λ p. not (is_resident l.self p)) (range_with_len l.page (l.page-end - l.page)) ≡ find (λ p. not (is_resident l.self p)) (pages_of (record { from = l.from; to = l.to }))
+invariant-loop-page l = find (λ p. not (is_resident l.self-inside.views p)) (range_with_len l.page (l.end - l.page)) ≡ find (λ p. not (is_resident l.self-inside.views p)) (pages_of (record { from = l.from; to = l.to }))
+
+abbrev pub decreases-loop-page : goal.decreases-loop-page
+decreases-loop-page l = l.end - l.page
