@@ -3,7 +3,9 @@ pub mod Places
 pub mod Changes
 mod Order
 pub mod Overlap
-mod BlockCounts
+pub mod BlockRows
+pub mod BlockNumbers
+pub mod HoldBlocks
 pub mod Zips
 pub mod KeptLists
 pub mod PagesOwed

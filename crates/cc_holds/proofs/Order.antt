@@ -1,7 +1,9 @@
 -- Holds in the order of their ids.
-use Rattle.std.proofs.Common.{◌≡◌, ℕ, ◌<◌, ◌≤◌, Bool, true, false, List, Option, None, Some, length, get_or, inl, inr, refl, ◌∙◌, sym, subst, nat_lt, insert, if◌then◌else◌, arith}
+use Rattle.std.proofs.Common.{◌≡◌, ℕ, ◌+◌, ◌<◌, ◌≤◌, Bool, true, false, List, Option, None, Some, length, get_or, set, remove, inl, inr, refl, ap, ◌∙◌, sym, subst, nat_lt, insert, arith}
 use Rattle.std.proofs.lemmas.Bool.{cases_lt}
 use Rattle.std.proofs.lemmas.Option.{slice_get_within, slice_get-get_or}
+use Rattle.std.proofs.lemmas.List.{length-set, get_or-set_same, get_or-set_other, get_or_default}
+use Rattle.std.proofs.lemmas.List.Edits.{length-remove, get_or-remove_below, get_or-remove_above}
 use Rattle.std.proofs.lemmas.List.Folds.{find_at}
 use Rattle.std.proofs.lemmas.List.Sums.{fails_before_first, passes_at_first}
 use Rattle.std.proofs.lemmas.List.Sorted.{IsNonDecreasingBy-insert}
@@ -37,7 +39,7 @@ pub IsLeast-first : (passes : Hold → Bool) (holds : List Hold) (answer : Optio
 IsLeast-first passes holds answer e order = subst (IsLeast passes holds) (sym e) (first_id-least passes holds order)
 
 -- a hold that goes in before the first of a greater id
-InOrder-insert : (holds : List Hold) (h : Hold) (place : ℕ) → place ≡ position_or_len (λ x. nat_lt h.row.id x.row.id) holds → place ≤ length holds
+pub InOrder-insert : (holds : List Hold) (h : Hold) (place : ℕ) → place ≡ position_or_len (λ x. nat_lt h.row.id x.row.id) holds → place ≤ length holds
     → InOrder holds → InOrder (insert holds place h)
 InOrder-insert holds h place at le order =
     let greater : Hold → Bool = λ x. nat_lt h.row.id x.row.id in
@@ -49,8 +51,43 @@ InOrder-insert holds h place at le order =
     let later = order (position_or_len greater holds) k d (omega arith) lt in
     omega (arith, later))
 
--- the holds after an `insert` that may have found no memory
-pub InOrder-tried : (holds new : List Hold) (h : Hold) (place : ℕ) (done : Bool) → new ≡ (if done then insert holds place h else holds)
-    → place ≡ position_or_len (λ x. nat_lt h.row.id x.row.id) holds → place ≤ length holds → InOrder holds → InOrder new
-InOrder-tried holds new h place true is at le order = subst InOrder (sym is) (InOrder-insert holds h place at le order)
-InOrder-tried holds new h place false is at le order = subst InOrder (sym is) order
+no-more : (x y u v : Hold) → x ≡ u → y ≡ v → u.row.id ≤ v.row.id → x.row.id ≤ y.row.id
+no-more x y u v ex ey le = subst (λ (h : Hold). h.row.id ≤ y.row.id) (sym ex) (subst (λ (h : Hold). u.row.id ≤ h.row.id) (sym ey) le)
+
+pub InOrder-remove : (holds : List Hold) (place : ℕ) → place < length holds → InOrder holds → InOrder (remove holds place)
+InOrder-remove holds place within order i j d le later = elim (cases_lt j place) [
+  | inl jb ↦ no-more _ _ _ _ (below i (omega arith)) (below j jb) (order i j d le (omega arith))
+  | inr ja ↦ elim (cases_lt i place) [
+    | inl ib ↦ no-more _ _ _ _ (below i ib) (above j (omega arith)) (order i (j + 1) d (omega arith) (omega (arith, short)))
+    | inr ia ↦ no-more _ _ _ _ (above i (omega arith)) (above j (omega arith)) (order (i + 1) (j + 1) d (omega arith) (omega (arith, short)))
+  ]
+]
+  where
+    short : length (remove holds place) + 1 ≡ length holds
+    short = length-remove holds place within
+
+    below : (k : ℕ) → k < place → get_or (remove holds place) k d ≡ get_or holds k d
+    below k lt = get_or-remove_below holds place d k lt within
+
+    above : (k : ℕ) → place ≤ k → get_or (remove holds place) k d ≡ get_or holds (k + 1) d
+    above k ge = get_or-remove_above holds place d k ge within
+
+-- a changed hold keeps its id
+pub InOrder-set : (holds : List Hold) (place : ℕ) (h new : Hold) → place < length holds → h ≡ get_or holds place h → new.row.id ≡ h.row.id → InOrder holds → InOrder (set holds place new)
+InOrder-set holds place h new within at same order i j d le later =
+    let n = length-set holds place new in
+    let before = order i j d le (omega (arith, n)) in
+    omega (arith, before, id-at i, id-at j)
+  where
+    id-at : (k : ℕ) → (get_or (set holds place new) k d).row.id ≡ (get_or holds k d).row.id
+    id-at k = elim (cases_lt k place) [
+      | inl lt ↦ ap (λ (x : Hold). x.row.id) (get_or-set_other holds place k new d (λ e. absurd (omega (arith, e))))
+      | inr ge ↦ elim (cases_lt place k) [
+        | inl gt ↦ ap (λ (x : Hold). x.row.id) (get_or-set_other holds place k new d (λ e. absurd (omega (arith, e))))
+        | inr le ↦
+            let is : place ≡ k = omega arith in
+            subst (λ m. (get_or (set holds place new) m d).row.id ≡ (get_or holds m d).row.id) is
+            (ap (λ (x : Hold). x.row.id) (get_or-set_same holds place new d within)
+            ∙ (same ∙ ap (λ (x : Hold). x.row.id) (at ∙ get_or_default holds place h d within)))
+      ]
+    ]

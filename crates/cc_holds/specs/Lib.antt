@@ -2,6 +2,7 @@
 pub mod Overlap
 pub mod Touched
 pub mod Holds
+pub mod Blocks
 pub mod Stands
 pub mod Makes
 pub mod Looks

@@ -1,14 +1,17 @@
 //! The open holds of a stream by id, each with the pages that were written through it and not set dirty since.
 
-ghost use Rattle.std.specs.Prelude.{◌≡◌, ◌+◌, ◌<◌, [], ◌∷◌, ◌++◌, All, OnOk, OnErr, IsSome, IsTrue, true, min};
+ghost use Rattle.std.specs.Prelude.{◌≡◌, ℕ, count_by, ◌+◌, ◌<◌, [], ◌∷◌, ◌++◌, All, OnOk, OnErr, IsSome, IsTrue, true, min};
 ghost use Rattle.std.specs.Option.{option_copied, option_map};
-ghost use Rattle.cc_holds.specs.Holds.{hold_of, without, inserted, Changes, opened, written, cleaned, pinned, overlaps, conflicts, is_unstamped, ends_past, first_id, IsLeast, active_blocks};
+ghost use Rattle.cc_holds.specs.Holds.{hold_of, without, inserted, Changes, opened, written, cleaned, pinned, overlaps, conflicts, is_unstamped, ends_past, first_id, IsLeast, has_block, active_blocks};
+ghost use Rattle.cc_holds.specs.Blocks.{holds_at};
 
-use crate::block_counts::count_blocks;
+use crate::blocks::block_range;
+use crate::held_blocks::HeldBlocks;
 use crate::lookup::{
     first_conflict, first_of, first_overlapping, first_past, first_unstamped, place_after, place_of,
 };
-use crate::ranges::widened;
+use crate::ranges::{end_of, widened};
+use crate::reserved::insert_reserved;
 use crate::touched::TouchedPages;
 use cc_entry::{HoldKind, HoldRow, NoMemory, Span};
 use std::alloc::Global;
@@ -54,19 +57,20 @@ impl Hold {
 #[derive(Drop)]
 pub struct Holds {
     holds: Vec<Hold>,
+    blocks: HeldBlocks,
     alloc: Global,
 }
 
 impl Model for Holds {
     ghost use Rattle.std.specs.Prelude.{List};
     ghost use Rattle.cc_holds.specs.declared.holds.Hold.{Hold};
-    ghost use Rattle.std.specs.List.Sorted.{IsNonDecreasingBy};
+    ghost use Rattle.cc_holds.specs.Blocks.{AreKept};
 
     ghost Value = { List Hold };
 
     ghost view = { λ h. h.holds.items };
 
-    ghost invariant = { λ h. IsNonDecreasingBy (λ hold. hold.row.id) h.holds.items };
+    ghost invariant = { λ h. AreKept h.holds.items h.blocks };
 }
 
 impl Holds {
@@ -76,6 +80,7 @@ impl Holds {
     {
         Holds {
             holds: Vec::new(alloc),
+            blocks: HeldBlocks::new(alloc),
             alloc,
         }
     }
@@ -119,17 +124,20 @@ impl Holds {
         if let Some(span) = hold.written {
             touched.touch(span)?;
         }
+        let (first, end) = block_range(u128::from(hold.at), end_of(&hold));
+        self.holds.reserve(1).map_err(|_| NoMemory)?;
+        self.blocks.add(first, end)?;
         let place = place_after(&self.holds, hold.id);
-        self.holds
-            .insert(
-                place,
-                Hold {
-                    row: hold,
-                    pass,
-                    touched,
-                },
-            )
-            .map_err(|_| NoMemory)
+        insert_reserved(
+            &mut self.holds,
+            place,
+            Hold {
+                row: hold,
+                pass,
+                touched,
+            },
+        );
+        Ok(())
     }
 
     /// Ends the hold of an id.
@@ -146,6 +154,8 @@ impl Holds {
             pass: _,
             touched: _,
         } = self.holds.remove(place);
+        let (first, end) = block_range(u128::from(row.at), end_of(&row));
+        self.blocks.remove(first, end);
         Some(row)
     }
 
@@ -221,6 +231,13 @@ impl Holds {
     pub fn active_blocks(&self) -> u32
         ensures { result ≡ min (active_blocks self.now) u32.MAX }
     {
-        count_blocks(&self.holds)
+        self.blocks.count().min(u32::MAX as usize) as u32
+    }
+
+    /// The view blocks that have a byte of a hold, each with how many holds have a byte in it.
+    pub(crate) fn blocks(&self) -> &HeldBlocks
+        ensures { (b : ℕ) → holds_at b result.now ≡ count_by (has_block b) self.now }
+    {
+        &self.blocks
     }
 }

@@ -17,7 +17,7 @@ ghost use Rattle.cc_holds.specs.Makes.{row_made, zeroed_end};
 ghost use Rattle.cc_model.specs.Room.{owes_set_dirty};
 
 use crate::Holds;
-use crate::blocks::{add_blocks, add_held};
+use crate::blocks::block_range;
 use crate::look::{any_keeps_page, first_in_the_way, first_with_bytes};
 use crate::owed::least_owed;
 use crate::rows::{new_row, owes_set_dirty, row_named};
@@ -259,9 +259,7 @@ impl OpenHolds {
         ensures counted { IfOk result (λ blocks. (h : List Effect) → HoldsStand h self.now →
             vec_len blocks ≡ active_blocks (holds_of h)) }
     {
-        let mut blocks = Vec::new(alloc);
-        add_held(&mut blocks, self.holds.all())?;
-        Ok(blocks)
+        self.holds.blocks().all(alloc)
     }
 
     /// The view blocks that have a byte of an open hold or of a span, each once. Answers `NoMemory` where memory is
@@ -272,18 +270,16 @@ impl OpenHolds {
         ensures counted { IfOk result (λ blocks. (h : List Effect) → HoldsStand h self.now →
             vec_len blocks ≡ needed_blocks (holds_of h) span) }
     {
-        let mut blocks = Vec::new(alloc);
-        add_held(&mut blocks, self.holds.all())?;
-        add_blocks(&mut blocks, u128::from(span.from()), u128::from(span.to()))?;
-        Ok(blocks)
+        let (first, end) = block_range(u128::from(span.from()), u128::from(span.to()));
+        self.holds.blocks().with(alloc, first, end)
     }
 
-    /// How many view blocks have a byte of an open hold or of a span. Answers `NoMemory` where memory is wanting.
-    pub fn needed_blocks(&self, alloc: Global, span: Span) -> Result<u64, NoMemory>
+    /// How many view blocks have a byte of an open hold or of a span. It takes no memory.
+    pub fn needed_blocks(&self, _alloc: Global, span: Span) -> Result<u64, NoMemory>
         ensures { IfOk result (λ count. (h : List Effect) → HoldsStand h self.now →
             count ≡ needed_blocks (holds_of h) span) }
     {
-        let blocks = self.kept_blocks(alloc, span)?;
-        Ok(blocks.len() as u64)
+        let (first, end) = block_range(u128::from(span.from()), u128::from(span.to()));
+        Ok(self.holds.blocks().count_with(first, end))
     }
 }

@@ -1,5 +1,5 @@
 -- By the place of the search: past the last hold, at the hold of the id, or at one of a greater id.
-use Rattle.std.proofs.Common.{◌≡◌, ◌<◌, ◌∙◌, length, nat_lt, sym, rules, arith}
+use Rattle.std.proofs.Common.{nat_lt, rules, arith}
 use Rattle.std.proofs.lemmas.Bool.Decides.{nat_tests}
 use Rattle.std.proofs.lemmas.List.Sorted.{IsPartitionPoint-from_clause, IsPartitionedBy-ltb}
 use Rattle.cc_holds.specs.declared.holds.Hold.{Hold}

@@ -4,4 +4,4 @@ use Rattle.cc_holds.proofs.Order.{IsLeast-first}
 use Rattle.cc_holds.proofs.holds.Holds.overlapping.Goals as goal
 
 pub returns-clause-least : goal.returns-clause-least
-returns-clause-least c = IsLeast-first (overlaps c.args.span) c.args.self.now c.first_overlapping.result (search rules) (search (rules, c.self.invariant))
+returns-clause-least c = IsLeast-first (overlaps c.args.span) c.args.self.now c.first_overlapping.result (search rules) (search (rules, c.self.invariant.in_order))

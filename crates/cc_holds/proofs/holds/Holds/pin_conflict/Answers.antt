@@ -4,4 +4,4 @@ use Rattle.cc_holds.proofs.Order.{IsLeast-first}
 use Rattle.cc_holds.proofs.holds.Holds.pin_conflict.Goals as goal
 
 pub returns-clause-least : goal.returns-clause-least
-returns-clause-least c = IsLeast-first (conflicts c.args.span c.args.exclusive) c.args.self.now c.first_conflict.result (search rules) (search (rules, c.self.invariant))
+returns-clause-least c = IsLeast-first (conflicts c.args.span c.args.exclusive) c.args.self.now c.first_conflict.result (search rules) (search (rules, c.self.invariant.in_order))
