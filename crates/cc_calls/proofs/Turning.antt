@@ -1,9 +1,10 @@
 -- One turn of a stream's book: what a pass has in its hands in it, and what is said of the turn as a whole.
-use Rattle.std.specs.Prelude.{◌≡◌, ℕ, Result, Err, List, ◌++◌, Some, refl}
+use Rattle.std.specs.Prelude.{◌≡◌, ℕ, Result, Ok, Err, List, ◌++◌, Some, refl}
 use Rattle.std.proofs.Common.{ap, sym, ◌∙◌, subst}
 use Rattle.cc_entry.specs.declared.call.Call.{Call}
 use Rattle.cc_entry.specs.declared.entry.Entry.{Entry}
 use Rattle.cc_entry.specs.declared.error.CcError.{CcError}
+use Rattle.cc_entry.specs.declared.error.CcError.TheVariants as error
 use Rattle.cc_entry.specs.declared.reply.Outcome.{Outcome}
 use Rattle.cc_entry.specs.declared.reply.Outcome.TheVariants as outcome
 use Rattle.cc_book.specs.Book.{BookState, BookStands}
@@ -18,6 +19,8 @@ use Rattle.cc_model.specs.Good.{IsGood, IsGoodSoFar}
 use Rattle.cc_model.specs.History.{history}
 use Rattle.cc_model.specs.Holds.{holds_of}
 use Rattle.cc_own.proofs.OwnHolds.{filed-grows}
+use Rattle.cc_step.specs.Step.{asked_now, most_asked}
+use Rattle.cc_step.proofs.Asking.{most}
 use Rattle.cc_step.proofs.Placed.{so-far}
 use Rattle.cc_turns.specs.Standing.{Standing, Held, nothing}
 use Rattle.cc_turns.specs.Takes.{Takes, with_book, without_book}
@@ -27,6 +30,7 @@ use Rattle.cc_writes.specs.declared.tell.Returned.{Returned}
 use Rattle.cc_writes.specs.declared.visits.Tried.{Tried}
 use Rattle.cc_writes.specs.declared.visits.Tried.TheVariants as tried
 use Rattle.cc_writes.specs.Fetch.{CanCall}
+use Rattle.cc_writes.proofs.Fullness.{full-answer}
 use Rattle.cc_calls.specs.Answers.{CallEnds}
 use Rattle.cc_calls.specs.Paged.{CalledAtOnce}
 
@@ -69,11 +73,22 @@ module _ (w v : Standing) (s : ℕ) (b : BookState) (took : Takes (with_book s) 
       let on : IsUnderWay v.number it begun v.seen = rw number (way-then w.number it begun w.seen v.seen way idle) in
       rw (ap (λ x. x.seen) gave) (rw (ap (λ x. x.setup) took.same, number, b_is) at (left on))
 
+  -- and where it found the journal full, the turn did
+  pub turn-full : (x y : Standing) (it : Call) (ended : Tried) → y ≡ without_book x → IsFullTried x b.stream it ended → IsFullTried y s it ended
+  turn-full x y it ended gave full = rw gave (given ended (subst (λ (n : ℕ). IsFullTried x n it ended) b_is full))
+    where
+      given : (ended : Tried) → IsFullTried x s it ended → IsFullTried (without_book x) s it ended
+      given (tried.Ended (Ok told)) full = full
+      given (tried.Ended (Err (error.JournalFull entries))) full = full
+      given (tried.Ended (Err other)) full = full
+      given (tried.Waits page again) full = full
+
 -- a call that ended in it
-pub at-once : (w v : Standing) (s : ℕ) (it : Call) (ended : Tried) (answer : Result Returned CcError) (was now : List ℕ) → ended ≡ tried.Ended answer → Went w v → IsGood w.setup v.seen → IsFullTried v it ended → TriedLeft w.setup w.number s it ended w.seen v.seen was now → CalledAtOnce w v it answer was now
+pub at-once : (w v : Standing) (s : ℕ) (it : Call) (ended : Tried) (answer : Result Returned CcError) (was now : List ℕ) → ended ≡ tried.Ended answer → Went w v → IsGood w.setup v.seen → IsFullTried v s it ended → TriedLeft w.setup w.number s it ended w.seen v.seen was now → CalledAtOnce w v it answer was now
 at-once w v s it ended answer was now is went good full left = record {
   left = subst (λ (t : Tried). TriedLeft w.setup w.number s it t w.seen v.seen was now) is left;
-  full = (subst (λ (t : Tried). IsFullTried v it t) is full).0;
+  full = full-answer (asked_now v.seen s it) (most_asked it) v answer (most (holds_of (history v.seen s)) it)
+      (subst (λ (t : Tried). IsFullTried v s it t) is full).0;
   goes_on = went;
   good = good;
 }

@@ -1,7 +1,7 @@
 -- A call on a hold: what it leaves, and the hold of its caller after it.
 use Rattle.std.specs.Prelude.{◌≡◌, ℕ, ◌≤◌, Bool, true, false, List, [], length, take, drop, Result, Ok, Err, refl}
 use Rattle.std.specs.Result.{IsErrAnd}
-use Rattle.std.proofs.Common.{ap, sym, ◌∙◌, subst, arith}
+use Rattle.std.proofs.Common.{ap, sym, ◌∙◌, subst, arith, inl}
 use Rattle.std.proofs.lemmas.List.{drop_all, length-drop, take_all}
 use Rattle.cc_entry.specs.Kinds.{is_map}
 use Rattle.cc_entry.specs.declared.call.Call.{Call}
@@ -19,6 +19,7 @@ use Rattle.cc_own.specs.Own.{changes_it}
 use Rattle.cc_step.specs.Step.{most_asked}
 use Rattle.cc_turns.specs.Standing.{Standing}
 use Rattle.cc_writes.specs.Hands.{Went}
+use Rattle.cc_writes.specs.Ways.{IsFullOn}
 use Rattle.cc_writes.specs.declared.tell.Returned.{Returned}
 use Rattle.cc_calls.specs.Held.{IsHolding}
 use Rattle.cc_calls.specs.Ends.{HeldReadEnds, HoldEnded, PinMappedEnds, UseEnds, fills, writes_through}
@@ -83,12 +84,14 @@ module _ (w v : Standing) (of_kind : HoldKind → Bool) (held : Held) (it : Call
       let left = write-told w.setup w.number w.seen v.seen ended.good it ended.left.0 writes ended.left.1 in
       record {
         call_ends = record { left = left; full = tt; goes_on = ended.goes_on; good = λ was_good. ended.good };
+        room = (tt, inl tt);
         holding = write-still w v of_kind held (number-is w v ended.goes_on) h it (outcome.Done reply.Unit) writes left ended.good;
       }
 
-  pub write-failed : (e : CcError) → CalledAtOnce w v it (Err e) was now → UseEnds w v of_kind held it (Err e)
-  write-failed e ended = record {
+  pub write-failed : (e : CcError) → CalledAtOnce w v it (Err e) was now → IsFullOn {A = Returned} held.file.stream it v (Err e) → UseEnds w v of_kind held it (Err e)
+  write-failed e ended full = record {
     call_ends = record { left = ended.left.0; full = ended.full; goes_on = ended.goes_on; good = λ was_good. ended.good };
+    room = full;
     holding = failed-still w v of_kind held (number-is w v ended.goes_on) h it (outcome.Failed e) e refl ended.left.0 ended.good;
   }
 
@@ -107,6 +110,7 @@ no-memory w s of_kind held it can stores h = record {
     goes_on = record { same = refl };
     good = λ good. good;
   };
+  room = (tt, inl tt);
   holding = h;
 }
   where

@@ -21,7 +21,7 @@ use Rattle.cc_turns.specs.Standing.{Standing}
 use Rattle.cc_effects.specs.Begins.{BeginsAscending}
 use Rattle.cc_writes.specs.Calls.{IsFullWriting}
 use Rattle.cc_writes.specs.Hands.{Went}
-use Rattle.cc_writes.specs.Ways.{IsFull}
+use Rattle.cc_writes.specs.Ways.{IsFull, IsFullOn}
 use Rattle.cc_calls.specs.Answers.{CallEnds, outcome_of}
 use Rattle.cc_calls.specs.Flushes.{IsDurable}
 use Rattle.cc_calls.specs.Pages.{IsFullFor, PagesLeft, StaysGood, WentOn}
@@ -80,10 +80,12 @@ pub record MakingEnds (old new : Standing) (of_kind : HoldKind → Bool) (file :
   pub range : IfOk answer (λ held. held ≡ held_at file at len held.id)
   pub holding : IfOk answer (IsHolding new of_kind)
 
--- A call on a hold was answered so, and the pass has the hold still.
+-- A call on a hold was answered so, and the pass has the hold still. It finds the journal full only where there is no room for
+-- what it asks of the hold as it is.
 pub record UseEnds (old new : Standing) (of_kind : HoldKind → Bool) (held : Held) (it : Call)
     (answer : Result (Unit {0}) CcError) : Type 0 where
   pub call_ends : CallEnds outcome_of old new it answer
+  pub room : IsFullOn held.file.stream it new answer
   pub holding : IsHolding new of_kind held
 
 -- how the entry of a read says that it ended, which fills what the caller handed in, or fails

@@ -129,8 +129,8 @@ pub fn pinned_read<T: Turns>(
 }
 
 /// Writes into pinned bytes from a place of the stream on. The pages are dirty and Unstamped, so nobody writes them,
-/// until the pin is set dirty; the room for that is taken here. In Windows it is a write through the pointer that the pin
-/// gave.
+/// until the pin is set dirty; the room for that is taken here, unless the pin owes it already. In Windows it is a write
+/// through the pointer that the pin gave.
 ///
 /// `BeyondValid`, `JournalFull`, `NoMemory`.
 pub fn pinned_write<T: Turns>(

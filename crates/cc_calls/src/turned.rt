@@ -7,7 +7,7 @@ ghost use Rattle.cc_model.specs.Good.{IsGood};
 ghost use Rattle.cc_model.specs.Ranges.{range_of};
 ghost use Rattle.cc_step.specs.Step.{is_stepped};
 ghost use Rattle.cc_writes.specs.Hands.{Went};
-ghost use Rattle.cc_writes.specs.Ways.{FitsIn};
+ghost use Rattle.cc_writes.specs.Ways.{FitsIn, IsFullOn};
 ghost use Rattle.cc_writes.specs.Visits.{IsFiledNow, IsOf, IsFullTried, TriedLeft};
 ghost use Rattle.cc_writes.specs.Fetch.{CanCall};
 ghost use Rattle.cc_calls.specs.Paged.{CalledAtOnce, Paged, is_paged};
@@ -30,7 +30,8 @@ pub fn call_at_once<T: Turns>(
     requires pageless { (size : ℕ) → range_of size call ≡ None }
     requires filed { IsFiledNow (T.standing turns.old) stream call }
     requires fits { FitsIn call out.old }
-    ensures { CalledAtOnce (T.standing turns.old) (T.standing turns.new) call result out.old out.new }
+    ensures ends { CalledAtOnce (T.standing turns.old) (T.standing turns.new) call result out.old out.new }
+    ensures full { IsFullOn stream call (T.standing turns.new) result }
 {
     match turned(alloc, turns, stream, call, out) {
         Tried::Ended(answer) => answer,
@@ -77,7 +78,7 @@ fn turned<T: Turns>(
         IsUnderWay (T.standing turns.old).number call begun (T.standing turns.old).seen →
         TriedLeft (T.standing turns.old).setup (T.standing turns.old).number stream call result
         begun (T.standing turns.new).seen out.old out.new }
-    ensures full { IsFullTried (T.standing turns.new) call result }
+    ensures full { IsFullTried (T.standing turns.new) stream call result }
 {
     let mut book = turns.take_book(stream);
     let tried = attempt_at(alloc, turns, &mut book, call, out);

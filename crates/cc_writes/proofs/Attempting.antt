@@ -10,7 +10,7 @@ use Rattle.cc_entry.specs.declared.reply.Outcome.TheVariants as outcome
 use Rattle.cc_entry.specs.declared.reply.Reply.{Reply}
 use Rattle.cc_book.specs.Book.{BookState, done, failed}
 use Rattle.cc_effects.specs.Calls.{IsUnderWay, CallLeft}
-use Rattle.cc_step.proofs.Stops.{stop-asks, stops-for}
+use Rattle.cc_step.proofs.Stops.{stop-asks}
 use Rattle.cc_journal.specs.Journal.{JournalState}
 use Rattle.cc_model.specs.Acts.{file_of}
 use Rattle.cc_model.specs.Filing.{IsFiled}
@@ -20,10 +20,9 @@ use Rattle.cc_model.specs.Holds.{Hold, holds_of}
 use Rattle.cc_model.specs.Passes.{calls_of}
 use Rattle.cc_model.specs.Room.{reserved_in}
 use Rattle.cc_model.specs.Setup.{Setup}
-use Rattle.cc_step.specs.Step.{StandUnder, MayStep, AttemptLeft, AttemptDone, AttemptRefused, IsReadyFor, IsShort, IsStop, is_answered, is_stepped, asked_now, most_asked}
+use Rattle.cc_step.specs.Step.{StandUnder, MayStep, AttemptLeft, AttemptDone, AttemptRefused, IsReadyFor, IsShort, IsStop, is_answered, is_stepped, asked_now}
 use Rattle.cc_step.specs.declared.steps.Stepped.{Stepped}
 use Rattle.cc_step.specs.declared.steps.Stepped.TheVariants as stepped
-use Rattle.cc_step.proofs.Asking.{most}
 use Rattle.cc_step.proofs.Reasons.{refusal-listed}
 use Rattle.cc_turns.specs.Standing.{Standing}
 use Rattle.cc_turns.specs.Takes.{without_journal}
@@ -47,7 +46,7 @@ moved : (Says : ℕ → Type 0) (s n : ℕ) → Some s ≡ Some n → Says s →
 moved Says s n is said = subst Says (cc) said
 
 -- what holds of the stream under which a call on a file is filed holds of the file's
-of-file : (Says : ℕ → Type 0) (holds : List Hold) (pass s : ℕ) (it : Call) → IsFiled holds pass (Some s) it (file_of it) → Says s → IfSome (file_of it) (λ file. Says file.stream)
+pub of-file : (Says : ℕ → Type 0) (holds : List Hold) (pass s : ℕ) (it : Call) → IsFiled holds pass (Some s) it (file_of it) → Says s → IfSome (file_of it) (λ file. Says file.stream)
 of-file Says holds pass s (call.Initialise file sizes quota temporary) filed said = moved Says s file.stream filed said
 of-file Says holds pass s (call.Uninitialise file truncate) filed said = moved Says s file.stream filed said
 of-file Says holds pass s (call.CopyRead file at len wait) filed said = moved Says s file.stream filed said
@@ -174,18 +173,25 @@ module _ {Q : Type 0} (posted : Q → Bool) (w v : Standing) (it : Call) (b c : 
       full-stopped A posted asked (without_journal k v) k e given.journal (subst (λ (x : JournalState Q). IsStop asked e x) (sym same) stop)
 
   -- there was no room for one entry, or the call was ready to be done
-  pub full-short : (A : Type 0) (asked : ℕ) (e : CcError) → IsStop asked e j → IsShort w.setup b.stream it e j → k ≡ j → Visited posted w v b.stream w.in_flight c k → IsFull {A = A} 1 (without_journal k v) (Err e) ⊎ IsReady (without_journal k v).setup it (without_journal k v).seen
-  full-short A asked e stop (inl none) unchanged given = inl (full-stop A 1 e (one stop) unchanged given)
+  short-on : (A : Type 0) (asked : ℕ) (e : CcError) → IsStop asked e j → IsShort w.setup b.stream it e j → k ≡ j → Visited posted w v b.stream w.in_flight c k → IsFull {A = A} 1 (without_journal k v) (Err e) ⊎ IsReadyFor (without_journal k v).setup (without_journal k v).seen b.stream it
+  short-on A asked e stop (inl none) unchanged given = inl (full-stop A 1 e (one stop) unchanged given)
     where
       one : IsStop asked e j → IsStop 1 e j
       one (inl full) = inl (full.0, none)
       one (inr memory) = inr (memory.0, omega arith)
-  full-short A asked (error.JournalFull entries) stop (inr ready) unchanged given =
+  short-on A asked (error.JournalFull entries) stop (inr ready) unchanged given =
       inr
-      (subst (λ (u : Setup). IsReady u it k.entries) (sym vis.setup_is)
-      (subst (λ (x : JournalState Q). IsReady w.setup it x.entries) (sym unchanged)
-      (of-file (λ (s : ℕ). IsReadyFor w.setup j.entries s it) (holds_of (history j.entries b.stream)) w.number b.stream it filed-front ready)))
-  full-short A asked other stop (inr ready) unchanged given = inl tt
+      (subst (λ (u : Setup). IsReadyFor u k.entries b.stream it) (sym vis.setup_is)
+      (subst (λ (x : JournalState Q). IsReadyFor w.setup x.entries b.stream it) (sym unchanged) ready))
+  short-on A asked other stop (inr ready) unchanged given = inl tt
+
+  -- so is a call on a file
+  pub full-short : (A : Type 0) (asked : ℕ) (e : CcError) → IsStop asked e j → IsShort w.setup b.stream it e j → k ≡ j → Visited posted w v b.stream w.in_flight c k → IsFull {A = A} 1 (without_journal k v) (Err e) ⊎ IsReady (without_journal k v).setup it (without_journal k v).seen
+  full-short A asked e stop short unchanged given = named (short-on A asked e stop short unchanged given)
+    where
+      named : IsFull {A = A} 1 (without_journal k v) (Err e) ⊎ IsReadyFor (without_journal k v).setup (without_journal k v).seen b.stream it → IsFull {A = A} 1 (without_journal k v) (Err e) ⊎ IsReady (without_journal k v).setup it (without_journal k v).seen
+      named (inl none) = inl none
+      named (inr ready) = inr (of-file (λ (s : ℕ). IsReadyFor (without_journal k v).setup (without_journal k v).seen s it) (holds_of (history j.entries b.stream)) w.number b.stream it filed-front ready)
 
   -- an attempt, by how it ended
   pub visited-attempt : is_stepped it ≡ true → (ended : Stepped) → AttemptLeft w.setup w.number it ended b c j k → Visited posted w v b.stream w.in_flight c k
@@ -215,18 +221,17 @@ module _ {Q : Type 0} (posted : Q → Bool) (w v : Standing) (it : Call) (b c : 
       stops : MayStop it j.entries
       stops = stops-asked j.entries b.stream w.number it known here filed-front (stop-asks (asked_now j.entries b.stream it) e j left.0)
 
-  pub full-attempt : (ended : Stepped) (answer : Tried) (was now : List ℕ) → AttemptLeft w.setup w.number it ended b c j k → TriedAs ended answer k.entries was now → IsFullTried (without_journal k v) it answer
-  full-attempt stepped.Done answer was now left told = subst (λ (x : Tried). IsFullTried (without_journal k v) it x) (sym told.1) (tt, inl tt)
+  pub full-attempt : (ended : Stepped) (answer : Tried) (was now : List ℕ) → AttemptLeft w.setup w.number it ended b c j k → TriedAs ended answer k.entries was now → IsFullTried (without_journal k v) b.stream it answer
+  full-attempt stepped.Done answer was now left told = subst (λ (x : Tried). IsFullTried (without_journal k v) b.stream it x) (sym told.1) (tt, inl tt)
   full-attempt (stepped.Refused e) answer was now left told =
-      subst (λ (x : Tried). IsFullTried (without_journal k v) it x) (sym told.0)
-      (full-refused Returned (most_asked it) e left, inl (full-refused Returned 1 e left))
-  full-attempt (stepped.Waits page again) answer was now left told = subst (λ (x : Tried). IsFullTried (without_journal k v) it x) (sym told.0) tt
+      subst (λ (x : Tried). IsFullTried (without_journal k v) b.stream it x) (sym told.0)
+      (full-refused Returned (asked_now k.entries b.stream it) e left, inl (full-refused Returned 1 e left))
+  full-attempt (stepped.Waits page again) answer was now left told = subst (λ (x : Tried). IsFullTried (without_journal k v) b.stream it x) (sym told.0) tt
   full-attempt (stepped.Stopped e) answer was now left told =
-      subst (λ (x : Tried). IsFullTried (without_journal k v) it x) (sym told.0) (
-        full-stop Returned (most_asked it) e
-            (stops-for (asked_now j.entries b.stream it) (most_asked it) e j (most (holds_of (history j.entries b.stream)) it) left.0)
-            left.1.same_journal given,
-        full-short Returned (asked_now j.entries b.stream it) e left.0 left.2 left.1.same_journal given,
+      subst (λ (x : Tried). IsFullTried (without_journal k v) b.stream it x) (sym told.0) (
+        subst (λ (n : ℕ). IsFull {A = Returned} n (without_journal k v) (Err e)) (sym (ap (λ (x : JournalState Q). asked_now x.entries b.stream it) left.1.same_journal))
+            (full-stop Returned (asked_now j.entries b.stream it) e left.0 left.1.same_journal given),
+        short-on Returned (asked_now j.entries b.stream it) e left.0 left.2 left.1.same_journal given,
       )
     where
       given : Visited posted w v b.stream w.in_flight c k

@@ -1,5 +1,5 @@
 -- A call that found no room for so many places had none for more.
-use Rattle.std.specs.Prelude.{◌≡◌, ℕ, ◌+◌, ◌<◌, ◌≤◌, ◌⊎◌, true, false, Result, Ok, Err, length}
+use Rattle.std.specs.Prelude.{◌≡◌, ℕ, ◌+◌, ◌<◌, ◌≤◌, ◌⊎◌, true, false, Result, Ok, Err, List, length, Some}
 use Rattle.std.proofs.Common.{arith, inl, inr, sym, true≢false}
 use Rattle.cc_entry.specs.declared.call.Call.{Call}
 use Rattle.cc_entry.specs.declared.call.Call.TheVariants as call
@@ -7,14 +7,20 @@ use Rattle.cc_entry.specs.declared.error.CcError.{CcError}
 use Rattle.cc_entry.specs.declared.error.CcError.TheVariants as error
 use Rattle.cc_effects.specs.Asked.{brings_in}
 use Rattle.cc_model.specs.Room.{reserved_in}
-use Rattle.cc_step.specs.Step.{most_asked}
+use Rattle.cc_model.specs.Acts.{file_of}
+use Rattle.cc_model.specs.Filing.{IsFiled}
+use Rattle.cc_model.specs.History.{history}
+use Rattle.cc_model.specs.Holds.{Hold, holds_of}
+use Rattle.cc_step.specs.Step.{IsReadyFor, asked_now, most_asked}
+use Rattle.cc_step.proofs.Asking.{most}
 use Rattle.cc_turns.specs.Standing.{Standing}
 use Rattle.cc_turns.specs.Takes.{without_book, without_device}
-use Rattle.cc_writes.specs.Ways.{IsFull, IsFullCall, IsFullError, IsReady}
+use Rattle.cc_writes.specs.Ways.{IsFull, IsFullCall, IsFullError, IsFullOn, IsReady}
 use Rattle.cc_writes.specs.Calls.{IsFullWriting}
 use Rattle.cc_writes.specs.Fetch.{IsFullFetching}
 use Rattle.cc_writes.specs.Rounds.{IsFullCourse, course_of}
 use Rattle.cc_writes.specs.declared.tell.Returned.{Returned}
+use Rattle.cc_writes.proofs.Attempting.{of-file}
 
 pub full-more : (asked more : ℕ) (w : Standing) (e : CcError) → asked ≤ more → IsFullError asked w e → IsFullError more w e
 full-more asked more w (error.JournalFull entries) most full =
@@ -31,6 +37,15 @@ full-answer asked more w (Err e) most full = full-more asked more w e most full
 -- where there is no room for one entry, there is none for all that a call asks
 pub full-one : {A : Type 0} (it : Call) (w : Standing) (r : Result A CcError) → 1 ≤ most_asked it → IsFull 1 w r → IsFullCall it w r
 full-one it w r some full = (full-answer 1 (most_asked it) w r some full, inl full)
+
+-- what is said of a call on a stream is said of one on a file of it
+pub full-named : {A : Type 0} (holds : List Hold) (pass s : ℕ) (it : Call) (w : Standing) (r : Result A CcError) → IsFiled holds pass (Some s) it (file_of it) → IsFullOn s it w r → IsFullCall it w r
+full-named holds pass s it w r filed full =
+    (full-answer (asked_now w.seen s it) (most_asked it) w r (most (holds_of (history w.seen s)) it) full.0, named full.1)
+  where
+    named : IsFull 1 w r ⊎ IsReadyFor w.setup w.seen s it → IsFull 1 w r ⊎ IsReady w.setup it w.seen
+    named (inl none) = inl none
+    named (inr ready) = inr (of-file (λ (n : ℕ). IsReadyFor w.setup w.seen n it) holds pass s it filed ready)
 
 -- so of the places that a call asks where it is done
 pub full-ended : {A : Type 0} (it : Call) (w : Standing) (r : Result A CcError) → IsFullCall it w r → IsFullFetching it w r

@@ -25,7 +25,7 @@ use Rattle.cc_step.specs.Step.{is_awaited, least_absent}
 use Rattle.cc_turns.specs.Standing.{Standing}
 use Rattle.cc_turns.specs.Takes.{Grows}
 use Rattle.cc_writes.specs.Hands.{SameDisk, Went, WentWith}
-use Rattle.cc_writes.specs.Ways.{EndedSo, IsFullCall, IsHalted}
+use Rattle.cc_writes.specs.Ways.{EndedSo, IsFullCall, IsFullOn, IsHalted}
 use Rattle.cc_writes.specs.declared.visits.Tried.{Tried}
 use Rattle.cc_writes.specs.declared.visits.Tried.TheVariants as tried
 use Rattle.cc_writes.specs.declared.visits.Step.{Step}
@@ -67,10 +67,10 @@ StepLeft u me s it (step.Writes page again) old new was now =
 StepLeft u me s it (step.Reads page again) old new was now =
     (again ≡ it) × IsUnderWay me it old new × IsWaitedFor u s it page new × (now ≡ was)
 
--- an attempt at a call that stopped for want of room, or ended otherwise
-abbrev pub IsFullTried : Standing → Call → Tried → Type 0
-IsFullTried w it (tried.Ended answer) = IsFullCall it w answer
-IsFullTried w it (tried.Waits page again) = Unit {0}
+-- an attempt at a call on a stream that stopped for want of room, or ended otherwise
+abbrev pub IsFullTried : Standing → ℕ → Call → Tried → Type 0
+IsFullTried w s it (tried.Ended answer) = IsFullOn s it w answer
+IsFullTried w s it (tried.Waits page again) = Unit {0}
 
 -- the same of a step of a call that may bring pages in, each of which asks a place too
 abbrev pub IsFullStep : Standing → Call → Step → Type 0

@@ -21,7 +21,7 @@ use Rattle.cc_model.specs.History.{history}
 use Rattle.cc_model.specs.Refusals.{refusal}
 use Rattle.cc_model.specs.Room.{reserved_in}
 use Rattle.cc_model.specs.Setup.{Setup}
-use Rattle.cc_step.specs.Step.{IsReadyFor, most_asked}
+use Rattle.cc_step.specs.Step.{IsReadyFor, asked_now, most_asked}
 use Rattle.cc_turns.specs.Standing.{Standing}
 use Rattle.cc_writes.specs.declared.tell.Returned.{Returned}
 use Rattle.cc_writes.specs.declared.tell.Returned.TheVariants as returned
@@ -126,3 +126,10 @@ IsReady u it past = IfSome (file_of it) (λ file. IsReadyFor u past file.stream 
 -- ready to be done as it finds that.
 abbrev pub IsFullCall : {A : Type 0} → Call → Standing → Result A CcError → Type 0
 IsFullCall it w answer = IsFull (most_asked it) w answer × (IsFull 1 w answer ⊎ IsReady w.setup it w.seen)
+
+-- Where a call on a stream finds the journal full, there is no room for what it asks of the holds as they are there: a pinned
+-- write asks one place where its pin owes a set-dirty, else two. And there is none for one entry, or the call is ready to be
+-- done as it finds that.
+abbrev pub IsFullOn : {A : Type 0} → ℕ → Call → Standing → Result A CcError → Type 0
+IsFullOn s it w answer =
+    IsFull (asked_now w.seen s it) w answer × (IsFull 1 w answer ⊎ IsReadyFor w.setup w.seen s it)

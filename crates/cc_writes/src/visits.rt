@@ -66,7 +66,7 @@ pub fn attempt_at<T: Turns>(
         IsUnderWay (T.standing turns.old).number call begun (T.standing turns.old).seen →
         TriedLeft (T.standing turns.old).setup (T.standing turns.old).number book.old.stream call result
         begun (T.standing turns.new).seen out.old out.new }
-    ensures full { IsFullTried (T.standing turns.new) call result }
+    ensures full { IsFullTried (T.standing turns.new) book.old.stream call result }
 {
     // The stream's number is what says that a set-dirty without room has its pin among the streams' holds.
     let _stream = book.stream().number();

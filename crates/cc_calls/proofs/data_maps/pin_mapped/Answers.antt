@@ -9,7 +9,7 @@ returns-in-Ok g c =
     record {
       ends =
           rw (c.of.ensures, ← c.hold.view_is)
-          (pinned-ends w v c.hold.inside.held _ _ c.args.exclusive c.in-Ok.field-0 (rw (← c.hold.view_is) at c.requires.holding) (rw c.in-Ok.is at c.call_at_once.ensures));
+          (pinned-ends w v c.hold.inside.held _ _ c.args.exclusive c.in-Ok.field-0 (rw (← c.hold.view_is) at c.requires.holding) (rw c.in-Ok.is at c.call_at_once.ensures.ends));
     }
 
 pub returns-in-Err : goal.returns-in-Err
@@ -19,5 +19,5 @@ returns-in-Err g c =
     record {
       ends =
           rw (← c.hold.view_is)
-          (pinned-failed w v c.hold.inside.held _ _ c.args.exclusive c.in-Err.error (rw (← c.hold.view_is) at c.requires.holding) (rw c.in-Err.is at c.call_at_once.ensures));
+          (pinned-failed w v c.hold.inside.held _ _ c.args.exclusive c.in-Err.error (rw (← c.hold.view_is) at c.requires.holding) (rw c.in-Err.is at c.call_at_once.ensures.ends));
     }

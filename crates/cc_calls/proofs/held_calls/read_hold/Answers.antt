@@ -11,7 +11,7 @@ returns-in_err-call_at_once g c =
       ends = λ of_kind h.
           handed-on (λ answer. HeldReadEnds w v of_kind c.args.held.now c.args.call answer c.args.out.now c.call_at_once.new.out)
           c.from_residual.result c.in_err-call_at_once.field-0.0 c.from_residual.ensures.1
-          (read-failed w v of_kind c.args.held.now c.args.call c.args.out.now c.call_at_once.new.out h c.in_err-call_at_once.field-0.0 c.requires.fills (rw c.in_err-call_at_once.was at c.call_at_once.ensures));
+          (read-failed w v of_kind c.args.held.now c.args.call c.args.out.now c.call_at_once.new.out h c.in_err-call_at_once.field-0.0 c.requires.fills (rw c.in_err-call_at_once.was at c.call_at_once.ensures.ends));
     }
 
 pub returns : goal.returns
@@ -20,5 +20,5 @@ returns g c =
     let v = g.T.Turns.standing c.call_at_once.new.turns in
     record {
       ends = λ of_kind h.
-          read-ends w v of_kind c.args.held.now c.args.call c.args.out.now c.call_at_once.new.out h c.in_ok-call_at_once.field-0 c.requires.fills (rw c.in_ok-call_at_once.was at c.call_at_once.ensures);
+          read-ends w v of_kind c.args.held.now c.args.call c.args.out.now c.call_at_once.new.out h c.in_ok-call_at_once.field-0 c.requires.fills (rw c.in_ok-call_at_once.was at c.call_at_once.ensures.ends);
     }

@@ -10,13 +10,13 @@ returns-in_err-call_at_once-clause-ends g c =
     let v = g.T.Turns.standing c.call_at_once.new.turns in
     λ of_kind h.
     handed-on (λ answer. UseEnds w v of_kind c.args.held.now c.args.call answer) c.from_residual.result c.in_err-call_at_once.field-0.0 c.from_residual.ensures.1
-    (write-failed w v of_kind c.args.held.now c.args.call _ _ h c.in_err-call_at_once.field-0.0 (rw c.in_err-call_at_once.was at c.call_at_once.ensures))
+    (write-failed w v of_kind c.args.held.now c.args.call _ _ h c.in_err-call_at_once.field-0.0 (rw c.in_err-call_at_once.was at c.call_at_once.ensures.ends) (rw (c.in_err-call_at_once.was, c.stream.ensures) at c.call_at_once.ensures.full))
 
 pub returns-in_err-call_at_once-clause-sure : goal.returns-in_err-call_at_once-clause-sure
 returns-in_err-call_at_once-clause-sure g c =
     let w = g.T.Turns.standing c.args.turns.now in
     let v = g.T.Turns.standing c.call_at_once.new.turns in
-    let ended = rw c.in_err-call_at_once.was at c.call_at_once.ensures in
+    let ended = rw c.in_err-call_at_once.was at c.call_at_once.ensures.ends in
     λ none. absurd (never-fails w v c.args.held.now.file.stream c.args.call c.in_err-call_at_once.field-0.0 c.requires.writes c.requires.filed none ended.good ended.left.0)
 
 pub returns-clause-ends : goal.returns-clause-ends
@@ -24,4 +24,4 @@ returns-clause-ends g c =
     let w = g.T.Turns.standing c.args.turns.now in
     let v = g.T.Turns.standing c.call_at_once.new.turns in
     λ of_kind h.
-    write-ends w v of_kind c.args.held.now c.args.call _ _ h c.in_ok-call_at_once.field-0 c.requires.writes (rw c.in_ok-call_at_once.was at c.call_at_once.ensures)
+    write-ends w v of_kind c.args.held.now c.args.call _ _ h c.in_ok-call_at_once.field-0 c.requires.writes (rw c.in_ok-call_at_once.was at c.call_at_once.ensures.ends)

@@ -10,20 +10,20 @@ pub returns-in-Flag : goal.returns-in-Flag
 returns-in-Flag g c = record {
   ends =
       uninitialize-done (g.T.Turns.standing c.args.turns.now) (g.T.Turns.standing c.call_at_once.new.turns) c.args.file c.args.truncate _ _ c.in-Flag.gone
-      (rw (c.in-Ok.is, c.in-Flag.is) at c.call_at_once.ensures);
+      (rw (c.in-Ok.is, c.in-Flag.is) at c.call_at_once.ensures.ends);
 }
 
 pub unreachable-requires : goal.unreachable-requires
 unreachable-requires g c =
     uninitialize-told (g.T.Turns.standing c.args.turns.now) (g.T.Turns.standing c.call_at_once.new.turns) c.args.file c.args.truncate _ _
-    c.in-Ok.told c.in_default.not-Flag (rw c.in-Ok.is at c.call_at_once.ensures)
+    c.in-Ok.told c.in_default.not-Flag (rw c.in-Ok.is at c.call_at_once.ensures.ends)
 
 pub returns-in-Err : goal.returns-in-Err
 returns-in-Err g c = record {
   ends = record {
     ends =
         failed-at-once flag_outcome (g.T.Turns.standing c.args.turns.now) (g.T.Turns.standing c.call_at_once.new.turns) (call.Uninitialise c.args.file c.args.truncate)
-        c.in-Err.error _ _ refl (rw c.in-Err.is at c.call_at_once.ensures);
+        c.in-Err.error _ _ refl (rw c.in-Err.is at c.call_at_once.ensures.ends);
     closed = tt;
   };
 }

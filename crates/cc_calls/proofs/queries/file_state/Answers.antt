@@ -10,19 +10,19 @@ pub returns-in-State : goal.returns-in-State
 returns-in-State g c = record {
   ends =
       state-done (g.T.Turns.standing c.args.turns.now) (g.T.Turns.standing c.call_at_once.new.turns) c.args.file _ _ c.in-State.state
-      (rw (c.in-Ok.is, c.in-State.is) at c.call_at_once.ensures);
-  good = c.call_at_once.ensures.good;
+      (rw (c.in-Ok.is, c.in-State.is) at c.call_at_once.ensures.ends);
+  good = c.call_at_once.ensures.ends.good;
 }
 
 pub unreachable-requires : goal.unreachable-requires
 unreachable-requires g c =
     state-told (g.T.Turns.standing c.args.turns.now) (g.T.Turns.standing c.call_at_once.new.turns) c.args.file _ _
-    c.in-Ok.told c.in_default.not-State (rw c.in-Ok.is at c.call_at_once.ensures)
+    c.in-Ok.told c.in_default.not-State (rw c.in-Ok.is at c.call_at_once.ensures.ends)
 
 pub returns-in-Err : goal.returns-in-Err
 returns-in-Err g c = record {
   ends =
       failed-at-once state_outcome (g.T.Turns.standing c.args.turns.now) (g.T.Turns.standing c.call_at_once.new.turns) (call.State c.args.file)
-      c.in-Err.error _ _ refl (rw c.in-Err.is at c.call_at_once.ensures);
-  good = c.call_at_once.ensures.good;
+      c.in-Err.error _ _ refl (rw c.in-Err.is at c.call_at_once.ensures.ends);
+  good = c.call_at_once.ensures.ends.good;
 }

@@ -10,17 +10,17 @@ pub returns-in-Lsns : goal.returns-in-Lsns
 returns-in-Lsns g c = record {
   ends =
       lsns-done (g.T.Turns.standing c.args.turns.now) (g.T.Turns.standing c.call_at_once.new.turns) c.args.file _ _ c.in-Lsns.lsns
-      (rw (c.in-Ok.is, c.in-Lsns.is) at c.call_at_once.ensures);
+      (rw (c.in-Ok.is, c.in-Lsns.is) at c.call_at_once.ensures.ends);
 }
 
 pub unreachable-requires : goal.unreachable-requires
 unreachable-requires g c =
     lsns-told (g.T.Turns.standing c.args.turns.now) (g.T.Turns.standing c.call_at_once.new.turns) c.args.file _ _
-    c.in-Ok.told c.in_default.not-Lsns (rw c.in-Ok.is at c.call_at_once.ensures)
+    c.in-Ok.told c.in_default.not-Lsns (rw c.in-Ok.is at c.call_at_once.ensures.ends)
 
 pub returns-in-Err : goal.returns-in-Err
 returns-in-Err g c = record {
   ends =
       failed-at-once lsns_outcome (g.T.Turns.standing c.args.turns.now) (g.T.Turns.standing c.call_at_once.new.turns) (call.LsnForFile c.args.file)
-      c.in-Err.error _ _ refl (rw c.in-Err.is at c.call_at_once.ensures);
+      c.in-Err.error _ _ refl (rw c.in-Err.is at c.call_at_once.ensures.ends);
 }

@@ -1,5 +1,7 @@
 -- A call that waits is handed on as it was; what one turn left, or both with the disk's, is the end of a paged call.
+use Rattle.std.specs.Prelude.{[]}
 use Rattle.cc_effects.proofs.Starts.{begins}
+use Rattle.cc_writes.proofs.Fullness.{full-named}
 use Rattle.cc_calls.proofs.Paging.{has-waited, in-turn, with-disk}
 use Rattle.cc_calls.proofs.Waiting.{brings, stepped}
 use Rattle.cc_calls.proofs.turned.call_paged.Goals as goal
@@ -37,7 +39,7 @@ returns-in-Ended g c =
     let w = g.T.Turns.standing c.args.turns.now in
     in-turn w (g.T.Turns.standing c.turned.new.turns) c.args.call c.in-Ended.answer c.args.out.now c.turned.new.out
     c.turned.ensures.went c.turned.ensures.good
-    (rw c.in-Ended.is at c.turned.ensures.full)
+    (full-named [] w.number c.args.stream c.args.call (g.T.Turns.standing c.turned.new.turns) c.in-Ended.answer (c.requires.filed [] w.number) (rw c.in-Ended.is at c.turned.ensures.full))
     (rw c.in-Ended.is at (c.turned.ensures.left w.seen (begins w.number c.args.call w.seen)))
 
 pub returns-in-Waits : goal.returns-in-Waits

@@ -1,4 +1,4 @@
-use Rattle.cc_calls.proofs.Turning.{filed-now, has-book, turn-left}
+use Rattle.cc_calls.proofs.Turning.{filed-now, has-book, turn-full, turn-left}
 use Rattle.cc_calls.proofs.turned.turned.Goals as goal
 
 pub attempt_at-tried-requires-clause-book : goal.attempt_at-tried-requires-clause-book
@@ -17,3 +17,10 @@ returns-clause-left g c begun way =
     c.take_book-book.ensures.took c.take_book-book.ensures.stream
     (g.T.Turns.standing c.attempt_at-tried.new.turns) (g.T.Turns.standing c.give_book.new.self) c.args.call c.attempt_at-tried.result begun c.args.out.now c.attempt_at-tried.new.out
     c.give_book.ensures (c.attempt_at-tried.ensures.left begun) way
+
+pub returns-clause-full : goal.returns-clause-full
+returns-clause-full g c =
+    turn-full (g.T.Turns.standing c.args.turns.now) (g.T.Turns.standing c.take_book-book.new.self) c.args.stream c.take_book-book.result
+    c.take_book-book.ensures.took c.take_book-book.ensures.stream
+    (g.T.Turns.standing c.attempt_at-tried.new.turns) (g.T.Turns.standing c.give_book.new.self) c.args.call c.attempt_at-tried.result
+    c.give_book.ensures c.attempt_at-tried.ensures.full

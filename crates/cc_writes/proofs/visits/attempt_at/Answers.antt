@@ -129,4 +129,4 @@ returns-clause-full g c =
     let k = c.attempt-ended.new.journal in
     let left = attempted posted w v c.args.call b n j k c.requires.book vis (stepped-answered c.args.call c.requires.stepped) c.requires.filed c.me-pass.result c.attempt-ended.result c.me-pass.ensures c.attempt-ended.ensures in
     let full = full-attempt posted w v c.args.call b n j k c.requires.book vis (stepped-answered c.args.call c.requires.stepped) c.requires.filed c.attempt-ended.result c.tried_of-tried.result c.args.out.now c.tried_of-tried.new.out left c.tried_of-tried.ensures in
-    subst (λ (x : Standing). IsFullTried x c.args.call c.tried_of-tried.result) (sym c.give_journal.ensures) full
+    subst (λ (x : Standing). IsFullTried x b.stream c.args.call c.tried_of-tried.result) (sym c.give_journal.ensures) full
