@@ -94,6 +94,9 @@ counted-none faults count old new same counted stayed s low =
     let is = item-at new s (omega (arith, same, low)) in
     omega (arith, counted s was.0 is.0 was.1 is.1, stayed s was.0 is.0 was.1 is.1)
 
+at-least : (a b c : ℕ) → c ≡ a + b → a + b ≤ c
+at-least a b c is = omega (arith, is)
+
 any-none : {A : Type 0} (test : A → Bool) (xs : List A) → AllByRecursion (λ x. test x ≡ false) xs → list_any test xs ≡ false
 any-none test [] none = refl
 any-none test (x ∷ xs) none = rw none.0 (any-none test xs none.1)
@@ -187,7 +190,8 @@ module _ {D L Q : Type 0} (tells : Tells D L Q) (m : Mode) (script : Script) (di
       none =
           shows-none n u.logs past all-below
           (counted-none tells.disk_faults (λ s. failures s past) (run_disks disks) (run_disks ran.disks.items) as-many has.disks_left.counted disks_stayed)
-          (counted-none tells.log_faults (λ handle. log_failures handle past) (run_logs logs) (run_logs ran.logs.items) as-many-logs has.logs_left.counted logs_stayed)
+          (counted-none tells.log_faults (λ handle. log_failures handle past) (run_logs logs) (run_logs ran.logs.items) as-many-logs
+          (λ handle before after was is. at-least _ _ _ (has.logs_left.counted handle before after was is)) logs_stayed)
 
 -- where a run was made
 pub ok-without-fault : {D L Q E : Type 0} (tells : Tells D L Q) (m : Mode) (script : Script) (disks : List D) (logs : List L) (posts : List Q) (result : Result (RunResult D L Q) E) → IsWithin script → has_devices (length disks) (length logs) (length posts) script ≡ true → IfOk result (HasRun tells m script disks logs posts) → IfOk result (λ ran. RanWithoutFault tells.disk_faults tells.log_faults disks ran.disks.items logs ran.logs.items ran.replies.items (reverse ran.journal.items))

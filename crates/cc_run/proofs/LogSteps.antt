@@ -22,10 +22,10 @@ module _ {L : Type 0} (told : L → Option Log) (faults : L → ℕ) (past : Lis
       (subst (λ h. Both (told before) (told stood.0.file) (Holds (appended past h) (flushed_to past h))) stood.2
       (subst (λ to. Both (told before) (told stood.0.file) (Holds (appended past stood.0.handle) to)) stood.1.stands.flushed_is stood.1.stands.file_is))
 
-  file-counted : faults before + log_failures handle past ≤ faults after
+  file-counted : faults after ≡ faults before + log_failures handle past
   file-counted =
-      subst (λ file. faults before + log_failures handle past ≤ faults file) stood.3
-      (subst (λ h. faults before + log_failures h past ≤ faults stood.0.file) stood.2 stood.1.counted)
+      subst (λ file. faults file ≡ faults before + log_failures handle past) stood.3
+      (subst (λ h. faults stood.0.file ≡ faults before + log_failures h past) stood.2 stood.1.counted)
 
 -- Logs of a run that stand for a past, before those that the run did not take.
 module _ {L : Type 0} (told : L → Option Log) (faults : L → ℕ) (past : List Entry) (old front new : List L) (stand : LogsStand told faults (λ handle. log_at_first told faults (slice_get (take 4 old) handle)) (length (take 4 old)) past front) (back : new ≡ front ++ drop 4 old) where
@@ -76,7 +76,7 @@ logs-same told logs = record {
 
 logs-counted-same : {L : Type 0} (faults : L → ℕ) (logs : List L) → LogsCounted faults [] logs logs
 logs-counted-same faults logs =
-    pairwise-same (λ handle before after. faults before + log_failures handle [] ≤ faults after) (take 4 logs) (λ handle l. omega (arith, failures-none handle))
+    pairwise-same (λ handle before after. faults after ≡ faults before + log_failures handle []) (take 4 logs) (λ handle l. omega (arith, failures-none handle))
 
 logs-risen-same : {L : Type 0} (faults : L → ℕ) (logs : List L) → HaveRisen faults logs logs
 logs-risen-same faults logs = pairwise-same (λ handle before after. faults before ≤ faults after) logs (λ handle l. omega arith)

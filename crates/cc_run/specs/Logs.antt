@@ -1,5 +1,5 @@
 -- The logs that a run gives back.
-use Rattle.std.specs.Prelude.{◌≡◌, ℕ, ◌+◌, ◌≤◌, List, length, slice_get, drop}
+use Rattle.std.specs.Prelude.{◌≡◌, ℕ, ◌+◌, List, length, slice_get, drop}
 use Rattle.std.specs.declared.option.Option.{Option}
 use Rattle.std.specs.declared.option.Option.TheVariants.{Some}
 use Rattle.cc_entry.specs.declared.entry.Entry.{Entry}
@@ -24,10 +24,10 @@ pub record LogsAre {L : Type 0} (told : L → Option Log) (past : List Entry) (o
   pub went : Pairwise (LogWent told past) (run_logs old) (run_logs new)
   pub rest : drop 4 new ≡ drop 4 old
 
--- the count of faults of each log of the run rose at least by the failures of it that the past shows
+-- the count of faults of each log of the run rose by just the failures of it that the past shows
 abbrev pub LogsCounted : {L : Type 0} → (L → ℕ) → List Entry → List L → List L → Type 0
 LogsCounted faults past old new =
-    Pairwise (λ handle before after. faults before + log_failures handle past ≤ faults after) (run_logs old) (run_logs new)
+    Pairwise (λ handle before after. faults after ≡ faults before + log_failures handle past) (run_logs old) (run_logs new)
 
 -- The logs of a run stand for a past, each having begun so.
 pub record LogsStand {L : Type 0} (told : L → Option Log) (faults : L → ℕ) (first : ℕ → LogAtFirst) (count : ℕ)
@@ -36,7 +36,7 @@ pub record LogsStand {L : Type 0} (told : L → Option Log) (faults : L → ℕ)
   pub each : (handle : ℕ) (log : L) → slice_get logs handle ≡ Some log → FileStands told faults (first handle) past handle log
 
 -- What a run left of the logs that it was handed in, by a past: each of the run has gone so with its handle, its count of
--- faults rose at least by the failures that the past shows, and no count fell.
+-- faults rose by just the failures that the past shows, and no count fell.
 pub record LogsLeft {L : Type 0} (told : L → Option Log) (faults : L → ℕ) (past : List Entry) (old new : List L) : Type 0 where
   pub are : LogsAre told past old new
   pub counted : LogsCounted faults past old new

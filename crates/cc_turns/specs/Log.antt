@@ -1,5 +1,5 @@
 -- What a log under its turn stands for beside its floor and its entries: its failures.
-use Rattle.std.specs.Prelude.{◌≡◌, ℕ, suc, ◌+◌, ◌≤◌, Bool, false, ◌==◌, List, [], ◌∷◌, if◌then◌else◌}
+use Rattle.std.specs.Prelude.{◌≡◌, ℕ, suc, ◌+◌, Bool, false, ◌==◌, List, [], ◌∷◌, if◌then◌else◌}
 use Rattle.std.specs.declared.option.Option.{Option}
 use Rattle.cc_entry.specs.declared.entry.Entry.{Entry}
 use Rattle.cc_entry.specs.declared.entry.Entry.TheVariants as entry
@@ -17,11 +17,12 @@ unfoldable pub log_failures : ℕ → List Entry → ℕ
 log_failures log [] = 0
 log_failures log (e ∷ past) = if is_log_failure log e then suc (log_failures log past) else log_failures log past
 
--- A log stands for a past. Its count of faults rose at least by the failures that the past shows.
+-- A log stands for a past. Its count of faults rose by just the failures that the past shows: an entry tells each. So of a log
+-- under its turn the count rose since the take by just those that were placed since.
 pub record LogStands {L : Type 0} (told : L → Option Log) (faults : L → ℕ) (first : LogAtFirst) (past : List Entry)
     (log : LogState L) : Type 0 where
   pub stands : Stands told first.told past log
-  pub counted : first.faults + log_failures log.handle past ≤ faults log.file
+  pub counted : faults log.file ≡ first.faults + log_failures log.handle past
 
 -- A log's file stands for a past: it did as the log under its turn.
 abbrev pub FileStands : {L : Type 0} → (L → Option Log) → (L → ℕ) → LogAtFirst → List Entry → ℕ → L → Type 0

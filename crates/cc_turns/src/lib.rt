@@ -6,7 +6,8 @@
 //! what is seen later. Only a take lets a pass see more. Turns are taken in this order: a stream's disk, a stream's
 //! book, a log, the journal; at most one of each kind is held, and the last taken is given first. Of a disk that
 //! is held, faults before the take count only so far as entries tell them: so at the give the count has risen since the
-//! take by at least the failures that were placed since, and a fault that was swallowed stands for no later one.
+//! take by at least the failures that were placed since, and a fault that was swallowed stands for no later one. Of a log
+//! none is swallowed: its count is always what it was at first and the failures that entries tell.
 //!
 //! A page is read from a disk, a page is transferred to it, and it is synced (`transfers`). A disk that tells what it
 //! holds goes on standing for what the journal says of its stream (`DiskStands`): each page but the record page by the

@@ -80,7 +80,7 @@ pub trait Turns {
         requires stands { BookStands ((standing self.old).setup.opening stream) (standing self.old).seen book }
         ensures { standing self.new ≡ without_book (standing self.old) };
 
-    /// Takes the turn of a log.
+    /// Takes the turn of a log. Entries tell each fault that it had since the run began.
     fn take_log(&mut self, handle: u8) -> LogTurn<Self::Log>
         requires known { handle < (standing self.old).setup.logs }
         requires no_log { (standing self.old).held.log ≡ None }
@@ -90,7 +90,7 @@ pub trait Turns {
         ensures stands { LogStands Self.Log.told Self.Log.faults ((standing self.new).logs handle)
             (standing self.new).seen result };
 
-    /// Gives the turn of a log.
+    /// Gives the turn of a log. Its count of faults rose since the take by just the failures that were placed since.
     fn give_log(&mut self, handle: u8, log: LogTurn<Self::Log>)
         requires held { (standing self.old).held.log ≡ Some handle }
         requires no_journal { (standing self.old).held.journal ≡ false }

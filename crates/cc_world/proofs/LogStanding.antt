@@ -67,8 +67,8 @@ module _ {L Q : Type 0} (told : L → Option Log) (faults : L → ℕ) (u : Setu
       nothing-more : (a b : ℕ) → a ≡ b → a ≡ b + 0
       nothing-more a b same = omega arith
 
-      still : (x a b c d f : ℕ) → x ≡ a → a ≡ b + n → c ≡ d + n → f + b ≤ d → f + x ≤ c
-      still x a b c d f same more now least = omega arith
+      still : (x a b c d f : ℕ) → x ≡ a → a ≡ b + n → c ≡ d + n → d ≡ f + b → c ≡ f + x
+      still x a b c d f same more now was = omega arith
 
   -- The log where nothing was placed.
   pub log-went-none : (now : LogState L) (k : JournalState Q) → k ≡ record j { reserved = k.reserved } → k.reserved ≡ reserved_in j.entries → now.handle ≡ log.handle → Stands told first.told j.entries now → faults now.file ≡ faults log.file + 0 → LogWent told faults u first 0 [] log now j k
@@ -92,8 +92,8 @@ module _ {L Q : Type 0} (told : L → Option Log) (faults : L → ℕ) (u : Setu
       nothing-more : (a b : ℕ) → a ≡ b → a ≡ b + 0
       nothing-more a b same = omega arith
 
-      still : (x a c d f : ℕ) → x ≡ a → c ≡ d + 0 → f + a ≤ d → f + x ≤ c
-      still x a c d f same now least = omega arith
+      still : (x a c d f : ℕ) → x ≡ a → c ≡ d + 0 → d ≡ f + a → c ≡ f + x
+      still x a c d f same now was = omega arith
 
 -- with a place reserved
 pub log-reserved : {L Q : Type 0} (more : ℕ) (told : L → Option Log) (faults : L → ℕ) (u : Setup) (first : LogAtFirst) (log : LogState L) (j r : JournalState Q) → r ≡ record j { reserved = j.reserved + more } → LogStandsUnder told faults u first 0 log j → LogStandsUnder told faults u first more log r

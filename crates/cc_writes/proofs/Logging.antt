@@ -97,12 +97,12 @@ log-grown told faults first w handle log seen held is grows stands =
 log-after : {L : Type 0} (told : L → Option Log) (faults : L → ℕ) (first : LogAtFirst) (log after : LogState L) (front now : List Entry) (m : ℕ) → after.handle ≡ log.handle → faults after.file ≡ faults log.file + m → log_failures log.handle now ≡ log_failures log.handle front + m → Stands told first.told now after → LogStands told faults first front log → LogStands told faults first now after
 log-after told faults first log after front now m same more failed stands before = record {
   stands = stands;
-  counted = subst (λ (n : ℕ). first.faults + log_failures n now ≤ faults after.file) (sym same)
+  counted = subst (λ (n : ℕ). faults after.file ≡ first.faults + log_failures n now) (sym same)
       (still first.faults (log_failures log.handle front) (log_failures log.handle now) (faults log.file) (faults after.file) m before.counted failed more);
 }
   where
-    still : (a b c d e m : ℕ) → a + b ≤ d → c ≡ b + m → e ≡ d + m → a + c ≤ e
-    still a b c d e m less x y = omega (arith, less, x, y)
+    still : (a b c d e m : ℕ) → d ≡ a + b → c ≡ b + m → e ≡ d + m → e ≡ a + c
+    still a b c d e m was x y = omega (arith, was, x, y)
 
 pub failures-flushed : (pass handle to log : ℕ) (past : List Entry) → log_failures log (entry.Flushed pass handle to ∷ past) ≡ log_failures log past + 0
 unfolding log_failures
