@@ -9,6 +9,7 @@ use Rattle.cc_entry.specs.declared.entry.Entry.TheVariants as entry
 use Rattle.cc_entry.specs.declared.reply.Outcome.TheVariants as outcome
 use Rattle.cc_model.specs.Passes.{calls_of}
 use Rattle.cc_entry.specs.declared.entry.Entry.{Entry}
+use Rattle.cc_book.specs.declared.book.Parts.{Parts}
 use Rattle.cc_ahead.specs.Kept.{Kept, PrivateStands}
 use Rattle.cc_holds.specs.declared.holds.Hold.{Hold}
 use Rattle.cc_content.specs.Contents.{Contents, ContentsStand, IsByteOf}
@@ -33,6 +34,17 @@ pub record BookState : Type 0 where
   pub holds : List Hold
   pub contents : Contents
   pub images : Images
+
+-- a book of this stream and these parts
+abbrev pub book_of : ℕ → Parts → BookState
+book_of stream parts = record {
+  stream = stream;
+  state = parts.state;
+  maps = parts.maps;
+  holds = parts.holds;
+  contents = parts.contents;
+  images = parts.images;
+}
 
 -- a book stands for a past, over what the stream's disk told of its opening pages
 pub record BookStands (opening : Option (ℕ → List ℕ)) (past : List Entry) (b : BookState) : Type 0 where

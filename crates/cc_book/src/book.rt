@@ -40,10 +40,16 @@ use cc_stream::StreamState;
 use std::alloc::Global;
 use std::marker::Model;
 
-/// What is kept of one stream.
+/// What is kept of one stream. Its parts lie in a box, so a move of the book moves none of them.
 #[derive(Drop)]
 pub struct Book {
     pub(crate) stream: StreamId,
+    pub(crate) parts: Box<Parts>,
+}
+
+/// The parts of a book.
+#[derive(Drop)]
+pub(crate) struct Parts {
     pub(crate) state: StreamState,
     pub(crate) maps: PrivateMaps,
     pub(crate) holds: OpenHolds,
@@ -52,35 +58,31 @@ pub struct Book {
 }
 
 impl Model for Book {
-    ghost use Rattle.cc_book.specs.Book.{BookState};
+    ghost use Rattle.cc_book.specs.Book.{BookState, book_of};
 
     ghost Value = { BookState };
 
-    ghost view = { λ b. record {
-      stream = b.stream;
-      state = b.state;
-      maps = b.maps;
-      holds = b.holds;
-      contents = b.contents;
-      images = b.images;
-    } };
+    ghost view = { λ b. book_of b.stream b.parts.value };
 }
 
 impl Book {
-    /// The book of a stream of which nothing happened yet. It takes no memory.
-    pub fn new(alloc: Global, stream: StreamId) -> Book
-        ensures stream { result.stream ≡ stream }
-        ensures stands { (opening : Option (ℕ → List ℕ)) (past : List Entry) →
-            history past stream ≡ [] → BookStands opening past result }
+    /// The book of a stream of which nothing happened yet. Answers `NoMemory` where memory is wanting.
+    pub fn new(alloc: Global, stream: StreamId) -> Result<Book, NoMemory>
+        ensures stream { IfOk result (λ book. book.stream ≡ stream) }
+        ensures stands { IfOk result (λ book. (opening : Option (ℕ → List ℕ)) (past : List Entry) →
+            history past stream ≡ [] → BookStands opening past book) }
     {
-        Book {
-            stream,
+        let parts = Parts {
             state: StreamState::new(),
             maps: PrivateMaps::new(),
             holds: OpenHolds::new(alloc),
             contents: Contents::new(),
             images: Images::new(alloc),
-        }
+        };
+        let Ok(parts) = Box::new(alloc, parts) else {
+            return Err(NoMemory);
+        };
+        Ok(Book { stream, parts })
     }
 
     /// The stream that the book is of.
@@ -95,7 +97,7 @@ impl Book {
         ensures { (opening : Option (ℕ → List ℕ)) (past : List Entry) → BookStands opening past self.now →
             result ≡ size_of (history past self.now.stream) }
     {
-        self.state.size()
+        self.parts.state.size()
     }
 
     /// The valid data length in bytes, 0 before the first initialise.
@@ -103,7 +105,7 @@ impl Book {
         ensures { (opening : Option (ℕ → List ℕ)) (past : List Entry) → BookStands opening past self.now →
             result ≡ valid_of (history past self.now.stream) }
     {
-        self.contents.valid()
+        self.parts.contents.valid()
     }
 
     /// The allocation in bytes (`CcSetFileSizes`), 0 before the first initialise.
@@ -111,7 +113,7 @@ impl Book {
         ensures { (opening : Option (ℕ → List ℕ)) (past : List Entry) → BookStands opening past self.now →
             result ≡ allocation_of (history past self.now.stream) }
     {
-        self.state.allocation()
+        self.parts.state.allocation()
     }
 
     /// How many view blocks may be mapped (`CcInitializeCacheMap`), 0 before the first initialise.
@@ -119,7 +121,7 @@ impl Book {
         ensures { (opening : Option (ℕ → List ℕ)) (past : List Entry) → BookStands opening past self.now →
             result ≡ quota_of (history past self.now.stream) }
     {
-        self.state.quota()
+        self.parts.state.quota()
     }
 
     /// The handle of the stream's log, where it has one (`CcSetLogHandleForFile`).
@@ -127,7 +129,7 @@ impl Book {
         ensures { (opening : Option (ℕ → List ℕ)) (past : List Entry) → BookStands opening past self.now →
             result ≡ log_of (history past self.now.stream) }
     {
-        self.state.log()
+        self.parts.state.log()
     }
 
     /// Whether a file object has a private cache map; none past 15 has.
@@ -135,7 +137,7 @@ impl Book {
         ensures { (opening : Option (ℕ → List ℕ)) (past : List Entry) → BookStands opening past self.now →
             result ≡ is_among object (objects (history past self.now.stream)) }
     {
-        self.state.is_open(object)
+        self.parts.state.is_open(object)
     }
 
     /// Whether the stream has a shared map.
@@ -143,7 +145,7 @@ impl Book {
         ensures { (opening : Option (ℕ → List ℕ)) (past : List Entry) → BookStands opening past self.now →
             result ≡ is_mapped (history past self.now.stream) }
     {
-        self.contents.has_map()
+        self.parts.contents.has_map()
     }
 
     /// Whether the stream ever had a shared map.
@@ -151,7 +153,7 @@ impl Book {
         ensures { (opening : Option (ℕ → List ℕ)) (past : List Entry) → BookStands opening past self.now →
             result ≡ had_map (history past self.now.stream) }
     {
-        self.state.had_map()
+        self.parts.state.had_map()
     }
 
     /// The open hold of an id; its written span is no part of what is promised.
@@ -159,7 +161,7 @@ impl Book {
         ensures { (opening : Option (ℕ → List ℕ)) (past : List Entry) → BookStands opening past self.now →
             option_map shown_row result ≡ option_map shown (hold_at (holds_of (history past self.now.stream)) id) }
     {
-        self.holds.get(id)
+        self.parts.holds.get(id)
     }
 
     /// The pass that made the open hold of an id.
@@ -167,7 +169,7 @@ impl Book {
         ensures { (opening : Option (ℕ → List ℕ)) (past : List Entry) → BookStands opening past self.now →
             result ≡ option_map (λ hold. hold.pass) (hold_at (holds_of (history past self.now.stream)) id) }
     {
-        self.holds.maker(id)
+        self.parts.holds.maker(id)
     }
 
     /// Whether the open hold of an id is a pin that changed bytes and was not set dirty since.
@@ -175,7 +177,7 @@ impl Book {
         ensures { (opening : Option (ℕ → List ℕ)) (past : List Entry) → BookStands opening past self.now →
             result ≡ owes_set_dirty (hold_at (holds_of (history past self.now.stream)) id) }
     {
-        self.holds.owes_set_dirty(id)
+        self.parts.holds.owes_set_dirty(id)
     }
 
     /// Whether an open hold has the page.
@@ -183,7 +185,7 @@ impl Book {
         ensures { (opening : Option (ℕ → List ℕ)) (past : List Entry) → BookStands opening past self.now →
             result ≡ is_held (holds_of (history past self.now.stream)) page }
     {
-        self.holds.is_held(page)
+        self.parts.holds.is_held(page)
     }
 
     /// Whether an open pin changed the page and was not set dirty since (Unstamped).
@@ -191,7 +193,7 @@ impl Book {
         ensures { (opening : Option (ℕ → List ℕ)) (past : List Entry) → BookStands opening past self.now →
             result ≡ is_unstamped (history past self.now.stream) page }
     {
-        self.holds.is_unstamped(page)
+        self.parts.holds.is_unstamped(page)
     }
 
     /// How many view blocks are mapped.
@@ -199,7 +201,7 @@ impl Book {
         ensures { (opening : Option (ℕ → List ℕ)) (past : List Entry) → BookStands opening past self.now →
             result ≡ mapped_blocks (history past self.now.stream) }
     {
-        self.contents.mapped()
+        self.parts.contents.mapped()
     }
 
     /// Whether a view block is mapped: whether a page of it is resident.
@@ -207,7 +209,7 @@ impl Book {
         ensures { (opening : Option (ℕ → List ℕ)) (past : List Entry) → BookStands opening past self.now →
             result ≡ block_is_mapped (history past self.now.stream) block }
     {
-        self.contents.is_block_mapped(block)
+        self.parts.contents.is_block_mapped(block)
     }
 
     /// The page at this number, where it is resident.
@@ -219,7 +221,7 @@ impl Book {
             IfSome result (λ bytes. (i : ℕ) → i < 4096 →
             IsByteOf opening (history past self.now.stream) (4096 * page + i) (slice_index bytes.now i)) }
     {
-        self.contents.get(page)
+        self.parts.contents.get(page)
     }
 
     /// The least page with bytes of the range that is not resident.
@@ -228,7 +230,7 @@ impl Book {
             result ≡ find (λ p. not (is_resident (history past self.now.stream) p))
             (pages_of (record { from = from; to = to })) }
     {
-        self.contents.first_absent(from, to)
+        self.parts.contents.first_absent(from, to)
     }
 
     /// The read-ahead that a read of so many bytes at a place leads to (`CcScheduleReadAhead`), where it leads
@@ -237,9 +239,11 @@ impl Book {
         ensures { (opening : Option (ℕ → List ℕ)) (past : List Entry) → BookStands opening past self.now →
             result ≡ ahead_of (history past self.now.stream) file at len }
     {
-        let no_read_ahead = self.state.has_no_read_ahead();
-        self.maps
-            .ahead_of(file, at, len, no_read_ahead, self.state.size())
+        let parts = &*self.parts;
+        let no_read_ahead = parts.state.has_no_read_ahead();
+        parts
+            .maps
+            .ahead_of(file, at, len, no_read_ahead, parts.state.size())
     }
 
     /// The refusal of a call on the stream, where there is one. Answers `NoMemory` where memory is wanting.
@@ -253,13 +257,14 @@ impl Book {
             u.logs ≡ journal.now.logs → BookStands opening journal.now.entries self.now →
             refused ≡ refusal u journal.now.entries (history journal.now.entries self.now.stream) call.now) }
     {
+        let parts = &*self.parts;
         let known = Known {
             stream: self.stream,
-            state: &self.state,
-            valid: self.contents.valid(),
-            mapped: self.contents.has_map(),
-            holds: &self.holds,
-            images: &self.images,
+            state: &parts.state,
+            valid: parts.contents.valid(),
+            mapped: parts.contents.has_map(),
+            holds: &parts.holds,
+            images: &parts.images,
             dirty: journal.dirty().rows(),
             logs: journal.logs(),
             free_views: journal.free_views(),
@@ -274,8 +279,9 @@ impl Book {
             BookStands opening past self.now →
             block ≡ block_to_go (history past self.now.stream) span) }
     {
-        let kept = self.holds.kept_blocks(alloc, span)?;
-        Ok(self.contents.oldest_of(&kept))
+        let parts = &*self.parts;
+        let kept = parts.holds.kept_blocks(alloc, span)?;
+        Ok(parts.contents.oldest_of(&kept))
     }
 
     /// A page goes out. It takes no memory.
@@ -287,7 +293,7 @@ impl Book {
         ensures stands { GoesOn journal.old.entries journal.new.entries self.old self.new }
         ensures stream { self.new.stream ≡ self.old.stream }
     {
-        self.contents.went_out(page.page());
+        self.parts.contents.went_out(page.page());
         journal.push(Entry::PageOut { pass, page });
     }
 
@@ -310,8 +316,9 @@ impl Book {
         ensures stream { self.new.stream ≡ self.old.stream }
         ensures err { OnErr result ((self.new ≡ self.old) × (journal.new ≡ journal.old)) }
     {
-        let from_disk = 4096 * page.page() < self.contents.valid();
-        self.contents.came_in(page.page(), raw)?;
+        let contents = &mut self.parts.contents;
+        let from_disk = 4096 * page.page() < contents.valid();
+        contents.came_in(page.page(), raw)?;
         journal.push(Entry::PageIn {
             pass,
             page,
@@ -337,10 +344,11 @@ impl Book {
         ensures stream { self.new.stream ≡ self.old.stream }
         ensures err { OnErr result (Stays journal.old journal.new self.old self.new) }
     {
-        let snapshot = self.contents.share(page.page())?;
+        let parts = &mut *self.parts;
+        let snapshot = parts.contents.share(page.page())?;
         match snapshot {
             Some(frame) => {
-                self.images.began(self.contents.valid())?;
+                parts.images.began(parts.contents.valid())?;
                 journal.push(Entry::WriteBegin { pass, page });
                 Ok(frame)
             }
@@ -357,10 +365,11 @@ impl Book {
         ensures stands { GoesOn journal.old.entries journal.new.entries self.old self.new }
         ensures stream { self.new.stream ≡ self.old.stream }
     {
-        self.images.ended(page.page(), how, self.contents.valid());
+        let parts = &mut *self.parts;
+        parts.images.ended(page.page(), how, parts.contents.valid());
         journal.push(Entry::WriteEnd { pass, page, how });
         let mapped = journal.is_mapped(self.stream);
-        self.contents.ended(mapped);
+        parts.contents.ended(mapped);
     }
 
     /// A call on the stream failed.
@@ -403,8 +412,9 @@ impl Book {
             result ≡ find (λ p. not (is_resident (history past self.now.stream) p))
             (pages_of (cut_range (size_of (history past self.now.stream)) at len)) }
     {
+        let parts = &*self.parts;
         let end = u128::from(at) + u128::from(len);
-        let to = end.min(u128::from(self.state.size())) as u64;
-        self.contents.first_absent(at, to)
+        let to = end.min(u128::from(parts.state.size())) as u64;
+        parts.contents.first_absent(at, to)
     }
 }

@@ -17,7 +17,7 @@ ghost use Rattle.cc_ahead.specs.Kept.{PrivateStands};
 ghost use Rattle.cc_book.specs.Book.{BookStands, Gains, Stays, StandsAsBefore, done, MayDo, IsDoing, GoesOnBy, OwnsFor, IsRoomFor, ImagesMayFollow, ImagesFollow, takes_memory};
 ghost use Rattle.cc_book.specs.Stored.{MayStoreAndBegin, GainsStore};
 
-use crate::book::Book;
+use crate::book::{Book, Parts};
 use cc_entry::{Bytes, Call, Entry, FileId, NoMemory, Outcome, PageId, Reply};
 use cc_events::id_in;
 use cc_images::Room;
@@ -87,14 +87,15 @@ impl Book {
         ensures stream { self.new.stream ≡ self.old.stream }
         ensures err { OnErr result (Stays journal.old journal.new self.old self.new) }
     {
-        self.images.reserve()?;
+        self.parts.images.reserve()?;
         let call = Call::NcStore {
             file,
             page: page.page(),
             bytes,
         };
         self.done(alloc, journal, pass, call, Reply::Unit)?;
-        self.images.began_reserved(self.contents.valid());
+        let parts = &mut *self.parts;
+        parts.images.began_reserved(parts.contents.valid());
         journal.push(Entry::WriteBegin { pass, page });
         Ok(())
     }
@@ -107,8 +108,9 @@ impl Book {
         ensures images { self.new.images ≡ self.old.images }
         ensures sure { takes_memory call.now ≡ false → IsOk result }
     {
-        let truncation = truncation_by(&self.state, call);
-        self.contents.own(call, truncation)
+        let parts = &mut *self.parts;
+        let truncation = truncation_by(&parts.state, call);
+        parts.contents.own(call, truncation)
     }
 
     // Whether the stream has a shared map after a done call.
@@ -120,7 +122,7 @@ impl Book {
         match call {
             Call::Initialise { .. } => true,
             Call::Uninitialise { file, truncate } => journal.stays_mapped(*file, *truncate),
-            _ => self.contents.has_map(),
+            _ => self.parts.contents.has_map(),
         }
     }
 
@@ -131,7 +133,7 @@ impl Book {
         ensures sure { takes_memory call.now ≡ false → IsOk result }
     {
         match call {
-            Call::Initialise { quota, .. } if !self.contents.has_map() => {
+            Call::Initialise { quota, .. } if !self.parts.contents.has_map() => {
                 Ok(Some(Room::new(alloc, *quota)?))
             }
             _ => Ok(None),
@@ -147,10 +149,10 @@ impl Book {
         ensures same { self.new ≡ record self.old { images = self.new.images } }
         ensures room { HasRoomToBegin self.old.images → HasRoomToBegin self.new.images }
     {
-        let valid = self.contents.valid();
+        let valid = self.parts.contents.valid();
         match room {
-            Some(room) => self.images.opened(room, valid),
-            None => self.images.done(was, valid),
+            Some(room) => self.parts.images.opened(room, valid),
+            None => self.parts.images.done(was, valid),
         }
     }
 
@@ -206,10 +208,11 @@ impl Book {
         ensures err { OnErr result (self.new ≡ self.old) }
     {
         let listed = bytes.to_vec(alloc)?;
-        let was_mapped = self.contents.has_map();
-        self.holds.done(pass, call, id_in(reply))?;
-        self.contents.pinned_write(at, &listed);
-        self.set(call, reply, was_mapped);
+        let parts = &mut *self.parts;
+        let was_mapped = parts.contents.has_map();
+        parts.holds.done(pass, call, id_in(reply))?;
+        parts.contents.pinned_write(at, &listed);
+        parts.set(call, reply, was_mapped);
         Ok(())
     }
 
@@ -231,18 +234,19 @@ impl Book {
         ensures err { OnErr result (self.new ≡ self.old) }
         ensures sure { takes_memory call.now ≡ false → IsOk result }
     {
-        let size = self.state.size();
-        let was_mapped = self.contents.has_map();
-        let truncation = truncation_by(&self.state, call);
-        self.holds.done(pass, call, id_in(reply))?;
-        match self
+        let parts = &mut *self.parts;
+        let size = parts.state.size();
+        let was_mapped = parts.contents.has_map();
+        let truncation = truncation_by(&parts.state, call);
+        parts.holds.done(pass, call, id_in(reply))?;
+        match parts
             .contents
             .done(alloc, call, reply, size, truncation, mapped)
         {
             Ok(()) => (),
             Err(_) => unreachable!(),
         }
-        self.set(call, reply, was_mapped);
+        parts.set(call, reply, was_mapped);
         Ok(())
     }
 
@@ -263,15 +267,19 @@ impl Book {
         ensures err { OnErr result (self.new ≡ self.old) }
         ensures sure { takes_memory call.now ≡ false → IsOk result }
     {
-        let size = self.state.size();
-        let was_mapped = self.contents.has_map();
-        let truncation = truncation_by(&self.state, call);
-        self.contents
+        let parts = &mut *self.parts;
+        let size = parts.state.size();
+        let was_mapped = parts.contents.has_map();
+        let truncation = truncation_by(&parts.state, call);
+        parts
+            .contents
             .done(alloc, call, reply, size, truncation, mapped)?;
-        self.set(call, reply, was_mapped);
+        parts.set(call, reply, was_mapped);
         Ok(())
     }
+}
 
+impl Parts {
     // Follows a done call with what is set for the stream, and with its private maps.
     fn set(&mut self, call: &Call, reply: &Reply, was_mapped: bool)
         ensures same { self.new ≡ record self.old { state = self.new.state; maps = self.new.maps } }

@@ -152,10 +152,11 @@ pub record DeskStands {D L Q : Type 0} (tells : Tells D L Q) (d : DeskState D L 
   pub within : IsWithinCapacity d.begun.capacity d.last.entries
   pub acted : HasActed d.pass d.since d.last.entries
 
--- Rows have room for all that a run is made from, and its journal is empty.
+-- Rows have room for the disks and logs that a run is made from, the book of each stream is at home, and the journal is
+-- empty.
 pub record AreRowsFor {D L Q : Type 0} (begun : Begun D L) (rows : Rows D L Q) : Type 0 where
   pub disks : IsRoomFor (length begun.disks) rows.disks.items (vec_capacity rows.disks)
-  pub books : IsRoomFor (length begun.disks) rows.books.items (vec_capacity rows.books)
+  pub books : (opening : ℕ → Option (ℕ → List ℕ)) → AreHome (length begun.disks) None (BookIsHome opening []) rows.books.items
   pub logs : IsRoomFor (length begun.logs) rows.logs.items (vec_capacity rows.logs)
   pub journal : IsNew begun rows.journal
 

@@ -53,7 +53,7 @@ pub struct Desk<D: PageDisk, L: LogFile, Q: PostRoutine> {
     pub(crate) since: Snapshot<Snapshot<Journal<Q>>>,
 }
 
-// rows with room for all that a run is made from, and its journal
+// rows with room for the disks and logs that a run is made from, the books of its streams, and its journal
 struct Rows<D, L, Q> {
     journal: Journal<Q>,
     books: Vec<Option<Book>>,
@@ -86,7 +86,7 @@ impl<D: PageDisk, L: LogFile, Q: PostRoutine> Rows<D, L, Q> {
         let logs = setup.logs.len();
         Ok(Rows {
             journal: Journal::new(alloc, setup.journal, setup.threshold, logs as u8)?,
-            books: Vec::with_capacity(alloc, streams)?,
+            books: places::of_books(alloc, streams as u8)?,
             logs: Vec::with_capacity(alloc, logs)?,
             disks: Vec::with_capacity(alloc, streams)?,
         })
@@ -101,13 +101,13 @@ impl<D: PageDisk, L: LogFile, Q: PostRoutine> Desk<D, L, Q> {
         ensures err { IfErr result (λ back. (back.0 ≡ setup) × (back.1 ≡ error.NoMemory)) }
     {
         match Rows::new(alloc, &setup) {
-            Ok(rows) => Ok(Desk::over(alloc, setup, rows)),
+            Ok(rows) => Ok(Desk::over(setup, rows)),
             Err(NoMemory) => Err((setup, CcError::NoMemory)),
         }
     }
 
     // The desk of a setup, over rows with room for it. It takes no memory.
-    fn over(alloc: Global, setup: Setup<D, L>, rows: Rows<D, L, Q>) -> Desk<D, L, Q>
+    fn over(setup: Setup<D, L>, rows: Rows<D, L, Q>) -> Desk<D, L, Q>
         requires { AreRowsFor (made_from setup) rows }
         ensures { IsFresh (made_from setup) result }
     {
@@ -126,7 +126,7 @@ impl<D: PageDisk, L: LogFile, Q: PostRoutine> Desk<D, L, Q> {
         let last = Snapshot::of(&journal);
         let since = Snapshot::of(&last);
         Desk {
-            books: places::of_books(alloc, disks.len() as u8, books),
+            books,
             disks: places::out_of(&mut disks, disk_places),
             logs: places::of_logs(&mut logs, log_places),
             journal: Some(journal),

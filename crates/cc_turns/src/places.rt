@@ -1,32 +1,30 @@
 //! Places: how a row moves into places of its own, and back.
 
-ghost use Rattle.std.specs.Prelude.{◌≡◌, ℕ, ◌≤◌, true, None, Some, Option, List, [], length, map, is_some, vec_capacity};
+ghost use Rattle.std.specs.Prelude.{◌≡◌, ℕ, ◌≤◌, true, None, Some, Option, List, [], length, map, is_some, vec_capacity, IfOk};
 ghost use Rattle.std.specs.List.{list_all};
 ghost use Rattle.std.specs.Option.{option_map};
 ghost use Rattle.cc_turns.specs.Places.{AreHome, IsRoomFor};
 ghost use Rattle.cc_turns.specs.Desk.{BookIsHome, LogIsHome};
 
 use cc_book::Book;
-use cc_entry::StreamId;
+use cc_entry::{NoMemory, StreamId};
 use cc_log::LogTurn;
 use cc_traits::LogFile;
 use std::alloc::Global;
 
 /// The books of so many streams of which nothing happened yet, each at its place.
-pub(crate) fn of_books(
-    alloc: Global,
-    streams: u8,
-    mut places: Vec<Option<Book>>,
-) -> Vec<Option<Book>>
+pub(crate) fn of_books(alloc: Global, streams: u8) -> Result<Vec<Option<Book>>, NoMemory>
     requires few { streams ≤ 16 }
-    requires room { IsRoomFor streams places.items (vec_capacity places) }
-    ensures { (opening : ℕ → Option (ℕ → List ℕ)) → AreHome streams None (BookIsHome opening []) result.items }
+    ensures { IfOk result (λ books. (opening : ℕ → Option (ℕ → List ℕ)) →
+        AreHome streams None (BookIsHome opening []) books.items) }
 {
+    let mut places = Vec::with_capacity(alloc, usize::from(streams))?;
     for number in 0..streams {
         let stream = StreamId::new(number).unwrap();
-        places.push_reserved(Some(Book::new(alloc, stream)));
+        let book = Book::new(alloc, stream)?;
+        places.push_reserved(Some(book));
     }
-    places
+    Ok(places)
 }
 
 /// Moves a row out, each into its place.

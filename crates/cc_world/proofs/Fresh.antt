@@ -86,10 +86,10 @@ used-none told faults disks s n disk (Some kept) is at none = absurd (cc)
 
 new-home : {D L Q : Type 0} (tells : Tells D L Q) (disks : List D) (s : ℕ) (row : Row D) → IsNewRow disks s row → RowIsHome tells disks [] s row
 new-home tells disks s row new = record {
-  stream = new.stream;
+  stream = new.book.stream;
   stands = record {
-    book = new.stands (openings tells.disk tells.disk_faults disks s);
-    disk = used-none tells.disk tells.disk_faults disks s row.book.stream row.disk row.kept new.disk new.stream new.kept;
+    book = new.book.stands (openings tells.disk tells.disk_faults disks s);
+    disk = used-none tells.disk tells.disk_faults disks s row.book.stream row.disk row.kept new.disk new.book.stream new.kept;
   };
 }
 

@@ -5,7 +5,7 @@ use Rattle.std.specs.declared.option.Option.TheVariants.{Some, None}
 use Rattle.cc_entry.specs.declared.entry.Entry.{Entry}
 use Rattle.cc_entry.specs.declared.error.CcError.TheVariants as error
 use Rattle.cc_traits.specs.declared.setup.Setup.{Setup as Begins}
-use Rattle.cc_book.specs.Book.{BookStands}
+use Rattle.cc_book.specs.Book.{BookState, BookStands}
 use Rattle.cc_journal.specs.Capacity.{IsWithinCapacity}
 use Rattle.cc_journal.specs.Journal.{JournalState, room_of}
 use Rattle.cc_journal.specs.Queue.{AllUnposted}
@@ -79,16 +79,21 @@ pub record WorldStands {D L Q : Type 0} (tells : Tells D L Q) (w : WorldState D 
   pub journal : JournalRests tells w.begun w.journal
   pub few : (length w.begun.disks ≤ 16) × (length w.begun.logs ≤ 4)
 
+-- The book of a stream of which nothing happened yet.
+pub record IsNewBook (s : ℕ) (book : BookState) : Type 0 where
+  pub stream : book.stream ≡ s
+  pub stands : (opening : Option (ℕ → List ℕ)) → BookStands opening [] book
+
 -- A row of which nothing happened yet, over a disk of a setup.
 pub record IsNewRow {D : Type 0} (disks : List D) (s : ℕ) (row : Row D) : Type 0 where
   pub disk : slice_get disks s ≡ Some row.disk
-  pub stream : row.book.stream ≡ s
-  pub stands : (opening : Option (ℕ → List ℕ)) → BookStands opening [] row.book
+  pub book : IsNewBook s row.book
   pub kept : row.kept ≡ None
 
--- Rows have room for all that a run is made from, and its journal is empty.
+-- Rows have room for all that a run is made from, nothing happened to the books of its streams, and its journal is empty.
 pub record AreRowsFor {D L Q : Type 0} (begun : Begun D L) (made : Rows D L Q) : Type 0 where
   pub rows : IsRoomFor (length begun.disks) made.rows.items (vec_capacity made.rows)
+  pub books : AreAt (length begun.disks) IsNewBook made.books.items
   pub logs : IsRoomFor (length begun.logs) made.logs.items (vec_capacity made.logs)
   pub journal : IsNew begun made.journal
 

@@ -1,34 +1,49 @@
 //! How the rows and the logs of the World are made of a setup, and given back.
 
-ghost use Rattle.std.specs.Prelude.{◌≡◌, ◌≤◌, [], length, map, vec_capacity};
+ghost use Rattle.std.specs.Prelude.{◌≡◌, ◌≤◌, [], length, map, vec_capacity, IfOk};
 ghost use Rattle.cc_turns.specs.Desk.{LogIsHome};
 ghost use Rattle.cc_turns.specs.Places.{IsRoomFor};
-ghost use Rattle.cc_world.specs.World.{AreAt, IsNewRow};
+ghost use Rattle.cc_world.specs.World.{AreAt, IsNewBook, IsNewRow};
 
 use crate::rows::Row;
 use cc_book::Book;
-use cc_entry::StreamId;
+use cc_entry::{NoMemory, StreamId};
 use cc_log::LogTurn;
 use cc_traits::{LogFile, PageDisk};
 use std::alloc::Global;
 
-/// A row for each disk, of whose stream nothing happened yet.
+/// The books of so many streams of which nothing happened yet, in their order.
+pub(crate) fn books_of(alloc: Global, streams: u8) -> Result<Vec<Book>, NoMemory>
+    requires few { streams ≤ 16 }
+    ensures { IfOk result (λ books. AreAt streams IsNewBook books.items) }
+{
+    let mut books = Vec::with_capacity(alloc, usize::from(streams))?;
+    for number in 0..streams {
+        let stream = StreamId::new(number).unwrap();
+        let book = Book::new(alloc, stream)?;
+        books.push_reserved(book);
+    }
+    Ok(books)
+}
+
+/// A row for each disk, of whose stream nothing happened yet, with its book.
 pub(crate) fn rows_of<D: PageDisk>(
-    alloc: Global,
     disks: &mut Vec<D>,
+    mut books: Vec<Book>,
     mut rows: Vec<Row<D>>,
 ) -> Vec<Row<D>>
-    requires few { length disks.old.items ≤ 16 }
+    requires books { AreAt (length disks.old.items) IsNewBook books.items }
     requires room { IsRoomFor (length disks.old.items) rows.items (vec_capacity rows) }
     ensures rows { AreAt (length disks.old.items) (IsNewRow disks.old.items) result.items }
     ensures emptied { IsRoomFor (length disks.old.items) disks.new.items (vec_capacity disks.new) }
 {
     disks.reverse();
+    books.reverse();
     while let Some(disk) = disks.pop() {
-        let stream = StreamId::new(rows.len() as u8).unwrap();
+        let book = books.pop().unwrap();
         rows.push_reserved(Row {
             disk,
-            book: Book::new(alloc, stream),
+            book,
             kept: None,
         });
     }

@@ -15,8 +15,9 @@ ghost use Rattle.cc_effects.specs.declared.events.Event.TheVariants as event;
 use crate::filing::{Filing, filing_of};
 use crate::journal::{defer, do_unfiled, fail_unfiled, post, scan};
 use crate::logs::{append, flush};
-use crate::places::{disks_of, files_of, logs_of, rows_of};
+use crate::places::{books_of, disks_of, files_of, logs_of, rows_of};
 use crate::rows::Row;
+use cc_book::Book;
 use cc_effects::{Event, StepReply};
 use cc_entry::{Bytes, Call, CcError, FileId, Lsn, NoMemory, PageId, StreamId};
 use cc_journal::{Journal, Parts};
@@ -40,9 +41,10 @@ pub struct World<D: PageDisk, L: LogFile, Q: PostRoutine> {
     begun: Snapshot<Setup<D, L>>,
 }
 
-// rows with room for all that a run is made from, and its journal
+// rows with room for all that a run is made from, the books of its streams, and its journal
 struct Rows<D, L, Q> {
     journal: Journal<Q>,
+    books: Vec<Book>,
     logs: Vec<LogTurn<L>>,
     rows: Vec<Row<D>>,
 }
@@ -68,11 +70,13 @@ impl<D: PageDisk, L: LogFile, Q: PostRoutine> Rows<D, L, Q> {
     fn new(alloc: Global, setup: &Setup<D, L>) -> Result<Rows<D, L, Q>, NoMemory>
         ensures { IfOk result (λ rows. AreRowsFor (made_from setup.now) rows) }
     {
+        let streams = setup.disks.len();
         let logs = setup.logs.len();
         Ok(Rows {
             journal: Journal::new(alloc, setup.journal, setup.threshold, logs as u8)?,
+            books: books_of(alloc, streams as u8)?,
             logs: Vec::with_capacity(alloc, logs)?,
-            rows: Vec::with_capacity(alloc, setup.disks.len())?,
+            rows: Vec::with_capacity(alloc, streams)?,
         })
     }
 }
@@ -102,12 +106,13 @@ impl<D: PageDisk, L: LogFile, Q: PostRoutine> World<D, L, Q> {
         } = setup;
         let Rows {
             journal,
+            books,
             logs: turns,
             rows,
         } = rows;
         World {
             alloc,
-            rows: rows_of(alloc, &mut disks, rows),
+            rows: rows_of(&mut disks, books, rows),
             logs: logs_of(&mut logs, turns),
             journal,
             disk_room: disks,

@@ -9,22 +9,22 @@ use Rattle.cc_turns.proofs.places.of_books.Goals as goal
 
 pub loop-number-init : goal.loop-number-init
 loop-number-init c = record {
-  home = λ opening. none_home (BookIsHome opening []) c.args.places.items c.requires.room.empty;
-  capacity = refl;
+  home = λ opening. none_home (BookIsHome opening []) c.in_ok-places.places.items c.in_ok-places.ensures.items;
+  room = omega (arith, c.in_ok-places.ensures.capacity, c.from.ensures);
 }
 
 pub push_reserved-requires : goal.push_reserved-requires
 push_reserved-requires c =
-    omega (arith, (c.loop-number.invariant.home (λ s. None)).counted, c.loop-number.places.ok.0, c.loop-number-test.true, c.requires.room.room, c.loop-number.invariant.capacity)
+    omega (arith, (c.loop-number.invariant.home (λ s. None)).counted, c.loop-number.places.ok.0, c.loop-number-test.true, c.loop-number.invariant.room)
 
 pub loop-number-preserved : goal.loop-number-preserved
 loop-number-preserved c = record {
-  home = λ opening. rw c.push_reserved.ensures.items (pushed_home c.loop-number.number (c.loop-number.number + 1) c.loop-number.places.items c.new-in-loop-number.result refl
+  home = λ opening. rw c.push_reserved.ensures.items (pushed_home c.loop-number.number (c.loop-number.number + 1) c.loop-number.places.items c.in_ok-book.book refl
       (record {
-        stream_is = c.new-in-loop-number.ensures.stream ∙ subst (λ o. IfSome o (λ stream. stream ≡ c.loop-number.number)) c.unwrap-stream.ensures c.new.ensures.number;
-        stands = c.new-in-loop-number.ensures.stands (opening c.loop-number.number) [] (history_none _);
+        stream_is = c.in_ok-book.ensures.stream ∙ subst (λ o. IfSome o (λ stream. stream ≡ c.loop-number.number)) c.unwrap-stream.ensures c.new.ensures.number;
+        stands = c.in_ok-book.ensures.stands (opening c.loop-number.number) [] (history_none _);
       }) (c.loop-number.invariant.home opening));
-  capacity = c.push_reserved.ensures.capacity ∙ c.loop-number.invariant.capacity;
+  room = rw c.push_reserved.ensures.capacity c.loop-number.invariant.room;
 }
 
 pub returns : goal.returns

@@ -12,7 +12,7 @@ use Rattle.cc_book.proofs.book.Book.block_to_go.Goals as goal
 pub returns : goal.returns
 returns c opening past stands =
     let h = history past c.args.self.now.stream in
-    let was = parts-stand opening past (record { stream = c.self.inside.stream; state = c.self.inside.state; maps = c.self.inside.maps; holds = c.self.inside.holds; contents = c.self.inside.contents; images = c.self.inside.images }) c.args.self.now c.self.view_is stands in
+    let was = parts-stand opening past c.self.inside.stream c.deref-parts.ensures c.self.view_is stands in
     c.oldest_of.ensures opening h was.contents_are
     ∙ (ap (λ (kept : List ℕ). first_not_in kept (order_of_use h)) c.deref.ensures.value
     ∙ first-of_neither c.in_ok-kept.kept.items (held_blocks (holds_of h)) (blocks_of c.args.span) (order_of_use h) (c.in_ok-kept.ensures.same h was.holds_are))

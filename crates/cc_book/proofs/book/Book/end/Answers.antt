@@ -5,7 +5,7 @@ use Rattle.cc_entry.specs.declared.entry.Entry.{Entry}
 use Rattle.cc_model.specs.History.{history}
 use Rattle.cc_model.specs.Touches.{is_mapped}
 use Rattle.cc_journal.proofs.GoodEntries.{MayBePushed-good}
-use Rattle.cc_book.specs.Book.{BookState, BookStands}
+use Rattle.cc_book.specs.Book.{BookState, book_of, BookStands}
 use Rattle.cc_book.proofs.BookSteps.{goes_on_ended, history_ended}
 use Rattle.cc_book.proofs.book.Book.end.Goals as goal
 
@@ -15,10 +15,11 @@ push-requires-clause-may g c = MayBePushed-good c.requires.may.0 c.args.journal.
 pub ended-requires : goal.ended-requires
 ended-requires g c =
     let past : List Entry = c.args.journal.now.entries in
-    let b : BookState = record { stream = c.self.inside.stream; state = c.self.inside.state; maps = c.self.inside.maps; holds = c.self.inside.holds; contents = c.self.inside.contents; images = c.self.inside.images } in
+    let b : BookState = book_of c.self.inside.stream c.deref_mut-parts.result.now in
+    let view : b ≡ c.args.self.now = ap (book_of c.self.inside.stream) c.deref_mut-parts.ensures.value ∙ c.self.view_is in
     let u = c.requires.may.0 in
-    let was : BookStands (u.opening c.args.self.now.stream) past b = subst (λ (x : BookState). BookStands (u.opening c.args.self.now.stream) past x) (sym c.self.view_is) c.requires.may.2 in
-    let same : c.args.page.stream ≡ b.stream = c.requires.stream ∙ sym (ap (λ x. x.stream) c.self.view_is) in
+    let was : BookStands (u.opening c.args.self.now.stream) past b = subst (λ (x : BookState). BookStands (u.opening c.args.self.now.stream) past x) (sym view) c.requires.may.2 in
+    let same : c.args.page.stream ≡ b.stream = c.requires.stream ∙ sym (ap (λ x. x.stream) view) in
     rw c.page.ensures.same
     (record {
       may = record {
@@ -37,9 +38,10 @@ ended-requires g c =
 pub returns-clause-stands : goal.returns-clause-stands
 returns-clause-stands g c opening stands =
     let past : List Entry = c.args.journal.now.entries in
-    let b : BookState = record { stream = c.self.inside.stream; state = c.self.inside.state; maps = c.self.inside.maps; holds = c.self.inside.holds; contents = c.self.inside.contents; images = c.self.inside.images } in
-    let was : BookStands opening past b = subst (λ (x : BookState). BookStands opening past x) (sym c.self.view_is) stands in
-    let same : c.args.page.stream ≡ b.stream = c.requires.stream ∙ sym (ap (λ x. x.stream) c.self.view_is) in
+    let b : BookState = book_of c.self.inside.stream c.deref_mut-parts.result.now in
+    let view : b ≡ c.args.self.now = ap (book_of c.self.inside.stream) c.deref_mut-parts.ensures.value ∙ c.self.view_is in
+    let was : BookStands opening past b = subst (λ (x : BookState). BookStands opening past x) (sym view) stands in
+    let same : c.args.page.stream ≡ b.stream = c.requires.stream ∙ sym (ap (λ x. x.stream) view) in
     let grown = ap (λ j. j.entries) c.push.ensures.placed in
     let u = c.requires.may.0 in
     let valid = c.valid.ensures.stands opening (history past b.stream) was.contents_are in

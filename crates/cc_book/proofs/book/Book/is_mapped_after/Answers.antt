@@ -6,7 +6,7 @@ use Rattle.cc_entry.specs.declared.call.Call.TheVariants as call
 use Rattle.cc_model.specs.History.{Did, history}
 use Rattle.cc_model.specs.Touches.{is_mapped}
 use Rattle.cc_laws.proofs.MapSteps.{is_mapped-opens}
-use Rattle.cc_book.specs.Book.{BookState, MayDo}
+use Rattle.cc_book.specs.Book.{BookState, book_of, MayDo}
 use Rattle.cc_book.proofs.DoneSteps.{closes-here, done-may, mapped-kept}
 use Rattle.cc_book.proofs.book.Book.is_mapped_after.Goals as goal
 
@@ -26,9 +26,10 @@ returns-in-Uninitialise g c u pass reply given =
 
 pub returns-in_default : goal.returns-in_default
 returns-in_default g c u pass reply given =
-    let b : BookState = record { stream = c.self.inside.stream; state = c.self.inside.state; maps = c.self.inside.maps; holds = c.self.inside.holds; contents = c.self.inside.contents; images = c.self.inside.images } in
-    let may : MayDo u c.args.journal.now.entries pass c.args.call.now reply b = subst (λ (x : BookState). MayDo u c.args.journal.now.entries pass c.args.call.now reply x) (sym c.self.view_is) given in
+    let b : BookState = book_of c.self.inside.stream c.deref.result.now in
+    let view : b ≡ c.args.self.now = ap (book_of c.self.inside.stream) c.deref.ensures ∙ c.self.view_is in
+    let may : MayDo u c.args.journal.now.entries pass c.args.call.now reply b = subst (λ (x : BookState). MayDo u c.args.journal.now.entries pass c.args.call.now reply x) (sym view) given in
     let h = history c.args.journal.now.entries b.stream in
     let was = c.has_map.ensures.stands (u.opening b.stream) h may.stands.contents_are in
     let kept = mapped-kept c.args.journal.now.entries h pass reply c.args.call.now (done-may may) c.in_default.not-Initialise c.in_default.not-Uninitialise in
-    subst (λ (s : ℕ). c.has_map.result ≡ is_mapped (Did pass c.args.call.now reply ∷ history c.args.journal.now.entries s)) (ap (λ x. x.stream) c.self.view_is) (was ∙ kept)
+    subst (λ (s : ℕ). c.has_map.result ≡ is_mapped (Did pass c.args.call.now reply ∷ history c.args.journal.now.entries s)) (ap (λ x. x.stream) view) (was ∙ kept)

@@ -1,11 +1,17 @@
-use Rattle.cc_book.specs.Book.{BookState}
+use Rattle.std.specs.Prelude.{◌≡◌}
+use Rattle.std.proofs.Common.{ap, subst, ◌∙◌}
+use Rattle.cc_book.specs.Book.{BookState, StandsAsBefore, book_of}
 use Rattle.cc_book.proofs.OwnedSteps.{StandsAsBefore-contents, followable}
 use Rattle.cc_book.proofs.book.Book.own.Goals as goal
 
 pub own-requires : goal.own-requires
 own-requires c =
-    let b : BookState = record { stream = c.self.inside.stream; state = c.self.inside.state; maps = c.self.inside.maps; holds = c.self.inside.holds; contents = c.self.inside.contents; images = c.self.inside.images } in
-    record { may = followable b c.self.view_is c.truncation_by-truncation.result c.truncation_by-truncation.ensures c.requires.may.1.1 }
+    let b : BookState = book_of c.self.inside.stream c.deref_mut-parts.result.now in
+    let view : b ≡ c.args.self.now = ap (book_of c.self.inside.stream) c.deref_mut-parts.ensures.value ∙ c.self.view_is in
+    record { may = followable b view c.truncation_by-truncation.result c.truncation_by-truncation.ensures c.requires.may.1.1 }
 
 pub returns-clause-stands : goal.returns-clause-stands
-returns-clause-stands c = rw (← c.self.view_is) (StandsAsBefore-contents _ c.own.new.self c.own.ensures.same)
+returns-clause-stands c =
+    let b : BookState = book_of c.self.inside.stream c.deref_mut-parts.result.now in
+    let view : b ≡ c.args.self.now = ap (book_of c.self.inside.stream) c.deref_mut-parts.ensures.value ∙ c.self.view_is in
+    subst (λ (x : BookState). StandsAsBefore x (record b { contents = c.own.new.self })) view (StandsAsBefore-contents b c.own.new.self c.own.ensures.same)

@@ -1,5 +1,5 @@
 -- What is kept stands for what the refusal is decided from, one by one; the dirty rows are those of the stream.
-use Rattle.std.specs.Prelude.{List}
+use Rattle.std.specs.Prelude.{◌≡◌, List}
 use Rattle.std.proofs.Common.{ap, sym, ◌∙◌, subst}
 use Rattle.std.proofs.lemmas.Result.{IfOk-weaker}
 use Rattle.cc_dirty.specs.Table.{Sound}
@@ -7,21 +7,22 @@ use Rattle.cc_dirty.specs.declared.row.Row.{Row}
 use Rattle.cc_entry.specs.declared.entry.Entry.{Entry}
 use Rattle.cc_images.specs.Dirty.{AreDirty}
 use Rattle.cc_model.specs.History.{history}
-use Rattle.cc_book.specs.Book.{BookState, BookStands}
+use Rattle.cc_book.specs.Book.{BookState, book_of, BookStands}
 use Rattle.cc_book.proofs.DirtyRows.{dirty-follows}
 use Rattle.cc_book.proofs.book.Book.refusal.Goals as goal
 
 pub returns : goal.returns
 returns g c =
     let past : List Entry = c.args.journal.now.entries in
-    let b : BookState = record { stream = c.self.inside.stream; state = c.self.inside.state; maps = c.self.inside.maps; holds = c.self.inside.holds; contents = c.self.inside.contents; images = c.self.inside.images } in
+    let b : BookState = book_of c.self.inside.stream c.deref-parts.result.now in
+    let view : b ≡ c.args.self.now = ap (book_of c.self.inside.stream) c.deref-parts.ensures ∙ c.self.view_is in
     let h = history past c.args.self.now.stream in
-    let stream = ap (λ x. x.stream) c.self.view_is in
+    let stream = ap (λ x. x.stream) view in
     let rows = subst (λ (rs : List Row). AreDirty (history past b.stream) b.stream rs) (sym c.rows.ensures.rows)
     (dirty-follows past b.stream c.dirty.result.now.rows (subst Sound c.rows.ensures.rows c.rows.ensures.sound) c.dirty.ensures.follows) in
     IfOk-weaker c.refusal.result _ _
     (λ refused given u opening logs stands.
-    let was : BookStands opening past b = subst (λ (x : BookState). BookStands opening past x) (sym c.self.view_is) stands in
+    let was : BookStands opening past b = subst (λ (x : BookState). BookStands opening past x) (sym view) stands in
     given u past h
     (record {
       state = rw (sym stream) was.state_is;

@@ -4,5 +4,5 @@ use Rattle.cc_book.proofs.book.Book.size.Goals as goal
 
 pub returns : goal.returns
 returns c opening past stands =
-    let was = parts-stand opening past (record { stream = c.self.inside.stream; state = c.self.inside.state; maps = c.self.inside.maps; holds = c.self.inside.holds; contents = c.self.inside.contents; images = c.self.inside.images }) c.args.self.now c.self.view_is stands in
+    let was = parts-stand opening past c.self.inside.stream c.deref.ensures c.self.view_is stands in
     c.size.ensures.stands (history past c.args.self.now.stream) was.state_is

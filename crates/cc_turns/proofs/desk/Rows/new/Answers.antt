@@ -1,0 +1,18 @@
+-- The books are made for as many streams as there are disks.
+use Rattle.std.proofs.Common.{[], None, subst, ◌∙◌, arith}
+use Rattle.cc_turns.specs.Places.{AreHome}
+use Rattle.cc_turns.specs.Desk.{BookIsHome}
+use Rattle.cc_turns.proofs.desk.Rows.new.Goals as goal
+
+pub returns : goal.returns
+returns g c =
+    let streams = c.len-streams.ensures ∙ c.args.setup.now.disks.ok.0 in
+    let logs = c.len-logs.ensures ∙ c.args.setup.now.logs.ok.0 in
+    let limits = c.in_ok-new.ensures.limits in
+    let empty = c.in_ok-new.ensures.empty in
+    record {
+      disks = record { empty = c.in_ok-with_capacity-2.ensures.items; room = omega (arith, c.in_ok-with_capacity-2.ensures.capacity, streams) };
+      books = λ opening. subst (λ n. AreHome n None (BookIsHome opening []) c.in_ok-of_books.field-0.items) streams (c.in_ok-of_books.ensures opening);
+      logs = record { empty = c.in_ok-with_capacity.ensures.items; room = omega (arith, c.in_ok-with_capacity.ensures.capacity, logs) };
+      journal = record { limits = (limits.0, limits.1, limits.2 ∙ logs); empty = (empty.0, empty.1, empty.3) };
+    }
