@@ -41,5 +41,5 @@ pub use laws::{
 pub use name::Name;
 pub use read::read_script;
 pub use script::{
-    Action, ActionLine, ActionLines, Mode, Script, ScriptFault, StreamLine, StreamLines,
+    Action, ActionLine, ActionLines, Mode, ReadPath, Script, ScriptFault, StreamLine, StreamLines,
 };

@@ -124,6 +124,16 @@ fn place_of(streams: &[StreamLine], name: &[u8]) -> Option<usize>
     streams.iter().position(|s| s.name.as_bytes() == name)
 }
 
+/// By which calls a read of the file system shim goes.
+#[derive(Clone, Copy)]
+pub enum ReadPath {
+    Cached,
+    Mapped,
+    Pinned,
+    Descriptor,
+    Noncached,
+}
+
 /// What a line asks for, with the values of its words.
 #[derive(Drop)]
 pub enum Action {
@@ -263,6 +273,29 @@ pub enum Action {
     Purge {
         file: FileId,
         span: Option<Span>,
+    },
+    /// A read of the shim along one of its paths.
+    Read {
+        file: FileId,
+        path: ReadPath,
+        at: u64,
+        len: u64,
+    },
+    /// A write of the shim, which extends the stream where it has to.
+    Write {
+        file: FileId,
+        at: u64,
+        bytes: Bytes,
+    },
+    /// A logged update of the shim.
+    Update {
+        file: FileId,
+        at: u64,
+        bytes: Bytes,
+    },
+    /// How many levels the view index of a stream has.
+    Levels {
+        file: FileId,
     },
     IsDirtyData,
     DirtyPages {
