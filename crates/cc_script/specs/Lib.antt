@@ -8,6 +8,7 @@ pub mod HoldNames
 pub mod Actions
 pub mod HoldActions
 pub mod EventActions
+pub mod ShimActions
 pub mod ActionTable
 pub mod HoldWords
 pub mod Grammar

@@ -26,6 +26,10 @@ stands StepsAlone mode.Steps = true
 -- the modes that a verb stands in: `ncread` and `ncwrite` stand in both, in another form each
 abbrev pub verb_modes : Verb → Modes
 verb_modes verb.Phase = RunAlone
+verb_modes verb.Read = RunAlone
+verb_modes verb.Write = RunAlone
+verb_modes verb.Update = RunAlone
+verb_modes verb.Levels = RunAlone
 verb_modes verb.NcStore = StepsAlone
 verb_modes verb.Fill = StepsAlone
 verb_modes verb.Drop = StepsAlone
@@ -44,6 +48,10 @@ abbrev pub action_modes : Action → Modes
 action_modes (action.UnpinRepinned _ through) = if through then RunAlone else Both
 action_modes (action.NcRead _ _ _) = RunAlone
 action_modes (action.NcWrite _ _ _) = RunAlone
+action_modes (action.Read _ _ _ _) = RunAlone
+action_modes (action.Write _ _ _) = RunAlone
+action_modes (action.Update _ _ _) = RunAlone
+action_modes (action.Levels _) = RunAlone
 action_modes (action.NcReadPage _ _) = StepsAlone
 action_modes (action.NcStorePage _ _ _) = StepsAlone
 action_modes (action.NcWritePage _ _) = StepsAlone
@@ -58,7 +66,8 @@ action_modes (action.Defer _ _ _) = StepsAlone
 action_modes action.Post = StepsAlone
 action_modes other = Both
 
--- whether an action is a call of the cache, which may fail by a fault of its caller
+-- Whether an action is a call of the cache, which may fail by a fault of its caller. A line of the shim is a list of calls,
+-- and the levels of a view index are read without an entry.
 abbrev pub is_call : Action → Bool
 is_call (action.Append _ _) = false
 is_call (action.LogFlush _ _) = false
@@ -68,6 +77,10 @@ is_call (action.WriteBegin _) = false
 is_call (action.WriteEnd _) = false
 is_call (action.Sync _) = false
 is_call action.Scan = false
+is_call (action.Read _ _ _ _) = false
+is_call (action.Write _ _ _) = false
+is_call (action.Update _ _ _) = false
+is_call (action.Levels _) = false
 is_call (action.Defer _ _ _) = false
 is_call action.Post = false
 is_call other = true

@@ -19,6 +19,7 @@ use crate::hold_action::{
 use crate::hold_word::HoldNames;
 use crate::part::Words;
 use crate::script::{Action, Mode, StreamLines};
+use crate::shim_action::{levels, read, update, write};
 use crate::verb::Verb;
 use std::alloc::Global;
 
@@ -313,6 +314,10 @@ pub(crate) fn action(
         Verb::State => state(streams, words).ok_or(LineFault::Syntax),
         Verb::Flush => flush(streams, words).ok_or(LineFault::Syntax),
         Verb::Purge => purge(streams, words).ok_or(LineFault::Syntax),
+        Verb::Read => read(streams, words).ok_or(LineFault::Syntax),
+        Verb::Write => write(alloc, streams, words),
+        Verb::Update => update(alloc, streams, words),
+        Verb::Levels => levels(streams, words).ok_or(LineFault::Syntax),
         Verb::IsDirtyData => is_dirty_data(words).ok_or(LineFault::Syntax),
         Verb::DirtyPages => dirty_pages(words).ok_or(LineFault::Syntax),
         Verb::LsnForFile => lsn_for_file(streams, words).ok_or(LineFault::Syntax),
@@ -347,6 +352,7 @@ pub(crate) fn bytes_counted(action: &Action) -> u64
         | Action::HeldRead { len, .. }
         | Action::MdlBytes { len, .. }
         | Action::NcRead { len, .. }
+        | Action::Read { len, .. }
         | Action::Map { len, .. }
         | Action::PinRead { len, .. }
         | Action::PreparePin { len, .. }
@@ -355,6 +361,8 @@ pub(crate) fn bytes_counted(action: &Action) -> u64
         Action::PinnedWrite { bytes, .. }
         | Action::MdlStore { bytes, .. }
         | Action::NcWrite { bytes, .. }
+        | Action::Write { bytes, .. }
+        | Action::Update { bytes, .. }
         | Action::NcStorePage { bytes, .. } => bytes.len(),
         Action::CopyWrite { bytes, .. } | Action::Append { bytes, .. } => bytes.len(),
         _ => 0,

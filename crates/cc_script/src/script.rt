@@ -399,7 +399,7 @@ impl Action {
     }
 
     /// Whether it is a call of the cache, which may fail by a fault of its caller. The others are steps of a page, a log
-    /// or a queue.
+    /// or a queue, lines of the shim, which are lists of calls, and `levels`, which leaves no entry.
     pub fn is_call(&self) -> bool
         ensures { result ≡ is_call self.now }
     {
@@ -413,6 +413,10 @@ impl Action {
                 | Action::WriteEnd { .. }
                 | Action::Sync { .. }
                 | Action::Scan
+                | Action::Read { .. }
+                | Action::Write { .. }
+                | Action::Update { .. }
+                | Action::Levels { .. }
                 | Action::Defer { .. }
                 | Action::Post
         )

@@ -6,6 +6,7 @@ ghost use Rattle.cc_script.specs.Words.{number_of, number_between, name_of, byte
 ghost use Rattle.cc_script.specs.Verbs.{verb_in};
 ghost use Rattle.cc_script.specs.Actions.{next, flag, stream_named, file_of, span_of, optional_span_of, optional_number_of, quota_of, sizes_of};
 ghost use Rattle.cc_script.specs.EventActions.{page_number, page_of};
+ghost use Rattle.cc_script.specs.ShimActions.{path_of};
 ghost use Rattle.cc_script.specs.HoldNames.{word_of};
 ghost use Rattle.cc_script.specs.HoldActions.{stretch_of};
 ghost use Rattle.cc_script.specs.Grammar.{log_of};
@@ -15,10 +16,10 @@ use crate::fault::LineFault;
 use crate::hold_word::{HoldNames, HoldWord};
 use crate::name::Name;
 use crate::part::Words;
-use crate::script::{Mode, StreamLines};
+use crate::script::{Mode, ReadPath, StreamLines};
 use crate::stretch::Stretch;
 use crate::verb::Verb;
-use crate::{byte_word, file_word, word};
+use crate::{byte_word, file_word, path_word, word};
 use cc_entry::{Bytes, FileId, FileSizes, Lsn, PageId, Quota, Span, StreamId};
 use std::alloc::Global;
 
@@ -179,6 +180,13 @@ impl Words<'_> {
         ensures { Takes (next (stream_named streams.now) self.old) result self.new }
     {
         streams.find(self.next()?)
+    }
+
+    /// The path of a read.
+    pub(crate) fn path(&mut self) -> Option<ReadPath>
+        ensures { Takes (next path_of self.old) result self.new }
+    {
+        path_word::path(self.next()?)
     }
 
     /// The number of a page.

@@ -41,6 +41,10 @@ pub(crate) enum Verb {
     State,
     Flush,
     Purge,
+    Read,
+    Write,
+    Update,
+    Levels,
     IsDirtyData,
     DirtyPages,
     LsnForFile,
@@ -63,7 +67,7 @@ pub(crate) enum Verb {
     Fail,
 }
 
-pub(crate) const VERBS: [Verb; 51] = [
+pub(crate) const VERBS: [Verb; 55] = [
     Verb::Stream,
     Verb::Journal,
     Verb::Threshold,
@@ -95,6 +99,10 @@ pub(crate) const VERBS: [Verb; 51] = [
     Verb::State,
     Verb::Flush,
     Verb::Purge,
+    Verb::Read,
+    Verb::Write,
+    Verb::Update,
+    Verb::Levels,
     Verb::IsDirtyData,
     Verb::DirtyPages,
     Verb::LsnForFile,
@@ -153,6 +161,10 @@ impl Verb {
             Verb::State => b"state",
             Verb::Flush => b"flush",
             Verb::Purge => b"purge",
+            Verb::Read => b"read",
+            Verb::Write => b"write",
+            Verb::Update => b"update",
+            Verb::Levels => b"levels",
             Verb::IsDirtyData => b"isdirty",
             Verb::DirtyPages => b"dirty",
             Verb::LsnForFile => b"lsns",
@@ -204,12 +216,22 @@ impl Verb {
         )
     }
 
+    // Whether it stands in a run alone.
+    fn is_of_run(self) -> bool
+        ensures { result ≡ not (stands (verb_modes self) mode.Steps) }
+    {
+        matches!(
+            self,
+            Verb::Phase | Verb::Read | Verb::Write | Verb::Update | Verb::Levels
+        )
+    }
+
     fn is_in_mode(self, mode: Mode) -> bool
         ensures { result ≡ stands (verb_modes self) mode }
     {
         match mode {
             Mode::Run => !self.is_of_steps(),
-            Mode::Steps => !matches!(self, Verb::Phase),
+            Mode::Steps => !self.is_of_run(),
         }
     }
 

@@ -1,0 +1,78 @@
+//! The lines of the file system shim, and of the levels of a view index, each read from the words behind its verb.
+
+ghost use Rattle.std.specs.Prelude.{◌≡◌};
+ghost use Rattle.cc_script.specs.Outcome.{Gives};
+ghost use Rattle.cc_script.specs.ShimActions.{read_of, write_of, update_of, levels_of};
+
+use crate::fault::LineFault;
+use crate::part::Words;
+use crate::script::{Action, StreamLines};
+use std::alloc::Global;
+
+#[tactic(auto, unfolding(crate::specs::ShimActions::read_of))]
+pub(crate) fn read(streams: &StreamLines, words: &mut Words) -> Option<Action>
+    ensures { result ≡ read_of streams.now words.old }
+{
+    let file = words.file(streams)?;
+    let path = words.path()?;
+    let at = words.number()?;
+    let len = words.read_length()?;
+    if words.is_empty() {
+        Some(Action::Read {
+            file,
+            path,
+            at,
+            len,
+        })
+    } else {
+        None
+    }
+}
+
+#[tactic(auto, unfolding(crate::specs::ShimActions::write_of))]
+pub(crate) fn write(
+    alloc: Global,
+    streams: &StreamLines,
+    words: &mut Words,
+) -> Result<Action, LineFault>
+    ensures { Gives (write_of streams.now words.old) result }
+{
+    let file = words.file(streams).ok_or(LineFault::Syntax)?;
+    let at = words.number().ok_or(LineFault::Syntax)?;
+    let bytes = words.bytes(alloc)?;
+    if words.is_empty() {
+        Ok(Action::Write { file, at, bytes })
+    } else {
+        Err(LineFault::Syntax)
+    }
+}
+
+#[tactic(auto, unfolding(crate::specs::ShimActions::update_of))]
+pub(crate) fn update(
+    alloc: Global,
+    streams: &StreamLines,
+    words: &mut Words,
+) -> Result<Action, LineFault>
+    ensures { Gives (update_of streams.now words.old) result }
+{
+    let file = words.file(streams).ok_or(LineFault::Syntax)?;
+    let at = words.number().ok_or(LineFault::Syntax)?;
+    let bytes = words.bytes(alloc)?;
+    if words.is_empty() {
+        Ok(Action::Update { file, at, bytes })
+    } else {
+        Err(LineFault::Syntax)
+    }
+}
+
+#[tactic(auto, unfolding(crate::specs::ShimActions::levels_of))]
+pub(crate) fn levels(streams: &StreamLines, words: &mut Words) -> Option<Action>
+    ensures { result ≡ levels_of streams.now words.old }
+{
+    let file = words.file(streams)?;
+    if words.is_empty() {
+        Some(Action::Levels { file })
+    } else {
+        None
+    }
+}
