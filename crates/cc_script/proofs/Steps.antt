@@ -10,7 +10,7 @@ use Rattle.cc_script.specs.declared.verb.Verb.{Verb}
 use Rattle.cc_script.specs.Outcome.{◌>>=◌}
 use Rattle.cc_script.specs.Modes.{stands, verb_modes}
 use Rattle.cc_script.specs.Verbs.{verb_of, verb_in}
-use Rattle.cc_script.specs.Words.{number_of, number_between, bytes_of, caller_of}
+use Rattle.cc_script.specs.Words.{number_of, number_between, is_name, name_of, bytes_of, caller_of}
 use Rattle.cc_script.specs.Laws.{Spells}
 use Rattle.cc_script.specs.Actions.{next, ended, stream_named, object_named, file_at, file_of}
 use Rattle.cc_script.specs.Within.{IsFileWithin}
@@ -84,6 +84,11 @@ verb-gives m word v e =
     let t = if-gives (stands (verb_modes found.0) m) (Some found.0) v found.2 in
     let same : found.0 ≡ v = cc in
     subst (λ (v : Verb). stands (verb_modes v) m ≡ true) same t.0
+
+-- a name is the word that it is read from
+pub name_gives : (word name : List ℕ) → name_of word ≡ Some name → name ≡ word
+unfolding name_of
+name_gives word name e = let t = if-gives (is_name word) (Some word) name e in cc
 
 -- a caller is one of 16
 pub caller-gives : (word : List ℕ) (n : ℕ) → caller_of word ≡ Some n → (1 ≤ n) × (n ≤ 16)

@@ -5,6 +5,7 @@ use Rattle.std.specs.Fmt.{decimal, digit_glyph}
 use Rattle.cc_entry.specs.Place.{File}
 use Rattle.cc_script.specs.declared.verb.Verb.{Verb}
 use Rattle.cc_script.specs.declared.script.StreamLine.{StreamLine}
+use Rattle.cc_script.specs.declared.script.ReadPath.{ReadPath}
 use Rattle.cc_script.specs.declared.script.Action.{Action}
 use Rattle.cc_script.specs.declared.script.Action.TheVariants as action
 use Rattle.cc_script.specs.declared.script.ActionLine.{ActionLine}
@@ -12,6 +13,7 @@ use Rattle.cc_script.specs.Text.{lines}
 use Rattle.cc_script.specs.Words.{number_of, is_name, caller_of, bytes_of}
 use Rattle.cc_script.specs.Actions.{stream_named, file_of, copy_read_of}
 use Rattle.cc_script.specs.Verbs.{verb_text, verb_of}
+use Rattle.cc_script.specs.ShimActions.{path_text, path_of}
 use Rattle.cc_script.specs.declared.script.Mode.{Mode}
 use Rattle.cc_script.specs.declared.script.Script.{Script}
 use Rattle.cc_script.specs.Grammar.{stream_of, setting_of, script_of}
@@ -34,6 +36,13 @@ VerbsAreFound = (v : Verb) → verb_of (verb_text v) ≡ Some v
 -- no verb is a caller word
 abbrev pub VerbsAreNoCallers : Type 0
 VerbsAreNoCallers = (v : Verb) → caller_of (verb_text v) ≡ None
+
+-- no two paths of a read have one word, and the reader finds each
+abbrev pub PathsDiffer : Type 0
+PathsDiffer = (p q : ReadPath) → path_text p ≡ path_text q → p ≡ q
+
+abbrev pub PathsAreFound : Type 0
+PathsAreFound = (p : ReadPath) → path_of (path_text p) ≡ Some p
 
 -- the lines, joined by line feeds, are the bytes, but for a line feed at the end; no line has one inside
 abbrev pub LinesJoin : Type 0

@@ -12,6 +12,7 @@ pub mod ShimActions
 pub mod ActionTable
 pub mod HoldWords
 pub mod Grammar
+pub mod Generator
 pub mod Answers
 pub mod Within
 pub mod Laws

@@ -1,6 +1,6 @@
 //! Laws of the grammar: functions without a body, whose clauses are proved.
 
-ghost use Rattle.cc_script.specs.Laws.{NumbersAreDecimal, VerbsDiffer, VerbsAreFound, VerbsAreNoCallers, LinesJoin, LinesAreWhole, WordsSpell, FilesSpell, StreamsSpell, ReadsSpell, SettingsSpell, ScriptsAreWithin, ScriptsAreOfMode, PhasesRise, WordsGoOn, WordsAddUp, WordsAreCounted};
+ghost use Rattle.cc_script.specs.Laws.{NumbersAreDecimal, VerbsDiffer, VerbsAreFound, VerbsAreNoCallers, PathsDiffer, PathsAreFound, LinesJoin, LinesAreWhole, WordsSpell, FilesSpell, StreamsSpell, ReadsSpell, SettingsSpell, ScriptsAreWithin, ScriptsAreOfMode, PhasesRise, WordsGoOn, WordsAddUp, WordsAreCounted};
 
 /// A number's word is exactly its decimal text, and stands for a number below 2^64.
 
@@ -13,6 +13,12 @@ pub fn verbs_differ()
     ensures differ { VerbsDiffer }
     ensures found { VerbsAreFound }
     ensures callers { VerbsAreNoCallers }
+{}
+
+/// The words of the paths of a read differ from one another, and each is found.
+pub fn paths_differ()
+    ensures differ { PathsDiffer }
+    ensures found { PathsAreFound }
 {}
 
 /// The lines of a script are its bytes between line feeds.

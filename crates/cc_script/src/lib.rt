@@ -19,6 +19,7 @@ mod caller_words;
 mod event_action;
 mod fault;
 mod file_word;
+mod generator;
 mod hold_action;
 mod hold_word;
 mod laws;
@@ -35,10 +36,11 @@ mod verb;
 mod word;
 
 pub use bound::{Bound, Need};
+pub use generator::generate;
 pub use hold_word::HoldWord;
 pub use laws::{
-    lines_join, lines_spell, numbers_are_decimal, scripts_are_within, verbs_differ, words_go_on,
-    words_spell,
+    lines_join, lines_spell, numbers_are_decimal, paths_differ, scripts_are_within, verbs_differ,
+    words_go_on, words_spell,
 };
 pub use name::Name;
 pub use read::read_script;

@@ -18,6 +18,8 @@ mod devices;
 #[cfg(test)]
 mod files;
 #[cfg(test)]
+mod generator;
+#[cfg(test)]
 mod locks;
 #[cfg(test)]
 mod log;

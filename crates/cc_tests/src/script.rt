@@ -2,7 +2,7 @@
 //!
 //! The rows follow the grammar as docs/SCRIPTS.md states it.
 
-use cc_script::{Action, Mode, Script, ScriptFault, read_script};
+use cc_script::{Action, Mode, ReadPath, Script, ScriptFault, read_script};
 use std::alloc::Global;
 use std::test::Fail;
 
@@ -16,7 +16,7 @@ fn wrong_line(answer: Result<Script, ScriptFault>) -> Option<u32> {
 }
 
 /// Scripts, each with its first wrong line.
-const SCRIPTS: [(&str, u32); 88] = [
+const SCRIPTS: [(&str, u32); 98] = [
     ("", 0),
     ("# a comment\n\n  \n\r\n  stream   a  8192 8192  \r", 0),
     (" # no comment", 1),
@@ -147,10 +147,26 @@ const SCRIPTS: [(&str, u32); 88] = [
     ("scan", 1),
     ("post", 1),
     ("fail isdirty", 1),
+    (
+        "stream a 1 1\nread a cached 0 1\nt2 read a:15 mapped 18446744073709551615 2097152\nread a pinned 0 0\nread a descriptor 1 1\nread a noncached 0 2097153",
+        6,
+    ),
+    ("stream a 1 1\nread a 0 1", 2),
+    ("stream a 1 1\nread a Cached 0 1", 2),
+    ("stream a 1 1\nread a cached 0", 2),
+    ("stream a 1 1\nread a cached 0 1 nowait", 2),
+    (
+        "stream a 1 1\nwrite a 0 AB\nt16 update a:1 5 ABCD,00x2\nwrite a 0 -\nupdate a 0",
+        5,
+    ),
+    ("stream a 1 1\nwrite a 0 AB CD", 2),
+    ("stream a 1 1\nupdate a 0 ABx2097153", 2),
+    ("stream a 1 1\nlevels a:15\nt3 levels a\nlevels a 0", 4),
+    ("stream a 1 1\nlevels b", 2),
 ];
 
 /// Scripts of steps, each with its first wrong line.
-const STEPS: [(&str, u32); 29] = [
+const STEPS: [(&str, u32); 34] = [
     (
         "stream a 8192 8192\nfill a 0\nt16 fill a 2251799813685247\nout a 0\nt2 begin a 1\nend a 1\nt3 sync a\nt2 scan\nscan",
         0,
@@ -195,6 +211,11 @@ const STEPS: [(&str, u32); 29] = [
     ("tick", 1),
     ("ahead", 1),
     ("stream a 1 1\npin a 0 1 h\nrepin h k\nunrepin k through", 4),
+    ("stream a 1 1\nread a cached 0 1", 2),
+    ("stream a 1 1\nwrite a 0 AB", 2),
+    ("stream a 1 1\nupdate a 0 AB", 2),
+    ("stream a 1 1\nlevels a", 2),
+    ("stream a 1 1\nfail read a cached 0 1", 2),
 ];
 
 /// Whether a script is read up to this line.
@@ -356,6 +377,52 @@ ncread a:0 4096 8192\nncwrite a:1 4096 AB,00x2";
     Ok(())
 }
 
+/// Of a line of the shim, or of levels: the object of its file, the number of its path, and its place and length.
+fn shim_of(action: &Action) -> Option<(u8, u8, u64, u64)> {
+    match action {
+        Action::Read {
+            file,
+            path,
+            at,
+            len,
+        } => Some((file.object(), path_number(*path), *at, *len)),
+        Action::Write { file, at, bytes } => Some((file.object(), 6, *at, bytes.len())),
+        Action::Update { file, at, bytes } => Some((file.object(), 7, *at, bytes.len())),
+        Action::Levels { file } => Some((file.object(), 8, 0, 0)),
+        _ => None,
+    }
+}
+
+fn path_number(path: ReadPath) -> u8 {
+    match path {
+        ReadPath::Cached => 1,
+        ReadPath::Mapped => 2,
+        ReadPath::Pinned => 3,
+        ReadPath::Descriptor => 4,
+        ReadPath::Noncached => 5,
+    }
+}
+
+fn shim_at(script: &Script, place: usize) -> Option<(u8, u8, u64, u64)> {
+    shim_of(&script.lines.as_slice().get(place)?.action)
+}
+
+#[test]
+fn keeps_paths(rt: HostRuntime) -> Result<(), Fail> {
+    let text = b"stream a 9 7\nread a:15 cached 3 2\nread a mapped 4 1\nread a:2 pinned 5 0
+read a descriptor 6 9\nread a noncached 7 8\nwrite a:1 4 AB,00x2\nupdate a:3 2 ABx9\nlevels a:4";
+    let script = read_script(rt.alloc(), text, Mode::Run).ok().ok_or("read")?;
+    assert_eq!(rt; shim_at(&script, 0), Some((15, 1, 3, 2)));
+    assert_eq!(rt; shim_at(&script, 1), Some((0, 2, 4, 1)));
+    assert_eq!(rt; shim_at(&script, 2), Some((2, 3, 5, 0)));
+    assert_eq!(rt; shim_at(&script, 3), Some((0, 4, 6, 9)));
+    assert_eq!(rt; shim_at(&script, 4), Some((0, 5, 7, 8)));
+    assert_eq!(rt; shim_at(&script, 5), Some((1, 6, 4, 3)));
+    assert_eq!(rt; shim_at(&script, 6), Some((3, 7, 2, 9)));
+    assert_eq!(rt; shim_at(&script, 7), Some((4, 8, 0, 0)));
+    Ok(())
+}
+
 /// Of the first action of a script of steps, where it stores a page: its caller, whether it fails, the object of its file,
 /// the page and how many bytes; and how many lines defer a write.
 fn stored_of(alloc: Global, text: &str) -> Option<(u32, bool, u8, u64, u64, usize)> {
@@ -412,6 +479,16 @@ fn reads_all_bytes_of_writes(rt: HostRuntime) -> Result<(), Fail> {
     assert!(rt; reads(rt.alloc(), Mode::Run, text.as_str(), 0));
     text.push_str("cread a 0 1\n")?;
     assert!(rt; reads(rt.alloc(), Mode::Run, text.as_str(), 18));
+    Ok(())
+}
+
+#[test]
+fn reads_all_bytes_of_the_shim(rt: HostRuntime) -> Result<(), Fail> {
+    let three = "read a mapped 0 2097151\nwrite a 0 00\nupdate a 0 00x2097152\n";
+    let mut text = repeated(rt.alloc(), "stream a 1 1\n", three, 8)?;
+    assert!(rt; reads(rt.alloc(), Mode::Run, text.as_str(), 0));
+    text.push_str("levels a\nwrite a 0 00\n")?;
+    assert!(rt; reads(rt.alloc(), Mode::Run, text.as_str(), 27));
     Ok(())
 }
 
