@@ -1,3 +1,4 @@
 pub mod Index
 pub mod Pairs
 pub mod Sections
+pub mod Counted

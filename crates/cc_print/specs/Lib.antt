@@ -7,3 +7,4 @@ pub mod Entries
 pub mod Trace
 pub mod Replies
 pub mod Text
+pub mod Summary

@@ -7,7 +7,7 @@ use cc_entry::{
     FileId, FileSizes, FileState, Ids, LineReply, Lsn, Outcome, PageId, Pages, Quota, Reply,
     Request, Rows, Span, StreamId, Tick,
 };
-use cc_print::{TableRow, text_of};
+use cc_print::{TableRow, summary_of, text_of};
 use cc_script::{Mode, read_script};
 use std::alloc::Global;
 use std::test::Fail;
@@ -883,5 +883,52 @@ fn prints_sections(rt: HostRuntime) -> Result<(), Fail> {
     ];
     assert!(rt; is_text(rt.alloc(), &replies, &journal, &table, SECTIONS)?);
     assert!(rt; is_text(rt.alloc(), &[], &[], &[], "")?);
+    Ok(())
+}
+
+// Of the lines, two are refused, and one is told that its hold was not made; the answer of a stream is no line's.
+#[test]
+fn prints_a_summary(rt: HostRuntime) -> Result<(), Fail> {
+    let places = some_places().ok_or("places")?;
+    let replies = [
+        given(2, Reply::Unit),
+        given(5, Reply::Hold(5)),
+        told(6, Answer::Refused(CcError::Unaligned)),
+        told(
+            7,
+            Answer::NcRefused {
+                done: 1,
+                cause: CcError::Unaligned,
+            },
+        ),
+        told(8, Answer::NotNow),
+        told(9, Answer::Faulted),
+        told(10, Answer::NoHold),
+        told(11, Answer::Count(4096)),
+        told(12, Answer::NotNow),
+        told(13, Answer::NewLsn(places.lsn)),
+        told(14, Answer::NotNow),
+    ];
+    let journal = [Entry::Posted { id: 8 }, Entry::Posted { id: 9 }];
+    let table = [TableRow {
+        page: places.page,
+        oldest: None,
+        newest: None,
+    }];
+    let script = read_script(rt.alloc(), SCRIPT, Mode::Run)
+        .ok()
+        .ok_or("script")?;
+    let printed = summary_of(
+        rt.alloc(),
+        18446744073709551615,
+        &script,
+        &replies,
+        &journal,
+        &table,
+    )
+    .ok()
+    .ok_or("summary")?;
+    let wanted = "gen 18446744073709551615: ok 3 refused 2 notnow 3 faulted 1 entries 2 dirty 1\n";
+    assert!(rt; printed.as_slice() == wanted.as_bytes());
     Ok(())
 }
