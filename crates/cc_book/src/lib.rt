@@ -8,7 +8,8 @@
 //! their bytes.
 //!
 //! `book` has what is kept, what is asked of it, and the entries of pages and of calls that failed; `done` the
-//! calls that are done, `read` what a read answers, and `noncached` what a noncached one does.
+//! calls that are done, `read` what a read answers, `noncached` what a noncached one does, and `levels` the levels of the view
+//! index.
 //!
 //! The steps of the calls stand above. Below are the five parts of a book: the state of the stream
 //! (`cc_stream`), its private maps (`cc_ahead`), its open holds (`cc_holds`), its contents (`cc_content`) and the
@@ -18,6 +19,7 @@
 
 mod book;
 mod done;
+mod levels;
 mod noncached;
 mod read;
 

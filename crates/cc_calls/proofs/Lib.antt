@@ -20,3 +20,4 @@ pub mod Making
 pub mod Using
 pub mod Sure
 pub mod Through
+pub mod LevelCalls

@@ -3,6 +3,7 @@ pub mod Answers
 pub mod Pages
 pub mod Paged
 pub mod Logs
+pub mod Levels
 pub mod Streamless
 pub mod Flushes
 pub mod Purges

@@ -8,14 +8,14 @@
 //! prepare, reserved can't fail.
 //!
 //! `turned` makes a call on a stream, in one turn of the stream's book or with the turn of its disk too. `maps` has the
-//! calls that make cache maps and end them, `settings` those that need no page and set something of their stream,
-//! `queries` those that tell something and change nothing, `copies` those that copy bytes out of a stream's pages and
-//! into them, `flushes` those that write the dirty pages of a span, and then sync its disk or take its pages out, `logs`
-//! the two calls on a log, an append and a flush. `held` has what every hold tells of itself, `held_calls` how a hold is
-//! made, used and ended; `data_maps`, `pins`, `repins` and `chains` have the routines on holds. Below are the turns
-//! (`cc_turns`), the visits of a pass to the journal, the writing of a page with the flush of its log and the fetch of
-//! pages (`cc_writes`), the flush and the purge of a span (`cc_ranges`), and what others leave of a pass's holds
-//! (`cc_own`). The lines of a script (`cc_lines`) and the runs (`cc_run`) stand above.
+//! calls that make cache maps and end them, `settings` those that need no page and set something of their stream, `queries`
+//! those that tell something and change nothing, `levels` the one of them that leaves no entry, `copies` those that copy
+//! bytes out of a stream's pages and into them, `flushes` those that write the dirty pages of a span, and then sync its
+//! disk or take its pages out, `logs` the two calls on a log, an append and a flush. `held` has what every hold tells of
+//! itself, `held_calls` how a hold is made, used and ended; `data_maps`, `pins`, `repins` and `chains` have the routines on
+//! holds. Below are the turns (`cc_turns`), the visits of a pass to the journal, the writing of a page with the flush of
+//! its log and the fetch of pages (`cc_writes`), the flush and the purge of a span (`cc_ranges`), and what others leave of
+//! a pass's holds (`cc_own`). The lines of a script (`cc_lines`) and the runs (`cc_run`) stand above.
 #![tactic(auto)]
 
 mod chains;
@@ -24,6 +24,7 @@ mod data_maps;
 mod flushes;
 mod held;
 mod held_calls;
+mod levels;
 mod logs;
 mod maps;
 mod pins;
@@ -41,6 +42,7 @@ pub use data_maps::{Mapped, map_data, mapped_read, pin_mapped, unmap};
 pub use flushes::{flush, purge};
 pub use held::{Held, Hold};
 pub use held_calls::{end_hold, hold_range, read_hold, write_hold};
+pub use levels::index_levels;
 pub use logs::{log_append, log_flush};
 pub use maps::{initialize, uninitialize};
 pub use pins::{Pinned, pin_read, pinned_read, pinned_write, prepare_pin_write, set_dirty, unpin};

@@ -11,7 +11,8 @@ ghost use Rattle.cc_entry.specs.Pages.{pages_of};
 ghost use Rattle.cc_views.specs.Views.{first_not_in};
 ghost use Rattle.cc_model.specs.History.{Effect, Did, CameIn, WentOut, Ended};
 ghost use Rattle.cc_model.specs.Residency.{is_resident, block_is_mapped, mapped_blocks, order_of_use};
-ghost use Rattle.cc_model.specs.Touches.{valid_of, is_mapped};
+ghost use Rattle.cc_model.specs.Touches.{size_of, valid_of, is_mapped};
+ghost use Rattle.cc_vacb.specs.Levels.{levels_of};
 ghost use Rattle.cc_content.specs.Contents.{ContentsStand, IsByteOf};
 ghost use Rattle.cc_content.specs.Filling.{HasRoomFor, HasRoomIn, IsReadFrom, IsClearedFrom, Fills};
 ghost use Rattle.cc_content.specs.Leaves.{Leaves};
@@ -117,6 +118,19 @@ impl Contents {
         match &self.pages {
             Some(pages) => pages.is_mapped(block),
             None => false,
+        }
+    }
+
+    /// The levels of the view index, where the stream has a shared map.
+    pub fn levels(&self) -> Option<u8>
+        ensures mapped { (opening : Option (ℕ → List ℕ)) (h : List Effect) →
+            ContentsStand opening h self.now → is_some result ≡ is_mapped h }
+        ensures of_size { (opening : Option (ℕ → List ℕ)) (h : List Effect) →
+            ContentsStand opening h self.now → IfSome result (λ levels. levels ≡ levels_of (size_of h)) }
+    {
+        match &self.pages {
+            Some(pages) => Some(pages.levels()),
+            None => None,
         }
     }
 

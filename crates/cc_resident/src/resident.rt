@@ -4,6 +4,7 @@ ghost use Rattle.std.specs.Prelude.{◌≡◌, ◌≢◌, ℕ, ◌+◌, ◌-◌,
 ghost use Rattle.std.specs.List.{list_all, filter, find};
 ghost use Rattle.std.specs.Option.{option_copied};
 ghost use Rattle.cc_entry.specs.Pages.{block_of, blocks_of, pages_of, whole_range};
+ghost use Rattle.cc_vacb.specs.Levels.{levels_of};
 ghost use Rattle.cc_views.specs.Views.{IsSound, first_not_in};
 ghost use Rattle.cc_resident.specs.Residents.{page_at, is_resident, all_resident, all_mapped, is_shared, AllOwned, rest_of_page, blocks, has_pages, is_among, used};
 ghost use Rattle.cc_resident.specs.Changes.{KeepsOthers, Keeps, SameBytes, StaysOwned, OwnsOnly, SharesOnly, Covers, Zeroes, Cuts, CutsPages, is_between};
@@ -116,6 +117,13 @@ impl ResidentPages {
         ensures { result ≡ self.now.quota }
     {
         self.views.quota()
+    }
+
+    /// The levels of the view index.
+    pub fn levels(&self) -> u8
+        ensures { result ≡ levels_of self.now.size }
+    {
+        self.views.levels()
     }
 
     /// Makes a snapshot of a page, which is shared then; `None` where the page is not resident. Answers `NoMemory`
