@@ -84,14 +84,6 @@ impl<'b, R: Wait, D: Told, L: LogFile, Q: PostRoutine> Seated<'b, R, D, L, Q> {
         }
     }
 
-    /// Notes that others never have more under way than their most.
-    pub fn note_others(&self)
-        ensures { self.now.knows.others ≤ self.now.knows.before + self.now.knows.passes }
-    {
-        // What is true of each pass is known where a field is used.
-        let _ = &self.rt;
-    }
-
     /// Gives the pass back.
     pub fn into_pass(self) -> Pass<D, L, Q>
         requires free { held_of self.knows ≡ nothing }
@@ -147,6 +139,11 @@ impl<'b, R: Wait, D: PageDisk, L: LogFile, Q: PostRoutine> Turns for Seated<'b, 
 
     fn logs(&self) -> u8 {
         self.board.logs()
+    }
+
+    fn note_others(&self) {
+        // What is true of each pass is known where a field is used.
+        let _ = &self.rt;
     }
 
     fn take_device(&mut self, stream: StreamId) -> HeldDisk<D, SeatAtTake<D, L, Q>> {

@@ -236,6 +236,8 @@ impl<D: PageDisk, L: LogFile, Q: PostRoutine> Turns for Desk<D, L, Q> {
         self.logs.len() as u8
     }
 
+    fn note_others(&self) {}
+
     fn take_device(&mut self, stream: StreamId) -> HeldDisk<D, Desk<D, L, Q>> {
         let at_take = Snapshot::of(self);
         let disk = self.disks[usize::from(stream.number())].take().unwrap();

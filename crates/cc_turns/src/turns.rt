@@ -40,6 +40,10 @@ pub trait Turns {
     fn logs(&self) -> u8
         ensures { result ≡ (standing self.now).setup.logs };
 
+    /// Notes that others never have more under way than their most. It does nothing.
+    fn note_others(&self)
+        ensures few { (standing self.now).others ≤ (standing self.now).most_others };
+
     /// Takes the turn of a stream's disk; no other turn is held. No transfer is under way on a disk at home. Of its faults
     /// before, only those are counted that an entry tells.
     fn take_device(&mut self, stream: StreamId) -> Self::Disk
