@@ -50,6 +50,10 @@ on-hold Q me bindings (action.MdlDone word) none_first none_range none_file none
 on-hold Q me bindings (action.MdlAbort word) none_first none_range none_file none_written = on-one Q me (hold_named bindings word (is_write_chain)) (λ id. call.EndHold id)
 on-hold Q me bindings (action.NcRead file at len) none_first none_range none_file none_written = refl
 on-hold Q me bindings (action.NcWrite file at bytes) none_first none_range none_file none_written = refl
+on-hold Q me bindings (action.Read file path at len) none_first none_range none_file none_written = refl
+on-hold Q me bindings (action.Write file at bytes) none_first none_range none_file none_written = refl
+on-hold Q me bindings (action.Update file at bytes) none_first none_range none_file none_written = refl
+on-hold Q me bindings (action.Levels file) none_first none_range none_file none_written = refl
 on-hold Q me bindings (action.SetSizes file allocation size) none_first none_range none_file none_written = absurd (some-none _ none_file)
 on-hold Q me bindings (action.State file) none_first none_range none_file none_written = absurd (some-none _ none_file)
 on-hold Q me bindings (action.Flush file span) none_first none_range none_file none_written = absurd (some-none _ none_range)

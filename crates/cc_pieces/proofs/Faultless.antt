@@ -32,11 +32,17 @@ use Rattle.cc_effects.specs.LogCalls.{AppendRefused, FlushRefused}
 use Rattle.cc_effects.specs.Moments.{PlacedOnly}
 use Rattle.cc_effects.specs.Noncached.{MisshapenLeft, PageReadsRefused, PageRefused, ShapedReadLeft, ShapedWriteLeft, TransferRefused, shape_refusal}
 use Rattle.cc_effects.specs.Repins.{UnpinLeft}
-use Rattle.cc_pieces.specs.Answered.{AppendAnswered, CallAnswered, LogFlushAnswered, NcReadAnswered, NcWriteAnswered}
+use Rattle.cc_model.specs.Passes.{HasSeen}
+use Rattle.cc_script.specs.declared.script.ReadPath.{ReadPath}
+use Rattle.cc_vacb.specs.Levels.{levels_of}
+use Rattle.cc_pieces.specs.Answered.{AppendAnswered, CallAnswered, LevelsAnswered, LogFlushAnswered, NcReadAnswered, NcWriteAnswered}
 use Rattle.cc_pieces.specs.Bindings.{Binding, OnHold, hold_named}
 use Rattle.cc_pieces.specs.Faultless.{shows_fault, tells_fault}
 use Rattle.cc_pieces.specs.HoldLines.{HeldReadBy, HoldLine, UnpinAnswered, UnrepinLine}
 use Rattle.cc_pieces.specs.Served.{Served}
+use Rattle.cc_pieces.specs.Shim.{ReadAnswered, UpdateAnswered, WriteAnswered}
+use Rattle.cc_pieces.proofs.Grown.{grew-call, grew-only, grew-then}
+use Rattle.cc_pieces.proofs.ShimLines.{Follows, told-read, told-update, told-write}
 
 -- no entry of a stretch shows a failure
 abbrev pub ShowsNone : List Entry → Type 0
@@ -195,6 +201,66 @@ unrepin-none u me bindings word through told old new left none =
     by id (answer.Refused e) left = unpin-none u me id through e old new left.left none
     by id other left = absurd left
 
+-- the lists of calls of the shim: behind a call that was refused nothing but the end of its hold is told
+abbrev GrewUnder : Option ℕ → List Entry → List Entry → Type 0
+GrewUnder None old new = Unit {0}
+GrewUnder (Some id) old new = HasSeen old new
+
+abbrev TellsNone : Option ℕ → CcError → List Entry → List Entry → Type 0
+TellsNone own e old new = ShowsNone new → is_fault e ≡ false
+
+grew-under : (own : Option ℕ) (old new : List Entry) → HasSeen old new → GrewUnder own old new
+grew-under None old new grew = tt
+grew-under (Some id) old new grew = grew
+
+under-then : (own : Option ℕ) (old between new : List Entry) → GrewUnder own old between → GrewUnder own between new → GrewUnder own old new
+under-then None old between new first rest = tt
+under-then (Some id) old between new first rest = grew-then old between new first rest
+
+none-before : (id : ℕ) (e : CcError) (old between new : List Entry) → TellsNone (Some id) e old between → HasSeen between new → TellsNone (Some id) e old new
+none-before id e old between new first rest none = first (none-front rest.later between (subst ShowsNone rest.grew none))
+
+shim-none : (u : Setup) (me : ℕ) (file : File) → Follows u me file GrewUnder TellsNone
+shim-none u me file = record {
+  idle = λ own old new idle. grew-under own old new (record { later = idle.during; grew = idle.grew });
+  joins = under-then;
+  done = λ own it r old new on left. grew-under own old new (grew-call u me it (outcome.Done r) old new left);
+  failed = λ own it e old new on left none. failed-tells-none u me it e old new left none;
+  after = λ own e old between new first rest none. rest none;
+  before = none-before;
+  tested = λ own e old new calm idle none. calm;
+  held = λ it id old made new makes on left rest. tt;
+  unheld = λ it id e old made new makes on left rest none. rest none;
+  read = λ at len bytes old new left. tt;
+  unread = λ at len done e old new left none. nc-read-none u me file at len (answer.NcRefused done e) old new left none;
+  appended = λ own handle bytes lsn old new left. grew-under own old new (grew-only me _ old new left.1);
+  unappended = λ own handle bytes e old new left none. append-none u me handle bytes (answer.Refused e) old new left none;
+}
+
+read-none : (u : Setup) (me : ℕ) (file : File) (path : ReadPath) (at len : ℕ) (told : Answer) (old new : List Entry) → ReadAnswered u me file path at len told old new → ShowsNone new → tells_fault told ≡ false
+read-none u me file path at len (answer.Given (reply.Read bytes)) old new left none = refl
+read-none u me file path at len (answer.Refused e) old new left none =
+    told-read u me file GrewUnder TellsNone (shim-none u me file) path at len (answer.Refused e) old new left none
+read-none u me file path at len other old new left none = absurd left
+
+write-none : (u : Setup) (me : ℕ) (file : File) (at : ℕ) (bytes : List ℕ) (told : Answer) (old new : List Entry) → WriteAnswered u me file at bytes told old new → ShowsNone new → tells_fault told ≡ false
+write-none u me file at bytes (answer.Given reply.Unit) old new left none = refl
+write-none u me file at bytes (answer.Refused e) old new left none =
+    told-write u me file GrewUnder TellsNone (shim-none u me file) at bytes (answer.Refused e) old new left none
+write-none u me file at bytes other old new left none = absurd left
+
+update-none : (u : Setup) (me : ℕ) (file : File) (at : ℕ) (bytes : List ℕ) (told : Answer) (old new : List Entry) → UpdateAnswered u me file at bytes told old new → ShowsNone new → tells_fault told ≡ false
+update-none u me file at bytes (answer.NewLsn lsn) old new left none = refl
+update-none u me file at bytes (answer.Refused e) old new left none =
+    told-update u me file GrewUnder TellsNone (shim-none u me file) at bytes (answer.Refused e) old new left none
+update-none u me file at bytes other old new left none = absurd left
+
+levels-none : (me : ℕ) (file : File) (told : Answer) (old new : List Entry) → LevelsAnswered levels_of me file told old new → tells_fault told ≡ false
+levels-none me file (answer.Levels levels) old new left = refl
+levels-none me file (answer.Refused error.NotCached) old new left = refl
+levels-none me file (answer.Refused error.NoMemory) old new left = refl
+levels-none me file other old new left = absurd left
+
 -- a line of a run
 pub served-none : (u : Setup) (me : ℕ) (bindings : List Binding) (asked : Action) (told : Answer) (old new : List Entry) → Served u me bindings asked told old new → ShowsNone new → tells_fault told ≡ false
 served-none u me bindings (action.Initialise file sizes quota temporary) told old new left none =
@@ -232,6 +298,10 @@ served-none u me bindings (action.Flush file span) told old new left none = answ
 served-none u me bindings (action.Purge file span) told old new left none = answered-none u me (call.Purge file span) told old new left none
 served-none u me bindings (action.NcRead file at len) told old new left none = nc-read-none u me file at len told old new left none
 served-none u me bindings (action.NcWrite file at bytes) told old new left none = nc-write-none u me file at bytes told old new left none
+served-none u me bindings (action.Read file path at len) told old new left none = read-none u me file path at len told old new left none
+served-none u me bindings (action.Write file at bytes) told old new left none = write-none u me file at bytes told old new left none
+served-none u me bindings (action.Update file at bytes) told old new left none = update-none u me file at bytes told old new left none
+served-none u me bindings (action.Levels file) told old new left none = levels-none me file told old new left
 served-none u me bindings action.IsDirtyData told old new left none = answered-none u me call.IsDirtyData told old new left none
 served-none u me bindings (action.DirtyPages handle) told old new left none = answered-none u me (call.DirtyPages handle) told old new left none
 served-none u me bindings (action.LsnForFile file) told old new left none = answered-none u me (call.LsnForFile file) told old new left none

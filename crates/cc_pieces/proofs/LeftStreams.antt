@@ -37,10 +37,12 @@ use Rattle.cc_effects.specs.Noncached.{AlignedReadLeft, AlignedWriteLeft, IsPage
 use Rattle.cc_effects.specs.Places.{MayPlace, Works}
 use Rattle.cc_effects.specs.Repins.{UnpinLeft}
 use Rattle.cc_effects.proofs.Stretches.{each-append, each-implies, each-others, grew-after}
-use Rattle.cc_pieces.specs.Answered.{AppendAnswered, CallAnswered, LogFlushAnswered, NcReadAnswered, NcWriteAnswered}
+use Rattle.cc_pieces.specs.Answered.{AppendAnswered, CallAnswered, LevelsAnswered, LogFlushAnswered, NcReadAnswered, NcWriteAnswered}
 use Rattle.cc_pieces.specs.Bindings.{Binding, OnHold, hold_named}
 use Rattle.cc_pieces.specs.HoldLines.{HeldReadBy, HoldLine, UnpinAnswered, UnrepinLine}
 use Rattle.cc_pieces.specs.Served.{Served}
+use Rattle.cc_vacb.specs.Levels.{levels_of}
+use Rattle.cc_pieces.proofs.ShimLines.{Follows, IsMadeOn, Told, told-read, told-update, told-write}
 use Rattle.cc_pieces.proofs.Streams.{AllBelow, IsBelow, IsFileBelow, call-below, hold-below, open-below, resident-below}
 
 -- a journal is legal, and allowed so far
@@ -134,6 +136,10 @@ IsActionBelow n (action.MdlRead file _ _ _) = file.stream < n
 IsActionBelow n (action.MdlWrite file _ _ _) = file.stream < n
 IsActionBelow n (action.NcRead file _ _) = file.stream < n
 IsActionBelow n (action.NcWrite file _ _) = file.stream < n
+IsActionBelow n (action.Read file _ _ _) = file.stream < n
+IsActionBelow n (action.Write file _ _) = file.stream < n
+IsActionBelow n (action.Update file _ _) = file.stream < n
+IsActionBelow n (action.Levels file) = file.stream < n
 IsActionBelow n (action.SetSizes file _ _) = file.stream < n
 IsActionBelow n (action.State file) = file.stream < n
 IsActionBelow n (action.Flush file _) = file.stream < n
@@ -366,6 +372,44 @@ module _ (u : Setup) (n : ℕ) (handles : HasHandles u) where
     left-nc-write me at bytes (answer.NcRefused done cause) old new left = left-shaped-write me at bytes (shape_refusal at (length bytes)) (Err (done, cause)) old new left
     left-nc-write me at bytes other old new left = absurd left
 
+    -- the lists of calls of the shim on a file of the first streams
+    made-below : (own : Option ℕ) (it : Call) → IsMadeOn file own it → IsFileBelow n (file_of it)
+    made-below own (call.MappedRead id at len) on = tt
+    made-below own (call.PinnedRead id at len) on = tt
+    made-below own (call.MdlBytes id at len) on = tt
+    made-below own (call.PinnedWrite id at bytes) on = tt
+    made-below own (call.SetDirty id lsn) on = tt
+    made-below own (call.EndHold id) on = tt
+    made-below own other on = subst (IsFileBelow n) (sym on) below
+
+    left-shim : (me : ℕ) → Follows u me file (λ own. IsLeft u n me) (λ own e. IsLeft u n me)
+    left-shim me = record {
+      idle = λ own old new idle. left-idle u n me old new idle;
+      joins = λ own old between new first rest. left-then u n me old between new first rest;
+      done = λ own it r old new on left. left-call me it (outcome.Done r) old new (made-below own it on) left;
+      failed = λ own it e old new on left. left-call me it (outcome.Failed e) old new (made-below own it on) left;
+      after = λ own e old between new first rest. left-then u n me old between new first rest;
+      before = λ id e old between new first rest. left-then u n me old between new first rest;
+      tested = λ own e old new calm idle. left-idle u n me old new idle;
+      held = λ it id old made new makes on left rest. left-then u n me old made new (left-call me it (outcome.Done (reply.Hold id)) old made (made-below None it on) left) rest;
+      unheld = λ it id e old made new makes on left rest. left-then u n me old made new (left-call me it (outcome.Done (reply.Hold id)) old made (made-below None it on) left) rest;
+      read = λ at len bytes old new left. left-nc-read me at len (answer.Given (reply.Read bytes)) old new left;
+      unread = λ at len done e old new left. left-nc-read me at len (answer.NcRefused done e) old new left;
+      appended = λ own handle bytes lsn old new left. left-append me handle bytes (answer.NewLsn lsn) old new left;
+      unappended = λ own handle bytes e old new left. left-append me handle bytes (answer.Refused e) old new left;
+    }
+
+  left-told : {me : ℕ} {old new : List Entry} (told : Answer) → Told (λ own. IsLeft u n me) (λ own e. IsLeft u n me) told old new → IsLeft u n me old new
+  left-told (answer.Refused e) left = left
+  left-told other left = left
+
+  -- a question for levels
+  left-levels : (me : ℕ) (file : File) (told : Answer) (old new : List Entry) → LevelsAnswered levels_of me file told old new → IsLeft u n me old new
+  left-levels me file (answer.Levels levels) old new left = left-idle u n me old new left.idle
+  left-levels me file (answer.Refused error.NotCached) old new left = left-idle u n me old new left.idle
+  left-levels me file (answer.Refused error.NoMemory) old new left = left-idle u n me old new left
+  left-levels me file other old new left = absurd left
+
   -- lines on holds
   left-on-hold : (me : ℕ) (hold : Option ℕ) (Left : ℕ → Answer → List Entry → List Entry → Type 0) (told : Answer) (old new : List Entry) → ((id : ℕ) → Left id told old new → IsLeft u n me old new) → OnHold me hold Left told old new → IsLeft u n me old new
   left-on-hold me None Left told old new step left = left-idle u n me old new left.1
@@ -428,6 +472,13 @@ module _ (u : Setup) (n : ℕ) (handles : HasHandles u) where
   left-served me bindings (action.Purge file span) told old new below left = left-answered me (call.Purge file span) told old new below left
   left-served me bindings (action.NcRead file at len) told old new below left = left-nc-read file below me at len told old new left
   left-served me bindings (action.NcWrite file at bytes) told old new below left = left-nc-write file below me at bytes told old new left
+  left-served me bindings (action.Read file path at len) told old new below left =
+      left-told told (told-read u me file _ _ (left-shim file below me) path at len told old new left)
+  left-served me bindings (action.Write file at bytes) told old new below left =
+      left-told told (told-write u me file _ _ (left-shim file below me) at bytes told old new left)
+  left-served me bindings (action.Update file at bytes) told old new below left =
+      left-told told (told-update u me file _ _ (left-shim file below me) at bytes told old new left)
+  left-served me bindings (action.Levels file) told old new below left = left-levels me file told old new left
   left-served me bindings action.IsDirtyData told old new below left = left-answered me call.IsDirtyData told old new tt left
   left-served me bindings (action.DirtyPages handle) told old new below left = left-answered me (call.DirtyPages handle) told old new tt left
   left-served me bindings (action.LsnForFile file) told old new below left = left-answered me (call.LsnForFile file) told old new below left

@@ -1,3 +1,6 @@
+pub mod ShimSteps
+pub mod Grown
+pub mod ShimLines
 pub mod LineSteps
 pub mod PlainReads
 pub mod PlainPages

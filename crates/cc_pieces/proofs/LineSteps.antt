@@ -26,13 +26,15 @@ use Rattle.cc_effects.proofs.Begun.{ascend-after, ascend-before}
 use Rattle.cc_effects.proofs.Stretches.{idle-then, idle-none, some-after, some-before}
 use Rattle.cc_effects.proofs.CallSteps.{left-after, left-before}
 use Rattle.cc_effects.proofs.NoncachedSteps.{nc-read-after, nc-read-before, nc-write-after, nc-write-before, unpin-after, unpin-before}
-use Rattle.cc_effects.proofs.OtherSteps.{append-after, append-before, log-flush-after, log-flush-before}
+use Rattle.cc_effects.proofs.OtherSteps.{append-after, append-before, levels-after, levels-before, log-flush-after, log-flush-before}
 use Rattle.cc_pieces.specs.Bindings.{Binding, hold_named, OnHold}
-use Rattle.cc_pieces.specs.Answered.{CallAnswered, FlushAnswered, AppendAnswered, LogFlushAnswered, NcReadAnswered, NcWriteAnswered}
+use Rattle.cc_pieces.specs.Answered.{CallAnswered, FlushAnswered, AppendAnswered, LevelsAnswered, LogFlushAnswered, NcReadAnswered, NcWriteAnswered}
 use Rattle.cc_pieces.specs.HoldLines.{HoldLine, HeldReadBy, UnpinAnswered, UnpinEnded, UnrepinLine}
 use Rattle.cc_pieces.specs.Served.{Served, bindings_after}
 use Rattle.cc_pieces.specs.Rooms.{WasFull, HadNoRoom}
 use Rattle.cc_pieces.specs.Runs.{Explains, Ran, bindings_of, asked_of}
+use Rattle.cc_vacb.specs.Levels.{levels_of}
+use Rattle.cc_pieces.proofs.ShimSteps.{read-after, read-before, update-after, update-before, write-after, write-before}
 
 answered-before : (u : Setup) (me : ℕ) (it : Call) (told : Answer) (older old new : List Entry) → IsIdle me older old → CallAnswered u me it told old new → CallAnswered u me it told older new
 answered-before u me it (answer.Given r) older old new idle left = left-before u me it (outcome.Done r) older old new idle left
@@ -95,6 +97,16 @@ nc_write-after : (u : Setup) (me : ℕ) (file : File) (at : ℕ) (bytes : List �
 nc_write-after u me file at bytes (answer.Count n) old new newer left idle = nc-write-after u me file at bytes (Ok n) old new newer left idle
 nc_write-after u me file at bytes (answer.NcRefused done cause) old new newer left idle = nc-write-after u me file at bytes (Err (done, cause)) old new newer left idle
 nc_write-after u me file at bytes other old new newer left idle = absurd left
+
+levels_told-before : (me : ℕ) (file : File) (told : Answer) (older old new : List Entry) → IsIdle me older old → LevelsAnswered levels_of me file told old new → LevelsAnswered levels_of me file told older new
+levels_told-before me file (answer.Levels n) older old new idle left = levels-before levels_of me file (Ok n) older old new idle left
+levels_told-before me file (answer.Refused e) older old new idle left = levels-before levels_of me file (Err e) older old new idle left
+levels_told-before me file other older old new idle left = absurd left
+
+levels_told-after : (me : ℕ) (file : File) (told : Answer) (old new newer : List Entry) → LevelsAnswered levels_of me file told old new → IsIdle me new newer → LevelsAnswered levels_of me file told old newer
+levels_told-after me file (answer.Levels n) old new newer left idle = levels-after levels_of me file (Ok n) old new newer left idle
+levels_told-after me file (answer.Refused e) old new newer left idle = levels-after levels_of me file (Err e) old new newer left idle
+levels_told-after me file other old new newer left idle = absurd left
 
 -- a line on a hold, whatever it leaves there
 held-before : (me : ℕ) (hold : Option ℕ) (Left : ℕ → Answer → Between) (told : Answer) (older old new : List Entry) → ((id : ℕ) → Left id told old new → Left id told older new) → IsIdle me older old → OnHold me hold Left told old new → OnHold me hold Left told older new
@@ -188,6 +200,10 @@ served-before u me bindings (action.Flush file span) told older old new idle lef
 served-before u me bindings (action.Purge file span) told older old new idle left = answered-before u me (call.Purge file span) told older old new idle left
 served-before u me bindings (action.NcRead file at len) told older old new idle left = nc_read-before u me file at len told older old new idle left
 served-before u me bindings (action.NcWrite file at bytes) told older old new idle left = nc_write-before u me file at bytes told older old new idle left
+served-before u me bindings (action.Read file path at len) told older old new idle left = read-before u me older old idle file path at len told new left
+served-before u me bindings (action.Write file at bytes) told older old new idle left = write-before u me older old idle file at bytes told new left
+served-before u me bindings (action.Update file at bytes) told older old new idle left = update-before u me older old idle file at bytes told new left
+served-before u me bindings (action.Levels file) told older old new idle left = levels_told-before me file told older old new idle left
 served-before u me bindings action.IsDirtyData told older old new idle left = answered-before u me call.IsDirtyData told older old new idle left
 served-before u me bindings (action.DirtyPages handle) told older old new idle left = answered-before u me (call.DirtyPages handle) told older old new idle left
 served-before u me bindings (action.LsnForFile file) told older old new idle left = answered-before u me (call.LsnForFile file) told older old new idle left
@@ -236,6 +252,10 @@ served-after u me bindings (action.Flush file span) told old new newer left idle
 served-after u me bindings (action.Purge file span) told old new newer left idle = answered-after u me (call.Purge file span) told old new newer left idle
 served-after u me bindings (action.NcRead file at len) told old new newer left idle = nc_read-after u me file at len told old new newer left idle
 served-after u me bindings (action.NcWrite file at bytes) told old new newer left idle = nc_write-after u me file at bytes told old new newer left idle
+served-after u me bindings (action.Read file path at len) told old new newer left idle = read-after u me new newer idle file path at len told old left
+served-after u me bindings (action.Write file at bytes) told old new newer left idle = write-after u me new newer idle file at bytes told old left
+served-after u me bindings (action.Update file at bytes) told old new newer left idle = update-after u me new newer idle file at bytes told old left
+served-after u me bindings (action.Levels file) told old new newer left idle = levels_told-after me file told old new newer left idle
 served-after u me bindings action.IsDirtyData told old new newer left idle = answered-after u me call.IsDirtyData told old new newer left idle
 served-after u me bindings (action.DirtyPages handle) told old new newer left idle = answered-after u me (call.DirtyPages handle) told old new newer left idle
 served-after u me bindings (action.LsnForFile file) told old new newer left idle = answered-after u me (call.LsnForFile file) told old new newer left idle

@@ -356,6 +356,10 @@ module _ (u : Setup) (n : ℕ) where
   doing-below me bindings (action.MdlAbort word) below = on-hold-below (hold_named bindings word is_write_chain) (λ id. call.EndHold id) (λ id. tt)
   doing-below me bindings (action.NcRead file at len) below = tt
   doing-below me bindings (action.NcWrite file at bytes) below = tt
+  doing-below me bindings (action.Read file path at len) below = tt
+  doing-below me bindings (action.Write file at bytes) below = tt
+  doing-below me bindings (action.Update file at bytes) below = tt
+  doing-below me bindings (action.Levels file) below = tt
   doing-below me bindings action.IsDirtyData below = tt
   doing-below me bindings (action.DirtyPages handle) below = tt
   doing-below me bindings (action.Append handle bytes) below = tt

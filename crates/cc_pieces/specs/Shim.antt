@@ -16,6 +16,8 @@ use Rattle.cc_entry.specs.declared.reply.Outcome.TheVariants as outcome
 use Rattle.cc_entry.specs.declared.answer.Answer.{Answer}
 use Rattle.cc_entry.specs.declared.answer.Answer.TheVariants as answer
 use Rattle.cc_entry.specs.declared.entry.Entry.{Entry}
+use Rattle.cc_script.specs.declared.script.ReadPath.{ReadPath}
+use Rattle.cc_script.specs.declared.script.ReadPath.TheVariants.{Cached, Mapped, Pinned, Descriptor, Noncached}
 use Rattle.cc_model.specs.Setup.{Setup}
 use Rattle.cc_model.specs.Ranges.{cut_range}
 use Rattle.cc_model.specs.Records.{little_endian}
@@ -23,14 +25,6 @@ use Rattle.cc_effects.specs.Moments.{IsIdle, Between}
 use Rattle.cc_effects.specs.Calls.{CallLeft}
 use Rattle.cc_effects.specs.LogCalls.{AppendLeft}
 use Rattle.cc_effects.specs.Noncached.{NcReadLeft}
-
--- the five paths of a read
-pub data ReadPath : Type 0 where
-  Cached : ReadPath
-  Mapped : ReadPath
-  Pinned : ReadPath
-  Descriptor : ReadPath
-  Noncached : ReadPath
 
 -- calls that answer nothing, each done, up to one that is refused
 abbrev pub CallsLeft : Setup → ℕ → List Call → Result (Unit {0}) CcError → Between

@@ -11,7 +11,8 @@ use Rattle.cc_entry.specs.declared.error.CcError.TheVariants as error
 use Rattle.cc_entry.specs.declared.entry.Entry.{Entry}
 use Rattle.cc_entry.specs.declared.entry.Entry.TheVariants as entry
 use Rattle.cc_effects.specs.Moments.{Between}
-use Rattle.cc_pieces.specs.Shim.{ReadPath, ReadAnswered, WriteAnswered, UpdateAnswered, write_calls}
+use Rattle.cc_script.specs.declared.script.ReadPath.{ReadPath}
+use Rattle.cc_pieces.specs.Shim.{ReadAnswered, WriteAnswered, UpdateAnswered, write_calls}
 use Rattle.cc_worked.specs.Values.{setup, a, page, sized, opened, done, answers, refused, read_in}
 
 -- a read by a path, from a place on, of so many bytes

@@ -8,7 +8,7 @@ ghost use Rattle.cc_entry.specs.declared.reply.Reply.TheVariants as reply;
 ghost use Rattle.cc_entry.specs.declared.answer.Answer.TheVariants as answer;
 ghost use Rattle.cc_entry.specs.declared.entry.Entry.{Entry};
 ghost use Rattle.cc_pieces.specs.Bindings.{bound, pinned};
-ghost use Rattle.cc_pieces.specs.Shim.{Cached, Noncached};
+ghost use Rattle.cc_script.specs.declared.script.ReadPath.TheVariants.{Cached, Noncached};
 ghost use Rattle.cc_pieces.specs.Phases.{TicksRan, AheadsRan};
 ghost use Rattle.cc_worked.specs.Values.{setup, done, unit, Leaves, LeavesNothing};
 ghost use Rattle.cc_worked.specs.PiecesReads.{two_pages, first_resident, a_byte, page_comes_in, page_alone, fill_fails, read_without_waiting};

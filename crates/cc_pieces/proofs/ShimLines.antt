@@ -1,0 +1,263 @@
+-- What the lists of calls of the shim leave, by what each of their calls does.
+use Rattle.std.specs.Prelude.{◌≡◌, ℕ, ◌+◌, ◌≤◌, Bool, true, false, nat_lt, List, [], ◌∷◌, ◌++◌, length, map, Result, Ok, Err, refl, if◌then◌else◌}
+use Rattle.std.specs.declared.option.Option.{Option}
+use Rattle.std.specs.declared.option.Option.TheVariants.{Some, None}
+use Rattle.std.specs.List.{AllByRecursion, range_with_len}
+use Rattle.std.proofs.Common.{sym, subst, inl, inr}
+use Rattle.cc_entry.specs.Place.{File, Range}
+use Rattle.cc_entry.specs.declared.place.FileState.{FileState}
+use Rattle.cc_entry.specs.declared.call.Call.{Call}
+use Rattle.cc_entry.specs.declared.call.Call.TheVariants as call
+use Rattle.cc_entry.specs.declared.answer.Answer.{Answer}
+use Rattle.cc_entry.specs.declared.answer.Answer.TheVariants as answer
+use Rattle.cc_entry.specs.declared.entry.Entry.{Entry}
+use Rattle.cc_entry.specs.declared.error.CcError.{CcError}
+use Rattle.cc_entry.specs.declared.error.CcError.TheVariants as error
+use Rattle.cc_entry.specs.declared.reply.Reply.{Reply}
+use Rattle.cc_entry.specs.declared.reply.Reply.TheVariants as reply
+use Rattle.cc_entry.specs.declared.reply.Outcome.TheVariants as outcome
+use Rattle.cc_script.specs.declared.script.ReadPath.{ReadPath}
+use Rattle.cc_script.specs.declared.script.ReadPath.TheVariants.{Cached, Mapped, Pinned, Descriptor, Noncached}
+use Rattle.cc_model.specs.Acts.{file_of}
+use Rattle.cc_model.specs.Allowed.{is_fault}
+use Rattle.cc_model.specs.Cache.{makes_hold}
+use Rattle.cc_model.specs.Setup.{Setup}
+use Rattle.cc_effects.specs.Calls.{CallLeft}
+use Rattle.cc_effects.specs.LogCalls.{AppendLeft}
+use Rattle.cc_effects.specs.Moments.{IsIdle}
+use Rattle.cc_effects.specs.Noncached.{NcReadLeft}
+use Rattle.cc_pieces.specs.Shim.{CallsLeft, HeldPartsLeft, HoldPath, LoggedLeft, PartRead, PartRefused, PartsLeft, PathReadLeft, PinnedUpdateLeft, ReadAnswered, ReadTested, RecordedLeft, RefusedSo, ShortWriteLeft, ToldUpdateLeft, ToldWriteLeft, UpdateAnswered, UpdateLeft, WriteAnswered, WriteTested, descriptor_path, extensions, mapped_path, misaligned_for, parts_of, pinned_path, too_long_for, update_record, whole_part, write_calls, zeroings}
+
+-- a call of a list is on the file, or on the hold that the list made
+abbrev pub IsMadeOn : File → Option ℕ → Call → Type 0
+IsMadeOn file own (call.MappedRead id at len) = own ≡ Some id
+IsMadeOn file own (call.PinnedRead id at len) = own ≡ Some id
+IsMadeOn file own (call.MdlBytes id at len) = own ≡ Some id
+IsMadeOn file own (call.PinnedWrite id at bytes) = own ≡ Some id
+IsMadeOn file own (call.SetDirty id lsn) = own ≡ Some id
+IsMadeOn file own (call.EndHold id) = own ≡ Some id
+IsMadeOn file own other = file_of other ≡ Some file
+
+-- What is said of a list of calls of which all were done, and of one that was refused, beside a hold that the list made, if
+-- it made one; it follows from what each call left.
+pub record Follows (u : Setup) (me : ℕ) (file : File) (Done : Option ℕ → List Entry → List Entry → Type 0)
+    (Failed : Option ℕ → CcError → List Entry → List Entry → Type 0) : Type 0 where
+  pub idle : (own : Option ℕ) (old new : List Entry) → IsIdle me old new → Done own old new
+  pub joins : (own : Option ℕ) (old between new : List Entry) → Done own old between → Done own between new → Done own old new
+  pub done : (own : Option ℕ) (it : Call) (r : Reply) (old new : List Entry) → IsMadeOn file own it → CallLeft u me it (outcome.Done r) old new → Done own old new
+  pub failed : (own : Option ℕ) (it : Call) (e : CcError) (old new : List Entry) → IsMadeOn file own it → CallLeft u me it (outcome.Failed e) old new → Failed own e old new
+  pub after : (own : Option ℕ) (e : CcError) (old between new : List Entry) → Done own old between → Failed own e between new → Failed own e old new
+  pub before : (id : ℕ) (e : CcError) (old between new : List Entry) → Failed (Some id) e old between → Done (Some id) between new → Failed (Some id) e old new
+  pub tested : (own : Option ℕ) (e : CcError) (old new : List Entry) → is_fault e ≡ false → IsIdle me old new → Failed own e old new
+  pub held : (it : Call) (id : ℕ) (old made new : List Entry) → makes_hold it ≡ true → IsMadeOn file None it → CallLeft u me it (outcome.Done (reply.Hold id)) old made → Done (Some id) made new → Done None old new
+  pub unheld : (it : Call) (id : ℕ) (e : CcError) (old made new : List Entry) → makes_hold it ≡ true → IsMadeOn file None it → CallLeft u me it (outcome.Done (reply.Hold id)) old made → Failed (Some id) e made new → Failed None e old new
+  pub read : (at len : ℕ) (bytes : List ℕ) (old new : List Entry) → NcReadLeft u me file at len (Ok bytes) old new → Done None old new
+  pub unread : (at len done : ℕ) (e : CcError) (old new : List Entry) → NcReadLeft u me file at len (Err (done, e)) old new → Failed None e old new
+  pub appended : (own : Option ℕ) (handle : ℕ) (bytes : List ℕ) (lsn : ℕ) (old new : List Entry) → AppendLeft u me handle bytes (Ok lsn) old new → Done own old new
+  pub unappended : (own : Option ℕ) (handle : ℕ) (bytes : List ℕ) (e : CcError) (old new : List Entry) → AppendLeft u me handle bytes (Err e) old new → Failed own e old new
+
+-- what is said of a line by its answer
+abbrev pub Told : (Option ℕ → List Entry → List Entry → Type 0) → (Option ℕ → CcError → List Entry → List Entry → Type 0) → Answer → List Entry → List Entry → Type 0
+Told Done Failed (answer.Refused e) old new = Failed None e old new
+Told Done Failed other old new = Done None old new
+
+-- a path makes a hold of the file, and reads it
+pub record GoesOver (file : File) (path : HoldPath) : Type 0 where
+  pub makes : (r : Range) → makes_hold (path.make r) ≡ true
+  pub of_file : (r : Range) → IsMadeOn file None (path.make r)
+  pub on_hold : (id : ℕ) (r : Range) → IsMadeOn file (Some id) (path.look id r)
+
+over-mapped : (file : File) → GoesOver file (mapped_path file)
+over-mapped file = record { makes = λ r. refl; of_file = λ r. refl; on_hold = λ id r. refl }
+
+over-pinned : (file : File) → GoesOver file (pinned_path file)
+over-pinned file = record { makes = λ r. refl; of_file = λ r. refl; on_hold = λ id r. refl }
+
+over-descriptor : (file : File) → GoesOver file (descriptor_path file)
+over-descriptor file = record { makes = λ r. refl; of_file = λ r. refl; on_hold = λ id r. refl }
+
+-- a test of the shim's own tells no fault
+abbrev IsCalm : Option CcError → Type 0
+IsCalm None = Unit {0}
+IsCalm (Some e) = is_fault e ≡ false
+
+calm-if : (b : Bool) (e : CcError) → is_fault e ≡ false → IsCalm (if b then Some e else None)
+calm-if true e calm = calm
+calm-if false e calm = tt
+
+calm-long : (path : ReadPath) (len : ℕ) → IsCalm (too_long_for path len)
+calm-long Noncached len = calm-if (nat_lt 65536 len) (error.TooLong 65536) refl
+calm-long other len = calm-if (nat_lt 1048576 len) (error.TooLong 1048576) refl
+
+calm-misaligned : (path : ReadPath) (at len : ℕ) → IsCalm (misaligned_for path at len)
+calm-misaligned Noncached at len = calm-if _ error.Unaligned refl
+calm-misaligned other at len = tt
+
+-- the calls of a write are on the file
+all-append : (file : File) (own : Option ℕ) (first rest : List Call) → AllByRecursion (λ it. IsMadeOn file own it) first → AllByRecursion (λ it. IsMadeOn file own it) rest → AllByRecursion (λ it. IsMadeOn file own it) (first ++ rest)
+all-append file own [] rest one two = two
+all-append file own (it ∷ first) rest one two = (one.0, all-append file own first rest one.1 two)
+
+all-zeroed : (file : File) (span : ℕ → Range) (ks : List ℕ) → AllByRecursion (λ it. IsMadeOn file None it) (map (λ k. call.Zero file (span k)) ks)
+all-zeroed file span [] = tt
+all-zeroed file span (k ∷ ks) = (refl, all-zeroed file span ks)
+
+all-extended : (file : File) (allocation size : ℕ) (b : Bool) → AllByRecursion (λ it. IsMadeOn file None it) (if b then call.SetSizes file allocation size ∷ [] else [])
+all-extended file allocation size true = (refl, tt)
+all-extended file allocation size false = tt
+
+all-written : (file : File) (at : ℕ) (bytes : List ℕ) (state : FileState) → AllByRecursion (λ it. IsMadeOn file None it) (write_calls file at bytes state)
+all-written file at bytes state =
+    all-append file None (extensions file state (at + length bytes)) (zeroings file state.sizes.valid at ++ call.CopyWrite file at bytes ∷ [])
+    (all-extended file _ _ (nat_lt state.sizes.size (at + length bytes)))
+    (all-append file None (zeroings file state.sizes.valid at) (call.CopyWrite file at bytes ∷ []) (all-zeroed file _ _) (refl, tt))
+
+module _ (u : Setup) (me : ℕ) (file : File) (Done : Option ℕ → List Entry → List Entry → Type 0) (Failed : Option ℕ → CcError → List Entry → List Entry → Type 0) (f : Follows u me file Done Failed) where
+  -- what is said of a list by its answer
+  abbrev Ended : {A : Type 0} → Option ℕ → Result A CcError → List Entry → List Entry → Type 0
+  Ended own (Ok done) old new = Done own old new
+  Ended own (Err e) old new = Failed own e old new
+
+  ended-after : {A : Type 0} (own : Option ℕ) (answered : Result A CcError) (old between new : List Entry) → Done own old between → Ended own answered between new → Ended own answered old new
+  ended-after own (Ok done) old between new first rest = f.joins own old between new first rest
+  ended-after own (Err e) old between new first rest = f.after own e old between new first rest
+
+  ended-before : {A : Type 0} (id : ℕ) (answered : Result A CcError) (old between new : List Entry) → Ended (Some id) answered old between → Done (Some id) between new → Ended (Some id) answered old new
+  ended-before id (Ok done) old between new first rest = f.joins (Some id) old between new first rest
+  ended-before id (Err e) old between new first rest = f.before id e old between new first rest
+
+  ended-held : {A : Type 0} (it : Call) (id : ℕ) (answered : Result A CcError) (old made new : List Entry) → makes_hold it ≡ true → IsMadeOn file None it → CallLeft u me it (outcome.Done (reply.Hold id)) old made → Ended (Some id) answered made new → Ended None answered old new
+  ended-held it id (Ok done) old made new makes on left rest = f.held it id old made new makes on left rest
+  ended-held it id (Err e) old made new makes on left rest = f.unheld it id e old made new makes on left rest
+
+  ended-refused : {A : Type 0} (own : Option ℕ) (e : CcError) (answered : Result A CcError) (old new : List Entry) → answered ≡ Err e → Failed own e old new → Ended own answered old new
+  ended-refused own e answered old new is left = subst (λ a. Ended own a old new) (sym is) left
+
+  ended-tested : {A : Type 0} (own : Option ℕ) (e : CcError) (answered : Result A CcError) (old new : List Entry) → is_fault e ≡ false → RefusedSo e answered → IsIdle me old new → Ended own answered old new
+  ended-tested own e answered old new calm (inl is) idle = ended-refused own e answered old new is (f.tested own e old new calm idle)
+  ended-tested own e answered old new calm (inr is) idle = ended-refused own error.NoMemory answered old new is (f.tested own error.NoMemory old new refl idle)
+
+  -- ---- calls that answer nothing
+
+  follow-calls : (own : Option ℕ) (calls : List Call) (answered : Result (Unit {0}) CcError) (old new : List Entry) → AllByRecursion (λ it. IsMadeOn file own it) calls → CallsLeft u me calls answered old new → Ended own answered old new
+  follow-calls own [] (Ok done) old new on left = f.idle own old new left
+  follow-calls own [] (Err e) old new on left = absurd left
+  follow-calls own (it ∷ more) (Ok done) old new on left =
+      f.joins own old left.0 new (f.done own it reply.Unit old left.0 on.0 left.1) (follow-calls own more (Ok done) left.0 new on.1 left.2)
+  follow-calls own (it ∷ more) (Err e) old new on (inl left) = f.failed own it e old new on.0 left
+  follow-calls own (it ∷ more) (Err e) old new on (inr left) =
+      f.after own e old left.0 new (f.done own it reply.Unit old left.0 on.0 left.1) (follow-calls own more (Err e) left.0 new on.1 left.2)
+
+  -- ---- reads
+
+  follow-end : (id : ℕ) (old new : List Entry) → CallLeft u me (call.EndHold id) (outcome.Done reply.Unit) old new → Done (Some id) old new
+  follow-end id old new left = f.done (Some id) (call.EndHold id) reply.Unit old new refl left
+
+  follow-part : (path : HoldPath) → GoesOver file path → (r : Range) (bytes : List ℕ) (old new : List Entry) → PartRead u me path r bytes old new → Done None old new
+  follow-part path over r bytes old new left =
+      f.held (path.make r) left.0 old left.1 new (over.makes r) (over.of_file r) left.3
+      (f.joins (Some left.0) left.1 left.2 new (f.done (Some left.0) (path.look left.0 r) (reply.Read bytes) left.1 left.2 (over.on_hold left.0 r) left.4) (follow-end left.0 left.2 new left.5))
+
+  follow-refused : (path : HoldPath) → GoesOver file path → (r : Range) (e : CcError) (old new : List Entry) → PartRefused u me path r e old new → Failed None e old new
+  follow-refused path over r e old new (inl left) = f.failed None (path.make r) e old new (over.of_file r) left
+  follow-refused path over r e old new (inr left) =
+      f.unheld (path.make r) left.0 e old left.1 new (over.makes r) (over.of_file r) left.3
+      (f.before left.0 e left.1 left.2 new (f.failed (Some left.0) (path.look left.0 r) e left.1 left.2 (over.on_hold left.0 r) left.4) (follow-end left.0 left.2 new left.5))
+
+  follow-parts : (path : HoldPath) → GoesOver file path → (rs : List Range) (answered : Result (List ℕ) CcError) (old new : List Entry) → PartsLeft u me path rs answered old new → Ended None answered old new
+  follow-parts path over [] (Ok bytes) old new left = f.idle None old new left.1
+  follow-parts path over [] (Err e) old new left = absurd left
+  follow-parts path over (r ∷ rs) (Ok bytes) old new left =
+      f.joins None old left.0 new (follow-part path over r left.1 old left.0 left.4) (follow-parts path over rs (Ok left.2) left.0 new left.5)
+  follow-parts path over (r ∷ rs) (Err e) old new (inl left) = follow-refused path over r e old new left
+  follow-parts path over (r ∷ rs) (Err e) old new (inr left) =
+      f.after None e old left.0 new (follow-part path over r left.1 old left.0 left.2) (follow-parts path over rs (Err e) left.0 new left.3)
+
+  follow-state : (own : Option ℕ) (state : FileState) (old new : List Entry) → CallLeft u me (call.State file) (outcome.Done (reply.State state)) old new → Done own old new
+  follow-state own state old new left = f.done own (call.State file) (reply.State state) old new refl left
+
+  follow-held : (path : HoldPath) → GoesOver file path → (parts : Range → List Range) (at len : ℕ) (answered : Result (List ℕ) CcError) (old new : List Entry) → HeldPartsLeft u me file path parts at len answered old new → Ended None answered old new
+  follow-held path over parts at len (Ok bytes) old new left =
+      f.joins None old left.0 new (follow-state None left.1 old left.0 left.2) (follow-parts path over _ (Ok bytes) left.0 new left.3)
+  follow-held path over parts at len (Err e) old new (inl left) = f.failed None (call.State file) e old new refl left
+  follow-held path over parts at len (Err e) old new (inr left) =
+      f.after None e old left.0 new (follow-state None left.1 old left.0 left.2) (follow-parts path over _ (Err e) left.0 new left.3)
+
+  follow-path : (path : ReadPath) (at len : ℕ) (answered : Result (List ℕ) CcError) (old new : List Entry) → PathReadLeft u me file path at len answered old new → Ended None answered old new
+  follow-path Cached at len (Ok bytes) old new left = f.done None (call.CopyRead file at len true) (reply.Read bytes) old new refl left
+  follow-path Cached at len (Err e) old new left = f.failed None (call.CopyRead file at len true) e old new refl left
+  follow-path Mapped at len answered old new left = follow-held (mapped_path file) (over-mapped file) parts_of at len answered old new left
+  follow-path Pinned at len answered old new left = follow-held (pinned_path file) (over-pinned file) parts_of at len answered old new left
+  follow-path Descriptor at len answered old new left = follow-held (descriptor_path file) (over-descriptor file) whole_part at len answered old new left
+  follow-path Noncached at len (Ok bytes) old new left = f.read at len bytes old new left
+  follow-path Noncached at len (Err e) old new left = f.unread at len left.0 e old new left.1
+
+  follow-read : (path : ReadPath) (at len : ℕ) (long misaligned : Option CcError) (answered : Result (List ℕ) CcError) (old new : List Entry) → IsCalm long → IsCalm misaligned → ReadTested u me file path at len long misaligned answered old new → Ended None answered old new
+  follow-read path at len (Some e) misaligned answered old new calm calm_too left = ended-tested None e answered old new calm left.0 left.1
+  follow-read path at len None (Some e) answered old new calm calm_too left = ended-tested None e answered old new calm_too left.0 left.1
+  follow-read path at len None None answered old new calm calm_too left = follow-path path at len answered old new left
+
+  -- ---- writes
+
+  follow-told_write : (at : ℕ) (bytes : List ℕ) (state : FileState) (answered : Result (Unit {0}) CcError) (old new : List Entry) → ToldWriteLeft u me file at bytes state answered old new → Ended None answered old new
+  follow-told_write at bytes state answered old new (inl left) = ended-tested None (error.GapTooLong 67108864) answered old new refl left.1 left.2
+  follow-told_write at bytes state answered old new (inr left) = follow-calls None (write_calls file at bytes state) answered old new (all-written file at bytes state) left.1
+
+  follow-short : (at : ℕ) (bytes : List ℕ) (answered : Result (Unit {0}) CcError) (old new : List Entry) → ShortWriteLeft u me file at bytes answered old new → Ended None answered old new
+  follow-short at bytes answered old new (inl left) = ended-refused None left.0 answered old new left.1 (f.failed None (call.State file) left.0 old new refl left.2)
+  follow-short at bytes answered old new (inr left) =
+      ended-after None answered old left.0 new (follow-state None left.1 old left.0 left.2) (follow-told_write at bytes left.1 answered left.0 new left.3)
+
+  follow-write : (at : ℕ) (bytes : List ℕ) (long : Bool) (answered : Result (Unit {0}) CcError) (old new : List Entry) → WriteTested u me file at bytes long answered old new → Ended None answered old new
+  follow-write at bytes true answered old new left = ended-tested None (error.TooLong 1048576) answered old new refl left.0 left.1
+  follow-write at bytes false answered old new left = follow-short at bytes answered old new left
+
+  -- ---- updates
+
+  follow-recorded : (id at : ℕ) (bytes : List ℕ) (lsn : ℕ) (answered : Result ℕ CcError) (old new : List Entry) → RecordedLeft u me id at bytes lsn answered old new → Ended (Some id) answered old new
+  follow-recorded id at bytes lsn (Ok told) old new left = follow-calls (Some id) (call.PinnedWrite id at bytes ∷ call.SetDirty id (Some lsn) ∷ []) (Ok tt) old new (refl, (refl, tt)) left.1
+  follow-recorded id at bytes lsn (Err e) old new left = follow-calls (Some id) (call.PinnedWrite id at bytes ∷ call.SetDirty id (Some lsn) ∷ []) (Err e) old new (refl, (refl, tt)) left
+
+  follow-logged : (id at : ℕ) (bytes : List ℕ) (handle : ℕ) (answered : Result ℕ CcError) (old new : List Entry) → LoggedLeft u me file id at bytes handle answered old new → Ended (Some id) answered old new
+  follow-logged id at bytes handle answered old new (inl left) =
+      ended-refused (Some id) left.0 answered old new left.1 (f.unappended (Some id) handle (update_record file at bytes) left.0 old new left.2)
+  follow-logged id at bytes handle answered old new (inr left) =
+      ended-after (Some id) answered old left.0 new (f.appended (Some id) handle (update_record file at bytes) left.1 old left.0 left.2)
+      (follow-recorded id at bytes left.1 answered left.0 new left.3)
+
+  follow-told_update : (id at : ℕ) (bytes : List ℕ) (log : Option ℕ) (valid : ℕ) (answered : Result ℕ CcError) (old new : List Entry) → ToldUpdateLeft u me file id at bytes log valid answered old new → Ended (Some id) answered old new
+  follow-told_update id at bytes None valid answered old new left = ended-tested (Some id) (error.NoLog 255) answered old new refl left.0 left.1
+  follow-told_update id at bytes (Some handle) valid answered old new (inl left) = ended-tested (Some id) (error.BeyondValid valid) answered old new refl left.1 left.2
+  follow-told_update id at bytes (Some handle) valid answered old new (inr left) = follow-logged id at bytes handle answered old new left.1
+
+  follow-pinned : (id at : ℕ) (bytes : List ℕ) (answered : Result ℕ CcError) (old new : List Entry) → PinnedUpdateLeft u me file id at bytes answered old new → Ended (Some id) answered old new
+  follow-pinned id at bytes answered old new (inl left) =
+      ended-refused (Some id) left.0 answered old new left.1 (f.failed (Some id) (call.State file) left.0 old new refl left.2)
+  follow-pinned id at bytes answered old new (inr left) =
+      ended-after (Some id) answered old left.0 new (follow-state (Some id) left.1 old left.0 left.2) (follow-told_update id at bytes left.1.log left.1.sizes.valid answered left.0 new left.3)
+
+  follow-update : (at : ℕ) (bytes : List ℕ) (answered : Result ℕ CcError) (old new : List Entry) → UpdateLeft u me file at bytes answered old new → Ended None answered old new
+  follow-update at bytes answered old new (inl left) =
+      ended-refused None left.0 answered old new left.1 (f.failed None (call.PinRead file at (length bytes) true) left.0 old new refl left.2)
+  follow-update at bytes answered old new (inr left) =
+      ended-held (call.PinRead file at (length bytes) true) left.0 answered old left.1 new refl refl left.3
+      (ended-before left.0 answered left.1 left.2 new (follow-pinned left.0 at bytes answered left.1 left.2 left.4) (follow-end left.0 left.2 new left.5))
+
+  -- ---- lines
+
+  pub told-read : (path : ReadPath) (at len : ℕ) (told : Answer) (old new : List Entry) → ReadAnswered u me file path at len told old new → Told Done Failed told old new
+  told-read path at len (answer.Given (reply.Read bytes)) old new left =
+      follow-read path at len (too_long_for path len) (misaligned_for path at len) (Ok bytes) old new (calm-long path len) (calm-misaligned path at len) left
+  told-read path at len (answer.Refused e) old new left =
+      follow-read path at len (too_long_for path len) (misaligned_for path at len) (Err e) old new (calm-long path len) (calm-misaligned path at len) left
+  told-read path at len other old new left = absurd left
+
+  pub told-write : (at : ℕ) (bytes : List ℕ) (told : Answer) (old new : List Entry) → WriteAnswered u me file at bytes told old new → Told Done Failed told old new
+  told-write at bytes (answer.Given reply.Unit) old new left = follow-write at bytes (nat_lt 1048576 (length bytes)) (Ok tt) old new left
+  told-write at bytes (answer.Refused e) old new left = follow-write at bytes (nat_lt 1048576 (length bytes)) (Err e) old new left
+  told-write at bytes other old new left = absurd left
+
+  pub told-update : (at : ℕ) (bytes : List ℕ) (told : Answer) (old new : List Entry) → UpdateAnswered u me file at bytes told old new → Told Done Failed told old new
+  told-update at bytes (answer.NewLsn lsn) old new left = follow-update at bytes (Ok lsn) old new left
+  told-update at bytes (answer.Refused e) old new left = follow-update at bytes (Err e) old new left
+  told-update at bytes other old new left = absurd left
