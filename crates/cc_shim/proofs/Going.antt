@@ -6,7 +6,6 @@ use Rattle.cc_entry.specs.Place.{File}
 use Rattle.cc_entry.specs.declared.call.Call.{Call}
 use Rattle.cc_entry.specs.declared.call.Call.TheVariants as call
 use Rattle.cc_entry.specs.declared.entry.Entry.{Entry}
-use Rattle.cc_entry.specs.declared.entry.Entry.TheVariants as entry
 use Rattle.cc_entry.specs.declared.error.CcError.{CcError}
 use Rattle.cc_entry.specs.declared.error.CcError.TheVariants as error
 use Rattle.cc_entry.specs.declared.hold.HoldKind.{HoldKind}
@@ -16,10 +15,9 @@ use Rattle.cc_entry.specs.declared.reply.Reply.TheVariants as reply
 use Rattle.cc_model.specs.Good.{IsGood}
 use Rattle.cc_model.specs.Passes.{HasSeen}
 use Rattle.cc_model.specs.Setup.{Setup}
-use Rattle.cc_effects.specs.Calls.{CallLeft, IsPlaced}
 use Rattle.cc_effects.specs.LogCalls.{AppendLeft}
 use Rattle.cc_effects.specs.Moments.{Between}
-use Rattle.cc_effects.proofs.FrontLaws.{placed-of}
+use Rattle.cc_pieces.proofs.Grown.{grew-call, grew-then}
 use Rattle.cc_own.proofs.VerbsKeep.{append-unchanged, nc_read-unchanged}
 use Rattle.cc_ranges.specs.Answers.{read_of}
 use Rattle.cc_ranges.specs.Reads.{NcReadEnds}
@@ -39,27 +37,6 @@ pub record HasGone (w v : Standing) : Type 0 where
   pub on : WentOn w v
   pub grew : HasSeen w.seen v.seen
   pub good : StaysGood w v
-
--- ---- the journal grows
-
-grew-placed : (me : ℕ) (it : Call) (ended : Outcome) (earlier old new : List Entry) → IsPlaced me it ended earlier old new → HasSeen old new
-grew-placed me it ended earlier old new p =
-    let mine = entry.Call me p.nth p.stream it ended in
-    record { later = p.later ++ (mine ∷ earlier); grew = p.grew ∙ sym (append_assoc p.later (mine ∷ earlier) old) }
-
-pub grew-call : (u : Setup) (me : ℕ) (it : Call) (ended : Outcome) (old new : List Entry) → CallLeft u me it ended old new → HasSeen old new
-grew-call u me it (outcome.Done r) old new left = grew-placed me it (outcome.Done r) left.earlier old new left.placed
-grew-call u me it (outcome.Failed (error.JournalFull entries)) old new left = record { later = left.during; grew = left.grew }
-grew-call u me it (outcome.Failed error.NoMemory) old new left = record { later = left.during; grew = left.grew }
-grew-call u me it (outcome.Failed e) old new left =
-    let p = placed-of u me it (outcome.Failed e) old new left refl in
-    grew-placed me it (outcome.Failed e) p.0 old new p.1
-
-seen-then : (old between new : List Entry) → HasSeen old between → HasSeen between new → HasSeen old new
-seen-then old between new first second = record {
-  later = second.later ++ first.later;
-  grew = second.grew ∙ (ap (λ l. second.later ++ l) first.grew ∙ sym (append_assoc second.later first.later old));
-}
 
 -- ---- one pass of one run
 
@@ -103,7 +80,7 @@ gone-none w = record { on = record { same = refl }; grew = record { later = []; 
 pub gone-then : (w v x : Standing) → HasGone w v → HasGone v x → HasGone w x
 gone-then w v x first second = record {
   on = on-then w v x first.on second.on;
-  grew = seen-then w.seen v.seen x.seen first.grew second.grew;
+  grew = grew-then w.seen v.seen x.seen first.grew second.grew;
   good = λ good.
       let same = same-setup w v first.on in
       subst (λ (u : Setup). IsGood u x.seen) same (second.good (subst (λ (u : Setup). IsGood u v.seen) (sym same) (first.good good)));
@@ -149,39 +126,42 @@ gone-noncached w v file at answer was now ends =
 
 -- ---- a journal that is full
 
-full-here : (w v : Standing) (asked : ℕ) (e : CcError) → HasGone w v → asked ≤ 2 → IsFullError asked v e → WasFullError w v e
-full-here w v asked (error.JournalFull entries) gone most full =
+full-here : (w v : Standing) (asked : ℕ) (e : CcError) → HasGone w v → v.others ≤ v.most_others → asked ≤ 2 → IsFullError asked v e → WasFullError 2 w v e
+full-here w v asked (error.JournalFull entries) gone few most full =
     let capacity : v.setup.capacity ≡ w.setup.capacity = ap (λ (x : Standing). x.setup.capacity) gone.on.same in
     let flight : v.in_flight ≡ w.in_flight = ap (λ (x : Standing). x.in_flight) gone.on.same in
+    let bound : v.most_others ≡ w.most_others = ap (λ (x : Standing). x.most_others) gone.on.same in
     record {
       moment = v.seen;
       later = [];
       since = gone.grew.later;
       ends = refl;
       begins = gone.grew.grew;
-      holds = (v.others, (full.0, omega (arith, full.1, capacity, flight, most)));
+      holds = (v.others, omega (arith, few, bound), (full.0, omega (arith, full.1, capacity, flight, most)));
     }
-full-here w v asked other gone most full = tt
+full-here w v asked other gone few most full = tt
 
-pub full-now : {A : Type 0} (w v : Standing) (asked : ℕ) (answer : Result A CcError) → HasGone w v → asked ≤ 2 → IsFull asked v answer → WasFull w v answer
-full-now w v asked (Ok a) gone most full = tt
-full-now w v asked (Err e) gone most full = full-here w v asked e gone most full
+-- others had no more under way than they ever have
+pub full-now : {A : Type 0} (w v : Standing) (asked : ℕ) (answer : Result A CcError) → HasGone w v → v.others ≤ v.most_others → asked ≤ 2 → IsFull asked v answer → WasFull w v answer
+full-now w v asked (Ok a) gone few most full = tt
+full-now w v asked (Err e) gone few most full = full-here w v asked e gone few most full
 
-full-before : (w v x : Standing) (e : CcError) → HasGone w v → WasFullError v x e → WasFullError w x e
+full-before : (w v x : Standing) (e : CcError) → HasGone w v → WasFullError 2 v x e → WasFullError 2 w x e
 full-before w v x (error.JournalFull entries) gone full =
     let capacity : v.setup.capacity ≡ w.setup.capacity = ap (λ (y : Standing). y.setup.capacity) gone.on.same in
     let flight : v.in_flight ≡ w.in_flight = ap (λ (y : Standing). y.in_flight) gone.on.same in
+    let bound : v.most_others ≡ w.most_others = ap (λ (y : Standing). y.most_others) gone.on.same in
     record {
       moment = full.moment;
       later = full.later;
       since = full.since ++ gone.grew.later;
       ends = full.ends;
       begins = full.begins ∙ (ap (λ l. full.since ++ l) gone.grew.grew ∙ sym (append_assoc full.since gone.grew.later w.seen));
-      holds = (full.holds.0, (full.holds.1.0, omega (arith, full.holds.1.1, capacity, flight)));
+      holds = (full.holds.0, omega (arith, full.holds.1, bound), (full.holds.2.0, omega (arith, full.holds.2.1, capacity, flight)));
     }
 full-before w v x other gone full = tt
 
-full-after : (w v x : Standing) (e : CcError) → HasSeen v.seen x.seen → WasFullError w v e → WasFullError w x e
+full-after : (w v x : Standing) (e : CcError) → HasSeen v.seen x.seen → WasFullError 2 w v e → WasFullError 2 w x e
 full-after w v x (error.JournalFull entries) grew full = record {
   moment = full.moment;
   later = grew.later ++ full.later;

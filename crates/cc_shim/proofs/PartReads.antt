@@ -32,16 +32,16 @@ use Rattle.cc_shim.proofs.Lists.{map-split}
 
 module _ (w v : Standing) (path : HoldPath) (of_kind : HoldKind → Bool) (file : File) (r : Range) (most : most_room (path.make r) ≤ 2) where
   -- it could not be held
-  pub part-unmade : (e : CcError) (now : List ℕ) → MakingEnds w v of_kind file r.from (r.to - r.from) (path.make r) (Err e) → PartEnds w v path r (Err e) now now
-  part-unmade e now made =
+  pub part-unmade : (e : CcError) (now : List ℕ) → v.others ≤ v.most_others → MakingEnds w v of_kind file r.from (r.to - r.from) (path.make r) (Err e) → PartEnds w v path r (Err e) now now
+  part-unmade e now few made =
       let gone = gone-pages w v (path.make r) (outcome.Failed e) made.pages in
       ends-here w v (PartLeft w.setup w.number path r) (Err e) gone
-      (full-now {A = Held} w v (most_room (path.make r)) (Err e) gone most (full-within {A = Held} (path.make r) w v (Err e) made.full))
+      (full-now {A = Held} w v (most_room (path.make r)) (Err e) gone few most (full-within {A = Held} (path.make r) w v (Err e) made.full))
       (inl made.pages.left)
 
   -- it was held, read and let go
-  pub part-made : (x y : Standing) (held : Held) (answer : Result (Unit {0}) CcError) (was now : List ℕ) → MakingEnds w v of_kind file r.from (r.to - r.from) (path.make r) (Ok held) → HeldReadEnds v x of_kind held (path.look held.id r) answer was now → HoldEnded x y held → PartEnds w y path r answer was now
-  part-made x y held answer was now made read ended =
+  pub part-made : (x y : Standing) (held : Held) (answer : Result (Unit {0}) CcError) (was now : List ℕ) → MakingEnds w v of_kind file r.from (r.to - r.from) (path.make r) (Ok held) → x.others ≤ x.most_others → HeldReadEnds v x of_kind held (path.look held.id r) answer was now → HoldEnded x y held → PartEnds w y path r answer was now
+  part-made x y held answer was now made few read ended =
       let first = gone-pages w v (path.make r) (hold_outcome (Ok held)) made.pages in
       let second = gone-read v x of_kind held (path.look held.id r) answer was now read in
       let third = gone-ended x y held ended in
@@ -60,7 +60,7 @@ module _ (w v : Standing) (path : HoldPath) (of_kind : HoldKind → Bool) (file 
 
       by-full : (answer : Result (Unit {0}) CcError) → HeldReadEnds v x of_kind held (path.look held.id r) answer was now → WasFull v x (filled answer now)
       by-full (Ok done) read = tt
-      by-full (Err e) read = full-now {A = Unit {0}} v x 1 (Err e) (gone-read v x of_kind held (path.look held.id r) (Err e) was now read) (omega arith) read.full
+      by-full (Err e) read = full-now {A = Unit {0}} v x 1 (Err e) (gone-read v x of_kind held (path.look held.id r) (Err e) was now read) few (omega arith) read.full
 
       whole : (answer : Result (Unit {0}) CcError) → ((between : List Entry) × CallLeft w.setup w.number (path.look held.id r) (filled_outcome answer now) v.seen between × CallLeft w.setup w.number (call.EndHold held.id) (outcome.Done reply.Unit) between y.seen) → PartLeft w.setup w.number path r (filled answer now) w.seen y.seen
       whole (Ok done) left = (held.id, v.seen, left.0, made.pages.left, left.1, left.2)

@@ -1,5 +1,5 @@
 -- An update: what its calls leave under its pin, put together, and its pin, which they leave open.
-use Rattle.std.specs.Prelude.{◌≡◌, ℕ, ◌+◌, ◌<◌, ◌≤◌, ◌^◌, true, List, [], ◌∷◌, length, Result, Ok, Err, refl}
+use Rattle.std.specs.Prelude.{◌≡◌, ℕ, ◌+◌, ◌<◌, ◌≤◌, ◌^◌, true, List, [], ◌∷◌, length, Result, Ok, Err, OnErr, refl}
 use Rattle.std.specs.declared.option.Option.{Option}
 use Rattle.std.specs.declared.option.Option.TheVariants.{Some, None}
 use Rattle.std.proofs.Common.{sym, subst, inl, inr, arith}
@@ -76,31 +76,31 @@ module _ (w v : Standing) (pin : Held) (at : ℕ) (bytes : List ℕ) (lsn : ℕ)
   Recorded answered old new = RecordedLeft w.setup w.number pin.id at bytes lsn answered old new
 
   -- the write was refused
-  pub unwritten : (e : CcError) → UseEnds w v is_pin pin writing (Err e) → PinnedEnds w v pin Recorded (Err e)
-  unwritten e ends =
+  pub unwritten : (e : CcError) → v.others ≤ v.most_others → UseEnds w v is_pin pin writing (Err e) → PinnedEnds w v pin Recorded (Err e)
+  unwritten e few ends =
       let gone = gone-ends outcome_of w v writing (Err e) ends.call_ends in
       record {
-        ends = ends-here w v Recorded (Err e) gone (full-now {A = Unit {0}} w v 2 (Err e) gone (omega arith) ends.call_ends.full) (inl ends.call_ends.left);
+        ends = ends-here w v Recorded (Err e) gone (full-now {A = Unit {0}} w v 2 (Err e) gone few (omega arith) ends.call_ends.full) (inl ends.call_ends.left);
         holding = ends.holding;
       }
 
   -- it was done, and the pin set dirty, or not
-  pub stamped : (x : Standing) (answer : Result (Unit {0}) CcError) → UseEnds w v is_pin pin writing (Ok tt) → SetDirtyEnds v x pin (Some lsn) answer → PinnedEnds w x pin Recorded (stamped_with lsn answer)
-  stamped x answer wrote stamps =
+  pub stamped : (x : Standing) (answer : Result (Unit {0}) CcError) → OnErr answer (x.others ≤ x.most_others) → UseEnds w v is_pin pin writing (Ok tt) → SetDirtyEnds v x pin (Some lsn) answer → PinnedEnds w x pin Recorded (stamped_with lsn answer)
+  stamped x answer few wrote stamps =
       let first = gone-ends outcome_of w v writing (Ok tt) wrote.call_ends in
       let second = gone-ends outcome_of v x stamping answer stamps.use_ends.call_ends in
       let last = moved w v first.on (λ u me. CallLeft u me stamping (outcome_of answer) v.seen x.seen) stamps.use_ends.call_ends.left in
       record {
         ends =
             ends-after w v x Recorded (λ told old new. CallLeft v.setup v.number stamping (outcome_of answer) old new) (stamped_with lsn answer) first
-            (ends-here v x (λ told old new. CallLeft v.setup v.number stamping (outcome_of answer) old new) (stamped_with lsn answer) second (by-full answer second stamps.use_ends.call_ends.full) stamps.use_ends.call_ends.left)
+            (ends-here v x (λ told old new. CallLeft v.setup v.number stamping (outcome_of answer) old new) (stamped_with lsn answer) second (by-full answer few second stamps.use_ends.call_ends.full) stamps.use_ends.call_ends.left)
             (λ left. whole answer (done-then w.setup w.number writing (stamping ∷ []) answer w.seen v.seen x.seen wrote.call_ends.left (last-call w.setup w.number stamping answer v.seen x.seen last)));
         holding = stamps.use_ends.holding;
       }
     where
-      by-full : (answer : Result (Unit {0}) CcError) → HasGone v x → IsFull 1 x answer → WasFull v x (stamped_with lsn answer)
-      by-full (Ok done) gone full = tt
-      by-full (Err e) gone full = full-now {A = Unit {0}} v x 1 (Err e) gone (omega arith) full
+      by-full : (answer : Result (Unit {0}) CcError) → OnErr answer (x.others ≤ x.most_others) → HasGone v x → IsFull 1 x answer → WasFull v x (stamped_with lsn answer)
+      by-full (Ok done) few gone full = tt
+      by-full (Err e) few gone full = full-now {A = Unit {0}} v x 1 (Err e) gone few (omega arith) full
 
       whole : (answer : Result (Unit {0}) CcError) → CallsLeft w.setup w.number (writing ∷ stamping ∷ []) answer w.seen x.seen → Recorded (stamped_with lsn answer) w.seen x.seen
       whole (Ok done) left = (refl, left)
@@ -130,11 +130,11 @@ module _ (w : Standing) (file : File) (pin : Held) (at : ℕ) (bytes : List ℕ)
         (append-unchanged w.setup w.number pin.id handle (update_record file at bytes) answer w.seen v.seen ends.left) (ends.good good) holding
 
   -- the append was refused
-  pub unappended : (v : Standing) (e : CcError) → IsGood w.setup w.seen → IsHolding w is_pin pin → LogEnds w v Appended (Err e) → PinnedEnds w v pin Logged (Err e)
-  unappended v e good holding ends =
+  pub unappended : (v : Standing) (e : CcError) → v.others ≤ v.most_others → IsGood w.setup w.seen → IsHolding w is_pin pin → LogEnds w v Appended (Err e) → PinnedEnds w v pin Logged (Err e)
+  unappended v e few good holding ends =
       let gone = gone-append w v handle (update_record file at bytes) (Err e) ends in
       record {
-        ends = ends-here w v Logged (Err e) gone (full-now {A = ℕ} w v 1 (Err e) gone (omega arith) ends.full) (inl (e, refl, ends.left));
+        ends = ends-here w v Logged (Err e) gone (full-now {A = ℕ} w v 1 (Err e) gone few (omega arith) ends.full) (inl (e, refl, ends.left));
         holding = still-appended v (Err e) good holding ends;
       }
 
@@ -161,11 +161,11 @@ module _ (w v : Standing) (file : File) (pin : Held) (at : ℕ) (bytes : List �
       (unchanged-call w.setup w.number pin.id (call.State file) (state_outcome answer) w.seen v.seen ends.left refl) good holding
 
   -- the state was not told
-  pub untold : (e : CcError) → CallEnds state_outcome w v (call.State file) (Err e) → PinnedEnds w v pin Pinned (Err e)
-  untold e ends =
+  pub untold : (e : CcError) → v.others ≤ v.most_others → CallEnds state_outcome w v (call.State file) (Err e) → PinnedEnds w v pin Pinned (Err e)
+  untold e few ends =
       let gone = gone-ends state_outcome w v (call.State file) (Err e) ends in
       record {
-        ends = ends-here w v Pinned (Err e) gone (full-now {A = FileState} w v 1 (Err e) gone (omega arith) ends.full) (inl (e, refl, ends.left));
+        ends = ends-here w v Pinned (Err e) gone (full-now {A = FileState} w v 1 (Err e) gone few (omega arith) ends.full) (inl (e, refl, ends.left));
         holding = still-told (Err e) ends;
       }
 
@@ -232,11 +232,11 @@ module _ (w v : Standing) (file : File) (at : ℕ) (bytes : List ℕ) where
   pinning = call.PinRead file at (length bytes) true
 
   -- it was not pinned
-  pub unpinned : (e : CcError) → MakingEnds w v is_pin file at (length bytes) pinning (Err e) → ListEnds w v Updated (Err e)
-  unpinned e made =
+  pub unpinned : (e : CcError) → v.others ≤ v.most_others → MakingEnds w v is_pin file at (length bytes) pinning (Err e) → ListEnds w v Updated (Err e)
+  unpinned e few made =
       let gone = gone-pages w v pinning (outcome.Failed e) made.pages in
       ends-here w v Updated (Err e) gone
-      (full-now {A = Held} w v (most_room pinning) (Err e) gone two-asked (full-within {A = Held} pinning w v (Err e) made.full))
+      (full-now {A = Held} w v (most_room pinning) (Err e) gone few two-asked (full-within {A = Held} pinning w v (Err e) made.full))
       (inl (e, refl, made.pages.left))
 
   module _ (pin : Held) (made : MakingEnds w v is_pin file at (length bytes) pinning (Ok pin)) where

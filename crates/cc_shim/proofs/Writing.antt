@@ -40,21 +40,21 @@ first-ends w v calls rest e ends = record { left = ends.left rest; full = ends.f
 -- ---- the calls of a write
 
 -- the last call of a list, which changes bytes
-pub change-last : (w v : Standing) (it : Call) (answered : Result (Unit {0}) CcError) → most_room it ≤ 2 → ChangeEnds w v it answered → ListEnds w v (CallsLeft w.setup w.number (it ∷ [])) answered
-change-last w v it answered most ends =
+pub change-last : (w v : Standing) (it : Call) (answered : Result (Unit {0}) CcError) → most_room it ≤ 2 → v.others ≤ v.most_others → ChangeEnds w v it answered → ListEnds w v (CallsLeft w.setup w.number (it ∷ [])) answered
+change-last w v it answered most few ends =
     let gone = gone-pages w v it (outcome_of answered) ends.pages in
     ends-here w v (CallsLeft w.setup w.number (it ∷ [])) answered gone
-    (full-now w v (most_room it) answered gone most (full-within {A = Unit {0}} it w v answered ends.full))
+    (full-now w v (most_room it) answered gone few most (full-within {A = Unit {0}} it w v answered ends.full))
     (last-call w.setup w.number it answered w.seen v.seen ends.pages.left)
 
 -- the size is set where the end of the bytes is past it
-pub extended : (w v : Standing) (file : File) (state : FileState) (end : ℕ) (answered : Result (Unit {0}) CcError) → state.sizes.size < end → CallSets w v (call.SetSizes file (max end state.sizes.allocation) end) answered → ListEnds w v (FirstLeft w.setup w.number (extensions file state end)) answered
-extended w v file state end answered past ends =
+pub extended : (w v : Standing) (file : File) (state : FileState) (end : ℕ) (answered : Result (Unit {0}) CcError) → state.sizes.size < end → v.others ≤ v.most_others → CallSets w v (call.SetSizes file (max end state.sizes.allocation) end) answered → ListEnds w v (FirstLeft w.setup w.number (extensions file state end)) answered
+extended w v file state end answered past few ends =
     let it = call.SetSizes file (max end state.sizes.allocation) end in
     let gone = gone-ends outcome_of w v it answered ends in
     rw (lt-ltb state.sizes.size end past)
     (ends-here w v (FirstLeft w.setup w.number (it ∷ [])) answered gone
-    (full-now w v 1 answered gone (omega arith) ends.full)
+    (full-now w v 1 answered gone few (omega arith) ends.full)
     (first-call w.setup w.number it answered w.seen v.seen ends.left))
 
 pub not-extended : (w : Standing) (file : File) (state : FileState) (end : ℕ) → end ≤ state.sizes.size → ListEnds w w (FirstLeft w.setup w.number (extensions file state end)) (Ok tt)
@@ -101,12 +101,12 @@ module _ (w v x : Standing) (file : File) (from to k : ℕ) (was : HasZeroed w v
   }
 
   -- one that was refused ends it
-  pub zeroed-refused : (e : CcError) → k < ((to - from) + 1048575) / 1048576 → ChangeEnds v x (call.Zero file span) (Err e) → ListEnds w x (FirstLeft w.setup w.number (zeroings file from to)) (Err e)
-  zeroed-refused e below change =
+  pub zeroed-refused : (e : CcError) → k < ((to - from) + 1048575) / 1048576 → x.others ≤ x.most_others → ChangeEnds v x (call.Zero file span) (Err e) → ListEnds w x (FirstLeft w.setup w.number (zeroings file from to)) (Err e)
+  zeroed-refused e below few change =
       let gone = gone-pages v x (call.Zero file span) (outcome.Failed e) change.pages in
       ends-after w v x (FirstLeft w.setup w.number (zeroings file from to)) (λ answered old new. CallLeft w.setup w.number (zeroing file from to k) (outcome_of answered) old new) (Err e) was.gone
       (ends-here v x (λ answered old new. CallLeft w.setup w.number (zeroing file from to k) (outcome_of answered) old new) (Err e) gone
-      (full-now {A = Unit {0}} v x (most_room (call.Zero file span)) (Err e) gone one-asked (full-within {A = Unit {0}} (call.Zero file span) v x (Err e) change.full))
+      (full-now {A = Unit {0}} v x (most_room (call.Zero file span)) (Err e) gone few one-asked (full-within {A = Unit {0}} (call.Zero file span) v x (Err e) change.full))
       (left-of (Err e) change))
       (λ left.
       let split = map-split (zeroing file from to) 0 k (((to - from) + 1048575) / 1048576) below in
@@ -150,12 +150,12 @@ module _ (w : Standing) (file : File) (at : ℕ) (bytes : List ℕ) (state : Fil
         (first-rest w v x (extensions file state (at + length bytes)) extended (zeros ++ copy ∷ []) (Err e)
         (first-ends v x zeros (copy ∷ []) e ends))
 
-    pub write-copied : (x y : Standing) (answered : Result (Unit {0}) CcError) → ListEnds v x (FirstLeft v.setup v.number zeros) (Ok tt) → ChangeEnds x y copy answered → ListEnds w y (ToldWriteLeft w.setup w.number file at bytes state) answered
-    write-copied x y answered zeroed copied =
+    pub write-copied : (x y : Standing) (answered : Result (Unit {0}) CcError) → ListEnds v x (FirstLeft v.setup v.number zeros) (Ok tt) → y.others ≤ y.most_others → ChangeEnds x y copy answered → ListEnds w y (ToldWriteLeft w.setup w.number file at bytes state) answered
+    write-copied x y answered zeroed few copied =
         told y answered
         (first-rest w v y (extensions file state (at + length bytes)) extended (zeros ++ copy ∷ []) answered
         (first-rest v x y zeros zeroed (copy ∷ []) answered
-        (change-last x y copy answered one-asked copied)))
+        (change-last x y copy answered one-asked few copied)))
 
 -- a gap that is too long
 pub write-too_far : (w : Standing) (file : File) (at : ℕ) (bytes : List ℕ) (state : FileState) → state.sizes.valid + 67108864 < at → ListEnds w w (ToldWriteLeft w.setup w.number file at bytes state) (Err (error.GapTooLong 67108864))
@@ -176,11 +176,11 @@ module _ (w v : Standing) (file : File) (at : ℕ) (bytes : List ℕ) (short : l
       (λ left. rw (le-ltb 1048576 (length bytes) short) left) ends
 
   -- the state was not told
-  pub write-untold : (e : CcError) → CallEnds state_outcome w v (call.State file) (Err e) → ListEnds w v (WriteLeft w.setup w.number file at bytes) (Err e)
-  write-untold e ends =
+  pub write-untold : (e : CcError) → v.others ≤ v.most_others → CallEnds state_outcome w v (call.State file) (Err e) → ListEnds w v (WriteLeft w.setup w.number file at bytes) (Err e)
+  write-untold e few ends =
       let gone = gone-ends state_outcome w v (call.State file) (Err e) ends in
       as-short v (Err e)
-      (ends-here w v (ShortWriteLeft w.setup w.number file at bytes) (Err e) gone (full-now {A = FileState} w v 1 (Err e) gone (omega arith) ends.full)
+      (ends-here w v (ShortWriteLeft w.setup w.number file at bytes) (Err e) gone (full-now {A = FileState} w v 1 (Err e) gone few (omega arith) ends.full)
       (inl (e, refl, ends.left)))
 
   -- it was, and the write went on

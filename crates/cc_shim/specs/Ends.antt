@@ -1,5 +1,5 @@
 -- What a list of calls leaves.
-use Rattle.std.specs.Prelude.{ℕ, true, nat_lt, List, ◌++◌, length, Result, Ok, Err}
+use Rattle.std.specs.Prelude.{ℕ, ◌≤◌, true, nat_lt, List, ◌++◌, length, Result, Ok, Err}
 use Rattle.cc_entry.specs.Place.{File}
 use Rattle.cc_entry.specs.Kinds.{is_pin}
 use Rattle.cc_entry.specs.declared.call.Call.{Call}
@@ -20,19 +20,21 @@ use Rattle.cc_calls.specs.Pages.{StaysGood, WentOn}
 use Rattle.cc_calls.specs.declared.held.Held.{Held}
 use Rattle.cc_pieces.specs.Shim.{CallsLeft, WriteTested}
 
--- Where a list of calls answers that the journal is full, it was so at one of its moments: it had so many entries, and no room
--- for two more beside what was owed and under way, which is the most that one of the calls asks.
-abbrev pub WasFullError : Standing → Standing → CcError → Type 0
-WasFullError old new (error.JournalFull entries) =
+-- Where it is answered that the journal is full, it was so at a moment: it had so many entries, and no room for so many more
+-- beside what was owed and under way, of which others had no more than they ever have.
+abbrev pub WasFullError : ℕ → Standing → Standing → CcError → Type 0
+WasFullError asked old new (error.JournalFull entries) =
     AtSome
-    (λ moment. (others : ℕ) × IsFullError 2 (record old { seen = moment; others = others }) (error.JournalFull entries))
+    (λ moment. (others : ℕ) × (others ≤ old.most_others)
+    × IsFullError asked (record old { seen = moment; others = others }) (error.JournalFull entries))
     old.seen
     new.seen
-WasFullError old new other = Unit {0}
+WasFullError asked old new other = Unit {0}
 
+-- So of a list of calls, of which each asks two places at most.
 abbrev pub WasFull : {A : Type 0} → Standing → Standing → Result A CcError → Type 0
 WasFull old new (Ok a) = Unit {0}
-WasFull old new (Err e) = WasFullError old new e
+WasFull old new (Err e) = WasFullError 2 old new e
 
 -- A list of calls was answered so: it left what explains the answer, a journal that is told to be full was full, the pass
 -- goes on as it stood and may call again, what it had seen stands, and what it has seen stays good.

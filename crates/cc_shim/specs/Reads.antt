@@ -9,22 +9,13 @@ use Rattle.cc_model.specs.Ranges.{cut_range}
 use Rattle.cc_model.specs.Setup.{Setup}
 use Rattle.cc_effects.specs.Moments.{Between}
 use Rattle.cc_ranges.specs.declared.error.NcError.{NcError}
+use Rattle.cc_script.specs.declared.script.ReadPath.{ReadPath}
+use Rattle.cc_script.specs.declared.script.ReadPath.TheVariants as read_path
 use Rattle.cc_turns.specs.Standing.{Standing}
-use Rattle.cc_pieces.specs.Shim.{HeldPartsLeft, HoldPath, PartRead, PartRefused, PartsLeft, ReadPath, ReadTested, descriptor_path, mapped_path, misaligned_for, parts_of, pinned_path, too_long_for, whole_part}
-use Rattle.cc_pieces.specs.Shim as shim
+use Rattle.cc_pieces.specs.Shim.{HeldPartsLeft, HoldPath, PartRead, PartRefused, PartsLeft, ReadTested, descriptor_path, mapped_path, misaligned_for, parts_of, pinned_path, too_long_for, whole_part}
 use Rattle.cc_shim.specs.Ends.{ListEnds}
 use Rattle.cc_shim.specs.declared.parts.By.{By}
 use Rattle.cc_shim.specs.declared.parts.By.TheVariants as way
-use Rattle.cc_shim.specs.declared.reads.Path.{Path}
-use Rattle.cc_shim.specs.declared.reads.Path.TheVariants as asked
-
--- the path of a read, in the words of what it leaves
-abbrev pub path_of : Path → ReadPath
-path_of asked.Cached = shim.Cached
-path_of asked.Mapped = shim.Mapped
-path_of asked.Pinned = shim.Pinned
-path_of asked.Descriptor = shim.Descriptor
-path_of asked.Noncached = shim.Noncached
 
 -- the first of two refusals
 abbrev pub first_of : Option CcError → Option CcError → Option CcError
@@ -38,9 +29,9 @@ held_by way.Pin file = pinned_path file
 held_by way.Chain file = descriptor_path file
 
 abbrev pub path_by : By → ReadPath
-path_by way.Map = shim.Mapped
-path_by way.Pin = shim.Pinned
-path_by way.Chain = shim.Descriptor
+path_by way.Map = read_path.Mapped
+path_by way.Pin = read_path.Pinned
+path_by way.Chain = read_path.Descriptor
 
 abbrev pub parts_by : By → Range → List Range
 parts_by way.Map r = parts_of r
@@ -98,7 +89,7 @@ ReadLeft u me file path at len answered old new =
     ReadTested u me file path at len (too_long_for path len) (misaligned_for path at len) answered old new
 
 -- A read by a path into so many bytes was answered so, and what was handed in is as it was behind the answer.
-pub record PathReadEnds (old new : Standing) (file : File) (path : Path) (at : ℕ) (answer : Result ℕ CcError) (was now : List ℕ)
+pub record PathReadEnds (old new : Standing) (file : File) (path : ReadPath) (at : ℕ) (answer : Result ℕ CcError) (was now : List ℕ)
     : Type 0 where
-  pub ends : ListEnds old new (ReadLeft old.setup old.number file (path_of path) at (length was)) (read_in answer now)
+  pub ends : ListEnds old new (ReadLeft old.setup old.number file path at (length was)) (read_in answer now)
   pub rest : KeepsBehind answer was now

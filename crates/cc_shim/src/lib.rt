@@ -9,7 +9,7 @@
 //! `parts` holds, reads and lets go the parts of a range, one for each view block, or the whole range as a descriptor
 //! chain. `writes` extends a stream, zeroes the gap behind its valid data length and copies the bytes. `updates` writes
 //! pinned bytes behind a record of them in the stream's log, `record` makes that record. Below are the calls
-//! (`cc_calls`, `cc_ranges`); the lines of a script will stand above.
+//! (`cc_calls`, `cc_ranges`); the lines of a script that make these calls stand above (`cc_lines`).
 #![tactic(auto)]
 
 mod parts;
@@ -19,7 +19,7 @@ mod updates;
 mod volume;
 mod writes;
 
-pub use reads::{Path, read};
+pub use reads::read;
 pub use updates::update;
 pub use volume::Volume;
 pub use writes::write;

@@ -129,10 +129,14 @@ fn read_mapped<T: Turns>(
     match map_data(alloc, turns, file, from, len) {
         Ok(map) => {
             let answer = mapped_read(alloc, turns, &map, from, out);
+            turns.note_others();
             unmap(alloc, turns, map);
             answer
         }
-        Err(error) => Err(error),
+        Err(error) => {
+            turns.note_others();
+            Err(error)
+        }
     }
 }
 
@@ -153,10 +157,14 @@ fn read_pinned<T: Turns>(
     match pin_read(alloc, turns, file, from, len, false) {
         Ok(pin) => {
             let answer = pinned_read(alloc, turns, &pin, from, out);
+            turns.note_others();
             unpin(alloc, turns, pin);
             answer
         }
-        Err(error) => Err(error),
+        Err(error) => {
+            turns.note_others();
+            Err(error)
+        }
     }
 }
 
@@ -177,9 +185,13 @@ fn read_chain<T: Turns>(
     match mdl_read(alloc, turns, file, from, len) {
         Ok(chain) => {
             let answer = mdl_bytes(alloc, turns, &chain, from, out);
+            turns.note_others();
             mdl_read_complete(alloc, turns, chain);
             answer
         }
-        Err(error) => Err(error),
+        Err(error) => {
+            turns.note_others();
+            Err(error)
+        }
     }
 }

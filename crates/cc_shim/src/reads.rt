@@ -2,13 +2,15 @@
 
 ghost use Rattle.std.specs.Prelude.{◌≡◌, ◌<◌, ◌^◌, None, length};
 ghost use Rattle.cc_calls.specs.Answers.{CanCall};
-ghost use Rattle.cc_pieces.specs.Shim.{Noncached, misaligned_for, too_long_for};
-ghost use Rattle.cc_shim.specs.Reads.{BelowSizeEnds, PathReadEnds, ToldSizeEnds, first_of, path_of};
+ghost use Rattle.cc_pieces.specs.Shim.{misaligned_for, too_long_for};
+ghost use Rattle.cc_script.specs.declared.script.ReadPath.TheVariants.{Noncached};
+ghost use Rattle.cc_shim.specs.Reads.{BelowSizeEnds, PathReadEnds, ToldSizeEnds, first_of};
 
 use crate::parts::{By, read_parts};
 use cc_calls::{copy_read, file_state};
 use cc_entry::{CcError, FileId, FileState, Span};
 use cc_ranges::noncached_read;
+use cc_script::ReadPath;
 use cc_turns::Turns;
 use std::alloc::Global;
 
@@ -20,21 +22,6 @@ const MOST_NONCACHED: usize = 65536;
 
 /// The bytes of a page.
 const PAGE: usize = 4096;
-
-/// How a read goes.
-#[derive(Clone, Copy, Debug, PartialEq, Eq)]
-pub enum Path {
-    /// The bytes are copied out of the cache (`CcCopyRead`).
-    Cached,
-    /// Each view block of the range is mapped and read (`CcMapData`).
-    Mapped,
-    /// Each view block of the range is pinned, shared, and read (`CcPinRead`).
-    Pinned,
-    /// The range is read as one descriptor chain (`CcMdlRead`).
-    Descriptor,
-    /// Whole pages, without intermediate buffering.
-    Noncached,
-}
 
 /// Reads bytes of a stream from a place on into the front of `out`, as far as they go below the size, and answers how many
 /// they are. At most 1 MiB; on the noncached path at most 64 KiB, with place and length multiples of 4096. In Windows it is
@@ -52,7 +39,7 @@ pub fn read<T: Turns>(
     alloc: Global,
     turns: &mut T,
     file: FileId,
-    path: Path,
+    path: ReadPath,
     at: u64,
     out: &mut [u8],
 ) -> Result<usize, CcError>
@@ -70,32 +57,39 @@ fn read_along<T: Turns>(
     alloc: Global,
     turns: &mut T,
     file: FileId,
-    path: Path,
+    path: ReadPath,
     at: u64,
     out: &mut [u8],
 ) -> Result<usize, CcError>
     requires can { CanCall (T.standing turns.old) file.stream }
-    requires fine { first_of (too_long_for (path_of path) (length out.old)) (misaligned_for (path_of path) at (length out.old)) ≡ None }
+    requires fine { first_of (too_long_for path (length out.old)) (misaligned_for path at (length out.old)) ≡ None }
     ensures ends { PathReadEnds (T.standing turns.old) (T.standing turns.new) file path at result out.old out.new }
 {
     match path {
-        Path::Cached => copy_read(alloc, turns, file, at, true, out),
-        Path::Mapped => read_below_size(alloc, turns, file, By::Map, at, out),
-        Path::Pinned => read_below_size(alloc, turns, file, By::Pin, at, out),
-        Path::Descriptor => read_below_size(alloc, turns, file, By::Chain, at, out),
-        Path::Noncached => match noncached_read(alloc, turns, file, at, out) {
+        ReadPath::Cached => {
+            let answer = copy_read(alloc, turns, file, at, true, out);
+            turns.note_others();
+            answer
+        }
+        ReadPath::Mapped => read_below_size(alloc, turns, file, By::Map, at, out),
+        ReadPath::Pinned => read_below_size(alloc, turns, file, By::Pin, at, out),
+        ReadPath::Descriptor => read_below_size(alloc, turns, file, By::Chain, at, out),
+        ReadPath::Noncached => match noncached_read(alloc, turns, file, at, out) {
             Ok(count) => Ok(count),
-            Err(failed) => Err(failed.cause),
+            Err(failed) => {
+                turns.note_others();
+                Err(failed.cause)
+            }
         },
     }
 }
 
 // Why a place and a length are refused before the first call.
-fn refusal_of(path: Path, at: u64, len: usize) -> Option<CcError>
-    ensures { result ≡ first_of (too_long_for (path_of path) len) (misaligned_for (path_of path) at len) }
+fn refusal_of(path: ReadPath, at: u64, len: usize) -> Option<CcError>
+    ensures { result ≡ first_of (too_long_for path len) (misaligned_for path at len) }
 {
     match path {
-        Path::Noncached => noncached_refusal(at, len),
+        ReadPath::Noncached => noncached_refusal(at, len),
         _ => {
             if len > MOST {
                 Some(CcError::TooLong { limit: MOST as u64 })
@@ -135,7 +129,10 @@ fn read_below_size<T: Turns>(
 {
     match file_state(alloc, turns, file) {
         Ok(state) => read_below(alloc, turns, file, by, at, out, &state),
-        Err(error) => Err(error),
+        Err(error) => {
+            turns.note_others();
+            Err(error)
+        }
     }
 }
 

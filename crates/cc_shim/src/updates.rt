@@ -48,7 +48,10 @@ pub fn update<T: Turns>(
             unpin(alloc, turns, pin);
             answer
         }
-        Err(error) => Err(error),
+        Err(error) => {
+            turns.note_others();
+            Err(error)
+        }
     }
 }
 
@@ -79,7 +82,10 @@ fn update_pinned<T: Turns>(
             }
             None => Err(CcError::NoLog { handle: NO_HANDLE }),
         },
-        Err(error) => Err(error),
+        Err(error) => {
+            turns.note_others();
+            Err(error)
+        }
     }
 }
 
@@ -126,7 +132,10 @@ fn update_recorded<T: Turns>(
 {
     match log_append(alloc, turns, handle, spelled) {
         Ok(lsn) => write_stamped(alloc, turns, pin, at, piece, lsn),
-        Err(error) => Err(error),
+        Err(error) => {
+            turns.note_others();
+            Err(error)
+        }
     }
 }
 
@@ -145,7 +154,17 @@ fn write_stamped<T: Turns>(
     ensures ends { PinnedEnds (T.standing turns.old) (T.standing turns.new) pin.now
         (RecordedLeft (T.standing turns.old).setup (T.standing turns.old).number pin.now.id at piece.now lsn) result }
 {
-    pinned_write(alloc, turns, pin, at, piece)?;
-    set_dirty(alloc, turns, pin, Some(lsn))?;
-    Ok(lsn)
+    match pinned_write(alloc, turns, pin, at, piece) {
+        Ok(()) => match set_dirty(alloc, turns, pin, Some(lsn)) {
+            Ok(()) => Ok(lsn),
+            Err(error) => {
+                turns.note_others();
+                Err(error)
+            }
+        },
+        Err(error) => {
+            turns.note_others();
+            Err(error)
+        }
+    }
 }

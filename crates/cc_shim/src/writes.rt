@@ -43,7 +43,10 @@ pub fn write<T: Turns>(
     }
     match file_state(alloc, turns, file) {
         Ok(state) => write_told(alloc, turns, file, at, piece, &state),
-        Err(error) => Err(error),
+        Err(error) => {
+            turns.note_others();
+            Err(error)
+        }
     }
 }
 
@@ -68,7 +71,9 @@ fn write_told<T: Turns>(
     }
     extend(alloc, turns, file, at + piece.len() as u64, state)?;
     zero_gap(alloc, turns, file, valid, at)?;
-    copy_write(alloc, turns, file, at, piece)
+    let answer = copy_write(alloc, turns, file, at, piece);
+    turns.note_others();
+    answer
 }
 
 // Extends a stream of this state to an end that is past its size.
@@ -84,7 +89,9 @@ fn extend<T: Turns>(
         (FirstLeft (T.standing turns.old).setup (T.standing turns.old).number (extensions file state.now end)) result }
 {
     if end > state.sizes.size {
-        set_file_sizes(alloc, turns, file, end.max(state.sizes.allocation), end)
+        let answer = set_file_sizes(alloc, turns, file, end.max(state.sizes.allocation), end);
+        turns.note_others();
+        answer
     } else {
         Ok(())
     }
@@ -108,7 +115,13 @@ fn zero_gap<T: Turns>(
     for k in 0..pieces {
         let start = from + PIECE * k;
         let span = Span::new(start, to.min(start + PIECE)).unwrap();
-        zero_data(alloc, turns, file, span)?;
+        match zero_data(alloc, turns, file, span) {
+            Ok(()) => (),
+            Err(error) => {
+                turns.note_others();
+                return Err(error);
+            }
+        }
     }
     Ok(())
 }

@@ -13,6 +13,7 @@ returns-in-Ok g c =
       ends =
           part-made w v (descriptor_path c.args.file) is_read_chain c.args.file c.args.part two-asked (g.T.Turns.standing c.mdl_bytes-answer.new.turns) (g.T.Turns.standing c.mdl_read_complete.new.turns) c.in-Ok.chain c.mdl_bytes-answer.result c.args.out.now c.mdl_bytes-answer.new.out
           (rw (c.from-from.ensures.same, c.to.ensures.same) at c.in-Ok.ensures.ends)
+          c.note_others.ensures.few
           (rw (c.from-from.ensures.same, c.requires.fits) at c.mdl_bytes-answer.ensures.ends)
           c.mdl_read_complete.ensures.ends;
     }
@@ -21,4 +22,4 @@ pub returns-in-Err : goal.returns-in-Err
 returns-in-Err g c =
     let w = g.T.Turns.standing c.args.turns.now in
     let v = g.T.Turns.standing c.mdl_read.new.turns in
-    record { ends = part-unmade w v (descriptor_path c.args.file) is_read_chain c.args.file c.args.part two-asked c.in-Err.error c.args.out.now (rw (c.from-from.ensures.same, c.to.ensures.same) at c.in-Err.ensures.ends) }
+    record { ends = part-unmade w v (descriptor_path c.args.file) is_read_chain c.args.file c.args.part two-asked c.in-Err.error c.args.out.now c.note_others-in-Err.ensures.few (rw (c.from-from.ensures.same, c.to.ensures.same) at c.in-Err.ensures.ends) }

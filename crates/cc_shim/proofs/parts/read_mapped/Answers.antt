@@ -13,6 +13,7 @@ returns-in-Ok g c =
       ends =
           part-made w v (mapped_path c.args.file) is_map c.args.file c.args.part two-asked (g.T.Turns.standing c.mapped_read-answer.new.turns) (g.T.Turns.standing c.unmap.new.turns) c.in-Ok.map c.mapped_read-answer.result c.args.out.now c.mapped_read-answer.new.out
           (rw (c.from-from.ensures.same, c.to.ensures.same) at c.in-Ok.ensures.ends)
+          c.note_others.ensures.few
           (rw (c.from-from.ensures.same, c.requires.fits) at c.mapped_read-answer.ensures.ends)
           c.unmap.ensures.ends;
     }
@@ -21,4 +22,4 @@ pub returns-in-Err : goal.returns-in-Err
 returns-in-Err g c =
     let w = g.T.Turns.standing c.args.turns.now in
     let v = g.T.Turns.standing c.map_data.new.turns in
-    record { ends = part-unmade w v (mapped_path c.args.file) is_map c.args.file c.args.part two-asked c.in-Err.error c.args.out.now (rw (c.from-from.ensures.same, c.to.ensures.same) at c.in-Err.ensures.ends) }
+    record { ends = part-unmade w v (mapped_path c.args.file) is_map c.args.file c.args.part two-asked c.in-Err.error c.args.out.now c.note_others-in-Err.ensures.few (rw (c.from-from.ensures.same, c.to.ensures.same) at c.in-Err.ensures.ends) }

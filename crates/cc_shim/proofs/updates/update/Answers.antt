@@ -12,4 +12,4 @@ pub returns-in-Err : goal.returns-in-Err
 returns-in-Err g c =
     let w = g.T.Turns.standing c.args.turns.now in
     let v = g.T.Turns.standing c.pin_read.new.turns in
-    record { ends = unpinned w v c.args.file c.args.at c.args.piece.now c.in-Err.error c.in-Err.ensures.ends }
+    record { ends = unpinned w v c.args.file c.args.at c.args.piece.now c.in-Err.error c.note_others.ensures.few c.in-Err.ensures.ends }

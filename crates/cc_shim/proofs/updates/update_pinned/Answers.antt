@@ -36,4 +36,4 @@ pub returns-in-Err : goal.returns-in-Err
 returns-in-Err g c =
     let w = g.T.Turns.standing c.args.turns.now in
     let v = g.T.Turns.standing c.file_state.new.turns in
-    record { ends = untold w v c.args.file c.args.pin.now c.args.at c.args.piece.now c.requires.holding c.file_state.ensures.good c.in-Err.error c.in-Err.ensures.ends }
+    record { ends = untold w v c.args.file c.args.pin.now c.args.at c.args.piece.now c.requires.holding c.file_state.ensures.good c.in-Err.error c.note_others.ensures.few c.in-Err.ensures.ends }

@@ -19,4 +19,4 @@ pub returns-in-Err : goal.returns-in-Err
 returns-in-Err g c =
     let w = g.T.Turns.standing c.args.turns.now in
     let v = g.T.Turns.standing c.log_append.new.turns in
-    record { ends = unappended w c.args.file c.args.pin.now c.args.at c.args.piece.now c.args.handle v c.in-Err.error c.requires.good c.requires.holding (rw c.requires.spelled at c.in-Err.ensures.ends) }
+    record { ends = unappended w c.args.file c.args.pin.now c.args.at c.args.piece.now c.args.handle v c.in-Err.error c.note_others.ensures.few c.requires.good c.requires.holding (rw c.requires.spelled at c.in-Err.ensures.ends) }

@@ -19,4 +19,4 @@ pub returns-in-Err : goal.returns-in-Err
 returns-in-Err g c =
     let w = g.T.Turns.standing c.args.turns.now in
     let v = g.T.Turns.standing c.file_state.new.turns in
-    record { ends = write-untold w v c.args.file c.args.at c.args.piece.now c.if-piece-gt-PIECE.false c.in-Err.error c.in-Err.ensures.ends }
+    record { ends = write-untold w v c.args.file c.args.at c.args.piece.now c.if-piece-gt-PIECE.false c.in-Err.error c.note_others.ensures.few c.in-Err.ensures.ends }

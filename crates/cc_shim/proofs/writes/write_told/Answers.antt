@@ -24,6 +24,6 @@ returns g c =
     let x = g.T.Turns.standing c.zero_gap.new.turns in
     record {
       ends =
-          write-copied w c.args.file c.args.at c.args.piece.now c.args.state.now c.if-at-valid.false v c.in_ok-extend.ensures.ends x (g.T.Turns.standing c.copy_write.new.turns) c.copy_write.result
-          c.in_ok-zero_gap.ensures.ends c.copy_write.ensures.ends;
+          write-copied w c.args.file c.args.at c.args.piece.now c.args.state.now c.if-at-valid.false v c.in_ok-extend.ensures.ends x (g.T.Turns.standing c.copy_write-answer.new.turns) c.copy_write-answer.result
+          c.in_ok-zero_gap.ensures.ends c.note_others.ensures.few c.copy_write-answer.ensures.ends;
     }
