@@ -1,7 +1,7 @@
 -- Lines that end the hold that a word names, pin it or hold it again: that they end as a line is to.
 use Rattle.std.specs.Prelude.{◌≡◌, ◌≢◌, ℕ, ◌^◌, ◌||◌, Bool, true, false, Result, Ok, Err, List, slice_get, slice_set, refl}
 use Rattle.std.specs.declared.option.Option.TheVariants.{Some, None}
-use Rattle.std.proofs.Common.{sym, ap, arith}
+use Rattle.std.proofs.Common.{sym, ap, arith, inl}
 use Rattle.std.proofs.lemmas.Bool.{ne_eqb}
 use Rattle.cc_entry.specs.Kinds.{is_map, is_pin, is_repin, is_read_chain, is_write_chain}
 use Rattle.cc_entry.specs.declared.answer.Answer.{Answer}
@@ -36,7 +36,7 @@ use Rattle.cc_calls.specs.Held.{range_of}
 use Rattle.cc_calls.specs.declared.held.Held.{Held}
 use Rattle.cc_calls.proofs.Paging.{writing-within}
 use Rattle.cc_lines.specs.Holds.{NamesState, held_of, kind_of, named_at}
-use Rattle.cc_lines.specs.Line.{CanServe, IsFullTold, LineEnds, StandFor, told_of}
+use Rattle.cc_lines.specs.Line.{CanServe, IsFullTold, LineServed, StandFor, told_of}
 use Rattle.cc_lines.specs.declared.holds.Named.{Named}
 use Rattle.cc_lines.specs.declared.holds.Named.TheVariants as named
 use Rattle.cc_lines.proofs.WordChanges.{others-kept, stand-ended}
@@ -47,13 +47,13 @@ use Rattle.cc_lines.proofs.UseLines.{has-word, no-word, told-full}
 
 -- A line that takes out what a word names.
 module _ (old new : Standing) (names now : NamesState) (word : ℕ) (taken : now ≡ record names { named = slice_set names.named word None }) where
-  taking : (asked : Action) (told : Answer) (n : Need) → WentOn old new → IsGood old.setup new.seen → IsFullTold new told → ((bounds : List Bound) → UsesRight bounds asked → Uses n bounds word) → ((bounds : List Bound) (bindings : List Binding) → StandFor old bounds bindings names → Uses n bounds word → (other : ℕ) (another : Named) → other ≢ word → named_at names.named other ≡ Some another → IsUnchanged old.number (held_of another).id old.seen new.seen) → ((bounds : List Bound) (bindings : List Binding) → StandFor old bounds bindings names → Uses n bounds word → Served old.setup old.number bindings asked told old.seen new.seen) → ((bounds : List Bound) (bindings : List Binding) → StandFor new (changed as_ended (slice_get bounds word) bounds word) bindings now → StandFor new (bound_after asked bounds) (bindings_after asked told bindings) now) → LineEnds old new asked told names now
+  taking : (asked : Action) (told : Answer) (n : Need) → WentOn old new → IsGood old.setup new.seen → IsFullTold new told → ((bounds : List Bound) → UsesRight bounds asked → Uses n bounds word) → ((bounds : List Bound) (bindings : List Binding) → StandFor old bounds bindings names → Uses n bounds word → (other : ℕ) (another : Named) → other ≢ word → named_at names.named other ≡ Some another → IsUnchanged old.number (held_of another).id old.seen new.seen) → ((bounds : List Bound) (bindings : List Binding) → StandFor old bounds bindings names → Uses n bounds word → Served old.setup old.number bindings asked told old.seen new.seen) → ((bounds : List Bound) (bindings : List Binding) → StandFor new (changed as_ended (slice_get bounds word) bounds word) bindings now → StandFor new (bound_after asked bounds) (bindings_after asked told bindings) now) → LineServed old new asked told names now
   taking asked told n went good full uses keeps left stands = record {
     served = λ bounds bindings stand right. (
       left bounds bindings stand (uses bounds right),
       stands bounds bindings (stand-ended old new went good bounds bindings names stand n word (uses bounds right) now (ap (λ m. m.named) taken) (keeps bounds bindings stand (uses bounds right))),
     );
-    full = full;
+    full = inl full;
     goes_on = went;
     good = good;
     room = ap (λ m. m.room) taken;
@@ -61,7 +61,7 @@ module _ (old new : Standing) (names now : NamesState) (word : ℕ) (taken : now
 
   -- it ends the hold
   module _ (it : Named) (is : named_at names.named word ≡ Some it) (ends : HoldEnded old new (held_of it)) where
-    ending : (asked : Action) (n : Need) → ((bounds : List Bound) → UsesRight bounds asked → Uses n bounds word) → ((bounds : List Bound) (bindings : List Binding) → StandFor old bounds bindings names → Uses n bounds word → Served old.setup old.number bindings asked (answer.Given reply.Unit) old.seen new.seen) → ((bounds : List Bound) (bindings : List Binding) → StandFor new (changed as_ended (slice_get bounds word) bounds word) bindings now → StandFor new (bound_after asked bounds) (bindings_after asked (answer.Given reply.Unit) bindings) now) → LineEnds old new asked (answer.Given reply.Unit) names now
+    ending : (asked : Action) (n : Need) → ((bounds : List Bound) → UsesRight bounds asked → Uses n bounds word) → ((bounds : List Bound) (bindings : List Binding) → StandFor old bounds bindings names → Uses n bounds word → Served old.setup old.number bindings asked (answer.Given reply.Unit) old.seen new.seen) → ((bounds : List Bound) (bindings : List Binding) → StandFor new (changed as_ended (slice_get bounds word) bounds word) bindings now → StandFor new (bound_after asked bounds) (bindings_after asked (answer.Given reply.Unit) bindings) now) → LineServed old new asked (answer.Given reply.Unit) names now
     ending asked n uses left stands =
         taking asked (answer.Given reply.Unit) n went ends.good tt uses
         (λ bounds bindings stand used. others-kept old new went ends.good bounds bindings names stand n word used now it (call.EndHold (held_of it).id) (answer.Given reply.Unit) is ends.left (λ id apart. apart))
@@ -74,21 +74,21 @@ module _ (old new : Standing) (names now : NamesState) (word : ℕ) (taken : now
     by-kind bounds bindings n of_kind stand used serves =
         named-hold old.streams old.number old.seen word used.bound bindings it of_kind (has-word old names bounds bindings n word it stand used is) serves
 
-    pub unpin-line : (is_map (kind_of it) || is_pin (kind_of it)) ≡ true → LineEnds old new (action.Unpin word) (answer.Given reply.Unit) names now
+    pub unpin-line : (is_map (kind_of it) || is_pin (kind_of it)) ≡ true → LineServed old new (action.Unpin word) (answer.Given reply.Unit) names now
     unpin-line serves =
         ending (action.Unpin word) need.MapOrPin (λ bounds right. right)
         (λ bounds bindings stand used. on-hold old.number (held_of it).id _ (λ id. CallAnswered old.setup old.number (call.EndHold id)) (answer.Given reply.Unit) old.seen new.seen
         (by-kind bounds bindings need.MapOrPin (λ its_kind. is_map its_kind || is_pin its_kind) stand used serves) ends.left)
         (λ bounds bindings stand. stand)
 
-    pub done-line : (is_read_chain (kind_of it) || is_write_chain (kind_of it)) ≡ true → LineEnds old new (action.MdlDone word) (answer.Given reply.Unit) names now
+    pub done-line : (is_read_chain (kind_of it) || is_write_chain (kind_of it)) ≡ true → LineServed old new (action.MdlDone word) (answer.Given reply.Unit) names now
     done-line serves =
         ending (action.MdlDone word) need.Chain (λ bounds right. right)
         (λ bounds bindings stand used. on-hold old.number (held_of it).id _ (λ id. CallAnswered old.setup old.number (call.EndHold id)) (answer.Given reply.Unit) old.seen new.seen
         (by-kind bounds bindings need.Chain (λ its_kind. is_read_chain its_kind || is_write_chain its_kind) stand used serves) ends.left)
         (λ bounds bindings stand. stand)
 
-    pub abort-line : is_write_chain (kind_of it) ≡ true → LineEnds old new (action.MdlAbort word) (answer.Given reply.Unit) names now
+    pub abort-line : is_write_chain (kind_of it) ≡ true → LineServed old new (action.MdlAbort word) (answer.Given reply.Unit) names now
     abort-line serves =
         ending (action.MdlAbort word) need.WriteChain (λ bounds right. right)
         (λ bounds bindings stand used. on-hold old.number (held_of it).id _ (λ id. CallAnswered old.setup old.number (call.EndHold id)) (answer.Given reply.Unit) old.seen new.seen
@@ -99,7 +99,7 @@ module _ (old new : Standing) (names now : NamesState) (word : ℕ) (taken : now
   unrepin-answered u me id through (Ok done) left ascending = record { left = left; ascending = ascending }
   unrepin-answered u me id through (Err e) left ascending = record { left = left; ascending = ascending }
 
-  pub unrepin-line : (held : Held) (through : Bool) (ended : Result (Unit {0}) CcError) → named_at names.named word ≡ Some (named.Repin held) → UnpinEnds old new held through ended → LineEnds old new (action.UnpinRepinned word through) (told_of ended) names now
+  pub unrepin-line : (held : Held) (through : Bool) (ended : Result (Unit {0}) CcError) → named_at names.named word ≡ Some (named.Repin held) → UnpinEnds old new held through ended → LineServed old new (action.UnpinRepinned word through) (told_of ended) names now
   unrepin-line held through ended is ends =
       taking (action.UnpinRepinned word through) (told_of ended) need.Repin ends.goes_on ends.good (told-full 2 new ended (omega arith) (writing-within (call.Flush held.file (Some (range_of held))) new ended ends.full)) (λ bounds right. right)
       (λ bounds bindings stand used other another differ also. unpin-unchanged old.setup old.number (held_of another).id held.id through (outcome_of ended) old.seen new.seen ends.left
@@ -111,31 +111,31 @@ module _ (old new : Standing) (names now : NamesState) (word : ℕ) (taken : now
 
 -- The word names no hold that the line may end.
 module _ (w : Standing) (names now : NamesState) (word : ℕ) (taken : now ≡ record names { named = slice_set names.named word None }) where
-  none-ended : (asked : Action) (n : Need) → CanServe w asked names → ((bounds : List Bound) → UsesRight bounds asked → Uses n bounds word) → ((bounds : List Bound) (bindings : List Binding) → StandFor w bounds bindings names → Uses n bounds word → Served w.setup w.number bindings asked answer.NoHold w.seen w.seen) → ((bounds : List Bound) (bindings : List Binding) → StandFor w (changed as_ended (slice_get bounds word) bounds word) bindings now → StandFor w (bound_after asked bounds) (bindings_after asked answer.NoHold bindings) now) → LineEnds w w asked answer.NoHold names now
+  none-ended : (asked : Action) (n : Need) → CanServe w asked names → ((bounds : List Bound) → UsesRight bounds asked → Uses n bounds word) → ((bounds : List Bound) (bindings : List Binding) → StandFor w bounds bindings names → Uses n bounds word → Served w.setup w.number bindings asked answer.NoHold w.seen w.seen) → ((bounds : List Bound) (bindings : List Binding) → StandFor w (changed as_ended (slice_get bounds word) bounds word) bindings now → StandFor w (bound_after asked bounds) (bindings_after asked answer.NoHold bindings) now) → LineServed w w asked answer.NoHold names now
   none-ended asked n can uses left stands =
       taking w w names now word taken asked answer.NoHold n (went-none w) can.good tt uses
       (λ bounds bindings stand used other another differ also. unchanged-idle w.number (held_of another).id w.seen w.seen (idle-none w.number w.seen))
       left stands
 
-  pub no-unpin : CanServe w (action.Unpin word) names → serves_word (λ its_kind. is_map its_kind || is_pin its_kind) (named_at names.named word) ≡ false → LineEnds w w (action.Unpin word) answer.NoHold names now
+  pub no-unpin : CanServe w (action.Unpin word) names → serves_word (λ its_kind. is_map its_kind || is_pin its_kind) (named_at names.named word) ≡ false → LineServed w w (action.Unpin word) answer.NoHold names now
   no-unpin can none =
       none-ended (action.Unpin word) need.MapOrPin can (λ bounds right. right)
       (λ bounds bindings stand used. on-none w.number _ (λ id. CallAnswered w.setup w.number (call.EndHold id)) w.seen (no-word w names bounds bindings need.MapOrPin word (λ its_kind. is_map its_kind || is_pin its_kind) stand used none))
       (λ bounds bindings stand. stand)
 
-  pub no-done : CanServe w (action.MdlDone word) names → serves_word (λ its_kind. is_read_chain its_kind || is_write_chain its_kind) (named_at names.named word) ≡ false → LineEnds w w (action.MdlDone word) answer.NoHold names now
+  pub no-done : CanServe w (action.MdlDone word) names → serves_word (λ its_kind. is_read_chain its_kind || is_write_chain its_kind) (named_at names.named word) ≡ false → LineServed w w (action.MdlDone word) answer.NoHold names now
   no-done can none =
       none-ended (action.MdlDone word) need.Chain can (λ bounds right. right)
       (λ bounds bindings stand used. on-none w.number _ (λ id. CallAnswered w.setup w.number (call.EndHold id)) w.seen (no-word w names bounds bindings need.Chain word (λ its_kind. is_read_chain its_kind || is_write_chain its_kind) stand used none))
       (λ bounds bindings stand. stand)
 
-  pub no-abort : CanServe w (action.MdlAbort word) names → serves_word is_write_chain (named_at names.named word) ≡ false → LineEnds w w (action.MdlAbort word) answer.NoHold names now
+  pub no-abort : CanServe w (action.MdlAbort word) names → serves_word is_write_chain (named_at names.named word) ≡ false → LineServed w w (action.MdlAbort word) answer.NoHold names now
   no-abort can none =
       none-ended (action.MdlAbort word) need.WriteChain can (λ bounds right. right)
       (λ bounds bindings stand used. on-none w.number _ (λ id. CallAnswered w.setup w.number (call.EndHold id)) w.seen (no-word w names bounds bindings need.WriteChain word is_write_chain stand used none))
       (λ bounds bindings stand. stand)
 
-  pub no-unrepin : (through : Bool) → CanServe w (action.UnpinRepinned word through) names → serves_word is_repin (named_at names.named word) ≡ false → LineEnds w w (action.UnpinRepinned word through) answer.NoHold names now
+  pub no-unrepin : (through : Bool) → CanServe w (action.UnpinRepinned word through) names → serves_word is_repin (named_at names.named word) ≡ false → LineServed w w (action.UnpinRepinned word through) answer.NoHold names now
   no-unrepin through can none =
       none-ended (action.UnpinRepinned word through) need.Repin can (λ bounds right. right)
       (λ bounds bindings stand used. on-none w.number _ (UnpinAnswered w.setup w.number through) w.seen (no-word w names bounds bindings need.Repin word is_repin stand used none))

@@ -5,6 +5,10 @@ pub mod KeptWords
 pub mod WordLines
 pub mod WordChanges
 pub mod HoldLines
+pub mod KeptByShim
+pub mod ShimCalls
+pub mod ShimServed
+pub mod FullLines
 pub mod UseLines
 pub mod EndLines
 pub mod PinLines

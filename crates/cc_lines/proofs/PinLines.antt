@@ -2,7 +2,7 @@
 use Rattle.std.specs.Prelude.{◌≡◌, ℕ, ◌<◌, Bool, false, Result, Ok, Err, IfOk, List, [], ◌∷◌, ◌++◌, length, slice_get, slice_set, refl}
 use Rattle.std.specs.declared.option.Option.{Option}
 use Rattle.std.specs.declared.option.Option.TheVariants.{Some, None}
-use Rattle.std.proofs.Common.{sym, ap, subst, ◌∙◌, arith}
+use Rattle.std.proofs.Common.{sym, ap, subst, ◌∙◌, arith, inl}
 use Rattle.std.proofs.lemmas.Bool.{eq-eqb}
 use Rattle.std.proofs.lemmas.Option.{slice_get_within}
 use Rattle.cc_entry.specs.Kinds.{is_map, is_pin, is_repin}
@@ -28,7 +28,7 @@ use Rattle.cc_calls.specs.Held.{IsHolding}
 use Rattle.cc_calls.specs.Ends.{RepinEnds, held_at, hold_outcome}
 use Rattle.cc_calls.specs.declared.held.Held.{Held}
 use Rattle.cc_lines.specs.Holds.{HasNamed, NamesState, bound_named, kind_of, made_told, named_at, test_of}
-use Rattle.cc_lines.specs.Line.{CanServe, LineEnds, StandFor}
+use Rattle.cc_lines.specs.Line.{CanServe, LineServed, StandFor}
 use Rattle.cc_lines.specs.declared.holds.Named.{Named}
 use Rattle.cc_lines.specs.declared.holds.Named.TheVariants as named
 use Rattle.cc_lines.proofs.KeptWords.{set-back, set-twice}
@@ -52,14 +52,14 @@ module _ (old new : Standing) (names now : NamesState) (word : ℕ) (exclusive :
   named-map bounds bindings stand used =
       named-hold old.streams old.number old.seen word used.bound bindings (named.Map mapped) is_map (has-word old names bounds bindings need.Map word (named.Map mapped) stand used was) refl
 
-  pub map-pinned : (pin : Held) → CallEnds hold_outcome old new (call.PinMapped mapped.id exclusive) (Ok pin) → pin ≡ mapped → IsHolding new is_pin pin → now ≡ record names { named = slice_set (slice_set names.named word None) word (Some (named.Pin pin)) } → LineEnds old new (action.PinMapped word exclusive) (answer.Given (reply.Hold pin.id)) names now
+  pub map-pinned : (pin : Held) → CallEnds hold_outcome old new (call.PinMapped mapped.id exclusive) (Ok pin) → pin ≡ mapped → IsHolding new is_pin pin → now ≡ record names { named = slice_set (slice_set names.named word None) word (Some (named.Pin pin)) } → LineServed old new (action.PinMapped word exclusive) (answer.Given (reply.Hold pin.id)) names now
   map-pinned pin ends same holding put = record {
     served = λ bounds bindings stand right. (
       on-hold old.number mapped.id _ (λ id. CallAnswered old.setup old.number (call.PinMapped id exclusive)) (answer.Given (reply.Hold pin.id)) old.seen new.seen (named-map bounds bindings stand right) ends.left,
       stand-pinned old new went (ends.good can.good) bounds bindings names stand need.Map word right now mapped exclusive pin was ends.left same holding
           (ap (λ m. m.named) put ∙ set-twice names.named word None (Some (named.Pin pin))),
     );
-    full = tt;
+    full = inl tt;
     goes_on = went;
     good = ends.good can.good;
     room = ap (λ m. m.room) put;
@@ -68,7 +68,7 @@ module _ (old new : Standing) (names now : NamesState) (word : ℕ) (exclusive :
       went : WentOn old new
       went = went-on old new ends.goes_on
 
-  pub map-refused : (back : Held) (e : CcError) → CallEnds {A = Held} hold_outcome old new (call.PinMapped mapped.id exclusive) (Err e) → back ≡ mapped → now ≡ record names { named = slice_set (slice_set names.named word None) word (Some (named.Map back)) } → LineEnds old new (action.PinMapped word exclusive) (answer.Refused e) names now
+  pub map-refused : (back : Held) (e : CcError) → CallEnds {A = Held} hold_outcome old new (call.PinMapped mapped.id exclusive) (Err e) → back ≡ mapped → now ≡ record names { named = slice_set (slice_set names.named word None) word (Some (named.Map back)) } → LineServed old new (action.PinMapped word exclusive) (answer.Refused e) names now
   map-refused back e ends same put = record {
     served = λ bounds bindings stand right. (
       on-hold old.number mapped.id _ (λ id. CallAnswered old.setup old.number (call.PinMapped id exclusive)) (answer.Refused e) old.seen new.seen (named-map bounds bindings stand right) ends.left,
@@ -76,7 +76,7 @@ module _ (old new : Standing) (names now : NamesState) (word : ℕ) (exclusive :
           (ap (λ m. m.named) put ∙ put-back names.named word (Some (named.Map back)) within (was ∙ ap (λ h. Some (named.Map h)) (sym same)))
           (λ id. unchanged-failed old.setup old.number id (call.PinMapped mapped.id exclusive) e old.seen new.seen ends.left),
     );
-    full = full-told 1 new e (omega arith) ends.full;
+    full = inl (full-told 1 new e (omega arith) ends.full);
     goes_on = went;
     good = ends.good can.good;
     room = ap (λ m. m.room) put;
@@ -87,14 +87,14 @@ module _ (old new : Standing) (names now : NamesState) (word : ℕ) (exclusive :
 
 -- the word names no map: what it names is put back
 module _ (w : Standing) (names now : NamesState) (word : ℕ) (exclusive : Bool) (can : CanServe w (action.PinMapped word exclusive) names) (none : serves_word is_map (named_at names.named word) ≡ false) where
-  unpinned : now ≡ names → LineEnds w w (action.PinMapped word exclusive) answer.NoHold names now
+  unpinned : now ≡ names → LineServed w w (action.PinMapped word exclusive) answer.NoHold names now
   unpinned same = record {
     served = λ bounds bindings stand right. (
       on-none w.number _ (λ id. CallAnswered w.setup w.number (call.PinMapped id exclusive)) w.seen (no-word w names bounds bindings need.Map word is_map stand right none),
       stand-unpinned w w (went-none w) can.good bounds bindings names stand need.Map word right now (ap (λ m. m.named) same)
           (λ id. unchanged-idle w.number id w.seen w.seen (idle-none w.number w.seen)),
     );
-    full = tt;
+    full = inl tt;
     goes_on = went-none w;
     good = can.good;
     room = ap (λ m. m.room) same;
@@ -103,16 +103,16 @@ module _ (w : Standing) (names now : NamesState) (word : ℕ) (exclusive : Bool)
   inside : word < length names.named
   inside = let below = slice_get_within can.bounds word can.right.bound can.right.named in omega (arith, below, can.stand.counted)
 
-  pub other-kept : (it : Named) → named_at names.named word ≡ Some it → now ≡ record names { named = slice_set (slice_set names.named word None) word (Some it) } → LineEnds w w (action.PinMapped word exclusive) answer.NoHold names now
+  pub other-kept : (it : Named) → named_at names.named word ≡ Some it → now ≡ record names { named = slice_set (slice_set names.named word None) word (Some it) } → LineServed w w (action.PinMapped word exclusive) answer.NoHold names now
   other-kept it is put = unpinned (put ∙ ap (λ l. record names { named = l }) (put-back names.named word (Some it) inside is))
 
-  pub none-kept : named_at names.named word ≡ None → now ≡ record names { named = slice_set names.named word None } → LineEnds w w (action.PinMapped word exclusive) answer.NoHold names now
+  pub none-kept : named_at names.named word ≡ None → now ≡ record names { named = slice_set names.named word None } → LineServed w w (action.PinMapped word exclusive) answer.NoHold names now
   none-kept is put = unpinned (put ∙ ap (λ l. record names { named = l }) (ap (slice_set names.named word) (sym is) ∙ set-back names.named word inside))
 
 -- ---- a repin
 
 module _ (old new : Standing) (names now : NamesState) (word : ℕ) (pinned : Held) (can : CanServe old (action.Repin word (length names.named)) names) (was : named_at names.named word ≡ Some (named.Pin pinned)) where
-  pub repin-line : (made : Result Named CcError) → RepinEnds old new is_repin pinned (held_answer made) → IfOk made (λ one. (kind_of one ≡ kind.Repin) × (test_of one ≡ is_repin)) → now ≡ record names { named = names.named ++ bound_named made ∷ [] } → LineEnds old new (action.Repin word (length names.named)) (made_told made) names now
+  pub repin-line : (made : Result Named CcError) → RepinEnds old new is_repin pinned (held_answer made) → IfOk made (λ one. (kind_of one ≡ kind.Repin) × (test_of one ≡ is_repin)) → now ≡ record names { named = names.named ++ bound_named made ∷ [] } → LineServed old new (action.Repin word (length names.named)) (made_told made) names now
   repin-line made ends kinds grew = record {
     served = λ bounds bindings stand right. (
       on-hold old.number pinned.id _ (λ id. CallAnswered old.setup old.number (call.Repin id)) (made_told made) old.seen new.seen
@@ -120,7 +120,7 @@ module _ (old new : Standing) (names now : NamesState) (word : ℕ) (pinned : He
           (made-answered old.setup old.number (call.Repin pinned.id) made old.seen new.seen ends.call_ends.left),
       after bounds bindings stand right.0 right.1,
     );
-    full = made-full 2 new made (omega arith) ends.call_ends.full;
+    full = inl (made-full 2 new made (omega arith) ends.call_ends.full);
     goes_on = went;
     good = ends.call_ends.good can.good;
     room = ap (λ m. m.room) grew;
@@ -153,7 +153,7 @@ module _ (old new : Standing) (names now : NamesState) (word : ℕ) (pinned : He
           made now ends.call_ends.left (ranged b it.file_is it.at_is it.len_is ends.range) ends.holding kinds (ap (λ m. m.named) grew))
 
 -- the word names no pin: the next word names nothing
-pub no-repin : (w : Standing) (names now : NamesState) (word : ℕ) → CanServe w (action.Repin word (length names.named)) names → serves_word is_pin (named_at names.named word) ≡ false → now ≡ record names { named = names.named ++ None ∷ [] } → LineEnds w w (action.Repin word (length names.named)) answer.NoHold names now
+pub no-repin : (w : Standing) (names now : NamesState) (word : ℕ) → CanServe w (action.Repin word (length names.named)) names → serves_word is_pin (named_at names.named word) ≡ false → now ≡ record names { named = names.named ++ None ∷ [] } → LineServed w w (action.Repin word (length names.named)) answer.NoHold names now
 no-repin w names now word can none grew = record {
   served = λ bounds bindings stand right. (
     on-none w.number _ (λ id. CallAnswered w.setup w.number (call.Repin id)) w.seen (no-word w names bounds bindings need.Pin word is_pin stand right.0 none),
@@ -161,7 +161,7 @@ no-repin w names now word can none grew = record {
         (stand-none w w (went-none w) can.good bounds bindings names stand (fresh kind.Repin right.0.bound.file right.0.bound.at right.0.bound.len) now refl (ap (λ m. m.named) grew)
         (λ id. unchanged-idle w.number id w.seen w.seen (idle-none w.number w.seen))),
   );
-  full = tt;
+  full = inl tt;
   goes_on = went-none w;
   good = can.good;
   room = ap (λ m. m.room) grew;

@@ -2,7 +2,7 @@
 use Rattle.std.specs.Prelude.{◌≡◌, ℕ, Result, Ok, Err, List, refl}
 use Rattle.std.specs.declared.option.Option.{Option}
 use Rattle.std.specs.declared.option.Option.TheVariants.{Some, None}
-use Rattle.std.proofs.Common.{sym, subst}
+use Rattle.std.proofs.Common.{sym, subst, inl}
 use Rattle.cc_entry.specs.Place.{File}
 use Rattle.cc_entry.specs.declared.answer.Answer.{Answer}
 use Rattle.cc_entry.specs.declared.answer.Answer.TheVariants as answer
@@ -26,7 +26,7 @@ use Rattle.cc_pieces.specs.Served.{Served, bindings_after}
 use Rattle.cc_calls.specs.Pages.{WentOn}
 use Rattle.cc_turns.specs.Standing.{Standing}
 use Rattle.cc_lines.specs.Holds.{NamesState}
-use Rattle.cc_lines.specs.Line.{IsFullTold, LineEnds, StandFor, told_of}
+use Rattle.cc_lines.specs.Line.{IsFullTold, LineServed, StandFor, told_of}
 use Rattle.cc_lines.proofs.WordLines.{answered-unchanged, stand-on}
 
 -- the call of an action that is served by one call on no hold
@@ -111,23 +111,23 @@ plain-stand new (action.SetThreshold file pages) it told bounds bindings names i
 plain-stand new other it told bounds bindings names is stand = absurd (cc is)
 
 module _ (old new : Standing) (told : Answer) (names : NamesState) (full : IsFullTold new told) (went : WentOn old new) (good : IsGood old.setup new.seen) where
-  pub plain-line : (asked : Action) (it : Call) → plain_call asked ≡ Some it → CallAnswered old.setup old.number it told old.seen new.seen → LineEnds old new asked told names names
+  pub plain-line : (asked : Action) (it : Call) → plain_call asked ≡ Some it → CallAnswered old.setup old.number it told old.seen new.seen → LineServed old new asked told names names
   plain-line asked it is left = record {
     served = λ bounds bindings stand right. (
       plain-served old.setup old.number it told old.seen new.seen left bindings asked is,
       plain-stand new asked it told bounds bindings names is
           (stand-on old new went good bounds bindings names (plain-unchanged old.setup old.number it told old.seen new.seen left asked is) stand),
     );
-    full = full;
+    full = inl full;
     goes_on = went;
     good = good;
     room = refl;
   }
 
-  pub append-line : (handle : ℕ) (bytes : List ℕ) → AppendAnswered old.setup old.number handle bytes told old.seen new.seen → LineEnds old new (action.Append handle bytes) told names names
+  pub append-line : (handle : ℕ) (bytes : List ℕ) → AppendAnswered old.setup old.number handle bytes told old.seen new.seen → LineServed old new (action.Append handle bytes) told names names
   append-line handle bytes left = record {
     served = λ bounds bindings stand right. (left, stand-on old new went good bounds bindings names (unchanged left) stand);
-    full = full;
+    full = inl full;
     goes_on = went;
     good = good;
     room = refl;
@@ -141,10 +141,10 @@ module _ (old new : Standing) (told : Answer) (names : NamesState) (full : IsFul
       unchanged : AppendAnswered old.setup old.number handle bytes told old.seen new.seen → (id : ℕ) → IsUnchanged old.number id old.seen new.seen
       unchanged left = by told left
 
-  pub nc_read-line : (file : File) (at len : ℕ) → NcReadAnswered old.setup old.number file at len told old.seen new.seen → LineEnds old new (action.NcRead file at len) told names names
+  pub nc_read-line : (file : File) (at len : ℕ) → NcReadAnswered old.setup old.number file at len told old.seen new.seen → LineServed old new (action.NcRead file at len) told names names
   nc_read-line file at len left = record {
     served = λ bounds bindings stand right. (left, stand-on old new went good bounds bindings names (by told left) stand);
-    full = full;
+    full = inl full;
     goes_on = went;
     good = good;
     room = refl;
@@ -155,10 +155,10 @@ module _ (old new : Standing) (told : Answer) (names : NamesState) (full : IsFul
       by (answer.NcRefused done cause) left id = nc_read-unchanged old.setup old.number id file at len (Err (done, cause)) old.seen new.seen left
       by other left id = absurd left
 
-  pub nc_write-line : (file : File) (at : ℕ) (bytes : List ℕ) → NcWriteAnswered old.setup old.number file at bytes told old.seen new.seen → LineEnds old new (action.NcWrite file at bytes) told names names
+  pub nc_write-line : (file : File) (at : ℕ) (bytes : List ℕ) → NcWriteAnswered old.setup old.number file at bytes told old.seen new.seen → LineServed old new (action.NcWrite file at bytes) told names names
   nc_write-line file at bytes left = record {
     served = λ bounds bindings stand right. (left, stand-on old new went good bounds bindings names (by told left) stand);
-    full = full;
+    full = inl full;
     goes_on = went;
     good = good;
     room = refl;
@@ -169,13 +169,13 @@ module _ (old new : Standing) (told : Answer) (names : NamesState) (full : IsFul
       by (answer.NcRefused done cause) left id = nc_write-unchanged old.setup old.number id file at bytes (Err (done, cause)) old.seen new.seen left
       by other left id = absurd left
 
-  pub log_flush-line : (handle lsn : ℕ) (ended : Result (Unit {0}) CcError) → told ≡ told_of ended → LogFlushLeft {T = Unit {0}} old.setup old.number handle lsn ended old.seen new.seen → LineEnds old new (action.LogFlush handle lsn) told names names
+  pub log_flush-line : (handle lsn : ℕ) (ended : Result (Unit {0}) CcError) → told ≡ told_of ended → LogFlushLeft {T = Unit {0}} old.setup old.number handle lsn ended old.seen new.seen → LineServed old new (action.LogFlush handle lsn) told names names
   log_flush-line handle lsn ended is left = record {
     served = λ bounds bindings stand right. (
       subst (λ t. LogFlushAnswered old.setup old.number handle lsn t old.seen new.seen) (sym is) (by ended left),
       stand-on old new went good bounds bindings names (λ id. log_flush-unchanged old.setup old.number id handle lsn ended old.seen new.seen left) stand,
     );
-    full = full;
+    full = inl full;
     goes_on = went;
     good = good;
     room = refl;

@@ -2,7 +2,7 @@
 use Rattle.std.specs.Prelude.{◌≡◌, ℕ, ◌<◌, ◌≤◌, Bool, Result, Ok, Err, List, length, refl}
 use Rattle.std.specs.declared.option.Option.{Option}
 use Rattle.std.specs.declared.option.Option.TheVariants.{Some}
-use Rattle.std.proofs.Common.{sym, ap, subst, ◌∙◌, arith}
+use Rattle.std.proofs.Common.{sym, ap, subst, ◌∙◌, arith, inl}
 use Rattle.cc_entry.specs.Place.{File, Range}
 use Rattle.cc_entry.specs.declared.answer.Answer.{Answer}
 use Rattle.cc_entry.specs.declared.call.Call.{Call}
@@ -27,7 +27,7 @@ use Rattle.cc_calls.specs.Purges.{PurgeEnds}
 use Rattle.cc_turns.specs.Standing.{Standing}
 use Rattle.cc_writes.specs.Ways.{IsFull}
 use Rattle.cc_lines.specs.Holds.{NamesState}
-use Rattle.cc_lines.specs.Line.{CanServe, IsFullTold, LineEnds, flag_told, lsns_told, rows_told, state_told, told_of}
+use Rattle.cc_lines.specs.Line.{CanServe, IsFullTold, LineServed, flag_told, lsns_told, rows_told, state_told, told_of}
 use Rattle.cc_calls.proofs.Paging.{full-within, most_room, writing-within}
 use Rattle.cc_lines.proofs.WordLines.{answered-unchanged, full-told, stand-on, went-on}
 use Rattle.cc_lines.proofs.UseLines.{told-answered, told-full}
@@ -35,11 +35,11 @@ use Rattle.cc_lines.proofs.PlainLines.{log_flush-line, plain-line, plain_call}
 
 -- ---- the same line by another name of its answer, or of its action
 
-pub told-as : (old new : Standing) (asked : Action) (told it : Answer) (was now : NamesState) → told ≡ it → LineEnds old new asked it was now → LineEnds old new asked told was now
-told-as old new asked told it was now is ends = subst (λ t. LineEnds old new asked t was now) (sym is) ends
+pub told-as : (old new : Standing) (asked : Action) (told it : Answer) (was now : NamesState) → told ≡ it → LineServed old new asked it was now → LineServed old new asked told was now
+told-as old new asked told it was now is ends = subst (λ t. LineServed old new asked t was now) (sym is) ends
 
-pub asked-as : (old new : Standing) (asked it : Action) (told : Answer) (was now : NamesState) → asked ≡ it → LineEnds old new it told was now → LineEnds old new asked told was now
-asked-as old new asked it told was now is ends = subst (λ a. LineEnds old new a told was now) (sym is) ends
+pub asked-as : (old new : Standing) (asked it : Action) (told : Answer) (was now : NamesState) → asked ≡ it → LineServed old new it told was now → LineServed old new asked told was now
+asked-as old new asked it told was now is ends = subst (λ a. LineServed old new a told was now) (sym is) ends
 
 pub can-as : (w : Standing) (asked it : Action) (names : NamesState) → asked ≡ it → CanServe w asked names → CanServe w it names
 can-as w asked it names is can = subst (λ a. CanServe w a names) is can
@@ -120,27 +120,27 @@ lsns-full n w (Err e) less full = full-told n w e less full
 
 module _ (old new : Standing) (names : NamesState) (asked : Action) (told : Answer) (good : IsGood old.setup old.seen) where
   -- a change of bytes that is not through a hold
-  pub change-line : (it : Call) (ended : Result (Unit {0}) CcError) → plain_call asked ≡ Some it → most_room it ≤ 3 → told ≡ told_of ended → ChangeEnds old new it ended → LineEnds old new asked told names names
+  pub change-line : (it : Call) (ended : Result (Unit {0}) CcError) → plain_call asked ≡ Some it → most_room it ≤ 3 → told ≡ told_of ended → ChangeEnds old new it ended → LineServed old new asked told names names
   change-line it ended is less tells ends =
       told-as old new asked told (told_of ended) names names tells
       (plain-line old new (told_of ended) names (told-full (most_room it) new ended less (full-within it old new ended ends.full)) ends.pages.goes_on (ends.pages.good good) asked it is
       (told-answered old.setup old.number it ended old.seen new.seen ends.pages.left))
 
   -- a call that sets something
-  pub set-line : (it : Call) (ended : Result (Unit {0}) CcError) → plain_call asked ≡ Some it → most_asked it ≤ 3 → told ≡ told_of ended → CallEnds outcome_of old new it ended → LineEnds old new asked told names names
+  pub set-line : (it : Call) (ended : Result (Unit {0}) CcError) → plain_call asked ≡ Some it → most_asked it ≤ 3 → told ≡ told_of ended → CallEnds outcome_of old new it ended → LineServed old new asked told names names
   set-line it ended is less tells ends =
       told-as old new asked told (told_of ended) names names tells
       (plain-line old new (told_of ended) names (told-full (most_asked it) new ended less ends.full) (went-on old new ends.goes_on) (ends.good good) asked it is
       (told-answered old.setup old.number it ended old.seen new.seen ends.left))
 
   -- a flush, of which the order of its begins is asked too
-  pub flush-line : (file : File) (span : Option Range) (ended : Result (Unit {0}) CcError) → asked ≡ action.Flush file span → told ≡ told_of ended → FlushEnds old new file span ended → LineEnds old new asked told names names
+  pub flush-line : (file : File) (span : Option Range) (ended : Result (Unit {0}) CcError) → asked ≡ action.Flush file span → told ≡ told_of ended → FlushEnds old new file span ended → LineServed old new asked told names names
   flush-line file span ended is tells ends = asked-as old new asked (action.Flush file span) told names names is (told-as old new (action.Flush file span) told (told_of ended) names names tells line)
     where
       flushed : FlushAnswered old.setup old.number file span (told_of ended) old.seen new.seen
       flushed = record { left = told-answered old.setup old.number (call.Flush file span) ended old.seen new.seen ends.left; ascending = ends.ascending }
 
-      line : LineEnds old new (action.Flush file span) (told_of ended) names names
+      line : LineServed old new (action.Flush file span) (told_of ended) names names
       line = record {
         served = λ bounds bindings stand right. (
           flushed,
@@ -148,44 +148,44 @@ module _ (old new : Standing) (names : NamesState) (asked : Action) (told : Answ
               (λ id. answered-unchanged old.setup old.number id (call.Flush file span) (told_of ended) old.seen new.seen flushed.left refl)
               stand,
         );
-        full = told-full 2 new ended (omega arith) (writing-within (call.Flush file span) new ended ends.full);
+        full = inl (told-full 2 new ended (omega arith) (writing-within (call.Flush file span) new ended ends.full));
         goes_on = ends.goes_on;
         good = ends.good;
         room = refl;
       }
 
-  pub purge-line : (file : File) (span : Option Range) (ended : Result (Unit {0}) CcError) → plain_call asked ≡ Some (call.Purge file span) → told ≡ told_of ended → PurgeEnds old new file span ended → LineEnds old new asked told names names
+  pub purge-line : (file : File) (span : Option Range) (ended : Result (Unit {0}) CcError) → plain_call asked ≡ Some (call.Purge file span) → told ≡ told_of ended → PurgeEnds old new file span ended → LineServed old new asked told names names
   purge-line file span ended is tells ends =
       told-as old new asked told (told_of ended) names names tells
       (plain-line old new (told_of ended) names (told-full 2 new ended (omega arith) (writing-within (call.Purge file span) new ended ends.full)) ends.goes_on ends.good asked (call.Purge file span) is
       (told-answered old.setup old.number (call.Purge file span) ended old.seen new.seen ends.left))
 
   -- the questions
-  pub state-line : (it : Call) (ended : Result FileState CcError) → plain_call asked ≡ Some it → most_asked it ≤ 3 → told ≡ state_told ended → CallEnds state_outcome old new it ended → LineEnds old new asked told names names
+  pub state-line : (it : Call) (ended : Result FileState CcError) → plain_call asked ≡ Some it → most_asked it ≤ 3 → told ≡ state_told ended → CallEnds state_outcome old new it ended → LineServed old new asked told names names
   state-line it ended is less tells ends =
       told-as old new asked told (state_told ended) names names tells
       (plain-line old new (state_told ended) names (state-full (most_asked it) new ended less ends.full) (went-on old new ends.goes_on) (ends.good good) asked it is
       (state-answered old.setup old.number it ended old.seen new.seen ends.left))
 
-  pub flag-line : (it : Call) (ended : Result Bool CcError) → plain_call asked ≡ Some it → most_asked it ≤ 3 → told ≡ flag_told ended → CallEnds flag_outcome old new it ended → LineEnds old new asked told names names
+  pub flag-line : (it : Call) (ended : Result Bool CcError) → plain_call asked ≡ Some it → most_asked it ≤ 3 → told ≡ flag_told ended → CallEnds flag_outcome old new it ended → LineServed old new asked told names names
   flag-line it ended is less tells ends =
       told-as old new asked told (flag_told ended) names names tells
       (plain-line old new (flag_told ended) names (flag-full (most_asked it) new ended less ends.full) (went-on old new ends.goes_on) (ends.good good) asked it is
       (flag-answered old.setup old.number it ended old.seen new.seen ends.left))
 
-  pub rows-line : (it : Call) (ended : Result (List DirtyRow) CcError) → plain_call asked ≡ Some it → most_asked it ≤ 3 → told ≡ rows_told ended → CallEnds rows_outcome old new it ended → LineEnds old new asked told names names
+  pub rows-line : (it : Call) (ended : Result (List DirtyRow) CcError) → plain_call asked ≡ Some it → most_asked it ≤ 3 → told ≡ rows_told ended → CallEnds rows_outcome old new it ended → LineServed old new asked told names names
   rows-line it ended is less tells ends =
       told-as old new asked told (rows_told ended) names names tells
       (plain-line old new (rows_told ended) names (rows-full (most_asked it) new ended less ends.full) (went-on old new ends.goes_on) (ends.good good) asked it is
       (rows-answered old.setup old.number it ended old.seen new.seen ends.left))
 
-  pub lsns-line : (it : Call) (ended : Result (Option (ℕ × ℕ)) CcError) → plain_call asked ≡ Some it → most_asked it ≤ 3 → told ≡ lsns_told ended → CallEnds lsns_outcome old new it ended → LineEnds old new asked told names names
+  pub lsns-line : (it : Call) (ended : Result (Option (ℕ × ℕ)) CcError) → plain_call asked ≡ Some it → most_asked it ≤ 3 → told ≡ lsns_told ended → CallEnds lsns_outcome old new it ended → LineServed old new asked told names names
   lsns-line it ended is less tells ends =
       told-as old new asked told (lsns_told ended) names names tells
       (plain-line old new (lsns_told ended) names (lsns-full (most_asked it) new ended less ends.full) (went-on old new ends.goes_on) (ends.good good) asked it is
       (lsns-answered old.setup old.number it ended old.seen new.seen ends.left))
 
   -- a flush of a log
-  pub flushed-line : (handle lsn : ℕ) (ended : Result (Unit {0}) CcError) → told ≡ told_of ended → LogEnds old new (LogFlushLeft old.setup old.number handle lsn) ended → LineEnds old new (action.LogFlush handle lsn) told names names
+  pub flushed-line : (handle lsn : ℕ) (ended : Result (Unit {0}) CcError) → told ≡ told_of ended → LogEnds old new (LogFlushLeft old.setup old.number handle lsn) ended → LineServed old new (action.LogFlush handle lsn) told names names
   flushed-line handle lsn ended tells ends =
       log_flush-line old new told names (subst (IsFullTold new) (sym tells) (told-full 1 new ended (omega arith) ends.full)) (went-on old new ends.goes_on) (ends.good good) handle lsn ended tells ends.left

@@ -2,7 +2,7 @@
 use Rattle.std.specs.Prelude.{◌≡◌, ℕ, ◌+◌, ◌≤◌, ◌==◌, Bool, true, false, nat_le, Result, Ok, Err, List, refl}
 use Rattle.std.specs.declared.option.Option.{Option}
 use Rattle.std.specs.declared.option.Option.TheVariants.{Some, None}
-use Rattle.std.proofs.Common.{sym, ap, subst, arith}
+use Rattle.std.proofs.Common.{sym, ap, subst, arith, inl}
 use Rattle.cc_entry.specs.Kinds.{is_map, is_pin, is_read_chain, is_write_chain}
 use Rattle.cc_entry.specs.declared.answer.Answer.{Answer}
 use Rattle.cc_entry.specs.declared.answer.Answer.TheVariants as answer
@@ -32,7 +32,7 @@ use Rattle.cc_calls.specs.Held.{HoldsAfter, IsHolding, covers}
 use Rattle.cc_calls.specs.Ends.{UseEnds}
 use Rattle.cc_calls.specs.declared.held.Held.{Held}
 use Rattle.cc_lines.specs.Holds.{HasNamed, NamesState, held_of, kind_of, named_at, test_of}
-use Rattle.cc_lines.specs.Line.{CanServe, HeldReadTold, IsFullTold, LineEnds, StandFor, told_of}
+use Rattle.cc_lines.specs.Line.{CanServe, HeldReadTold, IsFullTold, LineServed, StandFor, told_of}
 use Rattle.cc_lines.specs.declared.holds.Named.{Named}
 use Rattle.cc_lines.specs.declared.holds.Named.TheVariants as named
 use Rattle.cc_lines.proofs.WordLines.{full-told, has-named, named-hold, named-none, on-hold, on-none, serves_word, stand-used, went-none, went-on}
@@ -67,10 +67,10 @@ may-cover w asked names n word at len it can bytes is =
 -- ---- a line whose word names no hold that serves
 
 module _ (w : Standing) (names : NamesState) where
-  pub unused : (asked : Action) → CanServe w asked names → ((bounds : List Bound) (bindings : List Binding) → StandFor w bounds bindings names → UsesRight bounds asked → Served w.setup w.number bindings asked answer.NoHold w.seen w.seen) → ((bounds : List Bound) (bindings : List Binding) → StandFor w bounds bindings names → StandFor w (bound_after asked bounds) (bindings_after asked answer.NoHold bindings) names) → LineEnds w w asked answer.NoHold names names
+  pub unused : (asked : Action) → CanServe w asked names → ((bounds : List Bound) (bindings : List Binding) → StandFor w bounds bindings names → UsesRight bounds asked → Served w.setup w.number bindings asked answer.NoHold w.seen w.seen) → ((bounds : List Bound) (bindings : List Binding) → StandFor w bounds bindings names → StandFor w (bound_after asked bounds) (bindings_after asked answer.NoHold bindings) names) → LineServed w w asked answer.NoHold names names
   unused asked can left stands = record {
     served = λ bounds bindings stand right. (left bounds bindings stand right, stands bounds bindings stand);
-    full = tt;
+    full = inl tt;
     goes_on = went-none w;
     good = can.good;
     room = refl;
@@ -80,7 +80,7 @@ module _ (w : Standing) (names : NamesState) where
   no-word bounds bindings n word of_kind stand uses serves =
       named-none w.streams w.number w.seen word uses.bound bindings (named_at names.named word) of_kind (stand.each word uses.bound uses.named uses.still) serves
 
-  pub no-read : (word at len : ℕ) → CanServe w (action.HeldRead word at len) names → serves_word is_map (named_at names.named word) ≡ false → serves_word is_pin (named_at names.named word) ≡ false → LineEnds w w (action.HeldRead word at len) answer.NoHold names names
+  pub no-read : (word at len : ℕ) → CanServe w (action.HeldRead word at len) names → serves_word is_map (named_at names.named word) ≡ false → serves_word is_pin (named_at names.named word) ≡ false → LineServed w w (action.HeldRead word at len) answer.NoHold names names
   no-read word at len can maps pins =
       unused (action.HeldRead word at len) can
       (λ bounds bindings stand right.
@@ -88,25 +88,25 @@ module _ (w : Standing) (names : NamesState) where
       (on-none w.number _ (λ id. CallAnswered w.setup w.number (call.PinnedRead id at len)) w.seen (no-word bounds bindings need.MapOrPin word is_pin stand right.uses pins)))
       (λ bounds bindings stand. stand)
 
-  pub no-write : (word at : ℕ) (bytes : List ℕ) → CanServe w (action.PinnedWrite word at bytes) names → serves_word is_pin (named_at names.named word) ≡ false → LineEnds w w (action.PinnedWrite word at bytes) answer.NoHold names names
+  pub no-write : (word at : ℕ) (bytes : List ℕ) → CanServe w (action.PinnedWrite word at bytes) names → serves_word is_pin (named_at names.named word) ≡ false → LineServed w w (action.PinnedWrite word at bytes) answer.NoHold names names
   no-write word at bytes can pins =
       unused (action.PinnedWrite word at bytes) can
       (λ bounds bindings stand right. on-none w.number _ (λ id. CallAnswered w.setup w.number (call.PinnedWrite id at bytes)) w.seen (no-word bounds bindings need.Pin word is_pin stand right.uses pins))
       (λ bounds bindings stand. stand)
 
-  pub no-stamp : (word : ℕ) (lsn : Option ℕ) → CanServe w (action.SetDirty word lsn) names → serves_word is_pin (named_at names.named word) ≡ false → LineEnds w w (action.SetDirty word lsn) answer.NoHold names names
+  pub no-stamp : (word : ℕ) (lsn : Option ℕ) → CanServe w (action.SetDirty word lsn) names → serves_word is_pin (named_at names.named word) ≡ false → LineServed w w (action.SetDirty word lsn) answer.NoHold names names
   no-stamp word lsn can pins =
       unused (action.SetDirty word lsn) can
       (λ bounds bindings stand right. on-none w.number _ (λ id. CallAnswered w.setup w.number (call.SetDirty id lsn)) w.seen (no-word bounds bindings need.Pin word is_pin stand right pins))
       (λ bounds bindings stand. stand)
 
-  pub no-chain : (word at len : ℕ) → CanServe w (action.MdlBytes word at len) names → serves_word is_read_chain (named_at names.named word) ≡ false → LineEnds w w (action.MdlBytes word at len) answer.NoHold names names
+  pub no-chain : (word at len : ℕ) → CanServe w (action.MdlBytes word at len) names → serves_word is_read_chain (named_at names.named word) ≡ false → LineServed w w (action.MdlBytes word at len) answer.NoHold names names
   no-chain word at len can chains =
       unused (action.MdlBytes word at len) can
       (λ bounds bindings stand right. on-none w.number _ (λ id. CallAnswered w.setup w.number (call.MdlBytes id at len)) w.seen (no-word bounds bindings need.ReadChain word is_read_chain stand right.uses chains))
       (λ bounds bindings stand. stand)
 
-  pub no-store : (word at : ℕ) (bytes : List ℕ) → CanServe w (action.MdlStore word at bytes) names → serves_word is_write_chain (named_at names.named word) ≡ false → LineEnds w w (action.MdlStore word at bytes) answer.NoHold names names
+  pub no-store : (word at : ℕ) (bytes : List ℕ) → CanServe w (action.MdlStore word at bytes) names → serves_word is_write_chain (named_at names.named word) ≡ false → LineServed w w (action.MdlStore word at bytes) answer.NoHold names names
   no-store word at bytes can chains =
       unused (action.MdlStore word at bytes) can
       (λ bounds bindings stand right. on-none w.number _ (λ id. CallAnswered w.setup w.number (call.MdlStore id at bytes)) w.seen (no-word bounds bindings need.WriteChain word is_write_chain stand right.uses chains))
@@ -139,10 +139,10 @@ use-answered old new of_kind held it asked ended told same tells less ends =
     (use-told old new of_kind held asked ended less (subst (λ i. UseEnds old new of_kind held i ended) same ends))
 
 module _ (old new : Standing) (names : NamesState) (word : ℕ) (it : Named) (is : named_at names.named word ≡ Some it) (told : Answer) where
-  used : (asked : Action) (made : Call) (n : Need) → CanServe old asked names → HeldReadTold old new (test_of it) (held_of it) made told → ((id : ℕ) → ((held_of it).id == id) ≡ false → changes_it id made ≡ false) → ((bounds : List Bound) → UsesRight bounds asked → Uses n bounds word) → ((bounds : List Bound) (bindings : List Binding) → StandFor old bounds bindings names → UsesRight bounds asked → CallAnswered old.setup old.number made told old.seen new.seen → Served old.setup old.number bindings asked told old.seen new.seen) → ((bounds : List Bound) (bindings : List Binding) → StandFor new bounds bindings names → StandFor new (bound_after asked bounds) (bindings_after asked told bindings) names) → LineEnds old new asked told names names
+  used : (asked : Action) (made : Call) (n : Need) → CanServe old asked names → HeldReadTold old new (test_of it) (held_of it) made told → ((id : ℕ) → ((held_of it).id == id) ≡ false → changes_it id made ≡ false) → ((bounds : List Bound) → UsesRight bounds asked → Uses n bounds word) → ((bounds : List Bound) (bindings : List Binding) → StandFor old bounds bindings names → UsesRight bounds asked → CallAnswered old.setup old.number made told old.seen new.seen → Served old.setup old.number bindings asked told old.seen new.seen) → ((bounds : List Bound) (bindings : List Binding) → StandFor new bounds bindings names → StandFor new (bound_after asked bounds) (bindings_after asked told bindings) names) → LineServed old new asked told names names
   used asked made n can ends spares uses left stands = record {
     served = λ bounds bindings stand right. (left bounds bindings stand right ends.answered, stands bounds bindings (after bounds bindings stand (uses bounds right)));
-    full = ends.full;
+    full = inl ends.full;
     goes_on = ends.goes_on;
     good = ends.good can.good;
     room = refl;
@@ -158,7 +158,7 @@ module _ (old new : Standing) (names : NamesState) (word : ℕ) (it : Named) (is
       named-hold old.streams old.number old.seen word uses.bound bindings it of_kind (has-word old names bounds bindings n word it stand uses is) serves
 
 module _ (old new : Standing) (names : NamesState) (word : ℕ) (held : Held) (told : Answer) where
-  pub map-read : (at len : ℕ) → named_at names.named word ≡ Some (named.Map held) → CanServe old (action.HeldRead word at len) names → HeldReadTold old new is_map held (call.MappedRead held.id at len) told → LineEnds old new (action.HeldRead word at len) told names names
+  pub map-read : (at len : ℕ) → named_at names.named word ≡ Some (named.Map held) → CanServe old (action.HeldRead word at len) names → HeldReadTold old new is_map held (call.MappedRead held.id at len) told → LineServed old new (action.HeldRead word at len) told names names
   map-read at len is can ends =
       used old new names word (named.Map held) is told (action.HeldRead word at len) (call.MappedRead held.id at len) need.MapOrPin can ends (λ id apart. refl) (λ bounds right. right.uses)
       (λ bounds bindings stand right left.
@@ -166,7 +166,7 @@ module _ (old new : Standing) (names : NamesState) (word : ℕ) (held : Held) (t
       (sym (by-word old new names word (named.Map held) is told bounds bindings need.MapOrPin is_map stand right.uses refl)) left)
       (λ bounds bindings stand. stand)
 
-  pub pin-read : (at len : ℕ) → named_at names.named word ≡ Some (named.Pin held) → CanServe old (action.HeldRead word at len) names → HeldReadTold old new is_pin held (call.PinnedRead held.id at len) told → LineEnds old new (action.HeldRead word at len) told names names
+  pub pin-read : (at len : ℕ) → named_at names.named word ≡ Some (named.Pin held) → CanServe old (action.HeldRead word at len) names → HeldReadTold old new is_pin held (call.PinnedRead held.id at len) told → LineServed old new (action.HeldRead word at len) told names names
   pin-read at len is can ends =
       used old new names word (named.Pin held) is told (action.HeldRead word at len) (call.PinnedRead held.id at len) need.MapOrPin can ends (λ id apart. refl) (λ bounds right. right.uses)
       (λ bounds bindings stand right left.
@@ -176,28 +176,28 @@ module _ (old new : Standing) (names : NamesState) (word : ℕ) (held : Held) (t
       (by-word old new names word (named.Pin held) is told bounds bindings need.MapOrPin is_pin stand right.uses refl) left))
       (λ bounds bindings stand. stand)
 
-  pub chain-read : (at len : ℕ) → named_at names.named word ≡ Some (named.ReadChain held) → CanServe old (action.MdlBytes word at len) names → HeldReadTold old new is_read_chain held (call.MdlBytes held.id at len) told → LineEnds old new (action.MdlBytes word at len) told names names
+  pub chain-read : (at len : ℕ) → named_at names.named word ≡ Some (named.ReadChain held) → CanServe old (action.MdlBytes word at len) names → HeldReadTold old new is_read_chain held (call.MdlBytes held.id at len) told → LineServed old new (action.MdlBytes word at len) told names names
   chain-read at len is can ends =
       used old new names word (named.ReadChain held) is told (action.MdlBytes word at len) (call.MdlBytes held.id at len) need.ReadChain can ends (λ id apart. refl) (λ bounds right. right.uses)
       (λ bounds bindings stand right left. on-hold old.number held.id _ (λ id. CallAnswered old.setup old.number (call.MdlBytes id at len)) told old.seen new.seen
       (by-word old new names word (named.ReadChain held) is told bounds bindings need.ReadChain is_read_chain stand right.uses refl) left)
       (λ bounds bindings stand. stand)
 
-  pub pin-write : (at : ℕ) (bytes : List ℕ) → named_at names.named word ≡ Some (named.Pin held) → CanServe old (action.PinnedWrite word at bytes) names → HeldReadTold old new is_pin held (call.PinnedWrite held.id at bytes) told → LineEnds old new (action.PinnedWrite word at bytes) told names names
+  pub pin-write : (at : ℕ) (bytes : List ℕ) → named_at names.named word ≡ Some (named.Pin held) → CanServe old (action.PinnedWrite word at bytes) names → HeldReadTold old new is_pin held (call.PinnedWrite held.id at bytes) told → LineServed old new (action.PinnedWrite word at bytes) told names names
   pin-write at bytes is can ends =
       used old new names word (named.Pin held) is told (action.PinnedWrite word at bytes) (call.PinnedWrite held.id at bytes) need.Pin can ends (λ id apart. apart) (λ bounds right. right.uses)
       (λ bounds bindings stand right left. on-hold old.number held.id _ (λ id. CallAnswered old.setup old.number (call.PinnedWrite id at bytes)) told old.seen new.seen
       (by-word old new names word (named.Pin held) is told bounds bindings need.Pin is_pin stand right.uses refl) left)
       (λ bounds bindings stand. stand)
 
-  pub pin-stamp : (lsn : Option ℕ) → named_at names.named word ≡ Some (named.Pin held) → CanServe old (action.SetDirty word lsn) names → HeldReadTold old new is_pin held (call.SetDirty held.id lsn) told → LineEnds old new (action.SetDirty word lsn) told names names
+  pub pin-stamp : (lsn : Option ℕ) → named_at names.named word ≡ Some (named.Pin held) → CanServe old (action.SetDirty word lsn) names → HeldReadTold old new is_pin held (call.SetDirty held.id lsn) told → LineServed old new (action.SetDirty word lsn) told names names
   pin-stamp lsn is can ends =
       used old new names word (named.Pin held) is told (action.SetDirty word lsn) (call.SetDirty held.id lsn) need.Pin can ends (λ id apart. apart) (λ bounds right. right)
       (λ bounds bindings stand right left. on-hold old.number held.id _ (λ id. CallAnswered old.setup old.number (call.SetDirty id lsn)) told old.seen new.seen
       (by-word old new names word (named.Pin held) is told bounds bindings need.Pin is_pin stand right refl) left)
       (λ bounds bindings stand. stand)
 
-  pub chain-store : (at : ℕ) (bytes : List ℕ) → named_at names.named word ≡ Some (named.WriteChain held) → CanServe old (action.MdlStore word at bytes) names → HeldReadTold old new is_write_chain held (call.MdlStore held.id at bytes) told → LineEnds old new (action.MdlStore word at bytes) told names names
+  pub chain-store : (at : ℕ) (bytes : List ℕ) → named_at names.named word ≡ Some (named.WriteChain held) → CanServe old (action.MdlStore word at bytes) names → HeldReadTold old new is_write_chain held (call.MdlStore held.id at bytes) told → LineServed old new (action.MdlStore word at bytes) told names names
   chain-store at bytes is can ends =
       used old new names word (named.WriteChain held) is told (action.MdlStore word at bytes) (call.MdlStore held.id at bytes) need.WriteChain can ends (λ id apart. refl) (λ bounds right. right.uses)
       (λ bounds bindings stand right left. on-hold old.number held.id _ (λ id. CallAnswered old.setup old.number (call.MdlStore id at bytes)) told old.seen new.seen

@@ -25,6 +25,8 @@ use Rattle.cc_ranges.specs.Stores.{HasToStore}
 use Rattle.cc_ranges.specs.declared.error.NcError.{NcError}
 use Rattle.cc_calls.specs.Held.{IsHolding}
 use Rattle.cc_calls.specs.declared.held.Held.{Held}
+-- a journal that was full at a moment
+pub use Rattle.cc_shim.specs.Ends.{WasFullError}
 use Rattle.cc_lines.specs.Holds.{NamesState, NamesStand, HasRoom}
 
 -- An action of a run on one of so many streams, or on none; one on a hold names no stream. Those of `steps` alone are no
@@ -57,6 +59,10 @@ IsServable streams (action.Flush file span) = file.stream < streams
 IsServable streams (action.Purge file span) = file.stream < streams
 IsServable streams (action.NcRead file at len) = file.stream < streams
 IsServable streams (action.NcWrite file at bytes) = file.stream < streams
+IsServable streams (action.Read file path at len) = file.stream < streams
+IsServable streams (action.Write file at bytes) = file.stream < streams
+IsServable streams (action.Update file at bytes) = file.stream < streams
+IsServable streams (action.Levels file) = file.stream < streams
 IsServable streams action.IsDirtyData = Unit {0}
 IsServable streams (action.DirtyPages handle) = Unit {0}
 IsServable streams (action.LsnForFile file) = file.stream < streams
@@ -109,24 +115,38 @@ IsFullTold w (answer.Refused e) = IsFullError 3 w e
 IsFullTold w (answer.NcRefused done cause) = IsFullError 2 w cause ⊎ (IsStoring w × IsFullError 4 w cause)
 IsFullTold w other = Unit {0}
 
+-- The same of a moment of the line, at which others had no more under way than they ever have.
+abbrev pub WasFullTold : Standing → Standing → Answer → Type 0
+WasFullTold old new (answer.Refused e) = WasFullError 3 old new e
+WasFullTold old new (answer.NcRefused done cause) = WasFullError 2 old new cause ⊎ (IsStoring new × WasFullError 4 old new cause)
+WasFullTold old new other = Unit {0}
+
 -- A line was served: it left what explains its answer, over what the caller's words name, and what is kept of them
--- stands for it then; a journal that is full is full; the pass goes on as it stood and may call again; and what it has
--- seen is good.
-pub record LineEnds (old new : Standing) (asked : Action) (told : Answer) (was now : NamesState) : Type 0 where
+-- stands for it then; of a journal that is told to be full this is so; the pass goes on as it stood and may call again; and
+-- what it has seen is good.
+pub record LineWith (Full : Type 0) (old new : Standing) (asked : Action) (told : Answer) (was now : NamesState) : Type 0 where
   pub served : (bounds : List Bound) (bindings : List Binding) → StandFor old bounds bindings was → UsesRight bounds asked →
       Served old.setup old.number bindings asked told old.seen new.seen
       × StandFor new (bound_after asked bounds) (bindings_after asked told bindings) now
-  pub full : IsFullTold new told
+  pub full : Full
   pub goes_on : WentOn old new
   pub good : IsGood old.setup new.seen
   pub room : now.room ≡ was.room
+
+-- a line whose journal was full at its end, where it is told so, or at one of its moments
+abbrev pub LineServed : Standing → Standing → Action → Answer → NamesState → NamesState → Type 0
+LineServed old new asked told was now = LineWith (IsFullTold new told ⊎ WasFullTold old new told) old new asked told was now
+
+-- a line whose journal was full at one of its moments, where it is told so
+abbrev pub LineEnds : Standing → Standing → Action → Answer → NamesState → NamesState → Type 0
+LineEnds old new asked told was now = LineWith (WasFullTold old new told) old new asked told was now
 
 -- The same of an action that binds a word, which is the next one: it may be asked so, and its line was served so.
 abbrev pub CanServeNext : Standing → (ℕ → Action) → NamesState → Type 0
 CanServeNext w asked names = CanServe w (asked (length names.named)) names
 
 abbrev pub NextEnds : Standing → Standing → (ℕ → Action) → Answer → NamesState → NamesState → Type 0
-NextEnds old new asked told was now = LineEnds old new (asked (length was.named)) told was now
+NextEnds old new asked told was now = LineServed old new (asked (length was.named)) told was now
 
 -- the answer of a line whose call answers no value
 abbrev pub told_of : Result (Unit {0}) CcError → Answer

@@ -7,7 +7,7 @@ ghost use Rattle.cc_calls.specs.Answers.{CanCall};
 ghost use Rattle.cc_calls.specs.Held.{IsHolding, covers};
 ghost use Rattle.cc_script.specs.declared.script.Action.TheVariants as action;
 ghost use Rattle.cc_lines.specs.Holds.{bound_named, made_told};
-ghost use Rattle.cc_lines.specs.Line.{CanServe, CanServeNext, HeldReadTold, LineEnds, NextEnds};
+ghost use Rattle.cc_lines.specs.Line.{CanServe, CanServeNext, HeldReadTold, LineServed, NextEnds};
 
 use crate::holds::{Named, Names};
 use crate::line::answered;
@@ -129,7 +129,7 @@ pub(crate) fn pin_map<T: Turns>(
     exclusive: bool,
 ) -> Answer
     requires { CanServe (T.standing turns.old) (action.PinMapped word exclusive) names.old }
-    ensures { LineEnds (T.standing turns.old) (T.standing turns.new) (action.PinMapped word exclusive) result names.old names.new }
+    ensures { LineServed (T.standing turns.old) (T.standing turns.new) (action.PinMapped word exclusive) result names.old names.new }
 {
     match names.take(word) {
         Some(named) => match named {
@@ -163,7 +163,7 @@ pub(crate) fn held_read<T: Turns>(
     len: u64,
 ) -> Answer
     requires { CanServe (T.standing turns.old) (action.HeldRead word at len) names.old }
-    ensures { LineEnds (T.standing turns.old) (T.standing turns.new) (action.HeldRead word at len) result names.old names.new }
+    ensures { LineServed (T.standing turns.old) (T.standing turns.new) (action.HeldRead word at len) result names.old names.new }
 {
     match names.get(word) {
         Some(named) => match named {
@@ -185,7 +185,7 @@ pub(crate) fn held_write<T: Turns>(
     bytes: &Bytes,
 ) -> Answer
     requires { CanServe (T.standing turns.old) (action.PinnedWrite word at bytes.now) names.old }
-    ensures { LineEnds (T.standing turns.old) (T.standing turns.new) (action.PinnedWrite word at bytes.now) result names.old names.new }
+    ensures { LineServed (T.standing turns.old) (T.standing turns.new) (action.PinnedWrite word at bytes.now) result names.old names.new }
 {
     match names.get(word) {
         Some(named) => match named {
@@ -205,7 +205,7 @@ pub(crate) fn stamp<T: Turns>(
     lsn: Option<Lsn>,
 ) -> Answer
     requires { CanServe (T.standing turns.old) (action.SetDirty word lsn) names.old }
-    ensures { LineEnds (T.standing turns.old) (T.standing turns.new) (action.SetDirty word lsn) result names.old names.new }
+    ensures { LineServed (T.standing turns.old) (T.standing turns.new) (action.SetDirty word lsn) result names.old names.new }
 {
     match names.get(word) {
         Some(named) => match named {
@@ -224,7 +224,7 @@ pub(crate) fn release<T: Turns>(
     word: HoldWord,
 ) -> Answer
     requires { CanServe (T.standing turns.old) (action.Unpin word) names.old }
-    ensures { LineEnds (T.standing turns.old) (T.standing turns.new) (action.Unpin word) result names.old names.new }
+    ensures { LineServed (T.standing turns.old) (T.standing turns.new) (action.Unpin word) result names.old names.new }
 {
     match names.take(word) {
         Some(named) => match named {
@@ -279,7 +279,7 @@ pub(crate) fn release_repinned<T: Turns>(
     through: bool,
 ) -> Answer
     requires { CanServe (T.standing turns.old) (action.UnpinRepinned word through) names.old }
-    ensures { LineEnds (T.standing turns.old) (T.standing turns.new) (action.UnpinRepinned word through) result names.old names.new }
+    ensures { LineServed (T.standing turns.old) (T.standing turns.new) (action.UnpinRepinned word through) result names.old names.new }
 {
     match names.take(word) {
         Some(named) => match named {
@@ -300,7 +300,7 @@ pub(crate) fn chain_read<T: Turns>(
     len: u64,
 ) -> Answer
     requires { CanServe (T.standing turns.old) (action.MdlBytes word at len) names.old }
-    ensures { LineEnds (T.standing turns.old) (T.standing turns.new) (action.MdlBytes word at len) result names.old names.new }
+    ensures { LineServed (T.standing turns.old) (T.standing turns.new) (action.MdlBytes word at len) result names.old names.new }
 {
     match names.get(word) {
         Some(named) => match named {
@@ -321,7 +321,7 @@ pub(crate) fn chain_store<T: Turns>(
     bytes: &Bytes,
 ) -> Answer
     requires { CanServe (T.standing turns.old) (action.MdlStore word at bytes.now) names.old }
-    ensures { LineEnds (T.standing turns.old) (T.standing turns.new) (action.MdlStore word at bytes.now) result names.old names.new }
+    ensures { LineServed (T.standing turns.old) (T.standing turns.new) (action.MdlStore word at bytes.now) result names.old names.new }
 {
     match names.get(word) {
         Some(named) => match named {
@@ -340,7 +340,7 @@ pub(crate) fn chain_done<T: Turns>(
     word: HoldWord,
 ) -> Answer
     requires { CanServe (T.standing turns.old) (action.MdlDone word) names.old }
-    ensures { LineEnds (T.standing turns.old) (T.standing turns.new) (action.MdlDone word) result names.old names.new }
+    ensures { LineServed (T.standing turns.old) (T.standing turns.new) (action.MdlDone word) result names.old names.new }
 {
     match names.take(word) {
         Some(named) => match named {
@@ -366,7 +366,7 @@ pub(crate) fn chain_abort<T: Turns>(
     word: HoldWord,
 ) -> Answer
     requires { CanServe (T.standing turns.old) (action.MdlAbort word) names.old }
-    ensures { LineEnds (T.standing turns.old) (T.standing turns.new) (action.MdlAbort word) result names.old names.new }
+    ensures { LineServed (T.standing turns.old) (T.standing turns.new) (action.MdlAbort word) result names.old names.new }
 {
     match names.take(word) {
         Some(named) => match named {

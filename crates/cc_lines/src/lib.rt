@@ -5,15 +5,16 @@
 //! on standing for what the caller was answered: each word names the hold that its line made, which the caller has still,
 //! or nothing where none was made or a line has ended it.
 //!
-//! `line` serves an action, `held_lines` one on a hold, `noncached_lines` a noncached one, and `holds` keeps what the
-//! words of a caller name. The phases of a run stand above (`cc_run`); below are the calls (`cc_calls`, `cc_ranges`)
-//! and how the journal explains answers (`cc_pieces`).
+//! `line` serves an action, `held_lines` one on a hold, `noncached_lines` a noncached one, `shim_lines` one of the file
+//! system shim, and `holds` keeps what the words of a caller name. The phases of a run stand above (`cc_run`); below are the
+//! calls (`cc_calls`, `cc_ranges`), the shim over them (`cc_shim`), and how the journal explains answers (`cc_pieces`).
 #![tactic(auto)]
 
 mod held_lines;
 mod holds;
 mod line;
 mod noncached_lines;
+mod shim_lines;
 
 pub use holds::{Named, Names};
 pub use line::{answered, serve_at};

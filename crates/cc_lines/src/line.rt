@@ -5,7 +5,7 @@ ghost use Rattle.cc_pieces.specs.Answered.{AppendAnswered, CallAnswered};
 ghost use Rattle.cc_turns.specs.Standing.{Standing};
 ghost use Rattle.cc_calls.specs.Answers.{CanCall, IsFree};
 ghost use Rattle.cc_calls.specs.Pages.{StaysGood, WentOn};
-ghost use Rattle.cc_lines.specs.Line.{CanServe, IsFullTold, LineEnds, flag_told, lsns_told, rows_told, state_told, told_of};
+ghost use Rattle.cc_lines.specs.Line.{CanServe, IsFullTold, LineEnds, LineServed, flag_told, lsns_told, rows_told, state_told, told_of};
 ghost use Rattle.std.specs.Prelude.{◌≡◌};
 
 use crate::held_lines::{
@@ -14,6 +14,7 @@ use crate::held_lines::{
 };
 use crate::holds::Names;
 use crate::noncached_lines::{read_noncached, write_noncached};
+use crate::shim_lines::{levels, read_along, update_logged, write_extending};
 use cc_calls::{
     copy_read, copy_write, dirty_pages, file_state, flush, initialize, is_dirty_data, log_append,
     log_flush, lsn_for_file, purge, set_attributes, set_file_sizes, set_granularity,
@@ -40,6 +41,7 @@ pub fn serve_at<T: Turns, P: Gate>(
     let caller = turns.me();
     gate.before(caller, number);
     let answer = serve(alloc, turns, action, names);
+    turns.note_others();
     gate.after(caller, number);
     answer
 }
@@ -48,7 +50,7 @@ pub fn serve_at<T: Turns, P: Gate>(
 // one that was done takes is there before.
 fn serve<T: Turns>(alloc: Global, turns: &mut T, action: &Action, names: &mut Names) -> Answer
     requires { CanServe (T.standing turns.old) action.now names.old }
-    ensures { LineEnds (T.standing turns.old) (T.standing turns.new) action.now result names.old names.new }
+    ensures { LineServed (T.standing turns.old) (T.standing turns.new) action.now result names.old names.new }
 {
     match action {
         Action::Initialise {
@@ -113,6 +115,15 @@ fn serve<T: Turns>(alloc: Global, turns: &mut T, action: &Action, names: &mut Na
         Action::Purge { file, span } => answered(purge(alloc, turns, *file, *span)),
         Action::NcRead { file, at, len } => read_noncached(alloc, turns, *file, *at, *len),
         Action::NcWrite { file, at, bytes } => write_noncached(alloc, turns, *file, *at, bytes),
+        Action::Read {
+            file,
+            path,
+            at,
+            len,
+        } => read_along(alloc, turns, *file, *path, *at, *len),
+        Action::Write { file, at, bytes } => write_extending(alloc, turns, *file, *at, bytes),
+        Action::Update { file, at, bytes } => update_logged(alloc, turns, *file, *at, bytes),
+        Action::Levels { file } => levels(turns, *file),
         Action::IsDirtyData => flag(is_dirty_data(turns)),
         Action::DirtyPages { handle } => rows(dirty_pages(alloc, turns, *handle)),
         Action::LsnForFile { file } => lsns(lsn_for_file(alloc, turns, *file)),

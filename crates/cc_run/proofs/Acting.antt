@@ -26,7 +26,7 @@ use Rattle.cc_writes.specs.Ways.{IsFullError}
 use Rattle.cc_calls.specs.Pages.{WentOn}
 use Rattle.cc_run.specs.Desks.{IsReady, IsSameRun, IsSamePass}
 use Rattle.cc_lines.specs.Holds.{NamesStand, NamesState}
-use Rattle.cc_lines.specs.Line.{CanServe, IsFullTold, IsServable, LineEnds}
+use Rattle.cc_lines.specs.Line.{CanServe, IsFullTold, IsServable, LineEnds, WasFullError, WasFullTold}
 use Rattle.cc_run.specs.Lines.{LineEnd, LineLeft, MayServeLine}
 use Rattle.cc_run.proofs.Others.{idle-acted}
 
@@ -37,18 +37,25 @@ full-at w limit entries asked above during old grew rest few full =
     rw grew (some-end (λ moment. (entries ≡ length moment) × (room_in w.setup moment 0 < limit)) during old
     (rw (← grew) (full.0, omega (arith, full.1, rest, few, above))))
 
--- a noncached line asks four places at most
-pub cut_off-most : (w : Standing) (done : ℕ) (cause : CcError) → IsFullTold w (answer.NcRefused done cause) → IsFullError 4 w cause
-cut_off-most w done (error.JournalFull entries) (inl two) = (two.0, omega (arith, two.1))
-cut_off-most w done other (inl two) = tt
-cut_off-most w done cause (inr four) = four.1
+-- so at a moment of a line
+full-then : (w v : Standing) (limit entries asked : ℕ) → 0 < asked → w.in_flight ≡ 0 → w.most_others + asked ≤ limit → WasFullError asked w v (error.JournalFull entries) → WasFull w.setup limit entries w.seen v.seen
+unfolding room_in
+full-then w v limit entries asked above rest few was = record {
+  moment = was.moment;
+  later = was.later;
+  since = was.since;
+  ends = was.ends;
+  begins = was.begins;
+  holds = (was.holds.2.0, omega (arith, was.holds.2.1, was.holds.1, rest, few, above));
+}
 
-room-at : (w : Standing) (limit : ℕ) (told : Answer) (during old : List Entry) → w.seen ≡ during ++ old → w.in_flight ≡ 0 → w.others + 4 ≤ limit → IsFullTold w told → HadNoRoom w.setup limit told old w.seen
-room-at w limit (answer.Refused (error.JournalFull entries)) during old grew rest few full =
-    full-at w limit entries 3 (omega arith) during old grew rest (omega (arith, few)) full
-room-at w limit (answer.NcRefused done (error.JournalFull entries)) during old grew rest few full =
-    full-at w limit entries 4 (omega arith) during old grew rest few (cut_off-most w done (error.JournalFull entries) full)
-room-at w limit other during old grew rest few full = tt
+-- a line that found the journal full was so with little room, where others have little under way at most: it asks four
+-- places at once at most
+pub room-then : (w v : Standing) (limit : ℕ) (told : Answer) → w.in_flight ≡ 0 → w.most_others + 4 ≤ limit → WasFullTold w v told → HadNoRoom w.setup limit told w.seen v.seen
+room-then w v limit (answer.Refused (error.JournalFull entries)) rest few was = full-then w v limit entries 3 (omega arith) rest (omega (arith, few)) was
+room-then w v limit (answer.NcRefused done (error.JournalFull entries)) rest few (inl was) = full-then w v limit entries 2 (omega arith) rest (omega (arith, few)) was
+room-then w v limit (answer.NcRefused done (error.JournalFull entries)) rest few (inr was) = full-then w v limit entries 4 (omega arith) rest few was.1
+room-then w v limit other rest few was = tt
 
 -- on a desk others have nothing under way
 pub room-left : (w : Standing) (u : Setup) (me : ℕ) (it : Call) (told : Answer) (old : List Entry) → CallAnswered u me it told old w.seen → w.in_flight ≡ 0 → w.others ≡ 0 → IsFullTold w told → HadNoRoom w.setup 4 told old w.seen
@@ -134,7 +141,7 @@ module _ (w0 w1 w2 : Standing) (caller : ℕ) (acts : w1 ≡ record w0 { number 
     at_rest = at_rest;
   }
 
-  pub left-after : (bindings : List Binding) (line : ActionLine) (told : Answer) → line.caller ≡ caller → Served w1.setup w1.number bindings line.action told w1.seen w2.seen → IsFullTold w2 told → w2.others ≡ 0 → LineLeft w0.setup bindings line told w0.seen w2.seen
+  pub left-after : (bindings : List Binding) (line : ActionLine) (told : Answer) → line.caller ≡ caller → Served w1.setup w1.number bindings line.action told w1.seen w2.seen → WasFullTold w1 w2 told → w1.most_others ≡ 0 → LineLeft w0.setup bindings line told w0.seen w2.seen
   left-after bindings line told is served full alone = record {
     explained = record {
       served =
@@ -142,13 +149,17 @@ module _ (w0 w1 w2 : Standing) (caller : ℕ) (acts : w1 ≡ record w0 { number 
           let number : w1.number ≡ line.caller = ap (λ w. w.number) acts ∙ sym is in
           let seen : w1.seen ≡ w0.seen = ap (λ w. w.seen) acts in
           rw (setup, number, seen) at served;
-      room = subst (λ u. HadNoRoom u 4 told w0.seen w2.seen) run-after.setup (room-at w2 4 told acted.added w0.seen acted.grew at_rest (omega (arith, alone)) full);
+      room =
+          let setup : w1.setup ≡ w0.setup = ap (λ w. w.setup) acts in
+          let seen : w1.seen ≡ w0.seen = ap (λ w. w.seen) acts in
+          let rest : w1.in_flight ≡ 0 = ap (λ w. w.in_flight) acts ∙ ready.at_rest in
+          rw (setup, seen) at (room-then w1 w2 4 told rest (omega (arith, alone)) full);
     };
     alone = λ me other. alone-after me (λ e. other (e ∙ sym is));
   }
 
   -- and what is kept of the caller's words stands
-  pub line-end : (bounds : List Bound) (bindings : List Binding) (line : ActionLine) (told : Answer) (was now : NamesState) → line.caller ≡ caller → LineEnds w1 w2 line.action told was now → w2.others ≡ 0 → NamesStand w0.streams line.caller w0.seen bounds bindings was.named → UsesRight bounds line.action → LineEnd w0 bounds bindings line told w0.seen w2.seen now
+  pub line-end : (bounds : List Bound) (bindings : List Binding) (line : ActionLine) (told : Answer) (was now : NamesState) → line.caller ≡ caller → LineEnds w1 w2 line.action told was now → w1.most_others ≡ 0 → NamesStand w0.streams line.caller w0.seen bounds bindings was.named → UsesRight bounds line.action → LineEnd w0 bounds bindings line told w0.seen w2.seen now
   line-end bounds bindings line told was now is ended alone stand right =
       let streams : w1.streams ≡ w0.streams = ap (λ w. w.streams) acts in
       let number : w1.number ≡ line.caller = ap (λ w. w.number) acts ∙ sym is in

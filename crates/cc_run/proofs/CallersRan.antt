@@ -25,7 +25,7 @@ use Rattle.cc_lines.specs.Holds.{NamesStand, NamesState}
 use Rattle.cc_lines.specs.Line.{CanServe, IsServable, LineEnds}
 use Rattle.cc_run.specs.declared.callers.Caller.{Caller}
 use Rattle.cc_run.specs.declared.callers.Finished.{Finished}
-use Rattle.cc_run.proofs.FullLines.{room-served}
+use Rattle.cc_run.proofs.Acting.{room-then}
 use Rattle.cc_run.proofs.Lists.{parted}
 use Rattle.cc_run.proofs.Merging.{own-more, own-none, own-other, count-more, count-other}
 use Rattle.cc_run.proofs.WordSteps.{bindings-append, bound-long, bound-other, bound-own, right-back, right-first, right-front, words-append, words-first}
@@ -181,15 +181,13 @@ module _ {D L Q : Type 0} (tells : Tells D L Q) (board : BoardState D L) (all : 
         }
 
     -- one line of the caller
-    pub ran-own : (line : ActionLine) (rest : List ActionLine) (told : Answer) (after : SeatedState D L) (now : NamesState) → all ≡ lines ++ line ∷ rest → line.caller ≡ me → LineEnds (seat_at tells seated) (seat_at tells after) line.action told names now → after.knows.others ≤ after.knows.before + after.knows.passes → RanSoFar tells board all caller (lines ++ line ∷ []) (answers ++ told ∷ []) after now
-    ran-own line rest told after now parts own ended few =
+    pub ran-own : (line : ActionLine) (rest : List ActionLine) (told : Answer) (after : SeatedState D L) (now : NamesState) → all ≡ lines ++ line ∷ rest → line.caller ≡ me → LineEnds (seat_at tells seated) (seat_at tells after) line.action told names now → RanSoFar tells board all caller (lines ++ line ∷ []) (answers ++ told ∷ []) after now
+    ran-own line rest told after now parts own ended =
         let went = ended.goes_on in
-        let setup_after : (seat_at tells after).setup ≡ setup_in tells board.begun = ap (λ w. w.setup) went.same ∙ setup-is in
         let streams_after : (seat_at tells after).streams ≡ length board.begun.disks = ap (λ w. w.streams) went.same ∙ streams-are in
         let number_after : after.knows.number ≡ me = ap (λ w. w.number) went.same ∙ number-is in
-        let none : after.knows.in_flight ≡ 0 = ap (λ w. w.in_flight) went.same ∙ (ap (λ w. w.in_flight) ran.went.same ∙ may.none) in
-        let most : after.knows.before + after.knows.passes ≡ caller.pass.knows.before + caller.pass.knows.passes =
-        ap (λ w. w.most_others) went.same ∙ ap (λ w. w.most_others) ran.went.same in
+        let idle : seated.knows.in_flight ≡ 0 = ap (λ w. w.in_flight) ran.went.same ∙ may.none in
+        let most : seated.knows.before + seated.knows.passes ≡ caller.pass.knows.before + caller.pass.knows.passes = ap (λ w. w.most_others) ran.went.same in
         record {
           went = went-then (seat_at tells (seat_of board caller)) (seat_at tells seated) (seat_at tells after) ran.went went;
           free = ap (λ w. w.held) went.same ∙ ran.free;
@@ -204,9 +202,8 @@ module _ {D L Q : Type 0} (tells : Tells D L Q) (board : BoardState D L) (all : 
                     (ran-more (setup_in tells board.begun) 32 me bindings (asked_own me lines answers) line.action told caller.pass.knows.seen seated.knows.seen after.knows.seen so.0
                     (record {
                       served = rw (setup-is, number-is) at served.0;
-                      room = subst (λ u. HadNoRoom u 32 told seated.knows.seen after.knows.seen) setup_after
-                          (room-served (seat_at tells after) 32 (seat_at tells seated).setup seated.knows.number named line.action told seated.knows.seen
-                          served.0 none (omega (arith, few, most, may.few)) ended.full);
+                      room = subst (λ u. HadNoRoom u 32 told seated.knows.seen after.knows.seen) setup-is
+                          (room-then (seat_at tells seated) (seat_at tells after) 32 told idle (omega (arith, most, may.few)) ended.full);
                     })),
                 rw (own-last me lines line answers told own ran.whole, bound-own me bounds lines line own, bindings-append bindings (asked_own me lines answers) ((line.action, told) ∷ []))
                     (rw (streams_after, number_after) at served.1),

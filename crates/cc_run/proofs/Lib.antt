@@ -2,7 +2,6 @@
 mod Acting
 mod Ascending
 mod LinesRan
-mod FullLines
 mod WordSteps
 mod NamesKept
 mod Lists

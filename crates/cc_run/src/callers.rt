@@ -122,7 +122,6 @@ fn run_caller<R: Wait, D: PageDisk, L: LogFile, Q: PostRoutine, P: Gate>(
         if line.caller == me {
             calls = calls.saturating_add(1);
             let answer = serve_at(alloc, &mut seated, &line.action, gate, calls, &mut names);
-            seated.note_others();
             answers.push_reserved(answer);
         }
     }

@@ -3,6 +3,7 @@ use Rattle.std.proofs.Common.{ap, arith}
 use Rattle.cc_entry.specs.declared.call.Call.TheVariants as call
 use Rattle.cc_lines.proofs.PlainLines.{append-line, nc_read-line, nc_write-line, plain-line, plain_call}
 use Rattle.cc_lines.proofs.ServeLines.{asked-as, can-as, change-line, flag-line, flush-line, flushed-line, lsns-line, may-free, may-on, next-chain, next-map, next-pin, next-prepare, next-repin, next-write_chain, purge-line, rows-line, set-line, state-line}
+use Rattle.cc_lines.proofs.ShimServed.{levels-line, read-line, update-line, write-line}
 use Rattle.cc_lines.proofs.line.serve.Goals as goal
 
 pub initialize-requires : goal.initialize-requires
@@ -244,3 +245,35 @@ set_threshold-requires g c = may-on (g.T.Turns.standing c.args.turns.now) _ c.ar
 pub returns-in-SetThreshold : goal.returns-in-SetThreshold
 returns-in-SetThreshold g c =
     set-line _ _ c.args.names.now _ _ c.requires.good (call.SetThreshold c.in-SetThreshold.file c.in-SetThreshold.pages) c.set_threshold.result (ap plain_call c.in-SetThreshold.is) (omega arith) c.answered-in-SetThreshold.ensures c.set_threshold.ensures
+
+pub read_along-requires : goal.read_along-requires
+read_along-requires g c = may-on (g.T.Turns.standing c.args.turns.now) _ c.args.names.now c.in-Read.file.stream c.requires (can-as (g.T.Turns.standing c.args.turns.now) _ _ c.args.names.now c.in-Read.is c.requires).servable
+
+pub returns-in-Read : goal.returns-in-Read
+returns-in-Read g c =
+    asked-as _ _ _ _ _ _ _ c.in-Read.is
+    (read-line _ _ _ c.args.names.now c.read_along.ensures.full c.read_along.ensures.goes_on (c.read_along.ensures.good c.requires.good) c.in-Read.file c.in-Read.path c.in-Read.at c.in-Read.len c.read_along.ensures.answered)
+
+pub write_extending-requires : goal.write_extending-requires
+write_extending-requires g c = may-on (g.T.Turns.standing c.args.turns.now) _ c.args.names.now c.in-Write.file.stream c.requires (can-as (g.T.Turns.standing c.args.turns.now) _ _ c.args.names.now c.in-Write.is c.requires).servable
+
+pub returns-in-Write : goal.returns-in-Write
+returns-in-Write g c =
+    asked-as _ _ _ _ _ _ _ c.in-Write.is
+    (write-line _ _ _ c.args.names.now c.write_extending.ensures.full c.write_extending.ensures.goes_on (c.write_extending.ensures.good c.requires.good) c.in-Write.file c.in-Write.at c.in-Write.bytes c.write_extending.ensures.answered)
+
+pub update_logged-requires : goal.update_logged-requires
+update_logged-requires g c = may-on (g.T.Turns.standing c.args.turns.now) _ c.args.names.now c.in-Update.file.stream c.requires (can-as (g.T.Turns.standing c.args.turns.now) _ _ c.args.names.now c.in-Update.is c.requires).servable
+
+pub returns-in-Update : goal.returns-in-Update
+returns-in-Update g c =
+    asked-as _ _ _ _ _ _ _ c.in-Update.is
+    (update-line _ _ _ c.args.names.now c.update_logged.ensures.full c.update_logged.ensures.goes_on (c.update_logged.ensures.good c.requires.good) c.in-Update.file c.in-Update.at c.in-Update.bytes c.update_logged.ensures.answered)
+
+pub levels-requires : goal.levels-requires
+levels-requires g c = may-on (g.T.Turns.standing c.args.turns.now) _ c.args.names.now c.in-Levels.file.stream c.requires (can-as (g.T.Turns.standing c.args.turns.now) _ _ c.args.names.now c.in-Levels.is c.requires).servable
+
+pub returns-in-Levels : goal.returns-in-Levels
+returns-in-Levels g c =
+    asked-as _ _ _ _ _ _ _ c.in-Levels.is
+    (levels-line _ _ _ c.args.names.now c.levels.ensures.full c.levels.ensures.goes_on (c.levels.ensures.good c.requires.good) c.in-Levels.file c.levels.ensures.answered)

@@ -61,7 +61,7 @@ loop-line-preserved g c =
         ran = rw (more, w.answers-is, w.seated-is, w.names-is, w.push_reserved.ensures.items)
             (ran-own tells c.args.board.now lines c.args.caller c.requires.may (take i lines) c.loop-line.answers.items c.loop-line.seated c.loop-line.names before.ran c.line-item.result (drop (suc i) lines)
             w.serve_at-answer.result w.serve_at-answer.new.turns w.serve_at-answer.new.names (parts-at lines i c.line-item.result c.loop-line-test.true c.line-item.is)
-            (w.if-line-me.true ∙ before.me_is) w.serve_at-answer.ensures w.note_others.ensures);
+            (w.if-line-me.true ∙ before.me_is) w.serve_at-answer.ensures);
         me_is = before.me_is;
         room = ap vec_capacity w.answers-is ∙ (w.push_reserved.ensures.capacity ∙ before.room);
       }

@@ -1,8 +1,8 @@
--- A line that found the journal full left what was there before it, and the journal had little room.
-use Rattle.std.specs.Prelude.{◌≡◌, ℕ, ◌+◌, ◌≤◌, Bool, true, false, ◌||◌, Err, List, ◌∷◌, ◌++◌}
+-- A line that found the journal full left what was there before it, so the end of the line is one of its moments.
+use Rattle.std.specs.Prelude.{◌≡◌, ℕ, ◌≤◌, ◌⊎◌, Bool, true, false, ◌||◌, Err, List, [], ◌∷◌, ◌++◌, refl}
 use Rattle.std.specs.declared.option.Option.{Option}
 use Rattle.std.specs.declared.option.Option.TheVariants.{Some, None}
-use Rattle.std.proofs.Common.{sym, ◌∙◌, append_assoc, arith}
+use Rattle.std.proofs.Common.{ap, sym, ◌∙◌, append_assoc, arith, subst, inl, inr}
 use Rattle.cc_entry.specs.Kinds.{is_map, is_pin, is_repin, is_read_chain, is_write_chain}
 use Rattle.cc_entry.specs.declared.answer.Answer.{Answer}
 use Rattle.cc_entry.specs.declared.answer.Answer.TheVariants as answer
@@ -17,6 +17,7 @@ use Rattle.cc_entry.specs.declared.error.CcError.TheVariants as error
 use Rattle.cc_entry.specs.declared.hold.HoldKind.{HoldKind}
 use Rattle.cc_script.specs.declared.script.Action.{Action}
 use Rattle.cc_script.specs.declared.script.Action.TheVariants as action
+use Rattle.cc_model.specs.Passes.{HasSeen}
 use Rattle.cc_model.specs.Setup.{Setup}
 use Rattle.cc_effects.specs.Moments.{Between}
 use Rattle.cc_effects.specs.Repins.{UnpinLeft}
@@ -25,11 +26,13 @@ use Rattle.cc_own.proofs.VerbsKeep.{nc_read-unchanged, nc_write-unchanged}
 use Rattle.cc_pieces.specs.Answered.{AppendAnswered, CallAnswered, LogFlushAnswered}
 use Rattle.cc_pieces.specs.Bindings.{Binding, OnHold, hold_named}
 use Rattle.cc_pieces.specs.HoldLines.{HeldReadBy, HoldLine, UnpinAnswered}
-use Rattle.cc_pieces.specs.Rooms.{HadNoRoom}
 use Rattle.cc_pieces.specs.Served.{Served}
 use Rattle.cc_turns.specs.Standing.{Standing}
-use Rattle.cc_lines.specs.Line.{IsFullTold}
-use Rattle.cc_run.proofs.Acting.{cut_off-most, full-at}
+use Rattle.cc_calls.specs.Pages.{WentOn}
+use Rattle.cc_writes.specs.Ways.{IsFullError}
+use Rattle.cc_shim.specs.Ends.{WasFullError}
+use Rattle.cc_lines.specs.Line.{IsFullTold, WasFullTold}
+use Rattle.cc_lines.proofs.KeptByShim.{read-keeps, update-keeps, write-keeps}
 
 -- the journal has what it had, and more in front
 record Grew (old new : List Entry) : Type 0 where
@@ -42,6 +45,9 @@ module _ (u : Setup) (me entries : ℕ) (old new : List Entry) where
 
   grew-call : (it : Call) → CallAnswered u me it full old new → Grew old new
   grew-call it left = record { during = left.during; grew = left.grew }
+
+  grew-seen : HasSeen old new → Grew old new
+  grew-seen seen = record { during = seen.later; grew = seen.grew }
 
   grew-hold : (o : Option ℕ) (call_on : ℕ → Call) → OnHold me o (λ id. CallAnswered u me (call_on id)) full old new → Grew old new
   grew-hold None call_on left = absurd (cc (left.0))
@@ -101,6 +107,9 @@ module _ (u : Setup) (me entries : ℕ) (old new : List Entry) where
   grew-served bindings (action.Purge file span) left = grew-call (call.Purge file span) left
   grew-served bindings (action.NcRead file at len) left = absurd left
   grew-served bindings (action.NcWrite file at bytes) left = absurd left
+  grew-served bindings (action.Read file path at len) left = grew-seen (read-keeps u me file path at len full old new left).0
+  grew-served bindings (action.Write file at bytes) left = grew-seen (write-keeps u me file at bytes full old new left).0
+  grew-served bindings (action.Update file at bytes) left = grew-seen (update-keeps u me file at bytes full old new left).0
   grew-served bindings action.IsDirtyData left = grew-call call.IsDirtyData left
   grew-served bindings (action.DirtyPages handle) left = grew-call (call.DirtyPages handle) left
   grew-served bindings (action.LsnForFile file) left = grew-call (call.LsnForFile file) left
@@ -161,6 +170,10 @@ module _ (u : Setup) (me done : ℕ) (cause : CcError) (old new : List Entry) wh
   grew-cut_off bindings (action.State file) left = absurd left
   grew-cut_off bindings (action.Flush file span) left = absurd left.left
   grew-cut_off bindings (action.Purge file span) left = absurd left
+  grew-cut_off bindings (action.Read file path at len) left = absurd left
+  grew-cut_off bindings (action.Write file at bytes) left = absurd left
+  grew-cut_off bindings (action.Update file at bytes) left = absurd left
+  grew-cut_off bindings (action.Levels file) left = absurd left
   grew-cut_off bindings action.IsDirtyData left = absurd left
   grew-cut_off bindings (action.DirtyPages handle) left = absurd left
   grew-cut_off bindings (action.LsnForFile file) left = absurd left
@@ -172,12 +185,33 @@ module _ (u : Setup) (me done : ℕ) (cause : CcError) (old new : List Entry) wh
   grew-cut_off bindings (action.SetThreshold file pages) left = absurd left
   grew-cut_off bindings other left = absurd left
 
--- a line that found the journal full was so with little room, where others have little under way
-pub room-served : (w : Standing) (limit : ℕ) (u : Setup) (me : ℕ) (bindings : List Binding) (asked : Action) (told : Answer) (old : List Entry) → Served u me bindings asked told old w.seen → w.in_flight ≡ 0 → w.others + 4 ≤ limit → IsFullTold w told → HadNoRoom w.setup limit told old w.seen
-room-served w limit u me bindings asked (answer.Refused (error.JournalFull entries)) old left rest few full =
-    let more = grew-served u me entries old w.seen bindings asked left in
-    full-at w limit entries 3 (omega arith) more.during old more.grew rest (omega (arith, few)) full
-room-served w limit u me bindings asked (answer.NcRefused done (error.JournalFull entries)) old left rest few full =
-    let more = grew-cut_off u me done (error.JournalFull entries) old w.seen bindings asked left in
-    full-at w limit entries 4 (omega arith) more.during old more.grew rest few (cut_off-most w done (error.JournalFull entries) full)
-room-served w limit u me bindings asked other old left rest few _ = tt
+-- ---- at the end of a line others had no more under way than they ever have
+
+module _ (old new : Standing) (went : WentOn old new) (few : new.others ≤ new.most_others) where
+  full-end : (asked : ℕ) (e : CcError) → ((entries : ℕ) → e ≡ error.JournalFull entries → Grew old.seen new.seen) → IsFullError asked new e → WasFullError asked old new e
+  full-end asked (error.JournalFull entries) grew full =
+      let capacity : new.setup.capacity ≡ old.setup.capacity = ap (λ (w : Standing). w.setup.capacity) went.same in
+      let flight : new.in_flight ≡ old.in_flight = ap (λ (w : Standing). w.in_flight) went.same in
+      let bound : new.most_others ≡ old.most_others = ap (λ (w : Standing). w.most_others) went.same in
+      let more = grew entries refl in
+      record {
+        moment = new.seen;
+        later = [];
+        since = more.during;
+        ends = refl;
+        begins = more.grew;
+        holds = (new.others, omega (arith, few, bound), (full.0, omega (arith, full.1, capacity, flight)));
+      }
+  full-end asked other grew full = tt
+
+  cut : (bindings : List Binding) (asked : Action) (done : ℕ) (cause : CcError) → Served old.setup old.number bindings asked (answer.NcRefused done cause) old.seen new.seen → (entries : ℕ) → cause ≡ error.JournalFull entries → Grew old.seen new.seen
+  cut bindings asked done cause left entries is = grew-cut_off old.setup old.number done cause old.seen new.seen bindings asked left
+
+  -- a line that is told so was so at a moment
+  pub full-line : (bindings : List Binding) (asked : Action) (told : Answer) → Served old.setup old.number bindings asked told old.seen new.seen → IsFullTold new told ⊎ WasFullTold old new told → WasFullTold old new told
+  full-line bindings asked told left (inr was) = was
+  full-line bindings asked (answer.Refused e) left (inl full) =
+      full-end 3 e (λ entries is. grew-served old.setup old.number entries old.seen new.seen bindings asked (subst (λ x. Served old.setup old.number bindings asked (answer.Refused x) old.seen new.seen) is left)) full
+  full-line bindings asked (answer.NcRefused done cause) left (inl (inl full)) = inl (full-end 2 cause (cut bindings asked done cause left) full)
+  full-line bindings asked (answer.NcRefused done cause) left (inl (inr full)) = inr (full.0, full-end 4 cause (cut bindings asked done cause left) full.1)
+  full-line bindings asked other left (inl _) = tt

@@ -1,0 +1,97 @@
+-- The lines of the shim, and the question for levels: what their calls left explains them, and the words stand on.
+use Rattle.std.specs.Prelude.{◌≡◌, ℕ, List, refl}
+use Rattle.std.specs.declared.option.Option.TheVariants.{None}
+use Rattle.std.proofs.Common.{arith, inr}
+use Rattle.cc_entry.specs.Place.{File}
+use Rattle.cc_entry.specs.declared.answer.Answer.{Answer}
+use Rattle.cc_entry.specs.declared.answer.Answer.TheVariants as answer
+use Rattle.cc_entry.specs.declared.entry.Entry.{Entry}
+use Rattle.cc_entry.specs.declared.error.CcError.{CcError}
+use Rattle.cc_entry.specs.declared.error.CcError.TheVariants as error
+use Rattle.cc_entry.specs.declared.reply.Reply.TheVariants as reply
+use Rattle.cc_script.specs.declared.bound.Bound.{Bound}
+use Rattle.cc_script.specs.declared.script.Action.TheVariants as action
+use Rattle.cc_script.specs.declared.script.ReadPath.{ReadPath}
+use Rattle.cc_model.specs.Good.{IsGood}
+use Rattle.cc_effects.specs.Moments.{IsIdle}
+use Rattle.cc_own.proofs.Unchanged.{unchanged-idle}
+use Rattle.cc_pieces.specs.Answered.{LevelsAnswered}
+use Rattle.cc_pieces.specs.Bindings.{Binding}
+use Rattle.cc_pieces.specs.Shim.{ReadAnswered, UpdateAnswered, WriteAnswered}
+use Rattle.cc_vacb.specs.Levels.{levels_of}
+use Rattle.cc_turns.specs.Standing.{Standing}
+use Rattle.cc_calls.specs.Pages.{WentOn}
+use Rattle.cc_shim.specs.Ends.{WasFullError}
+use Rattle.cc_lines.specs.Holds.{NamesState, held_of}
+use Rattle.cc_lines.specs.Line.{LineServed, StandFor, WasFullTold}
+use Rattle.cc_lines.proofs.KeptByShim.{Keeps, read-keeps, update-keeps, write-keeps}
+use Rattle.cc_lines.proofs.KeptWords.{stand-kept}
+use Rattle.cc_lines.proofs.WordLines.{has-at, so_far, stand-now, stand-on}
+
+-- where there was no room for two places, there was none for three
+pub full-three : (old new : Standing) (e : CcError) → WasFullError 2 old new e → WasFullTold old new (answer.Refused e)
+full-three old new (error.JournalFull entries) full = record {
+  moment = full.moment;
+  later = full.later;
+  since = full.since;
+  ends = full.ends;
+  begins = full.begins;
+  holds = (full.holds.0, full.holds.1, (full.holds.2.0, omega (arith, full.holds.2.1)));
+}
+full-three old new other full = tt
+
+module _ (old new : Standing) (told : Answer) (names : NamesState) (full : WasFullTold old new told) (went : WentOn old new) (good : IsGood old.setup new.seen) where
+  -- no hold changed that the pass had
+  stand-shim : (bounds : List Bound) (bindings : List Binding) → Keeps old.setup old.number None old.seen new.seen → StandFor old bounds bindings names → StandFor new bounds bindings names
+  stand-shim bounds bindings keeps stand =
+      let goodness = so_far old.setup new.seen good in
+      stand-now old new went good bounds bindings names
+      (stand-kept old.setup old.streams old.number old.seen new.seen goodness bounds bindings names.named stand
+      (λ word it named.
+      let has = (has-at old.streams old.number old.seen bounds bindings names.named word it stand named).1 in
+      keeps.1 (held_of it).file.stream (held_of it).id has.holds.hold goodness has.holds.has tt))
+
+  pub read-line : (file : File) (path : ReadPath) (at len : ℕ) → ReadAnswered old.setup old.number file path at len told old.seen new.seen → LineServed old new (action.Read file path at len) told names names
+  read-line file path at len left = record {
+    served = λ bounds bindings stand right. (left, stand-shim bounds bindings (read-keeps old.setup old.number file path at len told old.seen new.seen left) stand);
+    full = inr full;
+    goes_on = went;
+    good = good;
+    room = refl;
+  }
+
+  pub write-line : (file : File) (at : ℕ) (bytes : List ℕ) → WriteAnswered old.setup old.number file at bytes told old.seen new.seen → LineServed old new (action.Write file at bytes) told names names
+  write-line file at bytes left = record {
+    served = λ bounds bindings stand right. (left, stand-shim bounds bindings (write-keeps old.setup old.number file at bytes told old.seen new.seen left) stand);
+    full = inr full;
+    goes_on = went;
+    good = good;
+    room = refl;
+  }
+
+  pub update-line : (file : File) (at : ℕ) (bytes : List ℕ) → UpdateAnswered old.setup old.number file at bytes told old.seen new.seen → LineServed old new (action.Update file at bytes) told names names
+  update-line file at bytes left = record {
+    served = λ bounds bindings stand right. (left, stand-shim bounds bindings (update-keeps old.setup old.number file at bytes told old.seen new.seen left) stand);
+    full = inr full;
+    goes_on = went;
+    good = good;
+    room = refl;
+  }
+
+  levels-idle : (file : File) (told : Answer) → LevelsAnswered levels_of old.number file told old.seen new.seen → IsIdle old.number old.seen new.seen
+  levels-idle file (answer.Levels n) left = left.idle
+  levels-idle file (answer.Refused error.NotCached) left = left.idle
+  levels-idle file (answer.Refused error.NoMemory) left = left
+  levels-idle file other left = absurd left
+
+  pub levels-line : (file : File) → LevelsAnswered levels_of old.number file told old.seen new.seen → LineServed old new (action.Levels file) told names names
+  levels-line file left = record {
+    served = λ bounds bindings stand right. (
+      left,
+      stand-on old new went good bounds bindings names (λ id. unchanged-idle old.number id old.seen new.seen (levels-idle file told left)) stand,
+    );
+    full = inr full;
+    goes_on = went;
+    good = good;
+    room = refl;
+  }

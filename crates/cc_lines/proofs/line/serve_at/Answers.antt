@@ -1,0 +1,17 @@
+-- What was served ends the line: a journal that is told to be full was full at a moment, of which the end is one.
+use Rattle.cc_lines.proofs.FullLines.{full-line}
+use Rattle.cc_lines.proofs.line.serve_at.Goals as goal
+
+pub returns : goal.returns
+returns g c =
+    let w = g.T.Turns.standing c.args.turns.now in
+    let v = g.T.Turns.standing c.serve-answer.new.turns in
+    let line = c.serve-answer.ensures in
+    let left = line.served c.requires.bounds c.requires.bindings c.requires.stand c.requires.right in
+    record {
+      served = line.served;
+      full = full-line w v line.goes_on c.note_others.ensures.few c.requires.bindings c.args.action.now c.serve-answer.result left.0 line.full;
+      goes_on = line.goes_on;
+      good = line.good;
+      room = line.room;
+    }

@@ -1,0 +1,11 @@
+-- It is refused for nothing but that the object is not cached.
+use Rattle.std.specs.Prelude.{refl}
+use Rattle.std.proofs.Common.{subst, sym}
+use Rattle.cc_entry.specs.declared.error.CcError.{CcError}
+use Rattle.cc_shim.specs.Ends.{WasFullError}
+use Rattle.cc_lines.proofs.shim_lines.levels.Goals as goal
+
+pub returns-in-Err-clause-full : goal.returns-in-Err-clause-full
+returns-in-Err-clause-full g c =
+    subst (λ (e : CcError). WasFullError 3 (g.T.Turns.standing c.args.turns.now) (g.T.Turns.standing c.index_levels.new.turns) e)
+    (sym (c.in-Err.ensures.ends.sure c.in-Err.error refl)) tt

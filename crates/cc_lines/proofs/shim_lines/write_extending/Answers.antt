@@ -1,0 +1,13 @@
+-- A write for which memory is wanting leaves nothing; one that asks two places asks no more than three.
+use Rattle.cc_lines.proofs.ShimCalls.{write-wanting}
+use Rattle.cc_lines.proofs.ShimServed.{full-three}
+use Rattle.cc_lines.proofs.shim_lines.write_extending.Goals as goal
+
+pub returns-in_default-clause-answered : goal.returns-in_default-clause-answered
+returns-in_default-clause-answered g c =
+    let w = g.T.Turns.standing c.args.turns.now in
+    write-wanting w.setup w.number c.args.file w.seen c.args.at c.args.bytes.now
+
+pub returns-clause-full : goal.returns-clause-full
+returns-clause-full g c =
+    full-three (g.T.Turns.standing c.args.turns.now) (g.T.Turns.standing c.write.new.turns) c.in-Err.error c.in-Err.ensures.ends.full
