@@ -11,6 +11,7 @@ mod PhaseSteps
 mod PhasesRan
 mod RowSteps
 mod RunSteps
+mod CommandLine
 mod Statuses
 mod DirtyRows
 mod Returned

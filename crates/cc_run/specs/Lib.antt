@@ -5,6 +5,7 @@ pub mod Lines
 pub mod Runs
 pub mod Rows
 pub mod Words
+pub mod CommandLine
 pub mod Disks
 pub mod Logs
 pub mod Ends

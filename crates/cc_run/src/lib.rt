@@ -10,9 +10,10 @@
 //!
 //! `top` has the call, `modes` what a script leaves that is run, in either mode. `run` has a run, `openings` and `phases`
 //! its two parts, `lines` a phase on the desk, `threads` one on a board, `callers` what each thread does, `call_numbers`
-//! what the gate is told. `steps` has a script of steps. `words` reads the command line, `intake` takes the script's bytes
-//! and `output` puts the text, `devices` tests whether there are enough disks, logs and post routines, `row` parts those
-//! that a run takes from the others, `table` has the table of the text, and `no_run` why no run was made. `laws` has what
+//! what the gate is told. `steps` has a script of steps. `words` says what the command line asks for, `command_line` has
+//! clap read it, `intake` takes the script's bytes and `output` puts the text, `devices` tests whether there are enough
+//! disks, logs and post routines, `row` parts those that a run takes from the others, `table` has the table of the text,
+//! and `no_run` why no run was made. `laws` has what
 //! follows of how the program ended.
 //!
 //! It stands on the script, on the text, on the calls, on the turns of one thread and on those that threads share, on the
@@ -22,6 +23,7 @@
 
 mod call_numbers;
 mod callers;
+mod command_line;
 mod devices;
 mod intake;
 mod laws;

@@ -25,7 +25,7 @@ use crate::intake::{IntakeError, take_all};
 use crate::modes::{RunResult, run_in_mode};
 use crate::no_run::{NoRun, syntax_text};
 use crate::output::{OutputError, put_all};
-use crate::words::mode_of;
+use crate::words::read_words;
 use cc_entry::{Entry, LineReply};
 use cc_print::text_of;
 use cc_script::{Mode, Script, ScriptFault, read_script};
@@ -145,8 +145,10 @@ fn prepare<S: Source>(
     ensures cause { IfErr result (IsCause (input S.told S.faults S.given S.ended (map string_bytes words.now) source.old source.new
         disks logs posts)) }
 {
-    let Some(mode) = mode_of(words) else {
-        return Err(NoRun::Usage);
+    let mode = match read_words(alloc, words) {
+        Ok(mode) => mode,
+        Err(NoRun::Usage) => return Err(NoRun::Usage),
+        Err(_) => return Err(NoRun::NoMemory),
     };
     let bytes = match take_all(alloc, source) {
         Ok(bytes) => bytes,
@@ -276,11 +278,11 @@ fn conduct<
 
 /// The program: the words of the command line without its name, the script's bytes from a source, the text to a sink, a
 /// disk for each stream, the logs that streams may name, of which the first four are taken, the post routines, of which
-/// each line that defers a write has one, and the gate that callers pass. `run FILE`: the callers of a phase make the calls
-/// of their lines on threads, phase after phase. `steps FILE`: the lines are events, one after the other. Whatever is
-/// handed in, the journal that is given back is good over the pages that the disks tell, and it is what happened, also
-/// where memory was wanting after the run began. Over each front of it the entries, and the places that they reserve, are
-/// within the script's capacity.
+/// each line that defers a write has one, and the gate that callers pass. `run FILE`, also with a folder behind it, for
+/// whoever hands in the disks: the callers of a phase make the calls of their lines on threads, phase after phase.
+/// `steps FILE`: the lines are events, one after the other. Whatever is handed in, the journal that is given back is
+/// good over the pages that the disks tell, and it is what happened, also where memory was wanting after the run began.
+/// Over each front of it the entries, and the places that they reserve, are within the script's capacity.
 pub fn cache_main<
     R: Threads + Wait + Sync,
     S: Source,

@@ -1,5 +1,6 @@
 -- What the program hands to the top call: disks, logs and post routines that nobody has used.
 use Rattle.std.specs.Prelude.{[], None, false}
+use Rattle.cc_filedev.specs.Devices.{DiskState as FileDiskState, LogState as FileLogState}
 use Rattle.cc_memdev.specs.Devices.{DiskState, LogState}
 use Rattle.ntcache.specs.declared.outside.Routine.{Routine}
 
@@ -30,3 +31,11 @@ new_log =
 -- a post routine that was not posted
 abbrev pub new_routine : Routine
 new_routine = record { posted = false }
+
+-- a disk over a file, as it is made: no sync and no other call of it has failed
+abbrev pub new_file_disk : FileDiskState
+new_file_disk = record { has_lost = false; faults = 0 }
+
+-- a log over a file, as it is made
+abbrev pub new_file_log : FileLogState
+new_file_log = record { has_lost = false; is_broken = false; faults = 0 }

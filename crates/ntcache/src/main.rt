@@ -1,19 +1,21 @@
 //! The program `ntcache`: it hands what is outside to the top call, and ends with its status.
 //!
 //! Each stream has a disk in memory whose bytes are 5A, there are four logs in memory, and 64 post routines for writes that
-//! are deferred. The script is the file that the second word names, the text goes to standard output. Below is `cache_main`,
-//! which keeps every promise.
+//! are deferred. Where a third word names a folder, disks and logs are over its files. The script is the file that the
+//! second word names, the text goes to standard output. Below is `cache_main`, which keeps every promise.
 #![tactic(auto)]
 
-ghost use Rattle.std.specs.Prelude.{◌≡◌, map, string_bytes, IfOk, OnErr};
+ghost use Rattle.std.specs.Prelude.{◌≡◌, length, map, string_bytes, IfOk, OnErr};
 ghost use Rattle.std.specs.Process.{exit_status};
 ghost use Rattle.cc_run.specs.Ends.{input, output, HasEnded};
 
+mod folder;
 mod outside;
 
 use cc_filedev::{Output, PlaceOf, ScriptFile};
 use cc_run::{Ended, cache_main};
-use cc_traits::{Sink, Source};
+use cc_traits::{LogFile, PageDisk, Sink, Source};
+use folder::{file_disks, file_logs};
 use outside::{Free, devices, logs, routines};
 use std::alloc::{AllocError, Global};
 use std::env;
@@ -37,8 +39,10 @@ fn exit_code(status: Result<u8, AllocError>) -> ExitCode
     }
 }
 
-/// Runs the words of the command line over the file that they name and standard output, with threads.
+/// Runs the words of the command line over the file that they name, standard output, and the folder that they name or
+/// memory, with threads.
 fn start<R: Threads + Wait + Sync>(rt: HostRuntime, threads: &R) -> Result<u8, AllocError> {
+    let alloc = rt.alloc();
     let words = words_of(rt)?;
     let path = match words.get(1) {
         Some(path) => path.as_str(),
@@ -46,7 +50,18 @@ fn start<R: Threads + Wait + Sync>(rt: HostRuntime, threads: &R) -> Result<u8, A
     };
     let mut script = ScriptFile::new(PlaceOf { files: &rt, path });
     let mut out = Output::new(&rt);
-    run(threads, rt.alloc(), &words, &mut script, &mut out)
+    match words.get(2) {
+        Some(folder) => {
+            let disks = file_disks(alloc, rt, folder.as_str())?;
+            let logs = file_logs(alloc, rt, folder.as_str())?;
+            run(threads, alloc, &words, &mut script, &mut out, disks, logs)
+        }
+        None => {
+            let disks = devices(alloc)?;
+            let logs = logs(alloc)?;
+            run(threads, alloc, &words, &mut script, &mut out, disks, logs)
+        }
+    }
 }
 
 /// The words of the command line without the program's name; none where one is not text.
@@ -67,19 +82,21 @@ fn words_of(rt: HostRuntime) -> Result<Vec<String>, AllocError> {
 }
 
 /// Runs the words over sixteen disks, four logs and 64 post routines, and answers the status of the run.
-fn run<R: Threads + Wait + Sync, S: Source, K: Sink>(
+fn run<R: Threads + Wait + Sync, S: Source, K: Sink, D: PageDisk + Send + Drop, L: LogFile + Send>(
     rt: &R,
     alloc: Global,
     words: &[String],
     script: &mut S,
     out: &mut K,
+    disks: Vec<D>,
+    logs: Vec<L>,
 ) -> Result<u8, AllocError>
+    requires disks { length disks.items ≡ 16 }
+    requires logs { length logs.items ≡ 4 }
     ensures { IfOk result (HasEnded
         (input S.told S.faults S.given S.ended (map string_bytes words.now) script.old script.new 16 4 64)
         (output K.told K.faults K.stalls out.old out.new)) }
 {
-    let disks = devices(alloc)?;
-    let logs = logs(alloc)?;
     let posts = routines(alloc)?;
     let Ended {
         status,
