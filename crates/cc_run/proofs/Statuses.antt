@@ -1,16 +1,17 @@
 -- What each exit status says, and when it comes.
-use Rattle.std.proofs.Common.{◌≡◌, ◌≢◌, ℕ, ◌+◌, ◌<◌, ◌≤◌, true, false, List, [], ◌++◌, length, length-append, append-nil, reverse, is_some, IfSome, Option, Some, None, Result, Ok, Err, ◌⊎◌, inl, inr, refl, sym, subst, ◌∙◌, ap, arith}
+use Rattle.std.proofs.Common.{◌≡◌, ◌≢◌, true≢false, ℕ, Bool, ◌+◌, ◌<◌, ◌≤◌, true, false, List, [], ◌++◌, length, length-append, append-nil, is_some, IfSome, Option, Some, None, Result, Ok, Err, ◌⊎◌, inl, inr, refl, sym, subst, ◌∙◌, ap, arith}
 use Rattle.std.proofs.lemmas.List.{append_cancel_left}
 use Rattle.cc_entry.specs.declared.answer.LineReply.{LineReply}
 use Rattle.cc_entry.specs.declared.entry.Entry.{Entry}
 use Rattle.cc_traits.specs.Told.{Both, IfTold, Gave}
 use Rattle.cc_script.specs.declared.script.Script.{Script}
+use Rattle.cc_script.specs.Generator.{generated}
 use Rattle.cc_script.specs.Grammar.{script_of}
-use Rattle.cc_print.specs.Text.{text_of}
-use Rattle.cc_pieces.specs.Table.{table_of}
-use Rattle.cc_run.specs.Words.{is_command, mode_in}
-use Rattle.cc_run.specs.Ends.{Input, Output, status_of, GaveAll, IsCause, IsRead, IsWrong, WasTaken, TookMany, HasTooFewDevices, HasFailed, Spells, IsPut, IsRun, IsEnded, has_devices}
-use Rattle.cc_run.specs.Complete.{Comes}
+use Rattle.cc_run.specs.Words.{command_of, is_command, is_reading, mode_in, reads_source}
+use Rattle.cc_run.specs.declared.words.Command.{Command}
+use Rattle.cc_run.specs.declared.words.Command.TheVariants as command
+use Rattle.cc_run.specs.Ends.{Input, Output, status_of, GaveAll, IsAsked, IsCause, IsRead, IsWrong, WasTaken, TookMany, HasTooFewDevices, HasFailed, Spells, IsPut, IsRun, IsEnded, has_devices, printed_by}
+use Rattle.cc_run.specs.Complete.{Comes, IsFound}
 use Rattle.cc_run.specs.declared.no_run.NoRun.{NoRun}
 use Rattle.cc_run.specs.declared.no_run.NoRun.TheVariants as no_run
 
@@ -73,6 +74,54 @@ not-both r script line ok err = absurd (cc (ok, err))
 one-script : (r : Result Script ℕ) (a b : Script) → r ≡ Ok a → r ≡ Ok b → a ≡ b
 one-script r a b first second = cc (first, second)
 
+-- words that ask for the source ask for no number
+reads-no-number : (words : List (List ℕ)) (number : ℕ) → reads_source words ≡ true → command_of words ≡ Some (command.Generate number) → ⊥
+reads-no-number words number reads asks = true≢false (sym reads ∙ ap is_reading asks)
+
+-- words that ask for the source, or for a number, are a command
+reads-command : (words : List (List ℕ)) → reads_source words ≡ true → is_command words ≡ true
+reads-command words = go (command_of words)
+  where
+    go : (asked : Option Command) → is_reading asked ≡ true → is_some asked ≡ true
+    go None reads = absurd (cc reads)
+    go (Some one) reads = refl
+
+asked-command : (i : Input) (script : Script) → IsAsked i script → is_command i.words ≡ true
+asked-command i script (inl found) = reads-command i.words found.0.words
+asked-command i script (inr made) = ap is_some made.words
+
+-- words ask for one script
+one-found : (i : Input) (a b : Script) → IsAsked i a → IsFound i b → a ≡ b
+one-found i a b (inl it) (inl found) = one-script _ a b (spells-is i found.bytes a found.comes it.1) found.spelled
+one-found i a b (inl it) (inr made) = absurd (reads-no-number i.words made.number it.0.words made.words)
+one-found i a b (inr made) (inl found) = absurd (reads-no-number i.words made.number found.comes.words made.words)
+one-found i a b (inr first) (inr second) =
+    let same : first.number ≡ second.number = cc (first.words, second.words) in
+    first.is ∙ ap generated same ∙ sym second.is
+
+-- the script that is found has no wrong line
+found-right : (i : Input) (script : Script) (line : ℕ) → IsFound i script → IsRead i → IsWrong i line → ⊥
+found-right i script line (inl found) read wrong = not-both _ script line found.spelled (wrong-is i found.bytes line found.comes wrong)
+found-right i script line (inr made) read wrong = reads-no-number i.words made.number read.words made.words
+
+-- nor is the source of one that is found asked in vain
+found-calm : (i : Input) (script : Script) → IsFound i script → reads_source i.words ≡ true → i.faults_after ≡ i.faults
+found-calm i script (inl found) reads = found.comes.no_fault
+found-calm i script (inr made) reads = absurd (reads-no-number i.words made.number reads made.words)
+
+found-short : (i : Input) (script : Script) → WasTaken i.left i.left_after i.given i.given_after → IsFound i script → reads_source i.words ≡ true → TookMany i → ⊥
+found-short i script w (inl found) reads many = not-many i w found.bytes found.comes many
+found-short i script w (inr made) reads many = reads-no-number i.words made.number reads made.words
+
+found-command : (i : Input) (script : Script) → IsFound i script → is_command i.words ≡ true
+found-command i script (inl found) = reads-command i.words found.comes.words
+found-command i script (inr made) = ap is_some made.words
+
+-- few bytes were taken for a script that was asked of the source
+asked-few : (i : Input) (script : Script) → IsAsked i script → reads_source i.words ≡ true → TookMany i → ⊥
+asked-few i script (inl it) reads many = absurd (omega (arith, it.0.few, many))
+asked-few i script (inr made) reads many = reads-no-number i.words made.number reads made.words
+
 -- a sink that did not fail
 module _ (o : Output) (calm : o.faults_after ≡ o.faults) (steady : o.stalls_after ≡ o.stalls) where
   not-failed : HasFailed o → ⊥
@@ -125,7 +174,7 @@ module _ (i : Input) (o : Output) (script : Option Script) (replies : List LineR
   too_few-at = cause-at 7 (HasTooFewDevices i) by (λ e. absurd (cc e)) (λ e. absurd (cc e)) (λ e. absurd (cc e))
     where
       by : (why : NoRun) → 7 ≡ status_of why → IsCause i why → HasTooFewDevices i
-      by no_run.TooFewDevices is cause = cause.1
+      by no_run.TooFewDevices is cause = cause
       by other is cause = absurd (cc is)
 
   -- only a failed sink leaves a text unprinted at status 4
@@ -147,10 +196,10 @@ module _ (i : Input) (o : Output) (script : Option Script) (replies : List LineR
       by : (why : NoRun) → IsCause i why → (status_of why ≡ 1) ⊎ (status_of why ≡ 6)
       by no_run.Usage cause = inl refl
       by no_run.NoMemory cause = inr refl
-      by (no_run.Syntax line) cause = absurd (cc (cause.0.words, wrong))
-      by no_run.TooFewDevices cause = absurd (cc (cause.0.words, wrong))
-      by no_run.ReadFault cause = absurd (cc (cause.0, wrong))
-      by no_run.TooLong cause = absurd (cc (cause.0, wrong))
+      by (no_run.Syntax line) cause = absurd (cc (reads-command i.words cause.0.words, wrong))
+      by no_run.TooFewDevices cause = absurd (cc (asked-command i cause.script cause.asked, wrong))
+      by no_run.ReadFault cause = absurd (cc (reads-command i.words cause.0, wrong))
+      by no_run.TooLong cause = absurd (cc (reads-command i.words cause.0, wrong))
 
       at : (why : NoRun) → status ≡ status_of why → (status_of why ≡ 1) ⊎ (status_of why ≡ 6) → (status ≡ 1) ⊎ (status ≡ 6)
       at why is (inl one) = inl (is ∙ one)
@@ -158,7 +207,7 @@ module _ (i : Input) (o : Output) (script : Option Script) (replies : List LineR
 
       go : (s : Option Script) → IsEnded i o s replies journal status → (status ≡ 1) ⊎ (status ≡ 6)
       go None e = at e.2.why e.2.status_is (by e.2.why e.2.cause)
-      go (Some one) e = absurd (cc (e.read.words, wrong))
+      go (Some one) e = absurd (cc (asked-command i one e.asked, wrong))
 
   -- a run was made at statuses 0 and 4
   pub made-at : (status ≡ 0) ⊎ (status ≡ 4) → is_some script ≡ true
@@ -174,12 +223,12 @@ module _ (i : Input) (o : Output) (script : Option Script) (replies : List LineR
       go None e at' = none e.2.why e.2.status_is at'
       go (Some one) e at' = refl
 
-  pub spelled-at : IfSome script (Spells i)
-  spelled-at = go script ended
+  pub asked-at : IfSome script (IsAsked i)
+  asked-at = go script ended
     where
-      go : (s : Option Script) → IsEnded i o s replies journal status → IfSome s (Spells i)
+      go : (s : Option Script) → IsEnded i o s replies journal status → IfSome s (IsAsked i)
       go None e = tt
-      go (Some one) e = e.spelled
+      go (Some one) e = e.asked
 
   pub empty-at : script ≡ None → journal ≡ []
   empty-at is = go script ended is
@@ -188,10 +237,10 @@ module _ (i : Input) (o : Output) (script : Option Script) (replies : List LineR
       go None e is' = e.1
       go (Some one) e is' = absurd (cc is')
 
-  pub printed-at : status ≡ 0 → IfSome script (λ made. IsPut o (text_of made replies journal (table_of (reverse journal))))
+  pub printed-at : status ≡ 0 → IfSome script (λ made. IsPut o (printed_by (command_of i.words) made replies journal))
   printed-at is = go script ended
     where
-      go : (s : Option Script) → IsEnded i o s replies journal status → IfSome s (λ made. IsPut o (text_of made replies journal (table_of (reverse journal))))
+      go : (s : Option Script) → IsEnded i o s replies journal status → IfSome s (λ made. IsPut o (printed_by (command_of i.words) made replies journal))
       go None e = tt
       go (Some one) e = e.printed.whole is
 
@@ -210,73 +259,82 @@ module _ (i : Input) (o : Output) (script : Option Script) (replies : List LineR
   pub syntax-always : WasTaken i.left i.left_after i.given i.given_after → (bytes : List ℕ) (line : ℕ) → Comes i bytes → script_of (mode_in i.words) bytes ≡ Err line → (status ≡ 2) ⊎ (status ≡ 6)
   syntax-always w bytes line comes wrong = refused-at 2 by run
     where
+      right : (made : Script) → IsAsked i made → ⊥
+      right made (inl it) = not-both _ made line (spells-is i bytes made comes it.1) wrong
+      right made (inr it) = reads-no-number i.words it.number comes.words it.words
+
       by : (why : NoRun) → IsCause i why → (status_of why ≡ 2) ⊎ (status_of why ≡ 6)
-      by no_run.Usage cause = absurd (cc (cause, comes.words))
+      by no_run.Usage cause = absurd (cc (cause, reads-command i.words comes.words))
       by (no_run.Syntax l) cause = inl refl
       by no_run.ReadFault cause = absurd (omega (arith, cause.1, comes.no_fault))
       by no_run.TooLong cause = absurd (not-many i w bytes comes cause.1)
       by no_run.NoMemory cause = inr refl
-      by no_run.TooFewDevices cause = absurd (not-both _ cause.1.script line (spells-is i bytes cause.1.script comes cause.1.spelled) wrong)
+      by no_run.TooFewDevices cause = absurd (right cause.script cause.asked)
 
       run : (made : Script) → IsRun i o made replies journal status → (status ≡ 2) ⊎ (status ≡ 6)
-      run made e = absurd (not-both _ made line (spells-is i bytes made comes e.spelled) wrong)
+      run made e = absurd (right made e.asked)
 
-  pub too_long-always : (is_command i.words ≡ false → i.given_after ≡ i.given) → TookMany i → (status ≡ 5) ⊎ (status ≡ 6)
-  too_long-always untouched many = refused-at 5 by run
+  pub too_long-always : (reads_source i.words ≡ false → i.given_after ≡ i.given) → TookMany i → (status ≡ 5) ⊎ (status ≡ 6)
+  too_long-always untouched many = go (reads_source i.words) refl
     where
-      by : (why : NoRun) → IsCause i why → (status_of why ≡ 5) ⊎ (status_of why ≡ 6)
-      by no_run.Usage cause = absurd (omega (arith, ap length (untouched cause), many))
-      by (no_run.Syntax l) cause = absurd (omega (arith, cause.0.few, many))
-      by no_run.ReadFault cause = absurd (omega (arith, cause.2, many))
-      by no_run.TooLong cause = inl refl
-      by no_run.NoMemory cause = inr refl
-      by no_run.TooFewDevices cause = absurd (omega (arith, cause.0.few, many))
+      by : reads_source i.words ≡ true → (why : NoRun) → IsCause i why → (status_of why ≡ 5) ⊎ (status_of why ≡ 6)
+      by reads no_run.Usage cause = absurd (cc (cause, reads-command i.words reads))
+      by reads (no_run.Syntax l) cause = absurd (omega (arith, cause.0.few, many))
+      by reads no_run.ReadFault cause = absurd (omega (arith, cause.2, many))
+      by reads no_run.TooLong cause = inl refl
+      by reads no_run.NoMemory cause = inr refl
+      by reads no_run.TooFewDevices cause = absurd (asked-few i cause.script cause.asked reads many)
 
-      run : (made : Script) → IsRun i o made replies journal status → (status ≡ 5) ⊎ (status ≡ 6)
-      run made e = absurd (omega (arith, e.read.few, many))
+      run : reads_source i.words ≡ true → (made : Script) → IsRun i o made replies journal status → (status ≡ 5) ⊎ (status ≡ 6)
+      run reads made e = absurd (asked-few i made e.asked reads many)
 
-  pub too_long-told : WasTaken i.left i.left_after i.given i.given_after → (bytes : List ℕ) → is_command i.words ≡ true → i.left ≡ Some bytes → i.faults_after ≡ i.faults → 16777216 < length bytes → (status ≡ 5) ⊎ (status ≡ 6)
+      go : (b : Bool) → reads_source i.words ≡ b → (status ≡ 5) ⊎ (status ≡ 6)
+      go true reads = refused-at 5 (by reads) (run reads)
+      go false none = absurd (omega (arith, ap length (untouched none), many))
+
+  pub too_long-told : WasTaken i.left i.left_after i.given i.given_after → (bytes : List ℕ) → reads_source i.words ≡ true → i.left ≡ Some bytes → i.faults_after ≡ i.faults → 16777216 < length bytes → (status ≡ 5) ⊎ (status ≡ 6)
   too_long-told w bytes words told no_fault many = refused-at 5 by run
     where
+      long : (made : Script) → IsAsked i made → ⊥
+      long made (inl it) = absurd (omega (arith, read-few i w bytes told it.0, many))
+      long made (inr it) = reads-no-number i.words it.number words it.words
+
       by : (why : NoRun) → IsCause i why → (status_of why ≡ 5) ⊎ (status_of why ≡ 6)
-      by no_run.Usage cause = absurd (cc (cause, words))
+      by no_run.Usage cause = absurd (cc (cause, reads-command i.words words))
       by (no_run.Syntax l) cause = absurd (omega (arith, read-few i w bytes told cause.0, many))
       by no_run.ReadFault cause = absurd (omega (arith, cause.1, no_fault))
       by no_run.TooLong cause = inl refl
       by no_run.NoMemory cause = inr refl
-      by no_run.TooFewDevices cause = absurd (omega (arith, read-few i w bytes told cause.0, many))
+      by no_run.TooFewDevices cause = absurd (long cause.script cause.asked)
 
       run : (made : Script) → IsRun i o made replies journal status → (status ≡ 5) ⊎ (status ≡ 6)
-      run made e = absurd (omega (arith, read-few i w bytes told e.read, many))
+      run made e = absurd (long made e.asked)
 
-  pub too_few-always : WasTaken i.left i.left_after i.given i.given_after → (bytes : List ℕ) (made : Script) → Comes i bytes → script_of (mode_in i.words) bytes ≡ Ok made → has_devices i.disks i.logs i.posts made ≡ false → (status ≡ 7) ⊎ (status ≡ 6)
-  too_few-always w bytes made comes spelled few = refused-at 7 by run
+  pub too_few-always : WasTaken i.left i.left_after i.given i.given_after → (made : Script) → IsFound i made → has_devices i.disks i.logs i.posts made ≡ false → (status ≡ 7) ⊎ (status ≡ 6)
+  too_few-always w made found few = refused-at 7 by run
     where
       by : (why : NoRun) → IsCause i why → (status_of why ≡ 7) ⊎ (status_of why ≡ 6)
-      by no_run.Usage cause = absurd (cc (cause, comes.words))
-      by (no_run.Syntax l) cause = absurd (not-both _ made l spelled (wrong-is i bytes l comes cause.1))
-      by no_run.ReadFault cause = absurd (omega (arith, cause.1, comes.no_fault))
-      by no_run.TooLong cause = absurd (not-many i w bytes comes cause.1)
+      by no_run.Usage cause = absurd (cc (cause, found-command i made found))
+      by (no_run.Syntax l) cause = absurd (found-right i made l found cause.0 cause.1)
+      by no_run.ReadFault cause = absurd (omega (arith, cause.1, found-calm i made found cause.0))
+      by no_run.TooLong cause = absurd (found-short i made w found cause.0 cause.1)
       by no_run.NoMemory cause = inr refl
       by no_run.TooFewDevices cause = inl refl
 
       run : (one : Script) → IsRun i o one replies journal status → (status ≡ 7) ⊎ (status ≡ 6)
-      run one e =
-          let same : one ≡ made = one-script _ one made (spells-is i bytes one comes e.spelled) spelled in
-          absurd (cc (few, subst (λ s. has_devices i.disks i.logs i.posts s ≡ true) same e.enough))
+      run one e = absurd (cc (few, subst (λ s. has_devices i.disks i.logs i.posts s ≡ true) (one-found i one made e.asked found) e.enough))
 
-  pub complete : WasTaken i.left i.left_after i.given i.given_after → (bytes : List ℕ) (made : Script) → Comes i bytes → script_of (mode_in i.words) bytes ≡ Ok made → has_devices i.disks i.logs i.posts made ≡ true → o.faults_after ≡ o.faults → o.stalls_after ≡ o.stalls → (status ≡ 0) ⊎ (status ≡ 6)
-  complete w bytes made comes spelled enough calm steady = refused-at 0 by run
+  pub complete : WasTaken i.left i.left_after i.given i.given_after → (made : Script) → IsFound i made → has_devices i.disks i.logs i.posts made ≡ true → o.faults_after ≡ o.faults → o.stalls_after ≡ o.stalls → (status ≡ 0) ⊎ (status ≡ 6)
+  complete w made found enough calm steady = refused-at 0 by run
     where
       by : (why : NoRun) → IsCause i why → (status_of why ≡ 0) ⊎ (status_of why ≡ 6)
-      by no_run.Usage cause = absurd (cc (cause, comes.words))
-      by (no_run.Syntax l) cause = absurd (not-both _ made l spelled (wrong-is i bytes l comes cause.1))
-      by no_run.ReadFault cause = absurd (omega (arith, cause.1, comes.no_fault))
-      by no_run.TooLong cause = absurd (not-many i w bytes comes cause.1)
+      by no_run.Usage cause = absurd (cc (cause, found-command i made found))
+      by (no_run.Syntax l) cause = absurd (found-right i made l found cause.0 cause.1)
+      by no_run.ReadFault cause = absurd (omega (arith, cause.1, found-calm i made found cause.0))
+      by no_run.TooLong cause = absurd (found-short i made w found cause.0 cause.1)
       by no_run.NoMemory cause = inr refl
       by no_run.TooFewDevices cause =
-          let same : cause.1.script ≡ made = one-script _ cause.1.script made (spells-is i bytes cause.1.script comes cause.1.spelled) spelled in
-          absurd (cc (enough, subst (λ s. has_devices i.disks i.logs i.posts s ≡ false) same cause.1.few))
+          absurd (cc (enough, subst (λ s. has_devices i.disks i.logs i.posts s ≡ false) (one-found i cause.script made cause.asked found) cause.few))
 
       at : (status ≡ 0) ⊎ ((status ≡ 4) ⊎ (status ≡ 6)) → (status ≡ 4 → HasFailed o) → (status ≡ 0) ⊎ (status ≡ 6)
       at (inl zero) failed = inl zero

@@ -5,15 +5,15 @@ use Rattle.cc_entry.specs.declared.entry.Entry.{Entry}
 use Rattle.cc_pieces.specs.Faultless.{IsFaultless}
 use Rattle.cc_script.specs.declared.script.Script.{Script}
 use Rattle.cc_script.specs.Grammar.{script_of}
-use Rattle.cc_run.specs.Words.{is_command, mode_in}
+use Rattle.cc_run.specs.Words.{mode_in, reads_source}
 use Rattle.cc_run.specs.Disks.{Pairwise}
-use Rattle.cc_run.specs.Ends.{Input, Output, GaveAll, TookMany, has_devices}
+use Rattle.cc_run.specs.Ends.{Input, Output, GaveAll, IsGenerated, TookMany, has_devices}
 use Rattle.cc_run.specs.Setups.{run_disks, run_logs}
 
--- The words are right, and these bytes, no more than a script may have, come from a source without a fault: it told that
--- they are left, or it gave them up to its end.
+-- The words ask for the source's script, and these bytes, no more than a script may have, come from it without a fault: it
+-- told that they are left, or it gave them up to its end.
 pub record Comes (i : Input) (bytes : List ℕ) : Type 0 where
-  pub words : is_command i.words ≡ true
+  pub words : reads_source i.words ≡ true
   pub come : (i.left ≡ Some bytes) ⊎ GaveAll i bytes
   pub short : length bytes ≤ 16777216
   pub no_fault : i.faults_after ≡ i.faults
@@ -21,6 +21,16 @@ pub record Comes (i : Input) (bytes : List ℕ) : Type 0 where
 -- the script that bytes spell in the mode of the words, or their first wrong line
 abbrev pub spelled_by : Input → List ℕ → Result Script ℕ
 spelled_by i bytes = script_of (mode_in i.words) bytes
+
+-- bytes that come spell the script
+pub record IsSpelled (i : Input) (script : Script) : Type 0 where
+  pub bytes : List ℕ
+  pub comes : Comes i bytes
+  pub spelled : spelled_by i bytes ≡ Ok script
+
+-- the script is sure to be found: bytes that come spell it, or it is generated
+abbrev pub IsFound : Input → Script → Type 0
+IsFound i script = IsSpelled i script ⊎ IsGenerated i script
 
 -- this status, or want of memory
 abbrev pub EndsWith : ℕ → ℕ → Type 0
@@ -37,21 +47,19 @@ TooLongAlways i status = TookMany i → EndsWith status 5
 -- where the source tells its bytes and does not fail, more of them than a script may have are 5
 abbrev pub TooLongTold : Input → ℕ → Type 0
 TooLongTold i status =
-    (bytes : List ℕ) → is_command i.words ≡ true → i.left ≡ Some bytes → i.faults_after ≡ i.faults →
+    (bytes : List ℕ) → reads_source i.words ≡ true → i.left ≡ Some bytes → i.faults_after ≡ i.faults →
     16777216 < length bytes → EndsWith status 5
 
 -- more streams than disks, a log that there is not, or more deferrals than routines are 7
 abbrev pub TooFewAlways : Input → ℕ → Type 0
 TooFewAlways i status =
-    (bytes : List ℕ) (script : Script) → Comes i bytes → spelled_by i bytes ≡ Ok script →
-    has_devices i.disks i.logs i.posts script ≡ false → EndsWith status 7
+    (script : Script) → IsFound i script → has_devices i.disks i.logs i.posts script ≡ false → EndsWith status 7
 
--- A script of the grammar, with a disk for each stream, each log that a stream names and a routine for each deferral, over
--- a sink that does not fail and takes something wherever there are bytes, is 0.
+-- A script of the grammar, or of a number, with a disk for each stream, each log that a stream names and a routine for each
+-- deferral, over a sink that does not fail and takes something wherever there are bytes, is 0.
 abbrev pub Completes : Input → Output → ℕ → Type 0
 Completes i o status =
-    (bytes : List ℕ) (script : Script) → Comes i bytes → spelled_by i bytes ≡ Ok script →
-    has_devices i.disks i.logs i.posts script ≡ true →
+    (script : Script) → IsFound i script → has_devices i.disks i.logs i.posts script ≡ true →
     o.faults_after ≡ o.faults → o.stalls_after ≡ o.stalls → EndsWith status 0
 
 -- no count of faults rose

@@ -6,10 +6,14 @@ use Rattle.cc_entry.specs.declared.entry.Entry.{Entry}
 use Rattle.cc_traits.specs.Told.{Both, IfTold, Gave, Took}
 use Rattle.cc_script.specs.declared.script.Script.{Script}
 use Rattle.cc_script.specs.EventActions.{defer_lines}
+use Rattle.cc_script.specs.Generator.{generated}
 use Rattle.cc_script.specs.Grammar.{script_of}
+use Rattle.cc_print.specs.Summary.{summary_of}
 use Rattle.cc_print.specs.Text.{text_of}
 use Rattle.cc_pieces.specs.Table.{table_of}
-use Rattle.cc_run.specs.Words.{is_command, mode_in}
+use Rattle.cc_run.specs.Words.{command_of, is_command, mode_in, reads_source}
+use Rattle.cc_run.specs.declared.words.Command.{Command}
+use Rattle.cc_run.specs.declared.words.Command.TheVariants as command
 use Rattle.cc_run.specs.declared.no_run.NoRun.{NoRun}
 use Rattle.cc_run.specs.declared.no_run.NoRun.TheVariants as no_run
 
@@ -146,28 +150,38 @@ has_devices disks logs posts script =
     nat_le (length script.streams) disks
     && (list_all (λ stream. has_log logs stream.log) script.streams && nat_le (defer_lines script.lines) posts)
 
--- the script of the source's bytes has more streams than there are disks, names a log that there is not, or defers more
--- writes than there are routines
-pub record HasTooFewDevices (i : Input) : Type 0 where
-  pub script : Script
-  pub spelled : Spells i script
-  pub few : has_devices i.disks i.logs i.posts script ≡ false
-
--- the words were right, and the source was taken to its end without a fault
+-- the words ask for the source's script, which was taken to its end without a fault
 pub record IsRead (i : Input) : Type 0 where
-  pub words : is_command i.words ≡ true
+  pub words : reads_source i.words ≡ true
   pub end : IfTold i.left_after (λ rest. rest ≡ [])
   pub few : TookFew i
   pub no_fault : i.faults_after ≡ i.faults
+
+-- the words ask for the script of a number, and it is that
+pub record IsGenerated (i : Input) (script : Script) : Type 0 where
+  pub number : ℕ
+  pub words : command_of i.words ≡ Some (command.Generate number)
+  pub is : script ≡ generated number
+
+-- the script is the one that the words ask for: all of the source's bytes spell it, or it is generated
+abbrev pub IsAsked : Input → Script → Type 0
+IsAsked i script = (IsRead i × Spells i script) ⊎ IsGenerated i script
+
+-- the script that the words ask for has more streams than there are disks, names a log that there is not, or defers more
+-- writes than there are routines
+pub record HasTooFewDevices (i : Input) : Type 0 where
+  pub script : Script
+  pub asked : IsAsked i script
+  pub few : has_devices i.disks i.logs i.posts script ≡ false
 
 -- why no run was made; want of memory may come at any point
 abbrev pub IsCause : Input → NoRun → Type 0
 IsCause i no_run.Usage = is_command i.words ≡ false
 IsCause i (no_run.Syntax line) = IsRead i × IsWrong i line
-IsCause i no_run.ReadFault = (is_command i.words ≡ true) × (i.faults < i.faults_after) × TookFew i
-IsCause i no_run.TooLong = (is_command i.words ≡ true) × TookMany i
+IsCause i no_run.ReadFault = (reads_source i.words ≡ true) × (i.faults < i.faults_after) × TookFew i
+IsCause i no_run.TooLong = (reads_source i.words ≡ true) × TookMany i
 IsCause i no_run.NoMemory = Unit {0}
-IsCause i no_run.TooFewDevices = IsRead i × HasTooFewDevices i
+IsCause i no_run.TooFewDevices = HasTooFewDevices i
 
 -- the front of a text was taken
 pub record TookPart (text old new : List ℕ) : Type 0 where
@@ -209,12 +223,17 @@ pub record IsPrinted (o : Output) (text : List ℕ) (status : ℕ) : Type 0 wher
   pub part : IsPartPut o text
   pub failed : status ≡ 4 → HasFailed o
 
--- a run was made of the script that the source's bytes spell
+-- what a run prints: its text, and of a generated script its summary
+abbrev pub printed_by : Option Command → Script → List LineReply → List Entry → List ℕ
+printed_by (Some (command.Generate number)) script replies journal =
+    summary_of number script replies journal (table_of (reverse journal))
+printed_by other script replies journal = text_of script replies journal (table_of (reverse journal))
+
+-- a run was made of the script that the words ask for
 pub record IsRun (i : Input) (o : Output) (script : Script) (replies : List LineReply) (journal : List Entry) (status : ℕ) : Type 0 where
-  pub read : IsRead i
-  pub spelled : Spells i script
+  pub asked : IsAsked i script
   pub enough : has_devices i.disks i.logs i.posts script ≡ true
-  pub printed : IsPrinted o (text_of script replies journal (table_of (reverse journal))) status
+  pub printed : IsPrinted o (printed_by (command_of i.words) script replies journal) status
 
 -- How the program ended: without a run it gives back no script, reply or entry; with one, the script.
 abbrev pub IsEnded : Input → Output → Option Script → List LineReply → List Entry → ℕ → Type 0

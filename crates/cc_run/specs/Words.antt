@@ -1,10 +1,13 @@
--- The words of the command line: `run FILE`, `run FILE DIR` or `steps FILE`.
-use Rattle.std.specs.Prelude.{ℕ, Bool, false, not, ◌==◌, ◌&&◌, is_some, List, [], ◌∷◌, codes, if◌then◌else◌}
+-- The words of the command line: `run FILE`, `run FILE DIR`, `steps FILE` or `gen N`.
+use Rattle.std.specs.Prelude.{ℕ, Bool, true, false, not, ◌==◌, ◌&&◌, is_some, List, [], ◌∷◌, codes, if◌then◌else◌, option_map}
 use Rattle.std.specs.declared.option.Option.{Option}
 use Rattle.std.specs.declared.option.Option.TheVariants.{Some, None}
 use Rattle.std.specs.Str.{bytes_eq}
+use Rattle.cc_script.specs.Words.{number_of}
 use Rattle.cc_script.specs.declared.script.Mode.{Mode}
 use Rattle.cc_script.specs.declared.script.Mode.TheVariants as mode
+use Rattle.cc_run.specs.declared.words.Command.{Command}
+use Rattle.cc_run.specs.declared.words.Command.TheVariants as command
 
 -- whether a word is neither empty nor begins with a dash
 abbrev pub is_argument : List ℕ → Bool
@@ -17,31 +20,46 @@ is_line (word ∷ argument ∷ []) = is_argument word && is_argument argument
 is_line (word ∷ argument ∷ folder ∷ []) = is_argument word && (is_argument argument && is_argument folder)
 is_line other = false
 
--- the mode that a word asks for
-abbrev pub mode_word : List ℕ → Option Mode
-mode_word word =
-    if bytes_eq word (codes "run") then Some mode.Run
-    else (if bytes_eq word (codes "steps") then Some mode.Steps else None)
+-- the command of a first word and of the word behind it: `run FILE`, `steps FILE`, or `gen N` with a decimal number below
+-- 2^64, `0` or without a leading zero
+abbrev pub command_by : List ℕ → List ℕ → Option Command
+command_by word argument =
+    if bytes_eq word (codes "run") then Some (command.Read mode.Run)
+    else (if bytes_eq word (codes "steps") then Some (command.Read mode.Steps)
+    else (if bytes_eq word (codes "gen") then option_map command.Generate (number_of argument) else None))
 
--- the mode of a row of words: a mode's and a file, and a folder behind the file of `run`
-abbrev pub mode_in_line : List (List ℕ) → Option Mode
-mode_in_line (word ∷ file ∷ []) = mode_word word
-mode_in_line (word ∷ file ∷ folder ∷ []) = if bytes_eq word (codes "run") then Some mode.Run else None
-mode_in_line other = None
+-- the command of a row of words
+abbrev pub command_in : List (List ℕ) → Option Command
+command_in (word ∷ argument ∷ []) = command_by word argument
+command_in (word ∷ file ∷ folder ∷ []) = if bytes_eq word (codes "run") then Some (command.Read mode.Run) else None
+command_in other = None
 
--- The mode that the words ask for; none where they are no command. No word is empty or begins with a dash. Who takes a
+-- The command that the words ask for; none where they are no command. No word is empty or begins with a dash. Who takes a
 -- folder behind the file of `run` hands in its disks and logs.
-abbrev pub mode_of : List (List ℕ) → Option Mode
-mode_of words = if is_line words then mode_in_line words else None
+abbrev pub command_of : List (List ℕ) → Option Command
+command_of words = if is_line words then command_in words else None
 
 -- whether the words are a command
 abbrev pub is_command : List (List ℕ) → Bool
-is_command words = is_some (mode_of words)
+is_command words = is_some (command_of words)
 
--- the mode in which a script is read: that of the words, where they are a command
-abbrev pub mode_or_run : Option Mode → Mode
+-- whether a command reads its script from the source
+abbrev pub is_reading : Option Command → Bool
+is_reading (Some (command.Read m)) = true
+is_reading other = false
+
+abbrev pub reads_source : List (List ℕ) → Bool
+reads_source words = is_reading (command_of words)
+
+-- the mode in which a command's script is run: a generated one in steps
+abbrev pub mode_by : Command → Mode
+mode_by (command.Read m) = m
+mode_by (command.Generate n) = mode.Steps
+
+abbrev pub mode_or_run : Option Command → Mode
 mode_or_run None = mode.Run
-mode_or_run (Some asked) = asked
+mode_or_run (Some asked) = mode_by asked
 
+-- the mode of the words, where they are a command
 abbrev pub mode_in : List (List ℕ) → Mode
-mode_in words = mode_or_run (mode_of words)
+mode_in words = mode_or_run (command_of words)

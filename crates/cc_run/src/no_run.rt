@@ -38,8 +38,7 @@ impl NoRun {
         }
     }
 
-    /// What the program prints, but for the number of a line. The usage is fixed by the format of the text: it names `gen` too,
-    /// which is not there yet, so words that ask for it are none of the commands.
+    /// What the program prints, but for the number of a line.
     pub(crate) fn fixed_text(self) -> &'static str
         requires { is_syntax self ≡ false }
         ensures { result.now ≡ fault_text self }

@@ -1,22 +1,22 @@
 //! The top call: words, script, run, text, status, in this order.
 
-ghost use Rattle.std.specs.Prelude.{◌≡◌, ◌⊎◌, ◌≤◌, ◌+◌, [], All, Some, None, true, false, is_some, reverse, map, length, string_bytes, IfSome, IfOk, IfErr, OnOk};
+ghost use Rattle.std.specs.Prelude.{◌≡◌, ◌⊎◌, ◌≤◌, ◌+◌, ℕ, List, [], All, Some, None, true, false, is_some, reverse, map, length, string_bytes, IfSome, IfOk, IfErr};
 ghost use Rattle.cc_model.specs.Setup.{Setup};
 ghost use Rattle.cc_journal.specs.Capacity.{IsWithinCapacity};
 ghost use Rattle.cc_model.specs.Good.{IsGood};
 ghost use Rattle.cc_script.specs.Within.{IsWithin};
 ghost use Rattle.cc_script.specs.Modes.{IsOfMode};
-ghost use Rattle.cc_print.specs.Text.{text_of as the_text_of};
 ghost use Rattle.cc_pieces.specs.Steps.{PostsLeft};
 ghost use Rattle.cc_pieces.specs.Table.{table_of};
 ghost use Rattle.cc_run.specs.Setups.{IsSetupOf, setup_of};
-ghost use Rattle.cc_run.specs.Ends.{Input, input, output, IsCause, IsRefused, IsEnded, IsRead, Spells, WasTaken, IsFaultPut, IsPrinted, has_devices};
+ghost use Rattle.cc_run.specs.Ends.{Input, input, output, IsCause, IsRefused, IsEnded, IsAsked, WasTaken, IsFaultPut, IsPrinted, has_devices, printed_by};
 ghost use Rattle.cc_run.specs.Complete.{RanWithoutFault};
 ghost use Rattle.cc_run.specs.Main.{HasMain};
 ghost use Rattle.cc_run.specs.declared.no_run.NoRun.TheVariants as no_run;
 ghost use Rattle.cc_run.specs.Disks.{DisksLeft};
 ghost use Rattle.cc_run.specs.Logs.{LogsLeft};
-ghost use Rattle.cc_run.specs.Words.{is_command, mode_in};
+ghost use Rattle.cc_run.specs.Words.{command_of, is_reading, mode_by, mode_in, reads_source};
+ghost use Rattle.cc_run.specs.declared.words.Command.TheVariants as asked;
 ghost use Rattle.cc_run.specs.Lines.{lines_answered};
 ghost use Rattle.cc_run.specs.Runs.{IsExplainedBy, deferrals_in};
 
@@ -25,10 +25,10 @@ use crate::intake::{IntakeError, take_all};
 use crate::modes::{RunResult, run_in_mode};
 use crate::no_run::{NoRun, syntax_text};
 use crate::output::{OutputError, put_all};
-use crate::words::read_words;
+use crate::words::{Command, read_words};
 use cc_entry::{Entry, LineReply};
-use cc_print::text_of;
-use cc_script::{Mode, Script, ScriptFault, read_script};
+use cc_print::{summary_of, text_of};
+use cc_script::{Mode, Script, ScriptFault, generate, read_script};
 use cc_traits::{Gate, LogFile, PageDisk, PostRoutine, Sink, Source};
 use std::alloc::Global;
 use std::sync::Wait;
@@ -57,9 +57,9 @@ pub struct Ended<D, L = Box<dyn LogFile + Send>, Q = Box<dyn PostRoutine + Send>
     pub posts: Vec<Q>,
 }
 
-/// A script, and the mode in which it was read.
+/// A script, and the command that asked for it.
 struct Prepared {
-    mode: Mode,
+    command: Command,
     script: Script,
 }
 
@@ -122,7 +122,50 @@ fn refused<K: Sink, D, L, Q>(
     }
 }
 
-/// The script that the words ask for, from the source, and its mode, or why it is not run.
+/// The script that the source's bytes spell in a mode, or why there is none. What it says holds of any words that ask for
+/// the source in this mode.
+fn read_source<S: Source>(alloc: Global, source: &mut S, mode: Mode) -> Result<Script, NoRun>
+    ensures asked { IfOk result (λ script. (words : List (List ℕ)) (disks logs posts : ℕ) → command_of words ≡ Some (Command.Read mode) →
+        IsAsked (input S.told S.faults S.given S.ended words source.old source.new disks logs posts) script) }
+    ensures cause { IfErr result (λ why. (words : List (List ℕ)) (disks logs posts : ℕ) → command_of words ≡ Some (Command.Read mode) →
+        IsCause (input S.told S.faults S.given S.ended words source.old source.new disks logs posts) why) }
+    ensures given { WasTaken (S.told source.old) (S.told source.new) (S.given source.old) (S.given source.new) }
+    ensures bounded { length (S.given source.new) ≤ length (S.given source.old) + 16777217 }
+    ensures within { IfOk result IsWithin }
+    ensures of_mode { IfOk result (IsOfMode mode) }
+{
+    let bytes = match take_all(alloc, source) {
+        Ok(bytes) => bytes,
+        Err(IntakeError::Failed) => return Err(NoRun::ReadFault),
+        Err(IntakeError::TooLong) => return Err(NoRun::TooLong),
+        Err(IntakeError::NoMemory) => return Err(NoRun::NoMemory),
+    };
+    match read_script(alloc, &bytes, mode) {
+        Ok(script) => Ok(script),
+        Err(ScriptFault::Syntax { line }) => Err(NoRun::Syntax { line }),
+        Err(ScriptFault::NoMemory) => Err(NoRun::NoMemory),
+    }
+}
+
+/// The script that a command asks for, from the source or of its number, or why there is none.
+fn script_of<S: Source>(alloc: Global, source: &mut S, command: Command) -> Result<Script, NoRun>
+    ensures asked { IfOk result (λ script. (words : List (List ℕ)) (disks logs posts : ℕ) → command_of words ≡ Some command →
+        IsAsked (input S.told S.faults S.given S.ended words source.old source.new disks logs posts) script) }
+    ensures cause { IfErr result (λ why. (words : List (List ℕ)) (disks logs posts : ℕ) → command_of words ≡ Some command →
+        IsCause (input S.told S.faults S.given S.ended words source.old source.new disks logs posts) why) }
+    ensures untouched { is_reading (Some command) ≡ false → source.new ≡ source.old }
+    ensures given { WasTaken (S.told source.old) (S.told source.new) (S.given source.old) (S.given source.new) }
+    ensures bounded { length (S.given source.new) ≤ length (S.given source.old) + 16777217 }
+    ensures within { IfOk result IsWithin }
+    ensures of_mode { IfOk result (IsOfMode (mode_by command)) }
+{
+    match command {
+        Command::Read(mode) => read_source(alloc, source, mode),
+        Command::Generate(number) => generate(alloc, number).map_err(|_| NoRun::NoMemory),
+    }
+}
+
+/// The script that the words ask for, and their command, or why it is not run.
 fn prepare<S: Source>(
     alloc: Global,
     words: &[String],
@@ -131,40 +174,27 @@ fn prepare<S: Source>(
     logs: usize,
     posts: usize,
 ) -> Result<Prepared, NoRun>
-    ensures read { OnOk result (IsRead (input S.told S.faults S.given S.ended (map string_bytes words.now) source.old source.new
-        disks logs posts)) }
-    ensures mode { IfOk result (λ prepared. prepared.mode ≡ mode_in (map string_bytes words.now)) }
-    ensures spelled { IfOk result (λ prepared. Spells (input S.told S.faults S.given S.ended (map string_bytes words.now)
+    ensures command { IfOk result (λ prepared. command_of (map string_bytes words.now) ≡ Some prepared.command) }
+    ensures asked { IfOk result (λ prepared. IsAsked (input S.told S.faults S.given S.ended (map string_bytes words.now)
         source.old source.new disks logs posts) prepared.script) }
-    ensures untouched { is_command (map string_bytes words.now) ≡ false → source.new ≡ source.old }
+    ensures untouched { reads_source (map string_bytes words.now) ≡ false → source.new ≡ source.old }
     ensures given { WasTaken (S.told source.old) (S.told source.new) (S.given source.old) (S.given source.new) }
     ensures bounded { length (S.given source.new) ≤ length (S.given source.old) + 16777217 }
     ensures within { IfOk result (λ prepared. IsWithin prepared.script) }
-    ensures of_mode { IfOk result (λ prepared. IsOfMode prepared.mode prepared.script) }
+    ensures of_mode { IfOk result (λ prepared. IsOfMode (mode_by prepared.command) prepared.script) }
     ensures enough { IfOk result (λ prepared. has_devices disks logs posts prepared.script ≡ true) }
     ensures cause { IfErr result (IsCause (input S.told S.faults S.given S.ended (map string_bytes words.now) source.old source.new
         disks logs posts)) }
 {
-    let mode = match read_words(alloc, words) {
-        Ok(mode) => mode,
-        Err(NoRun::Usage) => return Err(NoRun::Usage),
-        Err(_) => return Err(NoRun::NoMemory),
-    };
-    let bytes = match take_all(alloc, source) {
-        Ok(bytes) => bytes,
-        Err(IntakeError::Failed) => return Err(NoRun::ReadFault),
-        Err(IntakeError::TooLong) => return Err(NoRun::TooLong),
-        Err(IntakeError::NoMemory) => return Err(NoRun::NoMemory),
-    };
-    let script = match read_script(alloc, &bytes, mode) {
+    let command = read_words(alloc, words)?;
+    let script = match script_of(alloc, source, command) {
         Ok(script) => script,
-        Err(ScriptFault::Syntax { line }) => return Err(NoRun::Syntax { line }),
-        Err(ScriptFault::NoMemory) => return Err(NoRun::NoMemory),
+        Err(why) => return Err(why),
     };
     if !has_devices(&script, disks, logs, posts) {
         return Err(NoRun::TooFewDevices);
     }
-    Ok(Prepared { mode, script })
+    Ok(Prepared { command, script })
 }
 
 /// Prints a run, and answers the status: 0 where all of the text went out, 4 where the sink failed, 6
@@ -172,19 +202,30 @@ fn prepare<S: Source>(
 fn print<K: Sink, D, L, Q>(
     alloc: Global,
     out: &mut K,
+    command: Command,
     script: &Script,
     ran: &RunResult<D, L, Q>,
 ) -> u8
     requires { IfSome ran.now.table (λ rows. rows.items ≡ table_of (reverse ran.now.journal.items)) }
     ensures printed { IsPrinted (output K.told K.faults K.stalls out.old out.new)
-        (the_text_of script.now ran.now.replies.items ran.now.journal.items (table_of (reverse ran.now.journal.items)))
-        result }
+        (printed_by (Some command) script.now ran.now.replies.items ran.now.journal.items) result }
     ensures whole { is_some ran.now.table ≡ false → result ≡ 6 }
 {
     let Some(table) = &ran.table else {
         return 6;
     };
-    match text_of(alloc, script, &ran.replies, &ran.journal, table) {
+    let text = match command {
+        Command::Read(_) => text_of(alloc, script, &ran.replies, &ran.journal, table),
+        Command::Generate(number) => summary_of(
+            alloc,
+            number,
+            script,
+            &ran.replies,
+            &ran.journal,
+            table,
+        ),
+    };
+    match text {
         Ok(text) => match put_all(out, &text) {
             Ok(()) => 0,
             Err(OutputError::Failed) => 4,
@@ -194,7 +235,7 @@ fn print<K: Sink, D, L, Q>(
     }
 }
 
-/// Reads the script and runs it, in the mode that the words ask for.
+/// Finds the script that the words ask for and runs it, in their mode.
 fn conduct<
     R: Threads + Wait + Sync,
     S: Source,
@@ -226,7 +267,7 @@ fn conduct<
     ensures explained { IfSome result.script (λ made. IsExplainedBy (mode_in (map string_bytes words.now))
         (setup_of D.told D.faults made disks.items logs.items) made
         (lines_answered result.replies.items) (reverse result.journal.items)) }
-    ensures untouched { is_command (map string_bytes words.now) ≡ false → source.new ≡ source.old }
+    ensures untouched { reads_source (map string_bytes words.now) ≡ false → source.new ≡ source.old }
     ensures given { WasTaken (S.told source.old) (S.told source.new) (S.given source.old) (S.given source.new) }
     ensures bounded { length (S.given source.new) ≤ length (S.given source.old) + 16777217 }
     ensures disks { DisksLeft D.told D.faults (reverse result.journal.items) disks.items result.disks.items }
@@ -239,7 +280,7 @@ fn conduct<
     ensures faultless { RanWithoutFault D.faults L.faults disks.items result.disks.items logs.items result.logs.items
         result.replies.items (reverse result.journal.items) }
 {
-    let Prepared { mode, script } = match prepare(
+    let Prepared { command, script } = match prepare(
         alloc,
         words,
         source,
@@ -250,13 +291,13 @@ fn conduct<
         Ok(prepared) => prepared,
         Err(why) => return refused(alloc, out, why, disks, logs, posts),
     };
-    let ran = match run_in_mode(rt, alloc, mode, &script, gate, disks, logs, posts) {
+    let ran = match run_in_mode(rt, alloc, command.mode(), &script, gate, disks, logs, posts) {
         Ok(ran) => ran,
         Err((disks, logs, posts)) => {
             return refused(alloc, out, NoRun::NoMemory, disks, logs, posts);
         }
     };
-    let status = print(alloc, out, &script, &ran);
+    let status = print(alloc, out, command, &script, &ran);
     let RunResult {
         replies,
         journal,
@@ -280,9 +321,10 @@ fn conduct<
 /// disk for each stream, the logs that streams may name, of which the first four are taken, the post routines, of which
 /// each line that defers a write has one, and the gate that callers pass. `run FILE`, also with a folder behind it, for
 /// whoever hands in the disks: the callers of a phase make the calls of their lines on threads, phase after phase.
-/// `steps FILE`: the lines are events, one after the other. Whatever is handed in, the journal that is given back is
-/// good over the pages that the disks tell, and it is what happened, also where memory was wanting after the run began.
-/// Over each front of it the entries, and the places that they reserve, are within the script's capacity.
+/// `steps FILE`: the lines are events, one after the other. `gen N`: so are those of the script that is generated of N,
+/// whose summary is the text; the source is not touched. Whatever is handed in, the journal that is given back is good
+/// over the pages that the disks tell, and it is what happened, also where memory was wanting after the run began. Over
+/// each front of it the entries, and the places that they reserve, are within the script's capacity.
 pub fn cache_main<
     R: Threads + Wait + Sync,
     S: Source,
@@ -312,14 +354,14 @@ pub fn cache_main<
         (setup_of D.told D.faults made disks.items logs.items) made
         (record { replies = result.replies.items; ticked = result.ticks.items; stepped = result.aheads.items })
         (reverse result.journal.items)) }
-    // How the program ended, with a run and without: the script, which all bytes of the source spell, what was printed,
-    // the status and its cause, which statuses are sure to come, and what was taken of the source.
+    // How the program ended, with a run and without: the script that the words ask for, what was printed, the status and its
+    // cause, which statuses are sure to come, and what was taken of the source.
     ensures ended { HasMain
         (input S.told S.faults S.given S.ended (map string_bytes words.now) script.old script.new
         (length disks.items) (length logs.items) (length posts.items))
         (output K.told K.faults K.stalls out.old out.new)
         result.script result.replies.items result.journal.items result.status }
-    ensures untouched { is_command (map string_bytes words.now) ≡ false → script.new ≡ script.old }
+    ensures untouched { reads_source (map string_bytes words.now) ≡ false → script.new ≡ script.old }
     // What comes back: the disks and the logs as the journal says; the routines, one posted exactly where the deferral of
     // its line was; and no answer of a worker.
     ensures disks { DisksLeft D.told D.faults (reverse result.journal.items) disks.items result.disks.items }

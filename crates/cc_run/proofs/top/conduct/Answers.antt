@@ -1,5 +1,5 @@
 -- What a conducted run left where none was made: nothing happened, and disks, logs and routines are as they were handed in.
-use Rattle.std.proofs.Common.{refl}
+use Rattle.std.proofs.Common.{refl, ◌≡◌, length, arith}
 use Rattle.cc_run.proofs.DiskSteps.{disks-kept, good-none}
 use Rattle.cc_run.proofs.Faultless.{faultless-none}
 use Rattle.cc_run.proofs.LogSteps.{logs-kept}
@@ -48,3 +48,14 @@ pub returns-in-Err-run_in_mode-clause-faultless : goal.returns-in-Err-run_in_mod
 returns-in-Err-run_in_mode-clause-faultless g c =
     faultless-none g.D.Told.faults g.L.LogFile.faults c.args.disks.items _ c.args.logs.items _ c.refused-in-Err-run_in_mode.result.replies.items
     c.refused-in-Err-run_in_mode.result.journal.items c.refused-in-Err-run_in_mode.ensures.replies c.refused-in-Err-run_in_mode.ensures.journal
+
+pub returns-clause-ended : goal.returns-clause-ended
+returns-clause-ended g c =
+    let disks-are : length c.args.disks.items ≡ c.len.result = omega (arith, c.len.ensures, c.args.disks.ok.0) in
+    let logs-are : length c.args.logs.items ≡ c.len-2.result = omega (arith, c.len-2.ensures, c.args.logs.ok.0) in
+    let posts-are : length c.args.posts.items ≡ c.len-3.result = omega (arith, c.len-3.ensures, c.args.posts.ok.0) in
+    record {
+      asked = rw (disks-are, logs-are, posts-are) c.in-Ok.ensures.asked;
+      enough = rw (disks-are, logs-are, posts-are) c.in-Ok.ensures.enough;
+      printed = rw (c.in-Ok.ensures.command) c.print-status.ensures.printed;
+    }
