@@ -1,8 +1,9 @@
 //! The run of a script, in either mode: the top call `cache_main`.
 //!
 //! One direction: the words of the command line, which say the mode, the script's bytes from a source, the script, the
-//! run, the text, the exit status; or the words, a number, the script that is generated of it, its run, a summary. In `run` the streams are opened on the desk of a run; then, phase after phase, the
-//! callers make the calls of their lines, on threads over a board that is made of the desk and closed into it. In `steps`
+//! run, the text, the exit status; or the words, a number, the script that is generated of it, its run, a summary. In
+//! `run` the streams are opened on the desk of a run; then, phase after phase, the callers make the calls of their lines,
+//! on threads over a board that is made of the desk and closed into it. In `steps`
 //! the lines are events of a World, one after the other. Whatever is handed in and in whatever order the turns are taken,
 //! the journal that comes back is good, it explains the answer of every line, each disk and each log holds what it says,
 //! each post routine was posted as it says, and the text is that of journal and answers; each exit status has its cause.
