@@ -1,0 +1,10 @@
+//! What follows from how a record is spelled.
+
+ghost use Rattle.std.specs.Prelude.{◌≡◌, ℕ, List};
+ghost use Rattle.cc_format.specs.declared.record.StreamRecord.{StreamRecord};
+ghost use Rattle.cc_format.specs.Spelling.{Spells};
+
+/// A page spells one record at most, whatever the versions.
+pub fn a_page_spells_one_record()
+    ensures { (page : List ℕ) → (one other : StreamRecord) → Spells page one → Spells page other → one ≡ other }
+{}

@@ -1,0 +1,2 @@
+-- What others place while a disk is kept.
+pub mod Kept

@@ -1,0 +1,8 @@
+//! Laws of the record of a stream: which pages are on the disk behind it.
+//!
+//! Each law is the contract of a function without a body. They say that a page with a byte that became valid since the
+//! stream was first initialised is dirty or stored, and what a flush makes of such pages while no page of the stream comes
+//! in: then the lesser of the valid data length before the flush and the one behind it may be told.
+#![tactic(auto)]
+
+pub mod laws;

@@ -1,0 +1,3 @@
+-- Lemmas on what a pass places with a disk in hand, and what the disk stands for then.
+pub mod Noting
+pub mod Unread
