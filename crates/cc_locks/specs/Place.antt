@@ -46,7 +46,8 @@ pub record IsIndexed (ids : List (ℕ × Lock)) (places : List (Place × Lock)) 
   pub places_ascend : IsStrictlySortedBy place_cmp (keys_of places)
   pub keyed : All (λ e. e.0 ≡ e.1.id) ids
   pub held : (id : ℕ) (lock : Lock) → lock_of ids id ≡ Some lock → lock_at places (place_of lock) ≡ Some lock
-  pub placed : (place : Place) (lock : Lock) → lock_at places place ≡ Some lock → (place ≡ place_of lock) × (lock_of ids lock.id ≡ Some lock)
+  pub placed : (place : Place) (lock : Lock) → lock_at places place ≡ Some lock →
+      (place ≡ place_of lock) × (lock_of ids lock.id ≡ Some lock)
   pub sized : (id : ℕ) (lock : Lock) → lock_of ids id ≡ Some lock → lock.span.to - lock.span.from < 2 ^ 64
   pub noted : (id : ℕ) (lock : Lock) → lock_of ids id ≡ Some lock → slice_index_or used (class_of lock.span) false ≡ true
 
@@ -57,4 +58,5 @@ Covers class reach = (len : ℕ) → len < 2 ^ 64 → len < 2 ^ class → len �
 -- the least id of those locks of a class that conflict; it may be that of another one that conflicts, if that is less
 pub record IsLeastOfClass (asked : Asked) (locks : List Lock) (class : ℕ) (found : Option ℕ) : Type 0 where
   pub one : (id : ℕ) → found ≡ Some id → (lock : Lock) × Contains locks lock × (conflicts asked lock ≡ true) × (lock.id ≡ id)
-  pub least : (lock : Lock) → Contains locks lock → conflicts asked lock ≡ true → class_of lock.span ≡ class → IsSomeAnd found (λ id. id ≤ lock.id)
+  pub least : (lock : Lock) → Contains locks lock → conflicts asked lock ≡ true → class_of lock.span ≡ class →
+      IsSomeAnd found (λ id. id ≤ lock.id)
