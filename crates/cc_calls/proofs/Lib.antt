@@ -21,3 +21,13 @@ pub mod Using
 pub mod Sure
 pub mod Through
 pub mod LevelCalls
+pub mod Throttling
+pub mod Dropped
+pub mod Discarding
+pub mod DiscardCalls
+pub mod OnePage
+pub mod Looking
+pub mod TickPages
+pub mod Picking
+pub mod Scanning
+pub mod Ticking

@@ -1,6 +1,6 @@
 -- What a call was told that is done, in a good journal: nothing, the state of its stream or its LSNs, or the bytes of its
 -- read.
-use Rattle.std.specs.Prelude.{◌≡◌, ℕ, ◌≤◌, Bool, true, List, [], length, Option, None, Some, refl}
+use Rattle.std.specs.Prelude.{◌≡◌, ℕ, ◌≤◌, Bool, true, List, [], ◌++◌, length, Option, None, Some, refl}
 use Rattle.std.proofs.Common.{subst, arith}
 use Rattle.std.proofs.lemmas.List.FromFn.{length-map-range_with_len}
 use Rattle.cc_entry.specs.Place.{File}
@@ -20,6 +20,7 @@ use Rattle.cc_model.specs.Legal.{stream_history, stream_opening}
 use Rattle.cc_model.specs.Replies.{IsReply, Reads, state_of}
 use Rattle.cc_model.specs.Setup.{Setup}
 use Rattle.cc_model.specs.Stamps.{lsns_over}
+use Rattle.cc_model.specs.Throttle.{may_go, pages_for}
 use Rattle.cc_model.specs.Touches.{dirty_pages}
 use Rattle.cc_calls.specs.Answers.{is_setting}
 
@@ -78,3 +79,9 @@ pub read-reply : (u : Setup) (me : ℕ) (file : File) (at len : ℕ) (wait : Boo
 read-reply u me file at len wait r old new good left =
     let d = outcome-defined u me (call.CopyRead file at len wait) (outcome.Done r) old new [] good left refl in
     reads (stream_opening u d.1) (stream_history _ d.1) at len r d.5.1
+
+-- whether a write may go, where that was asked
+pub may-reply : (u : Setup) (me : ℕ) (file : File) (bytes : ℕ) (r : Reply) (old new : List Entry) → IsGood u new → CallLeft u me (call.CanWrite file bytes) (outcome.Done r) old new → (flag : Bool) × (r ≡ reply.Flag flag)
+may-reply u me file bytes r old new good left =
+    let d = outcome-defined u me (call.CanWrite file bytes) (outcome.Done r) old new [] good left refl in
+    (may_go u (d.3 ++ old) file.stream (pages_for bytes), d.5.1)

@@ -1,5 +1,5 @@
--- What the calls leave that ask for the state of a stream, and for its LSNs.
-use Rattle.std.specs.Prelude.{◌≡◌, ℕ, List, Ok}
+-- What the calls leave that ask for the state of a stream, for its LSNs, and whether a write to it may go.
+use Rattle.std.specs.Prelude.{◌≡◌, ℕ, Bool, List, Ok}
 use Rattle.std.specs.declared.option.Option.{Option}
 use Rattle.cc_entry.specs.Place.{File}
 use Rattle.cc_entry.specs.declared.call.Call.TheVariants as call
@@ -10,9 +10,9 @@ use Rattle.cc_effects.specs.Calls.{CallLeft}
 use Rattle.cc_turns.specs.Standing.{Standing}
 use Rattle.cc_writes.specs.declared.tell.Returned.{Returned}
 use Rattle.cc_writes.specs.declared.tell.Returned.TheVariants as returned
-use Rattle.cc_calls.specs.Answers.{CallEnds, lsns_outcome, state_outcome}
+use Rattle.cc_calls.specs.Answers.{CallEnds, flag_outcome, lsns_outcome, state_outcome}
 use Rattle.cc_calls.specs.Paged.{CalledAtOnce}
-use Rattle.cc_calls.proofs.Replies.{lsns-reply, state-reply}
+use Rattle.cc_calls.proofs.Replies.{lsns-reply, may-reply, state-reply}
 
 module _ (w v : Standing) (file : File) (was now : List ℕ) where
   -- it is told the state
@@ -52,3 +52,22 @@ module _ (w v : Standing) (file : File) (was now : List ℕ) where
   -- and nothing else
   pub lsns-told : (told : Returned) → ((lsns : Option (ℕ × ℕ)) → told ≡ returned.Lsns lsns → ⊥) → CalledAtOnce w v (call.LsnForFile file) (Ok told) was now → ⊥
   lsns-told told other c = let k = told-lsns told c in other k.0 k.1
+
+  -- a question whether a write may go is told a flag
+  told-may : (bytes : ℕ) (told : Returned) → CalledAtOnce w v (call.CanWrite file bytes) (Ok told) was now → (flag : Bool) × (told ≡ returned.Flag flag) × CallLeft w.setup w.number (call.CanWrite file bytes) (outcome.Done (reply.Flag flag)) w.seen v.seen
+  told-may bytes told c =
+      let r = may-reply w.setup w.number file bytes c.left.0 w.seen v.seen c.good c.left.1 in
+      let tells = rw r.1 at c.left.2 in
+      (r.0, tells.0, rw r.1 at c.left.1)
+
+  pub may-done : (bytes : ℕ) (flag : Bool) → CalledAtOnce w v (call.CanWrite file bytes) (Ok (returned.Flag flag)) was now → CallEnds flag_outcome w v (call.CanWrite file bytes) (Ok flag)
+  may-done bytes flag c =
+      let told = told-may bytes (returned.Flag flag) c in
+      record { left = rw (inner told.0 told.1) told.2; full = tt; goes_on = c.goes_on; good = λ was_good. c.good }
+    where
+      inner : (x : Bool) → returned.Flag flag ≡ returned.Flag x → flag ≡ x
+      inner x same = cc
+
+  -- and nothing else
+  pub may-told : (bytes : ℕ) (told : Returned) → ((flag : Bool) → told ≡ returned.Flag flag → ⊥) → CalledAtOnce w v (call.CanWrite file bytes) (Ok told) was now → ⊥
+  may-told bytes told other c = let k = told-may bytes told c in other k.0 k.1

@@ -7,6 +7,10 @@ pub mod Levels
 pub mod Streamless
 pub mod Flushes
 pub mod Purges
+pub mod Discards
 pub mod Maps
 pub mod Held
 pub mod Ends
+pub mod PageWrites
+pub mod Ticks
+pub mod Throttle

@@ -11,26 +11,31 @@
 //! calls that make cache maps and end them, `settings` those that need no page and set something of their stream, `queries`
 //! those that tell something and change nothing, `levels` the one of them that leaves no entry, `copies` those that copy
 //! bytes out of a stream's pages and into them, `flushes` those that write the dirty pages of a span, and then sync its
-//! disk or take its pages out, `logs` the two calls on a log, an append and a flush. `held` has what every hold tells of
-//! itself, `held_calls` how a hold is made, used and ended; `data_maps`, `pins`, `repins` and `chains` have the routines on
-//! holds. Below are the turns (`cc_turns`), the visits of a pass to the journal, the writing of a page with the flush of
-//! its log and the fetch of pages (`cc_writes`), the flush and the purge of a span (`cc_ranges`), and what others leave of
-//! a pass's holds (`cc_own`). The lines of a script (`cc_lines`) and the runs (`cc_run`) stand above.
+//! disk or take its pages out, `discards` the one that takes them out unwritten, `logs` the two calls on a log, an append
+//! and a flush, `throttle` whether a write may go, a deferral and a post. `held` has what every hold tells of itself,
+//! `held_calls` how a hold is made, used and ended; `data_maps`, `pins`, `repins` and `chains` have the routines on holds.
+//! Below are the turns (`cc_turns`), the visits of a pass to the journal, the writing of a page with the flush of its log
+//! and the fetch of pages (`cc_writes`), the flush and the purge of a span (`cc_ranges`), and what others leave of a pass's
+//! holds (`cc_own`). The lines of a script (`cc_lines`) and the runs (`cc_run`) stand above.
 #![tactic(auto)]
 
 mod chains;
 mod copies;
 mod data_maps;
+mod discards;
 mod flushes;
 mod held;
 mod held_calls;
 mod levels;
 mod logs;
 mod maps;
+mod page_writes;
 mod pins;
 mod queries;
 mod repins;
 mod settings;
+mod throttle;
+mod ticks;
 mod turned;
 
 pub use chains::{
@@ -39,16 +44,20 @@ pub use chains::{
 };
 pub use copies::{copy_read, copy_write, zero_data};
 pub use data_maps::{Mapped, map_data, mapped_read, pin_mapped, unmap};
+pub use discards::discard;
 pub use flushes::{flush, purge};
 pub use held::{Held, Hold};
 pub use held_calls::{end_hold, hold_range, read_hold, write_hold};
 pub use levels::index_levels;
 pub use logs::{log_append, log_flush};
 pub use maps::{initialize, uninitialize};
+pub use page_writes::{PageWrite, write_one};
 pub use pins::{Pinned, pin_read, pinned_read, pinned_write, prepare_pin_write, set_dirty, unpin};
 pub use queries::{dirty_pages, file_state, is_dirty_data, lsn_for_file};
 pub use repins::{Repinned, repin, unpin_repinned};
 pub use settings::{
     set_attributes, set_file_sizes, set_granularity, set_log_handle, set_threshold,
 };
+pub use throttle::{can_i_write, defer, post_next};
+pub use ticks::tick;
 pub use turned::{call_at_once, call_paged};
