@@ -1,4 +1,4 @@
--- What a line of steps, or a setting, that is read names and moves.
+-- What a line of steps, of the lazy writer or the throttle, or a setting, that is read names and moves.
 use Rattle.std.proofs.Common.{◌≡◌, ℕ, ◌<◌, ◌==◌, ◌^◌, true, Some, List, length, refl, ap, subst, arith}
 use Rattle.std.specs.Str.{bytes_eq}
 use Rattle.std.proofs.lemmas.Bool.Decides.{nat_tests}
@@ -11,7 +11,7 @@ use Rattle.cc_script.specs.declared.script.Action.TheVariants as action
 use Rattle.cc_script.specs.Words.{number_of, number_between, bytes_of}
 use Rattle.cc_script.specs.Actions.{next, ended, stream_named, file_of}
 use Rattle.cc_script.specs.EventActions.{page_number, page_of, fill_of, drop_of, write_begin_of, write_end_of, sync_of, nc_read_page_of, nc_store_page_of, nc_write_page_of, can_write_of, defer_of, set_granularity_of, set_attributes_of, set_threshold_of}
-use Rattle.cc_script.specs.Modes.{StepsAlone, stands}
+use Rattle.cc_script.specs.Modes.{RunAlone, StepsAlone, stands}
 use Rattle.cc_script.specs.Within.{IsPageWithin, IsFilePageWithin}
 use Rattle.cc_script.proofs.Steps.{then-gives, if-gives, next-gives, ended-gives, between-gives, position-below, file-gives}
 use Rattle.cc_script.proofs.Plain.{IsPlain}
@@ -90,10 +90,15 @@ scan-gives m streams ws in_mode a e =
     subst (IsPlain m streams) (ended-gives ws action.Scan a e).1
     (record { file = tt; moved = omega arith; numbered = λ n. refl; in_mode = in_mode })
 
-pub post-gives : (m : Mode) (streams : List StreamLine) (ws : List (List ℕ)) → stands StepsAlone m ≡ true → (a : Action) → ended ws action.Post ≡ Some a → IsPlain m streams a
-post-gives m streams ws in_mode a e =
-    subst (IsPlain m streams) (ended-gives ws action.Post a e).1
+pub tick-gives : (m : Mode) (streams : List StreamLine) (ws : List (List ℕ)) → stands RunAlone m ≡ true → (a : Action) → ended ws action.Tick ≡ Some a → IsPlain m streams a
+tick-gives m streams ws in_mode a e =
+    subst (IsPlain m streams) (ended-gives ws action.Tick a e).1
     (record { file = tt; moved = omega arith; numbered = λ n. refl; in_mode = in_mode })
+
+pub post-gives : (m : Mode) (streams : List StreamLine) (ws : List (List ℕ)) → (a : Action) → ended ws action.Post ≡ Some a → IsPlain m streams a
+post-gives m streams ws a e =
+    subst (IsPlain m streams) (ended-gives ws action.Post a e).1
+    (record { file = tt; moved = omega arith; numbered = λ n. refl; in_mode = refl })
 
 pub nc_read_page-gives : (streams : List StreamLine) (ws : List (List ℕ)) (a : Action) → nc_read_page_of streams ws ≡ Some a → IsPlain mode.Steps streams a
 unfolding nc_read_page_of
@@ -125,25 +130,25 @@ nc_store_page-gives m streams ws in_mode a e =
     let len : length bytes.0.0 ≡ 4096 = grind (arith, nat_tests, whole.0) in
     subst (IsPlain m streams) end.1 (record { file = (of_file, len); moved = omega (arith, len); numbered = λ n. refl; in_mode = in_mode })
 
-pub can_write-gives : (m : Mode) (streams : List StreamLine) (ws : List (List ℕ)) → stands StepsAlone m ≡ true → (a : Action) → can_write_of streams ws ≡ Some a → IsPlain m streams a
+pub can_write-gives : (m : Mode) (streams : List StreamLine) (ws : List (List ℕ)) → (a : Action) → can_write_of streams ws ≡ Some a → IsPlain m streams a
 unfolding can_write_of
-can_write-gives m streams ws in_mode a e =
+can_write-gives m streams ws a e =
     let file = then-gives (next (file_of streams) ws) _ a e in
     let bytes = then-gives (next number_of file.0.1) _ a file.2 in
     let end = ended-gives _ _ a bytes.2 in
     let f = next-gives (file_of streams) ws file.0.0 file.0.1 file.1 in
     subst (IsPlain m streams) end.1
-    (record { file = file-gives streams f.word file.0.0 f.reads; moved = omega arith; numbered = λ n. refl; in_mode = in_mode })
+    (record { file = file-gives streams f.word file.0.0 f.reads; moved = omega arith; numbered = λ n. refl; in_mode = refl })
 
-pub defer-gives : (m : Mode) (streams : List StreamLine) (ws : List (List ℕ)) → stands StepsAlone m ≡ true → (a : Action) → defer_of streams ws ≡ Some a → IsPlain m streams a
+pub defer-gives : (m : Mode) (streams : List StreamLine) (ws : List (List ℕ)) → (a : Action) → defer_of streams ws ≡ Some a → IsPlain m streams a
 unfolding defer_of
-defer-gives m streams ws in_mode a e =
+defer-gives m streams ws a e =
     let file = then-gives (next (file_of streams) ws) _ a e in
     let bytes = then-gives (next number_of file.0.1) _ a file.2 in
     let end = ended-gives _ _ a bytes.2 in
     let f = next-gives (file_of streams) ws file.0.0 file.0.1 file.1 in
     subst (IsPlain m streams) end.1
-    (record { file = file-gives streams f.word file.0.0 f.reads; moved = omega arith; numbered = λ n. refl; in_mode = in_mode })
+    (record { file = file-gives streams f.word file.0.0 f.reads; moved = omega arith; numbered = λ n. refl; in_mode = refl })
 
 pub set_granularity-gives : (m : Mode) (streams : List StreamLine) (ws : List (List ℕ)) → (a : Action) → set_granularity_of streams ws ≡ Some a → IsPlain m streams a
 unfolding set_granularity_of

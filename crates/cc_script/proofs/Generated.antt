@@ -133,7 +133,7 @@ generated_within n =
         most_journal = lit≤ tt;
         least_threshold = lit≤ tt;
         most_threshold = lit≤ tt;
-        no_ticks = refl;
+        most_ticks = lit≤ tt;
         no_aheads = refl;
       };
       first_phase = lit≤ tt;

@@ -15,6 +15,7 @@ use Rattle.cc_script.specs.declared.script.ActionLine.{ActionLine}
 use Rattle.cc_script.specs.declared.verb.Verb.{Verb}
 use Rattle.cc_script.specs.declared.verb.Verb.TheVariants as verb
 use Rattle.cc_script.specs.declared.reading.Reading.{Reading}
+use Rattle.cc_script.specs.declared.reading.Workers.{Workers}
 use Rattle.cc_script.specs.Text.{lines, words}
 use Rattle.cc_script.specs.Words.{number_of, number_between, name_of, caller_of}
 use Rattle.cc_script.specs.Modes.{RunAlone, StepsAlone, stands, verb_modes, is_call, IsLineOf, HasPhases, IsOfMode}
@@ -24,7 +25,7 @@ use Rattle.cc_script.specs.declared.caller_words.CallerWords.{CallerWords}
 use Rattle.cc_script.specs.Actions.{next, flag, quota_of}
 use Rattle.cc_script.specs.ActionTable.{action_of, bytes_counted, dirty_lines}
 use Rattle.cc_script.specs.HoldWords.{may_use, bound_after, IsRightIf, bound_so_far, UsesRight}
-use Rattle.cc_script.specs.Grammar.{nothing_read, may_add, with_stream, log_of, stream_of, setting_of, with_journal, with_threshold, with_phase, placed, no_words, words_by, keeps_totals, with_action, action_line, caller_line, verb_line, called_line, uncalled_line, line_by, words_line, is_printable, text_line, line_of, or_wrong, lines_of, script_of}
+use Rattle.cc_script.specs.Grammar.{nothing_read, may_add, with_stream, log_of, stream_of, setting_of, with_journal, with_threshold, workers_of, with_workers, with_phase, placed, no_words, words_by, keeps_totals, with_action, action_line, caller_line, verb_line, called_line, uncalled_line, line_by, words_line, is_printable, text_line, line_of, or_wrong, lines_of, script_of}
 use Rattle.cc_script.specs.declared.script.ScriptFault.{ScriptFault}
 use Rattle.cc_script.specs.Answers.{Reads}
 use Rattle.cc_script.specs.Within.{IsStreamWithin, IsLineWithin, PhasesAscend, IsWithin}
@@ -91,6 +92,19 @@ setting-gives low high ws n e =
     let b = between-gives low high w.word found.0.0 w.reads in
     (omega (arith, end.1, b.least), omega (arith, end.1, b.most))
 
+-- so are the ticks, and there are no steps of read-ahead
+workers-gives : (ws : List (List ℕ)) (set : Workers) → workers_of ws ≡ Some set → (set.ticks ≤ 1000) × (set.aheads ≡ 0)
+unfolding workers_of
+workers-gives ws set e =
+    let ticks = then-gives (next (number_between 0 1000) ws) _ set e in
+    let aheads = then-gives (next (number_between 0 0) ticks.0.1) _ set ticks.2 in
+    let end = ended-gives _ _ set aheads.2 in
+    let t = next-gives (number_between 0 1000) ws ticks.0.0 ticks.0.1 ticks.1 in
+    let a = next-gives (number_between 0 0) ticks.0.1 aheads.0.0 aheads.0.1 aheads.1 in
+    let few = (between-gives 0 1000 t.word ticks.0.0 t.reads).most in
+    let none = (between-gives 0 0 a.word aheads.0.0 a.reads).most in
+    subst (λ (set : Workers). (set.ticks ≤ 1000) × (set.aheads ≡ 0)) end.1 (few, omega (arith, none))
+
 -- of lists
 all-onto : {A : Type 0} (P : A → Type 0) (xs : List A) (x : A) → AllByRecursion P xs → P x → AllByRecursion P (xs ++ x ∷ [])
 all-onto P [] x all is = (is, tt)
@@ -154,7 +168,7 @@ nothing-so_far m =
           most_journal = lit≤ tt;
           least_threshold = lit≤ tt;
           most_threshold = lit≤ tt;
-          no_ticks = refl;
+          most_ticks = lit≤ tt;
           no_aheads = refl;
         };
         first_phase = lit≤ tt;
@@ -199,7 +213,7 @@ stream-so_far m n stream r new one is e =
           most_journal = w.header.most_journal;
           least_threshold = w.header.least_threshold;
           most_threshold = w.header.most_threshold;
-          no_ticks = w.header.no_ticks;
+          most_ticks = w.header.most_ticks;
           no_aheads = w.header.no_aheads;
         };
         first_phase = w.first_phase;
@@ -233,7 +247,7 @@ journal-so_far m n capacity r new range is e =
           most_journal = range.1;
           least_threshold = w.header.least_threshold;
           most_threshold = w.header.most_threshold;
-          no_ticks = w.header.no_ticks;
+          most_ticks = w.header.most_ticks;
           no_aheads = w.header.no_aheads;
         };
         first_phase = w.first_phase;
@@ -267,8 +281,42 @@ threshold-so_far m n pages r new range is e =
           most_journal = w.header.most_journal;
           least_threshold = range.0;
           most_threshold = range.1;
-          no_ticks = w.header.no_ticks;
+          most_ticks = w.header.most_ticks;
           no_aheads = w.header.no_aheads;
+        };
+        first_phase = w.first_phase;
+        last_phase = w.last_phase;
+        few_streams = w.few_streams;
+        streams = w.streams;
+        few_lines = w.few_lines;
+        lines = w.lines;
+        in_order = w.in_order;
+        words = w.words;
+      };
+      lines = is.lines;
+      phases = is.phases;
+      few = is.few;
+      callers = is.callers;
+      kept = is.kept;
+    })
+
+workers-so_far : (m : Mode) (n : ℕ) (set : Workers) (r new : Reading) → (set.ticks ≤ 1000) × (set.aheads ≡ 0) → IsSoFar m n r → with_workers set r ≡ Some new → IsSoFar m n new
+unfolding with_workers
+workers-so_far m n set r new range is e =
+    let w = is.within in
+    let made : Reading = record r { script = record r.script { ticks = set.ticks; aheads = set.aheads }; has_workers = true } in
+    let t = if-gives ((length r.script.lines == 0) && not r.has_workers) (Some made) new e in
+    let same : made ≡ new = cc in
+    subst (IsSoFar m n) same
+    (record {
+      within = record {
+        header = record {
+          least_journal = w.header.least_journal;
+          most_journal = w.header.most_journal;
+          least_threshold = w.header.least_threshold;
+          most_threshold = w.header.most_threshold;
+          most_ticks = range.0;
+          no_aheads = range.1;
         };
         first_phase = w.first_phase;
         last_phase = w.last_phase;
@@ -315,7 +363,7 @@ phase-so_far m n ws r new in_mode is e =
           most_journal = w.header.most_journal;
           least_threshold = w.header.least_threshold;
           most_threshold = w.header.most_threshold;
-          no_ticks = w.header.no_ticks;
+          most_ticks = w.header.most_ticks;
           no_aheads = w.header.no_aheads;
         };
         first_phase = omega (arith, first);
@@ -407,7 +455,7 @@ action-so_far m n line caller fails v ws r new room range may_fail in_mode is e 
           most_journal = w.header.most_journal;
           least_threshold = w.header.least_threshold;
           most_threshold = w.header.most_threshold;
-          no_ticks = w.header.no_ticks;
+          most_ticks = w.header.most_ticks;
           no_aheads = w.header.no_aheads;
         };
         first_phase = w.first_phase;
@@ -447,6 +495,9 @@ verb-so_far m n line verb.Journal ws r new room in_mode is e =
 verb-so_far m n line verb.Threshold ws r new room in_mode is e =
     let found = then-gives (setting_of 1 16384 ws) _ new e in
     later m n new (threshold-so_far m n found.0 r new (setting-gives 1 16384 ws found.0 found.1) is found.2)
+verb-so_far m n line verb.Workers ws r new room in_mode is e =
+    let found = then-gives (workers_of ws) _ new e in
+    later m n new (workers-so_far m n found.0 r new (workers-gives ws found.0 found.1) is found.2)
 verb-so_far m n line verb.Phase ws r new room in_mode is e = later m n new (phase-so_far m n ws r new in_mode is e)
 verb-so_far m n line v ws r new room in_mode is e = caller-so_far m n line 1 v ws r new room (lit≤ tt, lit≤ tt) in_mode is e
 

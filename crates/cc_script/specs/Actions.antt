@@ -141,6 +141,13 @@ purge_of streams ws = do
   span ← optional_span_of file.1
   Some (action.Purge file.0 span)
 
+-- discard FILE [FROM TO]
+unfoldable pub discard_of : List StreamLine → List (List ℕ) → Option Action
+discard_of streams ws = do
+  file ← next (file_of streams) ws
+  span ← optional_span_of file.1
+  Some (action.Discard file.0 span)
+
 -- ncread FILE AT LEN
 unfoldable pub nc_read_of : List StreamLine → List (List ℕ) → Option Action
 nc_read_of streams ws = do

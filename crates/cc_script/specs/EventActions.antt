@@ -1,4 +1,4 @@
--- The lines of `steps` alone, and the settings of a stream: the words behind the verb, in their order.
+-- The lines of `steps` alone, those of the throttle, and the settings of a stream: the words behind the verb, in their order.
 use Rattle.std.specs.Prelude.{ℕ, suc, ◌==◌, Bool, true, false, Option, Some, None, List, [], ◌∷◌, length, if◌then◌else◌, codes}
 use Rattle.cc_entry.specs.Place.{Page}
 use Rattle.cc_script.specs.declared.script.Mode.{Mode}

@@ -10,6 +10,7 @@ use Rattle.cc_script.specs.declared.script.ActionLine.{ActionLine}
 use Rattle.cc_script.specs.declared.verb.Verb.{Verb}
 use Rattle.cc_script.specs.declared.verb.Verb.TheVariants as verb
 use Rattle.cc_script.specs.declared.reading.Reading.{Reading}
+use Rattle.cc_script.specs.declared.reading.Workers.{Workers}
 use Rattle.cc_script.specs.declared.caller_words.CallerWords.{CallerWords}
 use Rattle.cc_script.specs.Outcome.{◌>>=◌}
 use Rattle.cc_script.specs.Text.{lines, words}
@@ -31,6 +32,7 @@ nothing_read = record {
   total = 0;
   has_journal = false;
   has_threshold = false;
+  has_workers = false;
   dirty = 0;
   words = replicate 17 no_words;
 }
@@ -96,6 +98,20 @@ with_threshold pages r =
     then Some (record r { script = record r.script { threshold = pages }; has_threshold = true })
     else None
 
+-- L A: up to 1000 ticks of the lazy writer in each phase, and no steps of read-ahead
+unfoldable pub workers_of : List (List ℕ) → Option Workers
+workers_of ws = do
+  ticks ← next (number_between 0 1000) ws
+  aheads ← next (number_between 0 0) ticks.1
+  ended aheads.1 (record { ticks = ticks.0; aheads = aheads.0 })
+
+-- workers L A: at most once, before the first action
+unfoldable pub with_workers : Workers → Reading → Option Reading
+with_workers set r =
+    if (length r.script.lines == 0) && not r.has_workers
+    then Some (record r { script = record r.script { ticks = set.ticks; aheads = set.aheads }; has_workers = true })
+    else None
+
 -- phase: at most 1000 times
 unfoldable pub with_phase : List (List ℕ) → Reading → Option Reading
 with_phase ws r =
@@ -151,6 +167,9 @@ verb_line mode n verb.Journal ws r = do
 verb_line mode n verb.Threshold ws r = do
   pages ← setting_of 1 16384 ws
   with_threshold pages r
+verb_line mode n verb.Workers ws r = do
+  set ← workers_of ws
+  with_workers set r
 verb_line mode n verb.Phase ws r = with_phase ws r
 verb_line mode n v ws r = caller_line mode n 1 v ws r
 

@@ -25,11 +25,13 @@ stands StepsAlone mode.Steps = true
 
 -- the modes that a verb stands in: `ncread` and `ncwrite` stand in both, in another form each
 abbrev pub verb_modes : Verb → Modes
+verb_modes verb.Workers = RunAlone
 verb_modes verb.Phase = RunAlone
 verb_modes verb.Read = RunAlone
 verb_modes verb.Write = RunAlone
 verb_modes verb.Update = RunAlone
 verb_modes verb.Levels = RunAlone
+verb_modes verb.Tick = RunAlone
 verb_modes verb.NcStore = StepsAlone
 verb_modes verb.Fill = StepsAlone
 verb_modes verb.Drop = StepsAlone
@@ -37,9 +39,6 @@ verb_modes verb.WriteBegin = StepsAlone
 verb_modes verb.WriteEnd = StepsAlone
 verb_modes verb.Sync = StepsAlone
 verb_modes verb.Scan = StepsAlone
-verb_modes verb.CanWrite = StepsAlone
-verb_modes verb.Defer = StepsAlone
-verb_modes verb.Post = StepsAlone
 verb_modes verb.Fail = StepsAlone
 verb_modes other = Both
 
@@ -52,6 +51,7 @@ action_modes (action.Read _ _ _ _) = RunAlone
 action_modes (action.Write _ _ _) = RunAlone
 action_modes (action.Update _ _ _) = RunAlone
 action_modes (action.Levels _) = RunAlone
+action_modes action.Tick = RunAlone
 action_modes (action.NcReadPage _ _) = StepsAlone
 action_modes (action.NcStorePage _ _ _) = StepsAlone
 action_modes (action.NcWritePage _ _) = StepsAlone
@@ -61,13 +61,10 @@ action_modes (action.WriteBegin _) = StepsAlone
 action_modes (action.WriteEnd _) = StepsAlone
 action_modes (action.Sync _) = StepsAlone
 action_modes action.Scan = StepsAlone
-action_modes (action.CanWrite _ _) = StepsAlone
-action_modes (action.Defer _ _ _) = StepsAlone
-action_modes action.Post = StepsAlone
 action_modes other = Both
 
 -- Whether an action is a call of the cache, which may fail by a fault of its caller. A line of the shim is a list of calls,
--- and the levels of a view index are read without an entry.
+-- a tick writes pages by steps of its own, and the levels of a view index are read without an entry.
 abbrev pub is_call : Action → Bool
 is_call (action.Append _ _) = false
 is_call (action.LogFlush _ _) = false
@@ -77,6 +74,7 @@ is_call (action.WriteBegin _) = false
 is_call (action.WriteEnd _) = false
 is_call (action.Sync _) = false
 is_call action.Scan = false
+is_call action.Tick = false
 is_call (action.Read _ _ _ _) = false
 is_call (action.Write _ _ _) = false
 is_call (action.Update _ _ _) = false

@@ -54,6 +54,7 @@ IsActionWithin streams (action.SetSizes file _ _) = IsFileWithin streams file
 IsActionWithin streams (action.State file) = IsFileWithin streams file
 IsActionWithin streams (action.Flush file _) = IsFileWithin streams file
 IsActionWithin streams (action.Purge file _) = IsFileWithin streams file
+IsActionWithin streams (action.Discard file _) = IsFileWithin streams file
 IsActionWithin streams (action.Read file _ _ _) = IsFileWithin streams file
 IsActionWithin streams (action.Write file _ _) = IsFileWithin streams file
 IsActionWithin streams (action.Update file _ _) = IsFileWithin streams file
@@ -76,6 +77,7 @@ IsActionWithin streams (action.WriteBegin page) = IsPageWithin streams page
 IsActionWithin streams (action.WriteEnd page) = IsPageWithin streams page
 IsActionWithin streams (action.Sync stream) = stream < length streams
 IsActionWithin streams action.Scan = Unit {0}
+IsActionWithin streams action.Tick = Unit {0}
 IsActionWithin streams (action.CanWrite file _) = IsFileWithin streams file
 IsActionWithin streams (action.Defer file _ _) = IsFileWithin streams file
 IsActionWithin streams action.Post = Unit {0}
@@ -100,13 +102,13 @@ abbrev pub PhasesAscend : ℕ → List ActionLine → Type 0
 PhasesAscend from [] = Unit {0}
 PhasesAscend from (line ∷ lines) = (from ≤ line.phase) × PhasesAscend line.phase lines
 
--- what is set is in its range, and there are no workers
+-- what is set is in its range, and there are no steps of read-ahead
 pub record IsHeaderWithin (script : Script) : Type 0 where
   pub least_journal : 64 ≤ script.journal
   pub most_journal : script.journal ≤ 1048576
   pub least_threshold : 1 ≤ script.threshold
   pub most_threshold : script.threshold ≤ 16384
-  pub no_ticks : script.ticks ≡ 0
+  pub most_ticks : script.ticks ≤ 1000
   pub no_aheads : script.aheads ≡ 0
 
 -- a script keeps within what its run may rely on

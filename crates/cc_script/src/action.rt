@@ -2,14 +2,14 @@
 
 ghost use Rattle.std.specs.Prelude.{◌≡◌};
 ghost use Rattle.cc_script.specs.Outcome.{Gives, TakesIf};
-ghost use Rattle.cc_script.specs.Actions.{initialise_of, uninitialise_of, copy_read_of, copy_write_of, zero_of, nc_read_of, nc_write_of, set_sizes_of, state_of, flush_of, purge_of, set_log_of, append_of, log_flush_of, dirty_pages_of, lsn_for_file_of, ended};
+ghost use Rattle.cc_script.specs.Actions.{initialise_of, uninitialise_of, copy_read_of, copy_write_of, zero_of, nc_read_of, nc_write_of, set_sizes_of, state_of, flush_of, purge_of, discard_of, set_log_of, append_of, log_flush_of, dirty_pages_of, lsn_for_file_of, ended};
 ghost use Rattle.cc_script.specs.EventActions.{nc_read_in, nc_write_in};
 ghost use Rattle.cc_script.specs.ActionTable.{action_of, bytes_counted, dirty_lines};
 ghost use Rattle.cc_script.specs.declared.script.Action.TheVariants as action;
 
 use crate::event_action::{
     can_write, defer, drop, fill, nc_read_page, nc_store_page, nc_write_page, post, scan,
-    set_attributes, set_granularity, set_threshold, sync, write_begin, write_end,
+    set_attributes, set_granularity, set_threshold, sync, tick, write_begin, write_end,
 };
 use crate::fault::LineFault;
 use crate::hold_action::{
@@ -200,6 +200,15 @@ fn purge(streams: &StreamLines, words: &mut Words) -> Option<Action>
     Some(Action::Purge { file, span })
 }
 
+#[tactic(auto, unfolding(crate::specs::Actions::discard_of))]
+fn discard(streams: &StreamLines, words: &mut Words) -> Option<Action>
+    ensures { result ≡ discard_of streams.now words.old }
+{
+    let file = words.file(streams)?;
+    let span = words.optional_span()?;
+    Some(Action::Discard { file, span })
+}
+
 fn is_dirty_data(words: &mut Words) -> Option<Action>
     ensures { result ≡ ended words.old action.IsDirtyData }
 {
@@ -314,6 +323,7 @@ pub(crate) fn action(
         Verb::State => state(streams, words).ok_or(LineFault::Syntax),
         Verb::Flush => flush(streams, words).ok_or(LineFault::Syntax),
         Verb::Purge => purge(streams, words).ok_or(LineFault::Syntax),
+        Verb::Discard => discard(streams, words).ok_or(LineFault::Syntax),
         Verb::Read => read(streams, words).ok_or(LineFault::Syntax),
         Verb::Write => write(alloc, streams, words),
         Verb::Update => update(alloc, streams, words),
@@ -333,12 +343,12 @@ pub(crate) fn action(
         Verb::WriteEnd => write_end(streams, words).ok_or(LineFault::Syntax),
         Verb::Sync => sync(streams, words).ok_or(LineFault::Syntax),
         Verb::Scan => scan(words).ok_or(LineFault::Syntax),
+        Verb::Tick => tick(words).ok_or(LineFault::Syntax),
         Verb::CanWrite => can_write(streams, words).ok_or(LineFault::Syntax),
         Verb::Defer => defer(streams, words).ok_or(LineFault::Syntax),
         Verb::Post => post(words).ok_or(LineFault::Syntax),
-        Verb::Stream | Verb::Journal | Verb::Threshold | Verb::Phase | Verb::Fail => {
-            Err(LineFault::Syntax)
-        }
+        Verb::Stream | Verb::Journal | Verb::Threshold | Verb::Workers | Verb::Phase | Verb::Fail =>
+            Err(LineFault::Syntax),
     }
 }
 

@@ -1,4 +1,5 @@
-//! The lines of steps alone, and the settings of a stream, each read from the words behind its verb.
+//! The lines of steps alone, those of the lazy writer and the throttle, and the settings of a stream, each read from the
+//! words behind its verb.
 
 ghost use Rattle.std.specs.Prelude.{◌≡◌};
 ghost use Rattle.cc_script.specs.Outcome.{Gives};
@@ -82,6 +83,16 @@ pub(crate) fn scan(words: &mut Words) -> Option<Action>
 {
     if words.is_empty() {
         Some(Action::Scan)
+    } else {
+        None
+    }
+}
+
+pub(crate) fn tick(words: &mut Words) -> Option<Action>
+    ensures { result ≡ ended words.old action.Tick }
+{
+    if words.is_empty() {
+        Some(Action::Tick)
     } else {
         None
     }

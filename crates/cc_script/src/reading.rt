@@ -4,7 +4,7 @@ ghost use Rattle.std.specs.Prelude.{◌≡◌, ◌<◌, ◌≤◌, ◌+◌, ◌^
 ghost use Rattle.std.specs.Bool.{OnTrue};
 ghost use Rattle.cc_script.specs.Outcome.{Gives, Becomes};
 ghost use Rattle.cc_script.specs.ActionTable.{bytes_counted, dirty_lines};
-ghost use Rattle.cc_script.specs.Grammar.{nothing_read, may_add, with_stream, stream_of, setting_of, with_journal, with_threshold, with_phase, keeps_totals, with_action, action_line, caller_line, verb_line};
+ghost use Rattle.cc_script.specs.Grammar.{nothing_read, may_add, with_stream, stream_of, setting_of, with_journal, with_threshold, workers_of, with_workers, with_phase, keeps_totals, with_action, action_line, caller_line, verb_line};
 
 use crate::action::{action, bytes_counted, dirty_lines};
 use crate::caller_words::{AllWords, CallerWords};
@@ -21,11 +21,23 @@ pub(crate) const MOST_ENTRIES: u64 = 1048576;
 /// The highest cache threshold, in pages.
 const MOST_PAGES: u64 = 16384;
 
+/// The most ticks of a phase, and the most steps of read-ahead, of which there are none.
+const MOST_TICKS: u64 = 1000;
+
+const MOST_AHEADS: u64 = 0;
+
 /// The most bytes that the lines of a script read, write, append and hold.
 const MOST_BYTES: u64 = 33554432;
 
 /// The most lines `dirty` of a script.
 const MOST_DIRTY: u64 = 64;
+
+/// How many ticks the lazy writer makes in each phase, and how many steps the read-ahead worker.
+#[derive(Clone, Copy)]
+pub(crate) struct Workers {
+    pub(crate) ticks: u32,
+    pub(crate) aheads: u32,
+}
 
 /// What the lines so far say.
 #[derive(Drop)]
@@ -34,6 +46,7 @@ pub(crate) struct Reading {
     pub(crate) total: u64,
     pub(crate) has_journal: bool,
     pub(crate) has_threshold: bool,
+    pub(crate) has_workers: bool,
     /// How many lines are `dirty`.
     pub(crate) dirty: u64,
     pub(crate) words: AllWords,
@@ -57,6 +70,7 @@ impl Reading {
             total: 0,
             has_journal: false,
             has_threshold: false,
+            has_workers: false,
             dirty: 0,
             words: AllWords::new(alloc)?,
         })
@@ -104,6 +118,19 @@ impl Reading {
         }
         self.script.threshold = pages;
         self.has_threshold = true;
+        Ok(())
+    }
+
+    #[tactic(auto, unfolding(crate::specs::Grammar::with_workers))]
+    fn set_workers(&mut self, workers: Workers) -> Result<(), LineFault>
+        ensures { Becomes (with_workers workers self.old) result self.new }
+    {
+        if !self.script.lines.is_empty() || self.has_workers {
+            return Err(LineFault::Syntax);
+        }
+        self.script.ticks = workers.ticks;
+        self.script.aheads = workers.aheads;
+        self.has_workers = true;
         Ok(())
     }
 
@@ -241,6 +268,10 @@ impl Reading {
                 let pages = setting(1, MOST_PAGES, words).ok_or(LineFault::Syntax)?;
                 self.set_threshold(pages)
             }
+            Verb::Workers => {
+                let workers = worker_counts(words).ok_or(LineFault::Syntax)?;
+                self.set_workers(workers)
+            }
             Verb::Phase => self.begin_phase(words),
             _ => self.by_caller(alloc, mode, number, 1, verb, words),
         }
@@ -279,6 +310,22 @@ fn setting(low: u64, high: u64, words: &mut Words) -> Option<u32>
     let number = words.number_between(low, high)?;
     if words.is_empty() {
         Some(number as u32)
+    } else {
+        None
+    }
+}
+
+#[tactic(auto, unfolding(crate::specs::Grammar::workers_of))]
+fn worker_counts(words: &mut Words) -> Option<Workers>
+    ensures { result ≡ workers_of words.old }
+{
+    let ticks = words.number_between(0, MOST_TICKS)?;
+    let aheads = words.number_between(0, MOST_AHEADS)?;
+    if words.is_empty() {
+        Some(Workers {
+            ticks: ticks as u32,
+            aheads: aheads as u32,
+        })
     } else {
         None
     }

@@ -274,6 +274,11 @@ pub enum Action {
         file: FileId,
         span: Option<Span>,
     },
+    /// A purge that throws unwritten changes away.
+    Discard {
+        file: FileId,
+        span: Option<Span>,
+    },
     /// A read of the shim along one of its paths.
     Read {
         file: FileId,
@@ -368,6 +373,9 @@ pub enum Action {
     },
     /// The lazy writer chooses pages.
     Scan,
+    /// A tick of the lazy writer: it chooses pages and writes them.
+    Tick,
+    /// Whether a write of so many bytes may go.
     CanWrite {
         file: FileId,
         bytes: u64,
@@ -378,7 +386,7 @@ pub enum Action {
         bytes: u64,
         retrying: bool,
     },
-    /// The first deferred write is posted.
+    /// Deferred writes are posted, the first first: in a run as long as one may go, in steps one.
     Post,
 }
 
@@ -399,7 +407,7 @@ impl Action {
     }
 
     /// Whether it is a call of the cache, which may fail by a fault of its caller. The others are steps of a page, a log
-    /// or a queue, lines of the shim, which are lists of calls, and `levels`, which leaves no entry.
+    /// or a queue, lines of the shim, which are lists of calls, ticks, and `levels`, which leaves no entry.
     pub fn is_call(&self) -> bool
         ensures { result ≡ is_call self.now }
     {
@@ -413,6 +421,7 @@ impl Action {
                 | Action::WriteEnd { .. }
                 | Action::Sync { .. }
                 | Action::Scan
+                | Action::Tick
                 | Action::Read { .. }
                 | Action::Write { .. }
                 | Action::Update { .. }

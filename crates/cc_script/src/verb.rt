@@ -13,6 +13,7 @@ pub(crate) enum Verb {
     Stream,
     Journal,
     Threshold,
+    Workers,
     Phase,
     Initialise,
     Uninitialise,
@@ -41,6 +42,7 @@ pub(crate) enum Verb {
     State,
     Flush,
     Purge,
+    Discard,
     Read,
     Write,
     Update,
@@ -61,16 +63,18 @@ pub(crate) enum Verb {
     WriteEnd,
     Sync,
     Scan,
+    Tick,
     CanWrite,
     Defer,
     Post,
     Fail,
 }
 
-pub(crate) const VERBS: [Verb; 55] = [
+pub(crate) const VERBS: [Verb; 58] = [
     Verb::Stream,
     Verb::Journal,
     Verb::Threshold,
+    Verb::Workers,
     Verb::Phase,
     Verb::Initialise,
     Verb::Uninitialise,
@@ -99,6 +103,7 @@ pub(crate) const VERBS: [Verb; 55] = [
     Verb::State,
     Verb::Flush,
     Verb::Purge,
+    Verb::Discard,
     Verb::Read,
     Verb::Write,
     Verb::Update,
@@ -119,6 +124,7 @@ pub(crate) const VERBS: [Verb; 55] = [
     Verb::WriteEnd,
     Verb::Sync,
     Verb::Scan,
+    Verb::Tick,
     Verb::CanWrite,
     Verb::Defer,
     Verb::Post,
@@ -133,6 +139,7 @@ impl Verb {
             Verb::Stream => b"stream",
             Verb::Journal => b"journal",
             Verb::Threshold => b"threshold",
+            Verb::Workers => b"workers",
             Verb::Phase => b"phase",
             Verb::Initialise => b"init",
             Verb::Uninitialise => b"uninit",
@@ -161,6 +168,7 @@ impl Verb {
             Verb::State => b"state",
             Verb::Flush => b"flush",
             Verb::Purge => b"purge",
+            Verb::Discard => b"discard",
             Verb::Read => b"read",
             Verb::Write => b"write",
             Verb::Update => b"update",
@@ -181,6 +189,7 @@ impl Verb {
             Verb::WriteEnd => b"end",
             Verb::Sync => b"sync",
             Verb::Scan => b"scan",
+            Verb::Tick => b"tick",
             Verb::CanWrite => b"canwrite",
             Verb::Defer => b"defer",
             Verb::Post => b"post",
@@ -209,9 +218,6 @@ impl Verb {
                 | Verb::WriteEnd
                 | Verb::Sync
                 | Verb::Scan
-                | Verb::CanWrite
-                | Verb::Defer
-                | Verb::Post
                 | Verb::Fail
         )
     }
@@ -222,7 +228,13 @@ impl Verb {
     {
         matches!(
             self,
-            Verb::Phase | Verb::Read | Verb::Write | Verb::Update | Verb::Levels
+            Verb::Workers
+                | Verb::Phase
+                | Verb::Read
+                | Verb::Write
+                | Verb::Update
+                | Verb::Levels
+                | Verb::Tick
         )
     }
 
