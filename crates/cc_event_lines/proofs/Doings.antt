@@ -54,10 +54,12 @@ on-hold Q me bindings (action.Read file path at len) none_first none_range none_
 on-hold Q me bindings (action.Write file at bytes) none_first none_range none_file none_written = refl
 on-hold Q me bindings (action.Update file at bytes) none_first none_range none_file none_written = refl
 on-hold Q me bindings (action.Levels file) none_first none_range none_file none_written = refl
+on-hold Q me bindings action.Tick none_first none_range none_file none_written = refl
 on-hold Q me bindings (action.SetSizes file allocation size) none_first none_range none_file none_written = absurd (some-none _ none_file)
 on-hold Q me bindings (action.State file) none_first none_range none_file none_written = absurd (some-none _ none_file)
 on-hold Q me bindings (action.Flush file span) none_first none_range none_file none_written = absurd (some-none _ none_range)
 on-hold Q me bindings (action.Purge file span) none_first none_range none_file none_written = absurd (some-none _ none_range)
+on-hold Q me bindings (action.Discard file span) none_first none_range none_file none_written = absurd (some-none _ none_range)
 on-hold Q me bindings action.IsDirtyData none_first none_range none_file none_written = absurd (some-none _ none_file)
 on-hold Q me bindings (action.DirtyPages handle) none_first none_range none_file none_written = absurd (some-none _ none_file)
 on-hold Q me bindings (action.LsnForFile file) none_first none_range none_file none_written = absurd (some-none _ none_file)

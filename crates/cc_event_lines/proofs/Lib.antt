@@ -10,3 +10,4 @@ pub mod Deferrals
 pub mod StreamSteps
 pub mod KnownLines
 pub mod LineSteps
+pub mod DisksUsed

@@ -73,6 +73,7 @@ call_on_range (action.NcReadPage file page) = Some (call.NcRead file page)
 call_on_range (action.NcWritePage file page) = Some (call.NcWrite file page)
 call_on_range (action.Flush file span) = Some (call.Flush file span)
 call_on_range (action.Purge file span) = Some (call.Purge file span)
+call_on_range (action.Discard file span) = Some (call.Discard file span)
 call_on_range other = None
 
 -- a call on a file as a whole, or on none

@@ -5,7 +5,8 @@ use Rattle.cc_entry.specs.declared.answer.LineReply.{LineReply}
 use Rattle.cc_script.specs.declared.script.Script.{Script}
 use Rattle.cc_pieces.specs.Steps.{IsSteppedThrough, deferrals_by}
 use Rattle.cc_turns.specs.Desk.{Begun, Tells}
-use Rattle.cc_world.specs.World.{WorldState, setup_of}
+-- the World that a run leaves, and the disks and logs that it gives back
+pub use Rattle.cc_world.specs.World.{DisksEnded, LogsEnded, WorldState, setup_of}
 
 -- The World that a run left, the reply of each line, the numbers of the writes that its `defer` lines deferred, or none
 -- where one was refused, and the post routines as they were handed in.

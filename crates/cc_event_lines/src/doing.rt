@@ -151,6 +151,7 @@ fn call_on_range(action: &Action) -> Option<Call>
         Action::NcWritePage { file, page } => Some(Call::NcWrite { file, page }),
         Action::Flush { file, span } => Some(Call::Flush { file, span }),
         Action::Purge { file, span } => Some(Call::Purge { file, span }),
+        Action::Discard { file, span } => Some(Call::Discard { file, span }),
         _ => None,
     }
 }

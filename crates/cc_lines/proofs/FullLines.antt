@@ -1,5 +1,5 @@
 -- A line that found the journal full left what was there before it, so the end of the line is one of its moments.
-use Rattle.std.specs.Prelude.{◌≡◌, ℕ, ◌≤◌, ◌⊎◌, Bool, true, false, ◌||◌, Err, List, [], ◌∷◌, ◌++◌, refl}
+use Rattle.std.specs.Prelude.{◌≡◌, ℕ, ◌≤◌, Bool, true, false, ◌||◌, Err, List, [], ◌∷◌, ◌++◌, refl}
 use Rattle.std.specs.declared.option.Option.{Option}
 use Rattle.std.specs.declared.option.Option.TheVariants.{Some, None}
 use Rattle.std.proofs.Common.{ap, sym, ◌∙◌, append_assoc, arith, subst, inl, inr}
@@ -22,8 +22,8 @@ use Rattle.cc_model.specs.Setup.{Setup}
 use Rattle.cc_effects.specs.Moments.{Between}
 use Rattle.cc_effects.specs.Repins.{UnpinLeft}
 use Rattle.cc_effects.proofs.Stretches.{grew-after}
-use Rattle.cc_own.proofs.VerbsKeep.{nc_read-unchanged, nc_write-unchanged}
-use Rattle.cc_pieces.specs.Answered.{AppendAnswered, CallAnswered, LogFlushAnswered}
+use Rattle.cc_own.proofs.VerbsKeep.{nc_read-unchanged, nc_write-unchanged, tick-unchanged}
+use Rattle.cc_pieces.specs.Answered.{AppendAnswered, CallAnswered, LogFlushAnswered, PostsRefused}
 use Rattle.cc_pieces.specs.Bindings.{Binding, OnHold, hold_named}
 use Rattle.cc_pieces.specs.HoldLines.{HeldReadBy, HoldLine, UnpinAnswered}
 use Rattle.cc_pieces.specs.Served.{Served}
@@ -31,7 +31,7 @@ use Rattle.cc_turns.specs.Standing.{Standing}
 use Rattle.cc_calls.specs.Pages.{WentOn}
 use Rattle.cc_writes.specs.Ways.{IsFullError}
 use Rattle.cc_shim.specs.Ends.{WasFullError}
-use Rattle.cc_lines.specs.Line.{IsFullTold, WasFullTold}
+use Rattle.cc_lines.specs.Line.{IsFullLine, WasFullTold}
 use Rattle.cc_lines.proofs.KeptByShim.{read-keeps, update-keeps, write-keeps}
 
 -- the journal has what it had, and more in front
@@ -79,6 +79,13 @@ module _ (u : Setup) (me entries : ℕ) (old new : List Entry) where
   grew-log_flush : (handle lsn : ℕ) → LogFlushAnswered u me handle lsn full old new → Grew old new
   grew-log_flush handle lsn left = record { during = left.during; grew = left.grew }
 
+  -- behind some posts
+  grew-posts : (ids : List ℕ) (past : List Entry) → PostsRefused u me ids (error.JournalFull entries) past new → Grew past new
+  grew-posts [] past left = record { during = left.during; grew = left.grew }
+  grew-posts (id ∷ ids) past left =
+      let rest = grew-posts ids left.0 left.2 in
+      record { during = rest.during ++ left.1.idle.during; grew = grew-after rest.during left.1.idle.during past left.0 new rest.grew left.1.idle.grew }
+
   grew-served : (bindings : List Binding) (asked : Action) → Served u me bindings asked full old new → Grew old new
   grew-served bindings (action.Initialise file sizes quota temporary) left = grew-call (call.Initialise file sizes quota temporary) left
   grew-served bindings (action.Uninitialise file truncate) left = grew-call (call.Uninitialise file truncate) left
@@ -105,6 +112,7 @@ module _ (u : Setup) (me entries : ℕ) (old new : List Entry) where
   grew-served bindings (action.State file) left = grew-call (call.State file) left
   grew-served bindings (action.Flush file span) left = grew-call (call.Flush file span) left.left
   grew-served bindings (action.Purge file span) left = grew-call (call.Purge file span) left
+  grew-served bindings (action.Discard file span) left = grew-call (call.Discard file span) left
   grew-served bindings (action.NcRead file at len) left = absurd left
   grew-served bindings (action.NcWrite file at bytes) left = absurd left
   grew-served bindings (action.Read file path at len) left = grew-seen (read-keeps u me file path at len full old new left).0
@@ -119,6 +127,11 @@ module _ (u : Setup) (me entries : ℕ) (old new : List Entry) where
   grew-served bindings (action.SetGranularity file bytes) left = grew-call (call.SetGranularity file bytes) left
   grew-served bindings (action.SetAttributes file no_read_ahead no_write_behind) left = grew-call (call.SetAttributes file no_read_ahead no_write_behind) left
   grew-served bindings (action.SetThreshold file pages) left = grew-call (call.SetThreshold file pages) left
+  grew-served bindings (action.CanWrite file bytes) left = grew-call (call.CanWrite file bytes) left
+  grew-served bindings (action.Defer file bytes retrying) left = record { during = left.during; grew = left.grew }
+  grew-served bindings action.Post left = grew-posts left.0 old left.1
+  grew-served bindings action.Tick left =
+      let kept = tick-unchanged me 0 (Err (error.JournalFull entries)) old new left in record { during = kept.during; grew = kept.grew }
   grew-served bindings other left = absurd left
 
 -- the same where a noncached line tells it, which is the only one that is answered so
@@ -170,6 +183,7 @@ module _ (u : Setup) (me done : ℕ) (cause : CcError) (old new : List Entry) wh
   grew-cut_off bindings (action.State file) left = absurd left
   grew-cut_off bindings (action.Flush file span) left = absurd left.left
   grew-cut_off bindings (action.Purge file span) left = absurd left
+  grew-cut_off bindings (action.Discard file span) left = absurd left
   grew-cut_off bindings (action.Read file path at len) left = absurd left
   grew-cut_off bindings (action.Write file at bytes) left = absurd left
   grew-cut_off bindings (action.Update file at bytes) left = absurd left
@@ -183,6 +197,10 @@ module _ (u : Setup) (me done : ℕ) (cause : CcError) (old new : List Entry) wh
   grew-cut_off bindings (action.SetGranularity file bytes) left = absurd left
   grew-cut_off bindings (action.SetAttributes file no_read_ahead no_write_behind) left = absurd left
   grew-cut_off bindings (action.SetThreshold file pages) left = absurd left
+  grew-cut_off bindings (action.CanWrite file bytes) left = absurd left
+  grew-cut_off bindings (action.Defer file bytes retrying) left = absurd left
+  grew-cut_off bindings action.Post left = absurd left
+  grew-cut_off bindings action.Tick left = absurd left
   grew-cut_off bindings other left = absurd left
 
 -- ---- at the end of a line others had no more under way than they ever have
@@ -208,8 +226,8 @@ module _ (old new : Standing) (went : WentOn old new) (few : new.others ≤ new.
   cut bindings asked done cause left entries is = grew-cut_off old.setup old.number done cause old.seen new.seen bindings asked left
 
   -- a line that is told so was so at a moment
-  pub full-line : (bindings : List Binding) (asked : Action) (told : Answer) → Served old.setup old.number bindings asked told old.seen new.seen → IsFullTold new told ⊎ WasFullTold old new told → WasFullTold old new told
-  full-line bindings asked told left (inr was) = was
+  pub full-line : (bindings : List Binding) (asked : Action) (told : Answer) → Served old.setup old.number bindings asked told old.seen new.seen → IsFullLine old new asked told → WasFullTold old new told
+  full-line bindings asked told left (inr was) = was.1
   full-line bindings asked (answer.Refused e) left (inl full) =
       full-end 3 e (λ entries is. grew-served old.setup old.number entries old.seen new.seen bindings asked (subst (λ x. Served old.setup old.number bindings asked (answer.Refused x) old.seen new.seen) is left)) full
   full-line bindings asked (answer.NcRefused done cause) left (inl (inl full)) = inl (full-end 2 cause (cut bindings asked done cause left) full)

@@ -3,6 +3,7 @@ pub mod Calls
 pub mod NoncachedCalls
 pub mod KeptWords
 pub mod WordLines
+pub mod NamesKept
 pub mod WordChanges
 pub mod HoldLines
 pub mod KeptByShim
@@ -13,5 +14,7 @@ pub mod UseLines
 pub mod EndLines
 pub mod PinLines
 pub mod PlainLines
+pub mod ThrottleLines
+pub mod TickLines
 pub mod HeldReads
 pub mod ServeLines

@@ -1,5 +1,5 @@
 -- What a noncached line leaves whose call was not made for want of memory.
-use Rattle.std.specs.Prelude.{◌≡◌, ℕ, zero, suc, ◌+◌, ◌*◌, ◌/◌, ◌%◌, ◌<◌, Bool, true, false, ◌&&◌, ◌==◌, nat_lt, List, [], ◌∷◌, length, Err, refl, if◌then◌else◌}
+use Rattle.std.specs.Prelude.{◌≡◌, ℕ, zero, suc, ◌+◌, ◌/◌, ◌%◌, ◌<◌, Bool, true, false, ◌&&◌, ◌==◌, nat_lt, List, [], ◌∷◌, length, Err, refl, if◌then◌else◌}
 use Rattle.std.specs.declared.option.Option.{Option}
 use Rattle.std.specs.declared.option.Option.TheVariants.{Some, None}
 use Rattle.std.proofs.Common.{arith, inl}
@@ -12,7 +12,7 @@ use Rattle.cc_entry.specs.declared.error.CcError.{CcError}
 use Rattle.cc_entry.specs.declared.error.CcError.TheVariants as error
 use Rattle.cc_entry.specs.declared.entry.Entry.{Entry}
 use Rattle.cc_model.specs.Setup.{Setup}
-use Rattle.cc_effects.specs.Noncached.{AlignedReadLeft, AlignedWriteLeft, NcReadLeft, NcWriteLeft, ShapedReadLeft, ShapedWriteLeft, pages_from, shape_refusal}
+use Rattle.cc_effects.specs.Noncached.{AlignedReadLeft, AlignedWriteLeft, NcReadLeft, NcWriteLeft, ShapedReadLeft, ShapedWriteLeft, shape_refusal}
 use Rattle.cc_effects.proofs.Stretches.{idle-none}
 use Rattle.cc_lines.proofs.Calls.{unplaced}
 

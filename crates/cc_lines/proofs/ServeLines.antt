@@ -23,6 +23,7 @@ use Rattle.cc_calls.specs.Answers.{CallEnds, CanCall, IsFree, flag_outcome, lsns
 use Rattle.cc_calls.specs.Flushes.{FlushEnds}
 use Rattle.cc_calls.specs.Logs.{LogEnds}
 use Rattle.cc_calls.specs.Pages.{ChangeEnds}
+use Rattle.cc_calls.specs.Discards.{DiscardEnds}
 use Rattle.cc_calls.specs.Purges.{PurgeEnds}
 use Rattle.cc_turns.specs.Standing.{Standing}
 use Rattle.cc_writes.specs.Ways.{IsFull}
@@ -159,6 +160,12 @@ module _ (old new : Standing) (names : NamesState) (asked : Action) (told : Answ
       told-as old new asked told (told_of ended) names names tells
       (plain-line old new (told_of ended) names (told-full 2 new ended (omega arith) (writing-within (call.Purge file span) new ended ends.full)) ends.goes_on ends.good asked (call.Purge file span) is
       (told-answered old.setup old.number (call.Purge file span) ended old.seen new.seen ends.left))
+
+  pub discard-line : (file : File) (span : Option Range) (ended : Result (Unit {0}) CcError) → plain_call asked ≡ Some (call.Discard file span) → told ≡ told_of ended → DiscardEnds old new file span ended → LineServed old new asked told names names
+  discard-line file span ended is tells ends =
+      told-as old new asked told (told_of ended) names names tells
+      (plain-line old new (told_of ended) names (told-full 1 new ended (omega arith) ends.full) ends.goes_on ends.good asked (call.Discard file span) is
+      (told-answered old.setup old.number (call.Discard file span) ended old.seen new.seen ends.left))
 
   -- the questions
   pub state-line : (it : Call) (ended : Result FileState CcError) → plain_call asked ≡ Some it → most_asked it ≤ 3 → told ≡ state_told ended → CallEnds state_outcome old new it ended → LineServed old new asked told names names

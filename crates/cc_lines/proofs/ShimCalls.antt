@@ -1,5 +1,5 @@
 -- What a line of the shim leaves whose calls were not made for want of memory.
-use Rattle.std.specs.Prelude.{◌≡◌, ℕ, Bool, true, false, nat_lt, List, length, Err, refl}
+use Rattle.std.specs.Prelude.{ℕ, Bool, true, false, nat_lt, List, length, Err, refl}
 use Rattle.std.specs.declared.option.Option.{Option}
 use Rattle.std.specs.declared.option.Option.TheVariants.{Some, None}
 use Rattle.std.proofs.Common.{inl, inr}

@@ -1,14 +1,12 @@
 -- The lines of the shim, and the question for levels: what their calls left explains them, and the words stand on.
-use Rattle.std.specs.Prelude.{◌≡◌, ℕ, List, refl}
+use Rattle.std.specs.Prelude.{ℕ, List, refl}
 use Rattle.std.specs.declared.option.Option.TheVariants.{None}
-use Rattle.std.proofs.Common.{arith, inr}
+use Rattle.std.proofs.Common.{arith, inl, inr}
 use Rattle.cc_entry.specs.Place.{File}
 use Rattle.cc_entry.specs.declared.answer.Answer.{Answer}
 use Rattle.cc_entry.specs.declared.answer.Answer.TheVariants as answer
-use Rattle.cc_entry.specs.declared.entry.Entry.{Entry}
 use Rattle.cc_entry.specs.declared.error.CcError.{CcError}
 use Rattle.cc_entry.specs.declared.error.CcError.TheVariants as error
-use Rattle.cc_entry.specs.declared.reply.Reply.TheVariants as reply
 use Rattle.cc_script.specs.declared.bound.Bound.{Bound}
 use Rattle.cc_script.specs.declared.script.Action.TheVariants as action
 use Rattle.cc_script.specs.declared.script.ReadPath.{ReadPath}
@@ -23,7 +21,7 @@ use Rattle.cc_turns.specs.Standing.{Standing}
 use Rattle.cc_calls.specs.Pages.{WentOn}
 use Rattle.cc_shim.specs.Ends.{WasFullError}
 use Rattle.cc_lines.specs.Holds.{NamesState, held_of}
-use Rattle.cc_lines.specs.Line.{LineServed, StandFor, WasFullTold}
+use Rattle.cc_lines.specs.Line.{IsFullTold, LineServed, StandFor, WasFullTold}
 use Rattle.cc_lines.proofs.KeptByShim.{Keeps, read-keeps, update-keeps, write-keeps}
 use Rattle.cc_lines.proofs.KeptWords.{stand-kept}
 use Rattle.cc_lines.proofs.WordLines.{has-at, so_far, stand-now, stand-on}
@@ -54,7 +52,7 @@ module _ (old new : Standing) (told : Answer) (names : NamesState) (full : WasFu
   pub read-line : (file : File) (path : ReadPath) (at len : ℕ) → ReadAnswered old.setup old.number file path at len told old.seen new.seen → LineServed old new (action.Read file path at len) told names names
   read-line file path at len left = record {
     served = λ bounds bindings stand right. (left, stand-shim bounds bindings (read-keeps old.setup old.number file path at len told old.seen new.seen left) stand);
-    full = inr full;
+    full = inr (tt, full);
     goes_on = went;
     good = good;
     room = refl;
@@ -63,7 +61,7 @@ module _ (old new : Standing) (told : Answer) (names : NamesState) (full : WasFu
   pub write-line : (file : File) (at : ℕ) (bytes : List ℕ) → WriteAnswered old.setup old.number file at bytes told old.seen new.seen → LineServed old new (action.Write file at bytes) told names names
   write-line file at bytes left = record {
     served = λ bounds bindings stand right. (left, stand-shim bounds bindings (write-keeps old.setup old.number file at bytes told old.seen new.seen left) stand);
-    full = inr full;
+    full = inr (tt, full);
     goes_on = went;
     good = good;
     room = refl;
@@ -72,12 +70,14 @@ module _ (old new : Standing) (told : Answer) (names : NamesState) (full : WasFu
   pub update-line : (file : File) (at : ℕ) (bytes : List ℕ) → UpdateAnswered old.setup old.number file at bytes told old.seen new.seen → LineServed old new (action.Update file at bytes) told names names
   update-line file at bytes left = record {
     served = λ bounds bindings stand right. (left, stand-shim bounds bindings (update-keeps old.setup old.number file at bytes told old.seen new.seen left) stand);
-    full = inr full;
+    full = inr (tt, full);
     goes_on = went;
     good = good;
     room = refl;
   }
 
+-- a question for levels
+module _ (old new : Standing) (told : Answer) (names : NamesState) (full : IsFullTold new told) (went : WentOn old new) (good : IsGood old.setup new.seen) where
   levels-idle : (file : File) (told : Answer) → LevelsAnswered levels_of old.number file told old.seen new.seen → IsIdle old.number old.seen new.seen
   levels-idle file (answer.Levels n) left = left.idle
   levels-idle file (answer.Refused error.NotCached) left = left.idle
@@ -90,7 +90,7 @@ module _ (old new : Standing) (told : Answer) (names : NamesState) (full : WasFu
       left,
       stand-on old new went good bounds bindings names (λ id. unchanged-idle old.number id old.seen new.seen (levels-idle file told left)) stand,
     );
-    full = inr full;
+    full = inl full;
     goes_on = went;
     good = good;
     room = refl;

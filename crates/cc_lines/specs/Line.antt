@@ -19,14 +19,16 @@ use Rattle.cc_model.specs.Good.{IsGood}
 use Rattle.cc_pieces.specs.Bindings.{Binding}
 use Rattle.cc_pieces.specs.Served.{Served, bindings_after}
 use Rattle.cc_turns.specs.Standing.{Standing, nothing}
-use Rattle.cc_writes.specs.Ways.{IsFullError}
-use Rattle.cc_calls.specs.Pages.{StaysGood, WentOn}
+use Rattle.cc_calls.specs.Pages.{StaysGood}
 use Rattle.cc_ranges.specs.Stores.{HasToStore}
 use Rattle.cc_ranges.specs.declared.error.NcError.{NcError}
 use Rattle.cc_calls.specs.Held.{IsHolding}
 use Rattle.cc_calls.specs.declared.held.Held.{Held}
--- a journal that was full at a moment
+-- a journal that is full as a line ends, or was so at a moment; how a pass goes on; one that holds no turn
+pub use Rattle.cc_writes.specs.Ways.{IsFullError}
 pub use Rattle.cc_shim.specs.Ends.{WasFullError}
+pub use Rattle.cc_calls.specs.Pages.{WentOn}
+pub use Rattle.cc_calls.specs.Answers.{IsFree}
 use Rattle.cc_lines.specs.Holds.{NamesState, NamesStand, HasRoom}
 
 -- An action of a run on one of so many streams, or on none; one on a hold names no stream. Those of `steps` alone are no
@@ -57,6 +59,7 @@ IsServable streams (action.SetSizes file allocation size) = file.stream < stream
 IsServable streams (action.State file) = file.stream < streams
 IsServable streams (action.Flush file span) = file.stream < streams
 IsServable streams (action.Purge file span) = file.stream < streams
+IsServable streams (action.Discard file span) = file.stream < streams
 IsServable streams (action.NcRead file at len) = file.stream < streams
 IsServable streams (action.NcWrite file at bytes) = file.stream < streams
 IsServable streams (action.Read file path at len) = file.stream < streams
@@ -72,6 +75,7 @@ IsServable streams (action.LogFlush handle lsn) = Unit {0}
 IsServable streams (action.SetGranularity file bytes) = file.stream < streams
 IsServable streams (action.SetAttributes file no_read_ahead no_write_behind) = file.stream < streams
 IsServable streams (action.SetThreshold file pages) = file.stream < streams
+IsServable streams action.Tick = Unit {0}
 IsServable streams (action.NcReadPage file page) = ⊥
 IsServable streams (action.NcStorePage file page bytes) = ⊥
 IsServable streams (action.NcWritePage file page) = ⊥
@@ -81,9 +85,9 @@ IsServable streams (action.WriteBegin page) = ⊥
 IsServable streams (action.WriteEnd page) = ⊥
 IsServable streams (action.Sync stream) = ⊥
 IsServable streams action.Scan = ⊥
-IsServable streams (action.CanWrite file bytes) = ⊥
-IsServable streams (action.Defer file bytes retrying) = ⊥
-IsServable streams action.Post = ⊥
+IsServable streams (action.CanWrite file bytes) = file.stream < streams
+IsServable streams (action.Defer file bytes retrying) = file.stream < streams
+IsServable streams action.Post = Unit {0}
 
 -- What is kept of the words of a pass stands for what it has seen.
 abbrev pub StandFor : Standing → List Bound → List Binding → NamesState → Type 0
@@ -133,13 +137,24 @@ pub record LineWith (Full : Type 0) (old new : Standing) (asked : Action) (told 
   pub good : IsGood old.setup new.seen
   pub room : now.room ≡ was.room
 
--- a line whose journal was full at its end, where it is told so, or at one of its moments
-abbrev pub LineServed : Standing → Standing → Action → Answer → NamesState → NamesState → Type 0
-LineServed old new asked told was now = LineWith (IsFullTold new told ⊎ WasFullTold old new told) old new asked told was now
+-- the lines that are lists of calls
+abbrev pub IsList : Action → Type 0
+IsList (action.Read file path at len) = Unit {0}
+IsList (action.Write file at bytes) = Unit {0}
+IsList (action.Update file at bytes) = Unit {0}
+IsList other = ⊥
 
--- a line whose journal was full at one of its moments, where it is told so
+-- Where a line tells that the journal is full, it was so at the line's end; or at a moment of it, if it is a list of calls.
+abbrev pub IsFullLine : Standing → Standing → Action → Answer → Type 0
+IsFullLine old new asked told = IsFullTold new told ⊎ (IsList asked × WasFullTold old new told)
+
+-- a line that was served
+abbrev pub LineServed : Standing → Standing → Action → Answer → NamesState → NamesState → Type 0
+LineServed old new asked told was now = LineWith (IsFullLine old new asked told) old new asked told was now
+
+-- the same, and of each line that tells of a full journal a moment at which it was so
 abbrev pub LineEnds : Standing → Standing → Action → Answer → NamesState → NamesState → Type 0
-LineEnds old new asked told was now = LineWith (WasFullTold old new told) old new asked told was now
+LineEnds old new asked told was now = LineWith (IsFullLine old new asked told × WasFullTold old new told) old new asked told was now
 
 -- The same of an action that binds a word, which is the next one: it may be asked so, and its line was served so.
 abbrev pub CanServeNext : Standing → (ℕ → Action) → NamesState → Type 0

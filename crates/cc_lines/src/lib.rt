@@ -6,15 +6,22 @@
 //! or nothing where none was made or a line has ended it.
 //!
 //! `line` serves an action, `held_lines` one on a hold, `noncached_lines` a noncached one, `shim_lines` one of the file
-//! system shim, and `holds` keeps what the words of a caller name. The phases of a run stand above (`cc_run`); below are the
-//! calls (`cc_calls`, `cc_ranges`), the shim over them (`cc_shim`), and how the journal explains answers (`cc_pieces`).
+//! system shim, `throttle_lines` a deferral and posts, `tick_line` a tick, `openings` opens a stream, and `holds` keeps what
+//! the words of a caller name. The phases of a run stand above (`cc_run`); below are the calls (`cc_calls`, `cc_ranges`), the
+//! shim over them (`cc_shim`), and how the journal explains answers (`cc_pieces`).
 #![tactic(auto)]
 
 mod held_lines;
 mod holds;
 mod line;
 mod noncached_lines;
+mod openings;
 mod shim_lines;
+mod throttle_lines;
+mod tick_line;
 
 pub use holds::{Named, Names};
-pub use line::{answered, serve_at};
+pub use line::serve_at;
+pub use openings::open_stream;
+pub use throttle_lines::Fresh;
+pub use tick_line::serve_tick;

@@ -15,10 +15,12 @@ use crate::held_lines::{
 use crate::holds::Names;
 use crate::noncached_lines::{read_noncached, write_noncached};
 use crate::shim_lines::{levels, read_along, update_logged, write_extending};
+use crate::throttle_lines::{Fresh, defer_write, post_all};
+use crate::tick_line::serve_tick;
 use cc_calls::{
-    copy_read, copy_write, dirty_pages, file_state, flush, initialize, is_dirty_data, log_append,
-    log_flush, lsn_for_file, purge, set_attributes, set_file_sizes, set_granularity,
-    set_log_handle, set_threshold, uninitialize, zero_data,
+    can_i_write, copy_read, copy_write, dirty_pages, discard, file_state, flush, initialize,
+    is_dirty_data, log_append, log_flush, lsn_for_file, purge, set_attributes, set_file_sizes,
+    set_granularity, set_log_handle, set_threshold, uninitialize, zero_data,
 };
 use cc_entry::{Answer, Bytes, BytesRoom, CcError, FileId, FileState, Lsn, Reply, Rows};
 use cc_script::Action;
@@ -35,6 +37,8 @@ pub fn serve_at<T: Turns, P: Gate>(
     number: u32,
     names: &mut Names,
 ) -> Answer
+where
+    T::Post: Fresh,
     requires { CanServe (T.standing turns.old) action.now names.old }
     ensures { LineEnds (T.standing turns.old) (T.standing turns.new) action.now result names.old names.new }
 {
@@ -49,6 +53,8 @@ pub fn serve_at<T: Turns, P: Gate>(
 // Serves an action, and answers its line. Want of memory is an answer, of a call that was not done: what the answer of
 // one that was done takes is there before.
 fn serve<T: Turns>(alloc: Global, turns: &mut T, action: &Action, names: &mut Names) -> Answer
+where
+    T::Post: Fresh,
     requires { CanServe (T.standing turns.old) action.now names.old }
     ensures { LineServed (T.standing turns.old) (T.standing turns.new) action.now result names.old names.new }
 {
@@ -113,6 +119,7 @@ fn serve<T: Turns>(alloc: Global, turns: &mut T, action: &Action, names: &mut Na
         Action::State { file } => state(file_state(alloc, turns, *file)),
         Action::Flush { file, span } => answered(flush(alloc, turns, *file, *span)),
         Action::Purge { file, span } => answered(purge(alloc, turns, *file, *span)),
+        Action::Discard { file, span } => answered(discard(alloc, turns, *file, *span)),
         Action::NcRead { file, at, len } => read_noncached(alloc, turns, *file, *at, *len),
         Action::NcWrite { file, at, bytes } => write_noncached(alloc, turns, *file, *at, bytes),
         Action::Read {
@@ -141,6 +148,14 @@ fn serve<T: Turns>(alloc: Global, turns: &mut T, action: &Action, names: &mut Na
         Action::SetThreshold { file, pages } => {
             answered(set_threshold(alloc, turns, *file, *pages))
         }
+        Action::CanWrite { file, bytes } => flag(can_i_write(alloc, turns, *file, *bytes)),
+        Action::Defer {
+            file,
+            bytes,
+            retrying,
+        } => defer_write(turns, *file, *bytes, *retrying),
+        Action::Post => post_all(alloc, turns),
+        Action::Tick => serve_tick(alloc, turns),
         // The lines of `steps` alone, which are none of a run.
         Action::NcReadPage { .. }
         | Action::NcStorePage { .. }
@@ -150,15 +165,12 @@ fn serve<T: Turns>(alloc: Global, turns: &mut T, action: &Action, names: &mut Na
         | Action::WriteBegin { .. }
         | Action::WriteEnd { .. }
         | Action::Sync { .. }
-        | Action::Scan
-        | Action::CanWrite { .. }
-        | Action::Defer { .. }
-        | Action::Post => unreachable!(),
+        | Action::Scan => unreachable!(),
     }
 }
 
 /// The answer of a line whose call answers no value.
-pub fn answered(ended: Result<(), CcError>) -> Answer
+pub(crate) fn answered(ended: Result<(), CcError>) -> Answer
     ensures { result ≡ told_of ended }
 {
     match ended {

@@ -5,7 +5,7 @@ ghost use Rattle.cc_pieces.specs.Shim.{ReadAnswered, UpdateAnswered, WriteAnswer
 ghost use Rattle.cc_vacb.specs.Levels.{levels_of};
 ghost use Rattle.cc_calls.specs.Answers.{CanCall};
 ghost use Rattle.cc_calls.specs.Pages.{StaysGood, WentOn};
-ghost use Rattle.cc_lines.specs.Line.{WasFullTold};
+ghost use Rattle.cc_lines.specs.Line.{IsFullTold, WasFullTold};
 
 use cc_calls::index_levels;
 use cc_entry::{Answer, Bytes, BytesRoom, CcError, FileId, Reply};
@@ -96,7 +96,7 @@ pub(crate) fn levels<T: Turns>(turns: &mut T, file: FileId) -> Answer
     requires { CanCall (T.standing turns.old) file.stream }
     ensures answered { LevelsAnswered levels_of (T.standing turns.old).number file result
         (T.standing turns.old).seen (T.standing turns.new).seen }
-    ensures full { WasFullTold (T.standing turns.old) (T.standing turns.new) result }
+    ensures full { IsFullTold (T.standing turns.new) result }
     ensures goes_on { WentOn (T.standing turns.old) (T.standing turns.new) }
     ensures good { StaysGood (T.standing turns.old) (T.standing turns.new) }
 {

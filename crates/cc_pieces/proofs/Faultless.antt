@@ -1,11 +1,11 @@
 -- A line whose journal shows no failure is answered none.
-use Rattle.std.specs.Prelude.{◌≡◌, ℕ, zero, suc, ◌+◌, ◌*◌, ◌/◌, ◌%◌, Bool, true, false, ◌==◌, ◌&&◌, ◌||◌, nat_lt, List, [], ◌∷◌, ◌++◌, length, take, drop, Err, refl, if◌then◌else◌}
+use Rattle.std.specs.Prelude.{◌≡◌, ℕ, zero, suc, ◌+◌, ◌*◌, ◌/◌, ◌%◌, Bool, true, false, cond, ◌==◌, ◌&&◌, ◌||◌, nat_lt, List, [], ◌∷◌, ◌++◌, length, take, drop, Err, refl, if◌then◌else◌}
 use Rattle.std.specs.declared.option.Option.{Option}
 use Rattle.std.specs.declared.option.Option.TheVariants.{Some, None}
-use Rattle.std.specs.List.{AllByRecursion}
+use Rattle.std.specs.List.{AllByRecursion, count_by, list_any}
 use Rattle.std.proofs.Common.{sym, ap, subst, ◌∙◌, inl, inr}
 use Rattle.std.proofs.lemmas.Option.{same_Some}
-use Rattle.cc_entry.specs.Place.{File}
+use Rattle.cc_entry.specs.Place.{File, Page}
 use Rattle.cc_entry.specs.Kinds.{is_map, is_pin, is_repin, is_read_chain, is_write_chain}
 use Rattle.cc_entry.specs.declared.answer.Answer.{Answer}
 use Rattle.cc_entry.specs.declared.answer.Answer.TheVariants as answer
@@ -29,13 +29,14 @@ use Rattle.cc_model.specs.Holds.{range_held}
 use Rattle.cc_model.specs.Setup.{Setup}
 use Rattle.cc_effects.specs.Calls.{CallLeft, IsFaulted}
 use Rattle.cc_effects.specs.LogCalls.{AppendRefused, FlushRefused}
-use Rattle.cc_effects.specs.Moments.{PlacedOnly}
+use Rattle.cc_effects.specs.Moments.{PlacedOnly, own}
 use Rattle.cc_effects.specs.Noncached.{MisshapenLeft, PageReadsRefused, PageRefused, ShapedReadLeft, ShapedWriteLeft, TransferRefused, shape_refusal}
+use Rattle.cc_effects.specs.PageWrites.{BecameOfAll, NotLogged, NotWritten, PageWrite, Skipped, TickLeft, Written, has_end, is_end_of, is_failed_page}
 use Rattle.cc_effects.specs.Repins.{UnpinLeft}
-use Rattle.cc_model.specs.Passes.{HasSeen}
+use Rattle.cc_model.specs.Passes.{HasSeen, is_mine, is_same_page}
 use Rattle.cc_script.specs.declared.script.ReadPath.{ReadPath}
 use Rattle.cc_vacb.specs.Levels.{levels_of}
-use Rattle.cc_pieces.specs.Answered.{AppendAnswered, CallAnswered, LevelsAnswered, LogFlushAnswered, NcReadAnswered, NcWriteAnswered}
+use Rattle.cc_pieces.specs.Answered.{AppendAnswered, CallAnswered, LevelsAnswered, LogFlushAnswered, DeferAnswered, PostsAnswered, PostsRefused, NcReadAnswered, NcWriteAnswered, TickAnswered}
 use Rattle.cc_pieces.specs.Bindings.{Binding, OnHold, hold_named}
 use Rattle.cc_pieces.specs.Faultless.{shows_fault, tells_fault}
 use Rattle.cc_pieces.specs.HoldLines.{HeldReadBy, HoldLine, UnpinAnswered, UnrepinLine}
@@ -94,6 +95,51 @@ pub answered-none : (u : Setup) (me : ℕ) (it : Call) (told : Answer) (old new 
 answered-none u me it (answer.Given r) old new left none = refl
 answered-none u me it (answer.Refused e) old new left none = failed-tells-none u me it e old new left none
 answered-none u me it other old new left none = absurd left
+
+and-false : (b : Bool) → (b && false) ≡ false
+and-false true = refl
+and-false false = refl
+
+-- what a pass placed in such a stretch shows none either
+own-none : (me : ℕ) (during : List Entry) → ShowsNone during → ShowsNone (own me during)
+own-none me [] none = tt
+own-none me (e ∷ during) none = by (is_mine me e) (own-none me during none.1)
+  where
+    by : (b : Bool) → ShowsNone (own me during) → ShowsNone (cond b (e ∷ own me during) (own me during))
+    by true rest = (none.0, rest)
+    by false rest = rest
+
+-- no transfer of a page failed there
+no-failed-end : (page : Page) (ends : List Entry) → ShowsNone ends → list_any (is_end_of is_failed page) ends ≡ false
+no-failed-end page [] none = refl
+no-failed-end page (entry.WriteEnd pass other how ∷ ends) none =
+    rw (none.0, and-false (is_same_page page other)) (no-failed-end page ends none.1)
+no-failed-end page (other ∷ ends) none = no-failed-end page ends none.1
+
+-- so no page of a tick failed
+became-none : (me : ℕ) (pages : List Page) (all : List PageWrite) (during old : List Entry) → ShowsNone during → BecameOfAll me pages all during old → count_by is_failed_page all ≡ 0
+became-none me [] [] during old none became = refl
+became-none me [] (one ∷ all) during old none became = absurd became
+became-none me (page ∷ pages) [] during old none became = absurd became
+became-none me (page ∷ pages) (Written ∷ all) during old none became = became-none me pages all during old none became.1
+became-none me (page ∷ pages) (Skipped ∷ all) during old none became = became-none me pages all during old none became.1
+became-none me (page ∷ pages) (NotWritten ∷ all) during old none became =
+    let no : has_end is_failed me page during ≡ false = no-failed-end page (own me during) (own-none me during none) in
+    absurd (cc (no, became.0))
+became-none me (page ∷ pages) (NotLogged ∷ all) during old none became =
+    absurd (not-shown (entry.LogFailed me became.0.handle) became.0.after became.0.before (subst ShowsNone became.0.split none) refl)
+
+pub tick-none : (me : ℕ) (told : Answer) (old new : List Entry) → TickAnswered me told old new → ShowsNone new → tells_fault told ≡ false
+tick-none me (answer.Ticked tick) old new left none =
+    let during : ShowsNone left.during = none-head left.during _ (subst ShowsNone left.scanned.grew none) in
+    rw (left.failed, became-none me tick.picked left.ends left.during _ during left.became) refl
+tick-none me (answer.Refused e) old new left none = by e left
+  where
+    by : (e : CcError) → TickLeft me (Err e) old new → is_fault e ≡ false
+    by (error.JournalFull entries) left = refl
+    by error.NoMemory left = refl
+    by other left = absurd left
+tick-none me other old new left none = absurd left
 
 append-none : (u : Setup) (me handle : ℕ) (bytes : List ℕ) (told : Answer) (old new : List Entry) → AppendAnswered u me handle bytes told old new → ShowsNone new → tells_fault told ≡ false
 append-none u me handle bytes (answer.NewLsn lsn) old new left none = refl
@@ -261,6 +307,27 @@ levels-none me file (answer.Refused error.NotCached) old new left = refl
 levels-none me file (answer.Refused error.NoMemory) old new left = refl
 levels-none me file other old new left = absurd left
 
+-- neither a deferral nor a post goes to a disk or a log
+defer-none : (me : ℕ) (file : File) (bytes : ℕ) (retrying : Bool) (told : Answer) (old new : List Entry) → DeferAnswered me file bytes retrying told old new → tells_fault told ≡ false
+defer-none me file bytes retrying (answer.Deferred id) old new left = refl
+defer-none me file bytes retrying (answer.Refused error.NotCached) old new left = refl
+defer-none me file bytes retrying (answer.Refused error.QueueFull) old new left = refl
+defer-none me file bytes retrying (answer.Refused (error.JournalFull entries)) old new left = refl
+defer-none me file bytes retrying (answer.Refused error.NoMemory) old new left = refl
+defer-none me file bytes retrying (answer.Refused other) old new left = absurd left
+defer-none me file bytes retrying other old new left = absurd left
+
+unposted-none : (u : Setup) (me : ℕ) (ids : List ℕ) (e : CcError) (old new : List Entry) → PostsRefused u me ids e old new → is_fault e ≡ false
+unposted-none u me [] (error.JournalFull entries) old new left = refl
+unposted-none u me [] error.NoMemory old new left = refl
+unposted-none u me [] other old new left = absurd left
+unposted-none u me (id ∷ ids) e old new left = unposted-none u me ids e left.0 new left.2
+
+posts-none : (u : Setup) (me : ℕ) (told : Answer) (old new : List Entry) → PostsAnswered u me told old new → tells_fault told ≡ false
+posts-none u me (answer.Posts ids) old new left = refl
+posts-none u me (answer.Refused e) old new left = unposted-none u me left.0 e old new left.1
+posts-none u me other old new left = absurd left
+
 -- a line of a run
 pub served-none : (u : Setup) (me : ℕ) (bindings : List Binding) (asked : Action) (told : Answer) (old new : List Entry) → Served u me bindings asked told old new → ShowsNone new → tells_fault told ≡ false
 served-none u me bindings (action.Initialise file sizes quota temporary) told old new left none =
@@ -296,6 +363,7 @@ served-none u me bindings (action.SetSizes file allocation size) told old new le
 served-none u me bindings (action.State file) told old new left none = answered-none u me (call.State file) told old new left none
 served-none u me bindings (action.Flush file span) told old new left none = answered-none u me (call.Flush file span) told old new left.left none
 served-none u me bindings (action.Purge file span) told old new left none = answered-none u me (call.Purge file span) told old new left none
+served-none u me bindings (action.Discard file span) told old new left none = answered-none u me (call.Discard file span) told old new left none
 served-none u me bindings (action.NcRead file at len) told old new left none = nc-read-none u me file at len told old new left none
 served-none u me bindings (action.NcWrite file at bytes) told old new left none = nc-write-none u me file at bytes told old new left none
 served-none u me bindings (action.Read file path at len) told old new left none = read-none u me file path at len told old new left none
@@ -312,6 +380,10 @@ served-none u me bindings (action.SetGranularity file bytes) told old new left n
 served-none u me bindings (action.SetAttributes file no_read_ahead no_write_behind) told old new left none =
     answered-none u me (call.SetAttributes file no_read_ahead no_write_behind) told old new left none
 served-none u me bindings (action.SetThreshold file pages) told old new left none = answered-none u me (call.SetThreshold file pages) told old new left none
+served-none u me bindings (action.CanWrite file bytes) told old new left none = answered-none u me (call.CanWrite file bytes) told old new left none
+served-none u me bindings (action.Defer file bytes retrying) told old new left none = defer-none me file bytes retrying told old new left
+served-none u me bindings action.Post told old new left none = posts-none u me told old new left
+served-none u me bindings action.Tick told old new left none = tick-none me told old new left none
 served-none u me bindings other told old new left none = absurd left
 
 -- no answer of replies tells a fault

@@ -29,15 +29,17 @@ use Rattle.cc_model.specs.Holds.{range_held}
 use Rattle.cc_model.specs.Legal.{IsLegal}
 use Rattle.cc_model.specs.Settings.{log_of}
 use Rattle.cc_model.specs.Setup.{Setup}
-use Rattle.cc_effects.specs.Asked.{Calls, brings_in, is_admitted, is_of, may_sync, reaches}
+use Rattle.cc_effects.specs.Asked.{Work, Calls, Writes, brings_in, is_admitted, is_of, may_sync, reaches}
 use Rattle.cc_effects.specs.Calls.{CallLeft, IsDone, IsOvertaken, IsPlaced, IsRefused}
 use Rattle.cc_effects.specs.LogCalls.{AppendRefused, FlushRefused, WasFlushed}
 use Rattle.cc_effects.specs.Moments.{EachOwn, IsIdle, Others, PlacedOnly}
 use Rattle.cc_effects.specs.Noncached.{AlignedReadLeft, AlignedWriteLeft, IsPageWritten, IsTransferred, IsUntold, MisshapenLeft, PageReadsRefused, PageRefused, PagesRead, PagesWritten, ShapedReadLeft, ShapedWriteLeft, TakesOut, TransferRefused, pages_from, shape_refusal}
+use Rattle.cc_effects.specs.PageWrites.{HasScanned, TickCutOff}
 use Rattle.cc_effects.specs.Places.{MayPlace, Works}
 use Rattle.cc_effects.specs.Repins.{UnpinLeft}
+use Rattle.cc_effects.specs.Throttle.{PostLeft}
 use Rattle.cc_effects.proofs.Stretches.{each-append, each-implies, each-others, grew-after}
-use Rattle.cc_pieces.specs.Answered.{AppendAnswered, CallAnswered, LevelsAnswered, LogFlushAnswered, NcReadAnswered, NcWriteAnswered}
+use Rattle.cc_pieces.specs.Answered.{AppendAnswered, CallAnswered, LevelsAnswered, LogFlushAnswered, DeferAnswered, PostsAnswered, PostsLeft, PostsRefused, NcReadAnswered, NcWriteAnswered, TickAnswered}
 use Rattle.cc_pieces.specs.Bindings.{Binding, OnHold, hold_named}
 use Rattle.cc_pieces.specs.HoldLines.{HeldReadBy, HoldLine, UnpinAnswered, UnrepinLine}
 use Rattle.cc_pieces.specs.Served.{Served}
@@ -144,6 +146,7 @@ IsActionBelow n (action.SetSizes file _ _) = file.stream < n
 IsActionBelow n (action.State file) = file.stream < n
 IsActionBelow n (action.Flush file _) = file.stream < n
 IsActionBelow n (action.Purge file _) = file.stream < n
+IsActionBelow n (action.Discard file _) = file.stream < n
 IsActionBelow n (action.LsnForFile file) = file.stream < n
 IsActionBelow n (action.SetLog file _) = file.stream < n
 IsActionBelow n (action.SetGranularity file _) = file.stream < n
@@ -161,36 +164,64 @@ IsActionBelow n (action.CanWrite file _) = file.stream < n
 IsActionBelow n (action.Defer file _ _) = file.stream < n
 IsActionBelow n other = Unit {0}
 
-module _ (u : Setup) (n : ℕ) (handles : HasHandles u) where
-  may-below : (me : ℕ) (it : Call) (old past : List Entry) (e : Entry) → IsFileBelow n (file_of it) → MayPlace me (Calls it) old past e → StaysBelow u n past e
-  may-below me it old past (entry.PageIn pass page from_disk) below may sound all = reached-below n it page past
-      (and_parts (is_admitted it page.stream past) (reaches it page past) (and_parts (brings_in it) (is_admitted it page.stream past && reaches it page past) may).1).1 below
-  may-below me it old past (entry.PageOut pass page) below may sound all =
-      resident-below n u.logs page.stream page.page past all (stands u (entry.PageOut pass page) past sound).resident
-  may-below me it old past (entry.FillFailed pass page) below may sound all = reached-below n it page may.1.moment may.1.holds.reached below
-  may-below me it old past (entry.WriteBegin pass page) below may sound all =
-      resident-below n u.logs page.stream page.page past all (stands u (entry.WriteBegin pass page) past sound).resident
-  may-below me it old past (entry.WriteEnd pass page how) below may sound all =
-      open-below n u.logs page.stream _ past all (stands u (entry.WriteEnd pass page how) past sound)
-  may-below me it old past (entry.Sync pass stream how) below may sound all = synced-below n stream it may.0 below
-  may-below me it old past (entry.Flushed pass handle to) below may sound all = tt
-  may-below me it old past (entry.LogFailed pass handle) below may sound all =
-      handles past may.asks.page.stream handle (sound-tail u (entry.LogFailed pass handle) past sound).0 may.asks.log
-  may-below me it old past other below may sound all = absurd may
+-- the file of a call that is under way is of the first streams; the writing of pages names none
+abbrev IsWorkBelow : ℕ → Work → Type 0
+IsWorkBelow n (Calls it) = IsFileBelow n (file_of it)
+IsWorkBelow n (Writes pages) = Unit {0}
 
-  -- where the file of the call is of the first streams once all before the call is
-  left-works : (me : ℕ) (it : Call) (during old : List Entry) → (AllBelow n u.logs old → IsFileBelow n (file_of it)) → Works me (Calls it) during old → IsLeft u n me old (during ++ old)
-  left-works me it during old below works = record {
+module _ (u : Setup) (n : ℕ) (handles : HasHandles u) where
+  may-below : (me : ℕ) (work : Work) (old past : List Entry) (e : Entry) → IsWorkBelow n work → MayPlace me work old past e → StaysBelow u n past e
+  may-below me (Calls it) old past (entry.PageIn pass page from_disk) below may sound all = reached-below n it page past
+      (and_parts (is_admitted it page.stream past) (reaches it page past) (and_parts (brings_in it) (is_admitted it page.stream past && reaches it page past) may).1).1 below
+  may-below me (Writes pages) old past (entry.PageIn pass page from_disk) below may sound all = absurd (cc may)
+  may-below me work old past (entry.PageOut pass page) below may sound all =
+      resident-below n u.logs page.stream page.page past all (stands u (entry.PageOut pass page) past sound).resident
+  may-below me (Calls it) old past (entry.FillFailed pass page) below may sound all = reached-below n it page may.1.moment may.1.holds.reached below
+  may-below me (Writes pages) old past (entry.FillFailed pass page) below may sound all = absurd may
+  may-below me work old past (entry.WriteBegin pass page) below may sound all =
+      resident-below n u.logs page.stream page.page past all (stands u (entry.WriteBegin pass page) past sound).resident
+  may-below me work old past (entry.WriteEnd pass page how) below may sound all =
+      open-below n u.logs page.stream _ past all (stands u (entry.WriteEnd pass page how) past sound)
+  may-below me (Calls it) old past (entry.Sync pass stream how) below may sound all = synced-below n stream it may.0 below
+  may-below me (Writes pages) old past (entry.Sync pass stream how) below may sound all = absurd may
+  may-below me work old past (entry.Flushed pass handle to) below may sound all = tt
+  may-below me work old past (entry.LogFailed pass handle) below may sound all =
+      handles past may.asks.page.stream handle (sound-tail u (entry.LogFailed pass handle) past sound).0 may.asks.log
+  may-below me work old past other below may sound all = absurd may
+
+  -- where what is under way is of the first streams once all before it is
+  left-works : (me : ℕ) (work : Work) (during old : List Entry) → (AllBelow n u.logs old → IsWorkBelow n work) → Works me work during old → IsLeft u n me old (during ++ old)
+  left-works me work during old below works = record {
     during = during;
     grew = refl;
     each = each-given u n me during old
-        (λ all. each-implies me (MayPlace me (Calls it) old) (StaysBelow u n) (λ past e may. may-below me it old past e (below all) may) during old works.each);
+        (λ all. each-implies me (MayPlace me work old) (StaysBelow u n) (λ past e may. may-below me work old past e (below all) may) during old works.each);
   }
+
+  -- a tick: its scan, and the pages that it wrote
+  left-scanned : (me : ℕ) (picked : List Page) (during old new : List Entry) → HasScanned me picked during old new → IsLeft u n me old new
+  left-scanned me picked during old new is =
+      subst (IsLeft u n me old) (sym is.grew)
+      (left-then u n me old (entry.Scan me picked ∷ (is.before ++ old)) _
+      (left-then u n me old (is.before ++ old) _ (left-others u n me is.before old is.quiet)
+      (left-entry u n me (entry.Scan me picked) (is.before ++ old) (λ sound all. tt)))
+      (left-works me (Writes picked) during _ (λ all. tt) is.works))
+
+  left-cut-off : (me : ℕ) (e : CcError) (old new : List Entry) → TickCutOff me e old new → IsLeft u n me old new
+  left-cut-off me e old new (inl idle) = left-idle u n me old new idle
+  left-cut-off me e old new (inr after) = left-scanned me after.0 after.1 old new after.2
+
+  pub left-tick : (me : ℕ) (told : Answer) (old new : List Entry) → TickAnswered me told old new → IsLeft u n me old new
+  left-tick me (answer.Ticked tick) old new left = left-scanned me tick.picked left.during old new left.scanned
+  left-tick me (answer.Refused (error.JournalFull entries)) old new left = left-cut-off me (error.JournalFull entries) old new left
+  left-tick me (answer.Refused error.NoMemory) old new left = left-cut-off me error.NoMemory old new left
+  left-tick me (answer.Refused other) old new left = absurd left
+  left-tick me other old new left = absurd left
 
   left-placed : (me : ℕ) (it : Call) (ended : Outcome) (earlier old new : List Entry) → (AllBelow n u.logs old → IsFileBelow n (file_of it)) → IsPlaced me it ended earlier old new → IsLeft u n me old new
   left-placed me it ended earlier old new below p =
       subst (IsLeft u n me old) (sym p.grew)
-      (left-then u n me old (earlier ++ old) _ (left-works me it earlier old below p.works)
+      (left-then u n me old (earlier ++ old) _ (left-works me (Calls it) earlier old below p.works)
       (left-then u n me (earlier ++ old) (entry.Call me p.nth p.stream it ended ∷ (earlier ++ old)) _
       (left-entry u n me (entry.Call me p.nth p.stream it ended) (earlier ++ old) (λ sound all. call-below n u.logs me p.nth p.stream it ended (earlier ++ old) p.filed (below (front-below n u.logs earlier old all)) all))
       (left-others u n me p.later _ p.quiet)))
@@ -198,9 +229,9 @@ module _ (u : Setup) (n : ℕ) (handles : HasHandles u) where
   left-call-given : (me : ℕ) (it : Call) (ended : Outcome) (old new : List Entry) → (AllBelow n u.logs old → IsFileBelow n (file_of it)) → CallLeft u me it ended old new → IsLeft u n me old new
   left-call-given me it (outcome.Done r) old new below left = left-placed me it (outcome.Done r) left.earlier old new below left.placed
   left-call-given me it (outcome.Failed (error.JournalFull entries)) old new below left =
-      subst (IsLeft u n me old) (sym left.grew) (left-works me it left.during old below left.works)
+      subst (IsLeft u n me old) (sym left.grew) (left-works me (Calls it) left.during old below left.works)
   left-call-given me it (outcome.Failed error.NoMemory) old new below left =
-      subst (IsLeft u n me old) (sym left.grew) (left-works me it left.during old below left.works)
+      subst (IsLeft u n me old) (sym left.grew) (left-works me (Calls it) left.during old below left.works)
   left-call-given me it (outcome.Failed (error.ReadFault page)) old new below left = left-placed me it _ left.earlier old new below left.placed
   left-call-given me it (outcome.Failed (error.WriteFault page)) old new below left = left-placed me it _ left.earlier old new below left.placed
   left-call-given me it (outcome.Failed (error.LogFault handle)) old new below left = left-placed me it _ left.earlier old new below left.placed
@@ -316,7 +347,7 @@ module _ (u : Setup) (n : ℕ) (handles : HasHandles u) where
         (left-then u n me old _ _
         (left-then u n me old _ _
         (left-then u n me old _ _
-        (left-then u n me old (is.earlier ++ old) _ (left-works me (call.NcStore file page bytes) is.earlier old (λ all. below) is.works) (left-entry u n me (entry.Call me is.nth (Some file.stream) (call.NcStore file page bytes) (outcome.Done reply.Unit)) (is.earlier ++ old) (λ sound all. (below, below))))
+        (left-then u n me old (is.earlier ++ old) _ (left-works me (Calls (call.NcStore file page bytes)) is.earlier old (λ all. below) is.works) (left-entry u n me (entry.Call me is.nth (Some file.stream) (call.NcStore file page bytes) (outcome.Done reply.Unit)) (is.earlier ++ old) (λ sound all. (below, below))))
         (left-entry u n me (entry.WriteBegin me (record { stream = file.stream; page = page })) _ (λ sound all. below)))
         (left-others u n me is.waiting _ is.quiet))
         (left-entry u n me (entry.WriteEnd me (record { stream = file.stream; page = page }) end) _ (λ sound all. below)))
@@ -433,6 +464,38 @@ module _ (u : Setup) (n : ℕ) (handles : HasHandles u) where
       left-on-hold me (hold_named bindings word is_repin) (UnpinAnswered u me through) told old new (λ id one. left-unpinned me through id told old new one) left
 
   -- a line that names a file of the first streams, or none
+  -- a deferral, and posts, which are no pass's
+  left-defer : (me : ℕ) (file : File) (bytes : ℕ) (retrying : Bool) (told : Answer) (old new : List Entry) → DeferAnswered me file bytes retrying told old new → IsLeft u n me old new
+  left-defer me file bytes retrying (answer.Deferred id) old new left = left-only u n me _ old new left (λ past sound all. tt)
+  left-defer me file bytes retrying (answer.Refused error.NotCached) old new left = left-idle u n me old new left.idle
+  left-defer me file bytes retrying (answer.Refused error.QueueFull) old new left = left-idle u n me old new left.idle
+  left-defer me file bytes retrying (answer.Refused (error.JournalFull entries)) old new left = left-idle u n me old new left
+  left-defer me file bytes retrying (answer.Refused error.NoMemory) old new left = left-idle u n me old new left
+  left-defer me file bytes retrying (answer.Refused other) old new left = absurd left
+  left-defer me file bytes retrying other old new left = absurd left
+
+  left-post : (me : ℕ) (answered : Result (Option ℕ) CcError) (old new : List Entry) → PostLeft u me answered old new → IsLeft u n me old new
+  left-post me (Ok (Some id)) old new left = left-idle u n me old new left.idle
+  left-post me (Ok None) old new left = left-idle u n me old new left.idle
+  left-post me (Err (error.JournalFull entries)) old new left = left-idle u n me old new left
+  left-post me (Err error.NoMemory) old new left = left-idle u n me old new left
+  left-post me (Err other) old new left = absurd left
+
+  left-posted : (me : ℕ) (ids : List ℕ) (old new : List Entry) → PostsLeft u me ids old new → IsLeft u n me old new
+  left-posted me [] old new left = left-post me (Ok None) old new left
+  left-posted me (id ∷ ids) old new left =
+      left-then u n me old left.0 new (left-post me (Ok (Some id)) old left.0 left.1) (left-posted me ids left.0 new left.2)
+
+  left-unposted : (me : ℕ) (ids : List ℕ) (e : CcError) (old new : List Entry) → PostsRefused u me ids e old new → IsLeft u n me old new
+  left-unposted me [] e old new left = left-post me (Err e) old new left
+  left-unposted me (id ∷ ids) e old new left =
+      left-then u n me old left.0 new (left-post me (Ok (Some id)) old left.0 left.1) (left-unposted me ids e left.0 new left.2)
+
+  left-posts : (me : ℕ) (told : Answer) (old new : List Entry) → PostsAnswered u me told old new → IsLeft u n me old new
+  left-posts me (answer.Posts ids) old new left = left-posted me ids old new left
+  left-posts me (answer.Refused e) old new left = left-unposted me left.0 e old new left.1
+  left-posts me other old new left = absurd left
+
   pub left-served : (me : ℕ) (bindings : List Binding) (asked : Action) (told : Answer) (old new : List Entry) → IsActionBelow n asked → Served u me bindings asked told old new → IsLeft u n me old new
   left-served me bindings (action.Initialise file sizes quota temporary) told old new below left =
       left-answered me (call.Initialise file sizes quota temporary) told old new below left
@@ -470,6 +533,7 @@ module _ (u : Setup) (n : ℕ) (handles : HasHandles u) where
   left-served me bindings (action.State file) told old new below left = left-answered me (call.State file) told old new below left
   left-served me bindings (action.Flush file span) told old new below left = left-answered me (call.Flush file span) told old new below left.left
   left-served me bindings (action.Purge file span) told old new below left = left-answered me (call.Purge file span) told old new below left
+  left-served me bindings (action.Discard file span) told old new below left = left-answered me (call.Discard file span) told old new below left
   left-served me bindings (action.NcRead file at len) told old new below left = left-nc-read file below me at len told old new left
   left-served me bindings (action.NcWrite file at bytes) told old new below left = left-nc-write file below me at bytes told old new left
   left-served me bindings (action.Read file path at len) told old new below left =
@@ -489,4 +553,8 @@ module _ (u : Setup) (n : ℕ) (handles : HasHandles u) where
   left-served me bindings (action.SetAttributes file no_read_ahead no_write_behind) told old new below left =
       left-answered me (call.SetAttributes file no_read_ahead no_write_behind) told old new below left
   left-served me bindings (action.SetThreshold file pages) told old new below left = left-answered me (call.SetThreshold file pages) told old new below left
+  left-served me bindings (action.CanWrite file bytes) told old new below left = left-answered me (call.CanWrite file bytes) told old new below left
+  left-served me bindings (action.Defer file bytes retrying) told old new below left = left-defer me file bytes retrying told old new left
+  left-served me bindings action.Post told old new below left = left-posts me told old new left
+  left-served me bindings action.Tick told old new below left = left-tick me told old new left
   left-served me bindings other told old new below left = absurd left

@@ -1,6 +1,7 @@
 pub mod ShimSteps
 pub mod Grown
 pub mod ShimLines
+pub mod ThrottleSteps
 pub mod LineSteps
 pub mod PlainReads
 pub mod PlainPages
@@ -9,6 +10,7 @@ pub mod AskedLines
 pub mod Words
 pub mod Streams
 pub mod LeftStreams
+pub mod TickSteps
 pub mod RunStreams
 pub mod Faultless
 pub mod RunFaultless

@@ -26,14 +26,16 @@ use Rattle.cc_effects.proofs.Begun.{ascend-after, ascend-before}
 use Rattle.cc_effects.proofs.Stretches.{idle-then, idle-none, some-after, some-before}
 use Rattle.cc_effects.proofs.CallSteps.{left-after, left-before}
 use Rattle.cc_effects.proofs.NoncachedSteps.{nc-read-after, nc-read-before, nc-write-after, nc-write-before, unpin-after, unpin-before}
+use Rattle.cc_effects.proofs.PageSteps.{tick-after, tick-before}
 use Rattle.cc_effects.proofs.OtherSteps.{append-after, append-before, levels-after, levels-before, log-flush-after, log-flush-before}
 use Rattle.cc_pieces.specs.Bindings.{Binding, hold_named, OnHold}
-use Rattle.cc_pieces.specs.Answered.{CallAnswered, FlushAnswered, AppendAnswered, LevelsAnswered, LogFlushAnswered, NcReadAnswered, NcWriteAnswered}
+use Rattle.cc_pieces.specs.Answered.{CallAnswered, FlushAnswered, AppendAnswered, LevelsAnswered, LogFlushAnswered, NcReadAnswered, NcWriteAnswered, TickAnswered}
 use Rattle.cc_pieces.specs.HoldLines.{HoldLine, HeldReadBy, UnpinAnswered, UnpinEnded, UnrepinLine}
 use Rattle.cc_pieces.specs.Served.{Served, bindings_after}
 use Rattle.cc_pieces.specs.Rooms.{WasFull, HadNoRoom}
 use Rattle.cc_pieces.specs.Runs.{Explains, Ran, bindings_of, asked_of}
 use Rattle.cc_vacb.specs.Levels.{levels_of}
+use Rattle.cc_pieces.proofs.ThrottleSteps.{deferred-after, deferred-before, posted-after, posted-before}
 use Rattle.cc_pieces.proofs.ShimSteps.{read-after, read-before, update-after, update-before, write-after, write-before}
 
 answered-before : (u : Setup) (me : ℕ) (it : Call) (told : Answer) (older old new : List Entry) → IsIdle me older old → CallAnswered u me it told old new → CallAnswered u me it told older new
@@ -163,6 +165,17 @@ unrepinned-after : (u : Setup) (me : ℕ) (bindings : List Binding) (word : ℕ)
 unrepinned-after u me bindings word through told old new newer left idle =
     held-after me (hold_named bindings word is_repin) (UnpinAnswered u me through) told old new newer (λ id one. unpinned-after u me through id told old new newer one idle) left idle
 
+-- what the pass did not do before a tick, or behind it, is no matter to it
+pub ticked-before : (me : ℕ) (told : Answer) (older old new : List Entry) → IsIdle me older old → TickAnswered me told old new → TickAnswered me told older new
+ticked-before me (answer.Ticked tick) older old new idle left = tick-before me (Ok tick) older old new idle left
+ticked-before me (answer.Refused e) older old new idle left = tick-before me (Err e) older old new idle left
+ticked-before me other older old new idle left = absurd left
+
+ticked-after : (me : ℕ) (told : Answer) (old new newer : List Entry) → TickAnswered me told old new → IsIdle me new newer → TickAnswered me told old newer
+ticked-after me (answer.Ticked tick) old new newer left idle = tick-after me (Ok tick) old new newer left idle
+ticked-after me (answer.Refused e) old new newer left idle = tick-after me (Err e) old new newer left idle
+ticked-after me other old new newer left idle = absurd left
+
 served-before : (u : Setup) (me : ℕ) (bindings : List Binding) (asked : Action) (told : Answer) (older old new : List Entry) → IsIdle me older old → Served u me bindings asked told old new → Served u me bindings asked told older new
 served-before u me bindings (action.Initialise file sizes quota temporary) told older old new idle left =
     answered-before u me (call.Initialise file sizes quota temporary) told older old new idle left
@@ -198,6 +211,7 @@ served-before u me bindings (action.SetSizes file allocation size) told older ol
 served-before u me bindings (action.State file) told older old new idle left = answered-before u me (call.State file) told older old new idle left
 served-before u me bindings (action.Flush file span) told older old new idle left = flushed-before u me file span told older old new idle left
 served-before u me bindings (action.Purge file span) told older old new idle left = answered-before u me (call.Purge file span) told older old new idle left
+served-before u me bindings (action.Discard file span) told older old new idle left = answered-before u me (call.Discard file span) told older old new idle left
 served-before u me bindings (action.NcRead file at len) told older old new idle left = nc_read-before u me file at len told older old new idle left
 served-before u me bindings (action.NcWrite file at bytes) told older old new idle left = nc_write-before u me file at bytes told older old new idle left
 served-before u me bindings (action.Read file path at len) told older old new idle left = read-before u me older old idle file path at len told new left
@@ -213,6 +227,10 @@ served-before u me bindings (action.LogFlush handle lsn) told older old new idle
 served-before u me bindings (action.SetGranularity file bytes) told older old new idle left = answered-before u me (call.SetGranularity file bytes) told older old new idle left
 served-before u me bindings (action.SetAttributes file no_read_ahead no_write_behind) told older old new idle left = answered-before u me (call.SetAttributes file no_read_ahead no_write_behind) told older old new idle left
 served-before u me bindings (action.SetThreshold file pages) told older old new idle left = answered-before u me (call.SetThreshold file pages) told older old new idle left
+served-before u me bindings (action.CanWrite file bytes) told older old new idle left = answered-before u me (call.CanWrite file bytes) told older old new idle left
+served-before u me bindings (action.Defer file bytes retrying) told older old new idle left = deferred-before me file bytes retrying told older old new idle left
+served-before u me bindings action.Post told older old new idle left = posted-before u me told older old new idle left
+served-before u me bindings action.Tick told older old new idle left = ticked-before me told older old new idle left
 served-before u me bindings other told older old new idle left = absurd left
 
 served-after : (u : Setup) (me : ℕ) (bindings : List Binding) (asked : Action) (told : Answer) (old new newer : List Entry) → Served u me bindings asked told old new → IsIdle me new newer → Served u me bindings asked told old newer
@@ -250,6 +268,7 @@ served-after u me bindings (action.SetSizes file allocation size) told old new n
 served-after u me bindings (action.State file) told old new newer left idle = answered-after u me (call.State file) told old new newer left idle
 served-after u me bindings (action.Flush file span) told old new newer left idle = flushed-after u me file span told old new newer left idle
 served-after u me bindings (action.Purge file span) told old new newer left idle = answered-after u me (call.Purge file span) told old new newer left idle
+served-after u me bindings (action.Discard file span) told old new newer left idle = answered-after u me (call.Discard file span) told old new newer left idle
 served-after u me bindings (action.NcRead file at len) told old new newer left idle = nc_read-after u me file at len told old new newer left idle
 served-after u me bindings (action.NcWrite file at bytes) told old new newer left idle = nc_write-after u me file at bytes told old new newer left idle
 served-after u me bindings (action.Read file path at len) told old new newer left idle = read-after u me new newer idle file path at len told old left
@@ -265,6 +284,10 @@ served-after u me bindings (action.LogFlush handle lsn) told old new newer left 
 served-after u me bindings (action.SetGranularity file bytes) told old new newer left idle = answered-after u me (call.SetGranularity file bytes) told old new newer left idle
 served-after u me bindings (action.SetAttributes file no_read_ahead no_write_behind) told old new newer left idle = answered-after u me (call.SetAttributes file no_read_ahead no_write_behind) told old new newer left idle
 served-after u me bindings (action.SetThreshold file pages) told old new newer left idle = answered-after u me (call.SetThreshold file pages) told old new newer left idle
+served-after u me bindings (action.CanWrite file bytes) told old new newer left idle = answered-after u me (call.CanWrite file bytes) told old new newer left idle
+served-after u me bindings (action.Defer file bytes retrying) told old new newer left idle = deferred-after me file bytes retrying told old new newer left idle
+served-after u me bindings action.Post told old new newer left idle = posted-after u me told old new newer left idle
+served-after u me bindings action.Tick told old new newer left idle = ticked-after me told old new newer left idle
 served-after u me bindings other told old new newer left idle = absurd left
 
 full-before : (u : Setup) (limit entries me : ℕ) (older old new : List Entry) → IsIdle me older old → WasFull u limit entries old new → WasFull u limit entries older new
@@ -275,7 +298,7 @@ full-after : (u : Setup) (limit entries me : ℕ) (old new newer : List Entry) �
 full-after u limit entries me old new newer was idle =
     rw idle.grew (some-after (λ moment. (entries ≡ length moment) × (room_in u moment 0 < limit)) old new idle.during was)
 
-room-before : (u : Setup) (limit me : ℕ) (told : Answer) (older old new : List Entry) → IsIdle me older old → HadNoRoom u limit told old new → HadNoRoom u limit told older new
+pub room-before : (u : Setup) (limit me : ℕ) (told : Answer) (older old new : List Entry) → IsIdle me older old → HadNoRoom u limit told old new → HadNoRoom u limit told older new
 room-before u limit me (answer.Refused (error.JournalFull entries)) older old new idle had = full-before u limit entries me older old new idle had
 room-before u limit me (answer.NcRefused done (error.JournalFull entries)) older old new idle had = full-before u limit entries me older old new idle had
 room-before u limit me other older old new idle had = tt

@@ -23,11 +23,12 @@ use Rattle.cc_effects.specs.Moments.{EachOwn, IsIdle}
 use Rattle.cc_pieces.specs.Bindings.{Binding}
 use Rattle.cc_pieces.specs.Explained.{Answered, Given, IsExplained}
 use Rattle.cc_pieces.specs.Openings.{LoggedOpening, Opened, first_object_of, opening_call}
-use Rattle.cc_pieces.specs.Phases.{AheadsRan, EndsWithNone, PhaseRan, PhasesRan, Plan, TicksRan, is_of_phase, lazy_writer, lines_in, read_ahead_worker}
+use Rattle.cc_pieces.specs.Phases.{AheadsRan, EndsWithNone, PhaseRan, PhasesRan, Plan, is_of_phase, lazy_writer, lines_in, read_ahead_worker}
 use Rattle.cc_pieces.specs.Runs.{Ran, asked_of}
 use Rattle.cc_pieces.specs.Served.{bindings_after}
 use Rattle.cc_pieces.proofs.Streams.{AllBelow, IsBelow}
 use Rattle.cc_pieces.proofs.LeftStreams.{HasHandles, IsActionBelow, IsLeft, IsSound, StaysBelow, left-answered, left-call, left-idle, left-served, left-then, sound-front, sound-tail}
+use Rattle.cc_pieces.proofs.TickSteps.{left-ticks}
 
 -- an entry of no pass is of no stream
 posted-below : (n logs : ℕ) (e : Entry) → pass_of e ≡ None → IsBelow n logs e
@@ -104,11 +105,7 @@ module _ (u : Setup) (n : ℕ) (handles : HasHandles u) where
           by true is = rw (eqb-true me 0 is) (left-opened 0 streams replies [] begun (omega (arith, few)) opened)
           by false is = left-idle u n me [] begun (alone me (eqb-false me 0 is))
 
-  module _ (plan : Plan) (no_ticks : plan.ticks ≡ 0) (no_aheads : plan.aheads ≡ 0) (within : AllByRecursion (λ line. IsActionBelow n line.action) plan.lines) where
-    no-ticks : (limit phase : ℕ) (ticked : List LineReply) (old new : List Entry) → length ticked ≡ plan.ticks → TicksRan u limit phase ticked old new → IsIdle lazy_writer old new
-    no-ticks limit phase [] old new count ran = ran
-    no-ticks limit phase (reply ∷ replies) old new count ran = absurd (omega (arith, count, no_ticks))
-
+  module _ (plan : Plan) (no_aheads : plan.aheads ≡ 0) (within : AllByRecursion (λ line. IsActionBelow n line.action) plan.lines) where
     no-aheads : (limit phase : ℕ) (stepped : List LineReply) (taken : List Request) (old new : List Entry) → length stepped ≤ plan.aheads → AheadsRan u limit phase stepped taken old new → IsIdle read_ahead_worker old new
     no-aheads limit phase [] taken old new count ran = ran.1
     no-aheads limit phase (reply ∷ replies) taken old new count ran = absurd (omega (arith, count, no_aheads))
@@ -130,7 +127,7 @@ module _ (u : Setup) (n : ℕ) (handles : HasHandles u) where
             (ran.callers me other (eqb-false me read_ahead_worker is))
 
         lazy : (b : Bool) → (me == lazy_writer) ≡ b → IsLeft u n me old new
-        lazy true is = left-idle u n me old new (rw (eqb-true me lazy_writer is) (no-ticks 32 phase ticked old new ran.all_ticks ran.ticks))
+        lazy true is = rw (eqb-true me lazy_writer is) (left-ticks u n handles 32 phase ticked old new ran.ticks)
         lazy false is = ahead (me == read_ahead_worker) refl (eqb-false me lazy_writer is)
 
     -- the journal grew by the phases
@@ -149,13 +146,13 @@ module _ (u : Setup) (n : ℕ) (handles : HasHandles u) where
         (every-left u n old ran.0 (left-phase phase _ _ _ old ran.0 ran.3) (sound-front u more.0 ran.0 (subst (IsSound u) more.1 sound)) all)
 
 -- Each entry of the journal of a run is of a stream of its script, and each log that failed is one of the run.
-pub explained-below : (u : Setup) (n : ℕ) (handles : HasHandles u) (given : Given) (told : Answered) (taken : List Request) (past : List Entry) → length given.streams ≤ n → given.ticks ≡ 0 → given.aheads ≡ 0 → AllByRecursion (λ line. IsActionBelow n line.action) given.lines → IsSound u past → IsExplained u given told taken past → AllBelow n u.logs past
-explained-below u n handles given told taken past few no_ticks no_aheads within sound is =
-    phases-below u n handles plan no_ticks no_aheads within 1 given.phases told.ticked told.stepped taken is.begun past is.ran sound
+pub explained-below : (u : Setup) (n : ℕ) (handles : HasHandles u) (given : Given) (told : Answered) (taken : List Request) (past : List Entry) → length given.streams ≤ n → given.aheads ≡ 0 → AllByRecursion (λ line. IsActionBelow n line.action) given.lines → IsSound u past → IsExplained u given told taken past → AllBelow n u.logs past
+explained-below u n handles given told taken past few no_aheads within sound is =
+    phases-below u n handles plan no_aheads within 1 given.phases told.ticked told.stepped taken is.begun past is.ran sound
     (opened-below u n handles given.streams is.setup is.begun few is.opened is.alone (sound-front u grown.0 is.begun (subst (IsSound u) grown.1 sound)))
   where
     plan : Plan
     plan = record { lines = given.lines; answers = is.answers; ticks = given.ticks; aheads = given.aheads }
 
     grown : (during : List Entry) × (past ≡ during ++ is.begun)
-    grown = phases-grow u n handles plan no_ticks no_aheads within 1 given.phases told.ticked told.stepped taken is.begun past is.ran
+    grown = phases-grow u n handles plan no_aheads within 1 given.phases told.ticked told.stepped taken is.begun past is.ran

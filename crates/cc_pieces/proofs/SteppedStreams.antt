@@ -360,6 +360,7 @@ module _ (u : Setup) (n : ℕ) where
   doing-below me bindings (action.Write file at bytes) below = tt
   doing-below me bindings (action.Update file at bytes) below = tt
   doing-below me bindings (action.Levels file) below = tt
+  doing-below me bindings action.Tick below = tt
   doing-below me bindings action.IsDirtyData below = tt
   doing-below me bindings (action.DirtyPages handle) below = tt
   doing-below me bindings (action.Append handle bytes) below = tt

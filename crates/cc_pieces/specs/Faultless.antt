@@ -1,5 +1,5 @@
 -- A run without a fault: no entry of a failure stands, and no answer tells one.
-use Rattle.std.specs.Prelude.{◌≡◌, Bool, true, false, List, Result, Ok, Err}
+use Rattle.std.specs.Prelude.{◌≡◌, nat_lt, Bool, true, false, List, Result, Ok, Err}
 use Rattle.std.specs.declared.option.Option.TheVariants.{Some}
 use Rattle.std.specs.List.{list_any}
 use Rattle.cc_entry.specs.declared.answer.Answer.{Answer}
@@ -26,11 +26,13 @@ abbrev pub is_faulty : {T : Type 0} → Result T CcError → Bool
 is_faulty (Ok done) = false
 is_faulty (Err e) = is_fault e
 
--- Whether an answer tells that a disk or a log failed: ReadFault, WriteFault, LogFault, or that the event faulted.
+-- Whether an answer tells that a disk or a log failed: ReadFault, WriteFault, LogFault, that a tick failed to write a page, or
+-- that the event faulted.
 abbrev pub tells_fault : Answer → Bool
 tells_fault (answer.Refused e) = is_fault e
 tells_fault (answer.NcRefused done cause) = is_fault cause
 tells_fault (answer.Completed (Some done)) = is_faulty done.answer
+tells_fault (answer.Ticked tick) = nat_lt 0 tick.failed
 tells_fault answer.Faulted = true
 tells_fault other = false
 

@@ -11,7 +11,7 @@ use Rattle.cc_entry.specs.declared.hold.HoldKind.TheVariants as kind
 use Rattle.cc_pieces.specs.Bindings.{Binding, bound, pinned}
 use Rattle.cc_pieces.specs.HoldLines.{PinMappedLine, HeldReadLine, PinnedWriteLine, StampLine, UnpinLine, RepinLine, UnrepinLine}
 use Rattle.cc_pieces.specs.HoldLines.{ChainReadLine, ChainStoreLine, ChainDoneLine, ChainAbortLine}
-use Rattle.cc_pieces.specs.Answered.{CallAnswered, FlushAnswered, AppendAnswered, LogFlushAnswered, LevelsAnswered, NcReadAnswered, NcWriteAnswered}
+use Rattle.cc_pieces.specs.Answered.{CallAnswered, FlushAnswered, AppendAnswered, LogFlushAnswered, DeferAnswered, PostsAnswered, TickAnswered, LevelsAnswered, NcReadAnswered, NcWriteAnswered}
 use Rattle.cc_pieces.specs.Shim.{ReadAnswered, WriteAnswered, UpdateAnswered}
 use Rattle.cc_vacb.specs.Levels.{levels_of}
 
@@ -47,6 +47,7 @@ Served u me bindings (action.SetSizes file allocation size) told old new =
 Served u me bindings (action.State file) told old new = CallAnswered u me (call.State file) told old new
 Served u me bindings (action.Flush file span) told old new = FlushAnswered u me file span told old new
 Served u me bindings (action.Purge file span) told old new = CallAnswered u me (call.Purge file span) told old new
+Served u me bindings (action.Discard file span) told old new = CallAnswered u me (call.Discard file span) told old new
 Served u me bindings (action.NcRead file at len) told old new = NcReadAnswered u me file at len told old new
 Served u me bindings (action.NcWrite file at bytes) told old new = NcWriteAnswered u me file at bytes told old new
 Served u me bindings (action.Read file path at len) told old new = ReadAnswered u me file path at len told old new
@@ -63,6 +64,10 @@ Served u me bindings (action.SetGranularity file bytes) told old new = CallAnswe
 Served u me bindings (action.SetAttributes file no_read_ahead no_write_behind) told old new =
     CallAnswered u me (call.SetAttributes file no_read_ahead no_write_behind) told old new
 Served u me bindings (action.SetThreshold file pages) told old new = CallAnswered u me (call.SetThreshold file pages) told old new
+Served u me bindings (action.CanWrite file bytes) told old new = CallAnswered u me (call.CanWrite file bytes) told old new
+Served u me bindings (action.Defer file bytes retrying) told old new = DeferAnswered me file bytes retrying told old new
+Served u me bindings action.Post told old new = PostsAnswered u me told old new
+Served u me bindings action.Tick told old new = TickAnswered me told old new
 Served u me bindings other told old new = ⊥
 
 -- the caller's bindings after the line

@@ -2,7 +2,9 @@
 use Rattle.std.proofs.Common.{ap, arith}
 use Rattle.cc_entry.specs.declared.call.Call.TheVariants as call
 use Rattle.cc_lines.proofs.PlainLines.{append-line, nc_read-line, nc_write-line, plain-line, plain_call}
-use Rattle.cc_lines.proofs.ServeLines.{asked-as, can-as, change-line, flag-line, flush-line, flushed-line, lsns-line, may-free, may-on, next-chain, next-map, next-pin, next-prepare, next-repin, next-write_chain, purge-line, rows-line, set-line, state-line}
+use Rattle.cc_lines.proofs.ServeLines.{asked-as, can-as, change-line, discard-line, flag-line, flush-line, flushed-line, lsns-line, may-free, may-on, next-chain, next-map, next-pin, next-prepare, next-repin, next-write_chain, purge-line, rows-line, set-line, state-line}
+use Rattle.cc_lines.proofs.ThrottleLines.{defer-line, post-line}
+use Rattle.cc_lines.proofs.TickLines.{tick-line}
 use Rattle.cc_lines.proofs.ShimServed.{levels-line, read-line, update-line, write-line}
 use Rattle.cc_lines.proofs.line.serve.Goals as goal
 
@@ -26,6 +28,13 @@ purge-requires g c = record { can = may-on (g.T.Turns.standing c.args.turns.now)
 pub returns-in-Purge : goal.returns-in-Purge
 returns-in-Purge g c =
     purge-line _ _ c.args.names.now _ _ c.requires.good c.in-Purge.file c.in-Purge.span c.purge.result (ap plain_call c.in-Purge.is) c.answered-in-Purge.ensures c.purge.ensures.ends
+
+pub discard-requires : goal.discard-requires
+discard-requires g c = record { can = may-on (g.T.Turns.standing c.args.turns.now) _ c.args.names.now c.in-Discard.file.stream c.requires (can-as (g.T.Turns.standing c.args.turns.now) _ _ c.args.names.now c.in-Discard.is c.requires).servable }
+
+pub returns-in-Discard : goal.returns-in-Discard
+returns-in-Discard g c =
+    discard-line _ _ c.args.names.now _ _ c.requires.good c.in-Discard.file c.in-Discard.span c.discard.result (ap plain_call c.in-Discard.is) c.answered-in-Discard.ensures c.discard.ensures.ends
 
 pub read_noncached-requires : goal.read_noncached-requires
 read_noncached-requires g c = may-on (g.T.Turns.standing c.args.turns.now) _ c.args.names.now c.in-NcRead.file.stream c.requires (can-as (g.T.Turns.standing c.args.turns.now) _ _ c.args.names.now c.in-NcRead.is c.requires).servable
@@ -277,3 +286,34 @@ pub returns-in-Levels : goal.returns-in-Levels
 returns-in-Levels g c =
     asked-as _ _ _ _ _ _ _ c.in-Levels.is
     (levels-line _ _ _ c.args.names.now c.levels.ensures.full c.levels.ensures.goes_on (c.levels.ensures.good c.requires.good) c.in-Levels.file c.levels.ensures.answered)
+
+pub can_i_write-requires : goal.can_i_write-requires
+can_i_write-requires g c = record { can = may-on (g.T.Turns.standing c.args.turns.now) _ c.args.names.now c.in-CanWrite.file.stream c.requires (can-as (g.T.Turns.standing c.args.turns.now) _ _ c.args.names.now c.in-CanWrite.is c.requires).servable }
+
+pub returns-in-CanWrite : goal.returns-in-CanWrite
+returns-in-CanWrite g c =
+    flag-line _ _ c.args.names.now _ _ c.requires.good (call.CanWrite c.in-CanWrite.file c.in-CanWrite.bytes) c.can_i_write.result (ap plain_call c.in-CanWrite.is) (omega arith) c.flag-in-CanWrite.ensures c.can_i_write.ensures.ends
+
+pub defer_write-requires : goal.defer_write-requires
+defer_write-requires g c = may-on (g.T.Turns.standing c.args.turns.now) _ c.args.names.now c.in-Defer.file.stream c.requires (can-as (g.T.Turns.standing c.args.turns.now) _ _ c.args.names.now c.in-Defer.is c.requires).servable
+
+pub returns-in-Defer : goal.returns-in-Defer
+returns-in-Defer g c =
+    asked-as _ _ _ _ _ _ _ c.in-Defer.is
+    (defer-line _ _ _ c.args.names.now c.defer_write.ensures.full c.defer_write.ensures.goes_on (c.defer_write.ensures.good c.requires.good) c.in-Defer.file c.in-Defer.bytes c.in-Defer.retrying c.defer_write.ensures.answered)
+
+pub post_all-requires : goal.post_all-requires
+post_all-requires g c = may-free (g.T.Turns.standing c.args.turns.now) _ c.args.names.now c.requires
+
+pub returns-in-Post : goal.returns-in-Post
+returns-in-Post g c =
+    asked-as _ _ _ _ _ _ _ c.in-Post.is
+    (post-line _ _ _ c.args.names.now c.post_all.ensures.full c.post_all.ensures.goes_on (c.post_all.ensures.good c.requires.good) c.post_all.ensures.answered)
+
+pub serve_tick-requires : goal.serve_tick-requires
+serve_tick-requires g c = may-free (g.T.Turns.standing c.args.turns.now) _ c.args.names.now c.requires
+
+pub returns-in-Tick : goal.returns-in-Tick
+returns-in-Tick g c =
+    asked-as _ _ _ _ _ _ _ c.in-Tick.is
+    (tick-line _ _ _ c.args.names.now c.serve_tick.ensures.full c.serve_tick.ensures.goes_on (c.serve_tick.ensures.good c.requires.good) c.serve_tick.ensures.answered)

@@ -1,4 +1,4 @@
--- What was served ends the line: a journal that is told to be full was full at a moment, of which the end is one.
+-- What was served ends the line: where it ends with a full journal, its end is a moment at which that was so.
 use Rattle.cc_lines.proofs.FullLines.{full-line}
 use Rattle.cc_lines.proofs.line.serve_at.Goals as goal
 
@@ -10,7 +10,7 @@ returns g c =
     let left = line.served c.requires.bounds c.requires.bindings c.requires.stand c.requires.right in
     record {
       served = line.served;
-      full = full-line w v line.goes_on c.note_others.ensures.few c.requires.bindings c.args.action.now c.serve-answer.result left.0 line.full;
+      full = (line.full, full-line w v line.goes_on c.note_others.ensures.few c.requires.bindings c.args.action.now c.serve-answer.result left.0 line.full);
       goes_on = line.goes_on;
       good = line.good;
       room = line.room;
