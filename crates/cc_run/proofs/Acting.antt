@@ -1,10 +1,9 @@
 -- What a line of a caller leaves on a desk.
 use Rattle.std.specs.Prelude.{◌≡◌, ◌≢◌, ℕ, ◌+◌, ◌<◌, ◌≤◌, List, ◌++◌, length, refl}
-use Rattle.std.proofs.Common.{sym, subst, ap, ◌∙◌, arith, inl, inr}
+use Rattle.std.proofs.Common.{sym, ap, ◌∙◌, arith, inl, inr}
 use Rattle.cc_entry.specs.declared.answer.Answer.{Answer}
 use Rattle.cc_entry.specs.declared.answer.Answer.TheVariants as answer
 use Rattle.cc_entry.specs.declared.call.Call.{Call}
-use Rattle.cc_entry.specs.declared.error.CcError.{CcError}
 use Rattle.cc_entry.specs.declared.error.CcError.TheVariants as error
 use Rattle.cc_entry.specs.declared.entry.Entry.{Entry}
 use Rattle.cc_script.specs.declared.bound.Bound.{Bound}
@@ -21,12 +20,9 @@ use Rattle.cc_pieces.specs.Rooms.{HadNoRoom, WasFull}
 use Rattle.cc_pieces.specs.Served.{Served}
 use Rattle.cc_turns.specs.Standing.{Standing}
 use Rattle.cc_turns.specs.Takes.{HasActed}
-use Rattle.cc_writes.specs.Hands.{Went}
-use Rattle.cc_writes.specs.Ways.{IsFullError}
-use Rattle.cc_calls.specs.Pages.{WentOn}
 use Rattle.cc_run.specs.Desks.{IsReady, IsSameRun, IsSamePass}
 use Rattle.cc_lines.specs.Holds.{NamesStand, NamesState}
-use Rattle.cc_lines.specs.Line.{CanServe, IsFullTold, IsServable, LineEnds, WasFullError, WasFullTold}
+use Rattle.cc_lines.specs.Line.{CanServe, IsFullError, IsFullTold, IsServable, LineEnds, WasFullError, WasFullTold, WentOn}
 use Rattle.cc_run.specs.Lines.{LineEnd, LineLeft, MayServeLine}
 use Rattle.cc_run.proofs.Others.{idle-acted}
 
@@ -64,7 +60,7 @@ room-left w u me it (answer.NcRefused done cause) old left rest alone full = abs
 room-left w u me it other old left rest alone full = tt
 
 -- the same pass in the same run, where a call went on
-pub goes-pass : (old new : Standing) → Went old new → IsSamePass old new
+pub goes-pass : (old new : Standing) → WentOn old new → IsSamePass old new
 goes-pass old new went = record {
   run = record {
     setup = ap (λ w. w.setup) went.same;
@@ -166,6 +162,6 @@ module _ (w0 w1 w2 : Standing) (caller : ℕ) (acts : w1 ≡ record w0 { number 
       let seen : w1.seen ≡ w0.seen = ap (λ w. w.seen) acts in
       let so = ended.served bounds bindings (rw (streams, number, seen) stand) right in
       record {
-        left = left-after bindings line told is so.0 ended.full alone;
+        left = left-after bindings line told is so.0 ended.full.1 alone;
         stand = let now_is : w2.number ≡ line.caller = number-is ∙ sym is in rw (run-after.streams, now_is) at so.1;
       }

@@ -1,5 +1,5 @@
 -- The lines of a caller on a board, one more and another's, and what it leaves.
-use Rattle.std.specs.Prelude.{◌≡◌, ◌≢◌, ℕ, suc, ◌+◌, ◌<◌, ◌≤◌, ◌==◌, Bool, true, false, List, [], ◌∷◌, ◌++◌, length, take, drop, refl, vec_capacity}
+use Rattle.std.specs.Prelude.{◌≡◌, ◌≢◌, ℕ, suc, ◌+◌, ◌<◌, ◌==◌, Bool, true, false, List, [], ◌∷◌, ◌++◌, length, take, drop, refl, vec_capacity}
 use Rattle.std.proofs.Common.{sym, ap, subst, ◌∙◌, arith, get_or}
 use Rattle.std.proofs.lemmas.Bool.{eqb-true, eqb-false}
 use Rattle.std.proofs.lemmas.List.{length-append}
@@ -13,7 +13,6 @@ use Rattle.cc_pieces.proofs.LineSteps.{ran-more}
 use Rattle.cc_turns.specs.Desk.{Tells}
 use Rattle.cc_turns.specs.Slots.{setup_in}
 use Rattle.cc_turns.specs.Standing.{Standing, nothing}
-use Rattle.cc_calls.specs.Pages.{WentOn}
 use Rattle.cc_board.specs.Board.{BoardState, SeatedState, pass_of}
 use Rattle.cc_board.specs.View.{held_of, standing_at}
 use Rattle.cc_board.proofs.Names.{same_board}
@@ -22,7 +21,7 @@ use Rattle.cc_script.specs.HoldWords.{AreUsedRight, UsesRight, bound_so_far, wor
 use Rattle.cc_model.specs.Good.{IsGood}
 use Rattle.cc_run.specs.Callers.{MayRun, CallerRan, AllRan, WordsStand, asked_own, count_of}
 use Rattle.cc_lines.specs.Holds.{NamesStand, NamesState}
-use Rattle.cc_lines.specs.Line.{CanServe, IsServable, LineEnds}
+use Rattle.cc_lines.specs.Line.{CanServe, IsServable, LineEnds, WentOn}
 use Rattle.cc_run.specs.declared.callers.Caller.{Caller}
 use Rattle.cc_run.specs.declared.callers.Finished.{Finished}
 use Rattle.cc_run.proofs.Acting.{room-then}
@@ -203,7 +202,7 @@ module _ {D L Q : Type 0} (tells : Tells D L Q) (board : BoardState D L) (all : 
                     (record {
                       served = rw (setup-is, number-is) at served.0;
                       room = subst (λ u. HadNoRoom u 32 told seated.knows.seen after.knows.seen) setup-is
-                          (room-then (seat_at tells seated) (seat_at tells after) 32 told idle (omega (arith, most, may.few)) ended.full);
+                          (room-then (seat_at tells seated) (seat_at tells after) 32 told idle (omega (arith, most, may.few)) ended.full.1);
                     })),
                 rw (own-last me lines line answers told own ran.whole, bound-own me bounds lines line own, bindings-append bindings (asked_own me lines answers) ((line.action, told) ∷ []))
                     (rw (streams_after, number_after) at served.1),

@@ -3,11 +3,11 @@ mod Acting
 mod Ascending
 mod LinesRan
 mod WordSteps
-mod NamesKept
 mod Lists
 mod Opening
 mod Others
 mod PhaseSteps
+mod ToldOnce
 mod PhasesRan
 mod RowSteps
 mod RunSteps
@@ -25,3 +25,6 @@ pub mod Merging
 pub mod CallersRan
 pub mod Rooms
 pub mod OnBoard
+pub mod TicksRan
+pub mod Working
+pub mod Untold

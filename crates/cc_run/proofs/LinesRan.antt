@@ -5,6 +5,7 @@ use Rattle.std.specs.List.{AllByRecursion}
 use Rattle.std.proofs.Common.{sym, ap, subst, ◌∙◌, arith, append_assoc, get_or}
 use Rattle.std.proofs.lemmas.Bool.{eqb-true, eqb-false, eq-eqb}
 use Rattle.std.proofs.lemmas.List.{length-map}
+use Rattle.std.proofs.lemmas.Option.{slice_get_within}
 use Rattle.cc_entry.specs.declared.error.CcError.TheVariants as error
 use Rattle.cc_entry.specs.declared.answer.Answer.{Answer}
 use Rattle.cc_entry.specs.declared.answer.Answer.TheVariants as answer
@@ -19,17 +20,17 @@ use Rattle.cc_pieces.specs.Bindings.{Binding}
 use Rattle.cc_pieces.specs.Served.{bindings_after}
 use Rattle.cc_pieces.specs.Rooms.{WasFull, HadNoRoom, is_alone, room_limit}
 use Rattle.cc_pieces.specs.Runs.{Explains, Ran, asked_of}
-use Rattle.cc_pieces.specs.Phases.{is_of_phase}
+use Rattle.cc_pieces.specs.Phases.{is_of_phase, lazy_writer}
 use Rattle.cc_pieces.specs.Explained.{answered_lines}
-use Rattle.cc_pieces.proofs.LineSteps.{explains-before}
+use Rattle.cc_pieces.proofs.LineSteps.{explains-before, ran-idle}
 use Rattle.cc_script.specs.declared.bound.Bound.{Bound}
 use Rattle.cc_script.specs.HoldWords.{AreUsedRight, UsesRight, bound_after}
 use Rattle.cc_model.specs.Good.{IsGood}
 use Rattle.cc_turns.specs.Standing.{Standing}
 use Rattle.cc_lines.specs.Holds.{NamesStand, NamesState}
-use Rattle.cc_run.specs.Lines.{AllStand, HaveRoom, KeepRoom, LineEnd, LineLeft, LinesEnd, LinesLeft, LinesServed, MayServe, MayServeLine, after_line, after_lines, bound_by}
+use Rattle.cc_run.specs.Lines.{AllStand, HaveRoom, IsCaller, KeepRoom, LineEnd, LineLeft, LinesEnd, LinesLeft, LinesServed, MayServe, MayServeLine, after_line, after_lines, bound_by}
 use Rattle.cc_run.specs.Phases.{PhaseEnds}
-use Rattle.cc_run.proofs.NamesKept.{names-keep}
+use Rattle.cc_lines.proofs.NamesKept.{names-keep}
 use Rattle.cc_run.proofs.WordSteps.{after-first, after-other, after-own, bound-other, bound-own, right-back, right-first, right-front, room-rest, words-first}
 
 -- the replies have the numbers of their lines
@@ -170,6 +171,15 @@ stand-more u streams k bounds bindings lines answers line reply between new rows
         rw (bound-other (suc n) (bounds (suc n)) lines line apart, after-other (suc n) bindings lines answers line reply same apart)
         (names-keep u streams (suc n) between new (bound_by lines bounds (suc n)) (after_lines lines answers bindings (suc n)) names.named good (alone (suc n) (λ e. apart (sym e))) (stand.each n names (put-other rows k n now names away at)))
 
+-- nothing that the lazy writer placed is a matter of a caller's words
+stand-on : (u : Setup) (streams : ℕ) (bounds : ℕ → List Bound) (bindings : ℕ → List Binding) (old new : List Entry) (rows : List NamesState) → IsGood u new → ((me : ℕ) → me ≢ lazy_writer → IsIdle me old new) → AllStand streams old bounds bindings rows → AllStand streams new bounds bindings rows
+stand-on u streams bounds bindings old new rows good alone stand = record {
+  counted = stand.counted;
+  each = λ n names at.
+      let within : n < 16 = omega (arith, slice_get_within rows n names at, stand.counted) in
+      names-keep u streams (suc n) old new (bounds (suc n)) (bindings (suc n)) names.named good (alone (suc n) (λ e. omega (arith, e, within))) (stand.each n names at);
+}
+
 -- the line that is next may be served
 pub may-line : (w : Standing) (lines front rest : List ActionLine) (line : ActionLine) (before after : List LineReply) (old between : List Entry) (was rows : List NamesState) (k : ℕ) (names : NamesState) (may : MayServe w.streams old lines was) → lines ≡ front ++ line ∷ rest → line.caller ≡ suc k → slice_get rows k ≡ Some names → KeepRoom was rows → LinesEnd w may.bounds may.bindings front before after old between rows → MayServeLine w.streams between line names
 may-line w lines front rest line before after old between was rows k names may parts is at keep ended =
@@ -203,9 +213,19 @@ lines-more w v bounds bindings lines front rest line told before after old betwe
           (served-long w.setup bindings front before after old between served) is good left.alone ended.stand (rw streams at so.stand);
     }
 
--- What lines of a phase left in their order is what the phase left, from where it began.
-pub phase-ends : (u v : Standing) (phase : ℕ) (bounds : ℕ → List Bound) (bindings : ℕ → List Binding) (lines : List ActionLine) (before between after : List LineReply) (old middle new : List Entry) (rows : List NamesState) → v.setup ≡ u.setup → v.streams ≡ u.streams → between ≡ before → middle ≡ old → AllByRecursion (λ line. line.phase ≡ phase) lines → LinesEnd v bounds bindings lines between after middle new rows → PhaseEnds u.setup u.streams phase bounds bindings lines before after old new rows
-phase-ends u v phase bounds bindings lines before between after old middle new rows setup streams replies entries all ended =
+-- A pass that no caller has placed nothing for the lines.
+pub idle-lines : (u : Setup) (me : ℕ) (bindings : ℕ → List Binding) (lines : List ActionLine) (replies : List LineReply) (old new : List Entry) → 16 < me → AllByRecursion (λ line. IsCaller line.caller) lines → LinesLeft u bindings lines replies old new → IsIdle me old new
+idle-lines u me bindings [] [] old new above all left = let same : new ≡ old = left in rw same (idle-none me old)
+idle-lines u me bindings [] (reply ∷ replies) old new above all left = absurd left
+idle-lines u me bindings (line ∷ lines) [] old new above all left = absurd left
+idle-lines u me bindings (line ∷ lines) (reply ∷ replies) old new above all left =
+    idle-then me old left.0 new (left.2.alone me (λ e. omega (arith, e, above, all.0.last)))
+    (idle-lines u me (after_line line reply.answer bindings) lines replies left.0 new above all.1 left.3)
+
+-- What lines of a phase left in their order is what the phase left, from where it began, also where the lazy writer goes on
+-- behind them.
+pub phase-ends : (u v : Standing) (phase ticks : ℕ) (bounds : ℕ → List Bound) (bindings : ℕ → List Binding) (lines : List ActionLine) (before between after : List LineReply) (old middle new newer : List Entry) (rows : List NamesState) → v.setup ≡ u.setup → v.streams ≡ u.streams → between ≡ before → middle ≡ old → AllByRecursion (λ line. line.phase ≡ phase) lines → LinesEnd v bounds bindings lines between after middle new rows → ((me : ℕ) → me ≢ lazy_writer → IsIdle me new newer) → IsGood v.setup newer → PhaseEnds u.setup u.streams phase ticks bounds bindings lines before after old newer rows
+phase-ends u v phase ticks bounds bindings lines before between after old middle new newer rows setup streams replies entries all ended alone good =
     let served = ended.served in
     record {
       served = record {
@@ -213,10 +233,13 @@ phase-ends u v phase bounds bindings lines before between after old middle new r
         grew = rw replies at served.grew;
         left = record {
           lines_are = left-lines v.setup bindings lines served.answers middle new served.left;
-          ran = λ me.
-              let ran = ran-lines v.setup (room_limit 0 0 (is_alone phase lines)) phase me bindings lines served.answers middle new (least-limit 0 0 (is_alone phase lines)) all served.left in
-              rw (setup, entries) at ran;
+          ran = λ me other.
+              let limit = room_limit ticks 0 (is_alone phase lines) in
+              let asked = asked_of (is_of_phase phase me) lines served.answers in
+              let ran = ran-lines v.setup limit phase me bindings lines served.answers middle new (least-limit ticks 0 (is_alone phase lines)) all served.left in
+              let on : Ran v.setup limit me (bindings me) asked middle newer = ran-idle v.setup limit me (bindings me) asked middle new newer ran (alone me other) in
+              rw (setup, entries) at on;
         };
       };
-      stand = rw streams at ended.stand;
+      stand = rw streams at (stand-on v.setup v.streams (bound_by lines bounds) (after_lines lines served.answers bindings) new newer rows good alone ended.stand);
     }

@@ -20,8 +20,7 @@ use Rattle.cc_pieces.specs.Answered.{CallAnswered}
 use Rattle.cc_pieces.specs.Openings.{LoggedOpening, Opened, Opens, first_object_of, opening_call}
 use Rattle.cc_pieces.specs.Rooms.{HadNoRoom}
 use Rattle.cc_turns.specs.Standing.{Standing}
-use Rattle.cc_writes.specs.Hands.{Went}
-use Rattle.cc_lines.specs.Line.{IsFullTold}
+use Rattle.cc_lines.specs.Line.{IsFullTold, WentOn}
 use Rattle.cc_run.specs.Lines.{StreamsLeft, StreamsOpened}
 use Rattle.cc_run.proofs.Acting.{room-left}
 
@@ -69,7 +68,7 @@ room-opened w u s stream (Some handle) told old (inr done) rest alone full =
     (room-left w u 0 (call.SetLog (first_object_of s) handle) told done.0 done.2 rest alone full))
 
 -- the line of a stream left what explains its answer
-pub opens-one : (w0 w1 : Standing) (s : ℕ) (stream : StreamLine) (told : Answer) → Went w0 w1 → w1.in_flight ≡ 0 → w1.others ≡ 0 → LoggedOpening w0.setup s stream stream.log told w0.seen w1.seen → IsFullTold w1 told → Opens w0.setup s stream told w0.seen w1.seen
+pub opens-one : (w0 w1 : Standing) (s : ℕ) (stream : StreamLine) (told : Answer) → WentOn w0 w1 → w1.in_flight ≡ 0 → w1.others ≡ 0 → LoggedOpening w0.setup s stream stream.log told w0.seen w1.seen → IsFullTold w1 told → Opens w0.setup s stream told w0.seen w1.seen
 opens-one w0 w1 s stream told went rest alone left full = record {
   opened = left;
   room = subst (λ u. HadNoRoom u 4 told w0.seen w1.seen) (ap (λ w. w.setup) went.same) (room-opened w1 w0.setup s stream stream.log told w0.seen left rest alone full);

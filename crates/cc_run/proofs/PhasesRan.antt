@@ -1,14 +1,13 @@
 -- The run of the phases, one after the other, explains all answers.
-use Rattle.std.specs.Prelude.{◌≡◌, ◌≢◌, ℕ, zero, suc, ◌+◌, ◌<◌, ◌≤◌, ◌==◌, ◌&&◌, Bool, true, false, List, [], ◌∷◌, ◌++◌, length, refl, if◌then◌else◌}
-use Rattle.std.specs.List.{AllByRecursion, list_all, IsDistinct}
+use Rattle.std.specs.Prelude.{◌≡◌, ◌≢◌, ℕ, zero, suc, ◌+◌, ◌<◌, ◌≤◌, ◌==◌, ◌&&◌, Bool, true, false, List, [], ◌∷◌, ◌++◌, length, take, drop, refl, if◌then◌else◌}
+use Rattle.std.specs.List.{AllByRecursion, list_all}
 use Rattle.std.proofs.Common.{sym, ap, subst, ◌∙◌, arith, inl, append-nil, append_assoc}
 use Rattle.std.proofs.lemmas.Bool.{le-ltb, lt-ltb, ne_eqb}
+use Rattle.std.proofs.lemmas.List.{length-append, length-map}
 use Rattle.std.proofs.lemmas.List.Folds.{list_all-append}
 use Rattle.cc_entry.specs.declared.answer.LineReply.{LineReply}
 use Rattle.cc_entry.specs.declared.entry.Entry.{Entry}
 use Rattle.cc_script.specs.declared.script.ActionLine.{ActionLine}
-use Rattle.cc_script.specs.declared.script.Mode.TheVariants as mode
-use Rattle.cc_script.specs.Modes.{IsOfMode}
 use Rattle.cc_script.specs.declared.script.Script.{Script}
 use Rattle.cc_script.specs.Within.{IsLineWithin, IsWithin}
 use Rattle.cc_model.specs.Setup.{Setup}
@@ -17,12 +16,17 @@ use Rattle.cc_pieces.specs.Rooms.{is_alone, room_limit}
 use Rattle.cc_pieces.specs.Runs.{Ran, asked_of}
 use Rattle.cc_pieces.specs.Phases.{Plan, PhaseRan, PhasesRan, is_before_phase, is_of_phase, lines_before}
 use Rattle.cc_pieces.specs.Explained.{IsExplained}
-use Rattle.cc_pieces.proofs.AskedLines.{asked-none, posted-none}
-use Rattle.cc_run.specs.Lines.{StreamsOpened, after_lines, asked_by, given_of, lines_answered}
+use Rattle.cc_pieces.proofs.AskedLines.{asked-none}
+use Rattle.cc_run.specs.Lines.{StreamsOpened, after_lines, asked_by, given_of, run_answered}
+use Rattle.cc_run.specs.Once.{AllTellPart, AreToldOnce}
 use Rattle.cc_run.specs.Phases.{PhaseLeft, PhasesLeft, PhasesServed}
+use Rattle.cc_run.specs.Ticks.{TicksLeft}
 use Rattle.cc_run.proofs.Lists.{all-map, all-front, all-back, all-join}
 use Rattle.cc_run.proofs.Opening.{opened-left}
 use Rattle.cc_run.proofs.PhaseSteps.{phases-lines, same-long}
+use Rattle.cc_run.proofs.RowSteps.{taken}
+use Rattle.cc_run.proofs.RunSteps.{opened-long}
+use Rattle.cc_run.proofs.ToldOnce.{kept-parts, part-lines, phases-part, told-parts}
 use Rattle.cc_run.proofs.WordSteps.{asked-append}
 
 -- a line of another phase, and one of another caller
@@ -83,23 +87,23 @@ alone-before phase (line ∷ lines) more apart = by (line.phase == phase) (alone
     by false rest = rest
 
 -- each line of several phases is of one of them
-phases-within : (u : Setup) (n : ℕ) (lines : List ActionLine) (replies : List LineReply) (old new : List Entry) → PhasesLeft u n lines replies old new → AllByRecursion (λ line. line.phase ≤ n) lines
-phases-within u zero lines replies old new left = rw left.0 tt
-phases-within u (suc n) lines replies old new left =
-    rw left.5 (all-join (λ line. line.phase ≤ suc n) left.0 left.1
-    (all-map (λ line. line.phase ≤ n) (λ line. line.phase ≤ suc n) left.0 (λ line less. omega (arith, less)) (phases-within u n left.0 left.2 old left.4 left.7))
-    (all-map (λ line. line.phase ≡ suc n) (λ line. line.phase ≤ suc n) left.1 (λ line is. omega (arith, is)) left.8))
+phases-within : (u : Setup) (ticks n : ℕ) (lines : List ActionLine) (replies ticked : List LineReply) (old new : List Entry) → PhasesLeft u ticks n lines replies ticked old new → AllByRecursion (λ line. line.phase ≤ n) lines
+phases-within u ticks zero lines replies ticked old new left = rw left.0 tt
+phases-within u ticks (suc n) lines replies ticked old new left =
+    rw left.7 (all-join (λ line. line.phase ≤ suc n) left.0 left.1
+    (all-map (λ line. line.phase ≤ n) (λ line. line.phase ≤ suc n) left.0 (λ line less. omega (arith, less)) (phases-within u ticks n left.0 left.2 left.4 old left.6 left.10))
+    (all-map (λ line. line.phase ≡ suc n) (λ line. line.phase ≤ suc n) left.1 (λ line is. omega (arith, is)) left.11))
 
 -- What a phase of a run left: of the lines of all phases, its own are the last of those up to it.
-module _ (u : Setup) (all : List ActionLine) (answers : List LineReply) (few : AllByRecursion (λ line. line.caller ≤ 16) all) where
+module _ (u : Setup) (ticks : ℕ) (all : List ActionLine) (answers : List LineReply) (few : AllByRecursion (λ line. line.caller ≤ 16) all) where
   abbrev plan : Plan
-  plan = record { lines = all; answers = answers; ticks = 0; aheads = 0 }
+  plan = record { lines = all; answers = answers; ticks = ticks; aheads = 0 }
 
-  phase-ran : (phase : ℕ) (earlier last later : List ActionLine) (told own others : List LineReply) (old new : List Entry) → all ≡ earlier ++ (last ++ later) → answers ≡ told ++ (own ++ others) → length earlier ≡ length told → AllByRecursion (λ line. line.phase < phase) earlier → AllByRecursion (λ line. line.phase ≡ phase) last → AllByRecursion (λ line. phase < line.phase) later → PhaseLeft u phase (after_lines earlier told (λ me. [])) last own old new → PhaseRan u plan phase [] [] [] old new
-  phase-ran phase earlier last later told own others old new lines_are replies_are long less those more left = record {
-    callers = λ me lazy ahead. rw (asked me, alone, asked-before me) (left.ran me);
-    all_ticks = refl;
-    ticks = idle 17 (omega arith);
+  phase-ran : (phase : ℕ) (earlier last later : List ActionLine) (told own others ticked : List LineReply) (old new : List Entry) → all ≡ earlier ++ (last ++ later) → answers ≡ told ++ (own ++ others) → length earlier ≡ length told → AllByRecursion (λ line. line.phase < phase) earlier → AllByRecursion (λ line. line.phase ≡ phase) last → AllByRecursion (λ line. phase < line.phase) later → PhaseLeft u phase ticks (after_lines earlier told (λ me. [])) last own old new → TicksLeft u phase ticks ticked old new → PhaseRan u plan phase ticked [] [] old new
+  phase-ran phase earlier last later told own others ticked old new lines_are replies_are long less those more left ticks_left = record {
+    callers = λ me lazy ahead. rw (asked me, alone, asked-before me) (left.ran me lazy);
+    all_ticks = ticks_left.counted;
+    ticks = ticks_left.ran;
     all_steps = inl refl;
     steps = (refl, idle 18 (omega arith));
   }
@@ -145,64 +149,96 @@ module _ (u : Setup) (all : List ActionLine) (answers : List LineReply) (few : A
       few_last =
           all-front (λ line. line.caller ≤ 16) last later (all-back (λ line. line.caller ≤ 16) earlier (last ++ later) (rw lines_are at few))
 
-      idle : (me : ℕ) → 16 < me → IsIdle me old new
+      idle : (me : ℕ) → 17 < me → IsIdle me old new
       idle me above =
           let none : asked_of (is_of_phase phase me) last own ≡ [] =
-          asked-none (is_of_phase phase me) last own (all-map (λ line. line.caller ≤ 16) (λ line. is_of_phase phase me line ≡ false) last (λ line least. no_caller phase me line above least) few_last) in
-          subst (λ l. Ran u (room_limit 0 0 (is_alone phase last)) me (after_lines earlier told (λ me. []) me) l old new) none (left.ran me)
+          asked-none (is_of_phase phase me) last own (all-map (λ line. line.caller ≤ 16) (λ line. is_of_phase phase me line ≡ false) last (λ line least. no_caller phase me line (omega (arith, above)) least) few_last) in
+          subst (λ l. Ran u (room_limit ticks 0 (is_alone phase last)) me (after_lines earlier told (λ me. []) me) l old new) none (left.ran me (λ e. omega (arith, e, above)))
 
   -- the phases up to one, where the later ones ran behind them
-  phases-ran : (n left_over : ℕ) (lines more : List ActionLine) (replies others : List LineReply) (old between new : List Entry) → all ≡ lines ++ more → answers ≡ replies ++ others → AllByRecursion (λ line. n < line.phase) more → PhasesLeft u n lines replies old between → PhasesRan u plan (suc n) left_over [] [] [] between new → PhasesRan u plan 1 (n + left_over) [] [] [] old new
-  phases-ran zero left_over lines more replies others old between new lines_are replies_are later left ran =
+  phases-ran : (n left_over : ℕ) (lines more : List ActionLine) (replies others ticked later_ticked : List LineReply) (old between new : List Entry) → all ≡ lines ++ more → answers ≡ replies ++ others → AllByRecursion (λ line. n < line.phase) more → PhasesLeft u ticks n lines replies ticked old between → PhasesRan u plan (suc n) left_over later_ticked [] [] between new → PhasesRan u plan 1 (n + left_over) (ticked ++ later_ticked) [] [] old new
+  phases-ran zero left_over lines more replies others ticked later_ticked old between new lines_are replies_are later left ran =
       let counted : left_over ≡ 0 + left_over = omega arith in
-      subst (λ past. PhasesRan u plan 1 (0 + left_over) [] [] [] past new) left.2 (subst (λ count. PhasesRan u plan 1 count [] [] [] between new) counted ran)
-  phases-ran (suc n) left_over lines more replies others old between new lines_are replies_are later left ran =
+      let ticks_are : later_ticked ≡ ticked ++ later_ticked = sym (ap (λ l. l ++ later_ticked) left.2) in
+      subst (λ past. PhasesRan u plan 1 (0 + left_over) (ticked ++ later_ticked) [] [] past new) left.3
+      (subst (λ count. PhasesRan u plan 1 count (ticked ++ later_ticked) [] [] between new) counted
+      (subst (λ l. PhasesRan u plan 1 left_over l [] [] between new) ticks_are ran))
+  phases-ran (suc n) left_over lines more replies others ticked later_ticked old between new lines_are replies_are later left ran =
       let counted : n + suc left_over ≡ suc n + left_over = omega arith in
-      subst (λ count. PhasesRan u plan 1 count [] [] [] old new) counted
-      (phases-ran n (suc left_over) left.0 (left.1 ++ more) left.2 (left.3 ++ others) old left.4 new lines_parts replies_parts
+      subst (λ l. PhasesRan u plan 1 (suc n + left_over) l [] [] old new) ticked_parts
+      (subst (λ count. PhasesRan u plan 1 count (left.4 ++ (left.5 ++ later_ticked)) [] [] old new) counted
+      (phases-ran n (suc left_over) left.0 (left.1 ++ more) left.2 (left.3 ++ others) left.4 (left.5 ++ later_ticked) old left.6 new lines_parts replies_parts
       (all-join (λ line. n < line.phase) left.1 more
-      (all-map (λ line. line.phase ≡ suc n) (λ line. n < line.phase) left.1 (λ line is. omega (arith, is)) left.8)
+      (all-map (λ line. line.phase ≡ suc n) (λ line. n < line.phase) left.1 (λ line is. omega (arith, is)) left.11)
       (all-map (λ line. suc n < line.phase) (λ line. n < line.phase) more (λ line less. omega (arith, less)) later))
-      left.7 (between, 0, 0, one, ran))
+      left.10 (between, 0, 0, rw parts.0 one, rw parts.1 ran)))
     where
       lines_parts : all ≡ left.0 ++ (left.1 ++ more)
-      lines_parts = lines_are ∙ (ap (λ l. l ++ more) left.5 ∙ append_assoc left.0 left.1 more)
+      lines_parts = lines_are ∙ (ap (λ l. l ++ more) left.7 ∙ append_assoc left.0 left.1 more)
 
       replies_parts : answers ≡ left.2 ++ (left.3 ++ others)
-      replies_parts = replies_are ∙ (ap (λ l. l ++ others) left.6 ∙ append_assoc left.2 left.3 others)
+      replies_parts = replies_are ∙ (ap (λ l. l ++ others) left.8 ∙ append_assoc left.2 left.3 others)
 
-      one : PhaseRan u plan (suc n) [] [] [] left.4 between
+      ticked_parts : left.4 ++ (left.5 ++ later_ticked) ≡ ticked ++ later_ticked
+      ticked_parts = sym (ap (λ l. l ++ later_ticked) left.9 ∙ append_assoc left.4 left.5 later_ticked)
+
+      -- the ticks of the phase are the first of those from it on
+      parts : (take ticks (left.5 ++ later_ticked) ≡ left.5) × (drop ticks (left.5 ++ later_ticked) ≡ later_ticked)
+      parts = taken ticks left.5 later_ticked (omega (arith, left.13.counted, length-append left.5 later_ticked))
+
+      one : PhaseRan u plan (suc n) left.5 [] [] left.6 between
       one =
-          phase-ran (suc n) left.0 left.1 more left.2 left.3 others left.4 between lines_parts replies_parts
-          (same-long left.0 left.2 (phases-lines u n left.0 left.2 old left.4 left.7))
-          (all-map (λ line. line.phase ≤ n) (λ line. line.phase < suc n) left.0 (λ line less. omega (arith, less)) (phases-within u n left.0 left.2 old left.4 left.7))
-          left.8 later left.9
+          phase-ran (suc n) left.0 left.1 more left.2 left.3 others left.5 left.6 between lines_parts replies_parts
+          (same-long left.0 left.2 (phases-lines u ticks n left.0 left.2 left.4 old left.6 left.10))
+          (all-map (λ line. line.phase ≤ n) (λ line. line.phase < suc n) left.0 (λ line less. omega (arith, less)) (phases-within u ticks n left.0 left.2 left.4 old left.6 left.10))
+          left.11 later left.12 left.13
 
-  pub all-ran : (n : ℕ) (old new : List Entry) → PhasesLeft u n all answers old new → PhasesRan u (record { lines = all; answers = answers; ticks = 0; aheads = 0 }) 1 n [] [] [] old new
-  all-ran n old new left =
+  pub all-ran : (n : ℕ) (ticked : List LineReply) (old new : List Entry) → PhasesLeft u ticks n all answers ticked old new → PhasesRan u (record { lines = all; answers = answers; ticks = ticks; aheads = 0 }) 1 n ticked [] [] old new
+  all-ran n ticked old new left =
       let counted : n + 0 ≡ n = omega arith in
-      subst (λ count. PhasesRan u plan 1 count [] [] [] old new) counted
-      (phases-ran n 0 all [] answers [] old new new (sym (append-nil all)) (sym (append-nil answers)) tt left (refl, refl, refl, refl))
+      subst (λ count. PhasesRan u plan 1 count ticked [] [] old new) counted
+      (subst (λ l. PhasesRan u plan 1 (n + 0) l [] [] old new) (append-nil ticked)
+      (phases-ran n 0 all [] answers [] ticked [] old new new (sym (append-nil all)) (sym (append-nil answers)) tt left (refl, refl, refl, refl)))
 
 -- What the streams and the phases of a script left, one after the other, explains all answers.
-explained : (u : Setup) (script : Script) (between replies : List LineReply) (begun past : List Entry) → IsWithin script → IsOfMode mode.Run script → StreamsOpened u 0 script.streams [] between [] begun → ((me : ℕ) → me ≢ 0 → IsIdle me [] begun) → PhasesServed u script.phases script.lines between replies begun past → IsExplained u (given_of script) (lines_answered replies) [] past
-unfolding IsDistinct
-explained u script between replies begun past within of_mode opened alone served = record {
+explained : (u : Setup) (script : Script) (between replies kept ticked : List LineReply) (begun past : List Entry) → IsWithin script → StreamsOpened u 0 script.streams [] between [] begun → ((me : ℕ) → me ≢ 0 → IsIdle me [] begun) → PhasesServed u script.ticks script.phases script.lines between replies ticked begun past → AreToldOnce script.streams script.lines replies kept → IsExplained u (given_of script) (run_answered kept ticked) [] past
+explained u script between replies kept ticked begun past within opened alone served told = record {
   setup = opened.answers;
-  answers = served.answers;
+  answers = drop (length script.streams) kept;
   begun = begun;
-  replies_are = served.grew ∙ ap (λ l. l ++ served.answers) opened.grew;
+  replies_are = kept-parts script.streams opened.answers served.answers between replies opened.grew served.grew setup_long kept told.setup;
   setup_lines = opened.lines_are;
-  answer_lines = phases-lines u script.phases script.lines served.answers begun past served.left;
+  answer_lines = part-lines script.lines served.answers (drop (length script.streams) kept) part ∙ phases-lines u script.ticks script.phases script.lines served.answers ticked begun past served.left;
   opened = opened-left u 0 script.streams opened.answers [] begun opened.left;
   alone = alone;
   ran =
-      rw (within.header.no_ticks, within.header.no_aheads) (all-ran u script.lines served.answers
+      phases-part u script.lines served.answers (drop (length script.streams) kept) script.ticks script.aheads part 1 script.phases ticked [] [] begun past
+      (rw within.header.no_aheads (all-ran u script.ticks script.lines served.answers
       (all-map (IsLineWithin script.streams script.phases) (λ line. line.caller ≤ 16) script.lines (λ line is. is.last_caller) within.lines)
-      script.phases begun past served.left);
-  posted_once = rw (posted-none script.lines served.answers of_mode.lines) tt;
+      script.phases ticked begun past served.left));
+  posted_once = told.once;
 }
+  where
+    setup_long : length opened.answers ≡ length script.streams
+    setup_long = sym (length-map opened.answers (λ r. r.line)) ∙ (ap length opened.lines_are ∙ length-map script.streams (λ s. s.line))
 
-pub run-explained : (u v : Setup) (script : Script) (first between replies : List LineReply) (start begun past : List Entry) → IsWithin script → IsOfMode mode.Run script → first ≡ [] → start ≡ [] → v ≡ u → StreamsOpened u 0 script.streams first between start begun → ((me : ℕ) → me ≢ 0 → IsIdle me start begun) → PhasesServed v script.phases script.lines between replies begun past → IsExplained u (given_of script) (lines_answered replies) [] past
-run-explained u v script first between replies start begun past within of_mode none empty same opened alone served =
-    explained u script between replies begun past within of_mode (rw (none, empty) at opened) (rw empty at alone) (rw same at served)
+    -- what the lines told, and what is left of it
+    part : AllTellPart script.lines served.answers (drop (length script.streams) kept)
+    part = subst (λ l. AllTellPart script.lines l (drop (length script.streams) kept))
+        (told-parts script.streams opened.answers served.answers between replies opened.grew served.grew setup_long) told.part
+
+pub run-explained : (u v : Setup) (script : Script) (first between replies kept ticked : List LineReply) (start begun past : List Entry) → IsWithin script → first ≡ [] → start ≡ [] → v ≡ u → StreamsOpened u 0 script.streams first between start begun → ((me : ℕ) → me ≢ 0 → IsIdle me start begun) → PhasesServed v script.ticks script.phases script.lines between replies ticked begun past → AreToldOnce script.streams script.lines replies kept → IsExplained u (given_of script) (run_answered kept ticked) [] past
+run-explained u v script first between replies kept ticked start begun past within none empty same opened alone served told =
+    explained u script between replies kept ticked begun past within (rw (none, empty) at opened) (rw empty at alone) (rw same at served) told
+
+-- each stream and each line has a reply
+pub run-long : (u v : Setup) (script : Script) (first between replies ticked : List LineReply) (start begun past : List Entry) → first ≡ [] → StreamsOpened u 0 script.streams first between start begun → PhasesServed v script.ticks script.phases script.lines between replies ticked begun past → length replies ≡ length script.streams + length script.lines
+run-long u v script first between replies ticked start begun past none opened served =
+    omega (
+      arith,
+      ap length served.grew,
+      length-append between served.answers,
+      opened-long u 0 script.streams first between start begun opened,
+      ap length none,
+      same-long script.lines served.answers (phases-lines v script.ticks script.phases script.lines served.answers ticked begun past served.left),
+    )

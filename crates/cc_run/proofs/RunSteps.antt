@@ -47,6 +47,7 @@ servable streams n (action.SetSizes file allocation size) few run within = let t
 servable streams n (action.State file) few run within = let there = within.stream in omega (arith, there, few)
 servable streams n (action.Flush file span) few run within = let there = within.stream in omega (arith, there, few)
 servable streams n (action.Purge file span) few run within = let there = within.stream in omega (arith, there, few)
+servable streams n (action.Discard file span) few run within = let there = within.stream in omega (arith, there, few)
 servable streams n (action.NcRead file at len) few run within = let there = within.stream in omega (arith, there, few)
 servable streams n (action.Read file path at len) few run within = let there = within.stream in omega (arith, there, few)
 servable streams n (action.Write file at bytes) few run within = let there = within.stream in omega (arith, there, few)
@@ -82,9 +83,10 @@ servable streams n (action.WriteBegin page) few run within = absurd (cc run)
 servable streams n (action.WriteEnd page) few run within = absurd (cc run)
 servable streams n (action.Sync stream) few run within = absurd (cc run)
 servable streams n action.Scan few run within = absurd (cc run)
-servable streams n (action.CanWrite file bytes) few run within = absurd (cc run)
-servable streams n (action.Defer file bytes retrying) few run within = absurd (cc run)
-servable streams n action.Post few run within = absurd (cc run)
+servable streams n action.Tick few run within = tt
+servable streams n (action.CanWrite file bytes) few run within = let there = within.stream in omega (arith, there, few)
+servable streams n (action.Defer file bytes retrying) few run within = let there = within.stream in omega (arith, there, few)
+servable streams n action.Post few run within = tt
 
 pub servable-all : (streams : List StreamLine) (phases n : ℕ) (lines : List ActionLine) → length streams ≤ n → AllByRecursion (IsLineOf mode.Run) lines → AllByRecursion (IsLineWithin streams phases) lines → AllByRecursion (λ line. IsServable n line.action) lines
 servable-all streams phases n lines few run within =

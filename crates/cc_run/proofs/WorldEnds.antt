@@ -1,37 +1,27 @@
 -- The disks and logs that a World gives back, and the setup that it was made from, are those of the run.
 use Rattle.std.specs.Prelude.{◌≡◌, ℕ, Bool, List, length, take, slice_get, refl}
 use Rattle.std.specs.declared.option.Option.{Option}
-use Rattle.std.specs.declared.option.Option.TheVariants.{Some, None}
-use Rattle.cc_entry.specs.declared.entry.Entry.{Entry}
 use Rattle.cc_traits.specs.Disk.{Disk}
 use Rattle.cc_traits.specs.Log.{Log}
 use Rattle.cc_script.specs.declared.script.Script.{Script}
 use Rattle.cc_turns.specs.Desk.{Begun, disk_at_first, log_at_first, tells_of}
-use Rattle.cc_turns.specs.Disk.{DiskStands}
-use Rattle.cc_turns.specs.Standing.{DiskAtFirst}
-use Rattle.cc_world.specs.Rows.{DiskIsUsed}
-use Rattle.cc_world.specs.World.{DisksEnded, LogsEnded, WorldState}
-use Rattle.cc_world.specs.World as world
-use Rattle.cc_world.specs.declared.rows.Kept.{Kept}
+use Rattle.cc_event_lines.specs.Run.{DisksEnded, LogsEnded, WorldState}
+use Rattle.cc_event_lines.specs.Run.{setup_of as made_setup}
+use Rattle.cc_event_lines.proofs.DisksUsed.{disk-stands}
 use Rattle.cc_run.specs.Disks.{DisksStand}
 use Rattle.cc_run.specs.Logs.{LogsStand}
 use Rattle.cc_run.specs.Setups.{setup_of}
-
--- a disk stands for the past, whether a transfer is open on it or not
-used-stands : {D : Type 0} (told : D → Option Disk) (faults : D → ℕ) (first : DiskAtFirst) (past : List Entry) (s : ℕ) (disk : D) (kept : Option Kept) → DiskIsUsed told faults first past s disk kept → DiskStands told faults first past s disk
-used-stands told faults first past s disk None used = used.stands
-used-stands told faults first past s disk (Some kept) used = used.way.stands
 
 module _ {D L Q : Type 0} (told : D → Option Disk) (faults : D → ℕ) (log_told : L → Option Log) (log_faults : L → ℕ) (posted : Q → Bool) (w : WorldState D L Q) where
   pub disks-ended : (disks : List D) → DisksEnded (tells_of told faults log_told log_faults posted) w disks → DisksStand told faults (λ s. disk_at_first told faults (slice_get w.begun.disks s)) (length w.begun.disks) w.journal.entries disks
   disks-ended disks ended = record {
     counted = ended.counted;
-    each = λ s disk at. let used = ended.each s disk at in used-stands told faults (disk_at_first told faults (slice_get w.begun.disks s)) w.journal.entries s disk used.0 used.1;
+    each = disk-stands (tells_of told faults log_told log_faults posted) w disks ended;
   }
 
   pub logs-ended : (logs : List L) → LogsEnded (tells_of told faults log_told log_faults posted) w logs → LogsStand log_told log_faults (λ handle. log_at_first log_told log_faults (slice_get w.begun.logs handle)) (length w.begun.logs) w.journal.entries logs
   logs-ended logs ended = record { counted = ended.counted; each = ended.each }
 
 -- the setup that a World is made from is that of the script, of the disks and of the logs
-pub world-setup-is : {D L Q : Type 0} (told : D → Option Disk) (faults : D → ℕ) (log_told : L → Option Log) (log_faults : L → ℕ) (posted : Q → Bool) (begun : Begun D L) (script : Script) (disks : List D) (logs : List L) → begun.disks ≡ take 16 disks → begun.logs ≡ take 4 logs → begun.capacity ≡ script.journal → begun.threshold ≡ script.threshold → world.setup_of (tells_of told faults log_told log_faults posted) begun ≡ setup_of told faults script disks logs
+pub world-setup-is : {D L Q : Type 0} (told : D → Option Disk) (faults : D → ℕ) (log_told : L → Option Log) (log_faults : L → ℕ) (posted : Q → Bool) (begun : Begun D L) (script : Script) (disks : List D) (logs : List L) → begun.disks ≡ take 16 disks → begun.logs ≡ take 4 logs → begun.capacity ≡ script.journal → begun.threshold ≡ script.threshold → made_setup (tells_of told faults log_told log_faults posted) begun ≡ setup_of told faults script disks logs
 world-setup-is told faults log_told log_faults posted begun script disks logs same same_logs capacity threshold = rw (same, same_logs, capacity, threshold) refl

@@ -11,6 +11,9 @@ pub mod Logs
 pub mod Ends
 pub mod Complete
 pub mod Main
+pub mod Ticks
 pub mod Phases
 pub mod Callers
 pub mod Threads
+pub mod Workers
+pub mod Once

@@ -1,5 +1,5 @@
 -- What a script left that was run: what explains its answers, by its mode, and what comes back.
-use Rattle.std.specs.Prelude.{◌≡◌, ℕ, List, [], IfSome, reverse}
+use Rattle.std.specs.Prelude.{◌≡◌, ℕ, ◌*◌, List, [], IfSome, length, reverse}
 use Rattle.std.specs.declared.option.Option.{Option}
 use Rattle.std.specs.declared.option.Option.TheVariants.{Some, None}
 use Rattle.cc_entry.specs.declared.answer.LineReply.{LineReply}
@@ -15,7 +15,7 @@ use Rattle.cc_script.specs.declared.script.Mode.TheVariants as mode
 use Rattle.cc_script.specs.declared.script.Script.{Script}
 use Rattle.cc_turns.specs.Desk.{Tells}
 use Rattle.cc_run.specs.Disks.{DisksLeft}
-use Rattle.cc_run.specs.Lines.{given_of, lines_answered}
+use Rattle.cc_run.specs.Lines.{given_of, run_answered}
 use Rattle.cc_run.specs.Logs.{LogsLeft}
 use Rattle.cc_run.specs.Setups.{setup_of}
 use Rattle.cc_run.specs.declared.modes.RunResult.{RunResult}
@@ -31,6 +31,12 @@ abbrev pub deferrals_in : Option Script → List LineReply → List (Option ℕ)
 deferrals_in None replies = []
 deferrals_in (Some script) replies = deferrals_by script.streams script.lines replies
 
+-- how many ticks a script asks for in its phases, where one was run; in steps there are none
+abbrev pub ticks_asked : Mode → Option Script → ℕ
+ticks_asked m None = 0
+ticks_asked mode.Run (Some script) = script.ticks * script.phases
+ticks_asked mode.Steps (Some script) = 0
+
 -- A script was run in a mode over these disks, logs and post routines. Its journal is good, was always within the script's
 -- capacity, and explains each answer; the rows are those of its dirty page table, where memory was found for them; and
 -- disks, logs and routines came back as the journal says.
@@ -39,7 +45,8 @@ pub record HasRun {D L Q : Type 0} (tells : Tells D L Q) (m : Mode) (script : Sc
   pub good : IsGood (setup_of tells.disk tells.disk_faults script disks logs) (reverse ran.journal.items)
   pub within : IsWithinCapacity script.journal (reverse ran.journal.items)
   pub explained : IsExplainedBy m (setup_of tells.disk tells.disk_faults script disks logs) script
-      (lines_answered ran.replies.items) (reverse ran.journal.items)
+      (run_answered ran.replies.items ran.ticks.items) (reverse ran.journal.items)
+  pub ticked : length ran.ticks.items ≡ ticks_asked m (Some script)
   pub table : IfSome ran.table (λ rows. rows.items ≡ table_of (reverse ran.journal.items))
   pub disks_left : DisksLeft tells.disk tells.disk_faults (reverse ran.journal.items) disks ran.disks.items
   pub logs_left : LogsLeft tells.log tells.log_faults (reverse ran.journal.items) logs ran.logs.items

@@ -24,14 +24,15 @@ pub record AreRooms (lines : List ActionLine) (rooms : List (Vec Answer Global))
   pub each : (n : ℕ) (room : Vec Answer Global) → slice_get rooms n ≡ Some room →
       IsRoomFor (count_of (16 - n) lines) room.items (vec_capacity room)
 
--- Pass 0 may split 16 passes: it is of the board, and of its run, with nothing under way, and made none yet.
+-- Pass 0 may split the passes of the 16 callers, and two more: it is of the board, and of its run, with nothing under way, and
+-- made none yet.
 pub record MaySplit {D L : Type 0} (board : BoardState D L) (first : FirstState D L) : Type 0 where
   pub here : IsFirstOf board first
   pub run : run_of first.knows ≡ board.begun
   pub none : first.knows.in_flight ≡ 0
   pub one_made : first.knows.made ≡ 1
   pub none_ended : first.knows.ended ≡ []
-  pub passes : first.knows.passes ≡ 16
+  pub passes : first.knows.passes ≡ 18
 
 -- A caller was made: its pass has the number, has seen what pass 0 has seen, and has nothing under way; and the room and
 -- what is kept of its words are the caller's.
@@ -56,6 +57,9 @@ pub record AreSplit {D L Q : Type 0} (board : BoardState D L) (rooms : List (Vec
       × (slice_get rows (15 - n) ≡ Some names) × IsMade board old (suc n) room names caller
   pub board_is : new.board ≡ old.board
   pub made_is : new.knows.made ≡ 17
+  pub passes_are : new.knows.passes ≡ old.knows.passes
+  pub before_is : new.knows.before ≡ old.knows.before
+  pub run_is : run_of new.knows ≡ run_of old.knows
   pub seen_is : new.knows.seen ≡ old.knows.seen
   pub none : new.knows.in_flight ≡ old.knows.in_flight
   pub ended_is : new.knows.ended ≡ old.knows.ended

@@ -9,7 +9,7 @@ ghost use Rattle.cc_run.specs.Callers.{MayRun, CallerRan, MayAllRun, AllRan};
 
 use cc_board::{Board, Pass, Seated};
 use cc_entry::Answer;
-use cc_lines::{Names, serve_at};
+use cc_lines::{Fresh, Names, serve_at};
 use cc_script::ActionLine;
 use cc_traits::{Gate, LogFile, PageDisk, PostRoutine, Told};
 use cc_turns::Turns;
@@ -43,7 +43,7 @@ pub(crate) fn run_callers<
     R: Threads + Wait + Sync,
     D: PageDisk + Send,
     L: LogFile + Send,
-    Q: PostRoutine + Send,
+    Q: Fresh + Send,
     P: Gate,
 >(
     rt: &R,
@@ -99,7 +99,7 @@ pub(crate) fn run_callers<
 }
 
 // Runs the lines of a caller.
-fn run_caller<R: Wait, D: PageDisk, L: LogFile, Q: PostRoutine, P: Gate>(
+fn run_caller<R: Wait, D: PageDisk, L: LogFile, Q: Fresh, P: Gate>(
     rt: &R,
     alloc: Global,
     board: &Board<D, L, Q>,

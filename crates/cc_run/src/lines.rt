@@ -1,4 +1,4 @@
-//! The lines of a phase on a desk, in their order.
+//! The lines of a phase on a desk, in their order, and the ticks behind them.
 
 ghost use Rattle.std.specs.Prelude.{◌≡◌, ◌≢◌, ℕ, ◌+◌, ◌≤◌, List, length, vec_len, vec_capacity};
 ghost use Rattle.std.specs.List.{AllByRecursion};
@@ -7,22 +7,28 @@ ghost use Rattle.cc_turns.specs.Desk.{standing_of};
 ghost use Rattle.cc_run.specs.Desks.{IsReady, IsSameRun};
 ghost use Rattle.cc_model.specs.Good.{IsGood};
 ghost use Rattle.cc_pieces.specs.Bindings.{Binding};
+ghost use Rattle.cc_pieces.specs.Phases.{lazy_writer};
 ghost use Rattle.cc_script.specs.HoldWords.{AreUsedRight, UsesRight};
 ghost use Rattle.cc_script.specs.declared.bound.Bound.{Bound};
 ghost use Rattle.cc_lines.specs.Holds.{NamesStand};
 ghost use Rattle.cc_lines.specs.Line.{IsServable};
 ghost use Rattle.cc_run.specs.Lines.{AllStand, IsCaller, KeepRoom, LineEnd, LinesEnd, MayServe, MayServeLine};
+ghost use Rattle.cc_run.specs.Ticks.{HasTickRoom, TicksMade};
 
 use crate::call_numbers::Calls;
+use crate::ticks::{Ticks, make_ticks};
 use cc_entry::{Answer, LineReply};
-use cc_lines::{Names, serve_at};
+use cc_lines::{Fresh, Names, serve_at};
 use cc_script::ActionLine;
 use cc_traits::{Gate, LogFile, PageDisk, PostRoutine};
 use cc_turns::Desk;
 use std::alloc::Global;
 
+/// The pass of the lazy writer.
+const LAZY_WRITER: u32 = 17;
+
 /// Serves the lines, and puts the answer of each behind the replies.
-pub(crate) fn serve_lines<D: PageDisk, L: LogFile, Q: PostRoutine, P: Gate>(
+pub(crate) fn serve_lines<D: PageDisk, L: LogFile, Q: Fresh, P: Gate>(
     alloc: Global,
     desk: &mut Desk<D, L, Q>,
     lines: &[ActionLine],
@@ -60,7 +66,7 @@ pub(crate) fn serve_lines<D: PageDisk, L: LogFile, Q: PostRoutine, P: Gate>(
 }
 
 // Serves a line as its caller.
-fn serve_line<D: PageDisk, L: LogFile, Q: PostRoutine, P: Gate>(
+fn serve_line<D: PageDisk, L: LogFile, Q: Fresh, P: Gate>(
     alloc: Global,
     desk: &mut Desk<D, L, Q>,
     line: &ActionLine,
@@ -88,4 +94,27 @@ fn serve_line<D: PageDisk, L: LogFile, Q: PostRoutine, P: Gate>(
     let answer = serve_at(alloc, desk, &line.action, gate, number, names);
     desk.own();
     answer
+}
+
+/// Makes the ticks of a phase as the lazy writer.
+pub(crate) fn serve_ticks<D: PageDisk, L: LogFile, Q: PostRoutine>(
+    alloc: Global,
+    desk: &mut Desk<D, L, Q>,
+    phase: u32,
+    ticks: &mut Ticks,
+)
+    requires ready { IsReady (standing_of D.told D.faults L.told L.faults desk.old) }
+    requires room { HasTickRoom ticks.old }
+    ensures made { TicksMade (standing_of D.told D.faults L.told L.faults desk.old).setup phase ticks.old.each
+        ticks.old ticks.new desk.old.last.entries desk.new.last.entries }
+    ensures alone { (me : ℕ) → me ≢ lazy_writer → IsIdle me desk.old.last.entries desk.new.last.entries }
+    ensures good { IsGood (standing_of D.told D.faults L.told L.faults desk.old).setup desk.new.last.entries }
+    ensures run { IsSameRun (standing_of D.told D.faults L.told L.faults desk.old)
+        (standing_of D.told D.faults L.told L.faults desk.new) }
+    ensures ready { IsReady (standing_of D.told D.faults L.told L.faults desk.new) }
+{
+    desk.act_as(LAZY_WRITER);
+    make_ticks(alloc, desk, phase, ticks);
+    desk.own();
+    desk.good();
 }

@@ -1,6 +1,6 @@
 //! What a script left that was run, in either mode.
 
-ghost use Rattle.std.specs.Prelude.{◌≡◌, All, IfOk, IfErr, length, reverse, true, false};
+ghost use Rattle.std.specs.Prelude.{◌≡◌, ◌++◌, All, IfOk, IfErr, length, reverse, true, false};
 ghost use Rattle.cc_turns.specs.Desk.{tells_of};
 ghost use Rattle.cc_script.specs.Modes.{IsOfMode};
 ghost use Rattle.cc_script.specs.Within.{IsWithin};
@@ -28,6 +28,8 @@ pub(crate) const MOST_LOGS: usize = 4;
 pub(crate) struct RunResult<D, L, Q> {
     /// The answer of each line, those of the streams first.
     pub(crate) replies: Vec<LineReply>,
+    /// The answer of each tick, with the number of its phase.
+    pub(crate) ticks: Vec<LineReply>,
     /// The oldest entry first.
     pub(crate) journal: Vec<Entry>,
     /// The rows of the pages that are dirty at the end; None where memory was wanting after the run began.
@@ -62,7 +64,7 @@ pub(crate) fn run_in_mode<
     ensures ran { IfOk result (HasRun (tells_of D.told D.faults L.told L.faults Q.posted) mode script.now
         disks.items logs.items posts.items) }
     ensures faultless { IfOk result (λ ran. RanWithoutFault D.faults L.faults disks.items ran.disks.items logs.items ran.logs.items
-        ran.replies.items (reverse ran.journal.items)) }
+        (ran.replies.items ++ ran.ticks.items) (reverse ran.journal.items)) }
     ensures kept { IfErr result (λ back. back.0.items ≡ disks.items) }
     ensures logs_kept { IfErr result (λ back. back.1.items ≡ logs.items) }
     ensures posts_kept { IfErr result (λ back. back.2.items ≡ posts.items) }

@@ -1,6 +1,6 @@
-//! The phases of a script, one after the other: in each the callers run on threads, over one board.
+//! The phases of a script, one after the other: in each the callers and the lazy writer run on threads, over one board.
 
-ghost use Rattle.std.specs.Prelude.{◌≡◌, ℕ, ◌+◌, ◌<◌, ◌≤◌, ◌++◌, ◌==◌, suc, List, take, drop, length, vec_len, vec_capacity};
+ghost use Rattle.std.specs.Prelude.{◌≡◌, ℕ, ◌+◌, ◌*◌, ◌<◌, ◌≤◌, ◌++◌, ◌==◌, [], suc, List, take, drop, length, vec_len, vec_capacity};
 ghost use Rattle.std.specs.List.{AllByRecursion};
 ghost use Rattle.cc_pieces.specs.Rooms.{is_alone};
 ghost use Rattle.cc_script.specs.Within.{PhasesAscend};
@@ -12,25 +12,28 @@ ghost use Rattle.cc_script.specs.declared.bound.Bound.{Bound};
 ghost use Rattle.cc_lines.specs.Line.{IsServable};
 ghost use Rattle.cc_run.specs.Lines.{AllStand, HaveNoWords, IsCaller, KeepRoom, MayServe};
 ghost use Rattle.cc_run.specs.Phases.{PhaseEnds, PhasesServed};
+ghost use Rattle.cc_run.specs.Ticks.{HasTickRoom, TicksMade};
 
 use crate::call_numbers::Calls;
-use crate::lines::serve_lines;
+use crate::lines::{serve_lines, serve_ticks};
 use crate::threads::serve_on_threads;
+use crate::ticks::Ticks;
 use cc_entry::LineReply;
-use cc_lines::Names;
+use cc_lines::{Fresh, Names};
 use cc_script::ActionLine;
-use cc_traits::{Gate, LogFile, PageDisk, PostRoutine};
+use cc_traits::{Gate, LogFile, PageDisk};
 use cc_turns::Desk;
 use std::alloc::Global;
 use std::sync::Wait;
 use std::thread::Threads;
 
-/// Serves the lines phase by phase, and puts the answer of each behind the replies, in the order of the lines.
+/// Serves the lines phase by phase, and puts the answer of each behind the replies, in the order of the lines, and that of
+/// each tick behind those of the ticks before.
 pub(crate) fn serve_phases<
     R: Threads + Wait + Sync,
     D: PageDisk + Send,
     L: LogFile + Send,
-    Q: PostRoutine + Send,
+    Q: Fresh + Send,
     P: Gate,
 >(
     rt: &R,
@@ -41,6 +44,7 @@ pub(crate) fn serve_phases<
     gate: &P,
     names: Vec<Names>,
     replies: &mut Vec<LineReply>,
+    ticks: &mut Ticks,
 ) -> Desk<D, L, Q>
     requires ready { IsReady (standing_of D.told D.faults L.told L.faults desk) }
     requires servable { AllByRecursion (λ line.
@@ -51,8 +55,10 @@ pub(crate) fn serve_phases<
     requires within { AllByRecursion (λ line. line.phase ≤ phases) lines.now }
     requires words { HaveNoWords lines.now names.items }
     requires room { vec_len replies.old + length lines.now ≤ vec_capacity replies.old }
-    ensures served { PhasesServed (standing_of D.told D.faults L.told L.faults desk).setup phases lines.now
-        replies.old.items replies.new.items desk.last.entries result.last.entries }
+    requires no_ticks { ticks.old.answers.items ≡ [] }
+    requires tick_room { ticks.old.each * phases ≤ vec_capacity ticks.old.answers }
+    ensures served { PhasesServed (standing_of D.told D.faults L.told L.faults desk).setup ticks.old.each phases lines.now
+        replies.old.items replies.new.items ticks.new.answers.items desk.last.entries result.last.entries }
     ensures run { IsSameRun (standing_of D.told D.faults L.told L.faults desk)
         (standing_of D.told D.faults L.told L.faults result) }
     ensures ready { IsReady (standing_of D.told D.faults L.told L.faults result) }
@@ -64,7 +70,7 @@ pub(crate) fn serve_phases<
     for phase in 1..phases + 1 {
         let (now, later) = rest.split_at(count_of_phase(rest, phase));
         desk = serve_phase(
-            rt, alloc, desk, phase, now, gate, &mut calls, &mut names, replies,
+            rt, alloc, desk, phase, now, gate, &mut calls, &mut names, replies, ticks,
         );
         rest = later;
     }
@@ -85,13 +91,13 @@ fn count_of_phase(lines: &[ActionLine], phase: u32) -> usize
     count
 }
 
-// Serves the lines of a phase: on threads, but those of one caller alone. Where memory is wanting for threads, the lines
-// are served in their order.
+// Serves the lines of a phase, and makes its ticks: on threads, but the lines of one caller alone without ticks. Where memory
+// is wanting for threads, the lines are served in their order, and the ticks follow them.
 fn serve_phase<
     R: Threads + Wait + Sync,
     D: PageDisk + Send,
     L: LogFile + Send,
-    Q: PostRoutine + Send,
+    Q: Fresh + Send,
     P: Gate,
 >(
     rt: &R,
@@ -103,6 +109,7 @@ fn serve_phase<
     calls: &mut Calls,
     names: &mut Vec<Names>,
     replies: &mut Vec<LineReply>,
+    ticks: &mut Ticks,
 ) -> Desk<D, L, Q>
     requires ready { IsReady (standing_of D.told D.faults L.told L.faults desk) }
     requires servable { AllByRecursion (λ line.
@@ -112,12 +119,15 @@ fn serve_phase<
     requires words { MayServe (standing_of D.told D.faults L.told L.faults desk).streams desk.last.entries
         lines.now names.old.items }
     requires room { vec_len replies.old + length lines.now ≤ vec_capacity replies.old }
+    requires tick_room { HasTickRoom ticks.old }
     ensures served { (bounds : ℕ → List Bound) (bindings : ℕ → List Binding) →
         AllStand (standing_of D.told D.faults L.told L.faults desk).streams desk.last.entries bounds bindings
         names.old.items → ((me : ℕ) → AreUsedRight me (bounds me) lines.now) →
         PhaseEnds (standing_of D.told D.faults L.told L.faults desk).setup
-        (standing_of D.told D.faults L.told L.faults desk).streams phase bounds bindings lines.now
+        (standing_of D.told D.faults L.told L.faults desk).streams phase ticks.old.each bounds bindings lines.now
         replies.old.items replies.new.items desk.last.entries result.last.entries names.new.items }
+    ensures ticked { TicksMade (standing_of D.told D.faults L.told L.faults desk).setup phase ticks.old.each
+        ticks.old ticks.new desk.last.entries result.last.entries }
     ensures kept_room { KeepRoom names.old.items names.new.items }
     ensures run { IsSameRun (standing_of D.told D.faults L.told L.faults desk)
         (standing_of D.told D.faults L.told L.faults result) }
@@ -125,13 +135,17 @@ fn serve_phase<
     ensures capacity { vec_capacity replies.new ≡ vec_capacity replies.old }
 {
     let mut desk = desk;
-    if !is_alone(lines) {
-        match serve_on_threads(rt, alloc, desk, lines, gate, calls, names, replies) {
+    let beside = ticks.each > 0 || !is_alone(lines);
+    if beside {
+        match serve_on_threads(
+            rt, alloc, desk, phase, lines, gate, calls, names, replies, ticks,
+        ) {
             Ok(desk) => return desk,
             Err(back) => desk = back,
         }
     }
     serve_lines(alloc, &mut desk, lines, gate, calls, names, replies);
+    serve_ticks(alloc, &mut desk, phase, ticks);
     desk
 }
 

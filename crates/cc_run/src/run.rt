@@ -1,6 +1,6 @@
 //! The run of a script: on a desk its streams are opened, its phases are served, and all comes back.
 
-ghost use Rattle.std.specs.Prelude.{◌≡◌, ◌+◌, ◌≤◌, [], All, IfOk, IfErr, IfSome, length, reverse, true, false, vec_capacity};
+ghost use Rattle.std.specs.Prelude.{◌≡◌, ◌+◌, ◌*◌, ◌≤◌, [], All, IfOk, IfErr, IfSome, length, reverse, true, false, vec_capacity};
 ghost use Rattle.cc_journal.specs.Capacity.{IsWithinCapacity};
 ghost use Rattle.cc_model.specs.Good.{IsGood};
 ghost use Rattle.cc_turns.specs.Desk.{IsFresh, standing_of, tells_of};
@@ -9,17 +9,21 @@ ghost use Rattle.cc_script.specs.Modes.{IsOfMode};
 ghost use Rattle.cc_script.specs.declared.script.Mode.TheVariants as mode;
 ghost use Rattle.cc_pieces.specs.Table.{table_of};
 ghost use Rattle.cc_pieces.specs.Explained.{IsExplained};
+ghost use Rattle.cc_pieces.specs.Steps.{PostsLeft, deferrals_by};
+ghost use Rattle.cc_script.specs.EventActions.{defer_lines};
 ghost use Rattle.cc_run.specs.Ends.{has_devices};
 ghost use Rattle.cc_run.specs.Disks.{DisksStand};
-ghost use Rattle.cc_run.specs.Lines.{HaveNoWords, given_of, lines_answered};
+ghost use Rattle.cc_run.specs.Lines.{HaveNoWords, given_of, run_answered};
 ghost use Rattle.cc_run.specs.Logs.{LogsStand};
 ghost use Rattle.cc_run.specs.Runs.{HasRun};
 
 use crate::modes::{MOST_DISKS, MOST_LOGS, RunResult};
 use crate::openings::open_streams;
 use crate::phases::serve_phases;
+use crate::posts::{Mark, settle};
 use crate::row::{first_of, put_back};
 use crate::table::printed_rows;
+use crate::ticks::Ticks;
 use cc_entry::{LineReply, NoMemory};
 use cc_journal::Parts;
 use cc_lines::Names;
@@ -66,6 +70,9 @@ pub(crate) fn run_script<
     let Ok(names) = names_for(alloc, script) else {
         return Err((rest, further, posts));
     };
+    let Ok(ticks) = Ticks::with_room(alloc, script.ticks, script.phases) else {
+        return Err((rest, further, posts));
+    };
     let Ok(disks) = first_of(alloc, &mut rest, MOST_DISKS) else {
         return Err((rest, further, posts));
     };
@@ -78,18 +85,20 @@ pub(crate) fn run_script<
         journal: script.journal,
         threshold: script.threshold,
     };
-    match Desk::<D, L, Q>::new(alloc, setup) {
+    match Desk::<D, L, Mark>::new(alloc, setup) {
         Ok(desk) => {
             let RunResult {
                 replies,
+                ticks,
                 journal,
                 table,
                 disks,
                 logs,
                 posts,
-            } = run_on(rt, alloc, script, gate, desk, names, replies, posts);
+            } = run_on(rt, alloc, script, gate, desk, names, replies, ticks, posts);
             Ok(RunResult {
                 replies,
+                ticks,
                 journal,
                 table,
                 disks: put_back(disks, rest),
@@ -117,7 +126,8 @@ fn names_for(alloc: Global, script: &Script) -> Result<Vec<Names>, NoMemory>
     Ok(names)
 }
 
-// Runs a script on a desk of which nothing happened yet, with room for the replies and for the callers' words.
+// Runs a script on a desk of which nothing happened yet, with room for the replies, for the callers' words and for the answers
+// of the ticks.
 fn run_on<
     R: Threads + Wait + Sync,
     D: PageDisk + Send,
@@ -129,9 +139,10 @@ fn run_on<
     alloc: Global,
     script: &Script,
     gate: &P,
-    desk: Desk<D, L, Q>,
+    desk: Desk<D, L, Mark>,
     names: Vec<Names>,
     replies: Vec<LineReply>,
+    ticks: Ticks,
     posts: Vec<Q>,
 ) -> RunResult<D, L, Q>
     requires fresh { IsFresh desk.begun desk }
@@ -139,21 +150,29 @@ fn run_on<
     requires of_mode { IsOfMode mode.Run script.now }
     requires enough { length script.now.streams ≤ length desk.begun.disks }
     requires words { HaveNoWords script.now.lines names.items }
+    requires deferring { defer_lines script.now.lines ≤ length posts.items }
+    requires unposted { All (λ routine. Q.posted routine ≡ false) posts.items }
     requires none { replies.items ≡ [] }
     requires room { length script.now.streams + length script.now.lines ≤ vec_capacity replies }
+    requires ticks { ticks.each ≡ script.now.ticks }
+    requires no_ticks { ticks.answers.items ≡ [] }
+    requires tick_room { script.now.ticks * script.now.phases ≤ vec_capacity ticks.answers }
     ensures good { IsGood (standing_of D.told D.faults L.told L.faults desk).setup (reverse result.journal.items) }
     ensures within { IsWithinCapacity desk.begun.capacity (reverse result.journal.items) }
     ensures explained { IsExplained (standing_of D.told D.faults L.told L.faults desk).setup
-        (given_of script.now) (lines_answered result.replies.items) [] (reverse result.journal.items) }
+        (given_of script.now) (run_answered result.replies.items result.ticks.items) [] (reverse result.journal.items) }
+    ensures ticked { length result.ticks.items ≡ script.now.ticks * script.now.phases }
     ensures table { IfSome result.table (λ rows. rows.items ≡ table_of (reverse result.journal.items)) }
     ensures disks { DisksStand D.told D.faults (standing_of D.told D.faults L.told L.faults desk).disks
         (length desk.begun.disks) (reverse result.journal.items) result.disks.items }
     ensures logs { LogsStand L.told L.faults (standing_of D.told D.faults L.told L.faults desk).logs
         (length desk.begun.logs) (reverse result.journal.items) result.logs.items }
-    ensures posts { result.posts ≡ posts }
+    ensures posts { PostsLeft Q.posted (deferrals_by script.now.streams script.now.lines result.replies.items)
+        (reverse result.journal.items) posts.items result.posts.items }
 {
     let mut desk = desk;
     let mut replies = replies;
+    let mut ticks = ticks;
     open_streams(alloc, &mut desk, script.streams.as_slice(), &mut replies);
     let desk = serve_phases(
         rt,
@@ -164,6 +183,7 @@ fn run_on<
         gate,
         names,
         &mut replies,
+        &mut ticks,
     );
     let table = printed_rows(alloc, desk.journal().dirty().rows()).ok();
     let Parts {
@@ -172,8 +192,10 @@ fn run_on<
         journal,
         ..
     } = desk.end();
+    let posts = settle(script, &mut replies, &journal, posts);
     RunResult {
         replies,
+        ticks: ticks.answers,
         journal,
         table,
         disks,

@@ -61,6 +61,7 @@ pub(crate) fn step_script<D: PageDisk, L: LogFile, Q: PostRoutine>(
             } = ran.end();
             Ok(RunResult {
                 replies,
+                ticks: Vec::new(alloc),
                 journal,
                 table,
                 disks: put_back(disks, rest),

@@ -1,11 +1,11 @@
-//! A phase on threads: a board is made of the desk, each caller runs its lines with a pass of it, and it is closed into
-//! the desk again.
+//! A phase on threads: a board is made of the desk, each caller runs its lines with a pass of it, and the lazy writer makes
+//! its ticks with another; then it is closed into the desk again.
 
 ghost use Rattle.std.specs.Prelude.{◌≡◌, ◌≢◌, ℕ, ◌+◌, ◌<◌, ◌≤◌, ◌++◌, [], false, List, length, map, vec_len, vec_capacity, IfOk, IfErr, OnOk, OnErr};
 ghost use Rattle.std.specs.List.{AllByRecursion};
 ghost use Rattle.cc_pieces.specs.Explained.{answered_lines};
 ghost use Rattle.cc_pieces.specs.Phases.{is_of_phase};
-ghost use Rattle.cc_pieces.specs.Rooms.{is_alone};
+ghost use Rattle.cc_pieces.specs.Rooms.{is_alone, room_limit};
 ghost use Rattle.cc_pieces.specs.Runs.{asked_of};
 ghost use Rattle.cc_board.specs.Board.{IsFirstOf, IsOf};
 ghost use Rattle.cc_turns.specs.Desk.{standing_of, tells_of};
@@ -19,12 +19,15 @@ ghost use Rattle.cc_lines.specs.Line.{IsServable};
 ghost use Rattle.cc_run.specs.Lines.{AllStand, IsCaller, KeepRoom, MayServe};
 ghost use Rattle.cc_run.specs.Phases.{PhaseEnds};
 ghost use Rattle.cc_run.specs.Threads.{AreRooms, AreSplit, AreJoined, Merged, MaySplit, MayJoin};
+ghost use Rattle.cc_run.specs.Ticks.{HasTickRoom, TicksMade};
 
 use crate::call_numbers::Calls;
-use crate::callers::{Caller, Finished, run_callers};
+use crate::callers::{Caller, Finished};
+use crate::ticks::Ticks;
+use crate::workers::{join_worker, run_all, split_worker};
 use cc_board::{Board, FirstPass};
 use cc_entry::{Answer, LineReply, NoMemory};
-use cc_lines::Names;
+use cc_lines::{Fresh, Names};
 use cc_script::ActionLine;
 use cc_traits::{Gate, LogFile, PageDisk, PostRoutine, Told};
 use cc_turns::Desk;
@@ -35,23 +38,29 @@ use std::thread::Threads;
 /// The most callers of a script.
 const CALLERS: u16 = 16;
 
+/// The most passes beside pass 0: the callers, the lazy writer and the read-ahead worker, which does nothing yet.
+const PASSES: u16 = CALLERS + 2;
+
 /// Serves the lines of a phase, each caller's on a thread of its own, and puts the answer of each behind the replies, in
-/// the order of the lines. Where memory is wanting for the threads, nothing was done and the desk comes back.
+/// the order of the lines; and makes its ticks on another thread. Where memory is wanting for the threads, nothing was done
+/// and the desk comes back.
 pub(crate) fn serve_on_threads<
     R: Threads + Wait + Sync,
     D: PageDisk + Send,
     L: LogFile + Send,
-    Q: PostRoutine + Send,
+    Q: Fresh + Send,
     P: Gate,
 >(
     rt: &R,
     alloc: Global,
     desk: Desk<D, L, Q>,
+    phase: u32,
     lines: &[ActionLine],
     gate: &P,
     calls: &mut Calls,
     names: &mut Vec<Names>,
     replies: &mut Vec<LineReply>,
+    ticks: &mut Ticks,
 ) -> Result<Desk<D, L, Q>, Desk<D, L, Q>>
     requires ready { IsReady (standing_of D.told D.faults L.told L.faults desk) }
     requires servable { AllByRecursion (λ line.
@@ -59,19 +68,24 @@ pub(crate) fn serve_on_threads<
     requires callers { AllByRecursion (λ line. IsCaller line.caller) lines.now }
     requires words { MayServe (standing_of D.told D.faults L.told L.faults desk).streams desk.last.entries
         lines.now names.old.items }
+    requires those { AllByRecursion (λ line. line.phase ≡ phase) lines.now }
     requires room { vec_len replies.old + length lines.now ≤ vec_capacity replies.old }
-    ensures served { IfOk result (λ now. (phase : ℕ) (bounds : ℕ → List Bound) (bindings : ℕ → List Binding) →
-        AllByRecursion (λ line. line.phase ≡ phase) lines.now → is_alone phase lines.now ≡ false →
+    requires tick_room { HasTickRoom ticks.old }
+    requires beside { room_limit ticks.old.each 0 (is_alone phase lines.now) ≡ 32 }
+    ensures served { IfOk result (λ now. (bounds : ℕ → List Bound) (bindings : ℕ → List Binding) →
         AllStand (standing_of D.told D.faults L.told L.faults desk).streams desk.last.entries bounds bindings
         names.old.items → ((me : ℕ) → AreUsedRight me (bounds me) lines.now) →
         PhaseEnds (standing_of D.told D.faults L.told L.faults desk).setup
-        (standing_of D.told D.faults L.told L.faults desk).streams phase bounds bindings lines.now
+        (standing_of D.told D.faults L.told L.faults desk).streams phase ticks.old.each bounds bindings lines.now
         replies.old.items replies.new.items desk.last.entries now.last.entries names.new.items) }
+    ensures ticked { IfOk result (λ now. TicksMade (standing_of D.told D.faults L.told L.faults desk).setup phase
+        ticks.old.each ticks.old ticks.new desk.last.entries now.last.entries) }
     ensures kept_room { KeepRoom names.old.items names.new.items }
     ensures run { IfOk result (λ now. IsSameRun (standing_of D.told D.faults L.told L.faults desk)
         (standing_of D.told D.faults L.told L.faults now)) }
     ensures ready { IfOk result (λ now. IsReady (standing_of D.told D.faults L.told L.faults now)) }
     ensures kept { OnErr result ((replies.new.items ≡ replies.old.items) × (names.new.items ≡ names.old.items)) }
+    ensures kept_ticks { OnErr result (ticks.new ≡ ticks.old) }
     ensures same { IfErr result (λ back. back.last.entries ≡ desk.last.entries) }
     ensures run_kept { IfErr result (λ back. IsSameRun (standing_of D.told D.faults L.told L.faults desk)
         (standing_of D.told D.faults L.told L.faults back)) }
@@ -88,14 +102,18 @@ pub(crate) fn serve_on_threads<
         Err(NoMemory) => return Err(desk),
     };
     desk.good();
-    let (board, mut first) = match Board::new(alloc, desk, CALLERS) {
+    let (board, mut first) = match Board::new(alloc, desk, PASSES) {
         Ok(made) => made,
         Err((desk, _)) => return Err(desk),
     };
     names.reverse();
     let callers = split_all(&board, &mut first, calls, rooms, names, callers);
-    let ended = run_callers(rt, alloc, &board, lines, gate, callers, ended);
+    let worker = split_worker(alloc, &board, &mut first, ticks);
+    let (ended, worker) = run_all(
+        rt, alloc, &board, phase, lines, gate, callers, ended, worker,
+    );
     let rows = join_all(&board, &mut first, calls, ended, names, rows);
+    join_worker(&board, &mut first, worker, ticks);
     names.reverse();
     match board.close(first) {
         Ok(desk) => {

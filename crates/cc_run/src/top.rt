@@ -1,6 +1,6 @@
 //! The top call: words, script, run, text, status, in this order.
 
-ghost use Rattle.std.specs.Prelude.{◌≡◌, ◌⊎◌, ◌≤◌, ◌+◌, ℕ, List, [], All, Some, None, true, false, is_some, reverse, map, length, string_bytes, IfSome, IfOk, IfErr};
+ghost use Rattle.std.specs.Prelude.{◌≡◌, ◌⊎◌, ◌≤◌, ◌+◌, ◌++◌, ℕ, List, [], All, Some, None, true, false, is_some, reverse, map, length, string_bytes, IfSome, IfOk, IfErr};
 ghost use Rattle.cc_model.specs.Setup.{Setup};
 ghost use Rattle.cc_journal.specs.Capacity.{IsWithinCapacity};
 ghost use Rattle.cc_model.specs.Good.{IsGood};
@@ -17,8 +17,8 @@ ghost use Rattle.cc_run.specs.Disks.{DisksLeft};
 ghost use Rattle.cc_run.specs.Logs.{LogsLeft};
 ghost use Rattle.cc_run.specs.Words.{command_of, is_reading, mode_by, mode_in, reads_source};
 ghost use Rattle.cc_run.specs.declared.words.Command.TheVariants as asked;
-ghost use Rattle.cc_run.specs.Lines.{lines_answered};
-ghost use Rattle.cc_run.specs.Runs.{IsExplainedBy, deferrals_in};
+ghost use Rattle.cc_run.specs.Lines.{run_answered};
+ghost use Rattle.cc_run.specs.Runs.{IsExplainedBy, deferrals_in, ticks_asked};
 
 use crate::devices::has_devices;
 use crate::intake::{IntakeError, take_all};
@@ -46,9 +46,9 @@ pub struct Ended<D, L = Box<dyn LogFile + Send>, Q = Box<dyn PostRoutine + Send>
     pub script: Option<Script>,
     /// The answer of each line, those of the streams first.
     pub replies: Vec<LineReply>,
-    /// The answers of the lazy writer, with the number of the phase, from 1, as line. There are none.
+    /// The answers of the lazy writer's ticks in their order, with the number of the phase, from 1, as line.
     pub ticks: Vec<LineReply>,
-    /// The answers of the read-ahead worker, likewise.
+    /// The answers of the read-ahead worker, likewise. There are none.
     pub aheads: Vec<LineReply>,
     /// The journal, oldest entry first; empty where no run was made.
     pub journal: Vec<Entry>,
@@ -68,6 +68,7 @@ struct Report<D, L, Q> {
     status: u8,
     script: Option<Script>,
     replies: Vec<LineReply>,
+    ticks: Vec<LineReply>,
     journal: Vec<Entry>,
     disks: Vec<D>,
     logs: Vec<L>,
@@ -104,6 +105,7 @@ fn refused<K: Sink, D, L, Q>(
 ) -> Report<D, L, Q>
     ensures script { result.script ≡ None }
     ensures replies { result.replies.items ≡ [] }
+    ensures ticks { result.ticks.items ≡ [] }
     ensures journal { result.journal.items ≡ [] }
     ensures disks { result.disks ≡ disks }
     ensures logs { result.logs ≡ logs }
@@ -115,6 +117,7 @@ fn refused<K: Sink, D, L, Q>(
         status: why.status(),
         script: None,
         replies: Vec::new(alloc),
+        ticks: Vec::new(alloc),
         journal: Vec::new(alloc),
         disks,
         logs,
@@ -266,7 +269,8 @@ fn conduct<
         result.script result.replies.items result.journal.items result.status }
     ensures explained { IfSome result.script (λ made. IsExplainedBy (mode_in (map string_bytes words.now))
         (setup_of D.told D.faults made disks.items logs.items) made
-        (lines_answered result.replies.items) (reverse result.journal.items)) }
+        (run_answered result.replies.items result.ticks.items) (reverse result.journal.items)) }
+    ensures ticked { length result.ticks.items ≡ ticks_asked (mode_in (map string_bytes words.now)) result.script }
     ensures untouched { reads_source (map string_bytes words.now) ≡ false → source.new ≡ source.old }
     ensures given { WasTaken (S.told source.old) (S.told source.new) (S.given source.old) (S.given source.new) }
     ensures bounded { length (S.given source.new) ≤ length (S.given source.old) + 16777217 }
@@ -278,7 +282,7 @@ fn conduct<
     ensures logs_unused { result.script ≡ None → result.logs.items ≡ logs.items }
     ensures unused { result.script ≡ None → result.posts.items ≡ posts.items }
     ensures faultless { RanWithoutFault D.faults L.faults disks.items result.disks.items logs.items result.logs.items
-        result.replies.items (reverse result.journal.items) }
+        (result.replies.items ++ result.ticks.items) (reverse result.journal.items) }
 {
     let Prepared { command, script } = match prepare(
         alloc,
@@ -300,6 +304,7 @@ fn conduct<
     let status = print(alloc, out, command, &script, &ran);
     let RunResult {
         replies,
+        ticks,
         journal,
         table: _,
         disks,
@@ -310,6 +315,7 @@ fn conduct<
         status,
         script: Some(script),
         replies,
+        ticks,
         journal,
         disks,
         logs,
@@ -320,7 +326,8 @@ fn conduct<
 /// The program: the words of the command line without its name, the script's bytes from a source, the text to a sink, a
 /// disk for each stream, the logs that streams may name, of which the first four are taken, the post routines, of which
 /// each line that defers a write has one, and the gate that callers pass. `run FILE`, also with a folder behind it, for
-/// whoever hands in the disks: the callers of a phase make the calls of their lines on threads, phase after phase.
+/// whoever hands in the disks: the callers of a phase make the calls of their lines on threads, and the lazy writer its ticks,
+/// phase after phase.
 /// `steps FILE`: the lines are events, one after the other. `gen N`: so are those of the script that is generated of N,
 /// whose summary is the text; the source is not touched. Whatever is handed in, the journal that is given back is good
 /// over the pages that the disks tell, and it is what happened, also where memory was wanting after the run began. Over
@@ -362,8 +369,8 @@ pub fn cache_main<
         (output K.told K.faults K.stalls out.old out.new)
         result.script result.replies.items result.journal.items result.status }
     ensures untouched { reads_source (map string_bytes words.now) ≡ false → script.new ≡ script.old }
-    // What comes back: the disks and the logs as the journal says; the routines, one posted exactly where the deferral of
-    // its line was; and no answer of a worker.
+    // What comes back: the disks and the logs as the journal says; and the routines, one posted exactly where the deferral of
+    // its line was.
     ensures disks { DisksLeft D.told D.faults (reverse result.journal.items) disks.items result.disks.items }
     ensures logs { LogsLeft L.told L.faults (reverse result.journal.items) logs.items result.logs.items }
     ensures posts { PostsLeft Q.posted (deferrals_in result.script result.replies.items) (reverse result.journal.items)
@@ -374,14 +381,17 @@ pub fn cache_main<
     ensures unused { result.script ≡ None → result.posts.items ≡ posts.items }
     // Where no count of faults rose, no failure stands in the journal, and no answer tells one.
     ensures faultless { RanWithoutFault D.faults L.faults disks.items result.disks.items logs.items result.logs.items
-        result.replies.items (reverse result.journal.items) }
-    ensures ticks { result.ticks.items ≡ [] }
+        (result.replies.items ++ result.ticks.items) (reverse result.journal.items) }
+    // So many ticks are answered as the script has in its phases, none without a run and none in steps; and no step of
+    // read-ahead.
+    ensures ticks { length result.ticks.items ≡ ticks_asked (mode_in (map string_bytes words.now)) result.script }
     ensures aheads { result.aheads.items ≡ [] }
 {
     let Report {
         status,
         script,
         replies,
+        ticks,
         journal,
         disks,
         logs,
@@ -391,7 +401,7 @@ pub fn cache_main<
         status,
         script,
         replies,
-        ticks: Vec::new(alloc),
+        ticks,
         aheads: Vec::new(alloc),
         journal,
         disks,

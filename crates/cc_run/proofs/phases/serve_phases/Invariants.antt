@@ -19,5 +19,7 @@ invariant-loop-phase g l =
       within : l.phase ≤ l.fn.phases + 1;
       ascend : PhasesAscend l.phase l.rest;
       keep : KeepRoom l.fn.names.items l.names.items;
-      so_far : SoFar (at l.fn.desk).setup (at l.fn.desk).streams l.phase l.fn.lines l.rest l.fn.replies.items l.replies.items l.fn.desk.last.entries l.desk.last.entries l.names.items;
+      so_far : SoFar (at l.fn.desk).setup (at l.fn.desk).streams l.fn.ticks.each l.phase l.fn.lines l.rest l.fn.replies.items l.replies.items l.ticks.answers.items l.fn.desk.last.entries l.desk.last.entries l.names.items;
+      each : l.ticks.each ≡ l.fn.ticks.each;
+      tick_room : vec_capacity l.ticks.answers ≡ vec_capacity l.fn.ticks.answers;
     }

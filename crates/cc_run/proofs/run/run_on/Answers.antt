@@ -10,7 +10,8 @@ use Rattle.cc_run.specs.Lines.{IsCaller}
 use Rattle.cc_run.specs.Rows.{printed_row}
 use Rattle.cc_run.proofs.DirtyRows.{rows-table}
 use Rattle.cc_run.proofs.Lists.{all-map, if_some-ok}
-use Rattle.cc_run.proofs.PhasesRan.{run-explained}
+use Rattle.cc_run.proofs.PhaseSteps.{ticked-long}
+use Rattle.cc_run.proofs.PhasesRan.{run-explained, run-long}
 use Rattle.cc_run.proofs.RunSteps.{servable-all, opened-long, disks-stand, logs-stand}
 use Rattle.cc_run.proofs.run.run_on.Goals as goal
 
@@ -43,6 +44,11 @@ pub serve_phases-desk-requires-clause-room : goal.serve_phases-desk-requires-cla
 serve_phases-desk-requires-clause-room g c κs within =
     omega (arith, opened-long _ _ _ _ _ _ _ c.open_streams.ensures.opened, c.open_streams.ensures.capacity, ap length c.requires.none, c.requires.room, ap length c.as_slice-2.ensures, ap length c.as_slice.ensures.same, c.open_streams.new.replies.ok.0)
 
+pub settle-posts-requires-clause-answered : goal.settle-posts-requires-clause-answered
+settle-posts-requires-clause-answered g c =
+    run-long _ _ c.args.script.now c.args.replies.items c.open_streams.new.replies.items c.serve_phases-desk.new.replies.items c.serve_phases-desk.new.ticks.answers.items c.args.desk.last.entries c.open_streams.new.desk.last.entries c.serve_phases-desk.result.last.entries
+    c.requires.none (rw c.as_slice.ensures.same at c.open_streams.ensures.opened) (rw (c.as_slice-2.ensures, c.requires.ticks) at c.serve_phases-desk.ensures.served)
+
 pub returns-clause-within : goal.returns-clause-within
 returns-clause-within g c =
     rw c.end-disks.ensures.journal (subst (λ n. IsWithinCapacity n c.serve_phases-desk.result.last.entries)
@@ -68,6 +74,12 @@ returns-clause-table g c =
 
 pub returns-clause-explained : goal.returns-clause-explained
 returns-clause-explained g c =
-    rw c.end-disks.ensures.journal (run-explained _ _ c.args.script.now c.args.replies.items c.open_streams.new.replies.items c.serve_phases-desk.new.replies.items c.args.desk.last.entries c.open_streams.new.desk.last.entries c.serve_phases-desk.result.last.entries
-    c.requires.within c.requires.of_mode c.requires.none c.requires.fresh.journal_is.empty.0 c.open_streams.ensures.run.setup (rw c.as_slice.ensures.same at c.open_streams.ensures.opened) c.open_streams.ensures.alone
-    (rw c.as_slice-2.ensures at c.serve_phases-desk.ensures.served))
+    rw c.end-disks.ensures.journal (run-explained _ _ c.args.script.now c.args.replies.items c.open_streams.new.replies.items c.serve_phases-desk.new.replies.items c.settle-posts.new.replies.items c.serve_phases-desk.new.ticks.answers.items c.args.desk.last.entries c.open_streams.new.desk.last.entries c.serve_phases-desk.result.last.entries
+    c.requires.within c.requires.none c.requires.fresh.journal_is.empty.0 c.open_streams.ensures.run.setup (rw c.as_slice.ensures.same at c.open_streams.ensures.opened) c.open_streams.ensures.alone
+    (rw (c.as_slice-2.ensures, c.requires.ticks) at c.serve_phases-desk.ensures.served) c.settle-posts.ensures.told)
+
+pub returns-clause-ticked : goal.returns-clause-ticked
+returns-clause-ticked g c = rw c.requires.ticks at (ticked-long _ _ _ _ _ _ _ _ _ c.serve_phases-desk.ensures.served)
+
+pub serve_phases-desk-requires-clause-tick_room : goal.serve_phases-desk-requires-clause-tick_room
+serve_phases-desk-requires-clause-tick_room g c κs within = rw c.requires.ticks c.requires.tick_room

@@ -7,13 +7,12 @@ use Rattle.cc_model.specs.Good.{IsGood}
 use Rattle.cc_pieces.specs.Explained.{IsExplained}
 use Rattle.cc_turns.specs.Desk.{disk_at_first, log_at_first}
 use Rattle.cc_run.specs.Disks.{DisksStand}
-use Rattle.cc_run.specs.Lines.{given_of, lines_answered}
+use Rattle.cc_run.specs.Lines.{given_of, run_answered}
 use Rattle.cc_run.specs.Logs.{LogsStand}
 use Rattle.cc_run.proofs.RowSteps.{reverse_twice}
-use Rattle.cc_run.proofs.RunSteps.{setup-is, enough-disks}
+use Rattle.cc_run.proofs.RunSteps.{setup-is, enough-disks, enough-posts}
 use Rattle.cc_run.proofs.DiskSteps.{disks-left}
 use Rattle.cc_run.proofs.LogSteps.{logs-left}
-use Rattle.cc_run.proofs.PostSteps.{posts-kept, run-defers-none}
 use Rattle.cc_run.proofs.run.run_script.Goals as goal
 
 pub invariant_of-setup-clause-few_disks : goal.invariant_of-setup-clause-few_disks
@@ -30,6 +29,10 @@ run_on-replies-requires-clause-enough g c κs within =
     let few = c.requires.within.few_streams in
     let enough = enough-disks (length c.args.disks.items) (length c.args.logs.items) (length c.args.posts.items) c.args.script.now c.requires.enough in
     omega (arith, begun, ap length c.in-Ok-first_of.ensures.first, length-take 16 c.args.disks.items, few, enough)
+
+pub run_on-replies-requires-clause-deferring : goal.run_on-replies-requires-clause-deferring
+run_on-replies-requires-clause-deferring g c κs within =
+    enough-posts (length c.args.disks.items) (length c.args.logs.items) (length c.args.posts.items) c.args.script.now c.requires.enough
 
 pub put_back-requires-in-Ok-new : goal.put_back-requires-in-Ok-new
 put_back-requires-in-Ok-new g c =
@@ -71,7 +74,8 @@ returns-in-Ok-new-clause-ran g c =
     record {
       good = subst (λ u. IsGood u past) setup c.run_on-replies.ensures.good;
       within = subst (λ n. IsWithinCapacity n past) (ap (λ b. b.capacity) c.in-Ok-new.ensures.fresh.begun_is) c.run_on-replies.ensures.within;
-      explained = subst (λ u. IsExplained u (given_of c.args.script.now) (lines_answered c.run_on-replies.result.replies.items) [] past) setup c.run_on-replies.ensures.explained;
+      explained = subst (λ u. IsExplained u (given_of c.args.script.now) (run_answered c.run_on-replies.result.replies.items c.run_on-replies.result.ticks.items) [] past) setup c.run_on-replies.ensures.explained;
+      ticked = c.run_on-replies.ensures.ticked;
       table = c.run_on-replies.ensures.table;
       disks_left =
           disks-left g.D.Told.told g.D.Told.faults past c.args.disks.items c.run_on-replies.result.disks.items _
@@ -81,7 +85,26 @@ returns-in-Ok-new-clause-ran g c =
           logs-left g.L.LogFile.told g.L.LogFile.faults past c.args.logs.items c.run_on-replies.result.logs.items _
           (subst (λ ls. LogsStand g.L.LogFile.told g.L.LogFile.faults (λ handle. log_at_first g.L.LogFile.told g.L.LogFile.faults (slice_get ls handle)) (length ls) past c.run_on-replies.result.logs.items) logs c.run_on-replies.ensures.logs)
           (c.put_back-in-Ok-new-2.ensures ∙ ap (λ l. c.run_on-replies.result.logs.items ++ l) (ap reverse c.in-Ok-first_of-2.ensures.left ∙ reverse_twice (drop 4 c.args.logs.items)));
-      posts_left =
-          rw c.run_on-replies.ensures.posts (posts-kept g.Q.PostRoutine.posted _ past c.args.posts.items
-          (run-defers-none c.args.script.now.streams c.args.script.now.lines c.run_on-replies.result.replies.items c.requires.of_mode.lines) c.requires.posts);
+      posts_left = c.run_on-replies.ensures.posts;
     }
+
+-- where memory is wanting, what was taken goes back in front of the others
+pub put_back-requires : goal.put_back-requires
+put_back-requires g c =
+    omega (
+      arith,
+      ap length c.in-Ok-first_of.ensures.first,
+      ap length c.in-Ok-first_of.ensures.left,
+      length-reverse (drop 16 c.args.disks.items),
+      length-append (take 16 c.args.disks.items) (drop 16 c.args.disks.items),
+      ap length (take-append-drop 16 c.args.disks.items),
+      c.in-Ok-first_of.ensures.room,
+    )
+
+pub returns-in-Err-clause-kept : goal.returns-in-Err-clause-kept
+returns-in-Err-clause-kept g c =
+    c.put_back-in-Err.ensures
+    ∙ (ap (λ s. s.disks.items ++ reverse c.first_of.new.row.items) c.in-Err.ensures.err.0
+    ∙ (ap (λ l. l ++ reverse c.first_of.new.row.items) c.in-Ok-first_of.ensures.first
+    ∙ (ap (λ l. take 16 c.args.disks.items ++ l) (ap reverse c.in-Ok-first_of.ensures.left ∙ reverse_twice (drop 16 c.args.disks.items))
+    ∙ take-append-drop 16 c.args.disks.items)))

@@ -8,7 +8,7 @@ use Rattle.cc_model.specs.Good.{IsGood}
 use Rattle.cc_pieces.specs.Steps.{IsSteppedThrough, PostsLeft, deferrals_by}
 use Rattle.cc_pieces.specs.Table.{table_of}
 use Rattle.cc_turns.specs.Desk.{disk_at_first, log_at_first, tells_of}
-use Rattle.cc_world.specs.World.{setup_of as made_setup}
+use Rattle.cc_event_lines.specs.Run.{setup_of as made_setup}
 use Rattle.cc_run.specs.Disks.{DisksStand}
 use Rattle.cc_run.specs.Logs.{LogsStand}
 use Rattle.cc_run.specs.Rows.{printed_row}
@@ -85,6 +85,7 @@ returns-in-Ok-run_steps-clause-ran g c =
       explained =
           rw (is, c.end-replies.ensures.replies) (subst (λ u. IsSteppedThrough u c.args.script.now.streams c.args.script.now.lines c.in-Ok-run_steps.ran.replies world.journal.entries)
           (ap (made_setup (tells_of g.D.Told.told g.D.Told.faults g.L.LogFile.told g.L.LogFile.faults g.Q.PostRoutine.posted)) (sym begun) ∙ setup) c.in-Ok-run_steps.ensures.explained);
+      ticked = ap length c.new.ensures.items;
       table = rw is (if_some-ok c.printed_rows.result c.ok-table.result c.ok-table.ensures.value (λ printed rows. rows ∙ table) c.printed_rows.ensures);
       disks_left =
           disks-left g.D.Told.told g.D.Told.faults past c.args.disks.items c.end-replies.result.disks.items _

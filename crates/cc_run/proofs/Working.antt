@@ -1,0 +1,56 @@
+-- The lazy writer on a board: what its seated pass may do, and what it left.
+use Rattle.std.specs.Prelude.{◌≡◌, ℕ, ◌+◌, ◌≤◌, refl}
+use Rattle.std.proofs.Common.{sym, ap, subst, ◌∙◌, arith}
+use Rattle.cc_pieces.specs.Phases.{lazy_writer}
+use Rattle.cc_turns.specs.Desk.{Tells}
+use Rattle.cc_turns.specs.Slots.{setup_in}
+use Rattle.cc_turns.specs.Standing.{nothing}
+use Rattle.cc_lines.specs.Line.{WentOn}
+use Rattle.cc_board.specs.Board.{BoardState, PassState, SeatedState, pass_of}
+use Rattle.cc_board.specs.View.{held_of, run_of, standing_at}
+use Rattle.cc_board.proofs.Names.{same_board}
+use Rattle.cc_run.specs.Ticks.{MayTick, TicksMade}
+use Rattle.cc_run.specs.Workers.{MayWork, WorkerRan}
+use Rattle.cc_run.specs.declared.ticks.Ticks.{Ticks}
+use Rattle.cc_run.specs.declared.workers.Worker.{Worker}
+use Rattle.cc_run.proofs.CallersRan.{seat_at}
+use Rattle.cc_run.proofs.TicksRan.{made-none}
+
+module _ {D L Q : Type 0} (tells : Tells D L Q) (board : BoardState D L) (worker : Worker D L Q) (may : MayWork board worker) where
+  module _ (seated : SeatedState D L) (here : seated.board ≡ board) (is : pass_of seated ≡ worker.pass) (free : held_of seated.knows ≡ nothing) where
+    -- it may make its ticks
+    pub may-tick : MayTick (seat_at tells seated)
+    may-tick = record {
+      is_lazy = ap (λ p. p.knows.number) is ∙ may.number_is;
+      free = record { free = free; none = ap (λ p. p.knows.in_flight) is ∙ may.none };
+      few = omega (arith, ap (λ p. p.knows.before) is, ap (λ p. p.knows.passes) is, may.few);
+    }
+
+    seen-is : seated.knows.seen ≡ worker.pass.knows.seen
+    seen-is = ap (λ p. p.knows.seen) is
+
+    setup-is : (seat_at tells seated).setup ≡ setup_in tells board.begun
+    setup-is = ap (λ p. setup_in tells (run_of p.knows)) is ∙ ap (setup_in tells) may.run
+
+    -- it made them
+    pub worker-ran : (phase : ℕ) (after : SeatedState D L) (pass : PassState D L) (ticks : Ticks) → WentOn (seat_at tells seated) (seat_at tells after) → pass ≡ pass_of after → TicksMade (seat_at tells seated).setup phase worker.ticks.each worker.ticks ticks seated.knows.seen after.knows.seen → (ended : Worker D L Q) → ended.pass ≡ pass → ended.ticks ≡ ticks → WorkerRan tells board phase worker ended
+    worker-ran phase after pass ticks went into made ended pass_is ticks_are =
+        let whole : ended.pass ≡ pass_of after = pass_is ∙ into in
+        let seen : ended.pass.knows.seen ≡ after.knows.seen = ap (λ p. p.knows.seen) whole in
+        record {
+          here = ap (λ p. p.board) whole ∙ (same_board after.board.id seated.board.id (ap (λ w. w.shared) went.same) ∙ ap (λ b. b.id) here);
+          number = ap (λ p. p.knows.number) whole ∙ (ap (λ w. w.number) went.same ∙ (ap (λ p. p.knows.number) is ∙ may.number_is));
+          none = ap (λ p. p.knows.in_flight) whole ∙ (ap (λ w. w.in_flight) went.same ∙ (ap (λ p. p.knows.in_flight) is ∙ may.none));
+          made = rw (ticks_are, seen) (rw (setup-is, seen-is) at made);
+        }
+
+  -- without ticks there is nothing to do
+  pub worker-idle : (phase : ℕ) → worker.ticks.each ≡ 0 → WorkerRan tells board phase worker worker
+  worker-idle phase none = record {
+    here = may.here;
+    number = may.number_is;
+    none = may.none;
+    made =
+        subst (λ n. TicksMade (setup_in tells board.begun) phase n worker.ticks worker.ticks worker.pass.knows.seen worker.pass.knows.seen) (sym none)
+        (made-none (setup_in tells board.begun) phase worker.ticks worker.pass.knows.seen);
+  }
