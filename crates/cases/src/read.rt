@@ -51,6 +51,7 @@ fn read_line(alloc: Global, case: &mut Case, lines: &mut Lines, line: &str) -> R
             read_setup(alloc, case, lines, first, &mut words)
         }
         "during" => read_during(case, &mut words),
+        "held" => read_held(case, &mut words),
         _ => match caller_of(first) {
             Some(caller) => read_call(case, caller, &mut words),
             None => read_want(alloc, case, first, &mut words),
@@ -250,28 +251,51 @@ fn read_entries(alloc: Global, words: &mut Words) -> Result<Vec<(u64, Vec<u8>)>>
     Ok(entries)
 }
 
-/// Reads that calls of a caller come during a call on a device: `DEVICE CALL N tC calls A to B`.
+/// Reads what a caller does during a call on a device: `DEVICE CALL N tC calls A to B`, or `DEVICE CALL N tC begins A`.
 fn read_during(case: &mut Case, words: &mut Words) -> Result<()> {
     let inside = read_inside(words)?;
     let caller = words.caller()?;
-    words.expect("calls")?;
-    let (from, to) = words.range()?;
-    let before = Event::Before {
-        caller,
-        call: from as u64,
+    let (call, last) = match words.word()? {
+        "calls" => {
+            let (from, to) = words.range()?;
+            let call = to as u64;
+            (from as u64, Event::After { caller, call })
+        }
+        "begins" => {
+            let call = words.last_number()?;
+            (call, Event::Begun { caller, call })
+        }
+        word => bail!("`{word}` does not say what comes during a call"),
     };
-    let after = Event::After {
-        caller,
-        call: to as u64,
-    };
-    case.orders.push((inside, before))?;
-    case.orders.push((after, inside))?;
+    case.orders.push((inside, Event::Before { caller, call }))?;
+    case.orders.push((last, inside))?;
     Ok(())
+}
+
+/// Reads that a device waits inside a call: `DEVICE CALL N until` and what it waits for, `tC call M` or `DEVICE CALL M`.
+fn read_held(case: &mut Case, words: &mut Words) -> Result<()> {
+    let inside = read_inside(words)?;
+    words.expect("until")?;
+    let first = words.word()?;
+    match caller_of(first) {
+        Some(caller) => read_answered(case, inside, caller, words),
+        None => {
+            let other = read_inside_of(first, words)?;
+            words.end()?;
+            case.orders.push((other, inside))?;
+            Ok(())
+        }
+    }
 }
 
 /// Reads that a device is inside a call: `DEVICE CALL N`.
 fn read_inside(words: &mut Words) -> Result<Event> {
     let first = words.word()?;
+    read_inside_of(first, words)
+}
+
+/// The same where the first word was taken.
+fn read_inside_of(first: &str, words: &mut Words) -> Result<Event> {
     let device = words.device(first)?;
     let kind = words.word()?;
     Ok(Event::Inside(words.place(device, kind)?))
@@ -299,6 +323,11 @@ fn read_call(case: &mut Case, caller: u64, words: &mut Words) -> Result<()> {
 /// Reads that an event comes after a call of a caller: `tC call N`.
 fn read_order(case: &mut Case, then: Event, words: &mut Words) -> Result<()> {
     let caller = words.caller()?;
+    read_answered(case, then, caller, words)
+}
+
+/// The same where the caller was taken.
+fn read_answered(case: &mut Case, then: Event, caller: u64, words: &mut Words) -> Result<()> {
     words.expect("call")?;
     let call = words.number()?;
     words.end()?;

@@ -11,6 +11,8 @@ use std::thread;
 pub enum Event {
     /// A caller is about to make the call of this number.
     Before { caller: u64, call: u64 },
+    /// It begins that call.
+    Begun { caller: u64, call: u64 },
     /// That call was answered.
     After { caller: u64, call: u64 },
     /// A device is inside a call.
@@ -129,6 +131,7 @@ impl Gate for Stage {
         let (caller, call) = (u64::from(caller), u64::from(call));
         self.wait(Event::Before { caller, call });
         self.moments.begin(caller, call, self.calls());
+        self.come(Event::Begun { caller, call });
     }
 
     fn after(&self, caller: u32, call: u32) {

@@ -1,6 +1,6 @@
 //! A test of a desk that is made, acted on and ended, and of the calls over it that no script makes.
 
-ghost use Rattle.std.specs.Prelude.{◌≡◌, length, IfOk};
+ghost use Rattle.std.specs.Prelude.{◌≡◌, ◌≤◌, length, IfOk};
 ghost use Rattle.cc_turns.specs.Desk.{IsFresh};
 
 use crate::devices::Routine;
@@ -8,7 +8,7 @@ use cc_calls::{initialize, set_attributes, set_granularity, set_log_handle, set_
 use cc_entry::{CcError, FileId, FileSizes, Quota};
 use cc_journal::Parts;
 use cc_memdev::{DiskFails, LogFails, MemDisk, MemLog};
-use cc_traits::Setup;
+use cc_traits::{PostRoutine, Setup};
 use cc_turns::{Desk, Turns};
 use std::alloc::Global;
 use std::test::Fail;
@@ -31,14 +31,25 @@ fn log(alloc: Global) -> MemLog {
     MemLog::new(alloc, fails)
 }
 
-/// A desk of one disk and four logs.
+/// A desk of one disk and four logs, with a journal of 64 entries.
 pub(crate) fn desk(alloc: Global) -> Result<Desk<MemDisk, MemLog, Routine>, Fail>
+    ensures { IfOk result (λ desk. IsFresh desk.begun desk × (length desk.begun.disks ≡ 1)) }
+{
+    desk_of(alloc, 64)
+}
+
+/// The same over other post routines, with a journal of so many entries.
+pub(crate) fn desk_of<Q: PostRoutine>(
+    alloc: Global,
+    journal: u64,
+) -> Result<Desk<MemDisk, MemLog, Q>, Fail>
+    requires { (64 ≤ journal) × (journal ≤ 128) }
     ensures { IfOk result (λ desk. IsFresh desk.begun desk × (length desk.begun.disks ≡ 1)) }
 {
     let setup = Setup {
         disks: vec![in alloc; disk(alloc)]?,
         logs: vec![in alloc; log(alloc), log(alloc), log(alloc), log(alloc)]?,
-        journal: 64,
+        journal,
         threshold: 4,
     };
     match Desk::new(alloc, setup) {
@@ -48,7 +59,7 @@ pub(crate) fn desk(alloc: Global) -> Result<Desk<MemDisk, MemLog, Routine>, Fail
 }
 
 /// The first object of the first stream.
-fn object() -> Result<FileId, Fail>
+pub(crate) fn object() -> Result<FileId, Fail>
     ensures { IfOk result (λ file. file.stream ≡ 0) }
 {
     Ok(FileId::new(0, 0).ok_or("file")?)

@@ -18,11 +18,19 @@ mod devices;
 #[cfg(test)]
 mod files;
 #[cfg(test)]
+mod folder;
+#[cfg(test)]
+mod format;
+#[cfg(test)]
 mod generator;
+#[cfg(test)]
+mod lazy;
 #[cfg(test)]
 mod locks;
 #[cfg(test)]
 mod log;
+#[cfg(test)]
+mod queue;
 #[cfg(test)]
 mod readers;
 #[cfg(test)]

@@ -16,7 +16,7 @@ fn wrong_line(answer: Result<Script, ScriptFault>) -> Option<u32> {
 }
 
 /// Scripts, each with its first wrong line.
-const SCRIPTS: [(&str, u32); 98] = [
+const SCRIPTS: [(&str, u32); 107] = [
     ("", 0),
     ("# a comment\n\n  \n\r\n  stream   a  8192 8192  \r", 0),
     (" # no comment", 1),
@@ -70,7 +70,16 @@ const SCRIPTS: [(&str, u32); 98] = [
     ("threshold 0", 1),
     ("threshold 16385", 1),
     ("t1 threshold 1", 1),
+    (
+        "stream a 1 1\nworkers 1000 0\nphase\nstate a\nworkers 0 0",
+        5,
+    ),
+    ("workers 0 0\njournal 64\nworkers 0 0", 3),
+    ("workers 1001 0", 1),
     ("workers 0 1", 1),
+    ("workers 1", 1),
+    ("workers 1 0 0", 1),
+    ("t1 workers 1 0", 1),
     ("stream a 1 1\nt1 phase", 2),
     ("stream a 1 1\nt17 state a", 2),
     ("stream a 1 1\nt1 t2 state a", 2),
@@ -143,12 +152,22 @@ const SCRIPTS: [(&str, u32); 98] = [
     ),
     ("stream a 1 1\nfill a 0", 2),
     ("stream a 1 1\nncread a 0", 2),
-    ("stream a 1 1\ncanwrite a 1", 2),
+    (
+        "stream a 1 1\ncanwrite a 18446744073709551615\nt2 defer a:15 0\ndefer a 1 retry\nt16 post\ncanwrite a",
+        6,
+    ),
+    ("stream a 1 1\ndefer a 1 again", 2),
+    ("post 1", 1),
+    ("tick\nt16 tick\ntick 1", 3),
+    (
+        "stream a 1 1\ndiscard a\nt2 discard a:1 5 5\ndiscard a 6 5",
+        4,
+    ),
     ("scan", 1),
-    ("post", 1),
     ("fail isdirty", 1),
     (
-        "stream a 1 1\nread a cached 0 1\nt2 read a:15 mapped 18446744073709551615 2097152\nread a pinned 0 0\nread a descriptor 1 1\nread a noncached 0 2097153",
+        "stream a 1 1\nread a cached 0 1\nt2 read a:15 mapped 18446744073709551615 2097152\n\
+         read a pinned 0 0\nread a descriptor 1 1\nread a noncached 0 2097153",
         6,
     ),
     ("stream a 1 1\nread a 0 1", 2),
@@ -166,7 +185,7 @@ const SCRIPTS: [(&str, u32); 98] = [
 ];
 
 /// Scripts of steps, each with its first wrong line.
-const STEPS: [(&str, u32); 34] = [
+const STEPS: [(&str, u32); 36] = [
     (
         "stream a 8192 8192\nfill a 0\nt16 fill a 2251799813685247\nout a 0\nt2 begin a 1\nend a 1\nt3 sync a\nt2 scan\nscan",
         0,
@@ -203,6 +222,11 @@ const STEPS: [(&str, u32); 34] = [
     ("stream a 1 1\nfail defer a 0", 2),
     ("fail scan", 1),
     ("fail post", 1),
+    (
+        "stream a 1 1\ndiscard a 0 1\nfail discard a\nt3 fail discard a 1 1\nfail discard a 1",
+        5,
+    ),
+    ("fail tick", 1),
     ("fail fail isdirty", 1),
     ("fail t1 isdirty", 1),
     ("fail", 1),
@@ -258,13 +282,15 @@ fn first_write(script: &Script) -> Option<(u32, u32, u32, u64, u64)> {
 
 #[test]
 fn keeps_values(rt: HostRuntime) -> Result<(), Fail> {
-    let text = b"# r\n\njournal 64\nstream a 9 7\nphase\nt3 cwrite a 5 AB,00x2\nzero a 1 4\n";
+    let text =
+        b"# r\n\njournal 64\nstream a 9 7\nphase\nworkers 12 0\nt3 cwrite a 5 AB,00x2\nzero a 1 4\n";
     let script = read_script(rt.alloc(), text, Mode::Run).ok().ok_or("read")?;
-    assert_eq!(rt; first_write(&script), Some((6, 2, 3, 5, 3)));
+    assert_eq!(rt; first_write(&script), Some((7, 2, 3, 5, 3)));
     assert_eq!(rt;
         (script.journal, script.threshold, script.phases),
         (64, 1024, 2)
     );
+    assert_eq!(rt; (script.ticks, script.aheads), (12, 0));
     Ok(())
 }
 
@@ -327,7 +353,8 @@ fn keeps_options(rt: HostRuntime) {
     );
 }
 
-/// Of a line that opens, closes or purges, or of a noncached one: the object of its file, and up to three numbers.
+/// Of a line that opens, closes, purges or discards, of a noncached one, or of one of the throttle: the object of its file,
+/// and up to three numbers, of a discard 1 behind its range.
 fn numbers_of(action: &Action) -> Option<(u8, u64, u64, u64)> {
     match action {
         Action::Initialise { file, sizes, .. } => {
@@ -341,6 +368,16 @@ fn numbers_of(action: &Action) -> Option<(u8, u64, u64, u64)> {
             file,
             span: Some(span),
         } => Some((file.object(), span.from(), span.to(), 0)),
+        Action::Discard {
+            file,
+            span: Some(span),
+        } => Some((file.object(), span.from(), span.to(), 1)),
+        Action::CanWrite { file, bytes } => Some((file.object(), *bytes, 0, 0)),
+        Action::Defer {
+            file,
+            bytes,
+            retrying,
+        } => Some((file.object(), *bytes, u64::from(*retrying), 0)),
         Action::NcRead { file, at, len } => Some((file.object(), *at, *len, 0)),
         Action::NcWrite { file, at, bytes } => Some((file.object(), *at, bytes.len(), 0)),
         _ => None,
@@ -366,7 +403,7 @@ fn opened(script: &Script) -> Option<(u8, bool)> {
 #[test]
 fn keeps_files_and_their_numbers(rt: HostRuntime) -> Result<(), Fail> {
     let text = b"stream a 9 7\ninit a:15 3 2 1 quota 8 temporary\nuninit a:15 6\npurge a 1 4
-ncread a:0 4096 8192\nncwrite a:1 4096 AB,00x2";
+ncread a:0 4096 8192\nncwrite a:1 4096 AB,00x2\ndiscard a:2 5 6\ncanwrite a:3 7\ndefer a:4 8 retry\ndefer a:5 9";
     let script = read_script(rt.alloc(), text, Mode::Run).ok().ok_or("read")?;
     assert_eq!(rt; opened(&script), Some((8, true)));
     assert_eq!(rt; numbers_at(&script, 0), Some((15, 3, 2, 1)));
@@ -374,6 +411,10 @@ ncread a:0 4096 8192\nncwrite a:1 4096 AB,00x2";
     assert_eq!(rt; numbers_at(&script, 2), Some((0, 1, 4, 0)));
     assert_eq!(rt; numbers_at(&script, 3), Some((0, 4096, 8192, 0)));
     assert_eq!(rt; numbers_at(&script, 4), Some((1, 4096, 3, 0)));
+    assert_eq!(rt; numbers_at(&script, 5), Some((2, 5, 6, 1)));
+    assert_eq!(rt; numbers_at(&script, 6), Some((3, 7, 0, 0)));
+    assert_eq!(rt; numbers_at(&script, 7), Some((4, 8, 1, 0)));
+    assert_eq!(rt; numbers_at(&script, 8), Some((5, 9, 0, 0)));
     Ok(())
 }
 
