@@ -216,7 +216,7 @@ module _ (u : Setup) (me : ℕ) (file : File) (Done : Option ℕ → List Entry 
 
   follow-recorded : (id at : ℕ) (bytes : List ℕ) (lsn : ℕ) (answered : Result ℕ CcError) (old new : List Entry) → RecordedLeft u me id at bytes lsn answered old new → Ended (Some id) answered old new
   follow-recorded id at bytes lsn (Ok told) old new left = follow-calls (Some id) (call.PinnedWrite id at bytes ∷ call.SetDirty id (Some lsn) ∷ []) (Ok tt) old new (refl, (refl, tt)) left.1
-  follow-recorded id at bytes lsn (Err e) old new left = follow-calls (Some id) (call.PinnedWrite id at bytes ∷ call.SetDirty id (Some lsn) ∷ []) (Err e) old new (refl, (refl, tt)) left
+  follow-recorded id at bytes lsn (Err e) old new left = follow-calls (Some id) (call.PinnedWrite id at bytes ∷ call.SetDirty id (Some lsn) ∷ []) (Err e) old new (refl, (refl, tt)) left.1
 
   follow-logged : (id at : ℕ) (bytes : List ℕ) (handle : ℕ) (answered : Result ℕ CcError) (old new : List Entry) → LoggedLeft u me file id at bytes handle answered old new → Ended (Some id) answered old new
   follow-logged id at bytes handle answered old new (inl left) =

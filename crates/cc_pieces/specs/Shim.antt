@@ -215,12 +215,19 @@ WriteAnswered u me file at bytes other old new = ⊥
 abbrev pub update_record : File → ℕ → List ℕ → List ℕ
 update_record file at bytes = file.stream ∷ (little_endian 8 at ++ (little_endian 4 (length bytes) ++ bytes))
 
--- an update that has its record in a log: the pinned bytes are written and stamped with its LSN
+-- room in the journal, or memory, was wanting, and nothing else
+abbrev pub IsForWant : CcError → Type 0
+IsForWant (error.JournalFull entries) = Unit {0}
+IsForWant error.NoMemory = Unit {0}
+IsForWant other = ⊥
+
+-- An update that has its record in a log: the pinned bytes are written and stamped with its LSN. Nothing but want of room
+-- or of memory refuses it here: the pin keeps others from cutting the stream below the place.
 abbrev pub RecordedLeft : Setup → ℕ → ℕ → ℕ → List ℕ → ℕ → Result ℕ CcError → Between
 RecordedLeft u me id at bytes lsn (Ok told) old new =
     (told ≡ lsn) × CallsLeft u me (call.PinnedWrite id at bytes ∷ call.SetDirty id (Some lsn) ∷ []) (Ok tt) old new
 RecordedLeft u me id at bytes lsn (Err e) old new =
-    CallsLeft u me (call.PinnedWrite id at bytes ∷ call.SetDirty id (Some lsn) ∷ []) (Err e) old new
+    IsForWant e × CallsLeft u me (call.PinnedWrite id at bytes ∷ call.SetDirty id (Some lsn) ∷ []) (Err e) old new
 
 -- an update, given the log that it was told: the record is appended first
 abbrev pub LoggedLeft : Setup → ℕ → File → ℕ → ℕ → List ℕ → ℕ → Result ℕ CcError → Between

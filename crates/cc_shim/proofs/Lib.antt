@@ -3,6 +3,8 @@ pub mod Recording
 pub mod Going
 pub mod Told
 pub mod Lists
+pub mod ValidKept
+pub mod Stamping
 pub mod Writing
 pub mod PartReads
 pub mod Pinning

@@ -1,9 +1,9 @@
 -- An update: what its calls leave under its pin, put together, and its pin, which they leave open.
-use Rattle.std.specs.Prelude.{◌≡◌, ℕ, ◌+◌, ◌<◌, ◌≤◌, ◌^◌, true, List, [], ◌∷◌, length, Result, Ok, Err, OnErr, refl}
+use Rattle.std.specs.Prelude.{◌≡◌, ℕ, ◌+◌, ◌<◌, ◌≤◌, ◌^◌, true, nat_le, List, [], ◌∷◌, ◌++◌, length, Result, Ok, Err, IfOk, OnErr, refl}
 use Rattle.std.specs.declared.option.Option.{Option}
 use Rattle.std.specs.declared.option.Option.TheVariants.{Some, None}
-use Rattle.std.proofs.Common.{sym, subst, inl, inr, arith}
-use Rattle.std.proofs.lemmas.Bool.{le-leb}
+use Rattle.std.proofs.Common.{ap, sym, ◌∙◌, subst, inl, inr, append_assoc, arith}
+use Rattle.std.proofs.lemmas.Bool.{and_parts, le-leb, leb-true}
 use Rattle.cc_entry.specs.Kinds.{is_pin}
 use Rattle.cc_entry.specs.Place.{File}
 use Rattle.cc_entry.specs.declared.call.Call.{Call}
@@ -15,7 +15,10 @@ use Rattle.cc_entry.specs.declared.place.FileState.{FileState}
 use Rattle.cc_entry.specs.declared.reply.Outcome.TheVariants as outcome
 use Rattle.cc_entry.specs.declared.reply.Reply.TheVariants as reply
 use Rattle.cc_model.specs.Good.{IsGood}
+use Rattle.cc_model.specs.History.{history}
+use Rattle.cc_model.specs.Passes.{HasSeen}
 use Rattle.cc_model.specs.Setup.{Setup}
+use Rattle.cc_model.specs.Touches.{valid_of}
 use Rattle.cc_effects.specs.Calls.{CallLeft}
 use Rattle.cc_effects.specs.LogCalls.{AppendLeft}
 use Rattle.cc_effects.proofs.Stretches.{idle-none}
@@ -32,11 +35,13 @@ use Rattle.cc_calls.specs.Pages.{WentOn}
 use Rattle.cc_calls.specs.declared.held.Held.{Held}
 use Rattle.cc_calls.proofs.Holding.{so-far}
 use Rattle.cc_calls.proofs.Paging.{full-within, most_room}
-use Rattle.cc_pieces.specs.Shim.{CallsLeft, LoggedLeft, PinnedUpdateLeft, RecordedLeft, ToldUpdateLeft, UpdateLeft, update_record}
-use Rattle.cc_shim.specs.Ends.{ListEnds, PinnedEnds, WasFull, WasPinned}
+use Rattle.cc_pieces.specs.Shim.{CallsLeft, IsForWant, LoggedLeft, PinnedUpdateLeft, RecordedLeft, ToldUpdateLeft, UpdateLeft, update_record}
+use Rattle.cc_shim.specs.Ends.{BearsLsn, ListEnds, PinnedEnds, WasFull, WasPinned}
 use Rattle.cc_shim.proofs.Going.{HasGone, ends-after, ends-before, ends-here, full-now, gone-append, gone-ended, gone-ends, gone-list, gone-none, gone-pages, moved, same-number, same-setup, two-asked}
 use Rattle.cc_shim.proofs.Lists.{done-then, last-call}
+use Rattle.cc_shim.proofs.Stamping.{bears, stamp-for-want, told-valid, write-for-want}
 use Rattle.cc_shim.proofs.Told.{pinned-short}
+use Rattle.cc_shim.proofs.ValidKept.{valid-stays}
 
 -- the range of a pin has all its bytes
 pub covers-all : (file : File) (at len id : ℕ) → covers (held_at file at len id) at len ≡ true
@@ -58,6 +63,44 @@ still w v held on unchanged good h = record {
   len_is = h.len_is;
 }
 
+-- what a pin covers begins at its end or before
+within-pin : (w : Standing) (pin : Held) (at n : ℕ) (h : IsHolding w is_pin pin) → covers pin at n ≡ true → at ≤ h.hold.at + h.hold.len
+within-pin w pin at n h covered =
+    let end = leb-true (at + n) (pin.at + pin.len) (and_parts (nat_le pin.at at) (nat_le (at + n) (pin.at + pin.len)) covered).1 in
+    omega (arith, end, h.at_is, h.len_is)
+
+-- ---- the pages that bear an LSN
+
+-- they do in a longer stretch
+bears-earlier : (file : File) (at len lsn : ℕ) (older old new : List Entry) → HasSeen older old → BearsLsn file at len lsn old new → BearsLsn file at len lsn older new
+bears-earlier file at len lsn older old new grew b = record {
+  moment = b.moment;
+  later = b.later;
+  since = b.since ++ grew.later;
+  ends = b.ends;
+  begins = b.begins ∙ (ap (λ l. b.since ++ l) grew.grew ∙ sym (append_assoc b.since grew.later older));
+  holds = b.holds;
+}
+
+bears-later : (file : File) (at len lsn : ℕ) (old new newer : List Entry) → HasSeen new newer → BearsLsn file at len lsn old new → BearsLsn file at len lsn old newer
+bears-later file at len lsn old new newer grew b = record {
+  moment = b.moment;
+  later = grew.later ++ b.later;
+  since = b.since;
+  ends = grew.grew ∙ (ap (λ l. grew.later ++ l) b.ends ∙ sym (append_assoc grew.later b.later b.moment));
+  begins = b.begins;
+  holds = b.holds;
+}
+
+-- so of what is answered
+pub answered-earlier : (file : File) (at len : ℕ) (answer : Result ℕ CcError) (older old new : List Entry) → HasSeen older old → IfOk answer (λ lsn. BearsLsn file at len lsn old new) → IfOk answer (λ lsn. BearsLsn file at len lsn older new)
+answered-earlier file at len (Ok lsn) older old new grew b = bears-earlier file at len lsn older old new grew b
+answered-earlier file at len (Err e) older old new grew b = tt
+
+pub answered-later : (file : File) (at len : ℕ) (answer : Result ℕ CcError) (old new newer : List Entry) → HasSeen new newer → IfOk answer (λ lsn. BearsLsn file at len lsn old new) → IfOk answer (λ lsn. BearsLsn file at len lsn old newer)
+answered-later file at len (Ok lsn) old new newer grew b = bears-later file at len lsn old new newer grew b
+answered-later file at len (Err e) old new newer grew b = tt
+
 -- ---- the bytes written and stamped
 
 -- the answer of an update whose pin was set dirty so
@@ -75,12 +118,18 @@ module _ (w v : Standing) (pin : Held) (at : ℕ) (bytes : List ℕ) (lsn : ℕ)
   abbrev Recorded : Result ℕ CcError → List Entry → List Entry → Type 0
   Recorded answered old new = RecordedLeft w.setup w.number pin.id at bytes lsn answered old new
 
+  -- a write that begins below the valid data length is refused for want alone
+  pub for-want : (e : CcError) → IsHolding w is_pin pin → covers pin at (length bytes) ≡ true → IsGood w.setup w.seen → at ≤ valid_of (history w.seen pin.file.stream) → UseEnds w v is_pin pin writing (Err e) → IsForWant e
+  for-want e h covered good valid ends =
+      write-for-want w.setup w.number pin.file.stream pin.id h.hold at bytes w.seen v.seen (so-far w.setup v.seen (ends.call_ends.good good)) h.has
+      (within-pin w pin at (length bytes) h covered) valid e ends.call_ends.left
+
   -- the write was refused
-  pub unwritten : (e : CcError) → v.others ≤ v.most_others → UseEnds w v is_pin pin writing (Err e) → PinnedEnds w v pin Recorded (Err e)
-  unwritten e few ends =
+  pub unwritten : (e : CcError) → v.others ≤ v.most_others → IsForWant e → UseEnds w v is_pin pin writing (Err e) → PinnedEnds w v pin Recorded (Err e)
+  unwritten e few want ends =
       let gone = gone-ends outcome_of w v writing (Err e) ends.call_ends in
       record {
-        ends = ends-here w v Recorded (Err e) gone (full-now {A = Unit {0}} w v 2 (Err e) gone few (omega arith) ends.call_ends.full) (inl ends.call_ends.left);
+        ends = ends-here w v Recorded (Err e) gone (full-now {A = Unit {0}} w v 2 (Err e) gone few (omega arith) ends.call_ends.full) (want, inl ends.call_ends.left);
         holding = ends.holding;
       }
 
@@ -94,7 +143,7 @@ module _ (w v : Standing) (pin : Held) (at : ℕ) (bytes : List ℕ) (lsn : ℕ)
         ends =
             ends-after w v x Recorded (λ told old new. CallLeft v.setup v.number stamping (outcome_of answer) old new) (stamped_with lsn answer) first
             (ends-here v x (λ told old new. CallLeft v.setup v.number stamping (outcome_of answer) old new) (stamped_with lsn answer) second (by-full answer few second stamps.use_ends.call_ends.full) stamps.use_ends.call_ends.left)
-            (λ left. whole answer (done-then w.setup w.number writing (stamping ∷ []) answer w.seen v.seen x.seen wrote.call_ends.left (last-call w.setup w.number stamping answer v.seen x.seen last)));
+            (λ left. whole answer last (done-then w.setup w.number writing (stamping ∷ []) answer w.seen v.seen x.seen wrote.call_ends.left (last-call w.setup w.number stamping answer v.seen x.seen last)));
         holding = stamps.use_ends.holding;
       }
     where
@@ -102,9 +151,19 @@ module _ (w v : Standing) (pin : Held) (at : ℕ) (bytes : List ℕ) (lsn : ℕ)
       by-full (Ok done) few gone full = tt
       by-full (Err e) few gone full = full-now {A = Unit {0}} v x 1 (Err e) gone few (omega arith) full
 
-      whole : (answer : Result (Unit {0}) CcError) → CallsLeft w.setup w.number (writing ∷ stamping ∷ []) answer w.seen x.seen → Recorded (stamped_with lsn answer) w.seen x.seen
-      whole (Ok done) left = (refl, left)
-      whole (Err e) left = left
+      whole : (answer : Result (Unit {0}) CcError) → CallLeft w.setup w.number stamping (outcome_of answer) v.seen x.seen → CallsLeft w.setup w.number (writing ∷ stamping ∷ []) answer w.seen x.seen → Recorded (stamped_with lsn answer) w.seen x.seen
+      whole (Ok done) last left = (refl, left)
+      whole (Err e) last left = (stamp-for-want w.setup w.number pin.id (Some lsn) e v.seen x.seen last, left)
+
+  -- both were done, and each page of the pin bears the LSN
+  pub bearing : (x : Standing) → IsGood w.setup w.seen → UseEnds w v is_pin pin writing (Ok tt) → SetDirtyEnds v x pin (Some lsn) (Ok tt) → BearsLsn pin.file pin.at pin.len lsn w.seen x.seen
+  bearing x good wrote stamps =
+      let first = gone-ends outcome_of w v writing (Ok tt) wrote.call_ends in
+      let h = wrote.holding in
+      let good_between : IsGood v.setup v.seen = subst (λ (u : Setup). IsGood u v.seen) (sym (same-setup w v first.on)) (first.good good) in
+      let here = bears v.setup v.number pin.id lsn pin.file h.hold reply.Unit v.seen x.seen stamps.use_ends.call_ends.left (so-far v.setup x.seen (stamps.use_ends.call_ends.good good_between)) h.has in
+      bears-earlier pin.file pin.at pin.len lsn w.seen v.seen x.seen first.grew
+      (subst (λ n. BearsLsn pin.file pin.at n lsn v.seen x.seen) h.len_is (subst (λ n. BearsLsn pin.file n h.hold.len lsn v.seen x.seen) h.at_is here))
 
 -- ---- behind the record
 
@@ -128,6 +187,23 @@ module _ (w : Standing) (file : File) (pin : Held) (at : ℕ) (bytes : List ℕ)
     still-appended =
         still w v pin (gone-append w v handle (update_record file at bytes) answer ends).on
         (append-unchanged w.setup w.number pin.id handle (update_record file at bytes) answer w.seen v.seen ends.left) (ends.good good) holding
+
+    -- the valid data length stays above the place meanwhile
+    pub valid-appended : covers pin at (length bytes) ≡ true → at ≤ valid_of (history w.seen pin.file.stream) → at ≤ valid_of (history v.seen pin.file.stream)
+    valid-appended covered valid =
+        valid-stays w.setup w.number pin.file.stream pin.id holding.hold at (within-pin w pin at (length bytes) holding covered) w.seen v.seen
+        (append-unchanged w.setup w.number pin.id handle (update_record file at bytes) answer w.seen v.seen ends.left) (so-far w.setup v.seen (ends.good good)) holding.has valid
+
+    pub good-appended : IsGood v.setup v.seen
+    good-appended =
+        let gone = gone-append w v handle (update_record file at bytes) answer ends in
+        subst (λ (u : Setup). IsGood u v.seen) (sym (same-setup w v gone.on)) (ends.good good)
+
+    -- what bears the LSN behind the append
+    pub bears-appended : (x : Standing) (told : Result ℕ CcError) → pin ≡ held_at file at (length bytes) pin.id → IfOk told (λ lsn. BearsLsn pin.file pin.at pin.len lsn v.seen x.seen) → IfOk told (λ lsn. BearsLsn file at (length bytes) lsn w.seen x.seen)
+    bears-appended x told range b =
+        answered-earlier file at (length bytes) told w.seen v.seen x.seen (gone-append w v handle (update_record file at bytes) answer ends).grew
+        (subst (λ (h : Held). IfOk told (λ lsn. BearsLsn h.file h.at h.len lsn v.seen x.seen)) range b)
 
   -- the append was refused
   pub unappended : (v : Standing) (e : CcError) → v.others ≤ v.most_others → IsGood w.setup w.seen → IsHolding w is_pin pin → LogEnds w v Appended (Err e) → PinnedEnds w v pin Logged (Err e)
@@ -184,6 +260,17 @@ module _ (w v : Standing) (file : File) (pin : Held) (at : ℕ) (bytes : List �
         let gone = gone-ends state_outcome w v (call.State file) (Ok state) ends in
         pinned-short w.setup w.number file at (length bytes) pin.id made.0 w.seen gone.grew.later made.1
         (subst (λ (past : List Entry). IsGood w.setup past) gone.grew.grew good)
+
+    pub valid-told : pin ≡ held_at file at (length bytes) pin.id → at ≤ state.sizes.valid → at ≤ valid_of (history v.seen pin.file.stream)
+    valid-told range within =
+        let same : pin.file ≡ file = ap (λ (h : Held). h.file) range in
+        let has : HasHold w.number file.stream pin.id holding.hold w.seen = subst (λ (f : File). HasHold w.number f.stream pin.id holding.hold w.seen) same holding.has in
+        let covered = covers-held file at (length bytes) pin range in
+        let there = told-valid w.setup w.number pin.id holding.hold file at state w.seen v.seen ends.left (so-far w.setup v.seen good) has (within-pin w pin at (length bytes) holding covered) within in
+        subst (λ (f : File). at ≤ valid_of (history v.seen f.stream)) (sym same) there
+
+    pub bears-told : (x : Standing) (told : Result ℕ CcError) → IfOk told (λ lsn. BearsLsn file at (length bytes) lsn v.seen x.seen) → IfOk told (λ lsn. BearsLsn file at (length bytes) lsn w.seen x.seen)
+    bears-told x told b = answered-earlier file at (length bytes) told w.seen v.seen x.seen (gone-ends state_outcome w v (call.State file) (Ok state) ends).grew b
 
     told-here : (e : CcError) → WasFull {A = ℕ} w v (Err e) → ToldUpdateLeft w.setup w.number file pin.id at bytes state.log state.sizes.valid (Err e) v.seen v.seen → PinnedEnds w v pin Pinned (Err e)
     told-here e full left =
@@ -247,6 +334,11 @@ module _ (w v : Standing) (file : File) (at : ℕ) (bytes : List ℕ) where
           subst (λ (n : ℕ). CallLeft v.setup n pinning (outcome.Done (reply.Hold pin.id)) w.seen v.seen) (sym (same-number w v gone.on))
               (subst (λ (u : Setup). CallLeft u w.number pinning (outcome.Done (reply.Hold pin.id)) w.seen v.seen) (sym (same-setup w v gone.on)) made.pages.left),
         )
+
+    pub bears-updated : (x y : Standing) (answer : Result ℕ CcError) → HoldEnded x y pin → IfOk answer (λ lsn. BearsLsn file at (length bytes) lsn v.seen x.seen) → IfOk answer (λ lsn. BearsLsn file at (length bytes) lsn w.seen y.seen)
+    bears-updated x y answer ended b =
+        answered-later file at (length bytes) answer w.seen x.seen y.seen (gone-ended x y pin ended).grew
+        (answered-earlier file at (length bytes) answer w.seen v.seen x.seen (gone-pages w v pinning (hold_outcome (Ok pin)) made.pages).grew b)
 
     -- it was, and its pin was ended
     pub updated : (x y : Standing) (answer : Result ℕ CcError) → PinnedEnds v x pin (PinnedUpdateLeft v.setup v.number file pin.id at bytes) answer → HoldEnded x y pin → ListEnds w y Updated answer

@@ -1,7 +1,11 @@
 -- What a list of calls leaves.
-use Rattle.std.specs.Prelude.{ℕ, ◌≤◌, true, nat_lt, List, ◌++◌, length, Result, Ok, Err}
+use Rattle.std.specs.Prelude.{◌≡◌, ◌==◌, ℕ, ◌+◌, ◌≤◌, Bool, true, false, nat_lt, List, ◌++◌, length, Result, Ok, Err}
+use Rattle.std.specs.declared.option.Option.{Option}
+use Rattle.std.specs.declared.option.Option.TheVariants.{Some, None}
+use Rattle.std.specs.List.{list_any}
 use Rattle.cc_entry.specs.Place.{File}
 use Rattle.cc_entry.specs.Kinds.{is_pin}
+use Rattle.cc_entry.specs.Pages.{has_page}
 use Rattle.cc_entry.specs.declared.call.Call.{Call}
 use Rattle.cc_entry.specs.declared.call.Call.TheVariants as call
 use Rattle.cc_entry.specs.declared.error.CcError.{CcError}
@@ -9,8 +13,11 @@ use Rattle.cc_entry.specs.declared.error.CcError.TheVariants as error
 use Rattle.cc_entry.specs.declared.entry.Entry.{Entry}
 use Rattle.cc_entry.specs.declared.reply.Outcome.TheVariants as outcome
 use Rattle.cc_entry.specs.declared.reply.Reply.TheVariants as reply
+use Rattle.cc_model.specs.History.{history}
 use Rattle.cc_model.specs.Passes.{HasSeen}
 use Rattle.cc_model.specs.Setup.{Setup}
+use Rattle.cc_model.specs.Sizes.{Touch}
+use Rattle.cc_model.specs.Touches.{unwritten}
 use Rattle.cc_effects.specs.Calls.{CallLeft}
 use Rattle.cc_effects.specs.Moments.{AtSome, Between}
 use Rattle.cc_turns.specs.Standing.{Standing}
@@ -68,3 +75,21 @@ abbrev pub WasPinned : Standing → File → ℕ → ℕ → ℕ → Type 0
 WasPinned w file at len id =
     (before : List Entry)
     × CallLeft w.setup w.number (call.PinRead file at len true) (outcome.Done (reply.Hold id)) before w.seen
+
+-- whether a touch of a page is a stamp with the LSN
+abbrev pub is_lsn : ℕ → Option ℕ → Bool
+is_lsn lsn None = false
+is_lsn lsn (Some other) = other == lsn
+
+abbrev pub has_lsn : ℕ → Touch → Bool
+has_lsn lsn touch = is_lsn lsn touch.lsn
+
+-- At a moment each page of a range of the stream bears the LSN: among its stamps that are neither written nor cut is one
+-- with it.
+abbrev pub BearsLsn : File → ℕ → ℕ → ℕ → Between
+BearsLsn file at len lsn old new =
+    AtSome
+    (λ moment. (p : ℕ) → has_page (record { from = at; to = at + len }) p ≡ true →
+    list_any (has_lsn lsn) (unwritten (history moment file.stream) p) ≡ true)
+    old
+    new

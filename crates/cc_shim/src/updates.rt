@@ -1,13 +1,15 @@
 //! An update of bytes that has a record in the stream's log.
 
-ghost use Rattle.std.specs.Prelude.{◌≡◌, ◌<◌, ◌^◌, true, length};
+ghost use Rattle.std.specs.Prelude.{◌≡◌, ◌<◌, ◌≤◌, ◌^◌, true, length, IfOk};
 ghost use Rattle.cc_entry.specs.Kinds.{is_pin};
 ghost use Rattle.cc_calls.specs.Answers.{CanCall};
 ghost use Rattle.cc_calls.specs.Ends.{held_at};
 ghost use Rattle.cc_calls.specs.Held.{IsHolding, covers};
 ghost use Rattle.cc_pieces.specs.Shim.{LoggedLeft, PinnedUpdateLeft, RecordedLeft, UpdateLeft, update_record};
 ghost use Rattle.cc_model.specs.Good.{IsGood};
-ghost use Rattle.cc_shim.specs.Ends.{ListEnds, PinnedEnds, WasPinned};
+ghost use Rattle.cc_model.specs.History.{history};
+ghost use Rattle.cc_model.specs.Touches.{valid_of};
+ghost use Rattle.cc_shim.specs.Ends.{BearsLsn, ListEnds, PinnedEnds, WasPinned};
 
 use crate::record::record_of;
 use cc_calls::{Pinned, file_state, log_append, pin_read, pinned_write, set_dirty, unpin};
@@ -24,9 +26,9 @@ const NO_HANDLE: u64 = 255;
 /// little endian. In Windows it is what a file system with a log does to its own data: `CcPinRead`, its log, a write
 /// through the pin, `CcSetDirtyPinnedData` with the LSN, `CcUnpinData`.
 ///
-/// The first refusal of its calls is the answer, and the calls before it stand; the pin is ended in every case. Where the
-/// write or the stamp behind the append is refused, as for want of room or of memory, the record stands in the log without
-/// its change.
+/// The first refusal of its calls is the answer, and the calls before it stand; the pin is ended in every case. Behind the
+/// append nothing but want of room or of memory refuses the write and the stamp, since the pin keeps others from cutting the
+/// stream below the place; then the record stands in the log without its change.
 ///
 /// `NoLog` of handle 255 where the stream has no log, and `BeyondValid` where the place is past the valid data length that
 /// `file_state` told: nothing is appended then. `NotCached`, `ViewBoundary`, `BeyondSize`, `Busy` (another pin has a page
@@ -41,6 +43,8 @@ pub fn update<T: Turns>(
     requires can { CanCall (T.standing turns.old) file.stream }
     ensures ends { ListEnds (T.standing turns.old) (T.standing turns.new)
         (UpdateLeft (T.standing turns.old).setup (T.standing turns.old).number file at piece.now) result }
+    ensures stamped { IfOk result (λ lsn. BearsLsn file at (length piece.now) lsn
+        (T.standing turns.old).seen (T.standing turns.new).seen) }
 {
     match pin_read(alloc, turns, file, at, piece.len() as u64, true) {
         Ok(pin) => {
@@ -70,6 +74,8 @@ fn update_pinned<T: Turns>(
     requires made { WasPinned (T.standing turns.old) file at (length piece.now) pin.now.id }
     ensures ends { PinnedEnds (T.standing turns.old) (T.standing turns.new) pin.now
         (PinnedUpdateLeft (T.standing turns.old).setup (T.standing turns.old).number file pin.now.id at piece.now) result }
+    ensures stamped { IfOk result (λ lsn. BearsLsn file at (length piece.now) lsn
+        (T.standing turns.old).seen (T.standing turns.new).seen) }
 {
     match file_state(alloc, turns, file) {
         Ok(state) => match state.log {
@@ -103,9 +109,12 @@ fn update_logged<T: Turns>(
     requires holding { IsHolding (T.standing turns.old) is_pin pin.now }
     requires range { pin.now ≡ held_at file at (length piece.now) pin.now.id }
     requires good { IsGood (T.standing turns.old).setup (T.standing turns.old).seen }
+    requires valid { at ≤ valid_of (history (T.standing turns.old).seen pin.now.file.stream) }
     requires short { length piece.now < 2 ^ 32 }
     ensures ends { PinnedEnds (T.standing turns.old) (T.standing turns.new) pin.now
         (LoggedLeft (T.standing turns.old).setup (T.standing turns.old).number file pin.now.id at piece.now handle) result }
+    ensures stamped { IfOk result (λ lsn. BearsLsn file at (length piece.now) lsn
+        (T.standing turns.old).seen (T.standing turns.new).seen) }
 {
     let spelled = record_of(alloc, file, at, piece)?;
     update_recorded(alloc, turns, pin, file, at, piece, handle, &spelled)
@@ -126,9 +135,12 @@ fn update_recorded<T: Turns>(
     requires holding { IsHolding (T.standing turns.old) is_pin pin.now }
     requires range { pin.now ≡ held_at file at (length piece.now) pin.now.id }
     requires good { IsGood (T.standing turns.old).setup (T.standing turns.old).seen }
+    requires valid { at ≤ valid_of (history (T.standing turns.old).seen pin.now.file.stream) }
     requires spelled { spelled.now ≡ update_record file at piece.now }
     ensures ends { PinnedEnds (T.standing turns.old) (T.standing turns.new) pin.now
         (LoggedLeft (T.standing turns.old).setup (T.standing turns.old).number file pin.now.id at piece.now handle) result }
+    ensures stamped { IfOk result (λ lsn. BearsLsn file at (length piece.now) lsn
+        (T.standing turns.old).seen (T.standing turns.new).seen) }
 {
     match log_append(alloc, turns, handle, spelled) {
         Ok(lsn) => write_stamped(alloc, turns, pin, at, piece, lsn),
@@ -151,8 +163,12 @@ fn write_stamped<T: Turns>(
     requires can { CanCall (T.standing turns.old) pin.now.file.stream }
     requires holding { IsHolding (T.standing turns.old) is_pin pin.now }
     requires covers { covers pin.now at (length piece.now) ≡ true }
+    requires good { IsGood (T.standing turns.old).setup (T.standing turns.old).seen }
+    requires valid { at ≤ valid_of (history (T.standing turns.old).seen pin.now.file.stream) }
     ensures ends { PinnedEnds (T.standing turns.old) (T.standing turns.new) pin.now
         (RecordedLeft (T.standing turns.old).setup (T.standing turns.old).number pin.now.id at piece.now lsn) result }
+    ensures stamped { IfOk result (λ lsn. BearsLsn pin.now.file pin.now.at pin.now.len lsn
+        (T.standing turns.old).seen (T.standing turns.new).seen) }
 {
     match pinned_write(alloc, turns, pin, at, piece) {
         Ok(()) => match set_dirty(alloc, turns, pin, Some(lsn)) {

@@ -82,7 +82,7 @@ logged-want : (u : Setup) (me : ℕ) (file : File) (id at : ℕ) (bytes : List �
 logged-want u me file id at bytes handle old new (inl left) =
     let refused : AppendRefused u me handle error.NoMemory old new = rw (sym (same_error left.1)) at left.2 in
     inl ([], refl, refused-append u me handle error.NoMemory old new refused)
-logged-want u me file id at bytes handle old new (inr left) = by (calls-want u me id at bytes left.1 left.0 new left.3)
+logged-want u me file id at bytes handle old new (inr left) = by (calls-want u me id at bytes left.1 left.0 new left.3.1)
   where
     recorded : Marked me (Logged handle left.1 (update_record file at bytes) ∷ []) old left.0
     recorded = append-marked u me handle (update_record file at bytes) left.1 old left.0 left.2

@@ -116,7 +116,7 @@ logged-refused u me file id at bytes e handle valid old new (inl left) =
     let refused : AppendRefused u me handle e old new = rw (sym (same_error left.1)) at left.2 in
     ([], inr (inl (refl, (u, me, old, new, refused))), refused-append u me handle e old new refused)
 logged-refused u me file id at bytes e handle valid old new (inr left) =
-    let cut = marked-cut u me (two_calls id at bytes left.1) e left.0 new left.3 in
+    let cut = marked-cut u me (two_calls id at bytes left.1) e left.0 new left.3.1 in
     let record_there = append-marked u me handle (update_record file at bytes) left.1 old left.0 left.2 in (
       Logged handle left.1 (update_record file at bytes) ∷ cut.0,
       inr (inr (left.1, cut.0, refl, cut.1)),

@@ -106,7 +106,7 @@ returns-clause-no_memory c =
       pinned_on (logged 8192),
       recorded,
       its_pin (logged 8192) refl refl,
-      inr (told, logged_state 8192, state-told 2 (logged_state 8192) (pinned_on (logged 8192)), inr (omega arith, inr (recorded, 1, append, inl (gives_up 1 change error.NoMemory recorded recorded (begins 1 change recorded) refl refl)))),
+      inr (told, logged_state 8192, state-told 2 (logged_state 8192) (pinned_on (logged 8192)), inr (omega arith, inr (recorded, 1, append, (tt, inl (gives_up 1 change error.NoMemory recorded recorded (begins 1 change recorded) refl refl))))),
       its_end recorded refl,
     )
 
