@@ -12,6 +12,8 @@ mod ahead;
 #[cfg(test)]
 mod board;
 #[cfg(test)]
+mod deferrals;
+#[cfg(test)]
 mod desk;
 #[cfg(test)]
 mod devices;
