@@ -22,6 +22,8 @@ pub struct Case {
     pub troubles: Vec<Trouble>,
     pub orders: Vec<(Event, Event)>,
     pub works: Vec<Work>,
+    /// How many runs are made at most, until one leaves what is wanted.
+    pub tries: u64,
     pub sweep: Option<Sweep>,
     /// What has to hold in each run.
     pub wants: Vec<Want>,
@@ -47,6 +49,7 @@ impl Case {
             troubles: Vec::new(alloc),
             orders: Vec::new(alloc),
             works: Vec::new(alloc),
+            tries: 1,
             sweep: None,
             wants: Vec::new(alloc),
             at: Vec::new(alloc),

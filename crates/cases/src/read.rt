@@ -47,7 +47,7 @@ fn read_line(alloc: Global, case: &mut Case, lines: &mut Lines, line: &str) -> R
         "devices" | "at" => read_trouble(alloc, case, first, &mut words),
         "text" | "begins" | "ends" | "has" | "lacks" => read_text(case, lines, first, &mut words),
         "each" => read_each(case, lines, &mut words),
-        "words" | "disks" | "logs" | "routines" | "script" | "sweep" => {
+        "words" | "disks" | "logs" | "routines" | "script" | "sweep" | "tries" => {
             read_setup(alloc, case, lines, first, &mut words)
         }
         "during" => read_during(case, &mut words),
@@ -106,6 +106,7 @@ fn read_setup(
         "disks" => case.disks = disks(alloc, words.last_number()?)?,
         "logs" => case.logs = logs(alloc, words.last_number()?)?,
         "routines" => case.routines = words.last_number()?,
+        "tries" => case.tries = words.last_number()?,
         "sweep" => case.sweep = Some(sweep_of(words)?),
         _ => case.script = read_script(alloc, lines, words)?,
     }

@@ -1,4 +1,5 @@
-//! The runs of a case: one, or those of a sweep, in each of which one more call has trouble.
+//! The runs of a case: one, or as many as it takes until one shows what is wanted, or those of a sweep, in each of which one
+//! more call has trouble.
 
 use crate::case::{Case, Sweep, Want};
 use crate::expect::{check_failures, check_run, check_status, check_wants, was_reached};
@@ -22,7 +23,7 @@ pub fn run_case<R: Threads + Wait + Sync>(
     script: &str,
 ) -> Result<Option<usize>> {
     let Some(sweep) = case.sweep else {
-        run_with(rt, alloc, case, script, None)?;
+        run_until_shown(rt, alloc, case, script)?;
         return Ok(None);
     };
     let mut made = Vec::new(alloc);
@@ -34,6 +35,22 @@ pub fn run_case<R: Threads + Wait + Sync>(
         ensure!(made.contains(trouble), "never reached: {trouble}");
     }
     Ok(Some(made.len()))
+}
+
+/// Makes runs until one leaves what is wanted. Where none of those does that a case may have, it is told of the last.
+fn run_until_shown<R: Threads + Wait + Sync>(
+    rt: &R,
+    alloc: Global,
+    case: &Case,
+    script: &str,
+) -> Result<()> {
+    for _ in 1..case.tries {
+        if run_with(rt, alloc, case, script, None).is_ok() {
+            return Ok(());
+        }
+    }
+    run_with(rt, alloc, case, script, None)?;
+    Ok(())
 }
 
 /// The first trouble of each kind that a sweep makes.
