@@ -12,7 +12,7 @@ use Rattle.cc_model.specs.Reasons.{past_size}
 use Rattle.cc_model.specs.Touches.{size_of}
 use Rattle.cc_step.specs.Step.{least_absent}
 use Rattle.cc_step.proofs.Within.{whole-cut}
-use Rattle.cc_step.proofs.steps.absent.Goals as goal
+use Rattle.cc_step.proofs.steps.absent_in_range.Goals as goal
 
 -- the least absent page of a call whose range is whole
 whole : (h : List Effect) (it : Call) (at n : ℕ) (page : Option ℕ) → range_of (size_of h) it ≡ Some (whole_range at n) → past_size (size_of h) (at + n) ≡ None → page ≡ least_absent h (Some (cut_range (size_of h) at n)) → page ≡ least_absent h (range_of (size_of h) it)
@@ -68,3 +68,7 @@ returns-in-MdlWrite c u opening past stands admitted =
     let it = call.MdlWrite c.in-MdlWrite.file c.in-MdlWrite.at c.in-MdlWrite.len in
     let free = unrefused u past h it (rw c.in-MdlWrite.is at admitted) in
     rw c.in-MdlWrite.is (whole h it c.in-MdlWrite.at c.in-MdlWrite.len c.absent_below-in-MdlWrite.result refl free.within_size (c.absent_below-in-MdlWrite.ensures opening past stands))
+
+pub returns-in-AheadStep : goal.returns-in-AheadStep
+returns-in-AheadStep c u opening past stands admitted =
+    rw c.in-AheadStep.is (c.absent_below-in-AheadStep.ensures opening past stands)
