@@ -1,5 +1,5 @@
 -- What a call for read-ahead leaves: of the journal in hand, of the visit, and of the turn of its stream's book.
-use Rattle.std.specs.Prelude.{◌≡◌, ℕ, ◌+◌, ◌-◌, ◌<◌, ◌≤◌, ◌⊎◌, List, ◌∷◌, length, Option, None, Some, Result, Ok, Err, refl}
+use Rattle.std.specs.Prelude.{◌≡◌, ℕ, Bool, true, is_some, IfOk, IfErr, ◌+◌, ◌-◌, ◌<◌, ◌≤◌, ◌⊎◌, List, [], ◌∷◌, length, Option, None, Some, Result, Ok, Err, refl}
 use Rattle.std.proofs.Common.{ap, sym, ◌∙◌, subst, arith, inl, inr}
 use Rattle.cc_entry.specs.Place.{File}
 use Rattle.cc_entry.specs.declared.call.Call.{Call}
@@ -27,7 +27,9 @@ use Rattle.cc_step.specs.Step.{AddsOwing, AttemptDone, IsStop, MayStep, StandUnd
 use Rattle.cc_step.proofs.Attempts.{adds-owing, adds-reserving, failed-owing, forgone-within, forgoing, reserving}
 use Rattle.cc_step.proofs.Placed.{good-call, good-done, good-failed, so-far}
 use Rattle.cc_step.proofs.PlacedPages.{stand-onto}
-use Rattle.cc_step.proofs.Reasons.{refusal-listed}
+use Rattle.cc_model.specs.ReadAhead.{ahead_of}
+use Rattle.cc_model.specs.Refusals.{refusal}
+use Rattle.cc_step.proofs.Reasons.{is_listed, refusal-listed}
 use Rattle.cc_turns.specs.Standing.{Held, Standing}
 use Rattle.cc_turns.specs.Takes.{Takes, with_book, without_book, without_journal}
 use Rattle.cc_writes.specs.Fetch.{CanCall}
@@ -125,6 +127,68 @@ module _ {Q : Type 0} (u : Setup) (pass : ℕ) (file : File) (at len : ℕ) (b :
   pub asked-stopped : (e : CcError) (k : JournalState Q) → IsStop 1 e j → k ≡ j → AskedIn u pass file at len (Err e) b b j k
   asked-stopped e k (inl full) same = rw full.0 (record { stop = inl (refl, full.1); same_book = refl; same_journal = same })
   asked-stopped e k (inr none) same = rw none.0 (record { stop = inr (refl, none.1); same_book = refl; same_journal = same })
+
+  -- ---- with the place of its entry reserved
+  module _ (r : JournalState Q) (same : r ≡ reserving j) where
+    pub stand-reserved : StandUnder u b r
+    stand-reserved =
+        subst (λ (x : JournalState Q). StandUnder u b x) (sym same)
+        (record { good = may.stand.good; stands = may.stand.stands; logs_are = may.stand.logs_are; threshold_is = may.stand.threshold_is })
+
+    pub some-reserved : 0 < r.reserved
+    some-reserved = some _ _ (ap (λ (x : JournalState Q). x.reserved) same)
+      where
+        some : (now was : ℕ) → now ≡ was + 1 → 0 < now
+        some now was more = omega (arith, more)
+
+    pub reserved-may : (request told : Option Request) → told ≡ request → IsDecided u r.entries b.stream file at len (Ok request) → MayDo u r.entries pass it (reply.Ahead told) b
+    reserved-may =
+        subst (λ (x : JournalState Q). (request told : Option Request) → told ≡ request → IsDecided u x.entries b.stream file at len (Ok request) → MayDo u x.entries pass it (reply.Ahead told) b) (sym same)
+        (λ request told is decided. subst (λ (o : Option Request). MayDo u j.entries pass it (reply.Ahead o) b) (sym is) (may-ask request decided))
+
+    pub reserved-turn : (e : CcError) → (e ≡ error.NoMemory → ⊥) → IsDecided u r.entries b.stream file at len (Err e) → MayPlace r.entries (failed pass r.entries b.stream it e) b
+    reserved-turn =
+        subst (λ (x : JournalState Q). (e : CcError) → (e ≡ error.NoMemory → ⊥) → IsDecided u x.entries b.stream file at len (Err e) → MayPlace x.entries (failed pass x.entries b.stream it e) b) (sym same) may-turn
+
+    pub reserved-owed : (e : Entry) (owed : ℕ) (k : JournalState Q) → Gains e r k → owed ≡ owed_end r.entries pass → owed ≤ k.reserved
+    reserved-owed =
+        subst (λ (x : JournalState Q). (e : Entry) (owed : ℕ) (k : JournalState Q) → Gains e x k → owed ≡ owed_end x.entries pass → owed ≤ k.reserved) (sym same) owed-left
+
+    pub reserved-done : (request told : Option Request) (owed : ℕ) (c : BookState) (k last : JournalState Q) → told ≡ request → b.stream < 16 → IsDecided u r.entries b.stream file at len (Ok request) → Gains (done pass r.entries b.stream it (reply.Ahead told)) r k → owed ≡ owed_end r.entries pass → last ≡ record k { reserved = k.reserved - owed } → c.stream ≡ b.stream → BookStands (u.opening b.stream) k.entries c → AttemptDone u pass it (reply.Ahead request) b c j last
+    reserved-done =
+        subst (λ (x : JournalState Q). (request told : Option Request) (owed : ℕ) (c : BookState) (k last : JournalState Q) → told ≡ request → b.stream < 16 → IsDecided u x.entries b.stream file at len (Ok request) → Gains (done pass x.entries b.stream it (reply.Ahead told)) x k → owed ≡ owed_end x.entries pass → last ≡ record k { reserved = k.reserved - owed } → c.stream ≡ b.stream → BookStands (u.opening b.stream) k.entries c → AttemptDone u pass it (reply.Ahead request) b c j last) (sym same)
+        (λ request told owed c k last is below decided gains end given stream stands. asked-done request owed c k last below decided (subst (λ (o : Option Request). Gains (done pass j.entries b.stream it (reply.Ahead o)) (reserving j) k) is gains) end given stream stands)
+
+    pub reserved-failed : (e : CcError) (owed : ℕ) (c : BookState) (k last : JournalState Q) → (e ≡ error.NoMemory → ⊥) → IsDecided u r.entries b.stream file at len (Err e) → Gains (failed pass r.entries b.stream it e) r k → owed ≡ owed_end r.entries pass → last ≡ record k { reserved = k.reserved - owed } → GoesOn r.entries k.entries b c → c ≡ b → AskedIn u pass file at len (Err e) b c j last
+    reserved-failed =
+        subst (λ (x : JournalState Q). (e : CcError) (owed : ℕ) (c : BookState) (k last : JournalState Q) → (e ≡ error.NoMemory → ⊥) → IsDecided u x.entries b.stream file at len (Err e) → Gains (failed pass x.entries b.stream it e) x k → owed ≡ owed_end x.entries pass → last ≡ record k { reserved = k.reserved - owed } → GoesOn x.entries k.entries b c → c ≡ b → AskedIn u pass file at len (Err e) b c j last) (sym same)
+        (λ e owed c k last some decided gains end given goes kept.
+        subst (λ (d : BookState). AskedIn u pass file at len (Err e) b d j last) (sym kept)
+        (asked-failed e owed k last some decided gains end given (subst (λ (d : BookState). BookStands (u.opening b.stream) k.entries d) kept (goes (u.opening b.stream) may.stand.stands))))
+
+-- ---- what is decided
+-- the request that the reads lead to was pushed, or there was no place for it
+pub decided-pushed : (u : Setup) (past : List Entry) (s : ℕ) (file : File) (at len : ℕ) (request : Option Request) (answer : Result (Option Request) CcError) → refusal u past (history past s) (call.AskAhead file at len) ≡ None → request ≡ ahead_of (history past s) file at len → IfOk answer (λ answered. answered ≡ request) → IfErr answer (λ e. (e ≡ error.QueueFull) × (is_some request ≡ true)) → IsDecided u past s file at len answer
+decided-pushed u past s file at len request (Ok answered) none is pushed full = (none, pushed ∙ is)
+decided-pushed u past s file at len request (Err e) none is pushed full =
+    subst (λ (x : CcError). IsDecided u past s file at len (Err x)) (sym full.0) (none, subst (λ (o : Option Request). is_some o ≡ true) is full.1)
+
+-- it is refused, and by none of the answers that have other causes
+pub decided-refused : (u : Setup) (past : List Entry) (s : ℕ) (file : File) (at len : ℕ) (e : CcError) → refusal u past (history past s) (call.AskAhead file at len) ≡ Some e → IsDecided u past s file at len (Err e)
+decided-refused u past s file at len e is = by e is (refusal-listed u past (history past s) (call.AskAhead file at len) e is)
+  where
+    by : (x : CcError) → refusal u past (history past s) (call.AskAhead file at len) ≡ Some x → is_listed x ≡ true → IsDecided u past s file at len (Err x)
+    by error.QueueFull is listed = absurd (cc (listed))
+    by error.NoMemory is listed = tt
+    by x is listed = is
+
+-- nothing was pushed then
+pub kept-refused : (u : Setup) (past : List Entry) (s : ℕ) (file : File) (at len : ℕ) (e : CcError) (place : PlaceState Request) → refusal u past (history past s) (call.AskAhead file at len) ≡ Some e → AskedAt (Err e) place place
+kept-refused u past s file at len e place is = by e (refusal-listed u past (history past s) (call.AskAhead file at len) e is)
+  where
+    by : (x : CcError) → is_listed x ≡ true → AskedAt (Err x) place place
+    by error.QueueFull listed = absurd (cc (listed))
+    by x listed = refl
 
 -- ---- in a visit to the journal with the book in hand
 module _ {Q : Type 0} (posted : Q → Bool) (w v : Standing) (file : File) (at len : ℕ) (b c : BookState) (j k : JournalState Q)

@@ -89,6 +89,12 @@ pub record Served (old new : Standing) (request : Request) (answer : Result Bool
   pub goes_on : WentOn old new
   pub good : IsGood old.setup new.seen
 
+-- A request was served by a step that was answered so.
+abbrev pub IsServed : Standing → Standing → Request → Result (Option AheadDone) CcError → Type 0
+IsServed old new request (Ok (Some done)) = (done.request ≡ request) × Served old new request (Ok done.whole)
+IsServed old new request (Ok None) = ⊥
+IsServed old new request (Err e) = Served old new request (Err e)
+
 -- The entry of a step was placed in a journal that tells that it brought nothing in; or there was no room or no memory, and
 -- nothing changed.
 abbrev pub PassedOver : {Q : Type 0} → ℕ → Request → Result Bool CcError → JournalState Q → JournalState Q → Type 0

@@ -1,6 +1,6 @@
 //! Read-ahead: a request for it, where the reads of an object lead to one, and the step that serves the first request.
 
-ghost use Rattle.std.specs.Prelude.{◌≡◌, ◌≤◌, true, is_some, IfErr, IfOk};
+ghost use Rattle.std.specs.Prelude.{◌≡◌, ◌≤◌, true, is_some, Some, IfErr, IfOk};
 ghost use Rattle.cc_entry.specs.declared.call.Call.TheVariants as call;
 ghost use Rattle.cc_entry.specs.declared.error.CcError.TheVariants as error;
 ghost use Rattle.cc_model.specs.Good.{IsGood};
@@ -9,7 +9,7 @@ ghost use Rattle.cc_model.specs.Setup.{Setup};
 ghost use Rattle.cc_step.specs.Step.{MayStep, StandUnder};
 ghost use Rattle.cc_writes.specs.Hands.{HasBook};
 ghost use Rattle.cc_calls.specs.Answers.{CallEnds, CanCall, IsFree};
-ghost use Rattle.cc_calls.specs.Ahead.{AskedAt, AskedIn, IsDecided, PassedOver, Served, StepEnds, ahead_outcome};
+ghost use Rattle.cc_calls.specs.Ahead.{AskedAt, AskedIn, IsDecided, PassedOver, Served, StepEnds, IsServed, ahead_outcome};
 
 use crate::turned::call_paged;
 use cc_book::Book;
@@ -66,11 +66,25 @@ pub fn read_ahead_step<R: Wait, T: Turns>(
     ensures ends { StepEnds (T.standing turns.old) (T.standing turns.new) place.old place.new result }
 {
     match queue.pop(rt, place) {
-        Some(request) => match serve(alloc, turns, request) {
-            Ok(whole) => Ok(Some(AheadDone { request, whole })),
-            Err(error) => Err(error),
-        },
+        Some(request) => step_for(alloc, turns, request),
         None => Ok(None),
+    }
+}
+
+// The same for the request that was taken.
+fn step_for<T: Turns>(
+    alloc: Global,
+    turns: &mut T,
+    request: Request,
+) -> Result<Option<AheadDone>, CcError>
+    requires can { IsFree (T.standing turns.old) }
+    ensures { IsServed (T.standing turns.old) (T.standing turns.new) request result }
+{
+    let Request { file, at, len } = request;
+    let request = Request { file, at, len };
+    match serve(alloc, turns, Request { file, at, len }) {
+        Ok(whole) => Ok(Some(AheadDone { request, whole })),
+        Err(error) => Err(error),
     }
 }
 
@@ -135,20 +149,30 @@ fn ask_in<R: Wait, Q>(
     let _stream = book.stream().number();
     journal.reserve(1)?;
     let owed = journal.owed_end(pass);
-    let answer = decide(rt, alloc, book, journal, queue, place, file, at, len);
     let call = Call::AskAhead { file, at, len };
-    match answer {
-        Ok(request) => match book.done(alloc, journal, pass, call, Reply::Ahead(request)) {
-            Ok(()) => journal.release(owed),
-            Err(_) => unreachable!(),
-        },
-        Err(CcError::NoMemory) => journal.release(1),
-        Err(error) => {
-            book.fail(journal, pass, call, error);
-            journal.release(owed);
+    match decide(rt, alloc, book, journal, queue, place, file, at, len) {
+        Ok(request) => {
+            let reply = Reply::Ahead(same(&request));
+            match book.done(alloc, journal, pass, call, reply) {
+                Ok(()) => {
+                    journal.release(owed);
+                    Ok(request)
+                }
+                Err(NoMemory) => unreachable!(),
+            }
         }
+        Err(error) => match error {
+            CcError::NoMemory => {
+                journal.release(1);
+                Err(CcError::NoMemory)
+            }
+            _ => {
+                book.fail(journal, pass, call, error);
+                journal.release(owed);
+                Err(error)
+            }
+        },
     }
-    answer
 }
 
 // What a call for read-ahead is to answer. The request that it answers was pushed.
@@ -163,6 +187,7 @@ fn decide<R: Wait, Q>(
     at: u64,
     len: u64,
 ) -> Result<Option<Request>, CcError>
+    requires stand { (u : Setup) × StandUnder u book.now journal.now }
     requires own { place.old.queue ≡ queue.now }
     ensures decided { (u : Setup) → StandUnder u book.now journal.now →
         IsDecided u journal.now.entries book.now.stream file at len result }
@@ -173,6 +198,13 @@ fn decide<R: Wait, Q>(
         Ok(Some(error)) => Err(error),
         Err(NoMemory) => Err(CcError::NoMemory),
     }
+}
+
+// The same request, or none.
+fn same(request: &Option<Request>) -> Option<Request>
+    ensures { result ≡ request.now }
+{
+    *request
 }
 
 // Pushes a request, where there is one.
@@ -188,14 +220,28 @@ fn push_request<R: Wait>(
     ensures asked { AskedAt result place.old place.new }
 {
     match request {
-        Some(asked) => {
-            if queue.push(rt, place, asked) {
-                Ok(request)
-            } else {
-                Err(CcError::QueueFull)
-            }
-        }
+        Some(asked) => push_one(rt, queue, place, asked),
         None => Ok(None),
+    }
+}
+
+// Pushes a request.
+fn push_one<R: Wait>(
+    rt: &R,
+    queue: &Queue<Request>,
+    place: &mut QueuePlace<Request>,
+    request: Request,
+) -> Result<Option<Request>, CcError>
+    requires own { place.old.queue ≡ queue.now }
+    ensures pushed { IfOk result (λ answered. answered ≡ Some request) }
+    ensures full { IfErr result (λ e. e ≡ error.QueueFull) }
+    ensures asked { AskedAt result place.old place.new }
+{
+    let Request { file, at, len } = request;
+    if queue.push(rt, place, Request { file, at, len }) {
+        Ok(Some(Request { file, at, len }))
+    } else {
+        Err(CcError::QueueFull)
     }
 }
 
