@@ -1,5 +1,5 @@
 -- The step that gives the journal back: it places what the pass added, and keeps the rule.
-use Rattle.std.specs.Prelude.{◌≡◌, ◌≢◌, ℕ, suc, ◌+◌, ◌-◌, ◌≤◌, ◌==◌, Bool, true, false, List, [], ◌∷◌, ◌++◌, length, slice_index, slice_set, refl}
+use Rattle.std.specs.Prelude.{◌≡◌, ◌≢◌, ℕ, suc, ◌+◌, ◌-◌, ◌<◌, ◌≤◌, ◌==◌, Bool, true, false, List, [], ◌∷◌, ◌++◌, length, slice_index, slice_set, refl}
 use Rattle.std.specs.declared.option.Option.{Option}
 use Rattle.std.specs.declared.option.Option.TheVariants.{Some}
 use Rattle.std.specs.List.{AllByRecursion}
@@ -24,7 +24,7 @@ use Rattle.cc_turns.specs.Standing.{holds}
 use Rattle.cc_turns.specs.Desk.{Begun, Tells}
 use Rattle.cc_turns.specs.Journal.{JournalStands}
 use Rattle.cc_turns.specs.Slots.{slot_of, slots_of, HasTurn, setup_in, Fits}
-use Rattle.cc_turns.specs.Takes.{Adds, may_be_of, without_journal}
+use Rattle.cc_turns.specs.Takes.{Adds, IsThere, may_be_of, without_journal}
 use Rattle.cc_turns.specs.declared.slots.Place.{Place}
 use Rattle.cc_turns.specs.declared.slots.Place.TheVariants as place
 use Rattle.cc_turns.proofs.Capacity.{journal_within}
@@ -105,6 +105,13 @@ module _ {D L Q : Type 0} (tells : Tells D L Q) (begun : Begun D L) (s : State (
   now-is : j.entries ≡ adds.added ++ rule.past
   now-is = adds.grew ∙ ap (λ l. adds.added ++ l) (sym past-seen)
 
+  -- a turn of the run is there for the pass
+  is-there : (t : Turn) → HasTurn begun t → IsThere (length v.disks) t
+  is-there (Device stream) known = subst (λ (b : Begun D L). stream < length b.disks) (sym ((rule.views id v at).of_run live)) known
+  is-there (Book stream) known = subst (λ (b : Begun D L). stream < length b.disks) (sym ((rule.views id v at).of_run live)) known
+  is-there (Log handle) known = tt
+  is-there Journal known = tt
+
   -- what another pass holds, this one does not
   apart-held : (a : ℕ) (x : View D L) (t : Turn) → a ≢ id → get_elem? s.views a ≡ some x → holds (held_of x) t ≡ true → holds (held_of v) t ≡ false
   apart-held a x t apart there held =
@@ -112,12 +119,12 @@ module _ {D L Q : Type 0} (tells : Tells D L Q) (begun : Begun D L) (s : State (
 
   -- so it added nothing that needs it
   quiet-held : (a : ℕ) (x : View D L) (t : Turn) → a ≢ id → get_elem? s.views a ≡ some x → holds (held_of x) t ≡ true → is_quiet t adds.added ≡ true
-  quiet-held a x t apart there held = adds.held t (apart-held a x t apart there held)
+  quiet-held a x t apart there held = adds.held t (is-there t ((rule.views a x there).taken t held).known) (apart-held a x t apart there held)
 
   -- nor anything that needs a free turn
-  quiet-free : (t : Turn) → slice_index s.words (word_of begun t) ≡ 0 → is_quiet t adds.added ≡ true
-  quiet-free t free =
-      adds.held t (not-true (holds (held_of v) t) (λ mine. let taken = ((rule.views id v at).taken t mine).word in absurd (omega (arith, free, taken))))
+  quiet-free : (t : Turn) → HasTurn begun t → slice_index s.words (word_of begun t) ≡ 0 → is_quiet t adds.added ≡ true
+  quiet-free t known free =
+      adds.held t (is-there t known) (not-true (holds (held_of v) t) (λ mine. let taken = ((rule.views id v at).taken t mine).word in absurd (omega (arith, free, taken))))
 
   -- to a pass of another number all that it added is others'
   others-of : (number : ℕ) → number ≢ v.number → Others number adds.added
@@ -169,7 +176,7 @@ module _ {D L Q : Type 0} (tells : Tells D L Q) (begun : Begun D L) (s : State (
         place = home.place;
         there = set_else s.homes (slot_of begun Journal) (slot_of begun t) (some (Some (place.Journal j))) (slot-else begun t known other) ∙ home.there;
         fits = subst (λ (past : List Entry). Fits tells begun past (under_way views) t home.place) (sym now-is) (fits_any tells begun (adds.added ++ rule.past) (under_way s.views) (under_way views) t home.place other
-            (fits_grows tells begun adds.added rule.past (under_way s.views) t home.place (quiet-free t was) home.fits));
+            (fits_grows tells begun adds.added rule.past (under_way s.views) t home.place (quiet-free t known was) home.fits));
       }
 
   home-after : run_of v ≡ begun → JournalStands tells.posted (without_journal j (standing_of tells v turns)) j → (t : Turn) → HasTurn begun t → slice_index words (word_of begun t) ≡ 0 → IsAtHome tells begun j.entries (under_way views) homes t

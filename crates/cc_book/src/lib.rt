@@ -8,8 +8,8 @@
 //! their bytes.
 //!
 //! `book` has what is kept, what is asked of it, and the entries of pages and of calls that failed; `done` the
-//! calls that are done, `read` what a read answers, `noncached` what a noncached one does, and `levels` the levels of the view
-//! index.
+//! calls that are done, `read` what a read answers, `noncached` what a noncached one does, `ahead` whether a read-ahead
+//! brings its pages in, and `levels` the levels of the view index.
 //!
 //! The steps of the calls stand above. Below are the five parts of a book: the state of the stream
 //! (`cc_stream`), its private maps (`cc_ahead`), its open holds (`cc_holds`), its contents (`cc_content`) and the
@@ -17,6 +17,7 @@
 //! definitions of `cc_model` with their lemmas in `cc_laws`.
 #![tactic(auto)]
 
+mod ahead;
 mod book;
 mod done;
 mod levels;

@@ -31,3 +31,5 @@ pub mod TickPages
 pub mod Picking
 pub mod Scanning
 pub mod Ticking
+pub mod AheadSteps
+pub mod AskedAhead

@@ -52,10 +52,10 @@ full-for : {A : Type 0} (it : Call) (w v : Standing) (answer : Result A CcError)
 full-for it w v answer missed (inl full) = inl full
 full-for it w v answer missed (inr full) = inr (missed, full.0, full.1)
 
-same-turns : (w v : Standing) → Went w v → v.device_turns ≡ w.device_turns
+pub same-turns : (w v : Standing) → Went w v → v.device_turns ≡ w.device_turns
 same-turns w v went = ap (λ x. x.device_turns) went.same
 
-went-on : (w v : Standing) → Went w v → WentOn w v
+pub went-on : (w v : Standing) → Went w v → WentOn w v
 went-on w v went = record { same = went.same ∙ ap (λ (n : ℕ). record w { seen = v.seen; others = v.others; device_turns = n }) (sym (same-turns w v went)) }
 
 -- what a pass places for a call before its entry ends no call

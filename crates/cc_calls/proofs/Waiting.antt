@@ -16,7 +16,8 @@ use Rattle.cc_model.specs.Ranges.{range_of}
 use Rattle.cc_model.specs.Residency.{is_resident}
 use Rattle.cc_model.specs.Setup.{Setup}
 use Rattle.cc_model.specs.Touches.{size_of}
-use Rattle.cc_step.specs.Step.{is_stepped, least_absent}
+use Rattle.cc_step.proofs.Waiting.{needed-range}
+use Rattle.cc_step.specs.Step.{is_stepped, least_absent, needed_range}
 use Rattle.cc_writes.specs.Visits.{IsOf, IsWaitedFor}
 use Rattle.cc_calls.specs.Paged.{is_paged}
 
@@ -29,16 +30,21 @@ stepped (call.PinRead file at len exclusive) paged = refl
 stepped (call.PreparePin file at len zeroed exclusive) paged = refl
 stepped (call.MdlRead file at len) paged = refl
 stepped (call.MdlWrite file at len) paged = refl
+stepped (call.AheadStep request) paged = refl
 stepped other paged = absurd (cc)
 
 -- one without a range waits for none
 pub never-waits : (u : Setup) (s page : ℕ) (it : Call) (past : List Entry) → ((size : ℕ) → range_of size it ≡ None) → IsWaitedFor u s it page past → ⊥
 never-waits u s page it past pageless waits =
-    clash (range_of (size_of (history past s)) it) (pageless (size_of (history past s))) waits.least
+    clash (needed_range (history past s) it) refl waits.least
   where
-    clash : (o : Option Range) → o ≡ None → least_absent (history past s) o ≡ Some page → ⊥
+    clash : (o : Option Range) → needed_range (history past s) it ≡ o → least_absent (history past s) o ≡ Some page → ⊥
     clash None is least = absurd (cc)
-    clash (Some r) is least = absurd (cc)
+    clash (Some r) is least =
+        none (range_of (size_of (history past s)) it) r (pageless (size_of (history past s))) (needed-range (history past s) it r is).0
+      where
+        none : (o : Option Range) (r : Range) → o ≡ None → o ≡ Some r → ⊥
+        none o r is isnt = absurd (cc)
 
 -- a number that is found in a range of numbers lies in it, and passes the test
 found-between : (test : ℕ → Bool) (from len p : ℕ) → find test (range_with_len from len) ≡ Some p → (from ≤ p) × (p < from + len) × (test p ≡ true)
@@ -85,6 +91,7 @@ of-stream (call.PinRead file at len exclusive) s page paged filed = let is = fil
 of-stream (call.PreparePin file at len zeroed exclusive) s page paged filed = let is = filed [] 0 in eq-eqb file.stream s (cc)
 of-stream (call.MdlRead file at len) s page paged filed = let is = filed [] 0 in eq-eqb file.stream s (cc)
 of-stream (call.MdlWrite file at len) s page paged filed = let is = filed [] 0 in eq-eqb file.stream s (cc)
+of-stream (call.AheadStep request) s page paged filed = let is = filed [] 0 in eq-eqb request.file.stream s (cc)
 of-stream other s page paged filed = absurd (cc)
 
 -- the page that it waits for
@@ -93,9 +100,16 @@ pub record IsMissed (it : Call) (s page : ℕ) (past : List Entry) : Type 0 wher
   pub absent : is_resident (history past s) page ≡ false
 
 pub missed-page : (u : Setup) (it : Call) (s page : ℕ) (past : List Entry) → is_paged it ≡ true → IsOf it s → IsWaitedFor u s it page past → IsMissed it s page past
-missed-page u it s page past paged filed waits =
-    let k = least-page (history past s) (range_of (size_of (history past s)) it) page waits.least in
-    record { reached = and_from _ _ (of-stream it s page paged filed) k.0; absent = k.1 }
+missed-page u it s page past paged filed waits = by (needed_range h it) refl waits.least
+  where
+    h : List Effect
+    h = history past s
+
+    by : (o : Option Range) → needed_range h it ≡ o → least_absent h o ≡ Some page → IsMissed it s page past
+    by None is least = absurd (cc)
+    by (Some r) is least =
+        let k = least-page h (Some r) page least in
+        record { reached = and_from _ _ (of-stream it s page paged filed) (rw ((needed-range h it r is).0) k.0); absent = k.1 }
 
 -- a read that may not wait is refused for it
 pub brings : (u : Setup) (it : Call) (s page : ℕ) (past : List Entry) → is_paged it ≡ true → IsWaitedFor u s it page past → brings_in it ≡ true
@@ -110,4 +124,5 @@ brings u (call.PinRead file at len exclusive) s page past paged waits = refl
 brings u (call.PreparePin file at len zeroed exclusive) s page past paged waits = refl
 brings u (call.MdlRead file at len) s page past paged waits = refl
 brings u (call.MdlWrite file at len) s page past paged waits = refl
+brings u (call.AheadStep request) s page past paged waits = refl
 brings u other s page past paged waits = absurd (cc)

@@ -14,3 +14,4 @@ pub mod Ends
 pub mod PageWrites
 pub mod Ticks
 pub mod Throttle
+pub mod Ahead

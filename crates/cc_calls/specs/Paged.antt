@@ -23,6 +23,7 @@ is_paged (call.PinRead file at len exclusive) = true
 is_paged (call.PreparePin file at len zero exclusive) = true
 is_paged (call.MdlRead file at len) = true
 is_paged (call.MdlWrite file at len) = true
+is_paged (call.AheadStep request) = true
 is_paged other = false
 
 -- A call that needs no page ended so, and its caller was told what it returns. The pass goes on as it stood and may call

@@ -12,13 +12,15 @@
 //! those that tell something and change nothing, `levels` the one of them that leaves no entry, `copies` those that copy
 //! bytes out of a stream's pages and into them, `flushes` those that write the dirty pages of a span, and then sync its
 //! disk or take its pages out, `discards` the one that takes them out unwritten, `logs` the two calls on a log, an append
-//! and a flush, `throttle` whether a write may go, a deferral and a post. `held` has what every hold tells of itself,
+//! and a flush, `throttle` whether a write may go, a deferral and a post, `ahead` read-ahead, asked for and served. `held`
+//! has what every hold tells of itself,
 //! `held_calls` how a hold is made, used and ended; `data_maps`, `pins`, `repins` and `chains` have the routines on holds.
 //! Below are the turns (`cc_turns`), the visits of a pass to the journal, the writing of a page with the flush of its log
 //! and the fetch of pages (`cc_writes`), the flush and the purge of a span (`cc_ranges`), and what others leave of a pass's
 //! holds (`cc_own`). The lines of a script (`cc_lines`) and the runs (`cc_run`) stand above.
 #![tactic(auto)]
 
+mod ahead;
 mod chains;
 mod copies;
 mod data_maps;
@@ -38,6 +40,7 @@ mod throttle;
 mod ticks;
 mod turned;
 
+pub use ahead::{read_ahead_step, schedule_read_ahead};
 pub use chains::{
     ReadChain, WriteChain, mdl_bytes, mdl_read, mdl_read_complete, mdl_store, mdl_write_abort,
     mdl_write_complete, prepare_mdl_write,

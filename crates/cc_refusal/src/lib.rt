@@ -11,6 +11,7 @@
 //! on neither. Only the count of view blocks takes memory.
 #![tactic(auto)]
 
+mod ahead;
 mod conflicts;
 mod disk;
 mod known;
@@ -18,5 +19,6 @@ mod maps;
 mod refusals;
 mod views;
 
+pub use ahead::is_whole;
 pub use known::Known;
 pub use refusals::refusal;

@@ -27,8 +27,8 @@ fn whole(at: u64, len: u64) -> Option<Span>
     Span::new(at, at.checked_add(len)?)
 }
 
-// The same as far as they lie below the size, and no byte where they start past it.
-fn cut(size: u64, at: u64, len: u64) -> Option<Span>
+/// The same as far as they lie below the size, and no byte where they start past it.
+pub(crate) fn cut(size: u64, at: u64, len: u64) -> Option<Span>
     ensures { HasBlocksOf result (Some (cut_range size at len)) }
 {
     let end = at.saturating_add(len).min(size);

@@ -14,12 +14,11 @@ use Rattle.cc_effects.specs.Places.{is_on_disk_alone}
 use Rattle.cc_laws.proofs.SoundFacts.{size_of-good, valid_of-good}
 use Rattle.cc_model.specs.Good.{IsGoodSoFar}
 use Rattle.cc_model.specs.History.{Effect, history}
-use Rattle.cc_model.specs.Ranges.{range_of}
 use Rattle.cc_model.specs.Refusals.{refusal}
 use Rattle.cc_model.specs.Residency.{is_resident}
 use Rattle.cc_model.specs.Setup.{Setup}
 use Rattle.cc_model.specs.Touches.{size_of, valid_of}
-use Rattle.cc_step.specs.Step.{is_stepped, least_absent, awaited_of, is_awaited}
+use Rattle.cc_step.specs.Step.{is_stepped, least_absent, needed_range, awaited_of, is_awaited}
 use Rattle.cc_step.specs.Fill.{IsNotToLand}
 use Rattle.cc_step.specs.Room.{has_room, IsWaiting}
 use Rattle.cc_step.specs.Landing.{is_wanted, IsWanted}
@@ -34,7 +33,7 @@ waiting-of u past s it page is = go (refusal u past h it) refl is
     h = history past s
 
     r : Option Range
-    r = range_of (size_of h) it
+    r = needed_range h it
 
     by : (o : Option ℕ) → least_absent h r ≡ o → option_eq nat_eq o (Some page) ≡ true → refusal u past h it ≡ None → IsWaiting u past s it page
     by None least same admitted = absurd (cc)
@@ -46,7 +45,7 @@ waiting-of u past s it page is = go (refusal u past h it) refl is
 
 pub awaited-of : (u : Setup) (past : List Entry) (s : ℕ) (it : Call) (page : ℕ) → IsWaiting u past s it page → is_awaited u past s it page ≡ true
 awaited-of u past s it page waits =
-    ap (λ (o : Option CcError). option_eq nat_eq (awaited_of o (history past s) (range_of (size_of (history past s)) it)) (Some page)) waits.admitted
+    ap (λ (o : Option CcError). option_eq nat_eq (awaited_of o (history past s) (needed_range (history past s) it)) (Some page)) waits.admitted
     ∙ (ap (λ (o : Option ℕ). option_eq nat_eq o (Some page)) waits.least ∙ eq-eqb page page refl)
 
 -- such a page begins below the size, so it has a number

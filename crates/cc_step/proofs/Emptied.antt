@@ -44,6 +44,7 @@ module _ {Q : Type 0} (u : Setup) (pass : ℕ) (it : Call) (waited block : ℕ) 
   has-to-write page dirty = record {
     call_is = refl;
     admitted = crowded.waits.admitted;
+    needing = (needs u j.entries b.stream it waited crowded.waits).needing;
     in_the_way = way page dirty.0;
     dirty = dirty.1;
     stamped = goes-stamped u j.entries b.stream block page (so-far u j.entries crowded.good) going dirty.0;

@@ -1,5 +1,5 @@
 -- A good journal stays good with the entry of a step.
-use Rattle.std.specs.Prelude.{◌≡◌, ℕ, suc, Bool, true, false, List, ◌∷◌, None, Some, refl}
+use Rattle.std.specs.Prelude.{◌≡◌, ℕ, suc, Bool, true, false, List, ◌∷◌, None, Some, if◌then◌else◌, refl}
 use Rattle.std.specs.Bool.{OnTrue, OnFalse}
 use Rattle.cc_entry.specs.declared.call.Call.{Call}
 use Rattle.cc_entry.specs.declared.call.Call.TheVariants as call
@@ -13,7 +13,7 @@ use Rattle.cc_entry.specs.declared.reply.Reply.{Reply}
 use Rattle.cc_book.specs.Book.{done, failed}
 use Rattle.cc_model.specs.Acts.{file_of}
 use Rattle.cc_model.specs.Allowed.{IsAllowed, IsAllowedSoFar, IsOwed, MayCall, owed_begin, begin_after, is_fault}
-use Rattle.cc_model.specs.Conditions.{IsReady}
+use Rattle.cc_model.specs.Conditions.{IsFilled, IsReady}
 use Rattle.cc_model.specs.Covered.{IsCovered, IsCoveredEntry}
 use Rattle.cc_model.specs.Filing.{IsFiled}
 use Rattle.cc_model.specs.Good.{IsGood, IsGoodSoFar}
@@ -21,12 +21,13 @@ use Rattle.cc_model.specs.History.{history}
 use Rattle.cc_model.specs.Holds.{holds_of}
 use Rattle.cc_model.specs.Legal.{ends_own_store, IsLegal, IsLegalEntry, IsOutcome, IsAdmitted, IsFailure, IsTooLong, NothingElse}
 use Rattle.cc_model.specs.Passes.{calls_of}
-use Rattle.cc_model.specs.Ranges.{needs_pages}
+use Rattle.cc_model.specs.Ranges.{needs_pages, range_of}
 use Rattle.cc_model.specs.Refusals.{refusal}
-use Rattle.cc_model.specs.Replies.{IsReply}
+use Rattle.cc_model.specs.Replies.{IsReply, is_whole}
 use Rattle.cc_model.specs.Setup.{Setup}
+use Rattle.cc_model.specs.Touches.{size_of}
 use Rattle.cc_step.specs.Faults.{IsMet}
-use Rattle.cc_step.specs.Step.{is_answered, is_stepped, IsReadyFor}
+use Rattle.cc_step.specs.Step.{is_answered, is_stepped, needed_range, IsReadyFor}
 use Rattle.cc_step.proofs.Failing.{stepped-answered}
 use Rattle.cc_step.proofs.Reasons.{is_listed, refusal-listed, never-long}
 
@@ -39,7 +40,7 @@ no_store : (pass s : ℕ) (it : Call) (ended : Outcome) → is_answered it ≡ t
 no_store pass s (call.NcStore file page bytes) ended here = absurd (cc)
 no_store pass s other ended here = refl
 
-good-call : (u : Setup) (pass nth s : ℕ) (it : Call) (ended : Outcome) (past : List Entry) → is_answered it ≡ true → IsOutcome u past pass (Some s) it ended → MayCall u past pass nth (Some s) it ended → IsGood u past → IsGood u (entry.Call pass nth (Some s) it ended ∷ past)
+pub good-call : (u : Setup) (pass nth s : ℕ) (it : Call) (ended : Outcome) (past : List Entry) → is_answered it ≡ true → IsOutcome u past pass (Some s) it ended → MayCall u past pass nth (Some s) it ended → IsGood u past → IsGood u (entry.Call pass nth (Some s) it ended ∷ past)
 unfolding IsLegal IsLegalEntry IsAllowed IsAllowedSoFar IsCovered IsCoveredEntry
 good-call u pass nth s it ended past here legal may good = record {
   legal = (legal, good.legal);
@@ -65,11 +66,21 @@ on_needed : (b : Bool) (P : Type 0) → P → OnTrue b P
 on_needed true P p = p
 on_needed false P p = tt
 
+-- where all that a call needs is filled, its range is, if its reply asks that
+pub needed-filled : (u : Setup) (past : List Entry) (pass s : ℕ) (it : Call) (r : Reply) → IsReply u past (u.opening s) (history past s) pass it r → IsFilled (history past s) (needed_range (history past s) it) → OnTrue (needs_pages it r) (IsFilled (history past s) (range_of (size_of (history past s)) it))
+needed-filled u past pass s (call.AheadStep request) r is all =
+    rw is (go (is_whole (history past s) request) all)
+  where
+    go : (b : Bool) → IsFilled (history past s) (if b then range_of (size_of (history past s)) (call.AheadStep request) else None) → OnTrue b (IsFilled (history past s) (range_of (size_of (history past s)) (call.AheadStep request)))
+    go true all = all
+    go false all = tt
+needed-filled u past pass s other r is all = on_needed (needs_pages other r) _ all
+
 pub good-done : (u : Setup) (past : List Entry) (pass s : ℕ) (it : Call) (r : Reply) → is_stepped it ≡ true → IsGood u past → IsFiled (holds_of (history past s)) pass (Some s) it (file_of it) → IsReadyFor u past s it → IsReply u past (u.opening s) (history past s) pass it r → IsGood u (done pass past s it r ∷ past)
 good-done u past pass s it r stepped good filed may reply =
     good-call u pass (suc (calls_of past pass)) s it (outcome.Done r) past (stepped-answered it stepped)
     (admitted u past s it stepped may.admitted, reply)
-    (record { number = refl; filed = filed; may_end = (on_needed (needs_pages it r) _ may.filled, ready past pass s it stepped) })
+    (record { number = refl; filed = filed; may_end = (needed-filled u past pass s it r reply may.filled, ready past pass s it stepped) })
     good
 
 -- a refusal of the list is the call's failure, and no fault
@@ -114,10 +125,10 @@ alone u past pass s other here none = none
 
 -- a fault that the call met is its failure, and a fault alone
 met-failure : (u : Setup) (past : List Entry) (pass s : ℕ) (it : Call) (fault : CcError) → IsMet past pass it fault → NothingElse u past pass (Some s) it → IsFailure u past pass (Some s) it fault
-met-failure u past pass s it (error.ReadFault page) met else = (met, else)
-met-failure u past pass s it (error.WriteFault page) met else = (met, else)
-met-failure u past pass s it (error.LogFault handle) met else = (met, else)
-met-failure u past pass s it other met else = absurd met
+met-failure u past pass s it (error.ReadFault page) met alone = (met, alone)
+met-failure u past pass s it (error.WriteFault page) met alone = (met, alone)
+met-failure u past pass s it (error.LogFault handle) met alone = (met, alone)
+met-failure u past pass s it other met alone = absurd met
 
 pub good-met : (u : Setup) (past : List Entry) (pass s : ℕ) (it : Call) (fault : CcError) → is_answered it ≡ true → IsGood u past → IsFiled (holds_of (history past s)) pass (Some s) it (file_of it) → IsMet past pass it fault → refusal u past (history past s) it ≡ None → IsGood u (failed pass past s it fault ∷ past)
 good-met u past pass s it fault here good filed met none =

@@ -72,7 +72,7 @@ comes-in u pass it page b j may =
     let n = needs u past b.stream it page may.wanted.waits in
     let admitted = may.wanted.waits.admitted in
     record {
-      mapped = waiting-mapped u past h it (stepped-answered it may.stepped) (brings-room it may.brings) admitted;
+      mapped = waiting-mapped u past h it (stepped-answered it may.stepped) (brings-room it may.brings) n.needing admitted;
       absent = n.absent;
       below_size = below n.range.to (size_of h) (page-before n.range page n.has) (waiting-within u past h it n.range (stepped-answered it may.stepped) (brings-room it may.brings) admitted n.range_is);
       no_transfer = may.may.no_transfer;

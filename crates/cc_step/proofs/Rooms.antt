@@ -5,12 +5,13 @@ use Rattle.std.specs.Cmp.{nat_eq_equiv}
 use Rattle.std.specs.List.{list_any}
 use Rattle.std.specs.Set.{distinct_count, is_member, unique_keys}
 use Rattle.std.proofs.Common.{ap, sym, ◌∙◌, arith}
-use Rattle.std.proofs.lemmas.Bool.{or_parts, or_right, eqb-true, ltb-true, ltb-false}
+use Rattle.std.proofs.lemmas.Bool.{and_parts, or_parts, or_right, eqb-true, leb-true, ltb-true, ltb-false}
 use Rattle.std.proofs.lemmas.List.Folds.{list_any-append}
 use Rattle.std.proofs.lemmas.Map.Made.{distinct_count-from_IsDistinct}
 use Rattle.cc_entry.specs.Pages.{block_of, blocks_of}
 use Rattle.cc_entry.specs.Place.{Range}
 use Rattle.cc_entry.specs.declared.call.Call.{Call}
+use Rattle.cc_entry.specs.declared.call.Call.TheVariants as call
 use Rattle.cc_entry.specs.declared.entry.Entry.{Entry}
 use Rattle.cc_content.proofs.Found.{IsDistinct-front}
 use Rattle.cc_content.proofs.Orders.{order_of_use-distinct, order_of_use-mapped, length-mapped}
@@ -24,17 +25,18 @@ use Rattle.cc_model.specs.Good.{IsGood, IsGoodSoFar}
 use Rattle.cc_model.specs.History.{Effect, history}
 use Rattle.cc_model.specs.Holds.{holds_of, held_blocks}
 use Rattle.cc_model.specs.Numbers.{is_among}
-use Rattle.cc_model.specs.Ranges.{range_of}
+use Rattle.cc_model.specs.Ranges.{cut_range, range_of}
+use Rattle.cc_model.specs.Reasons.{is_open}
 use Rattle.cc_model.specs.Refusals.{refusal}
 use Rattle.cc_model.specs.Residency.{residents, block_is_mapped, mapped_blocks, mapped_blocks_with, order_of_use}
 use Rattle.cc_model.specs.Settings.{quota_of}
 use Rattle.cc_model.specs.Setup.{Setup}
 use Rattle.cc_model.specs.Touches.{size_of}
-use Rattle.cc_model.specs.Views.{needed_blocks, no_views}
-use Rattle.cc_step.specs.Step.{is_answered}
+use Rattle.cc_model.specs.Views.{needed_blocks, no_views, viewed}
+use Rattle.cc_step.specs.Step.{is_answered, IsNeeding}
 use Rattle.cc_step.specs.Room.{has_room, IsWaiting}
 use Rattle.cc_step.proofs.Found.{none-passes, block-among}
-use Rattle.cc_step.proofs.Waiting.{Needs, room-viewed}
+use Rattle.cc_step.proofs.Waiting.{Needs, is_ahead, room-viewed}
 
 -- one block more is at most one more
 counted-more : (b : ℕ) (bs : List ℕ) → distinct_count nat_eq (b ∷ bs) ≤ suc (distinct_count nat_eq bs)
@@ -88,17 +90,27 @@ full u past s page good none =
     even : (a b : ℕ) → a ≤ b → b ≤ a → a ≡ b
     even a b x y = omega arith
 
--- nothing refuses the call, so the blocks of open holds and of its range are within the quota
-needed-within : (u : Setup) (past : List Entry) (s : ℕ) (it : Call) (r : Range) → is_answered it ≡ true → makes_room it ≡ true → refusal u past (history past s) it ≡ None → range_of (size_of (history past s)) it ≡ Some r → needed_blocks (holds_of (history past s)) r ≤ quota_of (history past s)
-needed-within u past s it r answered room admitted is =
-    let h = history past s in
-    let views = (unrefused u past h it admitted).within_quota in
-    let seen : no_views h (Some r) ≡ None = ap (no_views h) (sym (room-viewed h it (range_of (size_of h) it) answered room ∙ is)) ∙ views in
-    ltb-false (quota_of h) (needed_blocks (holds_of h) r) (refuse_if-none (nat_lt (quota_of h) (needed_blocks (holds_of h) r)) _ seen)
+-- nothing refuses the call, and a read-ahead step is whole, so the blocks of open holds and of its range are within the quota
+needed-within : (u : Setup) (past : List Entry) (s : ℕ) (it : Call) (r : Range) → is_answered it ≡ true → makes_room it ≡ true → IsNeeding (history past s) it → refusal u past (history past s) it ≡ None → range_of (size_of (history past s)) it ≡ Some r → needed_blocks (holds_of (history past s)) r ≤ quota_of (history past s)
+needed-within u past s it r answered room needing admitted is = go it answered room needing (unrefused u past h it admitted).within_quota is
+  where
+    h : List Effect
+    h = history past s
+
+    viewed-within : (c : Call) → is_answered c ≡ true → makes_room c ≡ true → is_ahead c ≡ false → no_views h (viewed h c (range_of (size_of h) c)) ≡ None → range_of (size_of h) c ≡ Some r → needed_blocks (holds_of h) r ≤ quota_of h
+    viewed-within c answered room other views is =
+        let seen : no_views h (Some r) ≡ None = ap (no_views h) (sym (room-viewed h c (range_of (size_of h) c) answered room other ∙ is)) ∙ views in
+        ltb-false (quota_of h) (needed_blocks (holds_of h) r) (refuse_if-none (nat_lt (quota_of h) (needed_blocks (holds_of h) r)) _ seen)
+
+    go : (c : Call) → is_answered c ≡ true → makes_room c ≡ true → IsNeeding h c → no_views h (viewed h c (range_of (size_of h) c)) ≡ None → range_of (size_of h) c ≡ Some r → needed_blocks (holds_of h) r ≤ quota_of h
+    go (call.AheadStep request) answered room needing views is =
+        let same : cut_range (size_of h) request.at request.len ≡ r = cc in
+        rw (sym same) (leb-true _ _ (and_parts (is_open h request.file) _ needing).1)
+    go other answered room needing views is = viewed-within other answered room refl views is
 
 -- so one of the mapped blocks is none of these
 pub some-to-go : (u : Setup) (past : List Entry) (s : ℕ) (it : Call) (page : ℕ) → is_answered it ≡ true → makes_room it ≡ true → IsGood u past → IsGoodSoFar u past → IsWaiting u past s it page → has_room (history past s) page ≡ false → (n : Needs (history past s) it page) → block_to_go (history past s) n.range ≡ None → ⊥
-some-to-go u past s it page answered room good so_far waits none n none_to_go = over (length order) (mapped_blocks h) (quota_of h) _ _ counted is_full.all_taken whole few (needed-within u past s it n.range answered room waits.admitted n.range_is)
+some-to-go u past s it page answered room good so_far waits none n none_to_go = over (length order) (mapped_blocks h) (quota_of h) _ _ counted is_full.all_taken whole few (needed-within u past s it n.range answered room n.needing waits.admitted n.range_is)
   where
     h : List Effect
     h = history past s

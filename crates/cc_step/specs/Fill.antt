@@ -15,14 +15,13 @@ use Rattle.cc_effects.specs.Places.{is_on_disk_alone}
 use Rattle.cc_journal.specs.Journal.{JournalState}
 use Rattle.cc_model.specs.History.{history}
 use Rattle.cc_model.specs.Images.{open_of}
-use Rattle.cc_model.specs.Ranges.{range_of}
 use Rattle.cc_model.specs.Refusals.{refusal}
 use Rattle.cc_model.specs.Residency.{is_resident, mapped_blocks_with}
 use Rattle.cc_model.specs.Settings.{quota_of}
 use Rattle.cc_model.specs.Setup.{Setup}
 use Rattle.cc_model.specs.Stamps.{is_unstamped}
-use Rattle.cc_model.specs.Touches.{size_of, valid_of, is_dirty}
-use Rattle.cc_step.specs.Step.{StandUnder, MayStep, least_absent, is_awaited, most_asked, Adds, AttemptDone, AttemptRefused, IsShort, IsStop, FoundNone}
+use Rattle.cc_model.specs.Touches.{valid_of, is_dirty}
+use Rattle.cc_step.specs.Step.{StandUnder, MayStep, least_absent, needed_range, IsNeeding, is_awaited, most_asked, Adds, AttemptDone, AttemptRefused, IsShort, IsStop, FoundNone}
 use Rattle.cc_step.specs.Room.{has_room}
 use Rattle.cc_step.specs.declared.ways.Next.{Next}
 use Rattle.cc_step.specs.declared.ways.Next.TheVariants as next
@@ -47,11 +46,13 @@ pub record MadeWay {Q : Type 0} (u : Setup) (pass : ℕ) (it again : Call)
   pub stand : StandUnder u c k
   pub stream : c.stream ≡ b.stream
 
--- A page of the block to give up is dirty, and no pin owes it a stamp; nothing refuses the call, and nothing changed.
+-- A page of the block to give up is dirty, and no pin owes it a stamp; nothing refuses the call, which needs pages, and
+-- nothing changed.
 pub record HasToWrite {Q : Type 0} (u : Setup) (page : ℕ) (it again : Call)
     (b c : BookState) (j k : JournalState Q) : Type 0 where
   pub call_is : again ≡ it
   pub admitted : refusal u j.entries (history j.entries b.stream) it ≡ None
+  pub needing : IsNeeding (history j.entries b.stream) it
   pub in_the_way : is_in_the_way it (page_of b page) j.entries ≡ true
   pub dirty : is_dirty (history j.entries b.stream) page ≡ true
   pub stamped : is_unstamped (history j.entries b.stream) page ≡ false
@@ -63,7 +64,7 @@ pub record HasToRead {Q : Type 0} (u : Setup) (page : ℕ) (it again : Call)
     (b c : BookState) (j k : JournalState Q) : Type 0 where
   pub call_is : again ≡ it
   pub admitted : refusal u j.entries (history j.entries b.stream) it ≡ None
-  pub least : least_absent (history j.entries b.stream) (range_of (size_of (history j.entries b.stream)) it) ≡ Some page
+  pub least : least_absent (history j.entries b.stream) (needed_range (history j.entries b.stream) it) ≡ Some page
   pub room : has_room (history j.entries b.stream) page ≡ true
   pub in_quota : mapped_blocks_with (history j.entries b.stream) page ≤ quota_of (history j.entries b.stream)
   pub same_book : c ≡ b

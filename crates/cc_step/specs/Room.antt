@@ -10,13 +10,12 @@ use Rattle.cc_book.specs.Book.{BookState, BookStands}
 use Rattle.cc_effects.specs.Asked.{block_to_go}
 use Rattle.cc_model.specs.Good.{IsGood}
 use Rattle.cc_model.specs.History.{Effect, history}
-use Rattle.cc_model.specs.Ranges.{range_of}
 use Rattle.cc_model.specs.Refusals.{refusal}
 use Rattle.cc_model.specs.Residency.{is_resident, block_is_mapped, mapped_blocks}
 use Rattle.cc_model.specs.Settings.{quota_of}
 use Rattle.cc_model.specs.Setup.{Setup}
-use Rattle.cc_model.specs.Touches.{size_of, is_dirty}
-use Rattle.cc_step.specs.Step.{least_absent}
+use Rattle.cc_model.specs.Touches.{is_dirty}
+use Rattle.cc_step.specs.Step.{least_absent, needed_range}
 
 -- whether the block of a page is mapped, or fewer blocks than the quota are
 abbrev pub has_room : List Effect → ℕ → Bool
@@ -25,7 +24,7 @@ has_room h page = block_is_mapped h (block_of page) || nat_lt (mapped_blocks h) 
 -- A call waits for a page: nothing refuses it, and this is the least that it needs and that is not resident.
 pub record IsWaiting (u : Setup) (past : List Entry) (s : ℕ) (it : Call) (page : ℕ) : Type 0 where
   pub admitted : refusal u past (history past s) it ≡ None
-  pub least : least_absent (history past s) (range_of (size_of (history past s)) it) ≡ Some page
+  pub least : least_absent (history past s) (needed_range (history past s) it) ≡ Some page
 
 -- A call waits for a page for whose block there is no room.
 pub record IsCrowded (u : Setup) (past : List Entry) (it : Call) (page : ℕ) (b : BookState) : Type 0 where

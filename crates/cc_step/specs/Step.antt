@@ -22,7 +22,7 @@ use Rattle.cc_model.specs.History.{Effect, history}
 use Rattle.cc_model.specs.Holds.{Hold, hold_at, holds_of}
 use Rattle.cc_model.specs.Ranges.{range_of}
 use Rattle.cc_model.specs.Refusals.{refusal}
-use Rattle.cc_model.specs.Replies.{IsReply}
+use Rattle.cc_model.specs.Replies.{IsReply, is_whole}
 use Rattle.cc_model.specs.Residency.{is_resident}
 use Rattle.cc_model.specs.Room.{owes_set_dirty, places_asked, reserved_in}
 use Rattle.cc_model.specs.Setup.{Setup}
@@ -39,7 +39,6 @@ is_stepped (call.NcWrite file page) = false
 is_stepped (call.Flush file span) = false
 is_stepped (call.Purge file span) = false
 is_stepped (call.Discard file span) = false
-is_stepped (call.AheadStep request) = false
 is_stepped (call.DirtyPages handle) = false
 is_stepped call.IsDirtyData = false
 is_stepped other = true
@@ -59,10 +58,20 @@ pub record MayStep {Q : Type 0} (u : Setup) (pass : ℕ) (it : Call) (b : BookSt
   pub filed : IsFiled (holds_of (history j.entries b.stream)) pass (Some b.stream) it (file_of it)
   pub owed : reserved_in j.entries ≤ j.reserved
 
--- Nothing refuses a call on a stream, and each page of its range is resident.
+-- The range whose pages a call needs: its own; of a read-ahead step none, where it brings none in.
+abbrev pub needed_range : List Effect → Call → Option Range
+needed_range h (call.AheadStep request) = if is_whole h request then range_of (size_of h) (call.AheadStep request) else None
+needed_range h other = range_of (size_of h) other
+
+-- what is so of a call that needs pages: a read-ahead step brings them in
+abbrev pub IsNeeding : List Effect → Call → Type 0
+IsNeeding h (call.AheadStep request) = is_whole h request ≡ true
+IsNeeding h other = Unit {0}
+
+-- Nothing refuses a call on a stream, and each page that it needs is resident.
 pub record IsReadyFor (u : Setup) (past : List Entry) (s : ℕ) (it : Call) : Type 0 where
   pub admitted : refusal u past (history past s) it ≡ None
-  pub filled : IsFilled (history past s) (range_of (size_of (history past s)) it)
+  pub filled : IsFilled (history past s) (needed_range (history past s) it)
 
 -- A reply is the one that a call is answered with, which this pass does on the stream.
 abbrev pub IsReplyOf : Setup → List Entry → ℕ → ℕ → Call → Reply → Type 0
@@ -93,7 +102,7 @@ pub record IsRefused {Q : Type 0} (u : Setup) (pass : ℕ) (it : Call) (e : CcEr
 -- the call waits for a page, the least that it needs and that is not resident; nothing refuses it, and nothing changed
 pub record Waits {Q : Type 0} (u : Setup) (page : ℕ) (it again : Call) (b c : BookState) (j k : JournalState Q) : Type 0 where
   pub admitted : refusal u j.entries (history j.entries b.stream) it ≡ None
-  pub least : least_absent (history j.entries b.stream) (range_of (size_of (history j.entries b.stream)) it) ≡ Some page
+  pub least : least_absent (history j.entries b.stream) (needed_range (history j.entries b.stream) it) ≡ Some page
   pub call_is : again ≡ it
   pub same_book : c ≡ b
   pub same_journal : k ≡ j
@@ -118,7 +127,7 @@ PlaceLeft u pass more it r (stepped.Stopped e) b c j k =
     (e ≡ error.NoMemory) × (k ≡ record j { reserved = j.reserved - more }) × StandUnder u c k × (c.stream ≡ b.stream)
 PlaceLeft u pass more it r other b c j k = ⊥
 
--- A call that finds the journal full is to be done: nothing refuses it, and each page of its range is resident.
+-- A call that finds the journal full is to be done: nothing refuses it, and each page that it needs is resident.
 abbrev pub IsReadyWhenFull : Setup → List Entry → ℕ → Call → CcError → Type 0
 IsReadyWhenFull u past s it (error.JournalFull entries) = IsReadyFor u past s it
 IsReadyWhenFull u past s it other = Unit {0}
@@ -219,7 +228,7 @@ awaited_of None h r = least_absent h r
 -- the page that a call on a stream waits for
 abbrev pub awaited : Setup → List Entry → ℕ → Call → Option ℕ
 awaited u past s it =
-    awaited_of (refusal u past (history past s) it) (history past s) (range_of (size_of (history past s)) it)
+    awaited_of (refusal u past (history past s) it) (history past s) (needed_range (history past s) it)
 
 -- whether a call waits for this page
 abbrev pub is_awaited : Setup → List Entry → ℕ → Call → ℕ → Bool

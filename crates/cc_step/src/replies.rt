@@ -49,6 +49,7 @@ pub fn reply<Q>(
         Call::LsnForFile { file } => Ok(Reply::Lsns(lsns(journal, file.stream()))),
         Call::State { .. } => Ok(Reply::State(state_of(book))),
         Call::AskAhead { file, at, len } => Ok(Reply::Ahead(book.ahead_of(*file, *at, *len))),
+        Call::AheadStep { request } => Ok(Reply::Whole(book.is_whole(alloc, request)?)),
         Call::CanWrite { file, bytes } => {
             Ok(Reply::Flag(journal.may_go(file.stream(), bytes.div_ceil(4096))))
         }

@@ -74,6 +74,7 @@ fn span_of(book: &Book, call: &Call) -> Option<Span>
         Call::MdlRead { at, len, .. } => span_below(book, *at, *len),
         Call::MdlWrite { at, len, .. } => span_below(book, *at, *len),
         Call::NcWrite { page, .. } => stored_span(book, *page),
+        Call::AheadStep { request } => span_below(book, request.at, request.len),
         _ => None,
     }
 }

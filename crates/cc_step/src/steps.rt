@@ -1,6 +1,7 @@
 //! The step of a call: refused, done with its entry, waiting for a page, or stopped for want of room or memory.
 
 ghost use Rattle.std.specs.Prelude.{◌≡◌, ℕ, suc, ◌<◌, true, List, Option, None, Some, IfOk};
+ghost use Rattle.cc_entry.specs.declared.call.Call.TheVariants as call;
 ghost use Rattle.cc_entry.specs.declared.entry.Entry.{Entry};
 ghost use Rattle.cc_model.specs.History.{history};
 ghost use Rattle.cc_model.specs.Holds.{holds_of};
@@ -9,11 +10,11 @@ ghost use Rattle.cc_model.specs.Refusals.{refusal};
 ghost use Rattle.cc_model.specs.Setup.{Setup};
 ghost use Rattle.cc_model.specs.Touches.{size_of};
 ghost use Rattle.cc_book.specs.Book.{BookStands};
-ghost use Rattle.cc_step.specs.Step.{is_stepped, asked_now, places_spared, StandUnder, MayStep, IsReadyFor, IsReplyOf, StepLeft, PlaceLeft, AttemptLeft, has_placed, least_absent, awaited};
+ghost use Rattle.cc_step.specs.Step.{is_stepped, asked_now, places_spared, StandUnder, MayStep, IsReadyFor, IsReplyOf, StepLeft, PlaceLeft, AttemptLeft, has_placed, least_absent, needed_range, awaited};
 
 use crate::replies::reply;
 use cc_book::Book;
-use cc_entry::{Call, CcError, NoMemory, Reply};
+use cc_entry::{Call, CcError, NoMemory, Reply, Request};
 use cc_journal::Journal;
 use std::alloc::Global;
 
@@ -68,7 +69,7 @@ pub fn waits_for<Q>(
         page ≡ awaited u journal.now.entries book.now.stream call.now) }
 {
     match book.refusal(alloc, journal, call)? {
-        None => Ok(absent(book, call)),
+        None => absent(alloc, book, call),
         Some(_) => Ok(None),
     }
 }
@@ -188,9 +189,10 @@ fn admitted<Q>(
         refusal u journal.old.entries (history journal.old.entries book.old.stream) call ≡ None →
         StepLeft u pass more call result book.old book.new journal.old journal.new }
 {
-    match absent(book, &call) {
-        Some(page) => Stepped::Waits(page, call),
-        None => finish(alloc, book, journal, pass, call, more),
+    match absent(alloc, book, &call) {
+        Ok(Some(page)) => Stepped::Waits(page, call),
+        Ok(None) => finish(alloc, book, journal, pass, call, more),
+        Err(_) => Stepped::Stopped(CcError::NoMemory),
     }
 }
 
@@ -250,8 +252,36 @@ fn place<Q>(
     }
 }
 
-/// The least page that a call needs which nothing refuses, and that is not resident.
-pub fn absent(book: &Book, call: &Call) -> Option<u64>
+/// The least page that a call needs which nothing refuses, and that is not resident. A read-ahead step that brings no page
+/// in needs none.
+pub fn absent(alloc: Global, book: &Book, call: &Call) -> Result<Option<u64>, NoMemory>
+    requires stepped { is_stepped call.now ≡ true }
+    ensures { IfOk result (λ page. (u : Setup) (opening : Option (ℕ → List ℕ)) (past : List Entry) →
+        BookStands opening past book.now → refusal u past (history past book.now.stream) call.now ≡ None →
+        page ≡ least_absent (history past book.now.stream) (needed_range (history past book.now.stream) call.now)) }
+{
+    match call {
+        Call::AheadStep { request } => absent_ahead(alloc, book, request),
+        _ => Ok(absent_in_range(book, call)),
+    }
+}
+
+// The least page that a read-ahead step needs and that is not resident.
+fn absent_ahead(alloc: Global, book: &Book, request: &Request) -> Result<Option<u64>, NoMemory>
+    ensures { IfOk result (λ page. (opening : Option (ℕ → List ℕ)) (past : List Entry) → BookStands opening past book.now →
+        page ≡ least_absent (history past book.now.stream)
+        (needed_range (history past book.now.stream) (call.AheadStep request.now))) }
+{
+    let whole = book.is_whole(alloc, request)?;
+    if whole {
+        Ok(absent_below(book, request.at, request.len))
+    } else {
+        Ok(None)
+    }
+}
+
+// The least page of the range of a call which nothing refuses, and that is not resident.
+fn absent_in_range(book: &Book, call: &Call) -> Option<u64>
     requires stepped { is_stepped call.now ≡ true }
     ensures { (u : Setup) (opening : Option (ℕ → List ℕ)) (past : List Entry) → BookStands opening past book.now →
         refusal u past (history past book.now.stream) call.now ≡ None →
@@ -267,6 +297,7 @@ pub fn absent(book: &Book, call: &Call) -> Option<u64>
         Call::PreparePin { at, len, .. } => absent_below(book, *at, *len),
         Call::MdlRead { at, len, .. } => absent_below(book, *at, *len),
         Call::MdlWrite { at, len, .. } => absent_below(book, *at, *len),
+        Call::AheadStep { request } => absent_below(book, request.at, request.len),
         _ => None,
     }
 }

@@ -1,8 +1,12 @@
-//! Tests of the private maps of a stream's objects.
+//! Tests of the private maps of a stream's objects, and of a read-ahead step that no line of a script makes.
 
+use crate::desk::desk;
 use crate::sent::takes_sent;
 use cc_ahead::PrivateMaps;
-use cc_entry::{Bytes, Call, FileId, Reply, Request};
+use cc_calls::read_ahead_step;
+use cc_entry::{AheadDone, Bytes, Call, Entry, FileId, Outcome, Reply, Request};
+use cc_journal::Parts;
+use cc_queue::Queue;
 use std::test::Fail;
 
 fn read(file: FileId, at: u64) -> Call {
@@ -37,5 +41,33 @@ fn two_reads_in_sequence_lead_to_the_next_granule(rt: HostRuntime) -> Result<(),
     assert_eq!(rt; maps.ahead_of(file, 20, 10, true, 5000), None);
     maps.done(&closing, &Reply::Unit, false);
     assert_eq!(rt; maps.ahead_of(file, 20, 10, false, 5000), None);
+    Ok(())
+}
+
+#[test]
+fn a_request_of_no_stream_brings_nothing_in(rt: HostRuntime) -> Result<(), Fail> {
+    let alloc = rt.alloc();
+    let file = FileId::new(1, 0).ok_or("file")?;
+    let (at, len) = (0, 4096);
+    let (queue, mut place) = Queue::new(alloc)?;
+    assert!(rt; queue.push(&rt, &mut place, Request { file, at, len }));
+    let mut desk = desk(alloc)?;
+    desk.act_as(18);
+    let stepped = read_ahead_step(&rt, alloc, &mut desk, &queue, &mut place);
+    assert!(rt; matches!(stepped, Ok(Some(AheadDone { whole: false, .. }))));
+    let again = read_ahead_step(&rt, alloc, &mut desk, &queue, &mut place);
+    assert!(rt; matches!(again, Ok(None)));
+    let Parts { journal, .. } = desk.end();
+    assert_eq!(rt; journal.len(), 1);
+    assert!(rt;
+        matches!(
+            journal.last(),
+            Some(Entry::Call {
+                call: Call::AheadStep { .. },
+                outcome: Outcome::Done(Reply::Whole(false)),
+                ..
+            })
+        )
+    );
     Ok(())
 }

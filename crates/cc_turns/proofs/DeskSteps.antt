@@ -219,17 +219,17 @@ module _ {D L Q : Type 0} (tells : Tells D L Q) (d : DeskState D L Q) (disks : L
   -- The journal comes home with what the pass placed: all that is not held goes on standing.
   pub journal_given : (j last : JournalState Q) → last ≡ j → length j.entries + j.reserved ≤ j.capacity → Adds (standing_of tells.disk tells.disk_faults tells.log tells.log_faults d) j.entries → JournalStands tells.posted (without_journal j (standing_of tells.disk tells.disk_faults tells.log tells.log_faults d)) j → DeskStands tells d disks books logs journal → DeskStands tells (record d { last = last; held = record d.held { journal = false } }) disks books logs (Some j)
   journal_given j last same fits adds stood stands = subst (λ l. DeskStands tells (record d { last = l; held = record d.held { journal = false } }) disks books logs (Some j)) (sym same) (record {
-    disks_are = grow (length d.begun.disks) d.held.device disks (λ s disk free home. rw adds.grew (record {
-      stands = disk_grows tells.disk tells.disk_faults (disk_at_first tells.disk tells.disk_faults (slice_get d.begun.disks s)) adds.added d.last.entries s disk (adds.held (Device s) free) home.stands;
-      at_rest = open_of-quiet adds.added d.last.entries s (adds.held (Device s) free) ∙ home.at_rest;
+    disks_are = grow (length d.begun.disks) d.held.device disks (λ s disk there free home. rw adds.grew (record {
+      stands = disk_grows tells.disk tells.disk_faults (disk_at_first tells.disk tells.disk_faults (slice_get d.begun.disks s)) adds.added d.last.entries s disk (adds.held (Device s) there free) home.stands;
+      at_rest = open_of-quiet adds.added d.last.entries s (adds.held (Device s) there free) ∙ home.at_rest;
     })) stands.disks_are;
-    books_are = grow (length d.begun.disks) d.held.book books (λ s book free home. rw adds.grew (record {
+    books_are = grow (length d.begun.disks) d.held.book books (λ s book there free home. rw adds.grew (record {
       stream_is = home.stream_is;
-      stands = book_grows adds.added d.last.entries s (openings tells.disk tells.disk_faults d.begun.disks s) book (adds.held (Book s) free) home.stream_is home.stands;
+      stands = book_grows adds.added d.last.entries s (openings tells.disk tells.disk_faults d.begun.disks s) book (adds.held (Book s) there free) home.stream_is home.stands;
     })) stands.books_are;
-    logs_are = grow (length d.begun.logs) d.held.log logs (λ handle log free home. rw adds.grew (record {
+    logs_are = grow (length d.begun.logs) d.held.log logs (λ handle log there free home. rw adds.grew (record {
       handle_is = home.handle_is;
-      stands = log_grows tells.log tells.log_faults (log_at_first tells.log tells.log_faults (slice_get d.begun.logs handle)) adds.added d.last.entries log (rw home.handle_is (adds.held (log_turn handle) free)) home.stands;
+      stands = log_grows tells.log tells.log_faults (log_at_first tells.log tells.log_faults (slice_get d.begun.logs handle)) adds.added d.last.entries log (rw home.handle_is (adds.held (log_turn handle) tt free)) home.stands;
     })) stands.logs_are;
     few = stands.few;
     journal_was = journal_as tells.posted _ _ j refl refl (same_rest j.reserved (reserved_in j.entries)) refl stood;

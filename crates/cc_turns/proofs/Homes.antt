@@ -82,9 +82,9 @@ given {A} {IsHome} count n places a is_home are = record {
     here = get-set_same places n (Some a) (slice_get_within places n None ((are.out n).1 refl))
 
 -- what was said of the things at home is said of them later
-pub grow : {A : Type 0} {IsHome Later : ℕ → A → Type 0} (count : ℕ) (held : Option ℕ) (places : List (Option A)) → ((n : ℕ) (a : A) → is_the n held ≡ false → IsHome n a → Later n a) → AreHome count held IsHome places → AreHome count held Later places
+pub grow : {A : Type 0} {IsHome Later : ℕ → A → Type 0} (count : ℕ) (held : Option ℕ) (places : List (Option A)) → ((n : ℕ) (a : A) → n < count → is_the n held ≡ false → IsHome n a → Later n a) → AreHome count held IsHome places → AreHome count held Later places
 grow count held places goes_on are = record {
   counted = are.counted;
-  home = λ n a is. goes_on n a (not_held n held (λ out. not_out _ a is ((are.out n).1 out))) (are.home n a is);
+  home = λ n a is. goes_on n a (subst (λ long. n < long) are.counted (slice_get_within places n (Some a) is)) (not_held n held (λ out. not_out _ a is ((are.out n).1 out))) (are.home n a is);
   out = are.out;
 }

@@ -57,4 +57,4 @@ log_kept told faults now w v handle log takes same held is stands =
 
 -- a journal with no entry more than the pass has seen may be given
 pub adds_nothing : (w : Standing) (entries : List Entry) → entries ≡ w.seen → Adds w entries
-adds_nothing w entries same = record { added = []; grew = same; event = tt; held = λ t free. is_quiet-none t; own = tt }
+adds_nothing w entries same = record { added = []; grew = same; event = tt; held = λ t there free. is_quiet-none t; own = tt }

@@ -1,5 +1,5 @@
 -- How a pass takes turns, and gives them.
-use Rattle.std.specs.Prelude.{◌≡◌, ℕ, suc, ◌+◌, ◌-◌, ◌^◌, Bool, true, false, min, List, [], ◌∷◌, ◌++◌}
+use Rattle.std.specs.Prelude.{◌≡◌, ℕ, suc, ◌+◌, ◌-◌, ◌^◌, ◌<◌, Bool, true, false, min, List, [], ◌∷◌, ◌++◌}
 use Rattle.std.specs.declared.option.Option.TheVariants.{Some, None}
 use Rattle.std.specs.List.{AllByRecursion}
 use Rattle.cc_entry.specs.declared.entry.Entry.{Entry}
@@ -9,7 +9,7 @@ use Rattle.cc_model.specs.Allowed.{owed_begin}
 use Rattle.cc_model.specs.Good.{IsGood}
 use Rattle.cc_model.specs.Passes.{is_mine}
 use Rattle.cc_model.specs.Room.{reserved_in}
-use Rattle.cc_model.specs.Turns.{Turn, is_quiet}
+use Rattle.cc_model.specs.Turns.{Turn, Device, Book, Log, Journal, is_quiet}
 use Rattle.cc_effects.specs.Moments.{Others}
 use Rattle.cc_turns.specs.Standing.{holds, Standing}
 
@@ -71,12 +71,19 @@ IsOneEvent (e ∷ []) = Unit {0}
 IsOneEvent (begin ∷ (store ∷ [])) = owed_begin (store ∷ []) ≡ Some begin
 IsOneEvent (e ∷ (other ∷ (third ∷ more))) = ⊥
 
--- The pass placed one event, of entries of its own, none of which needs a turn that it does not hold.
+-- whether there is a turn where so many streams have a disk: a stream without one has none
+abbrev pub IsThere : ℕ → Turn → Type 0
+IsThere streams (Device stream) = stream < streams
+IsThere streams (Book stream) = stream < streams
+IsThere streams (Log handle) = Unit {0}
+IsThere streams Journal = Unit {0}
+
+-- The pass placed one event, of entries of its own, none of which needs a turn that there is and that it does not hold.
 pub record Adds (w : Standing) (seen : List Entry) : Type 0 where
   pub added : List Entry
   pub grew : seen ≡ added ++ w.seen
   pub event : IsOneEvent added
-  pub held : (t : Turn) → holds w.held t ≡ false → is_quiet t added ≡ true
+  pub held : (t : Turn) → IsThere w.streams t → holds w.held t ≡ false → is_quiet t added ≡ true
   pub own : AllByRecursion (λ e. may_be_of w.number e ≡ true) added
 
 -- What was placed since a moment is the pass's own: nobody else went on.

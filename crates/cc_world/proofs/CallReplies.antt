@@ -1,38 +1,29 @@
 -- What a call answers that may end now, by kinds of calls.
-use Rattle.std.specs.Prelude.{◌≡◌, ◌⊎◌, ℕ, Bool, true, false, not, is_none, is_some, nat_le, nat_lt, List, [], ◌∷◌, None, Some, refl}
+use Rattle.std.specs.Prelude.{◌≡◌, ℕ, Bool, true, false, not, List, [], ◌∷◌, None, Some, refl}
 use Rattle.std.specs.declared.option.Option.{Option}
 use Rattle.std.specs.Bool.{OnTrue}
 use Rattle.std.specs.List.{find, list_all, list_any}
-use Rattle.std.proofs.Common.{ap, sym, ◌∙◌, subst, inl, inr}
-use Rattle.std.proofs.lemmas.Bool.{le-ltb, lt-ltb, leb-true, leb-false}
+use Rattle.std.proofs.Common.{sym, ◌∙◌, subst}
 use Rattle.cc_entry.specs.Pages.{pages_of}
 use Rattle.cc_entry.specs.Place.{File, Range}
 use Rattle.cc_entry.specs.declared.call.Call.{Call}
 use Rattle.cc_entry.specs.declared.call.Call.TheVariants as call
 use Rattle.cc_entry.specs.declared.entry.Entry.{Entry}
-use Rattle.cc_entry.specs.declared.error.CcError.{CcError}
-use Rattle.cc_entry.specs.declared.error.CcError.TheVariants as error
-use Rattle.cc_entry.specs.declared.place.Request.{Request}
 use Rattle.cc_entry.specs.declared.reply.Reply.{Reply}
-use Rattle.cc_entry.specs.declared.reply.Reply.TheVariants as reply
 use Rattle.cc_book.specs.Book.{BookState}
 use Rattle.cc_journal.specs.Journal.{JournalState}
 use Rattle.cc_model.specs.Conditions.{IsFilled, IsReady}
 use Rattle.cc_model.specs.History.{Effect, history}
 use Rattle.cc_model.specs.Legal.{stream_history}
-use Rattle.cc_model.specs.Holds.{Hold, holds_of}
-use Rattle.cc_model.specs.Ranges.{cut_range, needs_pages, range_of, span_has}
-use Rattle.cc_model.specs.Reasons.{is_open, refuse_if}
+use Rattle.cc_model.specs.Ranges.{needs_pages, span_has}
 use Rattle.cc_model.specs.Refusals.{refusal}
-use Rattle.cc_model.specs.Replies.{IsReply, is_whole}
+use Rattle.cc_model.specs.Replies.{IsReply}
 use Rattle.cc_model.specs.Residency.{is_resident, residents}
-use Rattle.cc_model.specs.Settings.{quota_of}
 use Rattle.cc_model.specs.Setup.{Setup}
-use Rattle.cc_model.specs.Touches.{size_of}
-use Rattle.cc_model.specs.Views.{active_blocks, needed_blocks}
-use Rattle.cc_readers.specs.ViewReads.{over_quota}
 use Rattle.cc_step.proofs.Filled.{filled-none}
-use Rattle.cc_step.specs.Step.{IsReadyFor, is_stepped, least_absent}
+use Rattle.cc_step.proofs.Placed.{needed-filled}
+use Rattle.cc_step.proofs.Waiting.{needed-range}
+use Rattle.cc_step.specs.Step.{IsReadyFor, is_stepped, least_absent, needed_range}
 use Rattle.cc_world.specs.Calls.{IsAnswer, IsUnrefused, MayReply, ends_on_book, unit_if}
 use Rattle.cc_effects.specs.Events.{filed_under, reason_of}
 
@@ -52,13 +43,13 @@ pub absent-unfilled : (h : List Effect) (r : Option Range) (p : ℕ) → IsFille
 absent-unfilled h None p filled some = absurd (cc)
 absent-unfilled h (Some r) p filled some = none-absent (is_resident h) p (pages_of r) filled some
 
--- of a call that is stepped
-needs-all : (it : Call) (r : Reply) → is_stepped it ≡ true → needs_pages it r ≡ true
-needs-all (call.NcRead file page) r stepped = absurd (cc)
-needs-all (call.NcStore file page bytes) r stepped = absurd (cc)
-needs-all (call.NcWrite file page) r stepped = absurd (cc)
-needs-all (call.AheadStep request) r stepped = absurd (cc)
-needs-all other r stepped = refl
+-- a call that is stepped and needs a range asks that its pages are resident
+needs-all : (u : Setup) (past : List Entry) (told : Option (ℕ → List ℕ)) (h : List Effect) (pass : ℕ) (it : Call) (range : Range) (r : Reply) → is_stepped it ≡ true → needed_range h it ≡ Some range → IsReply u past told h pass it r → needs_pages it r ≡ true
+needs-all u past told h pass (call.NcRead file page) range r stepped needed is = absurd (cc)
+needs-all u past told h pass (call.NcStore file page bytes) range r stepped needed is = absurd (cc)
+needs-all u past told h pass (call.NcWrite file page) range r stepped needed is = absurd (cc)
+needs-all u past told h pass (call.AheadStep request) range r stepped needed is = rw is ((needed-range h (call.AheadStep request) range needed).1)
+needs-all u past told h pass other range r stepped needed is = refl
 
 ready : (past : List Entry) (pass s : ℕ) (it : Call) → is_stepped it ≡ true → IsReady past pass s it
 ready past pass s (call.Flush file span) stepped = absurd (cc)
@@ -77,36 +68,40 @@ on-needed : (b : Bool) (P : Type 0) → b ≡ true → OnTrue b P → P
 on-needed true P is p = p
 on-needed false P is p = absurd (cc)
 
-needed : (b : Bool) (P : Type 0) → P → OnTrue b P
-needed true P p = p
-needed false P p = tt
-
 module _ {Q : Type 0} (u : Setup) (pass : ℕ) (it : Call) (b : BookState) (j : JournalState Q) (stepped : is_stepped it ≡ true) (un : IsUnrefused u 0 pass it b j) where
   pub its-admitted : refusal u j.entries (history j.entries b.stream) it ≡ None
   its-admitted = admitted-stepped u j.entries b.stream it stepped un.made.here un.admitted
 
+  abbrev h : List Effect
+  h = history j.entries b.stream
+
   -- it waits for the page that is absent
-  pub waits : (p : ℕ) → least_absent (history j.entries b.stream) (range_of (size_of (history j.entries b.stream)) it) ≡ Some p → (r : Reply) → MayReply u j.entries pass b.stream it r → ⊥
-  waits p some r may =
-      absent-unfilled (history j.entries b.stream) (range_of (size_of (history j.entries b.stream)) it) p (on-needed (needs_pages it r) _ (needs-all it r stepped) may.may_end.0) some
+  pub waits : (p : ℕ) → least_absent h (needed_range h it) ≡ Some p → (r : Reply) → MayReply u j.entries pass b.stream it r → ⊥
+  waits p some r may = by (needed_range h it) refl some
+    where
+      by : (o : Option Range) → needed_range h it ≡ o → least_absent h o ≡ Some p → ⊥
+      by None is found = absurd (cc)
+      by (Some range) is found =
+          let needs = needs-all u j.entries (u.opening b.stream) h pass it range r stepped is may.reply_is in
+          absent-unfilled h (Some range) p
+          (subst (λ (o : Option Range). IsFilled h o) ((needed-range h it range is).0) (on-needed (needs_pages it r) _ needs may.may_end.0)) found
 
-  pub is-ready : least_absent (history j.entries b.stream) (range_of (size_of (history j.entries b.stream)) it) ≡ None → IsReadyFor u j.entries b.stream it
-  is-ready none = record { admitted = its-admitted; filled = filled-none (history j.entries b.stream) _ none }
+  pub is-ready : least_absent h (needed_range h it) ≡ None → IsReadyFor u j.entries b.stream it
+  is-ready none = record { admitted = its-admitted; filled = filled-none h _ none }
 
-  pub replies : (r : Reply) → IsReadyFor u j.entries b.stream it → IsReply u j.entries (u.opening b.stream) (history j.entries b.stream) pass it r → MayReply u j.entries pass b.stream it r
-  replies r is_ready is = record { reply_is = is; may_end = (needed (needs_pages it r) _ is_ready.filled, ready j.entries pass b.stream it stepped) }
+  pub replies : (r : Reply) → IsReadyFor u j.entries b.stream it → IsReply u j.entries (u.opening b.stream) h pass it r → MayReply u j.entries pass b.stream it r
+  replies r is_ready is = record { reply_is = is; may_end = (needed-filled u j.entries pass b.stream it r is is_ready.filled, ready j.entries pass b.stream it stepped) }
 
-pub stepped-else : (it : Call) → ends_on_book it ≡ true → ((file : File) (page : ℕ) → it ≡ call.NcWrite file page → ⊥) → ((file : File) (span : Option Range) → it ≡ call.Flush file span → ⊥) → ((file : File) (span : Option Range) → it ≡ call.Purge file span → ⊥) → ((file : File) (span : Option Range) → it ≡ call.Discard file span → ⊥) → ((request : Request) → it ≡ call.AheadStep request → ⊥) → is_stepped it ≡ true
-stepped-else (call.NcRead file page) on_book a b c d e = absurd (cc)
-stepped-else (call.NcStore file page bytes) on_book a b c d e = absurd (cc)
-stepped-else (call.DirtyPages handle) on_book a b c d e = absurd (cc)
-stepped-else call.IsDirtyData on_book a b c d e = absurd (cc)
-stepped-else (call.NcWrite file page) on_book a b c d e = absurd (a file page refl)
-stepped-else (call.Flush file span) on_book a b c d e = absurd (b file span refl)
-stepped-else (call.Purge file span) on_book a b c d e = absurd (c file span refl)
-stepped-else (call.Discard file span) on_book a b c d e = absurd (d file span refl)
-stepped-else (call.AheadStep request) on_book a b c d e = absurd (e request refl)
-stepped-else other on_book a b c d e = refl
+pub stepped-else : (it : Call) → ends_on_book it ≡ true → ((file : File) (page : ℕ) → it ≡ call.NcWrite file page → ⊥) → ((file : File) (span : Option Range) → it ≡ call.Flush file span → ⊥) → ((file : File) (span : Option Range) → it ≡ call.Purge file span → ⊥) → ((file : File) (span : Option Range) → it ≡ call.Discard file span → ⊥) → is_stepped it ≡ true
+stepped-else (call.NcRead file page) on_book a b c d = absurd (cc)
+stepped-else (call.NcStore file page bytes) on_book a b c d = absurd (cc)
+stepped-else (call.DirtyPages handle) on_book a b c d = absurd (cc)
+stepped-else call.IsDirtyData on_book a b c d = absurd (cc)
+stepped-else (call.NcWrite file page) on_book a b c d = absurd (a file page refl)
+stepped-else (call.Flush file span) on_book a b c d = absurd (b file span refl)
+stepped-else (call.Purge file span) on_book a b c d = absurd (c file span refl)
+stepped-else (call.Discard file span) on_book a b c d = absurd (d file span refl)
+stepped-else other on_book a b c d = refl
 
 -- a purge may end whose span has no resident page
 pub purge-answer : (u : Setup) (past : List Entry) (pass s : ℕ) (file : File) (span : Option Range) (resident : Bool) → resident ≡ list_any (span_has span) (residents (history past s)) → IsAnswer u past pass s (call.Purge file span) (unit_if (not resident))
@@ -115,52 +110,3 @@ purge-answer u past pass s file span true is = λ r may. differ (is ∙ may.may_
     differ : true ≡ false → ⊥
     differ e = absurd (cc)
 purge-answer u past pass s file span false is = record { reply_is = refl; may_end = (tt, sym is) }
-
--- Of a read-ahead step: where its request is whole, its pages have to be resident.
-none-of : (o : Option ℕ) → is_some o ≡ false → o ≡ None
-none-of None is = refl
-none-of (Some p) is = absurd (cc)
-
-pub none-if : (o : Option CcError) (t : Bool) → is_some o ≡ not t → t ≡ is_none o
-none-if None true is = refl
-none-if None false is = absurd (cc)
-none-if (Some e) true is = absurd (cc)
-none-if (Some e) false is = refl
-
--- the quota has room where nothing refuses for want of views
-within-quota : (quota needed : ℕ) (e : CcError) → is_none (refuse_if (nat_lt quota needed) e) ≡ nat_le needed quota
-within-quota quota needed e = go (nat_le needed quota) refl
-  where
-    go : (t : Bool) → nat_le needed quota ≡ t → is_none (refuse_if (nat_lt quota needed) e) ≡ t
-    go true is = rw (le-ltb quota needed (leb-true needed quota is)) refl
-    go false is = rw (lt-ltb quota needed (leb-false needed quota is)) refl
-
-pub whole-so : (h : List Effect) (request : Request) (holds : List Hold) (quota at to : ℕ) (o : Option CcError) → holds ≡ holds_of h → quota ≡ quota_of h → at ≡ request.at → to ≡ (cut_range (size_of h) request.at request.len).to → is_open h request.file ≡ true → o ≡ over_quota holds quota (record { from = at; to = to }) → is_none o ≡ is_whole h request
-whole-so h request holds quota at to o holds_are quota_is from end opened is =
-    ap is_none (is ∙ rw (holds_are, quota_is, from, end) refl)
-    ∙ within-quota (quota_of h) (needed_blocks (holds_of h) (cut_range (size_of h) request.at request.len)) (error.NoViews (active_blocks (holds_of h)) (quota_of h))
-    ∙ sym (rw opened refl)
-
-module _ (u : Setup) (past : List Entry) (pass s : ℕ) (request : Request) (whole : Bool) (whole_is : whole ≡ is_whole (history past s) request) where
-  abbrev range : Range
-  range = cut_range (size_of (history past s)) request.at request.len
-
-  abbrev least : Option ℕ
-  least = least_absent (history past s) (Some range)
-
-  pub ahead-waits : (o : Option ℕ) → whole ≡ true → is_some o ≡ true → o ≡ least → (r : Reply) → MayReply u past pass s (call.AheadStep request) r → ⊥
-  ahead-waits None is some found r may = absurd (cc)
-  ahead-waits (Some p) is some found r may =
-      let needs : needs_pages (call.AheadStep request) r ≡ true = ap (needs_pages (call.AheadStep request)) may.reply_is ∙ (sym whole_is ∙ is) in
-      absent-unfilled (history past s) (Some range) p (on-needed (needs_pages (call.AheadStep request) r) _ needs may.may_end.0) (sym found)
-
-  pub ahead-replies : (whole ≡ false) ⊎ (least ≡ None) → MayReply u past pass s (call.AheadStep request) (reply.Whole whole)
-  ahead-replies so = record { reply_is = ap reply.Whole whole_is; may_end = (filled whole so, tt) }
-    where
-      filled : (t : Bool) → (t ≡ false) ⊎ (least ≡ None) → OnTrue t (IsFilled (history past s) (Some range))
-      filled false so = tt
-      filled true (inl is) = absurd (cc)
-      filled true (inr none) = filled-none (history past s) (Some range) none
-
-pub none-absent-in : (o found : Option ℕ) → is_some o ≡ false → o ≡ found → found ≡ None
-none-absent-in o found is same = sym same ∙ none-of o is

@@ -1,12 +1,9 @@
 //! What a call answers that may end now on the book of its stream and the journal.
 
 ghost use Rattle.std.specs.Prelude.{◌≡◌, ℕ, List, Option, None, IfOk, true};
-ghost use Rattle.cc_entry.specs.declared.call.Call.TheVariants as call;
-ghost use Rattle.cc_book.specs.Book.{BookStands};
 ghost use Rattle.cc_model.specs.Conditions.{MayFinish};
 ghost use Rattle.cc_model.specs.History.{history};
 ghost use Rattle.cc_model.specs.Images.{open_of};
-ghost use Rattle.cc_model.specs.Replies.{is_whole};
 ghost use Rattle.cc_model.specs.Setup.{Setup};
 ghost use Rattle.cc_step.specs.Step.{is_stepped};
 ghost use Rattle.cc_world.specs.Calls.{IsAnswer, IsUnrefused, ends_on_book, unit_if};
@@ -14,13 +11,10 @@ ghost use Rattle.cc_world.specs.Pages.{Says};
 
 use crate::residents::has_resident;
 use cc_book::Book;
-use cc_entry::{Call, NoMemory, Reply, Request, StreamId};
+use cc_entry::{Call, NoMemory, Reply, StreamId};
 use cc_journal::Journal;
-use cc_readers::blocks::by_quota;
 use cc_readers::flushed::is_flushed;
-use cc_readers::holds::{Reach, open_holds};
 use cc_readers::stores::{ends_own_store, is_written_since};
-use cc_readers::views::end_within;
 use cc_step::{absent, reply};
 use std::alloc::Global;
 
@@ -40,7 +34,6 @@ pub(crate) fn reply_now<Q>(
         IsAnswer u journal.now.entries pass book.now.stream call.now answer) }
 {
     match call {
-        Call::AheadStep { request } => reply_ahead(alloc, book, journal, request),
         Call::Flush { span, .. } => {
             let flushed = is_flushed(alloc, journal.entries(), pass, book.stream(), *span)?;
             Ok(unit_if(flushed))
@@ -65,51 +58,10 @@ fn reply_stepped<Q>(
     ensures { IfOk result (λ answer. (u : Setup) (pass : ℕ) → IsUnrefused u 0 pass call.now book.now journal.now →
         IsAnswer u journal.now.entries pass book.now.stream call.now answer) }
 {
-    match absent(book, call) {
+    match absent(alloc, book, call)? {
         Some(_) => Ok(None),
         None => Ok(Some(reply(alloc, book, journal, call)?)),
     }
-}
-
-// What a read-ahead step answers: whether its request is whole. Where it is, its pages have to be resident.
-fn reply_ahead<Q>(
-    alloc: Global,
-    book: &Book,
-    journal: &Journal<Q>,
-    request: &Request,
-) -> Result<Option<Reply>, NoMemory>
-    ensures { IfOk result (λ answer. (u : Setup) (pass : ℕ) →
-        IsUnrefused u 0 pass (call.AheadStep request.now) book.now journal.now →
-        IsAnswer u journal.now.entries pass book.now.stream (call.AheadStep request.now) answer) }
-{
-    let whole = is_whole(alloc, book, journal, request)?;
-    let end = end_within(book.size(), request.at, request.len);
-    if whole && book.first_absent(request.at, end).is_some() {
-        return Ok(None);
-    }
-    Ok(Some(Reply::Whole(whole)))
-}
-
-// Whether the object of a request is open, and the quota has room for the blocks of the request beside those of open holds.
-fn is_whole<Q>(
-    alloc: Global,
-    book: &Book,
-    journal: &Journal<Q>,
-    request: &Request,
-) -> Result<bool, NoMemory>
-    ensures { IfOk result (λ whole. (opening : Option (ℕ → List ℕ)) → BookStands opening journal.now.entries book.now →
-        whole ≡ is_whole (history journal.now.entries book.now.stream) request.now) }
-{
-    if !book.is_open(request.file.object()) {
-        return Ok(false);
-    }
-    let holds = open_holds(alloc, journal.entries(), book.stream())?;
-    let end = end_within(book.size(), request.at, request.len);
-    let range = Reach {
-        from: u128::from(request.at),
-        to: u128::from(end),
-    };
-    Ok(by_quota(alloc, &holds, book.quota(), range)?.is_none())
 }
 
 // Whether the noncached write of a page may end: its store is the pass's last call, and is on the disk.

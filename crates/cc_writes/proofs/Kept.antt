@@ -25,7 +25,7 @@ use Rattle.cc_model.specs.Touches.{size_of, valid_of}
 use Rattle.cc_model.specs.Views.{viewed, no_views, no_vacbs, not_resident}
 use Rattle.cc_step.specs.Fill.{IsNotToLand}
 use Rattle.cc_step.specs.Room.{has_room}
-use Rattle.cc_step.specs.Step.{is_awaited, least_absent}
+use Rattle.cc_step.specs.Step.{is_awaited, least_absent, needed_range}
 use Rattle.cc_step.proofs.Awaiting.{awaited-of}
 use Rattle.cc_turns.specs.Standing.{Standing}
 use Rattle.cc_turns.specs.Takes.{Grows}
@@ -76,7 +76,7 @@ module _ (w : Standing) (s page : ℕ) (it : Call) (seen : List Entry) (book : w
   still grows =
       awaited-of w.setup seen s it page (record {
         admitted = ap (λ (h : List Effect). refusal w.setup seen h it) (same grows) ∙ (refused-alike w.setup w.seen seen (history w.seen s) it brings ∙ waited.admitted);
-        least = ap (λ (h : List Effect). least_absent h (range_of (size_of h) it)) (same grows) ∙ waited.least;
+        least = ap (λ (h : List Effect). least_absent h (needed_range h it)) (same grows) ∙ waited.least;
       })
 
   -- so a page for whose block there is room lands, if it was read where it had to be

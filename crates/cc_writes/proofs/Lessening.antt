@@ -86,8 +86,8 @@ module _ (w : Standing) (s : ℕ) (b : BookState) (has : HasBook w s b) (device 
       (ap (λ (past : List Entry). history past s) came.placed.placed
       ∙ (history-page_in w.number (record { stream = s; page = page }) came.from_disk came.placed.front s (eq-eqb s s refl)
       ∙ ap (λ (g : List Effect). CameIn w.number page came.from_disk ∷ g) (history-held w s came.placed.front book device came.placed.grows)))
-      (size-came w.number page came.from_disk h n.range (waiting-mapped w.setup w.seen h it answered room waited.admitted)) n.range_is
-      (comes-less w.number page came.from_disk h n.range (waiting-mapped w.setup w.seen h it answered room waited.admitted) n.has n.absent
+      (size-came w.number page came.from_disk h n.range (waiting-mapped w.setup w.seen h it answered room n.needing waited.admitted)) n.range_is
+      (comes-less w.number page came.from_disk h n.range (waiting-mapped w.setup w.seen h it answered room n.needing waited.admitted) n.has n.absent
       (below n.range.to (size_of h) page (page-before n.range page n.has) (waiting-within w.setup w.seen h it n.range answered room waited.admitted n.range_is)))
     where
       below : (end size p : ℕ) → 4096 * p < end → end ≤ size → 4096 * p < size
@@ -102,7 +102,7 @@ module _ (w : Standing) (s : ℕ) (b : BookState) (has : HasBook w s b) (device 
       let mapped : is_mapped k ≡ true =
       or_left (not (is_empty (objects k))) _
       (ap (λ (l : List ℕ). not (is_empty l)) (objects-ended w.number page how.Good (Began w.number page ∷ h) ∙ objects-began w.number page h)
-      ∙ ap not (opened h it answered room (unrefused w.setup w.seen h it asked.admitted).cached)) in
+      ∙ ap not (opened h it answered room asked.needing (unrefused w.setup w.seen h it asked.admitted).cached)) in
       by-history seen k out.range
       (ap (λ (past : List Entry). history past s) done.placed
       ∙ (history-write_end w.number this how.Good _ s (eq-eqb s s refl)

@@ -13,7 +13,7 @@ use Rattle.cc_model.specs.Room.{reserved_in}
 use Rattle.cc_model.specs.Turns.{Turn, is_quiet}
 use Rattle.cc_turns.specs.Standing.{Standing, Held, holds}
 use Rattle.cc_turns.specs.Journal.{JournalStands}
-use Rattle.cc_turns.specs.Takes.{Grows, Takes, Adds, IsOneEvent, with_journal, without_journal, may_be_of}
+use Rattle.cc_turns.specs.Takes.{Grows, Takes, Adds, IsOneEvent, IsThere, with_journal, without_journal, may_be_of}
 use Rattle.cc_writes.specs.Hands.{WentWith}
 use Rattle.cc_writes.specs.Visits.{HasPlaced}
 
@@ -44,6 +44,15 @@ pub record Stepping {Q : Type 0} (w v : Standing) (flight : ℕ) (added : List E
   pub held : (t : Turn) → holds (record w.held { journal = true }) t ≡ false → is_quiet t added ≡ true
   pub reserved : k.reserved ≡ reserved_in k.entries + flight + v.others
 
+-- The same, where it needs no turn that there is and that it does not hold.
+pub record SteppingThere {Q : Type 0} (w v : Standing) (flight : ℕ) (added : List Entry) (j k : JournalState Q) : Type 0 where
+  pub kept : k ≡ record j { entries = added ++ j.entries; reserved = k.reserved; rows = k.rows }
+  pub good : IsGood w.setup k.entries
+  pub event : IsOneEvent added
+  pub own : AllByRecursion (λ e. may_be_of w.number e ≡ true) added
+  pub held : (t : Turn) → IsThere w.streams t → holds (record w.held { journal = true }) t ≡ false → is_quiet t added ≡ true
+  pub reserved : k.reserved ≡ reserved_in k.entries + flight + v.others
+
 -- What the pass gives, and how it goes on with the journal given.
 pub record Visited {Q : Type 0} (posted : Q → Bool) (w v : Standing) (flight : ℕ) (k : JournalState Q) : Type 0 where
   pub adds : Adds v k.entries
@@ -51,13 +60,14 @@ pub record Visited {Q : Type 0} (posted : Q → Bool) (w v : Standing) (flight :
   pub good : IsGood (without_journal k v).setup k.entries
   pub went : WentWith flight w (without_journal k v)
 
-pub visited : {Q : Type 0} (posted : Q → Bool) (w v : Standing) (flight : ℕ) (added : List Entry) (j k : JournalState Q) → w.held.journal ≡ false → Visiting posted w v j → Stepping w v flight added j k → Visited posted w v flight k
-visited {Q = Q} posted w v flight added j k away vis step = record {
+-- the same, where nothing is said of the turns that there are not
+pub visited-there : {Q : Type 0} (posted : Q → Bool) (w v : Standing) (flight : ℕ) (added : List Entry) (j k : JournalState Q) → w.held.journal ≡ false → Visiting posted w v j → SteppingThere w v flight added j k → Visited posted w v flight k
+visited-there {Q = Q} posted w v flight added j k away vis step = record {
   adds = record {
     added = added;
     grew = ap (λ x. x.entries) step.kept ∙ ap (λ past. added ++ past) vis.journal.entries_are;
     event = step.event;
-    held = λ t free. step.held t (subst (λ (h : Held). holds h t ≡ false) (ap (λ x. x.held) vis.taken.same) free);
+    held = λ t there free. step.held t (subst (λ (n : ℕ). IsThere n t) (ap (λ (x : Standing). x.streams) vis.taken.same) there) (subst (λ (h : Held). holds h t ≡ false) (ap (λ x. x.held) vis.taken.same) free);
     own = subst (λ (n : ℕ). AllByRecursion (λ e. may_be_of n e ≡ true) added) (sym (ap (λ x. x.number) vis.taken.same)) step.own;
   };
   journal = record {
@@ -85,6 +95,11 @@ visited {Q = Q} posted w v flight added j k away vis step = record {
       where
         left : (n owed mine others : ℕ) → n ≡ owed + mine + others → n - (owed + others) ≡ mine
         left n owed mine others same = omega (arith, same)
+
+pub visited : {Q : Type 0} (posted : Q → Bool) (w v : Standing) (flight : ℕ) (added : List Entry) (j k : JournalState Q) → w.held.journal ≡ false → Visiting posted w v j → Stepping w v flight added j k → Visited posted w v flight k
+visited posted w v flight added j k away vis step =
+    visited-there posted w v flight added j k away vis
+    (record { kept = step.kept; good = step.good; event = step.event; own = step.own; held = λ t there free. step.held t free; reserved = step.reserved })
 
 -- A journal that nothing was placed in, with so much under way.
 pub stepping-none : {Q : Type 0} (posted : Q → Bool) (w v : Standing) (flight reserved : ℕ) (j k : JournalState Q) → Visiting posted w v j → k ≡ record j { reserved = reserved } → reserved ≡ reserved_in j.entries + flight + v.others → Stepping w v flight [] j k

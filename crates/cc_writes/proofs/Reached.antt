@@ -16,7 +16,8 @@ use Rattle.cc_model.specs.History.{Effect, history}
 use Rattle.cc_model.specs.Ranges.{range_of}
 use Rattle.cc_model.specs.Residency.{is_resident}
 use Rattle.cc_model.specs.Touches.{size_of}
-use Rattle.cc_step.specs.Step.{is_stepped, least_absent}
+use Rattle.cc_step.proofs.Waiting.{needed-range}
+use Rattle.cc_step.specs.Step.{is_stepped, least_absent, needed_range}
 use Rattle.cc_writes.specs.Visits.{IsOf}
 
 -- what is found among numbers that follow one another lies between the ends
@@ -61,8 +62,15 @@ of-stream (call.PinRead file at len exclusive) s p stepped brings filed = same-s
 of-stream (call.PreparePin file at len clears exclusive) s p stepped brings filed = same-stream s file.stream (filed [] 0)
 of-stream (call.MdlRead file at len) s p stepped brings filed = same-stream s file.stream (filed [] 0)
 of-stream (call.MdlWrite file at len) s p stepped brings filed = same-stream s file.stream (filed [] 0)
+of-stream (call.AheadStep request) s p stepped brings filed = same-stream s request.file.stream (filed [] 0)
 of-stream other s p stepped brings filed = absurd (cc)
 
-pub reached : (it : Call) (s p : ℕ) (past : List Entry) → is_stepped it ≡ true → brings_in it ≡ true → IsOf it s → least_absent (history past s) (range_of (size_of (history past s)) it) ≡ Some p → reaches it (record { stream = s; page = p }) past ≡ true
-reached it s p past stepped brings filed least =
-    both-so _ _ (of-stream it s p stepped brings filed) (range-found (history past s) (range_of (size_of (history past s)) it) p least)
+pub reached : (it : Call) (s p : ℕ) (past : List Entry) → is_stepped it ≡ true → brings_in it ≡ true → IsOf it s → least_absent (history past s) (needed_range (history past s) it) ≡ Some p → reaches it (record { stream = s; page = p }) past ≡ true
+reached it s p past stepped brings filed least = both-so _ _ (of-stream it s p stepped brings filed) (by (needed_range h it) refl least)
+  where
+    h : List Effect
+    h = history past s
+
+    by : (o : Option Range) → needed_range h it ≡ o → least_absent h o ≡ Some p → range_has (range_of (size_of h) it) p ≡ true
+    by None is found = absurd (cc)
+    by (Some r) is found = rw ((needed-range h it r is).0) (range-found h (Some r) p found)

@@ -191,6 +191,7 @@ among u past h (call.NcWrite file page) here =
     (among-first it (beyond_valid (valid_of h) it) _ (among-if it _ _ refl)
     (among-first it (busy (holds_of h) it) _ (among-busy it _ (λ n. refl))
     (among-first it (no_views h (range_of (size_of h) it)) _ (among-views it h (range_of (size_of h) it) (λ a q. refl)) tt))))
+among u past h (call.AheadStep request) here = tt
 among u past h other here = absurd (cc)
 
 -- a refusal that the definition gives is among the call's
@@ -262,4 +263,5 @@ may-tell (call.PreparePin file at len true exclusive) e here brings fault = faul
 may-tell (call.PreparePin file at len false exclusive) e here brings fault = fault-listed (call.PreparePin file at len false exclusive) e fault (λ n. refl) (λ n. refl) (λ n. refl)
 may-tell (call.MdlRead file at len) e here brings fault = fault-listed (call.MdlRead file at len) e fault (λ n. refl) (λ n. refl) (λ n. refl)
 may-tell (call.MdlWrite file at len) e here brings fault = fault-listed (call.MdlWrite file at len) e fault (λ n. refl) (λ n. refl) (λ n. refl)
+may-tell (call.AheadStep request) e here brings fault = fault-listed (call.AheadStep request) e fault (λ n. refl) (λ n. refl) (λ n. refl)
 may-tell it e here brings fault = absurd (cc)

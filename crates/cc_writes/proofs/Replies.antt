@@ -72,6 +72,7 @@ fits-reply u past told h pass (call.SetGranularity file bytes) r out here is fit
 fits-reply u past told h pass (call.SetAttributes file no_read_ahead no_write_behind) r out here is fits = rw is tt
 fits-reply u past told h pass (call.SetThreshold file pages) r out here is fits = rw is tt
 fits-reply u past told h pass (call.AskAhead file at len) r out here is fits = rw is tt
+fits-reply u past told h pass (call.AheadStep request) r out here is fits = rw is tt
 fits-reply u past told h pass (call.CanWrite file bytes) r out here is fits = rw is tt
 fits-reply u past told h pass other r out here is fits = absurd (cc)
 

@@ -152,7 +152,7 @@ module _ {Q : Type 0} (posted : Q → Bool) (w v : Standing) (it : Call) (b c : 
       (subst (λ (x : JournalState Q). (again ≡ it) × IsUnderWay w.number it begun x.entries × IsToBeWritten w.setup b.stream it page x.entries × (now ≡ was)) (sym left.same_journal) (
         left.call_is,
         way-on posted w v it b c j k has vis here filed begun way,
-        record { admitted = left.admitted; in_the_way = left.in_the_way; dirty = left.dirty; stamped = left.stamped },
+        record { admitted = left.admitted; needing = left.needing; in_the_way = left.in_the_way; dirty = left.dirty; stamped = left.stamped },
         told.1,
       ))
   left-next is brings (next.Reads page again) answer was now left told begun way =

@@ -78,7 +78,7 @@ visited {Q = Q} posted w v s flight added b c j k has vis step = record {
     added = added;
     grew = ap (λ x. x.entries) step.kept ∙ ap (λ past. added ++ past) vis.front_is;
     event = step.event;
-    held = λ t free. step.held t (subst (λ (h : Held). holds h t ≡ false) vis.held_is free);
+    held = λ t there free. step.held t (subst (λ (h : Held). holds h t ≡ false) vis.held_is free);
     own = subst (λ (n : ℕ). AllByRecursion (λ e. may_be_of n e ≡ true) added) (sym vis.number_is) step.own;
   };
   journal = record {

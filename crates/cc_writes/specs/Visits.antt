@@ -13,15 +13,14 @@ use Rattle.cc_model.specs.Acts.{file_of}
 use Rattle.cc_model.specs.Filing.{IsFiled}
 use Rattle.cc_model.specs.History.{history}
 use Rattle.cc_model.specs.Holds.{Hold, holds_of}
-use Rattle.cc_model.specs.Ranges.{range_of}
 use Rattle.cc_model.specs.Refusals.{refusal}
 use Rattle.cc_model.specs.Residency.{is_resident}
 use Rattle.cc_model.specs.Setup.{Setup}
 use Rattle.cc_model.specs.Stamps.{is_unstamped}
-use Rattle.cc_model.specs.Touches.{is_dirty, size_of}
+use Rattle.cc_model.specs.Touches.{is_dirty}
 use Rattle.cc_step.specs.Fill.{IsNotToLand}
 use Rattle.cc_step.specs.Room.{has_room}
-use Rattle.cc_step.specs.Step.{is_awaited, least_absent}
+use Rattle.cc_step.specs.Step.{is_awaited, least_absent, needed_range, IsNeeding}
 use Rattle.cc_turns.specs.Standing.{Standing}
 use Rattle.cc_turns.specs.Takes.{Grows}
 use Rattle.cc_writes.specs.Hands.{SameDisk, Went, WentWith}
@@ -43,11 +42,12 @@ IsFiledNow w s it = IsFiled (holds_of (history w.seen s)) w.number (Some s) it (
 -- Nothing refuses a call, and this is the least page that it needs and that is not resident.
 pub record IsWaitedFor (u : Setup) (s : ℕ) (it : Call) (page : ℕ) (past : List Entry) : Type 0 where
   pub admitted : refusal u past (history past s) it ≡ None
-  pub least : least_absent (history past s) (range_of (size_of (history past s)) it) ≡ Some page
+  pub least : least_absent (history past s) (needed_range (history past s) it) ≡ Some page
 
--- A page is to be written so that its block can be given up for a call, which nothing refuses.
+-- A page is to be written so that its block can be given up for a call, which nothing refuses and which needs pages.
 pub record IsToBeWritten (u : Setup) (s : ℕ) (it : Call) (page : ℕ) (past : List Entry) : Type 0 where
   pub admitted : refusal u past (history past s) it ≡ None
+  pub needing : IsNeeding (history past s) it
   pub in_the_way : is_in_the_way it (record { stream = s; page = page }) past ≡ true
   pub dirty : is_dirty (history past s) page ≡ true
   pub stamped : is_unstamped (history past s) page ≡ false

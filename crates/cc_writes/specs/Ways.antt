@@ -80,14 +80,15 @@ is_met other = false
 abbrev pub IsReason : Setup → ℕ → Call → CcError → Type 0
 IsReason u s it e = (is_met e ≡ true) ⊎ ((past : List Entry) × (refusal u past (history past s) it ≡ Some e))
 
--- what a caller is told of a reply: the bytes of a read, in the front of what it handed in, the id of a hold, a flag,
--- the LSNs of a stream, or its state
+-- what a caller is told of a reply: the bytes of a read, in the front of what it handed in, the id of a hold, a flag, as
+-- that of a read-ahead step too, the LSNs of a stream, or its state
 abbrev pub IsTold : Reply → Returned → List ℕ → List ℕ → Type 0
 IsTold (reply.Read bytes) told was now =
     (told ≡ returned.Bytes (length bytes)) × (take (length bytes) now ≡ bytes)
     × (drop (length bytes) now ≡ drop (length bytes) was)
 IsTold (reply.Hold id) told was now = (told ≡ returned.Hold id) × (now ≡ was)
 IsTold (reply.Flag flag) told was now = (told ≡ returned.Flag flag) × (now ≡ was)
+IsTold (reply.Whole whole) told was now = (told ≡ returned.Flag whole) × (now ≡ was)
 IsTold (reply.Lsns lsns) told was now = (told ≡ returned.Lsns lsns) × (now ≡ was)
 IsTold (reply.State state) told was now = (told ≡ returned.State state) × (now ≡ was)
 IsTold other told was now = (told ≡ returned.Nothing) × (now ≡ was)

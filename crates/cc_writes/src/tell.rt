@@ -15,7 +15,7 @@ pub enum Returned {
     Bytes(usize),
     /// The id of a hold.
     Hold(u64),
-    /// Whether it is so: of an uninitialise, whether the shared map went.
+    /// Whether it is so: of an uninitialise, whether the shared map went; of a read-ahead step, whether its pages are there.
     Flag(bool),
     /// The least and the greatest LSN stamped on dirty pages of a stream, where there is one.
     Lsns(Option<(Lsn, Lsn)>),
@@ -61,6 +61,7 @@ fn told(reply: &Reply, out: &mut [u8]) -> Returned
         Reply::Read(bytes) => Returned::Bytes(copy(bytes, out)),
         Reply::Hold(id) => Returned::Hold(*id),
         Reply::Flag(flag) => Returned::Flag(*flag),
+        Reply::Whole(whole) => Returned::Flag(*whole),
         Reply::Lsns(lsns) => Returned::Lsns(*lsns),
         Reply::State(state) => Returned::State(*state),
         _ => Returned::Nothing,

@@ -104,7 +104,7 @@ returns-in-Writes-clause-nearer g c =
     let asked : IsToBeWritten v.setup n it dirty v.seen =
     subst (λ (u : Setup). IsToBeWritten u n it dirty v.seen) (sym (ap (λ (x : Standing). x.setup) c.next_at.ensures.went.same))
     (subst (λ (t : ℕ). IsToBeWritten w.setup t it dirty v.seen) (sym c.next_at.ensures.book.stream)
-    (record { admitted = asking.admitted; in_the_way = asking.in_the_way; dirty = asking.to_write.dirty; stamped = asking.to_write.stamped })) in
+    (record { admitted = asking.admitted; needing = tt; in_the_way = asking.in_the_way; dirty = asking.to_write.dirty; stamped = asking.to_write.stamped })) in
     subst (λ (r : Round). IsNearer file c.args.page r c.args.rounds.now keeps.new.self w.seen seen) (sym c.round_of.ensures)
     (near-round file c.args.page c.write_for-book.result.1 c.args.rounds.now keeps.new.self w.seen seen
     (nearer-wrote file.stream it (course_of c.write_for-book.result.1) c.args.rounds.now keeps.new.self w.seen seen dirty keeps.result

@@ -29,3 +29,7 @@ returns-in-State g c u pass stand filed ready =
 pub returns-in-AskAhead : goal.returns-in-AskAhead
 returns-in-AskAhead g c u pass stand filed ready =
     rw c.in-AskAhead.is (ap reply.Ahead (c.ahead_of.ensures (u.opening c.args.book.now.stream) c.args.journal.now.entries stand.stands))
+
+pub returns-in_ok-is_whole-in-AheadStep : goal.returns-in_ok-is_whole-in-AheadStep
+returns-in_ok-is_whole-in-AheadStep g c u pass stand filed ready =
+    rw c.in-AheadStep.is (ap reply.Whole (c.in_ok-is_whole-in-AheadStep.ensures (u.opening c.args.book.now.stream) c.args.journal.now.entries stand.stands))

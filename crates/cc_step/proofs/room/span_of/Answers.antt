@@ -7,6 +7,7 @@ use Rattle.cc_entry.specs.Place.{File, Range}
 use Rattle.cc_entry.specs.declared.call.Call.{Call}
 use Rattle.cc_entry.specs.declared.call.Call.TheVariants as call
 use Rattle.cc_entry.specs.declared.entry.Entry.{Entry}
+use Rattle.cc_entry.specs.declared.place.Request.{Request}
 use Rattle.cc_laws.proofs.UnrefusedCalls.{unrefused}
 use Rattle.cc_model.specs.History.{history}
 use Rattle.cc_model.specs.Ranges.{cut_range, range_of}
@@ -38,6 +39,11 @@ read : (u : Setup) (past : List Entry) (s : ℕ) (file : File) (at len : ℕ) (w
 read u past s file at len wait page o waits found =
     let n = needs u past s (call.CopyRead file at len wait) page waits in
     found (in-order (cut_range (size_of (history past s)) at len) n.range page n.range_is n.has)
+
+step : (u : Setup) (past : List Entry) (s : ℕ) (request : Request) (page : ℕ) (o : Option Range) → IsWaiting u past s (call.AheadStep request) page → (request.at < min (request.at + request.len) (size_of (history past s)) → o ≡ Some (cut_range (size_of (history past s)) request.at request.len)) → o ≡ Some (cut_range (size_of (history past s)) request.at request.len)
+step u past s request page o waits found =
+    let n = needs u past s (call.AheadStep request) page waits in
+    found (in-order (cut_range (size_of (history past s)) request.at request.len) n.range page n.range_is n.has)
 
 -- the range of a call that is whole
 whole : (u : Setup) (past : List Entry) (s : ℕ) (it : Call) (at n page : ℕ) (o : Option Range) → range_of (size_of (history past s)) it ≡ Some (whole_range at n) → past_size (size_of (history past s)) (at + n) ≡ None → IsWaiting u past s it page → (at < min (at + n) (size_of (history past s)) → o ≡ Some (cut_range (size_of (history past s)) at n)) → o ≡ range_of (size_of (history past s)) it
@@ -124,3 +130,10 @@ returns-in-NcWrite c u opening past page stands waits =
     let same : n.range ≡ stored_range c.in-NcWrite.page size = cc (n.range_is) in
     let has = subst (λ (r : Range). has_page r page ≡ true) same n.has in
     rw c.in-NcWrite.is (c.stored_span.ensures opening past stands (starts-below c.in-NcWrite.page size page has))
+
+pub returns-in-AheadStep : goal.returns-in-AheadStep
+returns-in-AheadStep c u opening past page stands waits =
+    let s = c.args.book.now.stream in
+    rw c.in-AheadStep.is
+    (step u past s c.in-AheadStep.request page c.span_below-in-AheadStep.result (rw c.in-AheadStep.is at waits)
+    (c.span_below-in-AheadStep.ensures opening past stands))

@@ -11,16 +11,16 @@ finish-requires-clause-may g c =
     let may = c.requires.may.1 in
     let admitted = c.requires.may.2 in
     let past = c.args.journal.now.entries in
-    let none = sym (c.absent.ensures u (u.opening c.args.book.now.stream) past may.stand.stands admitted) ∙ c.in-None.is in
+    let none = sym (c.in-Ok-None.ensures u (u.opening c.args.book.now.stream) past may.stand.stands admitted) ∙ c.in-Ok-None.field-0-is in
     (u, may, record { admitted = admitted; filled = filled-none (history past c.args.book.now.stream) _ none })
 
-pub returns-in-Some : goal.returns-in-Some
-returns-in-Some g c u may admitted =
-    let least = sym (c.absent.ensures u (u.opening c.args.book.now.stream) c.args.journal.now.entries may.stand.stands admitted) ∙ c.in-Some.is in
+pub returns-in-Ok-Some : goal.returns-in-Ok-Some
+returns-in-Ok-Some g c u may admitted =
+    let least = sym (c.in-Ok-Some.ensures u (u.opening c.args.book.now.stream) c.args.journal.now.entries may.stand.stands admitted) ∙ c.in-Ok-Some.field-0-is in
     record { admitted = admitted; least = least; call_is = refl; same_book = refl; same_journal = refl }
 
-pub returns-in-None : goal.returns-in-None
-returns-in-None g c u may admitted =
+pub returns-in-Ok-None : goal.returns-in-Ok-None
+returns-in-Ok-None g c u may admitted =
     let past = c.args.journal.now.entries in
-    let none = sym (c.absent.ensures u (u.opening c.args.book.now.stream) past may.stand.stands admitted) ∙ c.in-None.is in
+    let none = sym (c.in-Ok-None.ensures u (u.opening c.args.book.now.stream) past may.stand.stands admitted) ∙ c.in-Ok-None.field-0-is in
     c.finish.ensures u may (record { admitted = admitted; filled = filled-none (history past c.args.book.now.stream) _ none })

@@ -10,7 +10,7 @@ use Rattle.cc_world.proofs.replies.reply_now.Goals as goal
 
 pub reply_stepped-requires : goal.reply_stepped-requires
 reply_stepped-requires g c = record {
-  stepped = stepped-else c.args.call.now c.requires.on_book c.in_default.not-NcWrite c.in_default.not-Flush c.in_default.not-Purge c.in_default.not-Discard c.in_default.not-AheadStep;
+  stepped = stepped-else c.args.call.now c.requires.on_book c.in_default.not-NcWrite c.in_default.not-Flush c.in_default.not-Purge c.in_default.not-Discard;
 }
 
 pub returns-in-Purge : goal.returns-in-Purge

@@ -9,7 +9,7 @@ returns-in-Some g c u pass un =
     let j = c.args.journal.now in
     let it = c.args.call.now in
     waits u pass it b j c.requires.stepped un c.in-Some.field-0
-    (sym (c.absent.ensures u (u.opening b.stream) j.entries un.made.stands.stand.stands (its-admitted u pass it b j c.requires.stepped un)) ∙ c.in-Some.is)
+    (sym (c.in_ok-absent.ensures u (u.opening b.stream) j.entries un.made.stands.stand.stands (its-admitted u pass it b j c.requires.stepped un)) ∙ c.in-Some.is)
 
 pub returns-in_ok-reply-in-None : goal.returns-in_ok-reply-in-None
 returns-in_ok-reply-in-None g c u pass un =
@@ -17,6 +17,6 @@ returns-in_ok-reply-in-None g c u pass un =
     let j = c.args.journal.now in
     let it = c.args.call.now in
     let ready = is-ready u pass it b j c.requires.stepped un
-    (sym (c.absent.ensures u (u.opening b.stream) j.entries un.made.stands.stand.stands (its-admitted u pass it b j c.requires.stepped un)) ∙ c.in-None.is) in
+    (sym (c.in_ok-absent.ensures u (u.opening b.stream) j.entries un.made.stands.stand.stands (its-admitted u pass it b j c.requires.stepped un)) ∙ c.in-None.is) in
     replies u pass it b j c.requires.stepped un c.in_ok-reply-in-None.field-0 ready
     (c.in_ok-reply-in-None.ensures u pass un.made.stands.stand un.filed ready)
