@@ -7,7 +7,7 @@ ghost use Rattle.cc_calls.specs.Purges.{PurgeEnds};
 ghost use Rattle.cc_writes.specs.Hands.{Went};
 
 use cc_entry::{CcError, FileId, Span};
-use cc_ranges::purge_held;
+use cc_ranges::{flush_with_book, purge_held};
 use cc_turns::Turns;
 use std::alloc::Global;
 
@@ -53,7 +53,7 @@ pub fn flush_held<T: Turns>(
 {
     let stream = file.stream();
     let book = turns.take_book(stream);
-    let (book, answer) = cc_ranges::flush_held(alloc, turns, disk, book, file, span);
+    let (book, answer) = flush_with_book(alloc, turns, disk, book, file, span);
     turns.give_book(stream, book);
     answer
 }
