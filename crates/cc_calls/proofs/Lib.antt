@@ -11,6 +11,7 @@ pub mod Streamless
 pub mod Dirty
 pub mod Tables
 pub mod FlushCalls
+pub mod FlushHeld
 pub mod Fronts
 pub mod PurgeCalls
 pub mod Closing

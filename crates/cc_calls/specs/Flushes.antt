@@ -1,7 +1,7 @@
 -- What a flush leaves, and what holds of its span where it was done.
-use Rattle.std.specs.Prelude.{◌≡◌, ℕ, ◌^◌, true, false, Result, OnOk, List, ◌∷◌, ◌++◌, length, Contains}
+use Rattle.std.specs.Prelude.{◌≡◌, ℕ, ◌^◌, ◌<◌, true, false, Result, OnOk, List, ◌∷◌, ◌++◌, length, Contains}
 use Rattle.std.specs.declared.option.Option.{Option}
-use Rattle.std.specs.declared.option.Option.TheVariants.{Some}
+use Rattle.std.specs.declared.option.Option.TheVariants.{Some, None}
 use Rattle.cc_entry.specs.Place.{File, Range}
 use Rattle.cc_entry.specs.declared.call.Call.TheVariants as call
 use Rattle.cc_entry.specs.declared.entry.Entry.{Entry}
@@ -10,19 +10,37 @@ use Rattle.cc_entry.specs.declared.entry.End.TheVariants as how
 use Rattle.cc_entry.specs.declared.error.CcError.{CcError}
 use Rattle.cc_effects.specs.Calls.{CallLeft}
 use Rattle.cc_effects.specs.Moments.{own}
+use Rattle.cc_effects.specs.Stops.{IsUnstopped}
+use Rattle.cc_traits.specs.Disk.{Disk}
 use Rattle.cc_ranges.specs.Crash.{IsKeptSince}
 use Rattle.cc_model.specs.Flushed.{settled_since}
 use Rattle.cc_model.specs.Good.{IsGood, IsGoodSoFar}
 use Rattle.cc_model.specs.History.{history}
-use Rattle.cc_model.specs.Images.{image, crash_pages}
+use Rattle.cc_model.specs.Images.{image, crash_pages, open_of}
 use Rattle.cc_model.specs.Ranges.{span_has}
 use Rattle.cc_model.specs.Setup.{Setup}
 use Rattle.cc_model.specs.Touches.{is_dirty}
-use Rattle.cc_turns.specs.Standing.{Standing}
+use Rattle.cc_turns.specs.Disk.{DiskStands, opening_of}
+use Rattle.cc_turns.specs.Standing.{Standing, nothing}
 use Rattle.cc_effects.specs.Begins.{BeginsAscending}
 use Rattle.cc_writes.specs.Calls.{IsFullWriting}
 use Rattle.cc_calls.specs.Answers.{outcome_of}
 use Rattle.cc_calls.specs.Pages.{WentOn}
+
+-- A pass holds the turn of a stream's disk alone: the disk stands for what it has seen, and no transfer of the stream is open.
+pub record HasDisk {D : Type 0} (told : D → Option Disk) (faults : D → ℕ) (w : Standing) (s : ℕ) (device : D) : Type 0 where
+  pub known : s < w.streams
+  pub held : w.held ≡ record nothing { device = Some s }
+  pub rest : open_of (history w.seen s) ≡ None
+  pub stands : DiskStands told faults (w.disks s) w.seen s device
+  pub opening : w.setup.opening s ≡ opening_of (w.disks s).told
+
+-- Nothing stopped the pass from one moment to another: each transfer and each sync that it ended there ended well, and no log
+-- failed it.
+pub record EndedWell (me : ℕ) (old new : List Entry) : Type 0 where
+  pub during : List Entry
+  pub grew : new ≡ during ++ old
+  pub unstopped : IsUnstopped me during
 
 -- Whatever was placed from one moment to another is the pass's own, as on a desk.
 pub record WasAlone (me : ℕ) (old new : List Entry) : Type 0 where

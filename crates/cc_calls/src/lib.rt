@@ -48,7 +48,7 @@ pub use chains::{
 pub use copies::{copy_read, copy_write, zero_data};
 pub use data_maps::{Mapped, map_data, mapped_read, pin_mapped, unmap};
 pub use discards::discard;
-pub use flushes::{flush, purge};
+pub use flushes::{flush, flush_held, purge};
 pub use held::{Held, Hold};
 pub use held_calls::{end_hold, hold_range, read_hold, write_hold};
 pub use levels::index_levels;

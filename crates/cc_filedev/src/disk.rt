@@ -1,6 +1,6 @@
-//! A disk over a file: page p is the 4096 bytes from 4096 p on.
+//! A disk over two files: page p is the 4096 bytes from 4096 p on of the one, and the page past them is the other.
 
-ghost use Rattle.std.specs.Prelude.{◌≡◌, ◌+◌, ◌-◌, ◌*◌, ◌^◌, ◌≤◌, ◌↔◌, true, false, None, IfOk, IsErr, length};
+ghost use Rattle.std.specs.Prelude.{◌≡◌, ◌+◌, ◌-◌, ◌*◌, ◌^◌, ◌<◌, ◌≤◌, ◌↔◌, ◌||◌, true, false, None, IfOk, IsErr, length};
 ghost use Rattle.cc_traits.specs.Stop.{faults_in, OnNoMemory};
 ghost use Rattle.cc_filedev.specs.Devices.{DiskState};
 
@@ -12,26 +12,29 @@ use std::io::ErrorKind;
 use std::marker::Model;
 use std::os::unix::fs::FileExt;
 
-/// A disk over a file of a folder. It tells nothing of what the file holds.
+/// A disk over files of a folder: one of pages, and one of the page with the record of its stream, which stands past
+/// every page that a file can have. It tells nothing of what they hold.
 #[derive(Drop)]
 pub struct FileDisk<P: InFolder> {
-    file: KeptFile<P>,
+    pages: KeptFile<P>,
+    record: KeptFile<P>,
     faults: Faults,
 }
 
 impl<P: InFolder> Model for FileDisk<P> {
     ghost Value = { DiskState };
 
-    ghost view = { λ disk. record { has_lost = disk.file; faults = disk.faults } };
+    ghost view = { λ disk. record { has_lost = disk.pages || disk.record; faults = disk.faults } };
 }
 
 impl<P: InFolder> FileDisk<P> {
-    /// The disk over a file, which is not open yet.
-    pub fn new(place: P) -> FileDisk<P>
+    /// The disk over a file of pages and one of the record, neither of which is open yet.
+    pub fn new(pages: P, record: P) -> FileDisk<P>
         ensures { result ≡ record { has_lost = false; faults = 0 } }
     {
         FileDisk {
-            file: KeptFile::new(place),
+            pages: KeptFile::new(pages),
+            record: KeptFile::new(record),
             faults: Faults::new(),
         }
     }
@@ -41,6 +44,16 @@ impl<P: InFolder> FileDisk<P> {
         ensures { result ≡ self.now.faults }
     {
         self.faults.count()
+    }
+
+    // Waits until what was written to the files is on the medium. A record that was not written has no file to wait for.
+    fn sync_files(&mut self) -> io::Result<()>
+        ensures lost { self.old.has_lost ≡ true → IsErr result }
+        ensures stays_lost { self.old.has_lost ≡ true → self.new.has_lost ≡ true }
+        ensures faults { self.new.faults ≡ self.old.faults }
+    {
+        self.pages.sync()?;
+        self.record.sync_written()
     }
 }
 
@@ -53,19 +66,25 @@ impl<P: InFolder> Told for FileDisk<P> {
 impl<P: InFolder> PageDisk for FileDisk<P> {
     fn read_page(&mut self, page: u64, out: &mut [u8; 4096]) -> Result<(), Stop>
         ensures state { self.new ≡ record self.old { faults = self.old.faults + faults_in result } }
-        ensures no_file { 2 ^ 51 ≤ page → IsErr result }
+        ensures no_file { 2 ^ 51 < page → IsErr result }
         ensures full { OnNoMemory result (self.old.faults ≡ 2 ^ 64 - 1) }
     {
-        let read = read_page(&mut self.file, page, out);
+        let read = match page {
+            RECORD_PAGE => read_page(&mut self.record, 0, out),
+            _ => read_page(&mut self.pages, page, out),
+        };
         counted(&mut self.faults, read)
     }
 
     fn write_page(&mut self, page: u64, bytes: &[u8; 4096]) -> Result<(), Stop>
         ensures state { self.new ≡ record self.old { faults = self.old.faults + faults_in result } }
-        ensures no_file { 2 ^ 51 ≤ page → IsErr result }
+        ensures no_file { 2 ^ 51 < page → IsErr result }
         ensures full { OnNoMemory result (self.old.faults ≡ 2 ^ 64 - 1) }
     {
-        let written = write_page(&mut self.file, page, bytes);
+        let written = match page {
+            RECORD_PAGE => write_page(&mut self.record, 0, bytes),
+            _ => write_page(&mut self.pages, page, bytes),
+        };
         counted(&mut self.faults, written)
     }
 
@@ -75,10 +94,13 @@ impl<P: InFolder> PageDisk for FileDisk<P> {
         ensures stays_lost { self.old.has_lost ≡ true → self.new.has_lost ≡ true }
         ensures full { OnNoMemory result (self.old.faults ≡ 2 ^ 64 - 1) }
     {
-        let synced = self.file.sync();
+        let synced = self.sync_files();
         counted(&mut self.faults, synced)
     }
 }
+
+/// The page of the record, which no file of pages has.
+const RECORD_PAGE: u64 = 1 << 51;
 
 /// How many bytes a file has at most. The system reads none behind them, so the last page lacks one byte.
 const MOST: u64 = (1 << 63) - 1;
@@ -112,8 +134,7 @@ fn write_page<P: InFolder>(file: &mut KeptFile<P>, page: u64, bytes: &[u8; 4096]
     ensures no_file { 2 ^ 51 ≤ page → IsErr result }
 {
     let place = place_of(page)?;
-    file.open()?;
-    file.get()?.write_all_at(bytes, place)
+    file.write(bytes, place)
 }
 
 /// Reads from a place on, until `out` is full or the file ends, and answers how many bytes it read.

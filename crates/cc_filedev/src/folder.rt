@@ -41,6 +41,17 @@ impl<R: Files + Drop> FolderFile<R> {
         FolderFile::named(alloc, files, folder, name.as_str())
     }
 
+    /// The file of the record of disk `k`, `k.rec`. Answers `AllocError` where memory is wanting.
+    pub fn of_record(
+        alloc: Global,
+        files: R,
+        folder: &str,
+        k: u8,
+    ) -> Result<FolderFile<R>, AllocError> {
+        let name = format!(in alloc; "{k}.rec")?;
+        FolderFile::named(alloc, files, folder, name.as_str())
+    }
+
     /// The file of log `k`, `k.log`. Answers `AllocError` where memory is wanting.
     pub fn of_log(
         alloc: Global,

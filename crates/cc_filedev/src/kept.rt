@@ -9,6 +9,7 @@ use std::fs::OpenFile;
 use std::io;
 use std::io::ErrorKind;
 use std::marker::Model;
+use std::os::unix::fs::FileExt;
 
 /// What a call answers that was tried: an error of the system is a failure, and is counted.
 pub(crate) fn counted<T: Drop>(faults: &mut Faults, tried: io::Result<T>) -> Result<T, Stop>
@@ -30,6 +31,8 @@ pub(crate) struct KeptFile<P: InFolder> {
     file: Option<P::File>,
     // The file was made, and its name may not be on the medium.
     is_new: bool,
+    // Bytes were handed to the system for it.
+    is_written: bool,
     has_lost: bool,
 }
 
@@ -48,6 +51,7 @@ impl<P: InFolder> KeptFile<P> {
             place,
             file: None,
             is_new: false,
+            is_written: false,
             has_lost: false,
         }
     }
@@ -85,6 +89,27 @@ impl<P: InFolder> KeptFile<P> {
         let file = self.place.make()?;
         self.is_new = true;
         Ok(file)
+    }
+
+    /// Writes bytes from a place on.
+    pub(crate) fn write(&mut self, bytes: &[u8], place: u64) -> io::Result<()>
+        ensures { self.new ≡ self.old }
+    {
+        self.open()?;
+        self.is_written = true;
+        self.get()?.write_all_at(bytes, place)
+    }
+
+    /// The same as [`KeptFile::sync`], but for a file that was never written, which is left alone.
+    pub(crate) fn sync_written(&mut self) -> io::Result<()>
+        ensures fails { self.old ≡ true → IsErr result }
+        ensures stays { self.old ≡ true → self.new ≡ true }
+    {
+        if self.is_written || self.has_lost {
+            self.sync()
+        } else {
+            Ok(())
+        }
     }
 
     /// Waits until what was written is on the medium.

@@ -35,7 +35,7 @@ enum Round {
 ///
 /// `NotCached`, `Busy` (a pin owes a stamp to a page of the span), `WriteFault` (of a page; of the span's first page
 /// where the sync failed), `LogFault`, `JournalFull`, `NoMemory`.
-pub fn flush_held<T: Turns>(
+pub fn flush_with_book<T: Turns>(
     alloc: Global,
     turns: &mut T,
     disk: &mut T::Disk,

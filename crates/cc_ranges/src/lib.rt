@@ -58,7 +58,7 @@ mod writes;
 
 pub use dirty::next_dirty;
 pub use error::NcError;
-pub use flush::flush_held;
+pub use flush::flush_with_book;
 pub use purge::purge_held;
 pub use reads::noncached_read;
 pub use writes::noncached_write;

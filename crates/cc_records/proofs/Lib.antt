@@ -5,3 +5,5 @@ pub mod StoredPages
 pub mod CalmSteps
 pub mod Within
 pub mod Settling
+pub mod CrashPages
+pub mod CrashRecords

@@ -36,7 +36,7 @@ use Rattle.cc_records.proofs.StoredPages.{stored-good}
 use Rattle.cc_records.proofs.Within.{all_by, touches-by}
 
 -- what stood before is good
-good-rest : (u : Setup) (later past : List Entry) → IsGoodSoFar u (later ++ past) → IsGoodSoFar u past
+pub good-rest : (u : Setup) (later past : List Entry) → IsGoodSoFar u (later ++ past) → IsGoodSoFar u past
 good-rest u [] past good = good
 good-rest u (e ∷ later) past good = good-rest u later past (IsGoodSoFar-before u (later ++ past) e good)
 
@@ -53,7 +53,7 @@ calm-history s (e ∷ later) calm =
     go (Some effect) calm rest = rw calm rest
 
 -- a map that was had stays had, and the valid data length of the first initialise what it was
-had-stays : (more h : List Effect) → had_map h ≡ true → had_map (more ++ h) ≡ true
+pub had-stays : (more h : List Effect) → had_map h ≡ true → had_map (more ++ h) ≡ true
 unfolding had_map
 had-stays [] h had = had
 had-stays (Did pass call reply ∷ more) h had = go (had_map (Did pass call reply ∷ (more ++ h))) refl (had-stays more h had)

@@ -1,2 +1,4 @@
 -- What the contracts cite.
 pub mod Calm
+pub mod Left
+pub mod Recorded

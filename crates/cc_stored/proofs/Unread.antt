@@ -35,7 +35,7 @@ use Rattle.cc_writes.specs.Visits.{HasPlaced}
 use Rattle.cc_writes.specs.Ways.{IsFull}
 use Rattle.cc_writes.proofs.Quiet.{is_held}
 use Rattle.cc_writes.proofs.Resting.{disk-held, rest-same}
-use Rattle.cc_stored.specs.Left.{LoadLeft}
+use Rattle.cc_records.specs.Left.{LoadLeft}
 use Rattle.cc_stored.specs.Stored.{IsKnownRecord, IsNotFull, LoadEnds, ReservedOne}
 
 -- ---- the disk

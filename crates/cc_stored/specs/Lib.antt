@@ -1,3 +1,3 @@
 -- What the contracts cite.
-pub mod Left
 pub mod Stored
+pub mod Settle

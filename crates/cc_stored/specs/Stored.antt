@@ -20,7 +20,7 @@ use Rattle.cc_writes.specs.Hands.{Went, WentWith}
 use Rattle.cc_writes.specs.Logs.{IsStopAt, IsWant}
 use Rattle.cc_writes.specs.Fetch.{WentOn}
 use Rattle.cc_writes.specs.Ways.{IsFull}
-use Rattle.cc_stored.specs.Left.{LoadLeft}
+use Rattle.cc_records.specs.Left.{LoadLeft}
 
 -- A pass that has the turn of a stream's disk may place that the disk failed to read the record, and a sync of it where no
 -- transfer is under way; with the stream's book too it may place a write of the record, where the stream may be told so.

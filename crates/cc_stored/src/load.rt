@@ -9,7 +9,7 @@ ghost use Rattle.cc_turns.specs.Standing.{nothing};
 ghost use Rattle.cc_writes.specs.Fetch.{CanCall};
 ghost use Rattle.cc_writes.specs.Hands.{Went, WentWith};
 ghost use Rattle.cc_writes.specs.Ways.{IsFull};
-ghost use Rattle.cc_stored.specs.Left.{LoadLeft};
+ghost use Rattle.cc_records.specs.Left.{LoadLeft};
 ghost use Rattle.cc_stored.specs.Stored.{IsKnownRecord, IsNotFull, LoadEnds};
 
 use crate::visits::{place_held, reserve_one};

@@ -2,7 +2,10 @@
 
 use cc_filedev::{FileDisk, FileLog, FolderFile};
 use cc_traits::{LogFile, PageDisk, Stop};
+use std::alloc::{AllocError, Global};
 use std::fs;
+use std::fs::Files;
+use std::os::unix::fs::FileExt;
 use std::test::Fail;
 
 /// Two entries, as a log's file has them.
@@ -57,21 +60,40 @@ fn write<D: PageDisk>(disk: &mut D, page: u64, byte: u8) -> Result<(), Stop> {
     disk.sync()
 }
 
+/// The page past every page of a file of pages.
+const RECORD_PAGE: u64 = 1 << 51;
+
+/// The disk of stream 2 over the folder.
+fn file_disk<R: Files + Copy + Drop>(
+    alloc: Global,
+    files: R,
+) -> Result<FileDisk<FolderFile<R>>, AllocError>
+where
+    R::File: FileExt,
+{
+    let pages = FolderFile::of_disk(alloc, files, "", 2)?;
+    let record = FolderFile::of_record(alloc, files, "", 2)?;
+    Ok(FileDisk::new(pages, record))
+}
+
 #[test]
-fn a_disk_over_a_file_keeps_pages(rt: HostRuntime) -> Result<(), Fail> {
+fn a_disk_over_files_keeps_pages(rt: HostRuntime) -> Result<(), Fail> {
     let alloc = rt.alloc();
     let bytes = vec![in alloc; 17; 5000]?;
     fs::write(&rt, "2.dat", bytes.as_slice())?;
-    let mut disk = FileDisk::new(FolderFile::of_disk(alloc, rt, "", 2)?);
+    let mut disk = file_disk(alloc, rt)?;
     assert_eq!(rt; ends(&mut disk, 0), Ok((17, 17)));
     assert_eq!(rt; ends(&mut disk, 1), Ok((17, 0)));
     assert_eq!(rt; ends(&mut disk, 2), Ok((0, 0)));
     assert_eq!(rt; write(&mut disk, 1, 34), Ok(()));
-    let mut later = FileDisk::new(FolderFile::of_disk(alloc, rt, "", 2)?);
+    assert_eq!(rt; write(&mut disk, RECORD_PAGE, 51), Ok(()));
+    let mut later = file_disk(alloc, rt)?;
     assert_eq!(rt; ends(&mut later, 0), Ok((17, 17)));
     assert_eq!(rt; ends(&mut later, 1), Ok((34, 34)));
+    assert_eq!(rt; ends(&mut later, RECORD_PAGE), Ok((51, 51)));
     assert_eq!(rt; fs::read(&rt, "2.dat")?.len(), 8192);
-    assert_eq!(rt; ends(&mut later, 2251799813685248), Err(Stop::Failed));
+    assert_eq!(rt; fs::read(&rt, "2.rec")?.len(), 4096);
+    assert_eq!(rt; ends(&mut later, RECORD_PAGE + 1), Err(Stop::Failed));
     assert_eq!(rt; (disk.faults(), later.faults()), (0, 1));
     Ok(())
 }

@@ -36,6 +36,8 @@ mod queue;
 #[cfg(test)]
 mod readers;
 #[cfg(test)]
+mod records;
+#[cfg(test)]
 mod script;
 #[cfg(test)]
 mod sent;

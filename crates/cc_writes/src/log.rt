@@ -120,13 +120,13 @@ pub fn flush_to<T: Turns>(turns: &mut T, handle: u8, to: Lsn) -> Result<LogFlush
     ensures left { LogLeft (T.standing turns.old) handle to result (T.standing turns.new).seen }
 {
     let mut log = turns.take_log(handle);
-    let flushed = flush_held(turns, &mut log, handle, to);
+    let flushed = flush_in_hand(turns, &mut log, handle, to);
     turns.give_log(handle, log);
     flushed
 }
 
 // The same of a log whose turn is held.
-fn flush_held<T: Turns>(
+fn flush_in_hand<T: Turns>(
     turns: &mut T,
     log: &mut LogTurn<T::Log>,
     handle: u8,

@@ -8,7 +8,7 @@ use std::alloc::{AllocError, Global};
 use std::fs::Files;
 use std::os::unix::fs::FileExt;
 
-/// A disk for each stream that a script can have, that of stream k over `k.dat`. Answers `AllocError` where memory is
+/// A disk for each stream that a script can have, that of stream k over `k.dat` and `k.rec`. Answers `AllocError` where memory is
 /// wanting.
 pub fn file_disks<R: Files + Copy + Drop>(
     alloc: Global,
@@ -21,9 +21,25 @@ where
 {
     let mut disks = Vec::with_capacity(alloc, 16)?;
     for k in 0..16u8 {
-        disks.push_reserved(FileDisk::new(FolderFile::of_disk(alloc, files, folder, k)?));
+        disks.push_reserved(file_disk(alloc, files, folder, k)?);
     }
     Ok(disks)
+}
+
+/// The disk of stream k.
+fn file_disk<R: Files + Copy + Drop>(
+    alloc: Global,
+    files: R,
+    folder: &str,
+    k: u8,
+) -> Result<FileDisk<FolderFile<R>>, AllocError>
+where
+    R::File: FileExt,
+    ensures { IfOk result (λ disk. disk ≡ new_file_disk) }
+{
+    let pages = FolderFile::of_disk(alloc, files, folder, k)?;
+    let record = FolderFile::of_record(alloc, files, folder, k)?;
+    Ok(FileDisk::new(pages, record))
 }
 
 /// Each log that a script can name, that of number k over `k.log`. Answers `AllocError` where memory is wanting.

@@ -8,7 +8,7 @@ use Rattle.cc_ranges.specs.Flush.{IsFlushing, IsFullRound, IsRising, RoundBegins
 use Rattle.cc_ranges.specs.declared.flush.Round.{Round}
 use Rattle.cc_ranges.specs.declared.flush.Round.TheVariants as round
 use Rattle.cc_ranges.proofs.FlushHolding.{begun-ended, begun-on, comes-first, some-flushing, round-on, comes-on, at-sync-on, ended-on}
-use Rattle.cc_ranges.proofs.flush.flush_held.Goals as goal
+use Rattle.cc_ranges.proofs.flush.flush_with_book.Goals as goal
 
 pub write_next-now-requires-clause-flushing : goal.write_next-now-requires-clause-flushing
 write_next-now-requires-clause-flushing g c =

@@ -1,6 +1,6 @@
 use Rattle.std.specs.Prelude.{◌-◌, ◌^◌}
 use Rattle.cc_ranges.proofs.FlushHolding.{ComesOn}
-use Rattle.cc_ranges.proofs.flush.flush_held.Given as goal
+use Rattle.cc_ranges.proofs.flush.flush_with_book.Given as goal
 
 abbrev pub invariant-pages : goal.invariant-pages
 invariant-pages g l =

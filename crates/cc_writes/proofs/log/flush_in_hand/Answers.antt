@@ -5,7 +5,7 @@ use Rattle.cc_entry.specs.declared.entry.Entry.TheVariants as entry
 use Rattle.cc_entry.specs.declared.error.CcError.{CcError}
 use Rattle.cc_writes.specs.Visits.{HasPlaced}
 use Rattle.cc_writes.proofs.Logging.{failures-flushed, held-kept, held-reached, held-due, held-done, held-failed, held-refused}
-use Rattle.cc_writes.proofs.log.flush_held.Goals as goal
+use Rattle.cc_writes.proofs.log.flush_in_hand.Goals as goal
 
 pub returns-then-number-flushed-clause-left : goal.returns-then-number-flushed-clause-left
 returns-then-number-flushed-clause-left g c =

@@ -1,0 +1,27 @@
+-- The disk stands while others go on before a place is reserved.
+use Rattle.std.specs.Prelude.{ℕ, suc}
+use Rattle.std.proofs.Common.{ap, subst}
+use Rattle.cc_turns.specs.Standing.{Standing}
+use Rattle.cc_stored.specs.Settle.{SyncLeft}
+use Rattle.cc_stored.proofs.Written.{disk-on, grows-idle, sync-before}
+use Rattle.cc_stored.proofs.record.sync_one.Goals as goal
+
+pub sync_reserved-requires-clause-disk : goal.sync_reserved-requires-clause-disk
+sync_reserved-requires-clause-disk g c =
+    let w = g.T.Turns.standing c.args.turns.now in
+    let x = g.T.Turns.standing c.reserve_one.new.turns in
+    disk-on g.T.Disk.Told.told g.T.Disk.Told.faults (suc w.in_flight) c.args.stream w x c.args.disk.now c.requires.disk c.in-Ok.ensures.left c.reserve_one.ensures.grows
+
+pub returns-in-Ok-clause-left : goal.returns-in-Ok-clause-left
+returns-in-Ok-clause-left g c =
+    let w = g.T.Turns.standing c.args.turns.now in
+    let x = g.T.Turns.standing c.reserve_one.new.turns in
+    let z = g.T.Turns.standing c.sync_reserved.new.turns in
+    sync-before w.number c.args.stream c.sync_reserved.result w.seen x.seen z.seen (grows-idle w x.seen c.reserve_one.ensures.grows)
+    (subst (λ (n : ℕ). SyncLeft n c.args.stream c.sync_reserved.result x.seen z.seen) (ap (λ (a : Standing). a.number) c.in-Ok.ensures.left.same) c.sync_reserved.ensures.left)
+
+pub returns-in-Err-clause-disk : goal.returns-in-Err-clause-disk
+returns-in-Err-clause-disk g c =
+    let w = g.T.Turns.standing c.args.turns.now in
+    let x = g.T.Turns.standing c.reserve_one.new.turns in
+    disk-on g.T.Disk.Told.told g.T.Disk.Told.faults w.in_flight c.args.stream w x c.args.disk.now c.requires.disk c.in-Err.ensures.left.1 c.reserve_one.ensures.grows
