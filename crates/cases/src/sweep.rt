@@ -37,7 +37,7 @@ pub fn run_case<R: Threads + Wait + Sync>(
     Ok(Some(made.len()))
 }
 
-/// Makes runs until one leaves what is wanted. Where none of those does that a case may have, it is told of the last.
+/// Makes runs until one leaves what is wanted, and tells why the last did not, where none does of as many as the case allows.
 fn run_until_shown<R: Threads + Wait + Sync>(
     rt: &R,
     alloc: Global,
