@@ -34,6 +34,8 @@ mod queue;
 #[cfg(test)]
 mod readers;
 #[cfg(test)]
+mod restart;
+#[cfg(test)]
 mod script;
 #[cfg(test)]
 mod sent;

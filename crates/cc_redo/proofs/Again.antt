@@ -1,0 +1,62 @@
+-- Changes that are made once more make nothing else.
+use Rattle.std.specs.Prelude.{◌≡◌, ℕ, zero, suc, ◌+◌, ◌≤◌, Bool, true, false, max, List, [], ◌∷◌, take, fold, if◌then◌else◌, refl}
+use Rattle.std.specs.declared.option.Option.{Option}
+use Rattle.std.specs.declared.option.Option.TheVariants.{Some, None}
+use Rattle.std.proofs.Common.{ap, sym, ◌∙◌, arith}
+use Rattle.cc_redo.specs.declared.redo.Redo.{Redo}
+use Rattle.cc_redo.specs.declared.scan.ReadEntry.{ReadEntry}
+use Rattle.cc_redo.specs.Heard.{Change, change_said, end_of, raised, valid_behind}
+use Rattle.cc_redo.specs.Changes.{byte_after, byte_by, bytes_after, page_after}
+
+-- a byte that a change covers is the same whatever stood there, and one that it does not cover goes on
+once_more : (covers : Bool) (own byte : ℕ) (after front : ℕ → ℕ) → ((b : ℕ) → after (front b) ≡ after b) →
+    after (if covers then own else front (if covers then own else byte)) ≡ after (if covers then own else byte)
+once_more true own byte after front rest = refl
+once_more false own byte after front rest = rest byte
+
+byte-again : (changes : List Change) (n page place byte : ℕ) →
+    byte_after changes page place (byte_after (take n changes) page place byte) ≡ byte_after changes page place byte
+byte-again [] zero page place byte = refl
+byte-again [] (suc n) page place byte = refl
+byte-again (change ∷ changes) zero page place byte = refl
+byte-again (change ∷ changes) (suc n) page place byte =
+    once_more _ _ byte (byte_after changes page place) (byte_after (take n changes) page place) (byte-again changes n page place)
+
+bytes-again : (changes : List Change) (n page place : ℕ) (bytes : List ℕ) →
+    bytes_after changes page place (bytes_after (take n changes) page place bytes) ≡ bytes_after changes page place bytes
+unfolding bytes_after
+bytes-again changes n page place [] = refl
+bytes-again changes n page place (byte ∷ bytes) =
+    let first = byte-again changes n page place byte in
+    let rest = bytes-again changes n page (place + 1) bytes in
+    rw (first, rest) refl
+
+pub page-again : (changes : List Change) (n page : ℕ) (bytes : List ℕ) →
+    page_after changes page (page_after (take n changes) page bytes) ≡ page_after changes page bytes
+page-again changes n page bytes = bytes-again changes n page 0 bytes
+
+-- the same of the greatest of a number and the ends of changes
+raised-least : (valid : ℕ) (change : Option Change) → valid ≤ raised valid change
+raised-least valid None = omega arith
+raised-least valid (Some change) = omega arith
+
+raised-again : (reached valid : ℕ) (change : Option Change) → raised valid change ≤ reached → raised reached change ≡ reached
+raised-again reached valid None h = refl
+raised-again reached valid (Some change) h = omega arith
+
+behind-least : (entries : List ReadEntry) (redo : Redo) (valid : ℕ) → valid ≤ valid_behind entries redo valid
+behind-least [] redo valid = omega arith
+behind-least (entry ∷ entries) redo valid =
+    let first = raised-least valid (change_said redo entry.says) in
+    let rest = behind-least entries redo (raised valid (change_said redo entry.says)) in
+    omega arith
+
+pub valid-again : (entries : List ReadEntry) (redo : Redo) (valid : ℕ) →
+    valid_behind entries redo (valid_behind entries redo valid) ≡ valid_behind entries redo valid
+valid-again [] redo valid = refl
+valid-again (entry ∷ entries) redo valid =
+    let here = raised valid (change_said redo entry.says) in
+    let reached = valid_behind entries redo here in
+    let same : raised reached (change_said redo entry.says) ≡ reached =
+    raised-again reached valid (change_said redo entry.says) (behind-least entries redo here) in
+    ap (λ (v : ℕ). valid_behind entries redo v) same ∙ valid-again entries redo here
