@@ -1,5 +1,5 @@
 -- Changes that are made once more make nothing else.
-use Rattle.std.specs.Prelude.{◌≡◌, ℕ, zero, suc, ◌+◌, ◌≤◌, Bool, true, false, max, List, [], ◌∷◌, take, fold, if◌then◌else◌, refl}
+use Rattle.std.specs.Prelude.{◌≡◌, ℕ, zero, suc, ◌+◌, ◌-◌, ◌*◌, ◌≤◌, ◌&&◌, nat_le, nat_lt, Bool, true, false, max, slice_index, List, [], ◌∷◌, take, fold, if◌then◌else◌, refl}
 use Rattle.std.specs.declared.option.Option.{Option}
 use Rattle.std.specs.declared.option.Option.TheVariants.{Some, None}
 use Rattle.std.proofs.Common.{ap, sym, ◌∙◌, arith}
@@ -20,7 +20,11 @@ byte-again [] zero page place byte = refl
 byte-again [] (suc n) page place byte = refl
 byte-again (change ∷ changes) zero page place byte = refl
 byte-again (change ∷ changes) (suc n) page place byte =
-    once_more _ _ byte (byte_after changes page place) (byte_after (take n changes) page place) (byte-again changes n page place)
+    once_more
+    (nat_lt place 4096 && (nat_le change.at (4096 * page + place) && nat_lt (4096 * page + place) (end_of change)))
+    (slice_index change.bytes (4096 * page + place - change.at))
+    byte
+    (byte_after changes page place) (byte_after (take n changes) page place) (byte-again changes n page place)
 
 bytes-again : (changes : List Change) (n page place : ℕ) (bytes : List ℕ) →
     bytes_after changes page place (bytes_after (take n changes) page place bytes) ≡ bytes_after changes page place bytes

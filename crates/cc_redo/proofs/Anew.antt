@@ -19,10 +19,10 @@ pub redone-anew : (redo : Redo) (from : ℕ) (entries : List ReadEntry) (old new
     (page : ℕ) (made : List ℕ) → (record_number == page) ≡ false →
     ((bytes : List ℕ) → Was old page bytes → page_after (redone_of redo from entries) page bytes ≡ made) →
     (bytes : List ℕ) → Contains (may_of new page) bytes → page_after (redone_of redo from entries) page bytes ≡ made
-redone-anew redo from entries old new between page made data before bytes c =
+redone-anew redo from entries old new between page made apart before bytes c =
     let changes = redone_of redo from entries in
     let here : page_after changes page (page_of old page) ≡ made = before (page_of old page) (inr refl) in
-    let is_made : made_by redo from entries old page ≡ page_after changes page (page_of old page) = passed (record_number == page) _ (changed_page changes old page) data in
+    let is_made : made_by redo from entries old page ≡ page_after changes page (page_of old page) = passed (record_number == page) _ (changed_page changes old page) apart in
     ⊎_elim
     (λ (was : Was old page bytes). before bytes was)
     (λ (is : bytes ≡ made_by redo from entries old page). ap (λ (l : List ℕ). page_after changes page l) (is ∙ is_made) ∙ twice changes page (page_of old page) ∙ here)

@@ -1,17 +1,22 @@
 -- The pages that are kept, as changes are made in them.
-use Rattle.std.specs.Prelude.{◌≡◌, ◌≢◌, ℕ, zero, suc, ◌+◌, ◌*◌, ◌/◌, ◌^◌, ◌<◌, ◌≤◌, true, false, ◌==◌, List, [], ◌∷◌, length, unwrap_or, ◌⊎◌, refl}
+use Rattle.std.specs.Prelude.{◌≡◌, ◌≢◌, ℕ, zero, suc, ◌+◌, ◌*◌, ◌/◌, ◌^◌, ◌<◌, ◌≤◌, Bool, true, false, nat_le, List, [], ◌∷◌, length, drop, unwrap_or, ◌⊎◌, if◌then◌else◌, refl}
 use Rattle.std.specs.declared.option.Option.{Option}
 use Rattle.std.specs.declared.option.Option.TheVariants.{Some, None}
-use Rattle.std.proofs.Common.{ap, sym, subst, ◌∙◌, arith, inl, inr, ⊎_elim}
+use Rattle.std.proofs.Common.{ap, sym, subst, ◌∙◌, arith, inl, inr, ⊎_elim, get_or}
+use Rattle.std.proofs.Math.Seq.{drop-cons}
+use Rattle.std.proofs.Math.ListN.{drop_of_length-le}
+use Rattle.std.proofs.lemmas.Bool.Decides.{nat_tests}
 use Rattle.std.proofs.lemmas.Bool.{cases_lt}
 use Rattle.cc_traits.specs.Told.{Both, IfTold}
 use Rattle.cc_traits.specs.Disk.{Disk, page_of, may_of}
 use Rattle.cc_redo.specs.declared.redo.Redo.{Redo}
 use Rattle.cc_redo.specs.declared.scan.ReadEntry.{ReadEntry}
-use Rattle.cc_redo.specs.Heard.{Change, end_of, redone_by, redone_of}
+use Rattle.cc_redo.specs.Heard.{Change, change_said, end_of, redone_by, redone_of}
 use Rattle.cc_redo.specs.Changes.{bytes_after, page_after}
 use Rattle.cc_redo.specs.Disks.{changed_page}
 use Rattle.cc_redo.specs.Scanned.{Holds, IsWriting}
+use Rattle.cc_redo.proofs.Keeping.{told-both, told-map}
+use Rattle.cc_redo.proofs.Options.{chosen, passed}
 use Rattle.cc_redo.proofs.Patches.{after-cons, after-none, empty-stays, untouched}
 use Rattle.cc_redo.proofs.Writes.{page_by}
 
@@ -94,3 +99,61 @@ writing-same made other old new same writing = record {
 
 pub holds-same : (made other : ℕ → List ℕ) (new : Disk) → ((page : ℕ) → made page ≡ other page) → Holds made new → Holds other new
 holds-same made other new same holds = λ page. holds page ∙ same page
+
+-- the entries one by one
+drop-item : {A : Type 0} (l : List A) (i : ℕ) (x : A) → i < length l → x ≡ get_or l i x → drop i l ≡ x ∷ drop (i + 1) l
+drop-item {A} l i x below is =
+    drop-cons l i x below ∙ ap (λ (y : A). y ∷ drop (suc i) l) (sym is) ∙ ap (λ (n : ℕ). x ∷ drop n l) (omega arith)
+
+redone-some : (redo : Redo) (from : ℕ) (entry : ReadEntry) (change : Change) → from ≤ entry.lsn → change_said redo entry.says ≡ Some change → redone_by redo from entry ≡ Some change
+redone-some redo from entry change late some = chosen (nat_le from entry.lsn) (change_said redo entry.says) None (grind (arith, nat_tests)) ∙ some
+
+redone-early : (redo : Redo) (from : ℕ) (entry : ReadEntry) → entry.lsn < from → redone_by redo from entry ≡ None
+redone-early redo from entry early = passed (nat_le from entry.lsn) (change_said redo entry.says) None (grind (arith, nat_tests))
+
+redone-none : (redo : Redo) (from : ℕ) (entry : ReadEntry) → change_said redo entry.says ≡ None → redone_by redo from entry ≡ None
+redone-none redo from entry none = either (nat_le from entry.lsn) (change_said redo entry.says) none
+  where
+    either : (tested : Bool) (o : Option Change) → o ≡ None → (if tested then o else None) ≡ None
+    either true o none = none
+    either false o none = refl
+
+pub entry-changed : (told : Option Disk) (redo : Redo) (from i : ℕ) (entries : List ReadEntry) (entry : ReadEntry) (change : Change) (old now : ℕ → Option (List ℕ)) →
+    i < length entries → entry ≡ get_or entries i entry → from ≤ entry.lsn → change_said redo entry.says ≡ Some change →
+    IfTold told (IsChanged change old now) → IfTold told (IsRedoing redo from (drop i entries) entries old) → IfTold told (IsRedoing redo from (drop (i + 1) entries) entries now)
+entry-changed told redo from i entries entry change old now below is late some changed redoing =
+    let split : drop i entries ≡ entry ∷ drop (i + 1) entries = drop-item entries i entry below is in
+    told-both (IsChanged change old now) (IsRedoing redo from (drop i entries) entries old) (IsRedoing redo from (drop (i + 1) entries) entries now) told
+    (λ disk ch re.
+    redoing-changed redo from entry (drop (i + 1) entries) entries change old now disk (redone-some redo from entry change late some) ch
+    (subst (λ (l : List ReadEntry). IsRedoing redo from l entries old disk) split re))
+    changed redoing
+
+entry-passed : (told : Option Disk) (redo : Redo) (from i : ℕ) (entries : List ReadEntry) (entry : ReadEntry) (kept : ℕ → Option (List ℕ)) →
+    i < length entries → entry ≡ get_or entries i entry → redone_by redo from entry ≡ None →
+    IfTold told (IsRedoing redo from (drop i entries) entries kept) → IfTold told (IsRedoing redo from (drop (i + 1) entries) entries kept)
+entry-passed told redo from i entries entry kept below is none redoing =
+    let split : drop i entries ≡ entry ∷ drop (i + 1) entries = drop-item entries i entry below is in
+    told-map (IsRedoing redo from (drop i entries) entries kept) (IsRedoing redo from (drop (i + 1) entries) entries kept) told
+    (λ disk re. redoing-passed redo from entry (drop (i + 1) entries) entries kept disk none (subst (λ (l : List ReadEntry). IsRedoing redo from l entries kept disk) split re))
+    redoing
+
+pub entry-early : (told : Option Disk) (redo : Redo) (from i : ℕ) (entries : List ReadEntry) (entry : ReadEntry) (kept : ℕ → Option (List ℕ)) →
+    i < length entries → entry ≡ get_or entries i entry → entry.lsn < from →
+    IfTold told (IsRedoing redo from (drop i entries) entries kept) → IfTold told (IsRedoing redo from (drop (i + 1) entries) entries kept)
+entry-early told redo from i entries entry kept below is early redoing =
+    entry-passed told redo from i entries entry kept below is (redone-early redo from entry early) redoing
+
+pub entry-other : (told : Option Disk) (redo : Redo) (from i : ℕ) (entries : List ReadEntry) (entry : ReadEntry) (kept : ℕ → Option (List ℕ)) →
+    i < length entries → entry ≡ get_or entries i entry → change_said redo entry.says ≡ None →
+    IfTold told (IsRedoing redo from (drop i entries) entries kept) → IfTold told (IsRedoing redo from (drop (i + 1) entries) entries kept)
+entry-other told redo from i entries entry kept below is none redoing =
+    entry-passed told redo from i entries entry kept below is (redone-none redo from entry none) redoing
+
+pub entries-done : (told : Option Disk) (redo : Redo) (from i : ℕ) (entries : List ReadEntry) (kept : ℕ → Option (List ℕ)) → length entries ≤ i →
+    IfTold told (IsRedoing redo from (drop i entries) entries kept) → IfTold told (λ disk. (page : ℕ) → page_by kept disk page ≡ changed_page (redone_of redo from entries) disk page)
+entries-done told redo from i entries kept all redoing =
+    let none : drop i entries ≡ [] = drop_of_length-le entries all in
+    told-map (IsRedoing redo from (drop i entries) entries kept) (λ disk. (page : ℕ) → page_by kept disk page ≡ changed_page (redone_of redo from entries) disk page) told
+    (λ disk re. redoing-done redo from entries kept disk (subst (λ (l : List ReadEntry). IsRedoing redo from l entries kept disk) none re))
+    redoing

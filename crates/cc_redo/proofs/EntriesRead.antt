@@ -11,13 +11,13 @@ use Rattle.cc_redo.specs.Reading.{said_by}
 
 -- the first n entries were read
 pub record HasRead (n : ℕ) (items : List ReadEntry) (log : Log) : Type 0 where
-  pub items : items ≡ readings (take n log.entries)
+  pub so_far : items ≡ readings (take n log.entries)
   pub within : n ≤ length log.entries
 
 take-get : {A : Type 0} (xs : List A) (n : ℕ) (x : A) → slice_get xs n ≡ Some x → take (suc n) xs ≡ take n xs ++ x ∷ []
-take-get [] n x e = absurd (cc)
-take-get (y ∷ xs) zero x e = ap (λ (o : A). o ∷ []) (cc)
-take-get (y ∷ xs) (suc n) x e = ap (λ (l : List A). y ∷ l) (take-get xs n x e)
+take-get {A} [] n x e = absurd (cc)
+take-get {A} (y ∷ xs) zero x e = ap (λ (o : A). o ∷ []) (cc)
+take-get {A} (y ∷ xs) (suc n) x e = ap (λ (l : List A). y ∷ l) (take-get xs n x e)
 
 readings-push : (xs : List LogEntry) (x : LogEntry) → readings (xs ++ x ∷ []) ≡ readings xs ++ reading x ∷ []
 readings-push [] x = refl
@@ -34,10 +34,10 @@ past (y ∷ xs) zero e = absurd (cc)
 past (y ∷ xs) (suc n) e = let rest = past xs n e in omega arith
 
 take-all : {A : Type 0} (xs : List A) (n : ℕ) → length xs ≤ n → take n xs ≡ xs
-take-all [] zero h = refl
-take-all [] (suc n) h = refl
-take-all (y ∷ xs) zero h = absurd (omega arith)
-take-all (y ∷ xs) (suc n) h = ap (λ (l : List A). y ∷ l) (take-all xs n (omega arith))
+take-all {A} [] zero h = refl
+take-all {A} [] (suc n) h = refl
+take-all {A} (y ∷ xs) zero h = absurd (omega arith)
+take-all {A} (y ∷ xs) (suc n) h = ap (λ (l : List A). y ∷ l) (take-all xs n (omega arith))
 
 -- one more
 read-one : (log : Log) (n lsn : ℕ) (bytes : List ℕ) (items : List ReadEntry) (held : Option LogEntry) → slice_get log.entries n ≡ held →
@@ -51,7 +51,7 @@ read-one log n lsn bytes items (Some entry) is read has =
     let whole : readings (take (suc n) log.entries) ≡ readings (take n log.entries) ++ reading entry ∷ [] =
     ap readings (take-get log.entries n entry is) ∙ readings-push (take n log.entries) entry in
     record {
-      items = ap (λ (l : List ReadEntry). l ++ made ∷ []) has.items ∙ ap (λ (r : ReadEntry). readings (take n log.entries) ++ r ∷ []) is_reading ∙ sym whole;
+      so_far = ap (λ (l : List ReadEntry). l ++ made ∷ []) has.so_far ∙ ap (λ (r : ReadEntry). readings (take n log.entries) ++ r ∷ []) is_reading ∙ sym whole;
       within = let below = inside log.entries n entry is in omega arith;
     }
   where
@@ -71,7 +71,7 @@ read-end : (log : Log) (n : ℕ) (bytes : List ℕ) (items : List ReadEntry) (he
     IsRead held None bytes → HasRead n items log → (items ≡ readings log.entries) × (length log.entries ≤ n)
 read-end log n bytes items None is read has =
     let short : length log.entries ≤ n = past log.entries n is in
-    (has.items ∙ ap readings (take-all log.entries n short), short)
+    (has.so_far ∙ ap readings (take-all log.entries n short), short)
 read-end log n bytes items (Some entry) is read has = absurd (cc)
 
 pub read-all : (told : Option Log) (n : ℕ) (bytes : List ℕ) (items : List ReadEntry) → n ≤ 4194304 → IfTold told (HasRead n items) → IfTold told (Holds n None bytes) →

@@ -11,3 +11,6 @@ pub mod Changing
 pub mod Whole
 pub mod Anew
 pub mod Rows
+pub mod Steps
+pub mod Settling
+pub mod Keeping

@@ -5,6 +5,7 @@ use Rattle.std.proofs.lemmas.Bool.{cases_lt}
 use Rattle.std.proofs.lemmas.Bool.Decides.{nat_tests}
 use Rattle.std.proofs.lemmas.List.{take-append-drop, length-take, length-drop, append-nil, drop-drop}
 use Rattle.std.proofs.Math.Seq.{drop-cons}
+use borrow.Rule.Slice.PartMut.{put_mid}
 use Rattle.cc_redo.specs.Heard.{Change, end_of}
 use Rattle.cc_redo.specs.Changes.{byte_after, byte_by, bytes_after, page_after}
 
@@ -29,7 +30,7 @@ length-after changes page place (byte ∷ bytes) = let rest = length-after chang
 pub after-append : (changes : List Change) (page place : ℕ) (xs ys : List ℕ) →
     bytes_after changes page place (xs ++ ys) ≡ bytes_after changes page place xs ++ bytes_after changes page (place + length xs) ys
 unfolding bytes_after
-after-append changes page place [] ys = refl
+after-append changes page place [] ys = ap (λ (n : ℕ). bytes_after changes page n ys) (omega arith)
 after-append changes page place (x ∷ xs) ys =
     let rest = after-append changes page (place + 1) xs ys in
     let moved : place + 1 + length xs ≡ place + length (x ∷ xs) = omega arith in
@@ -102,12 +103,17 @@ within change page place (byte ∷ bytes) begins ends below =
     ∙ ap (λ (l : List ℕ). slice_index change.bytes at ∷ l) (rest ∙ ap (λ (n : ℕ). take (length bytes) (drop n change.bytes)) next)
     ∙ sym (ap (λ (l : List ℕ). take (length (byte ∷ bytes)) l) piece)
 
+nothing-stays : (change : Change) (page : ℕ) (front : List ℕ) → length front ≡ 0 → bytes_after (change ∷ []) page 0 front ≡ front
+unfolding bytes_after
+nothing-stays change page [] long = refl
+nothing-stays change page (b ∷ bs) long = absurd (omega arith)
+
 -- a page of which a part is covered: the front stays, the part is that of the change, and the rest stays
 pub patched : (change : Change) (page from to : ℕ) (bytes : List ℕ) → length bytes ≡ 4096 → from ≤ to → to ≤ 4096 →
     change.at ≤ 4096 * page + from → 4096 * page + to ≤ end_of change →
     (from ≡ 0) ⊎ (4096 * page + from ≡ change.at) → (to ≡ 4096) ⊎ (4096 * page + to ≡ end_of change) →
     page_after (change ∷ []) page bytes
-        ≡ take from bytes ++ (take (to - from) (drop (4096 * page + from - change.at) change.bytes) ++ drop to bytes)
+    ≡ take from bytes ++ (take (to - from) (drop (4096 * page + from - change.at) change.bytes) ++ drop to bytes)
 patched change page from to bytes long order fits begins ends starts stops =
     let changes : List Change = change ∷ [] in
     let front : List ℕ = take from bytes in
@@ -137,10 +143,7 @@ patched change page from to bytes long order fits begins ends starts stops =
         bytes_after (change ∷ []) page 0 front ≡ front
     front-stays change page from front long (inl none) = nothing-stays change page front (long ∙ none)
     front-stays change page from front long (inr at) = before change page 0 front (omega arith)
-    nothing-stays : (change : Change) (page : ℕ) (front : List ℕ) → length front ≡ 0 → bytes_after (change ∷ []) page 0 front ≡ front
-    unfolding bytes_after
-    nothing-stays change page [] long = refl
-    nothing-stays change page (b ∷ bs) long = absurd (omega arith)
+
     rest-stays : (change : Change) (page to : ℕ) (rest : List ℕ) → (to ≡ 4096) ⊎ (4096 * page + to ≡ end_of change) →
         bytes_after (change ∷ []) page to rest ≡ rest
     rest-stays change page to rest (inl all) = past change page to rest (omega arith)
@@ -156,3 +159,29 @@ empty-stays change page place (byte ∷ bytes) none =
     let first = byte-out change page place byte out in
     let rest = empty-stays change page (place + 1) bytes none in
     rw (first, rest) refl
+
+same-part : (a b n m : ℕ) (l : List ℕ) → a ≡ b → n ≡ m → take n (drop a l) ≡ take m (drop b l)
+same-part a b n m l e f = rw (e, f) refl
+
+-- what is copied into a page from the first place of a change in it to the last
+pub patch-whole : (change : Change) (page first last : ℕ) (bytes copied : List ℕ) → length bytes ≡ 4096 → first ≡ max change.at (4096 * page) →
+    last ≡ min (end_of change) (4096 * page + 4096) → change.at < 4096 * page + 4096 → 4096 * page < end_of change →
+    copied ≡ take (last - change.at - (first - change.at)) (drop (first - change.at) change.bytes) →
+    put_mid (first - 4096 * page) (last - 4096 * page - (first - 4096 * page)) bytes copied ≡ page_after (change ∷ []) page bytes
+patch-whole change page first last bytes copied long first_is last_is begins ends copied_is =
+    let from : ℕ = first - 4096 * page in
+    let to : ℕ = last - 4096 * page in
+    let starts : (from ≡ 0) ⊎ (4096 * page + from ≡ change.at) =
+    ⊎_elim (λ (b : change.at < 4096 * page). inl (omega arith)) (λ (a : 4096 * page ≤ change.at). inr (omega arith)) (cases_lt change.at (4096 * page)) in
+    let stops : (to ≡ 4096) ⊎ (4096 * page + to ≡ end_of change) =
+    ⊎_elim (λ (b : end_of change < 4096 * page + 4096). inr (omega arith)) (λ (a : 4096 * page + 4096 ≤ end_of change). inl (omega arith)) (cases_lt (end_of change) (4096 * page + 4096)) in
+    let order : from ≤ to = omega arith in
+    let fits : to ≤ 4096 = omega arith in
+    let begin : change.at ≤ 4096 * page + from = omega arith in
+    let end : 4096 * page + to ≤ end_of change = omega arith in
+    let piece : copied ≡ take (to - from) (drop (4096 * page + from - change.at) change.bytes) =
+    copied_is ∙ same-part (first - change.at) (4096 * page + from - change.at) (last - change.at - (first - change.at)) (to - from) change.bytes (omega arith) (omega arith) in
+    let rest : drop (to - from) (drop from bytes) ≡ drop to bytes = drop-drop (to - from) from bytes ∙ ap (λ (n : ℕ). drop n bytes) (omega arith) in
+    let tail : copied ++ drop (to - from) (drop from bytes) ≡ take (to - from) (drop (4096 * page + from - change.at) change.bytes) ++ drop to bytes =
+    ap (λ (l : List ℕ). l ++ drop (to - from) (drop from bytes)) piece ∙ ap (λ (l : List ℕ). take (to - from) (drop (4096 * page + from - change.at) change.bytes) ++ l) rest in
+    ap (λ (l : List ℕ). take from bytes ++ l) tail ∙ sym (patched change page from to bytes long order fits begin end starts stops)

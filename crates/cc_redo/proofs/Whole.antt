@@ -44,18 +44,17 @@ left-begun streams (Some log) redo None = tt
 left-begun streams (Some log) redo (Some disk) = between-begun _ disk
 
 module _ {D : Type 0} (told : D → Option Disk) (faults : D → ℕ) (streams : List Redo) (log : Option Log) (items : List ReadEntry) (are : AreOf log items) where
-
   -- the first stage stopped
   pub left-pages : (redo : Redo) (was now : D) → PagesLeft told faults (from_of streams items) items redo was now → WasLeft streams log redo (told was) (told now)
   left-pages redo was now left =
       let from = from_of streams items in
       left-told streams log items redo (told was) (told now) are
-          (both-map
-          (λ old new. IsWriting (changed_page (redone_of redo from items) old) old new)
-          (λ old new. IsBetween (made_by redo from items old) old new)
-          (told was) (told now)
-          (λ o n writing. between-pages (record_page redo.size (valid_of items redo)) (changed_page (redone_of redo from items) o) o n writing)
-          left.writing)
+      (both-map
+      (λ old new. IsWriting (changed_page (redone_of redo from items) old) old new)
+      (λ old new. IsBetween (made_by redo from items old) old new)
+      (told was) (told now)
+      (λ o n writing. between-pages (record_page redo.size (valid_of items redo)) (changed_page (redone_of redo from items) o) o n writing)
+      left.writing)
 
   -- the pages are all written
   abbrev pub IsWritten : ℕ → Redo → Disk → Disk → Type 0
@@ -75,13 +74,13 @@ module _ {D : Type 0} (told : D → Option Disk) (faults : D → ℕ) (streams :
   left-records redo was here now done left =
       let from = from_of streams items in
       left-told streams log items redo (told was) (told now) are
-          (both-then
-          (IsWritten from redo)
-          (λ old new. (new ≡ old) ⊎ IsSettling (record_page redo.size (valid_of items redo)) old new)
-          (λ old new. IsBetween (made_by redo from items old) old new)
-          (told was) (told here) (told now)
-          (λ o n x w s. between-record (record_page redo.size (valid_of items redo)) (changed_page (redone_of redo from items) o) o n x w.0 w.1 s)
-          (written from redo was here done) left.settling)
+      (both-then
+      (IsWritten from redo)
+      (λ old new. (new ≡ old) ⊎ IsSettling (record_page redo.size (valid_of items redo)) old new)
+      (λ old new. IsBetween (made_by redo from items old) old new)
+      (told was) (told here) (told now)
+      (λ o n x w s. between-record (record_page redo.size (valid_of items redo)) (changed_page (redone_of redo from items) o) o n x w.0 w.1 s)
+      (written from redo was here done) left.settling)
 
   -- both were done
   pub made-records : (redo : Redo) (was here now : D) → PagesDone told faults (from_of streams items) items redo was here → RecordDone told faults items redo here now →
@@ -89,13 +88,13 @@ module _ {D : Type 0} (told : D → Option Disk) (faults : D → ℕ) (streams :
   made-records redo was here now done settled =
       let from = from_of streams items in
       made-told streams log items redo (told was) (told now) are
-          (both-then
-          (IsWritten from redo)
-          (IsSettled (record_page redo.size (valid_of items redo)))
-          (λ old new. IsMade (made_by redo from items old) new)
-          (told was) (told here) (told now)
-          (λ o n x w s. made-all (record_page redo.size (valid_of items redo)) (changed_page (redone_of redo from items) o) n x w.1 s)
-          (written from redo was here done) settled.settled)
+      (both-then
+      (IsWritten from redo)
+      (IsSettled (record_page redo.size (valid_of items redo)))
+      (λ old new. IsMade (made_by redo from items old) new)
+      (told was) (told here) (told now)
+      (λ o n x w s. made-all (record_page redo.size (valid_of items redo)) (changed_page (redone_of redo from items) o) n x w.1 s)
+      (written from redo was here done) settled.settled)
 
 -- why it was refused
 pub refused-log : {D : Type 0} (faults : D → ℕ) (streams : List Redo) (log : Option Log) (old new : List D) (e : CcError) → new ≡ old → IsLogRefusal log e → IsRefused faults streams log old new e
@@ -116,3 +115,53 @@ refused-later faults streams P old now new (error.ReadFault page) each none long
 refused-later faults streams P old now new (error.WriteFault page) each none long refused = failed-then faults streams P old now new each none refused long
 refused-later faults streams P old now new error.NoMemory each none long refused = tt
 refused-later faults streams P old now new other each none long refused = absurd refused
+
+-- what each disk is left as
+module _ {D : Type 0} (told : D → Option Disk) (faults : D → ℕ) (streams : List Redo) (log : Option Log) (old : List D) where
+  -- the log was not read, or memory was wanting before the first call of a disk
+  pub none-left : EachDisk streams (λ redo was now. WasLeft streams log redo (told was) (told now)) old old
+  none-left = each-same streams (λ redo was now. WasLeft streams log redo (told was) (told now)) old old refl (λ redo d. left-begun streams log redo (told d))
+
+  pub none-counted : EachDisk streams (λ redo was now. faults was ≤ faults now) old old
+  none-counted = each-same streams (λ redo was now. faults was ≤ faults now) old old refl (λ redo d. omega arith)
+
+  module _ (items : List ReadEntry) (are : AreOf log items) (here new : List D) where
+    pub pages-left : EachDisk streams (PagesLeft told faults (from_of streams items) items) old new → EachDisk streams (λ redo was now. WasLeft streams log redo (told was) (told now)) old new
+    pages-left each =
+        each-map streams (PagesLeft told faults (from_of streams items) items) (λ redo was now. WasLeft streams log redo (told was) (told now)) old new
+        (λ redo was now left. left-pages told faults streams log items are redo was now left) each
+
+    pub pages-counted : EachDisk streams (PagesLeft told faults (from_of streams items) items) old new → EachDisk streams (λ redo was now. faults was ≤ faults now) old new
+    pages-counted each =
+        each-map streams (PagesLeft told faults (from_of streams items) items) (λ redo was now. faults was ≤ faults now) old new
+        (λ redo was now left. left.counted) each
+
+    pub records-left : EachDisk streams (PagesDone told faults (from_of streams items) items) old here → EachDisk streams (RecordLeft told faults items) here new →
+        EachDisk streams (λ redo was now. WasLeft streams log redo (told was) (told now)) old new
+    records-left first second =
+        each-then streams (PagesDone told faults (from_of streams items) items) (RecordLeft told faults items) (λ redo was now. WasLeft streams log redo (told was) (told now)) old here new
+        (λ redo was mid now done left. left-records told faults streams log items are redo was mid now done left) first second
+
+    pub records-counted : EachDisk streams (PagesDone told faults (from_of streams items) items) old here → EachDisk streams (RecordLeft told faults items) here new →
+        EachDisk streams (λ redo was now. faults was ≤ faults now) old new
+    records-counted first second =
+        each-then streams (PagesDone told faults (from_of streams items) items) (RecordLeft told faults items) (λ redo was now. faults was ≤ faults now) old here new
+        (λ redo was mid now done left. let same = done.counted in let more = left.counted in omega arith) first second
+
+    pub records-made : EachDisk streams (PagesDone told faults (from_of streams items) items) old here → EachDisk streams (RecordDone told faults items) here new →
+        EachDisk streams (λ redo was now. WasMade streams log redo (told was) (told now)) old new
+    records-made first second =
+        each-then streams (PagesDone told faults (from_of streams items) items) (RecordDone told faults items) (λ redo was now. WasMade streams log redo (told was) (told now)) old here new
+        (λ redo was mid now done made. made-records told faults streams log items are redo was mid now done made) first second
+
+    pub records-same : EachDisk streams (PagesDone told faults (from_of streams items) items) old here → EachDisk streams (RecordDone told faults items) here new →
+        EachDisk streams (λ redo was now. faults now ≡ faults was) old new
+    records-same first second =
+        each-then streams (PagesDone told faults (from_of streams items) items) (RecordDone told faults items) (λ redo was now. faults now ≡ faults was) old here new
+        (λ redo was mid now done made. made.counted ∙ done.counted) first second
+
+    pub records-refused : (e : CcError) → EachDisk streams (PagesDone told faults (from_of streams items) items) old here → EachDisk streams (RecordLeft told faults items) here new →
+        IsStageRefusal faults streams here new e → IsRefused faults streams log old new e
+    records-refused e first second refused =
+        refused-stage faults streams log old new e
+        (refused-later faults streams (PagesDone told faults (from_of streams items) items) old here new e first (λ redo was mid done. done.counted) second.count refused)

@@ -1,15 +1,16 @@
 -- Pages are written, one after the other, and the record behind them.
-use Rattle.std.specs.Prelude.{◌≡◌, ℕ, ◌^◌, ◌<◌, Bool, true, false, ◌==◌, List, [], ◌∷◌, ◌++◌, Contains, ◌⊎◌, unwrap_or, if◌then◌else◌, refl}
+use Rattle.std.specs.Prelude.{◌≡◌, ℕ, ◌^◌, ◌<◌, Bool, true, false, ◌==◌, List, [], ◌∷◌, ◌++◌, Contains, ◌⊎◌, unwrap_or, Result, Ok, Err, OnOk, OnErr, if◌then◌else◌, refl}
 use Rattle.std.specs.declared.option.Option.{Option}
 use Rattle.std.specs.declared.option.Option.TheVariants.{Some, None}
 use Rattle.std.proofs.Common.{ap, sym, subst, ◌∙◌, arith, inl, inr, ⊎_elim}
 use Rattle.std.proofs.lemmas.Bool.{cases_eq, eqb-true, ne_eqb}
 use Rattle.std.proofs.lemmas.List.Elements.{Contains-append_left, Contains-push, Contains-push_cases}
+use Rattle.cc_entry.specs.declared.error.CcError.{CcError}
 use Rattle.cc_traits.specs.Told.{Both, IfTold}
 use Rattle.cc_traits.specs.Disk.{Disk, page_of, may_of, Settled, Wrote, WriteFailed}
 use Rattle.cc_redo.specs.Disks.{IsLeftOrMade, IsPossible, RecordStands, Was, record_number}
 use Rattle.cc_redo.specs.Scanned.{Holds, IsAllSettled, IsSettled, IsSettling, IsWriting}
-use Rattle.cc_redo.proofs.Options.{both-then, chosen, passed}
+use Rattle.cc_redo.proofs.Options.{both-map, both-then, chosen, passed}
 
 -- a write puts its bytes behind what a crash can leave of its page, whether it ended well or not
 abbrev pub Adds : ℕ → List ℕ → Disk → Disk → Type 0
@@ -204,3 +205,30 @@ settling-behind told old s x synced settling = record {
 
 pub settled-behind : (told : List ℕ) (old s x : Disk) → Settled old s → IsSettled told s x → IsSettled told old x
 settled-behind told old s x synced settled = λ p. ((settled p).0 ∙ ap (λ (l : List ℕ). if record_number == p then told else l) (synced.holds p), (settled p).1)
+
+settling-begin : (told : List ℕ) (old s n : Option Disk) → Both old s Settled → Both s n (Wrote record_number told) → Both old n (λ o w. IsSettling told o w)
+settling-begin told old s n first wrote =
+    both-then Settled (Wrote record_number told) (λ o w. IsSettling told o w) old s n
+    (λ o m w synced w_is. settling-behind told o m w synced (settling-wrote told m w (all-settled o m synced) w_is))
+    first wrote
+
+-- how the sync behind the record ends
+pub settling-end : (told : List ℕ) (answer : Result (Unit {0}) CcError) (old s n x : Option Disk) → Both old s Settled → Both s n (Wrote record_number told) →
+    OnOk answer (Both n x Settled) → OnErr answer (x ≡ n) → Both old x (λ o w. (w ≡ o) ⊎ IsSettling told o w)
+settling-end told (Ok done) old s n x first wrote last none =
+    both-then (λ o w. IsSettling told o w) Settled (λ o w. (w ≡ o) ⊎ IsSettling told o w) old n x
+    (λ o m w settling synced. inr (settling-synced told o m w settling synced))
+    (settling-begin told old s n first wrote) last
+settling-end told (Err e) old s n x first wrote none same =
+    subst (λ (d : Option Disk). Both old d (λ o w. (w ≡ o) ⊎ IsSettling told o w)) (sym same)
+    (both-map (λ o w. IsSettling told o w) (λ o w. (w ≡ o) ⊎ IsSettling told o w) old n (λ o w settling. inr settling) (settling-begin told old s n first wrote))
+
+-- a disk whose record was written and synced
+pub settled-settling : (told : List ℕ) (old new : Disk) → IsSettled told old new → IsSettling told old new
+settled-settling told old new settled = record {
+  others = λ p e.
+      let held : page_of new p ≡ page_of old p = (settled p).0 ∙ passed (record_number == p) told (page_of old p) e in
+      (held, (settled p).1 ∙ ap (λ (l : List ℕ). l ∷ []) held);
+  record_is = rw ((settled record_number).1) (the-one (page_of new record_number));
+  record_may = λ bytes c. inr (alone (page_of new record_number) bytes (rw ((settled record_number).1) at c) ∙ (settled record_number).0);
+}

@@ -48,7 +48,7 @@ fn changed_pages<D: PageDisk>(
 ) -> Result<BTreeMap<u64, [u8; 4096]>, CcError>
     ensures changed { IfOk result (λ kept. IfTold (D.told disk.old) (λ told. (page : ℕ) →
         page_with kept told page ≡ changed_page (redone_of redo.now from entries.now) told page)) }
-    ensures no_record { IfOk result KeepsData }
+    ensures keeps { IfOk result KeepsData }
     ensures stays { D.told disk.new ≡ D.told disk.old }
     ensures refused { IfErr result IsReadRefusal }
     ensures counted { D.faults disk.new ≡ D.faults disk.old + faults_by result }
@@ -72,11 +72,11 @@ fn change_pages<D: PageDisk>(
     bytes: &[u8],
 ) -> Result<(), CcError>
     requires below { at + length bytes.now < 2 ^ 63 }
-    requires data { KeepsData kept.old }
+    requires keeps { KeepsData kept.old }
     ensures changed { OnOk result (IfTold (D.told disk.old) (λ told. (page : ℕ) →
         page_with kept.new told page
-            ≡ page_after (record { at = at; bytes = bytes.now } ∷ []) page (page_with kept.old told page))) }
-    ensures no_record { KeepsData kept.new }
+        ≡ page_after (record { at = at; bytes = bytes.now } ∷ []) page (page_with kept.old told page))) }
+    ensures keeps { KeepsData kept.new }
     ensures stays { D.told disk.new ≡ D.told disk.old }
     ensures refused { IfErr result IsReadRefusal }
     ensures counted { D.faults disk.new ≡ D.faults disk.old + faults_by result }
@@ -102,11 +102,11 @@ fn change_page<D: PageDisk>(
     requires below { at + length bytes.now < 2 ^ 63 }
     requires begins { at < 4096 * page + 4096 }
     requires ends { 4096 * page < at + length bytes.now }
-    requires data { KeepsData kept.old }
+    requires keeps { KeepsData kept.old }
     ensures changed { OnOk result (IfTold (D.told disk.old) (λ told. page_with kept.new told page
         ≡ page_after (record { at = at; bytes = bytes.now } ∷ []) page (page_with kept.old told page))) }
     ensures others { (told : Disk) (other : ℕ) → other ≢ page → page_with kept.new told other ≡ page_with kept.old told other }
-    ensures no_record { KeepsData kept.new }
+    ensures keeps { KeepsData kept.new }
     ensures stays { D.told disk.new ≡ D.told disk.old }
     ensures refused { IfErr result IsReadRefusal }
     ensures counted { D.faults disk.new ≡ D.faults disk.old + faults_by result }
@@ -156,7 +156,7 @@ fn patch(content: &mut [u8; 4096], page: u64, at: u64, bytes: &[u8])
 
 // Writes the pages that are kept, each once.
 fn write_pages<D: PageDisk>(disk: &mut D, kept: BTreeMap<u64, [u8; 4096]>) -> Result<(), CcError>
-    requires data { KeepsData kept }
+    requires keeps { KeepsData kept }
     ensures writing { Both (D.told disk.old) (D.told disk.new) (λ old new. IsWriting (page_with kept old) old new) }
     ensures written { OnOk result (Both (D.told disk.old) (D.told disk.new) (λ old new. Holds (page_with kept old) new)) }
     ensures refused { IfErr result IsWriteRefusal }

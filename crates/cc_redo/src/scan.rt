@@ -33,7 +33,6 @@ pub(crate) struct ReadEntry {
 pub(crate) fn read_log<L: LogFile>(alloc: Global, log: &mut L) -> Result<Vec<ReadEntry>, CcError>
     ensures read { IfOk result (λ entries. IfTold (L.told log.old) (λ told.
         (entries.items ≡ readings told.entries) × (length told.entries ≤ 4194304))) }
-    ensures few { IfOk result (λ entries. length entries.items ≤ 4194304) }
     ensures stays { L.told log.new ≡ L.told log.old }
     ensures refused { IfErr result (IsLogRefusal (L.told log.old)) }
     ensures counted { L.faults log.new ≡ L.faults log.old + log_faults result }

@@ -10,7 +10,7 @@ abbrev pub invariant-loop-page : goal.invariant-loop-page
 invariant-loop-page g l = record {
   stays : g.D.Told.told l.disk ≡ g.D.Told.told l.fn.disk;
   counted : g.D.Told.faults l.disk ≡ g.D.Told.faults l.fn.disk;
-  data : KeepsData l.kept;
+  keeps : KeepsData l.kept;
   changing : IfTold (g.D.Told.told l.fn.disk)
       (IsChanging (record { at = l.at; bytes = l.bytes }) l.page (get nat_cmp l.fn.kept) (get nat_cmp l.kept));
 }

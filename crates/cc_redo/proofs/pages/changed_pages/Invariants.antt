@@ -10,6 +10,6 @@ abbrev pub invariant-loop-entry : goal.invariant-loop-entry
 invariant-loop-entry g l = record {
   stays : g.D.Told.told l.disk ≡ g.D.Told.told l.fn.disk;
   counted : g.D.Told.faults l.disk ≡ g.D.Told.faults l.fn.disk;
-  data : KeepsData l.kept;
+  keeps : KeepsData l.kept;
   redoing : IfTold (g.D.Told.told l.fn.disk) (IsRedoing l.redo l.from (drop l.entry-index l.entries) l.entries (get nat_cmp l.kept));
 }

@@ -8,6 +8,5 @@ abbrev pub invariant-loop-n : goal.invariant-loop-n
 invariant-loop-n g l = record {
   stays : g.L.LogFile.told l.log ≡ g.L.LogFile.told l.fn.log;
   counted : g.L.LogFile.faults l.log ≡ g.L.LogFile.faults l.fn.log;
-  few : length l.entries.items ≤ l.n;
   read : IfTold (g.L.LogFile.told l.fn.log) (HasRead l.n l.entries.items);
 }
