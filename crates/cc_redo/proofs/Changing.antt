@@ -1,5 +1,5 @@
 -- The pages that are kept, as changes are made in them.
-use Rattle.std.specs.Prelude.{◌≡◌, ◌≢◌, ℕ, zero, suc, ◌+◌, ◌*◌, ◌/◌, ◌^◌, ◌<◌, ◌≤◌, Bool, true, false, nat_le, List, [], ◌∷◌, length, drop, unwrap_or, ◌⊎◌, if◌then◌else◌, refl}
+use Rattle.std.specs.Prelude.{◌≡◌, ◌≢◌, ℕ, zero, suc, ◌+◌, ◌*◌, ◌/◌, ◌^◌, ◌<◌, ◌≤◌, Bool, true, false, nat_le, List, [], ◌∷◌, length, drop, unwrap_or, ◌⊎◌, Result, Ok, Err, OnOk, if◌then◌else◌, refl}
 use Rattle.std.specs.declared.option.Option.{Option}
 use Rattle.std.specs.declared.option.Option.TheVariants.{Some, None}
 use Rattle.std.proofs.Common.{ap, sym, subst, ◌∙◌, arith, inl, inr, ⊎_elim, get_or}
@@ -16,9 +16,9 @@ use Rattle.cc_redo.specs.Changes.{bytes_after, page_after}
 use Rattle.cc_redo.specs.Disks.{changed_page}
 use Rattle.cc_redo.specs.Scanned.{Holds, IsWriting}
 use Rattle.cc_redo.proofs.Keeping.{told-both, told-map}
-use Rattle.cc_redo.proofs.Options.{chosen, passed}
+use Rattle.cc_redo.proofs.Options.{both-if, both-same, chosen, passed}
 use Rattle.cc_redo.proofs.Patches.{after-cons, after-none, empty-stays, untouched}
-use Rattle.cc_redo.proofs.Writes.{page_by}
+use Rattle.cc_redo.proofs.Writes.{page_by, writing-begun}
 
 -- The pages below n are as the change leaves them, and the others as they were.
 pub record IsChanging (change : Change) (n : ℕ) (old now : ℕ → Option (List ℕ)) (disk : Disk) : Type 0 where
@@ -103,7 +103,8 @@ holds-same made other new same holds = λ page. holds page ∙ same page
 -- the entries one by one
 drop-item : {A : Type 0} (l : List A) (i : ℕ) (x : A) → i < length l → x ≡ get_or l i x → drop i l ≡ x ∷ drop (i + 1) l
 drop-item {A} l i x below is =
-    drop-cons l i x below ∙ ap (λ (y : A). y ∷ drop (suc i) l) (sym is) ∙ ap (λ (n : ℕ). x ∷ drop n l) (omega arith)
+    let next : suc i ≡ i + 1 = omega arith in
+    drop-cons l i x below ∙ ap (λ (y : A). y ∷ drop (suc i) l) (sym is) ∙ ap (λ (n : ℕ). x ∷ drop n l) next
 
 redone-some : (redo : Redo) (from : ℕ) (entry : ReadEntry) (change : Change) → from ≤ entry.lsn → change_said redo entry.says ≡ Some change → redone_by redo from entry ≡ Some change
 redone-some redo from entry change late some = chosen (nat_le from entry.lsn) (change_said redo entry.says) None (grind (arith, nat_tests)) ∙ some
@@ -157,3 +158,24 @@ entries-done told redo from i entries kept all redoing =
     told-map (IsRedoing redo from (drop i entries) entries kept) (λ disk. (page : ℕ) → page_by kept disk page ≡ changed_page (redone_of redo from entries) disk page) told
     (λ disk re. redoing-done redo from entries kept disk (subst (λ (l : List ReadEntry). IsRedoing redo from l entries kept disk) none re))
     redoing
+
+-- the pages that are kept are written
+pub redo-writing : (old mid new : Option Disk) (kept : ℕ → Option (List ℕ)) (changes : List Change) → mid ≡ old →
+    IfTold old (λ disk. (page : ℕ) → page_by kept disk page ≡ changed_page changes disk page) →
+    Both mid new (λ o n. IsWriting (page_by kept o) o n) → Both old new (λ o n. IsWriting (changed_page changes o) o n)
+redo-writing old mid new kept changes same made writing =
+    both-if (λ disk. (page : ℕ) → page_by kept disk page ≡ changed_page changes disk page) (λ o n. IsWriting (page_by kept o) o n) (λ o n. IsWriting (changed_page changes o) o n) old new
+    (λ o n is w. writing-same (page_by kept o) (changed_page changes o) o n is w)
+    made (subst (λ (m : Option Disk). Both m new (λ o n. IsWriting (page_by kept o) o n)) same writing)
+
+pub redo-written : {A E : Type 0} (answer : Result A E) (old mid new : Option Disk) (kept : ℕ → Option (List ℕ)) (changes : List Change) → mid ≡ old →
+    IfTold old (λ disk. (page : ℕ) → page_by kept disk page ≡ changed_page changes disk page) →
+    OnOk answer (Both mid new (λ o n. Holds (page_by kept o) n)) → OnOk answer (Both old new (λ o n. Holds (changed_page changes o) n))
+redo-written (Err e) old mid new kept changes same made holds = tt
+redo-written (Ok a) old mid new kept changes same made holds =
+    both-if (λ disk. (page : ℕ) → page_by kept disk page ≡ changed_page changes disk page) (λ o n. Holds (page_by kept o) n) (λ o n. Holds (changed_page changes o) n) old new
+    (λ o n is h. holds-same (page_by kept o) (changed_page changes o) n is h)
+    made (subst (λ (m : Option Disk). Both m new (λ o n. Holds (page_by kept o) n)) same holds)
+
+pub redo-begun : (old new : Option Disk) (changes : List Change) → new ≡ old → Both old new (λ o n. IsWriting (changed_page changes o) o n)
+redo-begun old new changes same = both-same (λ o n. IsWriting (changed_page changes o) o n) old new (λ a. writing-begun (changed_page changes a) a) same

@@ -14,3 +14,4 @@ pub mod Rows
 pub mod Steps
 pub mod Settling
 pub mod Keeping
+pub mod Popping

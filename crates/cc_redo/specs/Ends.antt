@@ -8,6 +8,7 @@ use Rattle.cc_traits.specs.Told.{Both, IfTold}
 use Rattle.cc_traits.specs.Disk.{Disk}
 use Rattle.cc_traits.specs.Log.{Log}
 use Rattle.cc_redo.specs.declared.redo.Redo.{Redo}
+use Rattle.cc_redo.specs.declared.scan.ReadEntry.{ReadEntry}
 use Rattle.cc_redo.specs.declared.streams.Restarted.{Restarted}
 use Rattle.cc_redo.specs.Heard.{readings, from_of, last_of, all_updates, valid_of}
 use Rattle.cc_redo.specs.Disks.{IsMade, IsBetween, made_by}
@@ -24,28 +25,26 @@ pub record EachDisk {D : Type 0} (streams : List Redo) (P : Redo → D → D →
   pub others : (k : ℕ) → ((i : ℕ) (redo : Redo) → slice_get streams i ≡ Some redo → redo.disk ≢ k) → slice_get new k ≡ slice_get old k
   pub count : length new ≡ length old
 
--- what is made of each page of a stream's disk, by what the log says
-abbrev pub made_from : List Redo → Log → Redo → Disk → ℕ → List ℕ
-made_from streams log redo = made_by redo (from_of streams (readings log.entries)) (readings log.entries)
-
-abbrev pub WasMade : List Redo → Option Log → Redo → Option Disk → Option Disk → Type 0
-WasMade streams log redo was now =
-    IfTold log (λ told. Both was now (λ old new. IsMade (made_from streams told redo old) new))
-
-abbrev pub WasLeft : List Redo → Option Log → Redo → Option Disk → Option Disk → Type 0
-WasLeft streams log redo was now =
-    IfTold log (λ told. Both was now (λ old new. IsBetween (made_from streams told redo old) old new))
+-- what is made of each page of a stream's disk, by the entries of the log
+abbrev pub made_from : List Redo → List ReadEntry → Redo → Disk → ℕ → List ℕ
+made_from streams entries redo = made_by redo (from_of streams entries) entries
 
 -- a restart that was done has made each disk, and one that was refused has left each so that it can be called again
+abbrev pub LeavesBy : List Redo → List ReadEntry → Result Restarted CcError → Redo → Option Disk → Option Disk → Type 0
+LeavesBy streams entries (Ok done) redo was now = Both was now (λ old new. IsMade (made_from streams entries redo old) new)
+LeavesBy streams entries (Err e) redo was now = Both was now (λ old new. IsBetween (made_from streams entries redo old) old new)
+
 abbrev pub Leaves : List Redo → Option Log → Result Restarted CcError → Redo → Option Disk → Option Disk → Type 0
-Leaves streams log (Ok done) = WasMade streams log
-Leaves streams log (Err e) = WasLeft streams log
+Leaves streams log answer redo was now = IfTold log (λ told. LeavesBy streams (readings told.entries) answer redo was now)
 
 -- the numbers of the answer are those of the log
+pub record IsAnswerOf (streams : List Redo) (entries : List ReadEntry) (answer : Restarted) : Type 0 where
+  pub last : answer.last ≡ last_of entries
+  pub updates : answer.updates ≡ all_updates streams entries
+  pub valids : answer.valids.items ≡ map (valid_of entries) streams
+
 pub record IsAnswer (streams : List Redo) (log : Log) (answer : Restarted) : Type 0 where
-  pub last : answer.last ≡ last_of (readings log.entries)
-  pub updates : answer.updates ≡ all_updates streams (readings log.entries)
-  pub valids : answer.valids.items ≡ map (valid_of (readings log.entries)) streams
+  pub numbers : IsAnswerOf streams (readings log.entries) answer
   pub short : length log.entries ≤ 4194304
 
 -- a count of faults rises only where a restart is refused

@@ -1,16 +1,16 @@
 //! The restart of streams from a log.
 
-ghost use Rattle.std.specs.Prelude.{◌≡◌, ◌+◌, ◌<◌, All, IfOk, IfErr, OnOk, OnErr, length, map};
+ghost use Rattle.std.specs.Prelude.{◌≡◌, ◌+◌, ◌<◌, All, IfOk, IfErr, OnOk, OnErr, length};
+ghost use Rattle.cc_entry.specs.Errors.{out_of_memory};
 ghost use Rattle.cc_traits.specs.Told.{IfTold};
-ghost use Rattle.cc_redo.specs.Ends.{DisksDiffer, EachDisk, IsAnswer, IsCounted, IsRefused, Leaves, log_faults};
-ghost use Rattle.cc_redo.specs.Heard.{all_updates, last_of, valid_of};
+ghost use Rattle.cc_redo.specs.Ends.{DisksDiffer, EachDisk, IsAnswer, IsAnswerOf, IsCounted, IsRefused, Leaves, LeavesBy, log_faults};
 ghost use Rattle.cc_redo.specs.Stages.{IsStageRefusal, PagesDone, PagesLeft, RecordDone, RecordLeft};
 
 use crate::pages::redo_pages;
 use crate::redo::Redo;
 use crate::scan::{ReadEntry, count_updates, first_redone, last_lsn, read_log, valid_length};
 use crate::settle::settle_record;
-use cc_entry::{CcError, NoMemory};
+use cc_entry::CcError;
 use cc_traits::{LogFile, PageDisk};
 use std::alloc::Global;
 
@@ -52,18 +52,35 @@ pub fn restart<D: PageDisk, L: LogFile>(
     ensures counted { EachDisk streams.now (λ redo was now. IsCounted result (D.faults was) (D.faults now)) disks.old disks.new }
 {
     let entries = read_log(alloc, log)?;
-    let done = answer(alloc, &entries, streams)?;
-    let from = first_redone(&entries, streams);
-    redo_all(alloc, streams, disks, from, &entries)?;
-    settle_all(streams, disks, &entries)?;
+    redo_entries(alloc, &entries, streams, disks)
+}
+
+// The same of a log that is read.
+fn redo_entries<D: PageDisk>(
+    alloc: Global,
+    entries: &[ReadEntry],
+    streams: &[Redo],
+    disks: &mut [D],
+) -> Result<Restarted, CcError>
+    requires disks { All (λ redo. redo.disk < length disks.old) streams.now }
+    requires differ { DisksDiffer streams.now }
+    ensures leaves { EachDisk streams.now (λ redo was now.
+        LeavesBy streams.now entries.now result redo (D.told was) (D.told now)) disks.old disks.new }
+    ensures answer { IfOk result (IsAnswerOf streams.now entries.now) }
+    ensures refused { IfErr result (IsStageRefusal D.faults streams.now disks.old disks.new) }
+    ensures counted { EachDisk streams.now (λ redo was now. IsCounted result (D.faults was) (D.faults now)) disks.old disks.new }
+{
+    let done = answer(alloc, entries, streams)?;
+    let from = first_redone(entries, streams);
+    redo_all(alloc, streams, disks, from, entries)?;
+    settle_all(streams, disks, entries)?;
     Ok(done)
 }
 
 // The numbers that a restart answers.
-fn answer(alloc: Global, entries: &[ReadEntry], streams: &[Redo]) -> Result<Restarted, NoMemory>
-    ensures last { IfOk result (λ done. done.last ≡ last_of entries.now) }
-    ensures updates { IfOk result (λ done. done.updates ≡ all_updates streams.now entries.now) }
-    ensures valids { IfOk result (λ done. done.valids.items ≡ map (valid_of entries.now) streams.now) }
+fn answer(alloc: Global, entries: &[ReadEntry], streams: &[Redo]) -> Result<Restarted, CcError>
+    ensures answer { IfOk result (IsAnswerOf streams.now entries.now) }
+    ensures refused { IfErr result (λ e. e ≡ out_of_memory) }
 {
     let mut valids = Vec::new(alloc);
     for redo in streams {

@@ -23,9 +23,9 @@ loop-entry-preserved g c =
         keeps = λ page beyond. ap (λ (m : BTreeMap ℕ (List ℕ)). get nat_cmp m page) w.kept-is ∙ w.change_pages.ensures.keeps page beyond;
         redoing =
             subst (λ (m : BTreeMap ℕ (List ℕ)). IfTold told (IsRedoing redo c.args.from (drop (i + 1) entries) entries (get nat_cmp m))) (sym w.kept-is)
-            (entry-changed told redo c.args.from i entries entry _ before (get nat_cmp w.change_pages.new.kept) c.loop-entry-test.true c.entry-item.is
+            (entry-changed told redo c.args.from i entries entry (record { at = w.in-Some.at; bytes = w.in-Some.bytes.now }) before (get nat_cmp w.change_pages.new.kept) c.loop-entry-test.true c.entry-item.is
             w.if-entry-from.true w.in-Some.ensures
-            (subst (λ (t : Option Disk). IfTold t (IsChanged _ before (get nat_cmp w.change_pages.new.kept))) c.loop-entry.invariant.stays w.in_ok-change_pages.ensures.changed)
+            (subst (λ (t : Option Disk). IfTold t (IsChanged (record { at = w.in-Some.at; bytes = w.in-Some.bytes.now }) before (get nat_cmp w.change_pages.new.kept))) c.loop-entry.invariant.stays w.in_ok-change_pages.ensures.changed)
             c.loop-entry.invariant.redoing);
       }
       | then-entry-from+in_default w ↦ record {
@@ -34,7 +34,7 @@ loop-entry-preserved g c =
         keeps = λ page beyond. ap (λ (m : BTreeMap ℕ (List ℕ)). get nat_cmp m page) w.kept-is ∙ c.loop-entry.invariant.keeps page beyond;
         redoing =
             subst (λ (m : BTreeMap ℕ (List ℕ)). IfTold told (IsRedoing redo c.args.from (drop (i + 1) entries) entries (get nat_cmp m))) (sym w.kept-is)
-            (entry-other told redo c.args.from i entries entry before c.loop-entry-test.true c.entry-item.is ? c.loop-entry.invariant.redoing);
+            (entry-other told redo c.args.from i entries entry before c.loop-entry-test.true c.entry-item.is w.in_default.ensures c.loop-entry.invariant.redoing);
       }
       | else-entry-from w ↦ record {
         stays = ap g.D.Told.told w.disk-is ∙ c.loop-entry.invariant.stays;
