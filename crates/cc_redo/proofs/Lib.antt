@@ -15,3 +15,4 @@ pub mod Steps
 pub mod Settling
 pub mod Keeping
 pub mod Popping
+pub mod SaidSpells

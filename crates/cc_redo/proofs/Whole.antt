@@ -181,13 +181,13 @@ pub refused-so : {D A : Type 0} (faults : D → ℕ) (streams : List Redo) (log 
 refused-so faults streams log old new (Ok done) refused = tt
 refused-so faults streams log old new (Err e) refused = refused-stage faults streams log old new e refused
 
-no-log : {D A : Type 0} (faults : D → ℕ) (streams : List Redo) (old new : List D) (e : CcError) → IsStageRefusal faults streams old new e → (let r : Result A CcError = Err e in log_faults r) ≡ 0
-no-log faults streams old new (error.ReadFault page) refused = refl
-no-log faults streams old new (error.WriteFault page) refused = refl
-no-log faults streams old new error.NoMemory refused = refl
-no-log faults streams old new other refused = absurd refused
+no-log : {D : Type 0} (A : Type 0) (faults : D → ℕ) (streams : List Redo) (old new : List D) (e : CcError) → IsStageRefusal faults streams old new e → (let r : Result A CcError = Err e in log_faults r) ≡ 0
+no-log A faults streams old new (error.ReadFault page) refused = refl
+no-log A faults streams old new (error.WriteFault page) refused = refl
+no-log A faults streams old new error.NoMemory refused = refl
+no-log A faults streams old new other refused = absurd refused
 
 pub no-log_fault : {D A : Type 0} (faults : D → ℕ) (streams : List Redo) (old new : List D) (answer : Result A CcError) →
     IfErr answer (IsStageRefusal faults streams old new) → log_faults answer ≡ 0
 no-log_fault faults streams old new (Ok done) refused = refl
-no-log_fault {D} {A} faults streams old new (Err e) refused = no-log {D} {A} faults streams old new e refused
+no-log_fault {A = A} faults streams old new (Err e) refused = no-log A faults streams old new e refused

@@ -55,8 +55,3 @@ checkpoint_in rest =
 abbrev pub said_by : List ℕ → Option LogRecord
 said_by [] = None
 said_by (first ∷ rest) = if first == 255 then checkpoint_in rest else update_in first rest
-
--- an answer of what an entry says: the record that it spells, or none where it spells none
-abbrev pub IsSaid : List ℕ → Option LogRecord → Type 0
-IsSaid entry (Some told) = Spells entry told
-IsSaid entry None = (told : LogRecord) → Spells entry told → ⊥

@@ -1,6 +1,7 @@
 //! What follows from the definitions of a restart.
 
-ghost use Rattle.std.specs.Prelude.{◌≡◌, ◌==◌, ℕ, false, List, Contains, Some, take};
+ghost use Rattle.std.specs.Prelude.{◌≡◌, ◌==◌, ◌<◌, ℕ, false, List, Contains, Some, take};
+ghost use Rattle.std.specs.List.{AllByRecursion};
 ghost use Rattle.cc_traits.specs.Disk.{Disk, may_of};
 ghost use Rattle.cc_redo.specs.Changes.{page_after};
 ghost use Rattle.cc_redo.specs.Disks.{IsBetween, Was, made_by, record_number};
@@ -10,9 +11,11 @@ ghost use Rattle.cc_redo.specs.declared.record.LogRecord.{LogRecord};
 ghost use Rattle.cc_redo.specs.declared.redo.Redo.{Redo};
 ghost use Rattle.cc_redo.specs.declared.scan.ReadEntry.{ReadEntry};
 
-/// What an entry spells is what is read of it.
+/// What an entry spells is what is read of it, and what is read of its bytes is what they spell.
 pub fn an_entry_says_what_it_spells()
-    ensures { (entry : List ℕ) → (told : LogRecord) → Spells entry told → said_by entry ≡ Some told }
+    ensures read { (entry : List ℕ) → (told : LogRecord) → Spells entry told → said_by entry ≡ Some told }
+    ensures spelled { (entry : List ℕ) → (told : LogRecord) → AllByRecursion (λ byte. byte < 256) entry →
+        said_by entry ≡ Some told → Spells entry told }
 {}
 
 /// Changes that are applied to a page that has some of them already, in their order from the first on, make of it what

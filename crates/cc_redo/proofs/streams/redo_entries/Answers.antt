@@ -17,7 +17,7 @@ returns-in_err-redo_all-clause-leaves g c =
     let new = c.redo_all.new.disks in
     let e = c.in_err-redo_all.field-0.0 in
     handed-on (λ answer. EachDisk streams (λ redo was now. LeavesBy streams items answer redo (told was) (told now)) disks new)
-    c.from_residual.result e c.from_residual.ensures.1
+    c.from_residual-in_err-redo_all.result e c.from_residual-in_err-redo_all.ensures.1
     (pages-left told faults streams items disks disks new e (subst (λ (from : ℕ). EachDisk streams (PagesLeft told faults from items) disks new) c.first_redone-from.ensures c.in_err-redo_all.ensures.left))
 
 pub returns-in_err-redo_all-clause-counted : goal.returns-in_err-redo_all-clause-counted
@@ -30,7 +30,7 @@ returns-in_err-redo_all-clause-counted g c =
     let new = c.redo_all.new.disks in
     let e = c.in_err-redo_all.field-0.0 in
     handed-on (λ answer. EachDisk streams (λ redo was now. IsCounted answer (faults was) (faults now)) disks new)
-    c.from_residual.result e c.from_residual.ensures.1
+    c.from_residual-in_err-redo_all.result e c.from_residual-in_err-redo_all.ensures.1
     (pages-counted told faults streams items disks disks new (subst (λ (from : ℕ). EachDisk streams (PagesLeft told faults from items) disks new) c.first_redone-from.ensures c.in_err-redo_all.ensures.left))
 
 pub returns-in_err-settle_all-clause-leaves : goal.returns-in_err-settle_all-clause-leaves
@@ -44,7 +44,7 @@ returns-in_err-settle_all-clause-leaves g c =
     let new = c.settle_all.new.disks in
     let e = c.in_err-settle_all.field-0.0 in
     handed-on (λ answer. EachDisk streams (λ redo was now. LeavesBy streams items answer redo (told was) (told now)) disks new)
-    c.from_residual.result e c.from_residual.ensures.1
+    c.from_residual-in_err-settle_all.result e c.from_residual-in_err-settle_all.ensures.1
     (records-left told faults streams items disks here new e
     (subst (λ (from : ℕ). EachDisk streams (PagesDone told faults from items) disks here) c.first_redone-from.ensures c.in_ok-redo_all.ensures.done) c.in_err-settle_all.ensures.left)
 
@@ -59,7 +59,7 @@ returns-in_err-settle_all-clause-refused g c =
     let new = c.settle_all.new.disks in
     let e = c.in_err-settle_all.field-0.0 in
     handed-on (λ answer. IfErr answer (IsStageRefusal faults streams disks new))
-    c.from_residual.result e c.from_residual.ensures.1
+    c.from_residual-in_err-settle_all.result e c.from_residual-in_err-settle_all.ensures.1
     (records-refused told faults streams items disks here new e
     (subst (λ (from : ℕ). EachDisk streams (PagesDone told faults from items) disks here) c.first_redone-from.ensures c.in_ok-redo_all.ensures.done) c.in_err-settle_all.ensures.left
     c.in_err-settle_all.ensures.refused)
@@ -75,7 +75,7 @@ returns-in_err-settle_all-clause-counted g c =
     let new = c.settle_all.new.disks in
     let e = c.in_err-settle_all.field-0.0 in
     handed-on (λ answer. EachDisk streams (λ redo was now. IsCounted answer (faults was) (faults now)) disks new)
-    c.from_residual.result e c.from_residual.ensures.1
+    c.from_residual-in_err-settle_all.result e c.from_residual-in_err-settle_all.ensures.1
     (records-counted told faults streams items disks here new
     (subst (λ (from : ℕ). EachDisk streams (PagesDone told faults from items) disks here) c.first_redone-from.ensures c.in_ok-redo_all.ensures.done) c.in_err-settle_all.ensures.left)
 
