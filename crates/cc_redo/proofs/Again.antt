@@ -1,12 +1,12 @@
 -- Changes that are made once more make nothing else.
-use Rattle.std.specs.Prelude.{◌≡◌, ℕ, zero, suc, ◌+◌, ◌-◌, ◌*◌, ◌≤◌, ◌&&◌, nat_le, nat_lt, Bool, true, false, max, slice_index, List, [], ◌∷◌, take, fold, if◌then◌else◌, refl}
+use Rattle.std.specs.Prelude.{◌≡◌, ℕ, zero, suc, ◌+◌, ◌-◌, ◌*◌, ◌≤◌, ◌&&◌, nat_le, nat_lt, Bool, true, false, slice_index, List, [], ◌∷◌, take, if◌then◌else◌, refl}
 use Rattle.std.specs.declared.option.Option.{Option}
 use Rattle.std.specs.declared.option.Option.TheVariants.{Some, None}
-use Rattle.std.proofs.Common.{ap, sym, ◌∙◌, arith}
+use Rattle.std.proofs.Common.{ap, ◌∙◌, arith}
 use Rattle.cc_redo.specs.declared.redo.Redo.{Redo}
 use Rattle.cc_redo.specs.declared.scan.ReadEntry.{ReadEntry}
 use Rattle.cc_redo.specs.Heard.{Change, change_said, end_of, raised, valid_behind}
-use Rattle.cc_redo.specs.Changes.{byte_after, byte_by, bytes_after, page_after}
+use Rattle.cc_redo.specs.Changes.{byte_after, bytes_after, page_after}
 
 -- a byte that a change covers is the same whatever stood there, and one that it does not cover goes on
 once_more : (covers : Bool) (own byte : ℕ) (after front : ℕ → ℕ) → ((b : ℕ) → after (front b) ≡ after b) →

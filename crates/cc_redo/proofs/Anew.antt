@@ -1,13 +1,13 @@
 -- A restart that stopped is begun again.
-use Rattle.std.specs.Prelude.{◌≡◌, ℕ, false, ◌==◌, List, length, take, Contains, ◌⊎◌, refl}
-use Rattle.std.proofs.Common.{ap, sym, ◌∙◌, arith, inl, inr, ⊎_elim}
+use Rattle.std.specs.Prelude.{◌≡◌, ℕ, false, ◌==◌, List, length, Contains, refl}
+use Rattle.std.proofs.Common.{ap, sym, ◌∙◌, inr, ⊎_elim}
 use Rattle.std.proofs.Math.Seq.{take-length}
 use Rattle.cc_traits.specs.Disk.{Disk, page_of, may_of}
 use Rattle.cc_redo.specs.declared.redo.Redo.{Redo}
 use Rattle.cc_redo.specs.declared.scan.ReadEntry.{ReadEntry}
-use Rattle.cc_redo.specs.Heard.{Change, redone_of, valid_of}
+use Rattle.cc_redo.specs.Heard.{Change, redone_of}
 use Rattle.cc_redo.specs.Changes.{page_after}
-use Rattle.cc_redo.specs.Disks.{IsBetween, Was, changed_page, made_by, record_number, with_record}
+use Rattle.cc_redo.specs.Disks.{IsBetween, Was, changed_page, made_by, record_number}
 use Rattle.cc_redo.proofs.Again.{page-again}
 use Rattle.cc_redo.proofs.Options.{passed}
 

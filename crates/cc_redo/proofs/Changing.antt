@@ -1,5 +1,5 @@
 -- The pages that are kept, as changes are made in them.
-use Rattle.std.specs.Prelude.{◌≡◌, ◌≢◌, ℕ, zero, suc, ◌+◌, ◌*◌, ◌/◌, ◌^◌, ◌<◌, ◌≤◌, Bool, true, false, nat_le, List, [], ◌∷◌, length, drop, unwrap_or, ◌⊎◌, Result, Ok, Err, OnOk, if◌then◌else◌, refl}
+use Rattle.std.specs.Prelude.{◌≡◌, ◌≢◌, ℕ, suc, ◌+◌, ◌*◌, ◌<◌, ◌≤◌, Bool, true, false, nat_le, List, [], ◌∷◌, length, drop, ◌⊎◌, Result, Ok, Err, OnOk, if◌then◌else◌, refl}
 use Rattle.std.specs.declared.option.Option.{Option}
 use Rattle.std.specs.declared.option.Option.TheVariants.{Some, None}
 use Rattle.std.proofs.Common.{ap, sym, subst, ◌∙◌, arith, inl, inr, ⊎_elim, get_or}
@@ -8,11 +8,11 @@ use Rattle.std.proofs.Math.ListN.{drop_of_length-le}
 use Rattle.std.proofs.lemmas.Bool.Decides.{nat_tests}
 use Rattle.std.proofs.lemmas.Bool.{cases_lt}
 use Rattle.cc_traits.specs.Told.{Both, IfTold}
-use Rattle.cc_traits.specs.Disk.{Disk, page_of, may_of}
+use Rattle.cc_traits.specs.Disk.{Disk, page_of}
 use Rattle.cc_redo.specs.declared.redo.Redo.{Redo}
 use Rattle.cc_redo.specs.declared.scan.ReadEntry.{ReadEntry}
 use Rattle.cc_redo.specs.Heard.{Change, change_said, end_of, redone_by, redone_of}
-use Rattle.cc_redo.specs.Changes.{bytes_after, page_after}
+use Rattle.cc_redo.specs.Changes.{page_after}
 use Rattle.cc_redo.specs.Disks.{changed_page}
 use Rattle.cc_redo.specs.Scanned.{Holds, IsWriting}
 use Rattle.cc_redo.proofs.Keeping.{told-both, told-map}

@@ -12,7 +12,7 @@ use Rattle.std.proofs.lemmas.List.{append-nil, length-drop, drop-drop}
 use Rattle.byteorder.specs.Endian.{little_number}
 use Rattle.byteorder.specs.Numbers.{little_from-cons, little_from-lt}
 use Rattle.cc_model.specs.Records.{little_endian}
-use Rattle.cc_format.specs.LogRecords.{update_record, checkpoint_record, spelled_rows}
+use Rattle.cc_format.specs.LogRecords.{spelled_rows}
 use Rattle.cc_format.specs.declared.log.OldestRow.{OldestRow}
 use Rattle.cc_redo.specs.declared.record.LogRecord.{LogRecord}
 use Rattle.cc_redo.specs.declared.record.LogRecord.TheVariants.{Update, Checkpoint}

@@ -1,7 +1,7 @@
 -- What is known of the disk of one stream, before and behind its part of a stage.
-use Rattle.std.specs.Prelude.{◌≡◌, ℕ, ◌+◌, ◌≤◌, List, ◌⊎◌, refl}
+use Rattle.std.specs.Prelude.{◌≡◌, ℕ, ◌≤◌, List, ◌⊎◌, refl}
 use Rattle.std.specs.declared.option.Option.{Option}
-use Rattle.std.proofs.Common.{ap, sym, subst, arith, inl, inr}
+use Rattle.std.proofs.Common.{subst, arith, inl, inr}
 use Rattle.cc_entry.specs.declared.error.CcError.{CcError}
 use Rattle.cc_entry.specs.declared.error.CcError.TheVariants as error
 use Rattle.cc_traits.specs.Told.{Both}
@@ -11,7 +11,7 @@ use Rattle.cc_redo.specs.declared.redo.Redo.{Redo}
 use Rattle.cc_redo.specs.declared.scan.ReadEntry.{ReadEntry}
 use Rattle.cc_redo.specs.Heard.{redone_of, valid_of}
 use Rattle.cc_redo.specs.Disks.{changed_page}
-use Rattle.cc_redo.specs.Scanned.{Holds, IsDiskRefusal, IsSettled, IsSettling, IsWriteRefusal, IsWriting}
+use Rattle.cc_redo.specs.Scanned.{IsDiskRefusal, IsSettled, IsSettling, IsWriteRefusal, IsWriting}
 use Rattle.cc_redo.specs.Stages.{PagesDone, PagesLeft, RecordDone, RecordLeft}
 use Rattle.cc_redo.proofs.Options.{both-map, both-same}
 use Rattle.cc_redo.proofs.Writes.{settled-settling, writing-begun}

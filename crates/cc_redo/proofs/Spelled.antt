@@ -1,18 +1,18 @@
 -- What an entry spells is what is read of it.
-use Rattle.std.specs.Prelude.{◌≡◌, ℕ, zero, suc, ◌+◌, ◌*◌, ◌^◌, ◌<◌, ◌≤◌, ◌==◌, ◌&&◌, nat_le, Bool, true, false, List, [], ◌∷◌, ◌++◌, length, drop, if◌then◌else◌, refl}
+use Rattle.std.specs.Prelude.{◌≡◌, ℕ, ◌+◌, ◌*◌, ◌^◌, ◌<◌, ◌==◌, ◌&&◌, nat_le, Bool, true, false, List, [], ◌∷◌, ◌++◌, length, drop, if◌then◌else◌, refl}
 use Rattle.std.specs.declared.option.Option.{Option}
-use Rattle.std.specs.declared.option.Option.TheVariants.{Some, None}
+use Rattle.std.specs.declared.option.Option.TheVariants.{Some}
 use Rattle.std.specs.List.{AllByRecursion}
-use Rattle.std.proofs.Common.{ap, sym, ◌∙◌, arith}
+use Rattle.std.proofs.Common.{ap, ◌∙◌, arith}
 use Rattle.std.proofs.lemmas.Bool.Decides.{nat_tests}
 use Rattle.byteorder.specs.Endian.{little_number}
 use Rattle.cc_model.specs.Records.{little_endian}
 use Rattle.cc_format.proofs.Numbers.{read_back}
-use Rattle.cc_format.specs.LogRecords.{update_record, checkpoint_record, spelled_rows}
+use Rattle.cc_format.specs.LogRecords.{spelled_rows}
 use Rattle.cc_format.specs.declared.log.OldestRow.{OldestRow}
 use Rattle.cc_redo.specs.declared.record.LogRecord.{LogRecord}
 use Rattle.cc_redo.specs.declared.record.LogRecord.TheVariants.{Update, Checkpoint}
-use Rattle.cc_redo.specs.Reading.{FitsRow, Spells, SpellsCheckpoint, SpellsUpdate, checkpoint_in, row_in, rows_in, said_by, update_in}
+use Rattle.cc_redo.specs.Reading.{FitsRow, Spells, checkpoint_in, rows_in, said_by, update_in}
 
 chosen : {A : Type 0} (tested : Bool) (x y : A) → tested ≡ true → (if tested then x else y) ≡ x
 chosen true x y e = refl

@@ -1,15 +1,14 @@
 -- The loops over streams: what a step on the disk of the next stream leaves.
-use Rattle.std.specs.Prelude.{◌≡◌, ◌≢◌, ℕ, ◌+◌, ◌<◌, ◌≤◌, List, length, slice_get, All, Result, Ok, Err, OnErr, IfErr, IsErrAnd, refl}
-use Rattle.std.specs.declared.option.Option.{Option}
-use Rattle.std.specs.declared.option.Option.TheVariants.{Some, None}
-use Rattle.std.proofs.Common.{ap, sym, subst, ◌∙◌, arith, get_or, set}
+use Rattle.std.specs.Prelude.{◌≡◌, ℕ, ◌+◌, ◌<◌, List, length, slice_get, All, Result, Ok, Err, IsErrAnd, refl}
+use Rattle.std.specs.declared.option.Option.TheVariants.{Some}
+use Rattle.std.proofs.Common.{ap, sym, subst, arith, get_or, set}
 use Rattle.std.proofs.lemmas.List.{length-set}
 use Rattle.std.proofs.lemmas.List.Elements.{All-get_or}
 use Rattle.std.proofs.lemmas.Option.{slice_get_read, slice_get-get_or}
 use Rattle.cc_entry.specs.declared.error.CcError.{CcError}
 use Rattle.cc_entry.specs.declared.error.CcError.TheVariants as error
 use Rattle.cc_redo.specs.declared.redo.Redo.{Redo}
-use Rattle.cc_redo.specs.Ends.{DisksDiffer, EachDisk, OneFailed}
+use Rattle.cc_redo.specs.Ends.{DisksDiffer, EachDisk}
 use Rattle.cc_redo.specs.Scanned.{IsDiskRefusal, disk_faults}
 use Rattle.cc_redo.specs.Stages.{IsReached, IsStageRefusal}
 use Rattle.cc_redo.proofs.Disking.{Changed, failed-at, get-set_other, get-set_same, reached-some, reached-step}

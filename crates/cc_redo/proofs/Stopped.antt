@@ -1,10 +1,10 @@
 -- What the two stages of a restart leave of a disk, put together.
 use Rattle.std.specs.Prelude.{◌≡◌, ℕ, Bool, true, false, ◌==◌, List, [], ◌∷◌, Contains, ◌⊎◌, if◌then◌else◌, refl}
-use Rattle.std.proofs.Common.{ap, sym, subst, ◌∙◌, arith, inl, inr, ⊎_elim}
+use Rattle.std.proofs.Common.{ap, sym, subst, ◌∙◌, inl, inr, ⊎_elim}
 use Rattle.std.proofs.lemmas.Bool.{eqb-true}
 use Rattle.std.proofs.lemmas.List.Elements.{Contains-push}
 use Rattle.cc_traits.specs.Disk.{Disk, page_of, may_of}
-use Rattle.cc_redo.specs.Disks.{DataIsMade, IsBetween, IsLeftOrMade, IsMade, IsPossible, RecordStands, Was, record_number, with_record}
+use Rattle.cc_redo.specs.Disks.{DataIsMade, IsBetween, IsMade, IsPossible, RecordStands, Was, record_number, with_record}
 use Rattle.cc_redo.specs.Scanned.{Holds, IsSettled, IsSettling, IsWriting}
 use Rattle.cc_redo.proofs.Options.{chosen, passed}
 use Rattle.cc_redo.proofs.Writes.{alone}

@@ -1,8 +1,8 @@
 -- The stages of a restart, put together for all streams.
-use Rattle.std.specs.Prelude.{◌≡◌, ℕ, ◌+◌, ◌<◌, ◌≤◌, List, length, ◌⊎◌, Result, Ok, Err, IfOk, IfErr, refl}
+use Rattle.std.specs.Prelude.{◌≡◌, ℕ, ◌≤◌, List, length, ◌⊎◌, Result, Ok, Err, IfOk, IfErr, refl}
 use Rattle.std.specs.declared.option.Option.{Option}
 use Rattle.std.specs.declared.option.Option.TheVariants.{Some, None}
-use Rattle.std.proofs.Common.{ap, sym, subst, ◌∙◌, arith, inl, inr}
+use Rattle.std.proofs.Common.{subst, ◌∙◌, arith}
 use Rattle.cc_entry.specs.declared.error.CcError.{CcError}
 use Rattle.cc_entry.specs.declared.error.CcError.TheVariants as error
 use Rattle.cc_traits.specs.Told.{Both, IfTold}
@@ -13,11 +13,11 @@ use Rattle.cc_redo.specs.declared.redo.Redo.{Redo}
 use Rattle.cc_redo.specs.declared.streams.Restarted.{Restarted}
 use Rattle.cc_redo.specs.declared.scan.ReadEntry.{ReadEntry}
 use Rattle.cc_redo.specs.Heard.{from_of, readings, redone_of, valid_of}
-use Rattle.cc_redo.specs.Disks.{IsBetween, IsMade, changed_page, made_by}
-use Rattle.cc_redo.specs.Ends.{EachDisk, IsAnswer, IsAnswerOf, IsRefused, Leaves, LeavesBy, OneFailed, log_faults, made_from}
+use Rattle.cc_redo.specs.Disks.{IsBetween, IsMade, changed_page}
+use Rattle.cc_redo.specs.Ends.{EachDisk, IsAnswer, IsAnswerOf, IsRefused, Leaves, LeavesBy, log_faults, made_from}
 use Rattle.cc_redo.specs.Scanned.{Holds, IsLogRefusal, IsSettled, IsSettling, IsWriting}
 use Rattle.cc_redo.specs.Stages.{IsStageRefusal, PagesDone, PagesLeft, RecordDone, RecordLeft}
-use Rattle.cc_redo.proofs.Options.{both-map, both-same, both-then, both-with}
+use Rattle.cc_redo.proofs.Options.{both-map, both-then, both-with}
 use Rattle.cc_redo.proofs.Stopped.{between-begun, between-pages, between-record, made-all}
 use Rattle.cc_redo.proofs.Disking.{each-map, each-same, each-then, failed-then}
 

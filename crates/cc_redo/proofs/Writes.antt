@@ -1,12 +1,12 @@
 -- Pages are written, one after the other, and the record behind them.
-use Rattle.std.specs.Prelude.{◌≡◌, ℕ, ◌^◌, ◌<◌, Bool, true, false, ◌==◌, List, [], ◌∷◌, ◌++◌, Contains, ◌⊎◌, unwrap_or, Result, Ok, Err, OnOk, OnErr, if◌then◌else◌, refl}
+use Rattle.std.specs.Prelude.{◌≡◌, ℕ, ◌<◌, Bool, true, false, ◌==◌, List, [], ◌∷◌, ◌++◌, Contains, ◌⊎◌, unwrap_or, Result, Ok, Err, OnOk, OnErr, if◌then◌else◌, refl}
 use Rattle.std.specs.declared.option.Option.{Option}
 use Rattle.std.specs.declared.option.Option.TheVariants.{Some, None}
 use Rattle.std.proofs.Common.{ap, sym, subst, ◌∙◌, arith, inl, inr, ⊎_elim}
-use Rattle.std.proofs.lemmas.Bool.{cases_eq, eqb-true, ne_eqb}
-use Rattle.std.proofs.lemmas.List.Elements.{Contains-append_left, Contains-push, Contains-push_cases}
+use Rattle.std.proofs.lemmas.Bool.{eqb-true}
+use Rattle.std.proofs.lemmas.List.Elements.{Contains-push, Contains-push_cases}
 use Rattle.cc_entry.specs.declared.error.CcError.{CcError}
-use Rattle.cc_traits.specs.Told.{Both, IfTold}
+use Rattle.cc_traits.specs.Told.{Both}
 use Rattle.cc_traits.specs.Disk.{Disk, page_of, may_of, Settled, Wrote, WriteFailed}
 use Rattle.cc_redo.specs.Disks.{IsLeftOrMade, IsPossible, RecordStands, Was, record_number}
 use Rattle.cc_redo.specs.Scanned.{Holds, IsAllSettled, IsSettled, IsSettling, IsWriting}

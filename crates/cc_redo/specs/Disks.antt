@@ -1,5 +1,5 @@
 -- What a restart makes of a disk, and how a disk stands on which a restart stopped.
-use Rattle.std.specs.Prelude.{◌≡◌, ℕ, ◌^◌, Bool, true, false, ◌==◌, List, [], ◌∷◌, Contains, ◌⊎◌, if◌then◌else◌}
+use Rattle.std.specs.Prelude.{◌≡◌, ℕ, ◌^◌, false, ◌==◌, List, [], ◌∷◌, Contains, ◌⊎◌, if◌then◌else◌}
 use Rattle.cc_traits.specs.Disk.{Disk, page_of, may_of}
 use Rattle.cc_model.specs.Records.{record_page}
 use Rattle.cc_redo.specs.declared.scan.ReadEntry.{ReadEntry}

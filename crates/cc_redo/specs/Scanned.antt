@@ -1,7 +1,7 @@
 -- What the functions of the crate show of a log that is read and of pages that are kept.
-use Rattle.std.specs.Prelude.{◌≡◌, ℕ, ◌^◌, ◌<◌, ◌≤◌, ◌==◌, true, false, List, [], ◌∷◌, ◌++◌, length, Contains, ◌⊎◌, unwrap_or, Result, Ok, Err, if◌then◌else◌}
+use Rattle.std.specs.Prelude.{◌≡◌, ℕ, ◌<◌, ◌≤◌, ◌==◌, false, List, [], ◌∷◌, length, Contains, ◌⊎◌, unwrap_or, Result, Ok, Err, if◌then◌else◌}
 use Rattle.std.specs.declared.option.Option.{Option}
-use Rattle.std.specs.declared.option.Option.TheVariants.{Some, None}
+use Rattle.std.specs.declared.option.Option.TheVariants.{None}
 use Rattle.std.specs.Ordering.{nat_cmp}
 use Rattle.std.specs.BTreeMap.{get, BTreeMap}
 use Rattle.cc_entry.specs.declared.error.CcError.{CcError}
@@ -11,8 +11,7 @@ use Rattle.cc_traits.specs.declared.stop.Stop.TheVariants as stop
 use Rattle.cc_traits.specs.Told.{IfTold}
 use Rattle.cc_traits.specs.Disk.{Disk, page_of, may_of}
 use Rattle.cc_traits.specs.Log.{Log}
-use Rattle.cc_redo.specs.Heard.{Change, end_of}
-use Rattle.cc_redo.specs.Disks.{IsLeftOrMade, IsPossible, RecordStands, record_number}
+use Rattle.cc_redo.specs.Disks.{IsLeftOrMade, RecordStands, record_number}
 
 -- what is answered where the log stopped
 abbrev pub log_refusal_of : Stop → CcError

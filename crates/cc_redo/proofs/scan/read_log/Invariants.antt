@@ -1,4 +1,4 @@
-use Rattle.std.proofs.Common.{◌≡◌, ◌≤◌, length}
+use Rattle.std.proofs.Common.{◌≡◌}
 use Rattle.cc_traits.specs.Told.{IfTold}
 use Rattle.cc_redo.proofs.EntriesRead.{HasRead}
 use Rattle.cc_redo.proofs.scan.read_log.Given as goal

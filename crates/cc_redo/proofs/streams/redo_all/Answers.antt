@@ -1,11 +1,11 @@
-use Rattle.std.proofs.Common.{◌≡◌, ◌+◌, ◌≤◌, arith}
+use Rattle.std.proofs.Common.{◌≡◌, ◌≤◌, arith}
 use Rattle.std.specs.Prelude.{IfErr, OnErr}
 use Rattle.std.proofs.Math.ListN.{get_or, set}
 use Rattle.cc_redo.specs.Ends.{EachDisk}
 use Rattle.cc_redo.specs.Stages.{IsStageRefusal, PagesDone, PagesLeft}
 use Rattle.cc_redo.proofs.Disking.{reached-all}
 use Rattle.cc_redo.proofs.Settling.{pages-itself, pages-weaker}
-use Rattle.cc_redo.proofs.Steps.{IsAt, goes-on, handed-on, refuses, stops}
+use Rattle.cc_redo.proofs.Steps.{goes-on, handed-on, refuses, stops}
 use Rattle.cc_redo.proofs.streams.redo_all.Goals as goal
 
 pub returns-in_err-redo_pages-clause-left : goal.returns-in_err-redo_pages-clause-left

@@ -1,10 +1,9 @@
-use Rattle.std.proofs.Common.{ℕ, subst, sym}
+use Rattle.std.proofs.Common.{ℕ, subst}
 use Rattle.std.specs.Prelude.{IfErr}
-use Rattle.cc_entry.specs.declared.error.CcError.{CcError}
 use Rattle.cc_redo.specs.Ends.{EachDisk, IsCounted, LeavesBy}
 use Rattle.cc_redo.specs.Stages.{IsStageRefusal, PagesDone, PagesLeft}
 use Rattle.cc_redo.proofs.Steps.{handed-on}
-use Rattle.cc_redo.proofs.Whole.{none-counted, none-left, pages-counted, pages-left, records-counted, records-left, records-made, records-refused, records-same}
+use Rattle.cc_redo.proofs.Whole.{pages-counted, pages-left, records-counted, records-left, records-made, records-refused, records-same}
 use Rattle.cc_redo.proofs.streams.redo_entries.Goals as goal
 
 pub returns-in_err-redo_all-clause-leaves : goal.returns-in_err-redo_all-clause-leaves

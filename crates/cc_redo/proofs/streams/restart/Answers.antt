@@ -1,9 +1,7 @@
-use Rattle.std.proofs.Common.{◌≡◌, ◌+◌, ℕ, List, subst, sym, arith, refl}
-use Rattle.std.specs.Prelude.{IfErr}
+use Rattle.std.proofs.Common.{◌≡◌, ◌+◌, List, subst, sym, arith}
 use Rattle.cc_redo.specs.declared.scan.ReadEntry.{ReadEntry}
-use Rattle.cc_redo.specs.Ends.{EachDisk, IsCounted, IsRefused, Leaves, log_faults}
-use Rattle.cc_redo.proofs.Steps.{handed-on}
-use Rattle.cc_redo.proofs.Whole.{AreOf, answer-told, each-told, log-left, no-log_fault, none-counted, refused-log, refused-so}
+use Rattle.cc_redo.specs.Ends.{log_faults}
+use Rattle.cc_redo.proofs.Whole.{AreOf, answer-told, each-told, no-log_fault, refused-so}
 use Rattle.cc_redo.proofs.streams.restart.Goals as goal
 
 pub returns-clause-leaves : goal.returns-clause-leaves
