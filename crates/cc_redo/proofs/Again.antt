@@ -1,12 +1,13 @@
 -- Changes that are made once more make nothing else.
-use Rattle.std.specs.Prelude.{◌≡◌, ℕ, zero, suc, ◌+◌, ◌-◌, ◌*◌, ◌≤◌, ◌&&◌, nat_le, nat_lt, Bool, true, false, slice_index, List, [], ◌∷◌, take, if◌then◌else◌, refl}
+use Rattle.std.specs.Prelude.{◌≡◌, ℕ, zero, suc, ◌+◌, ◌-◌, ◌*◌, ◌≤◌, ◌&&◌, nat_le, nat_lt, Bool, true, false, slice_index, List, [], ◌∷◌, drop, take, if◌then◌else◌, refl}
 use Rattle.std.specs.declared.option.Option.{Option}
 use Rattle.std.specs.declared.option.Option.TheVariants.{Some, None}
-use Rattle.std.proofs.Common.{ap, ◌∙◌, arith}
+use Rattle.std.proofs.Common.{ap, sym, ◌∙◌, arith}
 use Rattle.cc_redo.specs.declared.redo.Redo.{Redo}
 use Rattle.cc_redo.specs.declared.scan.ReadEntry.{ReadEntry}
 use Rattle.cc_redo.specs.Heard.{Change, change_said, end_of, raised, valid_behind}
 use Rattle.cc_redo.specs.Changes.{byte_after, bytes_after, page_after}
+use Rattle.cc_redo.proofs.Patches.{after-cons, after-none}
 
 -- a byte that a change covers is the same whatever stood there, and one that it does not cover goes on
 once_more : (covers : Bool) (own byte : ℕ) (after front : ℕ → ℕ) → ((b : ℕ) → after (front b) ≡ after b) →
@@ -38,6 +39,18 @@ bytes-again changes n page place (byte ∷ bytes) =
 pub page-again : (changes : List Change) (n page : ℕ) (bytes : List ℕ) →
     page_after changes page (page_after (take n changes) page bytes) ≡ page_after changes page bytes
 page-again changes n page bytes = bytes-again changes n page 0 bytes
+
+-- changes from one on, over a page that has all before it, and maybe some of them
+pub page-from : (changes : List Change) (k n page : ℕ) (bytes : List ℕ) → k ≤ n →
+    page_after (drop k changes) page (page_after (take n changes) page bytes) ≡ page_after changes page bytes
+page-from changes zero n page bytes le = page-again changes n page bytes
+page-from changes (suc k) zero page bytes le = absurd (omega arith)
+page-from [] (suc k) (suc n) page bytes le = after-none page 0 (page_after [] page bytes)
+page-from (change ∷ changes) (suc k) (suc n) page bytes le =
+    let here : List ℕ = page_after (change ∷ []) page bytes in
+    ap (λ (l : List ℕ). page_after (drop k changes) page l) (after-cons change (take n changes) page 0 bytes)
+    ∙ page-from changes k n page here (omega arith)
+    ∙ sym (after-cons change changes page 0 bytes)
 
 -- the same of the greatest of a number and the ends of changes
 raised-least : (valid : ℕ) (change : Option Change) → valid ≤ raised valid change

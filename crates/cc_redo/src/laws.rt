@@ -1,6 +1,6 @@
 //! What follows from the definitions of a restart.
 
-ghost use Rattle.std.specs.Prelude.{◌≡◌, ◌==◌, ◌<◌, ℕ, false, List, Contains, Some, take};
+ghost use Rattle.std.specs.Prelude.{◌≡◌, ◌==◌, ◌<◌, ◌≤◌, ℕ, false, List, Contains, Some, drop, take};
 ghost use Rattle.std.specs.List.{AllByRecursion};
 ghost use Rattle.cc_traits.specs.Disk.{Disk, may_of};
 ghost use Rattle.cc_redo.specs.Changes.{page_after};
@@ -19,11 +19,14 @@ pub fn an_entry_says_what_it_spells()
 {}
 
 /// Changes that are applied to a page that has some of them already, in their order from the first on, make of it what
-/// they make of the page without them: so a restart that stopped can be begun again, and one over pages that a crash left
-/// between makes what all changes make. The valid data length stays as it was raised.
+/// they make of the page without them; and so do those from one on, over a page that has all before it and maybe some of
+/// them. So a restart that stopped can be begun again, and a restart from a checkpoint over pages that a crash left between
+/// makes what all changes make. The valid data length stays as it was raised.
 pub fn redoing_again_makes_the_same()
     ensures page { (changes : List Change) → (n page : ℕ) → (bytes : List ℕ) →
         page_after changes page (page_after (take n changes) page bytes) ≡ page_after changes page bytes }
+    ensures rest { (changes : List Change) → (k n page : ℕ) → (bytes : List ℕ) → k ≤ n →
+        page_after (drop k changes) page (page_after (take n changes) page bytes) ≡ page_after changes page bytes }
     ensures valid { (entries : List ReadEntry) → (redo : Redo) → (valid : ℕ) →
         valid_behind entries redo (valid_behind entries redo valid) ≡ valid_behind entries redo valid }
 {}
