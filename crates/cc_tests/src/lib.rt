@@ -34,8 +34,6 @@ mod queue;
 #[cfg(test)]
 mod readers;
 #[cfg(test)]
-mod restart;
-#[cfg(test)]
 mod script;
 #[cfg(test)]
 mod sent;
