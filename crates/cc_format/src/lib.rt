@@ -7,7 +7,9 @@
 #![tactic(auto)]
 
 mod laws;
+mod log;
 mod record;
 
 pub use laws::a_page_spells_one_record;
+pub use log::OldestRow;
 pub use record::{StreamRecord, read_record, write_record};

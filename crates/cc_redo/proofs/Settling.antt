@@ -1,0 +1,66 @@
+-- What is known of the disk of one stream, before and behind its part of a stage.
+use Rattle.std.specs.Prelude.{◌≡◌, ℕ, ◌≤◌, List, ◌⊎◌, refl}
+use Rattle.std.specs.declared.option.Option.{Option}
+use Rattle.std.proofs.Common.{subst, arith, inl, inr}
+use Rattle.cc_entry.specs.declared.error.CcError.{CcError}
+use Rattle.cc_entry.specs.declared.error.CcError.TheVariants as error
+use Rattle.cc_traits.specs.Told.{Both}
+use Rattle.cc_traits.specs.Disk.{Disk}
+use Rattle.cc_model.specs.Records.{record_page}
+use Rattle.cc_redo.specs.declared.redo.Redo.{Redo}
+use Rattle.cc_redo.specs.declared.scan.ReadEntry.{ReadEntry}
+use Rattle.cc_redo.specs.Heard.{redone_of, valid_of}
+use Rattle.cc_redo.specs.Disks.{changed_page}
+use Rattle.cc_redo.specs.Scanned.{IsDiskRefusal, IsSettled, IsSettling, IsWriteRefusal, IsWriting}
+use Rattle.cc_redo.specs.Stages.{PagesDone, PagesLeft, RecordDone, RecordLeft}
+use Rattle.cc_redo.proofs.Options.{both-map, both-same}
+use Rattle.cc_redo.proofs.Writes.{settled-settling, writing-begun}
+
+pub write-refusal : (e : CcError) → IsWriteRefusal e → IsDiskRefusal e
+write-refusal (error.WriteFault page) may = tt
+write-refusal error.NoMemory may = tt
+write-refusal other may = absurd may
+
+module _ {D : Type 0} (told : D → Option Disk) (faults : D → ℕ) (items : List ReadEntry) where
+  -- the record of a stream
+  pub record-left : (redo : Redo) (was now : D) (valid : ℕ) → valid ≡ valid_of items redo →
+      Both (told was) (told now) (λ old new. (new ≡ old) ⊎ IsSettling (record_page redo.size valid) old new) → faults was ≤ faults now →
+      RecordLeft told faults items redo was now
+  record-left redo was now valid is settling count = record {
+    settling = subst (λ (v : ℕ). Both (told was) (told now) (λ old new. (new ≡ old) ⊎ IsSettling (record_page redo.size v) old new)) is settling;
+    counted = count;
+  }
+
+  pub record-done : (redo : Redo) (was now : D) (valid : ℕ) → valid ≡ valid_of items redo →
+      Both (told was) (told now) (IsSettled (record_page redo.size valid)) → faults now ≡ faults was → RecordDone told faults items redo was now
+  record-done redo was now valid is settled count = record {
+    settled = subst (λ (v : ℕ). Both (told was) (told now) (IsSettled (record_page redo.size v))) is settled;
+    counted = count;
+  }
+
+  pub record-weaker : (redo : Redo) (was now : D) → RecordDone told faults items redo was now → RecordLeft told faults items redo was now
+  record-weaker redo was now done = record {
+    settling =
+        both-map (IsSettled (record_page redo.size (valid_of items redo)))
+        (λ old new. (new ≡ old) ⊎ IsSettling (record_page redo.size (valid_of items redo)) old new) (told was) (told now)
+        (λ o n settled. inr (settled-settling (record_page redo.size (valid_of items redo)) o n settled)) done.settled;
+    counted = let same = done.counted in omega arith;
+  }
+
+  pub record-itself : (redo : Redo) (d : D) → RecordLeft told faults items redo d d
+  record-itself redo d = record {
+    settling = both-same (λ old new. (new ≡ old) ⊎ IsSettling (record_page redo.size (valid_of items redo)) old new) (told d) (told d) (λ a. inl refl) refl;
+    counted = omega arith;
+  }
+
+  -- the pages of a stream
+  pub pages-weaker : (from : ℕ) (redo : Redo) (was now : D) → PagesDone told faults from items redo was now → PagesLeft told faults from items redo was now
+  pages-weaker from redo was now done = record { writing = done.writing; counted = let same = done.counted in omega arith }
+
+  pub pages-itself : (from : ℕ) (redo : Redo) (d : D) → PagesLeft told faults from items redo d d
+  pages-itself from redo d = record {
+    writing =
+        both-same (λ old new. IsWriting (changed_page (redone_of redo from items) old) old new) (told d) (told d)
+        (λ a. writing-begun (changed_page (redone_of redo from items) a) a) refl;
+    counted = omega arith;
+  }

@@ -1,0 +1,74 @@
+-- How a restart ends: what it leaves of the disks, and why it is refused.
+use Rattle.std.specs.Prelude.{◌≡◌, ◌≢◌, ℕ, ◌+◌, ◌<◌, ◌≤◌, List, length, map, slice_get, Result, Ok, Err}
+use Rattle.std.specs.declared.option.Option.{Option}
+use Rattle.std.specs.declared.option.Option.TheVariants.{Some}
+use Rattle.cc_entry.specs.declared.error.CcError.{CcError}
+use Rattle.cc_entry.specs.declared.error.CcError.TheVariants as error
+use Rattle.cc_traits.specs.Told.{Both, IfTold}
+use Rattle.cc_traits.specs.Disk.{Disk}
+use Rattle.cc_traits.specs.Log.{Log}
+use Rattle.cc_redo.specs.declared.redo.Redo.{Redo}
+use Rattle.cc_redo.specs.declared.scan.ReadEntry.{ReadEntry}
+use Rattle.cc_redo.specs.declared.streams.Restarted.{Restarted}
+use Rattle.cc_redo.specs.Heard.{readings, from_of, last_of, all_updates, valid_of}
+use Rattle.cc_redo.specs.Disks.{IsMade, IsBetween, made_by}
+
+-- no disk is given to two streams
+abbrev pub DisksDiffer : List Redo → Type 0
+DisksDiffer streams =
+    (i j : ℕ) (one other : Redo) → slice_get streams i ≡ Some one → slice_get streams j ≡ Some other → one.disk ≡ other.disk → i ≡ j
+
+-- the disk of each stream stands to what it was as is said, and each other disk is as it was
+pub record EachDisk {D : Type 0} (streams : List Redo) (P : Redo → D → D → Type 0) (old new : List D) : Type 0 where
+  pub given : (i : ℕ) (redo : Redo) (was now : D) → slice_get streams i ≡ Some redo → slice_get old redo.disk ≡ Some was →
+      slice_get new redo.disk ≡ Some now → P redo was now
+  pub others : (k : ℕ) → ((i : ℕ) (redo : Redo) → slice_get streams i ≡ Some redo → redo.disk ≢ k) → slice_get new k ≡ slice_get old k
+  pub count : length new ≡ length old
+
+-- what is made of each page of a stream's disk, by the entries of the log
+abbrev pub made_from : List Redo → List ReadEntry → Redo → Disk → ℕ → List ℕ
+made_from streams entries redo = made_by redo (from_of streams entries) entries
+
+-- a restart that was done has made each disk, and one that was refused has left each so that it can be called again
+abbrev pub LeavesBy : List Redo → List ReadEntry → Result Restarted CcError → Redo → Option Disk → Option Disk → Type 0
+LeavesBy streams entries (Ok done) redo was now = Both was now (λ old new. IsMade (made_from streams entries redo old) new)
+LeavesBy streams entries (Err e) redo was now = Both was now (λ old new. IsBetween (made_from streams entries redo old) old new)
+
+abbrev pub Leaves : List Redo → Option Log → Result Restarted CcError → Redo → Option Disk → Option Disk → Type 0
+Leaves streams log answer redo was now = IfTold log (λ told. LeavesBy streams (readings told.entries) answer redo was now)
+
+-- the numbers of the answer are those of the log
+pub record IsAnswerOf (streams : List Redo) (entries : List ReadEntry) (answer : Restarted) : Type 0 where
+  pub last : answer.last ≡ last_of entries
+  pub updates : answer.updates ≡ all_updates streams entries
+  pub valids : answer.valids.items ≡ map (valid_of entries) streams
+
+pub record IsAnswer (streams : List Redo) (log : Log) (answer : Restarted) : Type 0 where
+  pub numbers : IsAnswerOf streams (readings log.entries) answer
+  pub short : length log.entries ≤ 4194304
+
+-- a count of faults rises only where a restart is refused
+abbrev pub IsCounted : {A : Type 0} → Result A CcError → ℕ → ℕ → Type 0
+IsCounted (Ok done) was now = now ≡ was
+IsCounted (Err e) was now = was ≤ now
+
+-- by how much a refusal raises the log's count of faults
+abbrev pub log_faults : {A : Type 0} → Result A CcError → ℕ
+log_faults (Err (error.LogFault handle)) = 1
+log_faults other = 0
+
+-- the disk of a stream failed once
+abbrev pub OneFailed : {D : Type 0} → (D → ℕ) → List Redo → List D → List D → Type 0
+OneFailed {D} faults streams old new =
+    (i : ℕ) × (redo : Redo) × (was : D) × (now : D) × (slice_get streams i ≡ Some redo) × (slice_get old redo.disk ≡ Some was)
+    × (slice_get new redo.disk ≡ Some now) × (faults now ≡ faults was + 1)
+
+-- Why a restart is refused. A log that is too long, or that failed, is met before the first call of a disk.
+abbrev pub IsRefused : {D : Type 0} → (D → ℕ) → List Redo → Option Log → List D → List D → CcError → Type 0
+IsRefused faults streams log old new (error.TooLong limit) =
+    (limit ≡ 4194304) × IfTold log (λ told. 4194304 < length told.entries) × (new ≡ old)
+IsRefused faults streams log old new (error.LogFault handle) = (handle ≡ 255) × (new ≡ old)
+IsRefused faults streams log old new (error.ReadFault page) = OneFailed faults streams old new
+IsRefused faults streams log old new (error.WriteFault page) = OneFailed faults streams old new
+IsRefused faults streams log old new error.NoMemory = Unit {0}
+IsRefused faults streams log old new other = ⊥
