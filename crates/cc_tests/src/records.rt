@@ -43,5 +43,6 @@ fn a_record_is_settled_and_read_again(rt: HostRuntime) -> Result<(), Fail> {
     // The initialise and the write with its page; the state, the flush with its transfer and sync, the record and its
     // sync; and another flush with its sync.
     assert_eq!(rt; desk.journal().entries().len(), 12);
+    desk.end();
     Ok(())
 }
