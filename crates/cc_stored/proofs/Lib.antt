@@ -6,3 +6,4 @@ pub mod Written
 pub mod Calming
 pub mod Kept
 pub mod Settled
+pub mod Crashes

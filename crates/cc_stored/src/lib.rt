@@ -8,9 +8,10 @@
 //! `load` reads the record; `settling` flushes a stream and has its record told, which `record` writes; `visits` has the visits
 //! to the journal with a disk in hand. Below are the flush and the state of a file (`cc_calls`), the turns of a pass that
 //! keeps a disk (`cc_keep`), the visits of a pass (`cc_writes`), what may be told (`cc_records`), and how a page spells a
-//! record (`cc_format`).
+//! record (`cc_format`). `laws` says what a crash leaves of a disk that went with its journal.
 #![tactic(auto)]
 
+pub mod laws;
 mod load;
 mod record;
 mod settling;
