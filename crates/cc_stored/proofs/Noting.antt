@@ -1,14 +1,13 @@
 -- The entries that a pass places with a disk in hand, and what it knows in the visits in which it does.
-use Rattle.std.specs.Prelude.{◌≡◌, ℕ, suc, ◌+◌, ◌-◌, ◌<◌, ◌≤◌, Bool, true, false, ◌==◌, List, [], ◌∷◌, Result, Ok, Err, Option, None, Some, length, refl}
+use Rattle.std.specs.Prelude.{◌≡◌, ℕ, suc, ◌+◌, ◌-◌, ◌<◌, ◌≤◌, Bool, true, false, ◌==◌, List, [], ◌∷◌, Result, Ok, Err, None, Some, refl}
 use Rattle.std.specs.List.{sum_by}
-use Rattle.std.proofs.Common.{ap, sym, ◌∙◌, subst, arith, inl, inr, ⊎_elim}
+use Rattle.std.proofs.Common.{ap, sym, ◌∙◌, subst, arith}
 use Rattle.std.proofs.lemmas.Bool.{eq-eqb}
 use Rattle.std.proofs.lemmas.List.Sums.{sum_by-cons}
 use Rattle.cc_entry.specs.declared.entry.End.{End}
 use Rattle.cc_entry.specs.declared.entry.Entry.{Entry}
 use Rattle.cc_entry.specs.declared.entry.Entry.TheVariants as entry
 use Rattle.cc_entry.specs.declared.error.CcError.{CcError}
-use Rattle.cc_entry.specs.declared.error.CcError.TheVariants as error
 use Rattle.cc_journal.specs.Journal.{JournalState, MayBePushed}
 use Rattle.cc_journal.proofs.GoodEntries.{MayBePushed-good}
 use Rattle.cc_laws.proofs.HistorySteps.{history-no_effect, history-sync, history-sync_other}
@@ -31,13 +30,11 @@ use Rattle.cc_model.specs.Turns.{Turn, Device, Book, Log, Journal, needs, is_qui
 use Rattle.cc_step.proofs.Placed.{so-far}
 use Rattle.cc_turns.specs.Standing.{Standing, Held, holds}
 use Rattle.cc_turns.specs.Takes.{Grows, may_be_of}
-use Rattle.cc_writes.specs.Hands.{WentWith}
-use Rattle.cc_writes.specs.Ways.{IsFull}
 use Rattle.cc_writes.proofs.OneVisit.{Visiting, Visited, visited, stepping-none}
 use Rattle.cc_writes.proofs.Placed.{quiet-page}
 use Rattle.cc_writes.proofs.Quiet.{history-kept}
 use Rattle.cc_writes.proofs.Resting.{disk-held, rest-same}
-use Rattle.cc_stored.specs.Stored.{MayNote, ReservedIn, ReservedOne}
+use Rattle.cc_stored.specs.Stored.{MayNote, ReservedIn}
 
 nothing_owed : (e : Entry) (past : List Entry) → owed_begin past ≡ None → IsOwed (owed_begin past) e
 nothing_owed e past none = rw none tt

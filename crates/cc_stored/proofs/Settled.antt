@@ -1,5 +1,5 @@
 -- What the settling of a stream leaves, put together of its parts.
-use Rattle.std.specs.Prelude.{◌≡◌, ℕ, ◌+◌, ◌⊎◌, List, Result, Ok, Err, OnOk, refl}
+use Rattle.std.specs.Prelude.{◌≡◌, ℕ, List, Result, Ok, Err, refl}
 use Rattle.std.specs.declared.option.Option.TheVariants.{None}
 use Rattle.std.proofs.Common.{ap, sym, subst, ◌∙◌, inl, inr}
 use Rattle.cc_entry.specs.Place.{File}
@@ -18,17 +18,17 @@ use Rattle.cc_model.specs.Good.{IsGood}
 use Rattle.cc_model.specs.History.{history}
 use Rattle.cc_model.specs.Setup.{Setup}
 use Rattle.cc_model.specs.Touches.{valid_of}
-use Rattle.cc_records.specs.Left.{IsSettled, IsUnflushed, IsUnrecorded, SettleLeft}
-use Rattle.cc_turns.specs.Standing.{Standing, Held, nothing}
+use Rattle.cc_records.specs.Left.{SettleLeft}
+use Rattle.cc_turns.specs.Standing.{Standing, Held}
 use Rattle.cc_turns.specs.Takes.{Grows, Takes, with_device, without_device}
 use Rattle.cc_writes.specs.Calls.{IsFullWriting}
-use Rattle.cc_writes.specs.Fetch.{CanCall, WentOn}
+use Rattle.cc_writes.specs.Fetch.{CanCall}
 use Rattle.cc_writes.specs.Hands.{Went}
 use Rattle.cc_writes.specs.Ways.{IsFull}
 use Rattle.cc_calls.specs.Answers.{CallEnds, state_outcome}
 use Rattle.cc_calls.specs.Flushes.{FlushEnds}
 use Rattle.cc_stored.specs.declared.record.Lengths.{Lengths}
-use Rattle.cc_stored.specs.Settle.{HeldLeft, HasNotFlushed, IsFlushed, IsRecorded, RecordLeft, SettleEnds, StatedEnds, StatedLeft, with_lengths}
+use Rattle.cc_stored.specs.Settle.{HeldLeft, IsRecorded, RecordLeft, SettleEnds, StatedEnds, StatedLeft, with_lengths}
 use Rattle.cc_stored.proofs.Written.{grows-idle}
 
 -- ---- with the disk in hand

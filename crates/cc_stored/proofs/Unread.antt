@@ -1,5 +1,5 @@
 -- What a disk stands for after a read of its record page, and what was read.
-use Rattle.std.specs.Prelude.{◌≡◌, ℕ, ◌+◌, ◌^◌, true, List, [], ◌∷◌, ◌++◌, Result, Ok, Err, IfOk, OnOk, refl}
+use Rattle.std.specs.Prelude.{◌≡◌, ℕ, ◌+◌, ◌^◌, List, [], ◌∷◌, Result, Ok, Err, IfOk, refl}
 use Rattle.std.specs.declared.option.Option.{Option}
 use Rattle.std.specs.declared.option.Option.TheVariants.{Some, None}
 use Rattle.std.proofs.Common.{ap, sym, subst, ◌∙◌, arith}
@@ -17,9 +17,8 @@ use Rattle.cc_laws.proofs.HistorySteps.{history-no_effect}
 use Rattle.cc_model.specs.Good.{IsGood}
 use Rattle.cc_model.specs.History.{history}
 use Rattle.cc_model.specs.Images.{open_of}
-use Rattle.cc_model.specs.Passes.{is_mine}
-use Rattle.cc_model.specs.Turns.{Device, is_quiet}
-use Rattle.cc_traits.specs.Disk.{Disk, Found, page_of}
+use Rattle.cc_model.specs.Turns.{Device}
+use Rattle.cc_traits.specs.Disk.{Disk, Found}
 use Rattle.cc_traits.specs.Told.{Both, IfTold}
 use Rattle.cc_turns.specs.Disk.{DiskStands, HasGone}
 use Rattle.cc_turns.specs.RecordPage.{RecordHasGone}
@@ -28,15 +27,14 @@ use Rattle.cc_turns.specs.Takes.{Grows, Takes, with_device, without_device}
 use Rattle.cc_turns.proofs.DiskGrows.{both_same, disk_grows}
 use Rattle.cc_turns.proofs.PageRead.{DiskStands-told}
 use Rattle.cc_turns.proofs.RecordPage.{record_gone-same, record-left}
-use Rattle.cc_writes.specs.Fetch.{CanCall, WentOn}
+use Rattle.cc_writes.specs.Fetch.{CanCall}
 use Rattle.cc_writes.specs.Hands.{Went, WentWith}
-use Rattle.cc_writes.specs.Logs.{IsWant}
 use Rattle.cc_writes.specs.Visits.{HasPlaced}
 use Rattle.cc_writes.specs.Ways.{IsFull}
 use Rattle.cc_writes.proofs.Quiet.{is_held}
 use Rattle.cc_writes.proofs.Resting.{disk-held, rest-same}
 use Rattle.cc_records.specs.Left.{LoadLeft}
-use Rattle.cc_stored.specs.Stored.{IsKnownRecord, IsNotFull, LoadEnds, ReservedOne}
+use Rattle.cc_stored.specs.Stored.{IsKnownRecord, IsNotFull, LoadEnds}
 
 -- ---- the disk
 

@@ -1,5 +1,5 @@
 -- The write of a record with the disk in hand, with the book taken and given round it.
-use Rattle.std.specs.Prelude.{◌≡◌, ℕ, ◌+◌, ◌^◌, ◌<◌, ◌≤◌, ◌⊎◌, true, not, min, List, [], ◌∷◌, ◌++◌, Result, Ok, Err, OnOk, refl}
+use Rattle.std.specs.Prelude.{◌≡◌, ℕ, ◌+◌, ◌^◌, ◌<◌, ◌≤◌, true, not, min, List, [], ◌∷◌, ◌++◌, Result, Ok, Err, OnOk, refl}
 use Rattle.std.specs.declared.option.Option.{Option}
 use Rattle.std.specs.declared.option.Option.TheVariants.{Some, None}
 use Rattle.std.proofs.Common.{ap, sym, subst, ◌∙◌, append_assoc, arith, inl, inr}
@@ -24,7 +24,7 @@ use Rattle.cc_model.specs.Records.{MayRecord, MayTell, record_page}
 use Rattle.cc_model.specs.Setup.{Setup}
 use Rattle.cc_model.specs.Touches.{size_of, valid_of}
 use Rattle.cc_model.specs.Turns.{Turn, Device, needs, is_quiet}
-use Rattle.cc_records.specs.Left.{WroteRecord, WroteSome, SyncedRecord, SyncedSome, RecordStopped}
+use Rattle.cc_records.specs.Left.{WroteRecord, RecordStopped}
 use Rattle.cc_step.proofs.Placed.{so-far}
 use Rattle.cc_traits.specs.Disk.{Disk, Wrote, WriteFailed}
 use Rattle.cc_traits.specs.Stop.{faults_in, OnFailed, OnNoMemory}
@@ -43,7 +43,7 @@ use Rattle.cc_writes.specs.Logs.{IsWant}
 use Rattle.cc_writes.specs.Visits.{HasPlaced}
 use Rattle.cc_calls.specs.Flushes.{HasDisk}
 use Rattle.cc_stored.specs.declared.record.Lengths.{Lengths}
-use Rattle.cc_stored.specs.Settle.{TellsAfter, WriteLeft, SyncLeft, RecordLeft, recorded, synced}
+use Rattle.cc_stored.specs.Settle.{TellsAfter, WriteLeft, SyncLeft, recorded, synced}
 use Rattle.cc_stored.specs.Stored.{IsNotFull}
 use Rattle.cc_stored.proofs.Recording.{DiskStands-recorded}
 

@@ -5,7 +5,6 @@ use Rattle.cc_entry.specs.declared.entry.Entry.TheVariants as entry
 use Rattle.cc_entry.specs.declared.error.CcError.{CcError}
 use Rattle.cc_model.specs.History.{history}
 use Rattle.cc_model.specs.Records.{MayRecord}
-use Rattle.cc_turns.specs.Standing.{Standing}
 use Rattle.cc_turns.specs.Takes.{without_book}
 use Rattle.cc_writes.specs.Visits.{HasPlaced}
 use Rattle.cc_stored.specs.declared.record.Lengths.{Lengths}

@@ -1,5 +1,5 @@
 -- Behind the flush of turns that kept the disk the lengths may be told.
-use Rattle.std.specs.Prelude.{ℕ, ◌≡◌, OnOk, None}
+use Rattle.std.specs.Prelude.{◌≡◌, OnOk, None}
 use Rattle.std.proofs.Common.{ap, refl, rules, sym, ◌∙◌, subst}
 use Rattle.cc_calls.specs.Flushes.{FlushEnds}
 use Rattle.cc_keep.specs.Keeps.{keeping_standing}

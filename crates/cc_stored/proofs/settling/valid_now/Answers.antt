@@ -1,7 +1,6 @@
 -- The book that is taken stands for what is seen, and giving it changes nothing of that.
-use Rattle.std.specs.Prelude.{ℕ, List}
+use Rattle.std.specs.Prelude.{ℕ}
 use Rattle.std.proofs.Common.{ap, sym, ◌∙◌}
-use Rattle.cc_entry.specs.declared.entry.Entry.{Entry}
 use Rattle.cc_model.specs.History.{history}
 use Rattle.cc_model.specs.Touches.{valid_of}
 use Rattle.cc_turns.specs.Standing.{Standing}
