@@ -28,7 +28,12 @@ fn a_record_is_settled_and_read_again(rt: HostRuntime) -> Result<(), Fail> {
     match settle(alloc, &mut desk, file) {
         Ok(state) => {
             assert_eq!(rt;
-                (state.sizes.allocation, state.sizes.size, state.sizes.valid, state.log),
+                (
+                    state.sizes.allocation,
+                    state.sizes.size,
+                    state.sizes.valid,
+                    state.log
+                ),
                 (8192, 8192, 5001, None)
             );
         }
