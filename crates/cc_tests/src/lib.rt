@@ -36,8 +36,6 @@ mod queue;
 #[cfg(test)]
 mod readers;
 #[cfg(test)]
-mod records;
-#[cfg(test)]
 mod script;
 #[cfg(test)]
 mod sent;
