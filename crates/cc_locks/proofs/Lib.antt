@@ -5,3 +5,4 @@ mod Ids
 mod Indexed
 mod Classes
 mod Replay
+mod Walks

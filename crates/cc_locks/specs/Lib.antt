@@ -1,5 +1,4 @@
 -- What the contracts cite.
-pub mod Past
 pub mod Asked
 pub mod Place
 pub mod Locks

@@ -17,7 +17,7 @@ pub struct Locks {
     stream: StreamId,
     granted: u64,
     index: Index,
-    past: Past,
+    past: Past<LockCall>,
 }
 
 impl Model for Locks {
@@ -25,9 +25,9 @@ impl Model for Locks {
 
     ghost Value = { Held };
 
-    ghost view = { λ locks. held locks.stream locks.granted locks.index locks.past };
+    ghost view = { λ locks. held locks.stream locks.granted locks.index locks.past.noted };
 
-    ghost invariant = { λ locks. IsReplayed (held locks.stream locks.granted locks.index locks.past) };
+    ghost invariant = { λ locks. IsReplayed (held locks.stream locks.granted locks.index locks.past.noted) };
 }
 
 impl Locks {
@@ -61,7 +61,7 @@ impl Locks {
         ensures refused { IfErr result (Refuses self.old self.new file span exclusive) }
     {
         if let Some(id) = self.index.least(&Asked::Lock(span, exclusive)) {
-            self.past.grow(&lock_call(file, span, exclusive, false, id));
+            self.past = self.past.and(&lock_call(file, span, exclusive, false, id));
             return Err(CcError::LockConflict { id });
         }
         let Some(id) = self.granted.checked_add(1) else {
@@ -77,7 +77,7 @@ impl Locks {
             return Err(CcError::NoMemory);
         }
         self.granted = id;
-        self.past.grow(&lock_call(file, span, exclusive, true, id));
+        self.past = self.past.and(&lock_call(file, span, exclusive, true, id));
         Ok(id)
     }
 
@@ -89,7 +89,7 @@ impl Locks {
         ensures rest { OnOk result (self.new ≡ unlocked self.old file id) }
     {
         let gone = self.index.remove(file, id);
-        self.past.grow(&LockCall::Unlock { file, id, gone });
+        self.past = self.past.and(&LockCall::Unlock { file, id, gone });
         Ok(gone)
     }
 

@@ -1,49 +1,39 @@
-//! The calls so far, newest first, which exist in proofs alone and take no memory.
+//! What was noted so far, newest first, which exists in proofs alone and takes no memory.
 
-ghost use Rattle.std.specs.Prelude.{◌≡◌, [], ◌∷◌};
+ghost use Rattle.std.specs.Prelude.{◌≡◌, List, [], ◌∷◌};
+ghost use Rattle.std.specs.Borrow.{ftrue};
 
-use cc_entry::LockCall;
-use std::marker::Model;
-use std::mem;
-use std::snapshot::Snapshot;
+use std::marker::{Model, PhantomData};
 
-// Made to be shown to `Snapshot::of` alone.
+/// What was noted so far.
 #[derive(Drop)]
-enum Link {
-    Start,
-    After(Snapshot<LockCall>, Snapshot<Link>),
+pub(crate) struct Past<T> {
+    of: PhantomData<T>,
+    pub(crate) ghost noted: { List T },
 }
 
-/// The calls so far.
-#[derive(Drop)]
-pub(crate) struct Past {
-    link: Snapshot<Link>,
+impl<T> Model for Past<T> {
+    ghost also_owns = { λ _. ftrue };
 }
 
-impl Model for Past {
-    ghost use Rattle.std.specs.Prelude.{List};
-    ghost use Rattle.cc_entry.specs.declared.lock.LockCall.{LockCall};
+// It owns nothing, so it may go to another thread. That is said here, so that whoever sends what has one in it looks no
+// further.
+unsafe impl<T> Send for Past<T> {}
 
-    ghost Value = { List LockCall };
+unsafe impl<T> Sync for Past<T> {}
 
-    ghost use Rattle.cc_locks.specs.Past.{listed};
-
-    ghost view = { λ past. listed past.link.value };
-}
-
-impl Past {
-    pub(crate) fn new() -> Past
-        ensures { result ≡ [] }
+impl<T> Past<T> {
+    /// Nothing was noted yet.
+    pub(crate) fn new() -> Past<T>
+        ensures { result.noted ≡ [] }
     {
-        Past {
-            link: Snapshot::of(&Link::Start),
-        }
+        Past { of: PhantomData }
     }
 
-    pub(crate) fn grow(&mut self, call: &LockCall)
-        ensures { self.new ≡ call.now ∷ self.old }
+    /// One more is noted.
+    pub(crate) fn and(&self, item: &T) -> Past<T>
+        ensures { result.noted ≡ item.now ∷ self.now.noted }
     {
-        let older = mem::replace(&mut self.link, Snapshot::of(&Link::Start));
-        self.link = Snapshot::of(&Link::After(Snapshot::of(call), older));
+        Past { of: PhantomData }
     }
 }

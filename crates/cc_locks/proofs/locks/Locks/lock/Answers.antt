@@ -21,10 +21,10 @@ pub invariant_of-self : goal.invariant_of-self
 invariant_of-self c =
     let i = c.self.inside in
     let conflict : lock_conflict i.index c.args.span c.args.exclusive ≡ Some c.in-Some.id = sym c.least.ensures ∙ c.in-Some.is in
-    let noted : c.grow.new.self ≡ call.Lock c.args.file c.args.span c.args.exclusive false c.in-Some.id ∷ i.past =
-    c.grow.ensures ∙ ap (λ (k : LockCall). k ∷ i.past) c.lock_call.ensures in
+    let noted : c.and-self-inside.result.noted ≡ call.Lock c.args.file c.args.span c.args.exclusive false c.in-Some.id ∷ i.past.noted =
+    c.and-self-inside.ensures ∙ ap (λ (k : LockCall). k ∷ i.past.noted) c.lock_call.ensures in
     subst (λ (p : List LockCall). IsReplayed (held i.stream i.granted i.index p)) (sym noted)
-    (IsReplayed-refused (held i.stream i.granted i.index i.past) c.args.file c.args.span c.args.exclusive c.in-Some.id c.self.invariant conflict)
+    (IsReplayed-refused (held i.stream i.granted i.index i.past.noted) c.args.file c.args.span c.args.exclusive c.in-Some.id c.self.invariant conflict)
 
 pub invariant_of-self-2 : goal.invariant_of-self-2
 invariant_of-self-2 c =
@@ -36,8 +36,8 @@ invariant_of-self-2 c =
     let next : id ≡ i.granted + 1 = grind arith in
     let added : c.insert.new.self ≡ i.index ++ lock id ∷ [] =
     ok-of c.insert.result (c.insert.new.self ≡ i.index ++ lock id ∷ []) (sym c.is_err.ensures.value ∙ c.if-is_err.false) c.insert.ensures.ok in
-    let noted : c.grow-2.new.self ≡ call_of id ∷ i.past = c.grow-2.ensures ∙ ap (λ (k : LockCall). k ∷ i.past) c.lock_call-2.ensures in
+    let noted : c.and-self-inside-2.result.noted ≡ call_of id ∷ i.past.noted = c.and-self-inside-2.ensures ∙ ap (λ (k : LockCall). k ∷ i.past.noted) c.lock_call-2.ensures in
     subst (λ (p : List LockCall). IsReplayed (held i.stream id c.insert.new.self p)) (sym noted)
-    (subst (λ (ls : List Lock). IsReplayed (held i.stream id ls (call_of id ∷ i.past))) (sym added)
-    (subst (λ k. IsReplayed (held i.stream k (i.index ++ lock k ∷ []) (call_of k ∷ i.past))) (sym next)
-    (IsReplayed-granted (held i.stream i.granted i.index i.past) c.args.file c.args.span c.args.exclusive c.self.invariant free)))
+    (subst (λ (ls : List Lock). IsReplayed (held i.stream id ls (call_of id ∷ i.past.noted))) (sym added)
+    (subst (λ k. IsReplayed (held i.stream k (i.index ++ lock k ∷ []) (call_of k ∷ i.past.noted))) (sym next)
+    (IsReplayed-granted (held i.stream i.granted i.index i.past.noted) c.args.file c.args.span c.args.exclusive c.self.invariant free)))
