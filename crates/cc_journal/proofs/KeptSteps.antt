@@ -1,5 +1,5 @@
 -- How all that the journal keeps beside its entries steps.
-use Rattle.std.specs.Prelude.{◌≡◌, ℕ, suc, ◌+◌, ◌^◌, ◌≤◌, ◌==◌, ◌&&◌, ◌||◌, nat_lt, Bool, true, false, List, [], ◌∷◌, length, Option, if◌then◌else◌, refl}
+use Rattle.std.specs.Prelude.{◌≡◌, ℕ, suc, ◌+◌, ◌-◌, ◌^◌, ◌<◌, ◌≤◌, ◌==◌, ◌&&◌, ◌||◌, nat_lt, Bool, true, false, List, [], ◌∷◌, length, Option, if◌then◌else◌, refl}
 use Rattle.std.proofs.Common.{ap, ◌∙◌, arith}
 use Rattle.cc_entry.specs.Place.{Page, File}
 use Rattle.cc_entry.specs.declared.entry.Entry.{Entry}
@@ -43,6 +43,16 @@ kept_none states places table counts waiting total last streams calls queue scan
 
 pub memory_none : (capacity entry_room place_room count_room : ℕ) → capacity ≤ 2 ^ 63 → HasMemory capacity 0 0 entry_room place_room count_room
 memory_none capacity entry_room place_room count_room limit = record { within = omega arith; countable = limit; for_entries = omega arith; for_places = omega arith; for_counts = omega arith }
+
+-- an entry was placed on a reserved place
+pub memory_placed : (capacity len now_len reserved room now_room places counts : ℕ) → 0 < reserved → now_len ≡ len + 1 → now_room ≡ room → HasMemory capacity len reserved (room - len) places counts → HasMemory capacity now_len (reserved - 1) (now_room - now_len) places counts
+memory_placed capacity len now_len reserved room now_room places counts some longer same memory = record {
+  within = omega (arith, memory.within, some, longer);
+  countable = memory.countable;
+  for_entries = omega (arith, memory.for_entries, longer, same);
+  for_places = omega (arith, memory.for_places);
+  for_counts = omega (arith, memory.for_counts);
+}
 
 -- at most one hold is made by each entry
 pub made_by : (e : Entry) → holds_made_by e ≤ 1
@@ -107,6 +117,11 @@ kept_queue e past states places table counts holds waiting now_waiting total las
   capacity = kept.capacity;
   short = short;
 }
+
+-- an entry that changes nothing of it
+pub kept_other : {Q : Type 0} (e : Entry) (past : List Entry) (states : List Stream) (places : Places) (table : Table) (counts : List (ℕ × PassCalls)) (holds : ℕ) (waiting : Waiting Q) (total : ℕ) (last : Option Page) → Kept past states places table counts holds waiting total last → leaves_streams e ≡ true → ((me : ℕ) → is_call_of me e ≡ false) → holds_made_by e ≡ 0 → is_scan e ≡ false → is_defer_or_post e ≡ false → Kept (e ∷ past) states places table counts holds waiting total last
+kept_other e past states places table counts holds waiting total last kept left no_call none no_scan no_wait =
+    kept_queue e past states places table counts holds waiting waiting total last kept left no_call none no_scan (queue_stands_other waiting.writes waiting.count e past no_wait kept.queue) kept.short
 
 -- at most one write is deferred by each entry
 pub deferred_within : (past : List Entry) → deferred past ≤ length past

@@ -9,6 +9,7 @@ pub mod StreamsSteps
 pub mod MapClosing
 pub mod DeferredSteps
 pub mod ScanSteps
+pub mod LockSteps
 pub mod RoomFor
 pub mod Sums
 pub mod KeptSteps

@@ -9,6 +9,7 @@ pub mod Queue
 pub mod Scans
 pub mod Journal
 pub mod Kept
+pub mod Locks
 pub mod Capacity
 pub mod Stamped
 pub mod Since

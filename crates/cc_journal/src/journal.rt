@@ -1,6 +1,6 @@
 //! The journal: entries, and what is kept of them.
 
-ghost use Rattle.std.specs.Prelude.{◌≡◌, ◌↔◌, ℕ, suc, ◌+◌, ◌-◌, ◌^◌, ◌<◌, ◌≤◌, true, false, if◌then◌else◌, [], ◌∷◌, ◌++◌, List, Option, Some, slice_get, length, reverse, map, OnOk, OnErr, IfOk, IsErrOf, IfErr, All, drop, ◌⊎◌, ◌==◌, ◌&&◌, ◌||◌, nat_lt};
+ghost use Rattle.std.specs.Prelude.{◌≡◌, ◌↔◌, ℕ, suc, ◌+◌, ◌-◌, ◌^◌, ◌<◌, ◌≤◌, true, false, if◌then◌else◌, [], ◌∷◌, ◌++◌, List, Option, Some, slice_get, length, reverse, map, IsOk, OnOk, OnErr, IfOk, IsErrOf, IfErr, All, drop, ◌⊎◌, ◌==◌, ◌&&◌, ◌||◌, nat_lt};
 ghost use Rattle.std.specs.Option.{option_map};
 ghost use Rattle.cc_entry.specs.declared.call.Call.TheVariants as call;
 ghost use Rattle.cc_entry.specs.declared.entry.Entry.{Entry};
@@ -13,21 +13,25 @@ ghost use Rattle.cc_laws.proofs.QueueSteps.{is_defer_or_post, is_scan};
 ghost use Rattle.cc_model.specs.Cache.{holds_made, holds_made_by, makes_hold, lazy_pages, views_taken};
 ghost use Rattle.cc_model.specs.Passes.{calls_of};
 ghost use Rattle.cc_journal.specs.Calls.{owed_end};
+ghost use Rattle.cc_model.specs.Locks.{locks_of};
 ghost use Rattle.cc_model.specs.Touches.{is_mapped};
 ghost use Rattle.cc_model.specs.Setup.{Setup};
 ghost use Rattle.cc_model.specs.Settings.{log_of};
 ghost use Rattle.cc_model.specs.Throttle.{may_go, queue, deferred};
 ghost use Rattle.cc_model.specs.Pick.{pick};
 ghost use Rattle.cc_journal.specs.Journal.{JournalState, room_of, MayBePushed, limited, head_may_go};
+ghost use Rattle.cc_journal.specs.Locks.{is_lock_call, GrantsLock, RefusesLock, EndsLock};
 ghost use Rattle.cc_journal.specs.Queue.{AllUnposted, deferrals_of, routines_of};
 ghost use Rattle.cc_journal.specs.Rows.{Follows};
 
 use crate::calls::CallCounts;
+use crate::locks::StreamLocks;
 use crate::queue::Deferred;
 use crate::scans::Scans;
 use crate::streams::Streams;
 use cc_dirty::DirtyTable;
-use cc_entry::{Call, CcError, Entry, FileId, NoMemory, Outcome, Pages, StreamId};
+use cc_entry::{Call, CcError, Entry, FileId, NoMemory, Outcome, Pages, Span, StreamId};
+use cc_locks::Locks;
 use cc_traits::{PostRoutine, PostedRoutine};
 use std::alloc::Global;
 use std::marker::Model;
@@ -49,6 +53,7 @@ pub struct Journal<Q = Box<dyn PostRoutine + Send>> {
     holds: u64,
     waiting: Deferred<Q>,
     scans: Scans,
+    locks: StreamLocks,
 }
 
 impl<Q> Model for Journal<Q> {
@@ -56,6 +61,7 @@ impl<Q> Model for Journal<Q> {
     ghost use Rattle.indexmap.specs.IndexMap.{spare};
     ghost use Rattle.cc_journal.specs.Journal.{JournalState};
     ghost use Rattle.cc_journal.specs.Kept.{Kept, HasMemory};
+    ghost use Rattle.cc_journal.specs.Locks.{LocksStand};
 
     ghost Value = { JournalState Q };
 
@@ -73,7 +79,8 @@ impl<Q> Model for Journal<Q> {
         Kept (reverse j.entries.items) j.streams.states.value j.streams.places.places.entries j.streams.dirty
         j.calls.counts.entries j.holds j.waiting j.scans.total j.scans.cursor
         × HasMemory j.capacity (vec_len j.entries) j.reserved (vec_capacity j.entries - vec_len j.entries)
-        (spare j.streams.places.places) (spare j.calls.counts) };
+        (spare j.streams.places.places) (spare j.calls.counts)
+        × LocksStand (reverse j.entries.items) j.locks };
 }
 
 impl<Q: PostRoutine> Journal<Q> {
@@ -101,6 +108,7 @@ impl<Q: PostRoutine> Journal<Q> {
             holds: 0,
             waiting: Deferred::new(alloc)?,
             scans: Scans::new(),
+            locks: StreamLocks::new(alloc)?,
         })
     }
 
@@ -223,10 +231,68 @@ impl<Q> Journal<Q> {
         self.reserved -= n;
     }
 
-    /// Places an entry, which is no `Defer` and no `Posted`. It takes no memory.
+    /// The byte-range locks of a stream.
+    pub fn locks(&self, stream: StreamId) -> &Locks
+        ensures stream { result.now.stream ≡ stream }
+        ensures table { result.now.table ≡ locks_of self.now.entries stream }
+    {
+        self.locks.of(stream)
+    }
+
+    /// Locks a span for a file object, places the entry that tells of it, and answers the lock's id. Refused with
+    /// `LockConflict` where a lock of the stream is in its way, which is told too; the least such id. Answers
+    /// `NoMemory`, and then nothing has changed.
+    pub fn lock(
+        &mut self,
+        pass: u32,
+        file: FileId,
+        span: Span,
+        exclusive: bool,
+    ) -> Result<u64, CcError>
+        requires reserved { 0 < self.old.reserved }
+        ensures granted { IfOk result (GrantsLock self.old self.new pass file span exclusive) }
+        ensures refused { IfErr result (RefusesLock self.old self.new pass file span exclusive) }
+    {
+        match self.locks.lock(file, span, exclusive) {
+            Ok(id) => {
+                self.entries
+                    .push_reserved(locked(pass, file, span, exclusive, true, id));
+                self.reserved -= 1;
+                Ok(id)
+            }
+            Err(CcError::LockConflict { id }) => {
+                self.entries
+                    .push_reserved(locked(pass, file, span, exclusive, false, id));
+                self.reserved -= 1;
+                Err(CcError::LockConflict { id })
+            }
+            Err(error) => Err(error),
+        }
+    }
+
+    /// Ends the lock of this id where the file object owns it, places the entry that tells of it, and answers whether
+    /// the object does. It takes no memory.
+    pub fn unlock(&mut self, pass: u32, file: FileId, id: u64) -> Result<bool, CcError>
+        requires reserved { 0 < self.old.reserved }
+        ensures sure { IsOk result }
+        ensures ended { IfOk result (EndsLock self.old self.new pass file id) }
+    {
+        let gone = self.locks.unlock(file, id);
+        self.entries.push_reserved(Entry::Unlocked {
+            pass,
+            file,
+            id,
+            gone,
+        });
+        self.reserved -= 1;
+        Ok(gone)
+    }
+
+    /// Places an entry, which is no `Defer`, no `Posted`, no `Locked` and no `Unlocked`. It takes no memory.
     pub fn push(&mut self, entry: Entry)
         requires reserved { 0 < self.old.reserved }
         requires kind { is_defer_or_post entry ≡ false }
+        requires no_lock { is_lock_call entry ≡ false }
         requires may { MayBePushed self.old.entries entry }
         ensures placed { self.new ≡ record self.old {
           entries = entry ∷ self.old.entries;
@@ -389,6 +455,20 @@ fn goes(pages: u64, total: usize, threshold: u32, count: u32, own: u64) -> bool
     let of_all = total as u128 + u128::from(pages);
     let of_stream = u128::from(count) + u128::from(pages);
     of_all < u128::from(threshold) && (own == 0 || of_stream < u128::from(own))
+}
+
+// What tells of a call for a lock.
+fn locked(pass: u32, file: FileId, span: Span, exclusive: bool, granted: bool, id: u64) -> Entry
+    ensures { result ≡ entry.Locked pass file span exclusive granted id }
+{
+    Entry::Locked {
+        pass,
+        file,
+        span,
+        exclusive,
+        granted,
+        id,
+    }
 }
 
 // How many holds an entry made.

@@ -8,6 +8,7 @@ invariant_of-result g c = (
   rw c.new.ensures.items (kept_none _ _ _ _ _ _ _ c.in_ok-new.ensures.stands c.new-3.ensures c.in_ok-new-2.ensures.stands c.new-5.ensures
       c.in_ok-new.ensures.empty c.in_ok-new.ensures.capacity c.in_ok-new-2.ensures.none),
   rw c.new.ensures.len (memory_none _ _ _ _ c.requires.limit),
+  rw c.new.ensures.items c.in_ok-new-3.ensures.stands,
 )
 
 -- src/journal.rt:74:5

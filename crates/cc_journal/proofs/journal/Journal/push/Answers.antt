@@ -6,6 +6,7 @@ use Rattle.cc_entry.specs.declared.entry.Entry.{Entry}
 use Rattle.cc_journal.specs.Journal.{MayBePushed}
 use Rattle.cc_journal.proofs.KeptSteps.{kept_push, holds_within, made_by}
 use Rattle.cc_journal.proofs.CallSteps.{calls_within}
+use Rattle.cc_journal.proofs.LockSteps.{locks_other}
 use Rattle.cc_journal.proofs.RoomFor.{room_for}
 use Rattle.cc_journal.proofs.journal.Journal.push.Goals as goal
 
@@ -54,6 +55,7 @@ invariant_of-self g c =
         for_places = omega (arith, memory.for_places, c.follow.ensures.room);
         for_counts = omega (arith, memory.for_counts, c.follow-2.ensures.room);
       },
+      rw grown (locks_other c.args.entry past c.self.inside.locks c.requires.no_lock c.self.invariant.2),
     )
 
 pub returns-clause-rows : goal.returns-clause-rows

@@ -6,6 +6,7 @@ use Rattle.cc_entry.specs.declared.entry.Entry.{Entry}
 use Rattle.cc_entry.specs.declared.entry.Entry.TheVariants as entry
 use Rattle.cc_journal.proofs.DeferredSteps.{stands_length}
 use Rattle.cc_journal.proofs.KeptSteps.{kept_queue, deferred_within, queue_more}
+use Rattle.cc_journal.proofs.LockSteps.{locks_other}
 use Rattle.cc_journal.proofs.journal.Journal.push_defer.Goals as goal
 
 pub defer-id-requires-clause-few : goal.defer-id-requires-clause-few
@@ -36,4 +37,5 @@ invariant_of-self g c =
         for_places = omega (arith, memory.for_places);
         for_counts = omega (arith, memory.for_counts);
       },
+      rw grown (locks_other e past c.self.inside.locks refl c.self.invariant.2),
     )

@@ -5,6 +5,7 @@ use Rattle.std.proofs.lemmas.List.{reverse-append, length-drop}
 use Rattle.cc_entry.specs.declared.entry.Entry.{Entry}
 use Rattle.cc_entry.specs.declared.entry.Entry.TheVariants as entry
 use Rattle.cc_journal.proofs.KeptSteps.{kept_queue}
+use Rattle.cc_journal.proofs.LockSteps.{locks_other}
 use Rattle.cc_journal.proofs.journal.Journal.push_posted.Goals as goal
 
 pub invariant_of-self : goal.invariant_of-self
@@ -26,4 +27,5 @@ invariant_of-self g c =
         for_places = omega (arith, memory.for_places);
         for_counts = omega (arith, memory.for_counts);
       },
+      rw grown (locks_other e past c.self.inside.locks refl c.self.invariant.2),
     )
