@@ -26,5 +26,6 @@ pub mod CallersRan
 pub mod Rooms
 pub mod OnBoard
 pub mod TicksRan
+pub mod StepsRan
 pub mod Working
 pub mod Untold

@@ -1,0 +1,180 @@
+-- The read-ahead steps of a phase: one more of them, others before and behind them, and what they did at the worker's place.
+use Rattle.std.specs.Prelude.{◌≡◌, ◌≢◌, ℕ, zero, suc, ◌+◌, ◌<◌, ◌≤◌, Bool, true, false, List, [], ◌∷◌, ◌++◌, length, map, vec_capacity, refl, ◌⊎◌}
+use Rattle.std.specs.declared.option.Option.{Option}
+use Rattle.std.specs.declared.option.Option.TheVariants.{Some, None}
+use Rattle.std.proofs.Common.{ap, sym, subst, ◌∙◌, arith, append_assoc, inl, inr}
+use Rattle.std.proofs.lemmas.List.{append-nil, length-append, map-append}
+use Rattle.cc_entry.specs.declared.answer.Answer.{Answer}
+use Rattle.cc_entry.specs.declared.answer.Answer.TheVariants as answer
+use Rattle.cc_entry.specs.declared.answer.LineReply.{LineReply}
+use Rattle.cc_entry.specs.declared.call.Call.TheVariants as call
+use Rattle.cc_entry.specs.declared.entry.Entry.{Entry}
+use Rattle.cc_entry.specs.declared.error.CcError.{CcError}
+use Rattle.cc_entry.specs.declared.error.CcError.TheVariants as error
+use Rattle.cc_entry.specs.declared.place.Request.{Request}
+use Rattle.cc_script.specs.declared.script.Action.TheVariants as action
+use Rattle.cc_model.specs.Setup.{Setup}
+use Rattle.cc_effects.specs.Moments.{IsIdle}
+use Rattle.cc_effects.proofs.Stretches.{idle-none}
+use Rattle.cc_lines.specs.Line.{IsFullTold, PlaceWent, StepAt, WentOn, hand_of}
+use Rattle.cc_pieces.specs.Answered.{AheadAnswered}
+use Rattle.cc_pieces.specs.Phases.{EndsWithNone, read_ahead_worker}
+use Rattle.cc_pieces.specs.Queue.{is_none_stepped}
+use Rattle.cc_pieces.specs.Rooms.{HadNoRoom}
+use Rattle.cc_pieces.proofs.AheadSteps.{AllTook, aheads-idle, aheads-since, none-more, took-more, took-ran}
+use Rattle.cc_pieces.proofs.PlaceSteps.{place-idle, place-stepped, place-then}
+use Rattle.cc_queue.specs.Places.{PlaceState}
+use Rattle.cc_turns.specs.Standing.{Standing}
+use Rattle.cc_run.specs.Aheads.{MayStep, StepsLeft, StepsMade, step_lines}
+use Rattle.cc_run.specs.Desks.{IsReady}
+use Rattle.cc_run.specs.declared.aheads.Aheads.{Aheads}
+use Rattle.cc_run.proofs.Acting.{full-at}
+
+-- with little room, where others have little under way at most
+pub room-stepped : (old new : Standing) (taken : Option Request) (told : Answer) → AheadAnswered old.setup old.number taken told old.seen new.seen → IsFullTold new told → new.others ≤ new.most_others → WentOn old new → old.in_flight ≡ 0 → old.most_others ≤ 28 → HadNoRoom old.setup 32 told old.seen new.seen
+room-stepped old new (Some request) (answer.Refused (error.JournalFull entries)) answered full others went none few =
+    let setup : new.setup ≡ old.setup = ap (λ w. w.setup) went.same in
+    let idle : new.in_flight ≡ 0 = ap (λ w. w.in_flight) went.same ∙ none in
+    let most : new.most_others ≡ old.most_others = ap (λ w. w.most_others) went.same in
+    subst (λ u. HadNoRoom u 32 (answer.Refused (error.JournalFull entries)) old.seen new.seen) setup
+    (full-at new 32 entries 3 (omega arith) answered.during old.seen answered.grew idle (omega (arith, others, most, few)) full)
+room-stepped old new None (answer.Refused e) answered full others went none few = absurd answered
+room-stepped old new taken (answer.NcRefused done cause) answered full others went none few = absurd answered
+room-stepped old new taken other answered full others went none few = tt
+
+-- ---- places
+
+pub went-idle : (me : ℕ) (place : PlaceState Request) (old new : List Entry) → IsIdle me old new → PlaceWent me [] place place old new
+went-idle me place old new idle = record { ran = place-idle me (hand_of place) old new idle; queue_is = refl }
+
+pub went-then : (me : ℕ) (first rest : List (Action × Answer)) (was mid now : PlaceState Request) (old between new : List Entry) → PlaceWent me first was mid old between → PlaceWent me rest mid now between new → PlaceWent me (first ++ rest) was now old new
+went-then me first rest was mid now old between new one two = record {
+  ran = place-then me first rest (hand_of was) (hand_of mid) (hand_of now) old between new one.ran two.ran;
+  queue_is = two.queue_is ∙ one.queue_is;
+}
+
+-- others go on behind lines, and were there before
+pub went-on-idle : (me : ℕ) (lines : List (Action × Answer)) (was now : PlaceState Request) (old between new : List Entry) → PlaceWent me lines was now old between → IsIdle me between new → PlaceWent me lines was now old new
+went-on-idle me lines was now old between new went idle =
+    subst (λ l. PlaceWent me l was now old new) (append-nil lines) (went-then me lines [] was now now old between new went (went-idle me now between new idle))
+
+pub went-since : (me : ℕ) (lines : List (Action × Answer)) (was now : PlaceState Request) (older old new : List Entry) → IsIdle me older old → PlaceWent me lines was now old new → PlaceWent me lines was now older new
+went-since me lines was now older old new idle went = went-then me [] lines was was now older old new (went-idle me was older old idle) went
+
+-- ---- the steps so far, of which each took a request
+
+pub record TookSo (u : Setup) (phase count : ℕ) (was now : Aheads) (old new : List Entry) : Type 0 where
+  pub answers : List LineReply
+  pub grew : now.answers.items ≡ was.answers.items ++ answers
+  pub taken : List Request
+  pub took : now.place.taken ≡ was.place.taken ++ taken
+  pub counted : length answers ≡ count
+  pub all : AllTook u 32 phase answers taken old new
+  pub placed : PlaceWent read_ahead_worker (step_lines answers) was.place now.place old new
+  pub each_is : now.each ≡ was.each
+  pub room_is : vec_capacity now.answers ≡ vec_capacity was.answers
+
+pub took-none : (u : Setup) (phase : ℕ) (aheads : Aheads) (past : List Entry) → TookSo u phase 0 aheads aheads past past
+took-none u phase aheads past = record {
+  answers = [];
+  grew = sym (append-nil aheads.answers.items);
+  taken = [];
+  took = sym (append-nil aheads.place.taken);
+  counted = refl;
+  all = (refl, idle-none read_ahead_worker past);
+  placed = went-idle read_ahead_worker aheads.place past past (idle-none read_ahead_worker past);
+  each_is = refl;
+  room_is = refl;
+}
+
+-- all of them took one
+pub took-made : (u : Setup) (phase count : ℕ) (was now : Aheads) (old new : List Entry) → TookSo u phase count was now old new → StepsMade u phase count was now old new
+took-made u phase count was now old new so = record {
+  answers = so.answers;
+  grew = so.grew;
+  taken = so.taken;
+  took = so.took;
+  left = record { counted = inl so.counted; ran = took-ran u 32 phase so.answers so.taken old new so.all };
+  placed = so.placed;
+  each_is = so.each_is;
+  room_is = so.room_is;
+}
+
+-- one more that took one
+pub took-on : (u : Setup) (phase count : ℕ) (was now next : Aheads) (reply : LineReply) (request : Request) (old between new : List Entry) → TookSo u phase count was now old between → next.answers.items ≡ now.answers.items ++ reply ∷ [] → next.place.taken ≡ now.place.taken ++ request ∷ [] → next.each ≡ now.each → vec_capacity next.answers ≡ vec_capacity now.answers → reply.line ≡ phase → AheadAnswered u read_ahead_worker (Some request) reply.answer between new → HadNoRoom u 32 reply.answer between new → PlaceWent read_ahead_worker ((action.AheadStep, reply.answer) ∷ []) now.place next.place between new → TookSo u phase (count + 1) was next old new
+took-on u phase count was now next reply request old between new so items took each capacity is left room went = record {
+  answers = so.answers ++ reply ∷ [];
+  grew = items ∙ (ap (λ l. l ++ reply ∷ []) so.grew ∙ append_assoc was.answers.items so.answers (reply ∷ []));
+  taken = so.taken ++ request ∷ [];
+  took = took ∙ (ap (λ l. l ++ request ∷ []) so.took ∙ append_assoc was.place.taken so.taken (request ∷ []));
+  counted = omega (arith, length-append so.answers (reply ∷ []), so.counted);
+  all = took-more u 32 phase so.answers so.taken reply request old between new so.all is left room;
+  placed =
+      subst (λ l. PlaceWent read_ahead_worker l was.place next.place old new) (sym (map-append (λ (one : LineReply). (action.AheadStep, one.answer)) so.answers (reply ∷ [])))
+      (went-then read_ahead_worker (step_lines so.answers) ((action.AheadStep, reply.answer) ∷ []) was.place now.place next.place old between new so.placed went);
+  each_is = each ∙ so.each_is;
+  room_is = capacity ∙ so.room_is;
+}
+
+-- the last of several
+ends-with : (replies : List LineReply) (reply : LineReply) → reply.answer ≡ answer.Stepped None → EndsWithNone (replies ++ reply ∷ [])
+ends-with [] reply none = none
+ends-with (first ∷ []) reply none = none
+ends-with (first ∷ next ∷ replies) reply none = ends-with (next ∷ replies) reply none
+
+-- one that found no request ends the phase
+pub none-made : (u : Setup) (phase count limit : ℕ) (was now next : Aheads) (reply : LineReply) (old between new : List Entry) → TookSo u phase count was now old between → count + 1 ≤ limit → next.answers.items ≡ now.answers.items ++ reply ∷ [] → next.place.taken ≡ now.place.taken → next.each ≡ now.each → vec_capacity next.answers ≡ vec_capacity now.answers → reply.line ≡ phase → reply.answer ≡ answer.Stepped None → AheadAnswered u read_ahead_worker None reply.answer between new → HadNoRoom u 32 reply.answer between new → PlaceWent read_ahead_worker ((action.AheadStep, reply.answer) ∷ []) now.place next.place between new → StepsMade u phase limit was next old new
+none-made u phase count limit was now next reply old between new so less items took each capacity is none left room went = record {
+  answers = so.answers ++ reply ∷ [];
+  grew = items ∙ (ap (λ l. l ++ reply ∷ []) so.grew ∙ append_assoc was.answers.items so.answers (reply ∷ []));
+  taken = so.taken;
+  took = took ∙ so.took;
+  left = record {
+    counted = inr (omega (arith, length-append so.answers (reply ∷ []), so.counted, less), ends-with so.answers reply none);
+    ran = none-more u 32 phase so.answers so.taken reply old between new so.all is left room;
+  };
+  placed =
+      subst (λ l. PlaceWent read_ahead_worker l was.place next.place old new) (sym (map-append (λ (one : LineReply). (action.AheadStep, one.answer)) so.answers (reply ∷ [])))
+      (went-then read_ahead_worker (step_lines so.answers) ((action.AheadStep, reply.answer) ∷ []) was.place now.place next.place old between new so.placed went);
+  each_is = each ∙ so.each_is;
+  room_is = capacity ∙ so.room_is;
+}
+
+-- others go on behind them, and were there before
+pub steps-idle : (u : Setup) (phase count : ℕ) (was now : Aheads) (old between new : List Entry) → StepsMade u phase count was now old between → IsIdle read_ahead_worker between new → StepsMade u phase count was now old new
+steps-idle u phase count was now old between new made idle = record {
+  answers = made.answers;
+  grew = made.grew;
+  taken = made.taken;
+  took = made.took;
+  left = record { counted = made.left.counted; ran = aheads-idle u 32 phase made.answers made.taken old between new made.left.ran idle };
+  placed = went-on-idle read_ahead_worker (step_lines made.answers) was.place now.place old between new made.placed idle;
+  each_is = made.each_is;
+  room_is = made.room_is;
+}
+
+pub steps-since : (u : Setup) (phase count : ℕ) (was now : Aheads) (older old new : List Entry) → IsIdle read_ahead_worker older old → StepsMade u phase count was now old new → StepsMade u phase count was now older new
+steps-since u phase count was now older old new idle made = record {
+  answers = made.answers;
+  grew = made.grew;
+  taken = made.taken;
+  took = made.took;
+  left = record { counted = made.left.counted; ran = aheads-since u 32 phase made.answers made.taken older old new idle made.left.ran };
+  placed = went-since read_ahead_worker (step_lines made.answers) was.place now.place older old new idle made.placed;
+  each_is = made.each_is;
+  room_is = made.room_is;
+}
+
+-- on a desk that acts as the worker, it may make its steps, and what they left is what the desk's steps left
+pub desk-may-step : (w0 w1 : Standing) → w1 ≡ record w0 { number = read_ahead_worker; since = w0.seen } → w1.most_others ≡ 0 → IsReady w0 → MayStep w1
+desk-may-step w0 w1 acts alone ready = record {
+  is_worker = ap (λ w. w.number) acts;
+  free = record { free = ap (λ w. w.held) acts ∙ ready.free; none = ap (λ w. w.in_flight) acts ∙ ready.at_rest };
+  few = omega (arith, alone);
+}
+
+pub desk-stepped : (w0 w1 : Standing) (phase : ℕ) (was now : Aheads) (new : List Entry) → w1 ≡ record w0 { number = read_ahead_worker; since = w0.seen } → StepsMade w1.setup phase was.each was now w1.seen new → StepsMade w0.setup phase was.each was now w0.seen new
+desk-stepped w0 w1 phase was now new acts made =
+    let setup : w1.setup ≡ w0.setup = ap (λ w. w.setup) acts in
+    let seen : w1.seen ≡ w0.seen = ap (λ w. w.seen) acts in
+    rw (setup, seen) at made
