@@ -121,12 +121,12 @@ served-long u bindings lines before after old new served =
     sym (length-map lines (λ line. line.line)) ∙ (sym (ap length (left-lines u bindings lines served.answers old new served.left)) ∙ length-map served.answers (λ reply. reply.line))
 
 -- a row in whose place another was put
-put-same : {A : Type 0} (rows : List A) (k : ℕ) (now one : A) → slice_get (slice_set rows k now) k ≡ Some one → now ≡ one
+pub put-same : {A : Type 0} (rows : List A) (k : ℕ) (now one : A) → slice_get (slice_set rows k now) k ≡ Some one → now ≡ one
 put-same [] k now one at = absurd (cc at)
 put-same (r ∷ rows) zero now one at = cc at
 put-same (r ∷ rows) (suc k) now one at = put-same rows k now one at
 
-put-other : {A : Type 0} (rows : List A) (k n : ℕ) (now one : A) → k ≢ n → slice_get (slice_set rows k now) n ≡ Some one → slice_get rows n ≡ Some one
+pub put-other : {A : Type 0} (rows : List A) (k n : ℕ) (now one : A) → k ≢ n → slice_get (slice_set rows k now) n ≡ Some one → slice_get rows n ≡ Some one
 put-other [] k n now one apart at = absurd (cc at)
 put-other (r ∷ rows) zero zero now one apart at = absurd (apart refl)
 put-other (r ∷ rows) zero (suc n) now one apart at = at

@@ -16,19 +16,20 @@ use Rattle.cc_script.specs.declared.script.Action.TheVariants as action
 use Rattle.cc_model.specs.Setup.{Setup}
 use Rattle.cc_effects.specs.Moments.{IsIdle}
 use Rattle.cc_effects.proofs.Stretches.{idle-none}
-use Rattle.cc_lines.specs.Line.{IsFullTold, PlaceWent, StepAt, WentOn, hand_of}
+use Rattle.cc_lines.specs.Line.{IsFullTold, PlaceWent, StepAt, WentOn}
 use Rattle.cc_pieces.specs.Answered.{AheadAnswered}
 use Rattle.cc_pieces.specs.Phases.{EndsWithNone, read_ahead_worker}
 use Rattle.cc_pieces.specs.Queue.{is_none_stepped}
 use Rattle.cc_pieces.specs.Rooms.{HadNoRoom}
 use Rattle.cc_pieces.proofs.AheadSteps.{AllTook, aheads-idle, aheads-since, none-more, took-more, took-ran}
-use Rattle.cc_pieces.proofs.PlaceSteps.{place-idle, place-stepped, place-then}
+use Rattle.cc_pieces.proofs.PlaceSteps.{place-stepped}
 use Rattle.cc_queue.specs.Places.{PlaceState}
 use Rattle.cc_turns.specs.Standing.{Standing}
 use Rattle.cc_run.specs.Aheads.{MayStep, StepsLeft, StepsMade, step_lines}
 use Rattle.cc_run.specs.Desks.{IsReady}
 use Rattle.cc_run.specs.declared.aheads.Aheads.{Aheads}
 use Rattle.cc_run.proofs.Acting.{full-at}
+use Rattle.cc_run.proofs.PlacesWent.{placed-idle, placed-on, placed-since, placed-then}
 
 -- with little room, where others have little under way at most
 pub room-stepped : (old new : Standing) (taken : Option Request) (told : Answer) → AheadAnswered old.setup old.number taken told old.seen new.seen → IsFullTold new told → new.others ≤ new.most_others → WentOn old new → old.in_flight ≡ 0 → old.most_others ≤ 28 → HadNoRoom old.setup 32 told old.seen new.seen
@@ -41,25 +42,6 @@ room-stepped old new (Some request) (answer.Refused (error.JournalFull entries))
 room-stepped old new None (answer.Refused e) answered full others went none few = absurd answered
 room-stepped old new taken (answer.NcRefused done cause) answered full others went none few = absurd answered
 room-stepped old new taken other answered full others went none few = tt
-
--- ---- places
-
-pub went-idle : (me : ℕ) (place : PlaceState Request) (old new : List Entry) → IsIdle me old new → PlaceWent me [] place place old new
-went-idle me place old new idle = record { ran = place-idle me (hand_of place) old new idle; queue_is = refl }
-
-pub went-then : (me : ℕ) (first rest : List (Action × Answer)) (was mid now : PlaceState Request) (old between new : List Entry) → PlaceWent me first was mid old between → PlaceWent me rest mid now between new → PlaceWent me (first ++ rest) was now old new
-went-then me first rest was mid now old between new one two = record {
-  ran = place-then me first rest (hand_of was) (hand_of mid) (hand_of now) old between new one.ran two.ran;
-  queue_is = two.queue_is ∙ one.queue_is;
-}
-
--- others go on behind lines, and were there before
-pub went-on-idle : (me : ℕ) (lines : List (Action × Answer)) (was now : PlaceState Request) (old between new : List Entry) → PlaceWent me lines was now old between → IsIdle me between new → PlaceWent me lines was now old new
-went-on-idle me lines was now old between new went idle =
-    subst (λ l. PlaceWent me l was now old new) (append-nil lines) (went-then me lines [] was now now old between new went (went-idle me now between new idle))
-
-pub went-since : (me : ℕ) (lines : List (Action × Answer)) (was now : PlaceState Request) (older old new : List Entry) → IsIdle me older old → PlaceWent me lines was now old new → PlaceWent me lines was now older new
-went-since me lines was now older old new idle went = went-then me [] lines was was now older old new (went-idle me was older old idle) went
 
 -- ---- the steps so far, of which each took a request
 
@@ -82,7 +64,7 @@ took-none u phase aheads past = record {
   took = sym (append-nil aheads.place.taken);
   counted = refl;
   all = (refl, idle-none read_ahead_worker past);
-  placed = went-idle read_ahead_worker aheads.place past past (idle-none read_ahead_worker past);
+  placed = placed-idle read_ahead_worker aheads.place past past (idle-none read_ahead_worker past);
   each_is = refl;
   room_is = refl;
 }
@@ -111,7 +93,7 @@ took-on u phase count was now next reply request old between new so items took e
   all = took-more u 32 phase so.answers so.taken reply request old between new so.all is left room;
   placed =
       subst (λ l. PlaceWent read_ahead_worker l was.place next.place old new) (sym (map-append (λ (one : LineReply). (action.AheadStep, one.answer)) so.answers (reply ∷ [])))
-      (went-then read_ahead_worker (step_lines so.answers) ((action.AheadStep, reply.answer) ∷ []) was.place now.place next.place old between new so.placed went);
+      (placed-then read_ahead_worker (step_lines so.answers) ((action.AheadStep, reply.answer) ∷ []) was.place now.place next.place old between new so.placed went);
   each_is = each ∙ so.each_is;
   room_is = capacity ∙ so.room_is;
 }
@@ -135,7 +117,7 @@ none-made u phase count limit was now next reply old between new so less items t
   };
   placed =
       subst (λ l. PlaceWent read_ahead_worker l was.place next.place old new) (sym (map-append (λ (one : LineReply). (action.AheadStep, one.answer)) so.answers (reply ∷ [])))
-      (went-then read_ahead_worker (step_lines so.answers) ((action.AheadStep, reply.answer) ∷ []) was.place now.place next.place old between new so.placed went);
+      (placed-then read_ahead_worker (step_lines so.answers) ((action.AheadStep, reply.answer) ∷ []) was.place now.place next.place old between new so.placed went);
   each_is = each ∙ so.each_is;
   room_is = capacity ∙ so.room_is;
 }
@@ -148,7 +130,7 @@ steps-idle u phase count was now old between new made idle = record {
   taken = made.taken;
   took = made.took;
   left = record { counted = made.left.counted; ran = aheads-idle u 32 phase made.answers made.taken old between new made.left.ran idle };
-  placed = went-on-idle read_ahead_worker (step_lines made.answers) was.place now.place old between new made.placed idle;
+  placed = placed-on read_ahead_worker (step_lines made.answers) was.place now.place old between new made.placed idle;
   each_is = made.each_is;
   room_is = made.room_is;
 }
@@ -160,7 +142,7 @@ steps-since u phase count was now older old new idle made = record {
   taken = made.taken;
   took = made.took;
   left = record { counted = made.left.counted; ran = aheads-since u 32 phase made.answers made.taken older old new idle made.left.ran };
-  placed = went-since read_ahead_worker (step_lines made.answers) was.place now.place older old new idle made.placed;
+  placed = placed-since read_ahead_worker (step_lines made.answers) was.place now.place older old new idle made.placed;
   each_is = made.each_is;
   room_is = made.room_is;
 }
