@@ -16,10 +16,10 @@ use Rattle.cc_script.specs.declared.script.Action.TheVariants as action
 use Rattle.cc_model.specs.Setup.{Setup}
 use Rattle.cc_effects.specs.Moments.{IsIdle}
 use Rattle.cc_effects.proofs.Stretches.{idle-none}
-use Rattle.cc_lines.specs.Line.{IsFullTold, PlaceWent, StepAt, WentOn}
+use Rattle.cc_lines.specs.Line.{IsFullTold, PlaceWent, StepAt, WentOn, hand_of}
 use Rattle.cc_pieces.specs.Answered.{AheadAnswered}
 use Rattle.cc_pieces.specs.Phases.{EndsWithNone, read_ahead_worker}
-use Rattle.cc_pieces.specs.Queue.{is_none_stepped}
+use Rattle.cc_pieces.specs.Queue.{StepPlaced, is_none_stepped}
 use Rattle.cc_pieces.specs.Rooms.{HadNoRoom}
 use Rattle.cc_pieces.proofs.AheadSteps.{AllTook, aheads-idle, aheads-since, none-more, took-more, took-ran}
 use Rattle.cc_pieces.proofs.PlaceSteps.{place-stepped}
@@ -121,6 +121,68 @@ none-made u phase count limit was now next reply old between new so less items t
   each_is = each ∙ so.each_is;
   room_is = capacity ∙ so.room_is;
 }
+
+-- ---- a step more, over any turns
+
+-- a step that does not say that there was no request took one, and one that says so took none
+step-took : (u : Setup) (me : ℕ) (taken : Option Request) (told : Answer) (old new : List Entry) → AheadAnswered u me taken told old new → is_none_stepped told ≡ false → (request : Request) × (taken ≡ Some request)
+step-took u me (Some request) told old new left calm = (request, refl)
+step-took u me None (answer.Stepped None) old new left calm = absurd (cc calm)
+step-took u me None (answer.Stepped (Some done)) old new left calm = absurd left
+step-took u me None (answer.Refused e) old new left calm = absurd left
+step-took u me None other old new left calm = absurd left
+
+step-found : (u : Setup) (me : ℕ) (taken : Option Request) (told : Answer) (old new : List Entry) → AheadAnswered u me taken told old new → is_none_stepped told ≡ true → (taken ≡ None) × (told ≡ answer.Stepped None)
+step-found u me None (answer.Stepped None) old new left is = (refl, refl)
+step-found u me (Some request) (answer.Stepped None) old new left is = absurd left
+step-found u me taken (answer.Stepped (Some done)) old new left is = absurd (cc is)
+step-found u me taken (answer.Refused e) old new left is = absurd (cc is)
+step-found u me taken other old new left is = absurd left
+
+module _ (w between new : Standing) (phase count : ℕ) (was now next : Aheads) (told : Answer) (may : MayStep w) (went : WentOn w between) (one : WentOn between new) (step : StepAt between new told now.place next.place) (full : IsFullTold new told) (few : new.others ≤ new.most_others) (so : TookSo w.setup phase count was now w.seen between.seen) (items : next.answers.items ≡ now.answers.items ++ record { line = phase; answer = told } ∷ []) (each : next.each ≡ now.each) (capacity : vec_capacity next.answers ≡ vec_capacity now.answers) where
+  abbrev reply : LineReply
+  reply = record { line = phase; answer = told }
+
+  number-is : between.number ≡ read_ahead_worker
+  number-is = ap (λ v. v.number) went.same ∙ may.is_worker
+
+  setup-is : between.setup ≡ w.setup
+  setup-is = ap (λ v. v.setup) went.same
+
+  answered-as : AheadAnswered w.setup read_ahead_worker step.taken told between.seen new.seen
+  answered-as =
+      subst (λ me. AheadAnswered w.setup me step.taken told between.seen new.seen) number-is
+      (subst (λ u. AheadAnswered u between.number step.taken told between.seen new.seen) setup-is step.answered)
+
+  room-as : HadNoRoom w.setup 32 told between.seen new.seen
+  room-as =
+      let idle : between.in_flight ≡ 0 = ap (λ v. v.in_flight) went.same ∙ may.free.none in
+      let least : between.most_others ≤ 28 = subst (λ (n : ℕ). n ≤ 28) (sym (ap (λ v. v.most_others) went.same)) may.few in
+      subst (λ u. HadNoRoom u 32 told between.seen new.seen) setup-is (room-stepped between new step.taken told step.answered full few one idle least)
+
+  placed-so : PlaceWent read_ahead_worker ((action.AheadStep, told) ∷ []) now.place next.place between.seen new.seen
+  placed-so =
+      subst (λ me. PlaceWent me ((action.AheadStep, told) ∷ []) now.place next.place between.seen new.seen) number-is
+      (record {
+        ran = place-stepped between.setup between.number (hand_of now.place) (hand_of next.place) between.seen new.seen step.taken told step.answered step.placed;
+        queue_is = step.queue_is;
+      })
+
+  -- it took a request
+  pub step-on : is_none_stepped told ≡ false → TookSo w.setup phase (count + 1) was next w.seen new.seen
+  step-on calm =
+      let some = step-took between.setup between.number step.taken told between.seen new.seen step.answered calm in
+      let placed : StepPlaced (Some some.0) (hand_of now.place) (hand_of next.place) = rw some.1 at step.placed in
+      took-on w.setup phase count was now next reply some.0 w.seen between.seen new.seen so items (ap (λ p. p.taken) placed) each capacity refl
+      (subst (λ taken. AheadAnswered w.setup read_ahead_worker taken told between.seen new.seen) some.1 answered-as) room-as placed-so
+
+  -- it found none
+  pub step-last : (limit : ℕ) → count + 1 ≤ limit → is_none_stepped told ≡ true → StepsMade w.setup phase limit was next w.seen new.seen
+  step-last limit less found =
+      let none = step-found between.setup between.number step.taken told between.seen new.seen step.answered found in
+      let placed : StepPlaced None (hand_of now.place) (hand_of next.place) = rw none.0 at step.placed in
+      none-made w.setup phase count limit was now next reply w.seen between.seen new.seen so less items (ap (λ p. p.taken) placed) each capacity refl none.1
+      (subst (λ taken. AheadAnswered w.setup read_ahead_worker taken told between.seen new.seen) none.0 answered-as) room-as placed-so
 
 -- others go on behind them, and were there before
 pub steps-idle : (u : Setup) (phase count : ℕ) (was now : Aheads) (old between new : List Entry) → StepsMade u phase count was now old between → IsIdle read_ahead_worker between new → StepsMade u phase count was now old new
