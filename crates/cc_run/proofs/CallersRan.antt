@@ -1,8 +1,10 @@
 -- The lines of a caller on a board, one more and another's, and what it leaves.
 use Rattle.std.specs.Prelude.{◌≡◌, ◌≢◌, ℕ, suc, ◌+◌, ◌<◌, ◌==◌, Bool, true, false, List, [], ◌∷◌, ◌++◌, length, take, drop, refl, vec_capacity}
+use Rattle.std.specs.List.{AllByRecursion}
 use Rattle.std.proofs.Common.{sym, ap, subst, ◌∙◌, arith, get_or}
 use Rattle.std.proofs.lemmas.Bool.{eqb-true, eqb-false}
 use Rattle.std.proofs.lemmas.List.{length-append}
+use Rattle.atomic_table.specs.Seated.{TableId}
 use Rattle.cc_entry.specs.declared.answer.Answer.{Answer}
 use Rattle.cc_script.specs.declared.script.ActionLine.{ActionLine}
 use Rattle.cc_effects.proofs.Stretches.{idle-none}
@@ -25,7 +27,7 @@ use Rattle.cc_lines.specs.Line.{CanServe, IsServable, LineEnds, PlaceWent, WentO
 use Rattle.cc_run.specs.declared.callers.Caller.{Caller}
 use Rattle.cc_run.specs.declared.callers.Finished.{Finished}
 use Rattle.cc_run.proofs.Acting.{room-then}
-use Rattle.cc_run.proofs.Lists.{parted}
+use Rattle.cc_run.proofs.Lists.{all-back, all-front, parted}
 use Rattle.cc_run.proofs.PlacesWent.{placed-idle, placed-then}
 use Rattle.cc_run.proofs.Merging.{own-more, own-none, own-other, count-more, count-other}
 use Rattle.cc_run.proofs.WordSteps.{bindings-append, bound-long, bound-other, bound-own, right-back, right-first, right-front, words-append, words-first}
@@ -285,3 +287,10 @@ all-ran-last tells board lines [] [] caller one ran last = (last, tt)
 all-ran-last tells board lines [] (e ∷ ended) caller one ran last = absurd ran
 all-ran-last tells board lines (c ∷ callers) [] caller one ran last = absurd ran
 all-ran-last tells board lines (c ∷ callers) (e ∷ ended) caller one ran last = (ran.0, all-ran-last tells board lines callers ended caller one ran.1 last)
+
+-- the places of all but the last, and that of the last, are of the queue
+pub own-parts : {D L Q : Type 0} (queue : TableId) (callers front : List (Caller D L Q)) (last : Caller D L Q) → callers ≡ front ++ last ∷ [] → AllByRecursion (λ (caller : Caller D L Q). caller.names.place.queue ≡ queue) callers → AllByRecursion (λ (caller : Caller D L Q). caller.names.place.queue ≡ queue) front × (last.names.place.queue ≡ queue)
+own-parts {D} {L} {Q} queue callers front last is own =
+    let Own : Caller D L Q → Type 0 = λ caller. caller.names.place.queue ≡ queue in
+    let all : AllByRecursion Own (front ++ last ∷ []) = subst (AllByRecursion Own) is own in
+    (all-front Own front (last ∷ []) all, (all-back Own front (last ∷ []) all).0)

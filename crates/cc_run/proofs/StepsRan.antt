@@ -2,6 +2,7 @@
 use Rattle.std.specs.Prelude.{◌≡◌, ◌≢◌, ℕ, zero, suc, ◌+◌, ◌<◌, ◌≤◌, Bool, true, false, List, [], ◌∷◌, ◌++◌, length, map, vec_capacity, refl, ◌⊎◌}
 use Rattle.std.specs.declared.option.Option.{Option}
 use Rattle.std.specs.declared.option.Option.TheVariants.{Some, None}
+use Rattle.std.specs.List.{AllByRecursion}
 use Rattle.std.proofs.Common.{ap, sym, subst, ◌∙◌, arith, append_assoc, inl, inr}
 use Rattle.std.proofs.lemmas.List.{append-nil, length-append, map-append}
 use Rattle.cc_entry.specs.declared.answer.Answer.{Answer}
@@ -12,13 +13,18 @@ use Rattle.cc_entry.specs.declared.entry.Entry.{Entry}
 use Rattle.cc_entry.specs.declared.error.CcError.{CcError}
 use Rattle.cc_entry.specs.declared.error.CcError.TheVariants as error
 use Rattle.cc_entry.specs.declared.place.Request.{Request}
+use Rattle.cc_script.specs.declared.bound.Bound.{Bound}
+use Rattle.cc_script.specs.declared.script.Action.{Action}
 use Rattle.cc_script.specs.declared.script.Action.TheVariants as action
+use Rattle.cc_script.specs.declared.script.ActionLine.{ActionLine}
 use Rattle.cc_model.specs.Setup.{Setup}
 use Rattle.cc_effects.specs.Moments.{IsIdle}
-use Rattle.cc_effects.proofs.Stretches.{idle-none}
+use Rattle.cc_effects.proofs.Stretches.{idle-none, idle-then}
+use Rattle.cc_lines.specs.Holds.{NamesState}
 use Rattle.cc_lines.specs.Line.{IsFullTold, PlaceWent, StepAt, WentOn, hand_of}
 use Rattle.cc_pieces.specs.Answered.{AheadAnswered}
-use Rattle.cc_pieces.specs.Phases.{EndsWithNone, read_ahead_worker}
+use Rattle.cc_pieces.specs.Bindings.{Binding}
+use Rattle.cc_pieces.specs.Phases.{EndsWithNone, lazy_writer, read_ahead_worker}
 use Rattle.cc_pieces.specs.Queue.{StepPlaced, is_none_stepped}
 use Rattle.cc_pieces.specs.Rooms.{HadNoRoom}
 use Rattle.cc_pieces.proofs.AheadSteps.{AllTook, aheads-idle, aheads-since, none-more, took-more, took-ran}
@@ -27,8 +33,10 @@ use Rattle.cc_queue.specs.Places.{PlaceState}
 use Rattle.cc_turns.specs.Standing.{Standing}
 use Rattle.cc_run.specs.Aheads.{MayStep, StepsLeft, StepsMade, step_lines}
 use Rattle.cc_run.specs.Desks.{IsReady}
+use Rattle.cc_run.specs.Lines.{IsCaller, LinesEnd}
 use Rattle.cc_run.specs.declared.aheads.Aheads.{Aheads}
 use Rattle.cc_run.proofs.Acting.{full-at}
+use Rattle.cc_run.proofs.LinesRan.{idle-lines}
 use Rattle.cc_run.proofs.PlacesWent.{placed-idle, placed-on, placed-since, placed-then}
 
 -- with little room, where others have little under way at most
@@ -222,3 +230,21 @@ desk-stepped w0 w1 phase was now new acts made =
     let setup : w1.setup ≡ w0.setup = ap (λ w. w.setup) acts in
     let seen : w1.seen ≡ w0.seen = ap (λ w. w.seen) acts in
     rw (setup, seen) at made
+
+-- steps behind the lines and the ticks of a phase on a desk, whose callers are not the worker, are those of the phase from its begin on
+pub steps-behind : (u v x : Standing) (phase : ℕ) (was at now : Aheads) (bounds : ℕ → List Bound) (bindings : ℕ → List Binding) (lines : List ActionLine) (before after : List LineReply) (old middle new newer newest : List Entry) (rows : List NamesState) → v.setup ≡ u.setup → x.setup ≡ v.setup → middle ≡ old → at ≡ was → AllByRecursion (λ line. IsCaller line.caller) lines → LinesEnd v bounds bindings lines before after middle new rows → ((me : ℕ) → me ≢ lazy_writer → IsIdle me new newer) → StepsMade x.setup phase at.each at now newer newest → StepsMade u.setup phase was.each was now old newest
+steps-behind u v x phase was at now bounds bindings lines before after old middle new newer newest rows setup same entries steps callers ended alone made =
+    let lines_idle = idle-lines v.setup read_ahead_worker bindings lines ended.served.answers middle new (omega arith) callers ended.served.left in
+    let idle = idle-then read_ahead_worker middle new newer lines_idle (alone read_ahead_worker (λ e. omega (arith, e))) in
+    let all : StepsMade x.setup phase at.each at now middle newest = steps-since x.setup phase at.each at now middle newer newest idle made in
+    rw (same, setup, entries, steps) at all
+
+-- what the steps of a phase did at the worker's place, behind those of the phases before
+pub steps-placed : (u : Setup) (phase count : ℕ) (first : PlaceState Request) (was now : Aheads) (old between new : List Entry) → PlaceWent read_ahead_worker (step_lines was.answers.items) first was.place old between → StepsMade u phase count was now between new → PlaceWent read_ahead_worker (step_lines now.answers.items) first now.place old new
+steps-placed u phase count first was now old between new went made =
+    subst (λ l. PlaceWent read_ahead_worker (step_lines l) first now.place old new) (sym made.grew)
+    (subst (λ l. PlaceWent read_ahead_worker l first now.place old new) (sym (map-append (λ (one : LineReply). (action.AheadStep, one.answer)) was.answers.items made.answers))
+    (placed-then read_ahead_worker (step_lines was.answers.items) (step_lines made.answers) first was.place now.place old between new went made.placed))
+
+pub none-placed : (place : PlaceState Request) (answers : List LineReply) (past : List Entry) → answers ≡ [] → PlaceWent read_ahead_worker (step_lines answers) place place past past
+none-placed place answers past none = rw none (placed-idle read_ahead_worker place past past (idle-none read_ahead_worker past))
