@@ -29,4 +29,5 @@ pub mod TicksRan
 pub mod PlacesWent
 pub mod StepsRan
 pub mod Working
+pub mod Queued
 pub mod Untold

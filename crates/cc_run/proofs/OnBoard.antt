@@ -121,7 +121,7 @@ asked-phase phase me (line ∷ lines) (reply ∷ replies) those =
     by true = refl
     by false = refl
 
-below-or : (n k : ℕ) → (n < k) ⊎ (k ≤ n)
+pub below-or : (n k : ℕ) → (n < k) ⊎ (k ≤ n)
 below-or n zero = inr (omega arith)
 below-or zero (suc k) = inl (omega arith)
 below-or (suc n) (suc k) = elim (below-or n k) [ inl below ↦ inl (omega (arith, below)) | inr above ↦ inr (omega (arith, above)) ]
@@ -140,7 +140,7 @@ past-workers n above lazy ahead = by (below-or 16 n) (below-or 17 n)
     by (inl more) (inr less) = absurd (ahead (omega (arith, more, less)))
 
 -- no line of a phase is of a number that no caller has
-of_none : (phase me : ℕ) (lines : List ActionLine) → ((line : ActionLine) → IsCaller line.caller → line.caller ≢ me) → AllByRecursion (λ line. IsCaller line.caller) lines → AllByRecursion (λ line. is_of_phase phase me line ≡ false) lines
+pub of_none : (phase me : ℕ) (lines : List ActionLine) → ((line : ActionLine) → IsCaller line.caller → line.caller ≢ me) → AllByRecursion (λ line. IsCaller line.caller) lines → AllByRecursion (λ line. is_of_phase phase me line ≡ false) lines
 of_none phase me [] apart callers = tt
 of_none phase me (line ∷ lines) apart callers = (rw (ne_eqb line.caller me (apart line callers.0)) refl, of_none phase me lines apart callers.1)
 

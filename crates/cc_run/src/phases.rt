@@ -73,6 +73,7 @@ pub(crate) fn serve_phases<
         result.2.place.taken desk.last.entries result.0.last.entries }
     ensures placed { PlacesRan lines.now replies.old.items replies.new.items names.items result.1.items
         desk.last.entries result.0.last.entries }
+    ensures counted { length result.1.items ≡ 16 }
     ensures stepped { PlaceWent 18 (step_lines result.2.answers.items) aheads.place result.2.place
         desk.last.entries result.0.last.entries }
     ensures run { IsSameRun (standing_of D.told D.faults L.told L.faults desk)

@@ -129,3 +129,6 @@ returns-clause-placed g c =
 
 pub returns-clause-stepped : goal.returns-clause-stepped
 returns-clause-stepped g c = c.loop-phase.invariant.stepped
+
+pub returns-clause-counted : goal.returns-clause-counted
+returns-clause-counted g c = c.loop-phase.invariant.so_far.stand.counted
