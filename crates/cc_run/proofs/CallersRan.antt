@@ -290,7 +290,7 @@ all-ran-last tells board lines (c ∷ callers) (e ∷ ended) caller one ran last
 
 -- the places of all but the last, and that of the last, are of the queue
 pub own-parts : {D L Q : Type 0} (queue : TableId) (callers front : List (Caller D L Q)) (last : Caller D L Q) → callers ≡ front ++ last ∷ [] → AllByRecursion (λ (caller : Caller D L Q). caller.names.place.queue ≡ queue) callers → AllByRecursion (λ (caller : Caller D L Q). caller.names.place.queue ≡ queue) front × (last.names.place.queue ≡ queue)
-own-parts {D} {L} {Q} queue callers front last is own =
+own-parts {D = D} {L = L} {Q = Q} queue callers front last is own =
     let Own : Caller D L Q → Type 0 = λ caller. caller.names.place.queue ≡ queue in
     let all : AllByRecursion Own (front ++ last ∷ []) = subst (AllByRecursion Own) is own in
     (all-front Own front (last ∷ []) all, (all-back Own front (last ∷ []) all).0)

@@ -105,14 +105,19 @@ places-more lines answers line reply was rows k names now old between new long i
         let last : PlaceWent (suc n) ((line.action, reply.answer) ∷ []) names.place b.place between new =
         subst (λ (c : NamesState). PlaceWent (suc n) ((line.action, reply.answer) ∷ []) names.place c.place between new) b_is
         (subst (λ me. PlaceWent me ((line.action, reply.answer) ∷ []) names.place now.place between new) own one) in
-        rw (asked-append (λ line. line.caller == suc n) lines (line ∷ []) answers (reply ∷ []) long, asked-own (suc n) line reply own)
+        let shape : asked_by (suc n) (lines ++ line ∷ []) (answers ++ reply ∷ []) ≡ asked_by (suc n) lines answers ++ (line.action, reply.answer) ∷ [] =
+        asked-append (λ line. line.caller == suc n) lines (line ∷ []) answers (reply ∷ []) long ∙ ap (λ l. asked_by (suc n) lines answers ++ l) (asked-own (suc n) line reply own) in
+        subst (λ l. PlaceWent (suc n) l a.place b.place old new) (sym shape)
         (placed-then (suc n) (asked_by (suc n) lines answers) ((line.action, reply.answer) ∷ []) a.place names.place b.place old between new before last)
     by n a b first second false which =
         let away : k ≢ n = eqb-false k n which in
         let apart : line.caller ≢ suc n = λ e. away (omega (arith, is, e)) in
         let before : PlaceWent (suc n) (asked_by (suc n) lines answers) a.place b.place old between =
         so.each n a b first (put-other rows k n now b away second) in
-        rw (asked-append (λ line. line.caller == suc n) lines (line ∷ []) answers (reply ∷ []) long, asked-other (suc n) line reply apart, append-nil (asked_by (suc n) lines answers))
+        let shape : asked_by (suc n) (lines ++ line ∷ []) (answers ++ reply ∷ []) ≡ asked_by (suc n) lines answers =
+        asked-append (λ line. line.caller == suc n) lines (line ∷ []) answers (reply ∷ []) long
+        ∙ (ap (λ l. asked_by (suc n) lines answers ++ l) (asked-other (suc n) line reply apart) ∙ append-nil (asked_by (suc n) lines answers)) in
+        subst (λ l. PlaceWent (suc n) l a.place b.place old new) (sym shape)
         (placed-on (suc n) (asked_by (suc n) lines answers) a.place b.place old between new before (alone (suc n) (λ e. apart (sym e))))
 
 -- lines after lines
@@ -120,7 +125,7 @@ pub places-then : (first rest : List ActionLine) (told answers : List LineReply)
 places-then first rest told answers was mid now old between new long rows one two = record {
   each = λ n a b at there_now.
       let here = there mid n (omega (arith, slice_get_within was n a at, rows)) in
-      rw (asked-append (λ line. line.caller == suc n) first rest told answers long)
+      subst (λ l. PlaceWent (suc n) l a.place b.place old new) (sym (asked-append (λ line. line.caller == suc n) first rest told answers long))
       (placed-then (suc n) (asked_by (suc n) first told) (asked_by (suc n) rest answers) a.place here.0.place b.place old between new
       (one.each n a here.0 at here.1) (two.each n here.0 b here.1 there_now));
 }

@@ -37,7 +37,7 @@ use Rattle.cc_pieces.proofs.AskedLines.{asked-none}
 use Rattle.cc_pieces.proofs.PlaceSteps.{PlaceTold, place-idle, place-other, place-then, queued, untouched}
 use Rattle.cc_queue.specs.Places.{PlaceState, new_place}
 use Rattle.cc_run.specs.Aheads.{step_lines}
-use Rattle.cc_run.specs.Lines.{IsCaller, StreamsLeft, StreamsOpened, asked_by, given_of, run_answered}
+use Rattle.cc_run.specs.Lines.{IsCaller, StreamsLeft, StreamsOpened, after_lines, asked_by, given_of, run_answered}
 use Rattle.cc_run.specs.Once.{AllTellPart, AreToldOnce, TellsPart}
 use Rattle.cc_run.specs.Phases.{PhasesLeft, PhasesServed}
 use Rattle.cc_run.specs.Places.{AreQueued, PlacesRan, or_rest, place_at, taken_at}
@@ -117,7 +117,7 @@ phases-idle u ticks aheads (suc n) me lines replies ticked stepped taken old new
     let all : AllByRecursion (λ line. IsCaller line.caller) (left.0 ++ left.1) = subst (AllByRecursion (λ line. IsCaller line.caller)) left.11 callers in
     let limit = room_limit ticks aheads (is_alone (suc n) left.1) in
     let none = asked-none (is_of_phase (suc n) me) left.1 left.3 (of_none (suc n) me left.1 apart (all-back (λ line. IsCaller line.caller) left.0 left.1 all)) in
-    let last : IsIdle me left.10 new = subst (λ l. Ran u limit me _ l left.10 new) none (left.18.ran me lazy ahead) in
+    let last : IsIdle me left.10 new = subst (λ l. Ran u limit me (after_lines left.0 left.2 (λ me. []) me) l left.10 new) none (left.18.ran me lazy ahead) in
     idle-then me old left.10 new
     (phases-idle u ticks aheads n me left.0 left.2 left.4 left.6 left.8 old left.10 lazy ahead apart (all-front (λ line. IsCaller line.caller) left.0 left.1 all) left.16)
     last
@@ -184,49 +184,49 @@ steps-ask (reply ∷ stepped) = steps-ask stepped
 
 -- ---- the places of all passes
 
-module _ (now : List NamesState) (lazy worker : PlaceState Request) where
-  abbrev pub all_places : List NamesState → List (PlaceState Request)
-  all_places rows = map (λ (own : NamesState). own.place) rows ++ lazy ∷ worker ∷ []
+-- those of the callers, of the lazy writer and of the read-ahead worker
+abbrev pub all_places : List NamesState → PlaceState Request → PlaceState Request → List (PlaceState Request)
+all_places rows lazy worker = map (λ (own : NamesState). own.place) rows ++ lazy ∷ worker ∷ []
 
-  caller-place : (rows : List NamesState) (n : ℕ) (own : NamesState) → slice_get rows n ≡ Some own → slice_get (all_places rows) n ≡ Some own.place
-  caller-place [] n own at = absurd (cc at)
-  caller-place (row ∷ rows) zero own at =
-      let is : row ≡ own = cc at in
-      ap (λ (c : NamesState). Some c.place) is
-  caller-place (row ∷ rows) (suc n) own at = caller-place rows n own at
+caller-place : (rows : List NamesState) (lazy worker : PlaceState Request) (n : ℕ) (own : NamesState) → slice_get rows n ≡ Some own → slice_get (all_places rows lazy worker) n ≡ Some own.place
+caller-place [] lazy worker n own at = absurd (cc at)
+caller-place (row ∷ rows) lazy worker zero own at =
+    let is : row ≡ own = cc at in
+    ap (λ (c : NamesState). Some c.place) is
+caller-place (row ∷ rows) lazy worker (suc n) own at = caller-place rows lazy worker n own at
 
-  behind-place : (rows : List NamesState) (n k : ℕ) → n ≡ length rows + k → slice_get (all_places rows) n ≡ slice_get (lazy ∷ worker ∷ []) k
-  behind-place [] n k is =
-      let same : n ≡ k = omega (arith, is) in
-      ap (slice_get (lazy ∷ worker ∷ [])) same
-  behind-place (row ∷ rows) zero k is = absurd (omega (arith, is))
-  behind-place (row ∷ rows) (suc n) k is = behind-place rows n k (omega (arith, is))
+behind-place : (rows : List NamesState) (lazy worker : PlaceState Request) (n k : ℕ) → n ≡ length rows + k → slice_get (all_places rows lazy worker) n ≡ slice_get (lazy ∷ worker ∷ []) k
+behind-place [] lazy worker n k is =
+    let same : n ≡ k = omega (arith, is) in
+    ap (slice_get (lazy ∷ worker ∷ [])) same
+behind-place (row ∷ rows) lazy worker zero k is = absurd (omega (arith, is))
+behind-place (row ∷ rows) lazy worker (suc n) k is = behind-place rows lazy worker n k (omega (arith, is))
 
-  module _ (sixteen : length now ≡ 16) where
-    pub all-long : length (all_places now) ≡ 18
-    all-long = omega (arith, length-append (map (λ (own : NamesState). own.place) now) (lazy ∷ worker ∷ []), length-map now (λ (own : NamesState). own.place), sixteen)
+past-both : (lazy worker : PlaceState Request) (k : ℕ) → 2 ≤ k → or_rest (slice_get (lazy ∷ worker ∷ []) k) ≡ untouched
+past-both lazy worker zero least = absurd (omega (arith, least))
+past-both lazy worker (suc zero) least = absurd (omega (arith, least))
+past-both lazy worker (suc (suc k)) least = refl
 
-    lazy-at : place_at (all_places now) lazy_writer ≡ hand_of lazy
-    lazy-at = ap or_rest (behind-place now 16 0 (omega (arith, sixteen)))
+module _ (rows : List NamesState) (lazy worker : PlaceState Request) (sixteen : length rows ≡ 16) where
+  pub all-long : length (all_places rows lazy worker) ≡ 18
+  all-long =
+      omega (arith, length-append (map (λ (own : NamesState). own.place) rows) (lazy ∷ worker ∷ []), length-map rows (λ (own : NamesState). own.place), sixteen)
 
-    worker-at : place_at (all_places now) read_ahead_worker ≡ hand_of worker
-    worker-at = ap or_rest (behind-place now 17 1 (omega (arith, sixteen)))
+  own-at : (n : ℕ) (own : NamesState) → slice_get rows n ≡ Some own → place_at (all_places rows lazy worker) (suc n) ≡ hand_of own.place
+  own-at n own at = ap or_rest (caller-place rows lazy worker n own at)
 
-    none-at : (n : ℕ) → 18 ≤ n → place_at (all_places now) (suc n) ≡ untouched
-    none-at n above =
-        let last : (k : ℕ) → 2 ≤ k → or_rest (slice_get (lazy ∷ worker ∷ []) k) ≡ untouched = λ k least. past-both k least in
-        ap or_rest (behind-place now n (n - 16) (omega (arith, sixteen, above))) ∙ last (n - 16) (omega (arith, above))
-      where
-        past-both : (k : ℕ) → 2 ≤ k → or_rest (slice_get (lazy ∷ worker ∷ []) k) ≡ untouched
-        past-both zero least = absurd (omega (arith, least))
-        past-both (suc zero) least = absurd (omega (arith, least))
-        past-both (suc (suc k)) least = refl
+  lazy-at : place_at (all_places rows lazy worker) lazy_writer ≡ hand_of lazy
+  lazy-at = ap or_rest (behind-place rows lazy worker 16 0 (omega (arith, sixteen)))
 
-    own-at : (n : ℕ) (own : NamesState) → slice_get now n ≡ Some own → place_at (all_places now) (suc n) ≡ hand_of own.place
-    own-at n own at = ap or_rest (caller-place now n own at)
+  worker-at : place_at (all_places rows lazy worker) read_ahead_worker ≡ hand_of worker
+  worker-at = ap or_rest (behind-place rows lazy worker 17 1 (omega (arith, sixteen)))
 
-    pub taken-is : taken_at (all_places now) ≡ worker.taken
-    taken-is = ap (λ p. p.taken) worker-at
+  none-at : (n : ℕ) → 18 ≤ n → place_at (all_places rows lazy worker) (suc n) ≡ untouched
+  none-at n above =
+      ap or_rest (behind-place rows lazy worker n (n - 16) (omega (arith, sixteen, above))) ∙ past-both lazy worker (n - 16) (omega (arith, above))
+
+  pub taken-is : taken_at (all_places rows lazy worker) ≡ worker.taken
+  taken-is = ap (λ p. p.taken) worker-at
 
 -- a new place is untouched
 fresh-at : (queue : TableId) (rows : List NamesState) (n : ℕ) (own : NamesState) → AllByRecursion (λ (own : NamesState). own.place ≡ new_place queue) rows → slice_get rows n ≡ Some own → hand_of own.place ≡ untouched
@@ -246,7 +246,7 @@ module _ (u v : Setup) (script : Script) (between replies kept ticked stepped : 
   told = run_answered kept ticked stepped
 
   abbrev places : List (PlaceState Request)
-  places = all_places now lazy worker now
+  places = all_places now lazy worker
 
   callers : AllByRecursion (λ line. IsCaller line.caller) script.lines
   callers = all-map (IsLineWithin script.streams script.phases) (λ line. IsCaller line.caller) script.lines (λ line is. record { first = is.first_caller; last = is.last_caller }) within.lines
@@ -267,13 +267,14 @@ module _ (u v : Setup) (script : Script) (between replies kept ticked stepped : 
   abbrev apart_from : ℕ → Type 0
   apart_from me = (line : ActionLine) → IsCaller line.caller → line.caller ≢ me
 
+  steps-other : (me : ℕ) → me ≢ read_ahead_worker → steps_told given told me ≡ answers_to is_step (lines_told given told me)
+  steps-other me other = rw (ne_eqb me read_ahead_worker other) refl
+
   no-lines : (me : ℕ) → me ≢ read_ahead_worker → apart_from me → PlaceRan me [] untouched (place_at places me) [] past → PlaceTold given told me (place_at places me) past
   no-lines me other apart ran = record {
     lines = [];
     ran = ran;
-    steps =
-        let none : answers_to is_step (lines_told given told me) ≡ [] = ap (answers_to is_step) (lines-none me apart) in
-        rw (ne_eqb me read_ahead_worker other) (sym none);
+    steps = sym (steps-other me other ∙ ap (answers_to is_step) (lines-none me apart));
     asks = sym (ap (answers_to is_ask) (lines-none me apart));
     few_steps = omega arith;
     few_asks = omega arith;
@@ -301,8 +302,8 @@ module _ (u v : Setup) (script : Script) (between replies kept ticked stepped : 
       let asked = few-asked own script.lines served.answers in
       record {
         lines = lines;
-        ran = rw (own-at now lazy worker sixteen n b.0 b.1) ran;
-        steps = rw (ne_eqb (suc n) read_ahead_worker (λ e. omega (arith, e, low))) (sym (part-tells is_step own script.lines served.answers (drop (length script.streams) kept) refl part));
+        ran = subst (λ p. PlaceRan (suc n) lines untouched p [] past) (sym (own-at now lazy worker sixteen n b.0 b.1)) ran;
+        steps = sym (steps-other (suc n) (λ e. omega (arith, e, low)) ∙ part-tells is_step own script.lines served.answers (drop (length script.streams) kept) refl part);
         asks = sym (part-tells is_ask own script.lines served.answers (drop (length script.streams) kept) refl part);
         few_steps = omega (arith, few-answers is_step lines, asked, within.few_lines);
         few_asks = omega (arith, few-answers is_ask lines, asked, within.few_lines);
@@ -312,7 +313,7 @@ module _ (u v : Setup) (script : Script) (between replies kept ticked stepped : 
   lazy-told : PlaceTold given told lazy_writer (place_at places lazy_writer) past
   lazy-told =
       no-lines lazy_writer (λ e. omega (arith, e)) (λ line caller same. omega (arith, caller.last, same))
-      (rw (lazy-at now lazy worker sixteen, fresh_lazy) (place-then lazy_writer [] [] untouched untouched untouched [] begun past (place-idle lazy_writer untouched [] begun (alone lazy_writer (λ e. omega (arith, e))))
+      (subst (λ p. PlaceRan lazy_writer [] untouched p [] past) (sym (lazy-at now lazy worker sixteen ∙ ap hand_of fresh_lazy)) (place-then lazy_writer [] [] untouched untouched untouched [] begun past (place-idle lazy_writer untouched [] begun (alone lazy_writer (λ e. omega (arith, e))))
       (lazy-placed v script.ticks script.aheads script.phases script.lines served.answers ticked stepped took untouched begun past served.left)))
 
   -- the read-ahead worker, whose steps are its lines
@@ -327,7 +328,7 @@ module _ (u v : Setup) (script : Script) (between replies kept ticked stepped : 
       let long : length (step_lines stepped) ≡ length stepped = length-map stepped (λ (one : LineReply). (action.AheadStep, one.answer)) in
       record {
         lines = step_lines stepped;
-        ran = rw (worker-at now lazy worker sixteen) ran;
+        ran = subst (λ p. PlaceRan read_ahead_worker (step_lines stepped) untouched p [] past) (sym (worker-at now lazy worker sixteen)) ran;
         steps = steps-answered stepped;
         asks = steps-ask stepped ∙ sym (ap (answers_to is_ask) none);
         few_steps = omega (arith, few-answers is_step (step_lines stepped), long, few, most);
@@ -339,7 +340,7 @@ module _ (u v : Setup) (script : Script) (between replies kept ticked stepped : 
   other-told n above =
       let apart : apart_from (suc n) = λ line caller same. omega (arith, caller.last, same, above) in
       no-lines (suc n) (λ e. omega (arith, e, above)) apart
-      (rw (none-at now lazy worker sixteen n above) (place-idle (suc n) untouched [] past
+      (subst (λ p. PlaceRan (suc n) [] untouched p [] past) (sym (none-at now lazy worker sixteen n above)) (place-idle (suc n) untouched [] past
       (idle-then (suc n) [] begun past (alone (suc n) (λ e. omega (arith, e)))
       (phases-idle v script.ticks script.aheads script.phases (suc n) script.lines served.answers ticked stepped took begun past (λ e. omega (arith, e, above)) (λ e. omega (arith, e, above)) apart callers served.left))))
 
