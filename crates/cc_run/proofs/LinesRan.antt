@@ -3,7 +3,7 @@ use Rattle.std.specs.declared.option.Option.TheVariants.{Some}
 use Rattle.std.specs.Prelude.{◌≡◌, ◌≢◌, ℕ, zero, suc, ◌<◌, ◌≤◌, ◌==◌, ◌&&◌, Bool, true, false, List, [], ◌∷◌, ◌++◌, length, map, slice_get, slice_set, refl, if◌then◌else◌}
 use Rattle.std.specs.List.{AllByRecursion}
 use Rattle.std.proofs.Common.{sym, ap, subst, ◌∙◌, arith, append_assoc, get_or}
-use Rattle.std.proofs.lemmas.Bool.{eqb-true, eqb-false, eq-eqb}
+use Rattle.std.proofs.lemmas.Bool.{eqb-true, eqb-false, eq-eqb, ne_eqb}
 use Rattle.std.proofs.lemmas.List.{length-map}
 use Rattle.std.proofs.lemmas.Option.{slice_get_within}
 use Rattle.cc_entry.specs.declared.error.CcError.TheVariants as error
@@ -243,3 +243,8 @@ phase-ends u v phase ticks aheads bounds bindings lines before between after old
       };
       stand = rw streams at (stand-on v.setup v.streams (bound_by lines bounds) (after_lines lines served.answers bindings) new newer rows good alone ended.stand);
     }
+
+-- no line of a phase is of a number that no caller has
+pub of_none : (phase me : ℕ) (lines : List ActionLine) → ((line : ActionLine) → IsCaller line.caller → line.caller ≢ me) → AllByRecursion (λ line. IsCaller line.caller) lines → AllByRecursion (λ line. is_of_phase phase me line ≡ false) lines
+of_none phase me [] apart callers = tt
+of_none phase me (line ∷ lines) apart callers = (rw (ne_eqb line.caller me (apart line callers.0)) refl, of_none phase me lines apart callers.1)

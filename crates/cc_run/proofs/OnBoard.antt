@@ -51,7 +51,8 @@ use Rattle.cc_run.specs.declared.ticks.Ticks.{Ticks}
 use Rattle.cc_run.specs.declared.workers.Stepper.{Stepper}
 use Rattle.cc_run.specs.declared.workers.Worker.{Worker}
 use Rattle.cc_run.proofs.CallersRan.{all-ran-long}
-use Rattle.cc_run.proofs.Lists.{mapped-at, there}
+use Rattle.cc_run.proofs.LinesRan.{of_none}
+use Rattle.cc_run.proofs.Lists.{below-or, mapped-at, there}
 use Rattle.cc_lines.proofs.NamesKept.{names-keep}
 use Rattle.cc_run.proofs.RowSteps.{reverse_twice}
 use Rattle.cc_run.proofs.PlacesWent.{own-at, placed-on, places-ran}
@@ -121,11 +122,6 @@ asked-phase phase me (line ∷ lines) (reply ∷ replies) those =
     by true = refl
     by false = refl
 
-pub below-or : (n k : ℕ) → (n < k) ⊎ (k ≤ n)
-below-or n zero = inr (omega arith)
-below-or zero (suc k) = inl (omega arith)
-below-or (suc n) (suc k) = elim (below-or n k) [ inl below ↦ inl (omega (arith, below)) | inr above ↦ inr (omega (arith, above)) ]
-
 -- an item is contained behind another
 behind-first : {A : Type 0} (y : A) (xs : List A) (x : A) → Contains xs x → Contains (y ∷ xs) x
 behind-first y xs x there = (suc there.0, omega (arith, there.1), there.2)
@@ -138,11 +134,6 @@ past-workers n above lazy ahead = by (below-or 16 n) (below-or 17 n)
     by (inr less) second = absurd (lazy (omega (arith, above, less)))
     by (inl more) (inl beyond) = omega (arith, beyond)
     by (inl more) (inr less) = absurd (ahead (omega (arith, more, less)))
-
--- no line of a phase is of a number that no caller has
-pub of_none : (phase me : ℕ) (lines : List ActionLine) → ((line : ActionLine) → IsCaller line.caller → line.caller ≢ me) → AllByRecursion (λ line. IsCaller line.caller) lines → AllByRecursion (λ line. is_of_phase phase me line ≡ false) lines
-of_none phase me [] apart callers = tt
-of_none phase me (line ∷ lines) apart callers = (rw (ne_eqb line.caller me (apart line callers.0)) refl, of_none phase me lines apart callers.1)
 
 -- ---- callers
 

@@ -41,8 +41,8 @@ use Rattle.cc_run.specs.Lines.{IsCaller, StreamsLeft, StreamsOpened, after_lines
 use Rattle.cc_run.specs.Once.{AllTellPart, AreToldOnce, TellsPart}
 use Rattle.cc_run.specs.Phases.{PhasesLeft, PhasesServed}
 use Rattle.cc_run.specs.Places.{AreQueued, PlacesRan, or_rest, place_at, taken_at}
-use Rattle.cc_run.proofs.Lists.{all-back, all-front, all-map, there}
-use Rattle.cc_run.proofs.OnBoard.{below-or, of_none}
+use Rattle.cc_run.proofs.LinesRan.{of_none}
+use Rattle.cc_run.proofs.Lists.{all-back, all-front, all-map, below-or, there}
 use Rattle.cc_run.proofs.PhaseSteps.{phases-steps}
 use Rattle.cc_run.proofs.PlacesWent.{placed-since}
 use Rattle.cc_run.proofs.ToldOnce.{told-parts}
