@@ -545,7 +545,11 @@ module _ {D L Q : Type 0} (told : D → Option Disk) (faults : D → ℕ) (log_t
                       let went = e.ran_so.placed in
                       let own : PlaceWent (suc n) (asked_own (suc n) lines e.one.answers.items) e.caller.names.place e.one.names.place desk.last.entries e.one.pass.knows.seen =
                       rw (e.number_is, e.seen_is) at went in
-                      rw (told, a_is, b_is) (placed-on (suc n) (asked_own (suc n) lines e.one.answers.items) e.caller.names.place e.one.names.place desk.last.entries e.one.pass.knows.seen now.last.entries own (idle-caller n e))
+                      let own_lines = asked_own (suc n) lines e.one.answers.items in
+                      subst (λ l. PlaceWent (suc n) l a.place b.place desk.last.entries now.last.entries) (sym told)
+                      (subst (λ (row : NamesState). PlaceWent (suc n) own_lines row.place b.place desk.last.entries now.last.entries) (sym a_is)
+                      (subst (λ (row : NamesState). PlaceWent (suc n) own_lines e.caller.names.place row.place desk.last.entries now.last.entries) (sym b_is)
+                      (placed-on (suc n) own_lines e.caller.names.place e.one.names.place desk.last.entries e.one.pass.knows.seen now.last.entries own (idle-caller n e))))
 
               module _ (names : List NamesState) (names_back : names ≡ reverse joined_names) (good : IsGood (standing_of told faults log_told log_faults now).setup now.last.entries) (before after : List LineReply) (bounds : ℕ → List Bound) (bindings : ℕ → List Binding) (are : AllByRecursion (λ line. IsCaller line.caller) lines) (those : AllByRecursion (λ line. line.phase ≡ phase) lines) (merged : Merged lines answers before after) (stand : AllStand (length desk.begun.disks) desk.last.entries bounds bindings was) (right : (me : ℕ) → AreUsedRight me (bounds me) lines) where
                 abbrev asked : ℕ → List (Action × Answer)
