@@ -67,13 +67,13 @@ serve_lines-requires-clause-own g c κs within = elim c.if-runs_beside.branch [
 ]
 
 pub serve_steps-requires-clause-own : goal.serve_steps-requires-clause-own
-serve_steps-requires-clause-own g c κs within = elim c.if-runs_beside.branch [
+serve_steps-requires-clause-own g c = elim c.if-runs_beside.branch [
   | then-runs_beside+in-Err w ↦ rw (w.aheads-is, w.in-Err.ensures.kept_aheads) c.requires.own_place
   | else-runs_beside w ↦ rw w.aheads-is c.requires.own_place
 ]
 
 pub serve_steps-requires-clause-room : goal.serve_steps-requires-clause-room
-serve_steps-requires-clause-room g c κs within = elim c.if-runs_beside.branch [
+serve_steps-requires-clause-room g c = elim c.if-runs_beside.branch [
   | then-runs_beside+in-Err w ↦ rw (w.aheads-is, w.in-Err.ensures.kept_aheads) c.requires.step_room
   | else-runs_beside w ↦ rw w.aheads-is c.requires.step_room
 ]

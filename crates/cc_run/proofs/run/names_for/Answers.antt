@@ -47,7 +47,7 @@ loop-caller-preserved c =
     }
 
 pub split-own-requires : goal.split-own-requires
-split-own-requires c = ap (λ p. p.queue) c.loop-caller.invariant.same ∙ c.requires.own
+split-own-requires c = record { own = ap (λ p. p.queue) c.loop-caller.invariant.same ∙ c.requires.own }
 
 pub returns-clause-words : goal.returns-clause-words
 returns-clause-words c =
