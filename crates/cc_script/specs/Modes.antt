@@ -31,6 +31,7 @@ verb_modes verb.Read = RunAlone
 verb_modes verb.Write = RunAlone
 verb_modes verb.Update = RunAlone
 verb_modes verb.Levels = RunAlone
+verb_modes verb.Settle = RunAlone
 verb_modes verb.AskAhead = RunAlone
 verb_modes verb.AheadStep = RunAlone
 verb_modes verb.Tick = RunAlone
@@ -53,6 +54,7 @@ action_modes (action.Read _ _ _ _) = RunAlone
 action_modes (action.Write _ _ _) = RunAlone
 action_modes (action.Update _ _ _) = RunAlone
 action_modes (action.Levels _) = RunAlone
+action_modes (action.Settle _) = RunAlone
 action_modes (action.AskAhead _ _ _) = RunAlone
 action_modes action.AheadStep = RunAlone
 action_modes action.Tick = RunAlone
@@ -68,8 +70,8 @@ action_modes action.Scan = StepsAlone
 action_modes other = Both
 
 -- Whether an action is a call of the cache, which may fail by a fault of its caller. A line of the shim is a list of calls,
--- a tick writes pages by steps of its own, read-ahead has a queue that only a run has, and the levels of a view index are
--- read without an entry.
+-- so is the settling of a stream, a tick writes pages by steps of its own, read-ahead has a queue that only a run has, and the
+-- levels of a view index are read without an entry.
 abbrev pub is_call : Action → Bool
 is_call (action.Append _ _) = false
 is_call (action.LogFlush _ _) = false
@@ -86,6 +88,7 @@ is_call (action.Read _ _ _ _) = false
 is_call (action.Write _ _ _) = false
 is_call (action.Update _ _ _) = false
 is_call (action.Levels _) = false
+is_call (action.Settle _) = false
 is_call (action.Defer _ _ _) = false
 is_call action.Post = false
 is_call other = true
