@@ -161,6 +161,8 @@ module _ (u : Setup) (n : ℕ) (handles : HasHandles u) where
     refused = λ it nth s e past plain sound all. tt;
     begun = λ file page past on sound all. on;
     ended = λ file page end past on sound all. on;
+    recorded = λ file size valid end past on sound all. on;
+    synced = λ file end past on sound all. on;
     out = λ file page past on sound all. on;
     scanned = λ picked past sound all. tt;
     appended = λ handle lsn bytes past sound all. tt;

@@ -2,6 +2,7 @@ pub mod ShimSteps
 pub mod Grown
 pub mod ShimLines
 pub mod ThrottleSteps
+pub mod SettleSteps
 pub mod LineSteps
 pub mod PlainReads
 pub mod PlainPages
