@@ -8,6 +8,7 @@ use Rattle.cc_script.specs.declared.script.Mode.TheVariants as mode
 use Rattle.cc_script.specs.declared.script.Action.{Action}
 use Rattle.cc_script.specs.declared.script.Action.TheVariants as action
 use Rattle.cc_script.specs.declared.script.ActionLine.{ActionLine}
+use Rattle.cc_script.specs.declared.script.StreamLine.{StreamLine}
 use Rattle.cc_script.specs.declared.script.Script.{Script}
 
 -- in which modes something stands
@@ -98,6 +99,11 @@ pub record IsLineOf (m : Mode) (line : ActionLine) : Type 0 where
   pub in_mode : stands (action_modes line.action) m ≡ true
   pub fails : line.fails ≡ true → (m ≡ mode.Steps) × (is_call line.action ≡ true)
 
+-- a stream of a mode: in steps none is opened with its record
+abbrev pub IsStreamOf : Mode → StreamLine → Type 0
+IsStreamOf mode.Run stream = Unit {0}
+IsStreamOf mode.Steps stream = stream.stored ≡ false
+
 -- steps has one phase
 abbrev pub HasPhases : Mode → ℕ → Type 0
 HasPhases mode.Run phases = Unit {0}
@@ -105,5 +111,6 @@ HasPhases mode.Steps phases = phases ≡ 1
 
 -- a script of a mode
 pub record IsOfMode (m : Mode) (script : Script) : Type 0 where
+  pub streams : AllByRecursion (IsStreamOf m) script.streams
   pub lines : AllByRecursion (IsLineOf m) script.lines
   pub phases : HasPhases m script.phases

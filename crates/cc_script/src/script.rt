@@ -31,6 +31,8 @@ pub struct StreamLine {
     pub quota: Quota,
     pub temporary: bool,
     pub log: Option<u8>,
+    /// Whether the stream is opened with the sizes of its record, where its disk has one.
+    pub stored: bool,
 }
 
 /// The streams of a script, at most 16.
