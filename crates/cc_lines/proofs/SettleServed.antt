@@ -79,7 +79,7 @@ module _ (u : Setup) (me id : ℕ) (file : File) where
       unchanged-then me id old is.stated new (state-unchanged (outcome.Done (reply.State is.told)) old is.stated is.state)
       (unchanged-then me id is.stated is.begun new (unchanged-idle me id is.stated is.begun is.idle) (flush-unchanged (outcome.Failed e) is.begun new is.flush))
 
-  settle-unchanged : (answered : Result FileState CcError) (old new : List Entry) → SettleLeft u me file answered old new → IsUnchanged me id old new
+  pub settle-unchanged : (answered : Result FileState CcError) (old new : List Entry) → SettleLeft u me file answered old new → IsUnchanged me id old new
   settle-unchanged (Ok state) old new is =
       unchanged-then me id old is.flushed new (flushed-unchanged is.told is.begun old is.flushed is.has_flushed)
       (synced-unchanged _ state.sizes.size state.sizes.valid how.Good is.flushed new is.recorded)

@@ -37,7 +37,7 @@ use Rattle.cc_effects.specs.Repins.{UnpinLeft}
 use Rattle.cc_model.specs.Passes.{HasSeen, is_mine, is_same_page}
 use Rattle.cc_script.specs.declared.script.ReadPath.{ReadPath}
 use Rattle.cc_vacb.specs.Levels.{levels_of}
-use Rattle.cc_records.specs.Left.{RecordStopped, SettleLeft, SyncedSome, WroteSome}
+use Rattle.cc_records.specs.Left.{LoadLeft, RecordStopped, SettleLeft, SyncedSome, WroteSome}
 use Rattle.cc_pieces.specs.Answered.{AppendAnswered, CallAnswered, LevelsAnswered, LogFlushAnswered, DeferAnswered, PostsAnswered, PostsRefused, NcReadAnswered, NcWriteAnswered, SettleAnswered, TickAnswered, AheadAnswered}
 use Rattle.cc_pieces.specs.Bindings.{Binding, OnHold, hold_named}
 use Rattle.cc_pieces.specs.Faultless.{shows_fault, tells_fault}
@@ -334,7 +334,14 @@ stopped-none me s first (error.WriteFault page) old new left none = by left.1
     by (inr synced) = absurd (synced-shown me s first old new synced none)
 stopped-none me s first other old new left none = absurd left
 
-settle-none : (u : Setup) (me : ℕ) (file : File) (e : CcError) (old new : List Entry) → SettleLeft u me file (Err e) old new → ShowsNone new → is_fault e ≡ false
+-- nor is a read of a record that shows no failure told one
+pub load-none : {A : Type 0} (me s : ℕ) (e : CcError) (old new : List Entry) → LoadLeft {A = A} me s (Err e) old new → ShowsNone new → is_fault e ≡ false
+load-none me s (error.ReadFault page) old new left none = absurd (only-not-shown me (entry.RecordFailed me s) old new left.1 none refl)
+load-none me s (error.JournalFull entries) old new left none = refl
+load-none me s error.NoMemory old new left none = refl
+load-none me s other old new left none = absurd left
+
+pub settle-none : (u : Setup) (me : ℕ) (file : File) (e : CcError) (old new : List Entry) → SettleLeft u me file (Err e) old new → ShowsNone new → is_fault e ≡ false
 settle-none u me file e old new (inl left) none = failed-tells-none u me (call.State file) e old new left none
 settle-none u me file e old new (inr (inl is)) none = failed-tells-none u me (call.Flush file None) e is.begun new is.flush none
 settle-none u me file e old new (inr (inr is)) none = stopped-none me file.stream _ e is.flushed new is.stopped none

@@ -70,7 +70,7 @@ walked-entry Stays me e old stays = record { during = e ∷ []; grew = refl; eac
 walked-others : (Stays : List Entry → Entry → Type 0) (me : ℕ) (later old : List Entry) → Others me later → Walked Stays me old (later ++ old)
 walked-others Stays me later old others = record { during = later; grew = refl; each = each-others me Stays later old others }
 
-walked-only : (Stays : List Entry → Entry → Type 0) (me : ℕ) (e : Entry) (old new : List Entry) → PlacedOnly me e old new → ((past : List Entry) → Stays past e) → Walked Stays me old new
+pub walked-only : (Stays : List Entry → Entry → Type 0) (me : ℕ) (e : Entry) (old new : List Entry) → PlacedOnly me e old new → ((past : List Entry) → Stays past e) → Walked Stays me old new
 walked-only Stays me e old new only stays =
     subst (Walked Stays me old) (sym only.grew)
     (walked-then Stays me old (only.earlier ++ old) _ (walked-others Stays me only.earlier old only.quiet_before)
