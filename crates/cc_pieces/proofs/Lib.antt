@@ -16,6 +16,7 @@ pub mod TickSteps
 pub mod AheadSteps
 pub mod PlaceSteps
 pub mod RunStreams
+pub mod Unrecorded
 pub mod Faultless
 pub mod RunFaultless
 pub mod SteppedStreams
