@@ -24,7 +24,7 @@ use Rattle.cc_model.specs.Setup.{Setup}
 use Rattle.cc_pieces.specs.Bindings.{Binding}
 use Rattle.cc_pieces.specs.Explained.{Answered, Given, IsExplained, answered_lines}
 use Rattle.cc_pieces.specs.Faultless.{tells_fault}
-use Rattle.cc_pieces.specs.Openings.{LoggedOpening, MigrationLeft, Opened, RecordedOpening, StreamOpening, first_object_of, opening_call}
+use Rattle.cc_pieces.specs.Openings.{LoggedOpening, MigrationLeft, Opened, RecordedOpening, StreamOpening, first_object_of, opening_call, recorded_call}
 use Rattle.cc_pieces.specs.Phases.{PhasesRan, Plan, is_of_phase, lazy_writer, lines_in, read_ahead_worker}
 use Rattle.cc_pieces.specs.Runs.{Ran, asked_of}
 use Rattle.cc_pieces.specs.Served.{bindings_after}
@@ -78,9 +78,9 @@ module _ (u : Setup) (n : ℕ) (handles : HasHandles u) where
   migration-none s other old new left none = absurd left
 
   recorded-none : (s : ℕ) (stream : StreamLine) (read : Option StreamRecord) (told : Answer) (old new : List Entry) → RecordedOpening u s stream read told old new → ShowsNone new → tells_fault told ≡ false
-  recorded-none s stream None told old new opened none = logged-none s _ stream.log told old new opened none
-  recorded-none s stream (Some (V2 size valid)) told old new opened none = logged-none s _ stream.log told old new opened none
-  recorded-none s stream (Some (V1 size)) told old new (inl refused) none = logged-none s _ stream.log told old new refused.2 none
+  recorded-none s stream None told old new opened none = logged-none s (recorded_call s stream None) stream.log told old new opened none
+  recorded-none s stream (Some (V2 size valid)) told old new opened none = logged-none s (recorded_call s stream (Some (V2 size valid))) stream.log told old new opened none
+  recorded-none s stream (Some (V1 size)) told old new (inl refused) none = logged-none s (recorded_call s stream (Some (V1 size))) stream.log told old new refused.2 none
   recorded-none s stream (Some (V1 size)) told old new (inr done) none = migration-none s told done.0 new done.2 none
 
   opening-none : (s : ℕ) (stream : StreamLine) (stored : Bool) (told : Answer) (old new : List Entry) → StreamOpening u s stream stored told old new → ShowsNone new → tells_fault told ≡ false

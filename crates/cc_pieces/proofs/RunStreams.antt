@@ -26,7 +26,7 @@ use Rattle.cc_model.specs.Setup.{Setup}
 use Rattle.cc_effects.specs.Moments.{EachOwn, IsIdle}
 use Rattle.cc_pieces.specs.Bindings.{Binding}
 use Rattle.cc_pieces.specs.Explained.{Answered, Given, IsExplained}
-use Rattle.cc_pieces.specs.Openings.{LoggedOpening, MigrationLeft, Opened, RecordedOpening, StreamOpening, first_object_of, opening_call}
+use Rattle.cc_pieces.specs.Openings.{LoggedOpening, MigrationLeft, Opened, RecordedOpening, StreamOpening, first_object_of, opening_call, recorded_call}
 use Rattle.cc_pieces.specs.Phases.{PhaseRan, PhasesRan, Plan, is_of_phase, lazy_writer, lines_in, read_ahead_worker}
 use Rattle.cc_pieces.specs.Runs.{Ran, asked_of}
 use Rattle.cc_pieces.specs.Served.{bindings_after}
@@ -96,11 +96,11 @@ module _ (u : Setup) (n : ℕ) (handles : HasHandles u) where
   left-migration s other old new low left = absurd left
 
   left-recorded : (s : ℕ) (stream : StreamLine) (read : Option StreamRecord) (told : Answer) (old new : List Entry) → s < n → RecordedOpening u s stream read told old new → IsLeft u n 0 old new
-  left-recorded s stream None told old new low opened = left-logged s _ stream.log told old new low low opened
-  left-recorded s stream (Some (V2 size valid)) told old new low opened = left-logged s _ stream.log told old new low low opened
-  left-recorded s stream (Some (V1 size)) told old new low (inl refused) = left-logged s _ stream.log told old new low low refused.2
+  left-recorded s stream None told old new low opened = left-logged s (recorded_call s stream None) stream.log told old new low low opened
+  left-recorded s stream (Some (V2 size valid)) told old new low opened = left-logged s (recorded_call s stream (Some (V2 size valid))) stream.log told old new low low opened
+  left-recorded s stream (Some (V1 size)) told old new low (inl refused) = left-logged s (recorded_call s stream (Some (V1 size))) stream.log told old new low low refused.2
   left-recorded s stream (Some (V1 size)) told old new low (inr done) =
-      left-then u n 0 old done.0 new (left-logged s _ stream.log (answer.Given reply.Unit) old done.0 low low done.1)
+      left-then u n 0 old done.0 new (left-logged s (recorded_call s stream (Some (V1 size))) stream.log (answer.Given reply.Unit) old done.0 low low done.1)
       (left-migration s told done.0 new low done.2)
 
   left-opening : (s : ℕ) (stream : StreamLine) (stored : Bool) (told : Answer) (old new : List Entry) → s < n → StreamOpening u s stream stored told old new → IsLeft u n 0 old new

@@ -29,7 +29,7 @@ use Rattle.cc_effects.specs.Places.{MayPlace}
 use Rattle.cc_effects.proofs.Stretches.{each-implies}
 use Rattle.cc_records.specs.Left.{LoadLeft}
 use Rattle.cc_pieces.specs.Answered.{CallAnswered}
-use Rattle.cc_pieces.specs.Openings.{LoggedOpening, MigrationLeft, Opened, RecordedOpening, StreamOpening, first_object_of, is_record_of, opening_call}
+use Rattle.cc_pieces.specs.Openings.{LoggedOpening, MigrationLeft, Opened, RecordedOpening, StreamOpening, first_object_of, is_record_of, opening_call, recorded_call}
 use Rattle.cc_pieces.proofs.Walks.{Keeps, Walked, walk-answered, walk-call, walk-settle, walked-idle, walked-only, walked-then}
 
 -- an entry is no write of the record of a stream
@@ -94,11 +94,11 @@ module _ (u : Setup) (t : ℕ) where
     migration-unwritten other old new left = absurd left
 
     recorded-unwritten : (stream : StreamLine) (read : Option StreamRecord) (told : Answer) (old new : List Entry) → RecordedOpening u s stream read told old new → Unwritten old new
-    recorded-unwritten stream None told old new opened = logged-unwritten s _ stream.log told old new opened
-    recorded-unwritten stream (Some (V2 size valid)) told old new opened = logged-unwritten s _ stream.log told old new opened
-    recorded-unwritten stream (Some (V1 size)) told old new (inl refused) = logged-unwritten s _ stream.log told old new refused.2
+    recorded-unwritten stream None told old new opened = logged-unwritten s (recorded_call s stream None) stream.log told old new opened
+    recorded-unwritten stream (Some (V2 size valid)) told old new opened = logged-unwritten s (recorded_call s stream (Some (V2 size valid))) stream.log told old new opened
+    recorded-unwritten stream (Some (V1 size)) told old new (inl refused) = logged-unwritten s (recorded_call s stream (Some (V1 size))) stream.log told old new refused.2
     recorded-unwritten stream (Some (V1 size)) told old new (inr done) =
-        walked-then (IsUnrecorded t) 0 old done.0 new (logged-unwritten s _ stream.log (answer.Given reply.Unit) old done.0 done.1) (migration-unwritten told done.0 new done.2)
+        walked-then (IsUnrecorded t) 0 old done.0 new (logged-unwritten s (recorded_call s stream (Some (V1 size))) stream.log (answer.Given reply.Unit) old done.0 done.1) (migration-unwritten told done.0 new done.2)
 
     opening-unwritten : (stream : StreamLine) (stored : Bool) (told : Answer) (old new : List Entry) → StreamOpening u s stream stored told old new → Unwritten old new
     opening-unwritten stream false told old new opened = logged-unwritten s (opening_call s stream) stream.log told old new opened

@@ -49,6 +49,10 @@ opening_sizes stream None = said_sizes stream
 opening_sizes stream (Some told) =
     record { allocation = recorded_size told; size = recorded_size told; valid = recorded_valid told }
 
+-- the stream is initialised with those
+abbrev pub recorded_call : ℕ → StreamLine → Option StreamRecord → Call
+recorded_call s stream read = opening_with s stream (opening_sizes stream read)
+
 -- A stream is opened by this call, with such a log, or none. The answer is that of the first call that is refused, else that of
 -- the last.
 abbrev pub LoggedOpening : Setup → ℕ → Call → Option ℕ → Answer → Between
@@ -83,12 +87,12 @@ abbrev pub RecordedOpening : Setup → ℕ → StreamLine → Option StreamRecor
 RecordedOpening u s stream (Some (V1 size)) told old new =
     ((e : CcError)
     × (told ≡ answer.Refused e)
-    × LoggedOpening u s (opening_with s stream (opening_sizes stream (Some (V1 size)))) stream.log told old new)
+    × LoggedOpening u s (recorded_call s stream (Some (V1 size))) stream.log told old new)
     ⊎ ((opened : List Entry)
-    × LoggedOpening u s (opening_with s stream (opening_sizes stream (Some (V1 size)))) stream.log (answer.Given reply.Unit) old opened
+    × LoggedOpening u s (recorded_call s stream (Some (V1 size))) stream.log (answer.Given reply.Unit) old opened
     × MigrationLeft u s told opened new)
 RecordedOpening u s stream read told old new =
-    LoggedOpening u s (opening_with s stream (opening_sizes stream read)) stream.log told old new
+    LoggedOpening u s (recorded_call s stream read) stream.log told old new
 
 -- The record of a stream was read, and then its other calls were made.
 pub record IsLoaded (u : Setup) (s : ℕ) (stream : StreamLine) (told : Answer) (old new : List Entry) : Type 0 where
