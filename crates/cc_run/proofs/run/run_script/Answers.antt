@@ -9,6 +9,7 @@ use Rattle.cc_turns.specs.Desk.{disk_at_first, log_at_first}
 use Rattle.cc_run.specs.Disks.{DisksStand}
 use Rattle.cc_run.specs.Lines.{given_of, run_answered}
 use Rattle.cc_run.specs.Logs.{LogsStand}
+use Rattle.cc_run.specs.Places.{taken_at}
 use Rattle.cc_run.proofs.RowSteps.{reverse_twice}
 use Rattle.cc_run.proofs.RunSteps.{setup-is, enough-disks, enough-posts}
 use Rattle.cc_run.proofs.DiskSteps.{disks-left}
@@ -74,7 +75,8 @@ returns-in-Ok-new-clause-ran g c =
     record {
       good = subst (λ u. IsGood u past) setup c.run_on-replies.ensures.good;
       within = subst (λ n. IsWithinCapacity n past) (ap (λ b. b.capacity) c.in-Ok-new.ensures.fresh.begun_is) c.run_on-replies.ensures.within;
-      explained = subst (λ u. IsExplained u (given_of c.args.script.now) (run_answered c.run_on-replies.result.replies.items c.run_on-replies.result.ticks.items) [] past) setup c.run_on-replies.ensures.explained;
+      explained = subst (λ u. IsExplained u (given_of c.args.script.now) (run_answered c.run_on-replies.result.replies.items c.run_on-replies.result.ticks.items c.run_on-replies.result.aheads.items) (taken_at c.run_on-replies.result.places.items) past) setup c.run_on-replies.ensures.explained;
+      queued = c.run_on-replies.ensures.queued;
       ticked = c.run_on-replies.ensures.ticked;
       table = c.run_on-replies.ensures.table;
       disks_left =
