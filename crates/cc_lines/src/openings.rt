@@ -1,7 +1,7 @@
 //! The line of a stream, which opens the stream before the first action, over any turns.
 
 ghost use Rattle.std.specs.Prelude.{◌≡◌, ◌<◌, Some, true};
-ghost use Rattle.cc_pieces.specs.Openings.{LoggedOpening, MigrationLeft, RecordedOpening, StreamOpening, opening_sizes, opening_with, said_sizes};
+ghost use Rattle.cc_pieces.specs.Openings.{LoggedOpening, MigrationLeft, RecordedOpening, StreamOpening, opening_with, said_sizes};
 ghost use Rattle.cc_format.specs.declared.record.StreamRecord.TheVariants.{V1};
 ghost use Rattle.cc_turns.specs.Disk.{opening_of};
 ghost use Rattle.cc_calls.specs.Answers.{CanCall};
