@@ -110,3 +110,18 @@ returns-in-Err-clause-kept g c =
     ∙ (ap (λ l. l ++ reverse c.first_of.new.row.items) c.in-Ok-first_of.ensures.first
     ∙ (ap (λ l. take 16 c.args.disks.items ++ l) (ap reverse c.in-Ok-first_of.ensures.left ∙ reverse_twice (drop 16 c.args.disks.items))
     ∙ take-append-drop 16 c.args.disks.items)))
+
+pub returns-in_default-first_of-2-clause-kept : goal.returns-in_default-first_of-2-clause-kept
+returns-in_default-first_of-2-clause-kept g c =
+    c.put_back.ensures
+    ∙ (ap (λ l. l ++ reverse c.first_of.new.row.items) c.in-Ok-first_of.ensures.first
+    ∙ (ap (λ l. take 16 c.args.disks.items ++ l) (ap reverse c.in-Ok-first_of.ensures.left ∙ reverse_twice (drop 16 c.args.disks.items))
+    ∙ take-append-drop 16 c.args.disks.items))
+
+pub returns-in-Err-clause-logs_kept : goal.returns-in-Err-clause-logs_kept
+returns-in-Err-clause-logs_kept g c =
+    c.put_back-in-Err-2.ensures
+    ∙ (ap (λ s. s.logs.items ++ reverse c.first_of-2.new.row.items) c.in-Err.ensures.err.0
+    ∙ (ap (λ l. l ++ reverse c.first_of-2.new.row.items) c.in-Ok-first_of-2.ensures.first
+    ∙ (ap (λ l. take 4 c.args.logs.items ++ l) (ap reverse c.in-Ok-first_of-2.ensures.left ∙ reverse_twice (drop 4 c.args.logs.items))
+    ∙ take-append-drop 4 c.args.logs.items)))
