@@ -16,7 +16,7 @@ fn wrong_line(answer: Result<Script, ScriptFault>) -> Option<u32> {
 }
 
 /// Scripts, each with its first wrong line.
-const SCRIPTS: [(&str, u32); 107] = [
+const SCRIPTS: [(&str, u32); 112] = [
     ("", 0),
     ("# a comment\n\n  \n\r\n  stream   a  8192 8192  \r", 0),
     (" # no comment", 1),
@@ -190,7 +190,7 @@ const SCRIPTS: [(&str, u32); 107] = [
 ];
 
 /// Scripts of steps, each with its first wrong line.
-const STEPS: [(&str, u32); 36] = [
+const STEPS: [(&str, u32); 37] = [
     (
         "stream a 8192 8192\nfill a 0\nt16 fill a 2251799813685247\nout a 0\nt2 begin a 1\nend a 1\nt3 sync a\nt2 scan\nscan",
         0,
