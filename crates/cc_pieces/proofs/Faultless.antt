@@ -24,6 +24,7 @@ use Rattle.cc_entry.specs.declared.reply.Outcome.TheVariants as outcome
 use Rattle.cc_entry.specs.declared.reply.Reply.TheVariants as reply
 use Rattle.cc_script.specs.declared.script.Action.{Action}
 use Rattle.cc_script.specs.declared.script.Action.TheVariants as action
+use Rattle.cc_format.specs.declared.record.StreamRecord.{StreamRecord}
 use Rattle.cc_model.specs.Allowed.{is_fault}
 use Rattle.cc_model.specs.Faults.{Fault, fault_of, is_failed}
 use Rattle.cc_model.specs.Holds.{range_held}
@@ -335,7 +336,7 @@ stopped-none me s first (error.WriteFault page) old new left none = by left.1
 stopped-none me s first other old new left none = absurd left
 
 -- nor is a read of a record that shows no failure told one
-pub load-none : {A : Type 0} (me s : ℕ) (e : CcError) (old new : List Entry) → LoadLeft {A = A} me s (Err e) old new → ShowsNone new → is_fault e ≡ false
+pub load-none : (me s : ℕ) (e : CcError) (old new : List Entry) → LoadLeft {A = Option StreamRecord} me s (Err e) old new → ShowsNone new → is_fault e ≡ false
 load-none me s (error.ReadFault page) old new left none = absurd (only-not-shown me (entry.RecordFailed me s) old new left.1 none refl)
 load-none me s (error.JournalFull entries) old new left none = refl
 load-none me s error.NoMemory old new left none = refl
