@@ -1,5 +1,5 @@
 -- The read-ahead steps of a phase: one more of them, others before and behind them, and what they did at the worker's place.
-use Rattle.std.specs.Prelude.{◌≡◌, ◌≢◌, ℕ, zero, suc, ◌+◌, ◌<◌, ◌≤◌, Bool, true, false, List, [], ◌∷◌, ◌++◌, length, map, vec_capacity, refl, ◌⊎◌}
+use Rattle.std.specs.Prelude.{◌≡◌, ◌≢◌, ℕ, ◌+◌, ◌≤◌, true, false, List, [], ◌∷◌, ◌++◌, length, vec_capacity, refl}
 use Rattle.std.specs.declared.option.Option.{Option}
 use Rattle.std.specs.declared.option.Option.TheVariants.{Some, None}
 use Rattle.std.specs.List.{AllByRecursion}
@@ -8,13 +8,10 @@ use Rattle.std.proofs.lemmas.List.{append-nil, length-append, map-append}
 use Rattle.cc_entry.specs.declared.answer.Answer.{Answer}
 use Rattle.cc_entry.specs.declared.answer.Answer.TheVariants as answer
 use Rattle.cc_entry.specs.declared.answer.LineReply.{LineReply}
-use Rattle.cc_entry.specs.declared.call.Call.TheVariants as call
 use Rattle.cc_entry.specs.declared.entry.Entry.{Entry}
-use Rattle.cc_entry.specs.declared.error.CcError.{CcError}
 use Rattle.cc_entry.specs.declared.error.CcError.TheVariants as error
 use Rattle.cc_entry.specs.declared.place.Request.{Request}
 use Rattle.cc_script.specs.declared.bound.Bound.{Bound}
-use Rattle.cc_script.specs.declared.script.Action.{Action}
 use Rattle.cc_script.specs.declared.script.Action.TheVariants as action
 use Rattle.cc_script.specs.declared.script.ActionLine.{ActionLine}
 use Rattle.cc_model.specs.Setup.{Setup}
@@ -31,7 +28,7 @@ use Rattle.cc_pieces.proofs.AheadSteps.{AllTook, aheads-idle, aheads-since, none
 use Rattle.cc_pieces.proofs.PlaceSteps.{place-stepped}
 use Rattle.cc_queue.specs.Places.{PlaceState}
 use Rattle.cc_turns.specs.Standing.{Standing}
-use Rattle.cc_run.specs.Aheads.{MayStep, StepsLeft, StepsMade, step_lines}
+use Rattle.cc_run.specs.Aheads.{MayStep, StepsMade, step_lines}
 use Rattle.cc_run.specs.Desks.{IsReady}
 use Rattle.cc_run.specs.Lines.{IsCaller, LinesEnd}
 use Rattle.cc_run.specs.declared.aheads.Aheads.{Aheads}

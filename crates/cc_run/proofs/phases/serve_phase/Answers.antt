@@ -1,6 +1,6 @@
 -- By the way that was gone: on threads, or by the desk, whose lines find it as it was where no thread could be made, and whose
 -- ticks and read-ahead steps follow them.
-use Rattle.std.proofs.Common.{rules, ◌≡◌, ◌∙◌, ◌++◌, ℕ, List, drop, length, map, take, sym, ap, subst, arith}
+use Rattle.std.proofs.Common.{◌≡◌, ◌∙◌, ◌++◌, ℕ, List, drop, length, map, take, ap, subst, arith}
 use Rattle.std.specs.Prelude.{◌≢◌, vec_capacity, vec_len}
 use Rattle.std.proofs.lemmas.List.{length-map, take_at}
 use Rattle.cc_effects.specs.Moments.{IsIdle}

@@ -1,6 +1,6 @@
 -- One place more of a caller: the last of the names that are left, which stand turned round.
-use Rattle.std.proofs.Common.{◌≡◌, ◌∙◌, ◌++◌, ◌∷◌, [], List, length, map, reverse, sym, ap, arith, append_assoc}
-use Rattle.std.proofs.lemmas.List.{append-nil, length-append, length-reverse, map-append}
+use Rattle.std.proofs.Common.{◌∙◌, ◌++◌, ◌∷◌, [], length, map, reverse, sym, ap, arith, append_assoc}
+use Rattle.std.proofs.lemmas.List.{length-reverse}
 use Rattle.cc_lines.specs.Holds.{NamesState}
 use Rattle.cc_run.proofs.RowSteps.{last_first, longer, reverse_twice}
 use Rattle.cc_run.proofs.run.all_places.Goals as goal

@@ -1,5 +1,5 @@
 -- The places of the callers that were taken out, which are those from the first on.
-use Rattle.std.proofs.Common.{◌≡◌, ◌++◌, ◌+◌, ◌≤◌, List, length, map, reverse}
+use Rattle.std.proofs.Common.{◌≡◌, ◌++◌, ◌+◌, ◌≤◌, length, map, reverse}
 use Rattle.std.specs.Prelude.{vec_capacity}
 use Rattle.cc_run.proofs.run.all_places.Given as goal
 

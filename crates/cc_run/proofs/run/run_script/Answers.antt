@@ -1,7 +1,7 @@
 -- The first disks and logs are the run's; behind the run they go back in front of the others, where there is room.
 use Rattle.std.proofs.Common.{◌++◌, ◌∙◌, length, take, drop, reverse, refl, ap, subst, arith}
 use Rattle.std.proofs.lemmas.List.{length-take, length-append, length-reverse, take-append-drop}
-use Rattle.std.specs.Prelude.{[], slice_get}
+use Rattle.std.specs.Prelude.{slice_get}
 use Rattle.cc_journal.specs.Capacity.{IsWithinCapacity}
 use Rattle.cc_model.specs.Good.{IsGood}
 use Rattle.cc_pieces.specs.Explained.{IsExplained}
