@@ -37,6 +37,7 @@ use Rattle.cc_effects.specs.Repins.{UnpinLeft}
 use Rattle.cc_model.specs.Passes.{HasSeen, is_mine, is_same_page}
 use Rattle.cc_script.specs.declared.script.ReadPath.{ReadPath}
 use Rattle.cc_vacb.specs.Levels.{levels_of}
+use Rattle.cc_format.specs.declared.record.StreamRecord.{StreamRecord}
 use Rattle.cc_records.specs.Left.{LoadLeft, RecordStopped, SettleLeft, SyncedSome, WroteSome}
 use Rattle.cc_pieces.specs.Answered.{AppendAnswered, CallAnswered, LevelsAnswered, LogFlushAnswered, DeferAnswered, PostsAnswered, PostsRefused, NcReadAnswered, NcWriteAnswered, SettleAnswered, TickAnswered, AheadAnswered}
 use Rattle.cc_pieces.specs.Bindings.{Binding, OnHold, hold_named}
@@ -335,7 +336,7 @@ stopped-none me s first (error.WriteFault page) old new left none = by left.1
 stopped-none me s first other old new left none = absurd left
 
 -- nor is a read of a record that shows no failure told one
-pub load-none : {A : Type 0} (me s : ℕ) (e : CcError) (old new : List Entry) → LoadLeft {A = A} me s (Err e) old new → ShowsNone new → is_fault e ≡ false
+pub load-none : (me s : ℕ) (e : CcError) (old new : List Entry) → LoadLeft {A = Option StreamRecord} me s (Err e) old new → ShowsNone new → is_fault e ≡ false
 load-none me s (error.ReadFault page) old new left none = absurd (only-not-shown me (entry.RecordFailed me s) old new left.1 none refl)
 load-none me s (error.JournalFull entries) old new left none = refl
 load-none me s error.NoMemory old new left none = refl

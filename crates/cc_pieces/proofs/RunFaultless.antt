@@ -85,7 +85,7 @@ module _ (u : Setup) (n : ℕ) (handles : HasHandles u) where
 
   opening-none : (s : ℕ) (stream : StreamLine) (stored : Bool) (told : Answer) (old new : List Entry) → StreamOpening u s stream stored told old new → ShowsNone new → tells_fault told ≡ false
   opening-none s stream false told old new opened none = logged-none s (opening_call s stream) stream.log told old new opened none
-  opening-none s stream true told old new (inl unread) none = ap tells_fault unread.1 ∙ load-none {A = Option StreamRecord} 0 s unread.0 old new unread.2 none
+  opening-none s stream true told old new (inl unread) none = ap tells_fault unread.1 ∙ load-none 0 s unread.0 old new unread.2 none
   opening-none s stream true told old new (inr is) none = recorded-none s stream is.read told is.loaded new is.opened none
 
   opened-none : (s : ℕ) (streams : List StreamLine) (replies : List LineReply) (old new : List Entry) → s + length streams ≤ n → Opened u s streams replies old new → ShowsNone new → TellNone replies
