@@ -18,7 +18,7 @@ loop-own-preserved c =
     let own = c.in-Some.own in
     record {
       taken =
-          rw c.push_reserved.ensures.items
+          rw (c.push_reserved.ensures.items, c.into_place.ensures)
           (append_assoc c.loop-own.places.items (own.place ∷ []) (map (λ (own : NamesState). own.place) (reverse c.pop.new.self.items))
           ∙ (ap (λ l. c.loop-own.places.items ++ map (λ (own : NamesState). own.place) l) (sym (last_first c.loop-own.names.items c.pop.new.self.items own c.in-Some.ensures.items)) ∙ before.taken));
       counted = omega (arith, longer _ _ _ c.push_reserved.ensures.items, longer _ _ _ c.in-Some.ensures.items, before.counted);
