@@ -24,6 +24,7 @@ use Rattle.cc_entry.specs.declared.reply.Outcome.TheVariants as outcome
 use Rattle.cc_entry.specs.declared.reply.Reply.TheVariants as reply
 use Rattle.cc_script.specs.declared.script.Action.{Action}
 use Rattle.cc_script.specs.declared.script.Action.TheVariants as action
+use Rattle.cc_format.specs.declared.record.StreamRecord.{StreamRecord}
 use Rattle.cc_model.specs.Allowed.{is_fault}
 use Rattle.cc_model.specs.Faults.{Fault, fault_of, is_failed}
 use Rattle.cc_model.specs.Holds.{range_held}
