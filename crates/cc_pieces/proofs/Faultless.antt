@@ -38,7 +38,6 @@ use Rattle.cc_effects.specs.Repins.{UnpinLeft}
 use Rattle.cc_model.specs.Passes.{HasSeen, is_mine, is_same_page}
 use Rattle.cc_script.specs.declared.script.ReadPath.{ReadPath}
 use Rattle.cc_vacb.specs.Levels.{levels_of}
-use Rattle.cc_format.specs.declared.record.StreamRecord.{StreamRecord}
 use Rattle.cc_records.specs.Left.{LoadLeft, RecordStopped, SettleLeft, SyncedSome, WroteSome}
 use Rattle.cc_pieces.specs.Answered.{AppendAnswered, CallAnswered, LevelsAnswered, LogFlushAnswered, DeferAnswered, PostsAnswered, PostsRefused, NcReadAnswered, NcWriteAnswered, SettleAnswered, TickAnswered, AheadAnswered}
 use Rattle.cc_pieces.specs.Bindings.{Binding, OnHold, hold_named}
