@@ -38,7 +38,7 @@ unfolding record_image
 image-first opening [] s none = refl
 image-first opening (entry.Record pass stream size valid how ∷ past) s none =
     let parts = or_parts (stream == s) (list_any (is_record_of s) past) none in
-    rw parts.0 (image-first opening past s parts.1)
+    rw (parts.0, record_image) (image-first opening past s parts.1)
 image-first opening (other ∷ past) s none = image-first opening past s none
 
 -- What is known of the record is what the opening page spells, where the disk told its pages.
