@@ -3,7 +3,7 @@ use Rattle.std.specs.declared.option.Option.TheVariants.{Some}
 use Rattle.std.specs.Prelude.{◌≡◌, ◌≢◌, ℕ, zero, suc, ◌<◌, ◌≤◌, ◌==◌, ◌&&◌, Bool, true, false, List, [], ◌∷◌, ◌++◌, length, map, slice_get, slice_set, refl, if◌then◌else◌}
 use Rattle.std.specs.List.{AllByRecursion}
 use Rattle.std.proofs.Common.{sym, ap, subst, ◌∙◌, arith, append_assoc, get_or}
-use Rattle.std.proofs.lemmas.Bool.{eqb-true, eqb-false, eq-eqb}
+use Rattle.std.proofs.lemmas.Bool.{eqb-true, eqb-false, eq-eqb, ne_eqb}
 use Rattle.std.proofs.lemmas.List.{length-map}
 use Rattle.std.proofs.lemmas.Option.{slice_get_within}
 use Rattle.cc_entry.specs.declared.error.CcError.TheVariants as error
@@ -121,12 +121,12 @@ served-long u bindings lines before after old new served =
     sym (length-map lines (λ line. line.line)) ∙ (sym (ap length (left-lines u bindings lines served.answers old new served.left)) ∙ length-map served.answers (λ reply. reply.line))
 
 -- a row in whose place another was put
-put-same : {A : Type 0} (rows : List A) (k : ℕ) (now one : A) → slice_get (slice_set rows k now) k ≡ Some one → now ≡ one
+pub put-same : {A : Type 0} (rows : List A) (k : ℕ) (now one : A) → slice_get (slice_set rows k now) k ≡ Some one → now ≡ one
 put-same [] k now one at = absurd (cc at)
 put-same (r ∷ rows) zero now one at = cc at
 put-same (r ∷ rows) (suc k) now one at = put-same rows k now one at
 
-put-other : {A : Type 0} (rows : List A) (k n : ℕ) (now one : A) → k ≢ n → slice_get (slice_set rows k now) n ≡ Some one → slice_get rows n ≡ Some one
+pub put-other : {A : Type 0} (rows : List A) (k n : ℕ) (now one : A) → k ≢ n → slice_get (slice_set rows k now) n ≡ Some one → slice_get rows n ≡ Some one
 put-other [] k n now one apart at = absurd (cc at)
 put-other (r ∷ rows) zero zero now one apart at = absurd (apart refl)
 put-other (r ∷ rows) zero (suc n) now one apart at = at
@@ -243,3 +243,8 @@ phase-ends u v phase ticks aheads bounds bindings lines before between after old
       };
       stand = rw streams at (stand-on v.setup v.streams (bound_by lines bounds) (after_lines lines served.answers bindings) new newer rows good alone ended.stand);
     }
+
+-- no line of a phase is of a number that no caller has
+pub of_none : (phase me : ℕ) (lines : List ActionLine) → ((line : ActionLine) → IsCaller line.caller → line.caller ≢ me) → AllByRecursion (λ line. IsCaller line.caller) lines → AllByRecursion (λ line. is_of_phase phase me line ≡ false) lines
+of_none phase me [] apart callers = tt
+of_none phase me (line ∷ lines) apart callers = (rw (ne_eqb line.caller me (apart line callers.0)) refl, of_none phase me lines apart callers.1)

@@ -28,7 +28,9 @@ use Rattle.cc_run.specs.Aheads.{StepsLeft, StepsMade}
 use Rattle.cc_run.specs.Ticks.{TicksLeft, TicksMade}
 use Rattle.cc_run.specs.declared.aheads.Aheads.{Aheads}
 use Rattle.cc_run.specs.declared.ticks.Ticks.{Ticks}
+use Rattle.cc_run.specs.Places.{PlacesRan}
 use Rattle.cc_run.proofs.Lists.{all-back}
+use Rattle.cc_run.proofs.PlacesWent.{PlacesSo, places-none, places-ran, places-so, places-then}
 use Rattle.cc_lines.proofs.NamesKept.{names-none}
 use Rattle.cc_run.proofs.WordSteps.{after-append, bound-append, right-back, right-front, room-rest, words-append}
 
@@ -84,7 +86,7 @@ few-steps : (count : ℕ) (stepped : List LineReply) → (length stepped ≡ cou
 few-steps count stepped (inl all) = omega (arith, all)
 few-steps count stepped (inr some) = some.0
 
-phases-steps : (u : Setup) (ticks aheads n : ℕ) (lines : List ActionLine) (replies ticked stepped : List LineReply) (taken : List Request) (old new : List Entry) → PhasesLeft u ticks aheads n lines replies ticked stepped taken old new → length stepped ≤ aheads * n
+pub phases-steps : (u : Setup) (ticks aheads n : ℕ) (lines : List ActionLine) (replies ticked stepped : List LineReply) (taken : List Request) (old new : List Entry) → PhasesLeft u ticks aheads n lines replies ticked stepped taken old new → length stepped ≤ aheads * n
 phases-steps u ticks aheads zero lines replies ticked stepped taken old new left = omega (arith, ap length left.3, mul-zero aheads)
 phases-steps u ticks aheads (suc n) lines replies ticked stepped taken old new left =
     omega (
@@ -131,18 +133,19 @@ stand-join streams past bounds bindings front now told answers rows same stand =
       rw (bound-append (suc n) (bounds (suc n)) front now, after-append (suc n) bindings front now told answers same) (stand.each n names at);
 }
 
--- The phases before the next one were served; the rest are the lines of that one and of the later ones; and what is kept
--- of the callers' words stands.
+-- The phases before the next one were served; the rest are the lines of that one and of the later ones; what is kept of the
+-- callers' words stands; and this is what the lines did at their callers' places.
 pub record SoFar (u : Setup) (streams ticks aheads next : ℕ) (lines rest : List ActionLine) (before after ticked stepped : List LineReply)
-    (taken : List Request) (old new : List Entry) (rows : List NamesState) : Type 0 where
+    (taken : List Request) (old new : List Entry) (was rows : List NamesState) : Type 0 where
   pub phases : ℕ
   pub next_is : next ≡ suc phases
   pub front : List ActionLine
   pub lines_are : lines ≡ front ++ rest
   pub served : PhasesServed u ticks aheads phases front before after ticked stepped taken old new
   pub stand : AllStand streams new (bound_by front no_bounds) (after_lines front served.answers no_bindings) rows
+  pub placed : PlacesSo front served.answers was rows old new
 
-pub so_far-none : (u : Setup) (streams ticks aheads : ℕ) (lines : List ActionLine) (replies ticked stepped : List LineReply) (taken : List Request) (past : List Entry) (rows : List NamesState) → ticked ≡ [] → stepped ≡ [] → taken ≡ [] → HaveNoWords lines rows → SoFar u streams ticks aheads 1 lines lines replies replies ticked stepped taken past past rows
+pub so_far-none : (u : Setup) (streams ticks aheads : ℕ) (lines : List ActionLine) (replies ticked stepped : List LineReply) (taken : List Request) (past : List Entry) (rows : List NamesState) → ticked ≡ [] → stepped ≡ [] → taken ≡ [] → HaveNoWords lines rows → SoFar u streams ticks aheads 1 lines lines replies replies ticked stepped taken past past rows rows
 so_far-none u streams ticks aheads lines replies ticked stepped taken past rows none no_step none_taken have = record {
   phases = 0;
   next_is = refl;
@@ -150,16 +153,17 @@ so_far-none u streams ticks aheads lines replies ticked stepped taken past rows 
   lines_are = refl;
   served = record { answers = []; grew = sym (append-nil replies); left = (refl, refl, none, no_step, none_taken, refl) };
   stand = stand-none streams past lines rows have;
+  placed = places-none rows past;
 }
 
-module _ (u : Setup) (streams ticks aheads next : ℕ) (lines rest : List ActionLine) (before between ticked stepped : List LineReply) (taken : List Request) (old middle : List Entry) (rows : List NamesState) (so_far : SoFar u streams ticks aheads next lines rest before between ticked stepped taken old middle rows) where
+module _ (u : Setup) (streams ticks aheads next : ℕ) (lines rest : List ActionLine) (before between ticked stepped : List LineReply) (taken : List Request) (old middle : List Entry) (was rows : List NamesState) (so_far : SoFar u streams ticks aheads next lines rest before between ticked stepped taken old middle was rows) where
   abbrev pub bound_there : ℕ → List Bound
   bound_there = bound_by so_far.front no_bounds
 
   abbrev pub named_there : ℕ → List Binding
   named_there = after_lines so_far.front so_far.served.answers no_bindings
 
-  module _ (was : List NamesState) (now later : List ActionLine) (have : HaveNoWords lines was) (parts : rest ≡ now ++ later) where
+  module _ (now later : List ActionLine) (have : HaveNoWords lines was) (parts : rest ≡ now ++ later) where
     lines_parts : lines ≡ so_far.front ++ (now ++ later)
     lines_parts = so_far.lines_are ∙ ap (λ l. so_far.front ++ l) parts
 
@@ -204,8 +208,8 @@ module _ (u : Setup) (streams ticks aheads next : ℕ) (lines rest : List Action
         room,
       )
 
-  pub so_far-more : (was made : Ticks) (was_steps made_steps : Aheads) (now later : List ActionLine) (after : List LineReply) (new : List Entry) (rows_now : List NamesState) → ticked ≡ was.answers.items → stepped ≡ was_steps.answers.items → taken ≡ was_steps.place.taken → rest ≡ now ++ later → AllByRecursion (λ line. line.phase ≡ next) now → PhaseEnds u streams next ticks aheads bound_there named_there now between after middle new rows_now → TicksMade u next ticks was made middle new → StepsMade u next aheads was_steps made_steps middle new → SoFar u streams ticks aheads (next + 1) lines later before after made.answers.items made_steps.answers.items made_steps.place.taken old new rows_now
-  so_far-more was made was_steps made_steps now later after new rows_now ticked_are stepped_are taken_are parts those_next ended ticks_made steps_made =
+  pub so_far-more : (ticks_was ticks_now : Ticks) (was_steps made_steps : Aheads) (now later : List ActionLine) (after : List LineReply) (new : List Entry) (rows_now : List NamesState) → ticked ≡ ticks_was.answers.items → stepped ≡ was_steps.answers.items → taken ≡ was_steps.place.taken → rest ≡ now ++ later → AllByRecursion (λ line. line.phase ≡ next) now → PhaseEnds u streams next ticks aheads bound_there named_there now between after middle new rows_now → TicksMade u next ticks ticks_was ticks_now middle new → StepsMade u next aheads was_steps made_steps middle new → length was ≡ 16 → PlacesRan now between after rows rows_now middle new → SoFar u streams ticks aheads (next + 1) lines later before after ticks_now.answers.items made_steps.answers.items made_steps.place.taken old new was rows_now
+  so_far-more ticks_was ticks_now was_steps made_steps now later after new rows_now ticked_are stepped_are taken_are parts those_next ended ticks_made steps_made sixteen placed_now =
       let those : AllByRecursion (λ line. line.phase ≡ suc so_far.phases) now = rw so_far.next_is at those_next in
       record {
         phases = suc so_far.phases;
@@ -239,10 +243,17 @@ module _ (u : Setup) (streams ticks aheads next : ℕ) (lines rest : List Action
             last_steps,
           );
         };
+        placed = places-then so_far.front now so_far.served.answers ended.served.answers was rows rows_now old middle new answered (so_far.stand.counted ∙ sym sixteen) so_far.placed
+            (places-so now between after ended.served.answers rows rows_now middle new ended.served.grew placed_now);
         stand = stand-join streams new no_bounds no_bindings so_far.front now so_far.served.answers ended.served.answers rows_now
-            (same-long so_far.front so_far.served.answers (phases-lines u ticks aheads so_far.phases so_far.front so_far.served.answers ticked stepped taken old middle so_far.served.left)) ended.stand;
+            answered ended.stand;
       }
     where
+      answered : length so_far.front ≡ length so_far.served.answers
+      answered =
+          same-long so_far.front so_far.served.answers
+          (phases-lines u ticks aheads so_far.phases so_far.front so_far.served.answers ticked stepped taken old middle so_far.served.left)
+
       last : PhaseLeft u (suc so_far.phases) ticks aheads named_there now ended.served.answers middle new
       last = rw so_far.next_is at ended.served.left
 
@@ -256,6 +267,12 @@ module _ (u : Setup) (streams ticks aheads next : ℕ) (lines rest : List Action
   so_far-all phases is none =
       let last : so_far.phases ≡ phases = omega (arith, is, so_far.next_is) in
       rw (so_far.lines_are, none, append-nil so_far.front, ← last) so_far.served
+
+  -- what all lines did at their callers' places
+  pub so_far-placed : rest ≡ [] → PlacesRan lines before between was rows old middle
+  so_far-placed none =
+      rw (so_far.lines_are, none, append-nil so_far.front)
+      (places-ran so_far.front before between so_far.served.answers was rows old middle so_far.served.grew so_far.placed)
 
   -- what is so of each line is so of the rest
   pub so_far-rest : (P : ActionLine → Type 0) → AllByRecursion P lines → AllByRecursion P rest

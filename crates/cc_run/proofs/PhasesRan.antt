@@ -1,7 +1,7 @@
 -- The run of the phases, one after the other, explains all answers.
 use Rattle.std.specs.Prelude.{◌≡◌, ◌≢◌, ℕ, zero, suc, ◌+◌, ◌<◌, ◌≤◌, ◌==◌, ◌&&◌, Bool, true, false, List, [], ◌∷◌, ◌++◌, length, take, drop, refl, if◌then◌else◌}
 use Rattle.std.specs.List.{AllByRecursion, list_all}
-use Rattle.std.proofs.Common.{sym, ap, subst, ◌∙◌, arith, inl, append-nil, append_assoc}
+use Rattle.std.proofs.Common.{sym, ap, subst, ◌∙◌, arith, append-nil, append_assoc}
 use Rattle.std.proofs.lemmas.Bool.{le-ltb, lt-ltb, ne_eqb}
 use Rattle.std.proofs.lemmas.List.{length-append, length-map}
 use Rattle.std.proofs.lemmas.List.Folds.{list_all-append}
@@ -10,11 +10,11 @@ use Rattle.cc_entry.specs.declared.entry.Entry.{Entry}
 use Rattle.cc_entry.specs.declared.place.Request.{Request}
 use Rattle.cc_script.specs.declared.script.ActionLine.{ActionLine}
 use Rattle.cc_script.specs.declared.script.Script.{Script}
-use Rattle.cc_script.specs.Within.{IsLineWithin, IsWithin}
+use Rattle.cc_script.specs.Within.{IsWithin}
 use Rattle.cc_model.specs.Setup.{Setup}
 use Rattle.cc_effects.specs.Moments.{IsIdle}
-use Rattle.cc_pieces.specs.Rooms.{is_alone, room_limit}
-use Rattle.cc_pieces.specs.Runs.{Ran, asked_of}
+use Rattle.cc_pieces.specs.Rooms.{is_alone}
+use Rattle.cc_pieces.specs.Runs.{asked_of}
 use Rattle.cc_pieces.specs.Phases.{Plan, PhaseRan, PhasesRan, is_before_phase, is_of_phase, lines_before}
 use Rattle.cc_pieces.specs.Explained.{IsExplained}
 use Rattle.cc_pieces.proofs.AskedLines.{asked-none}
@@ -23,7 +23,7 @@ use Rattle.cc_run.specs.Once.{AllTellPart, AreToldOnce}
 use Rattle.cc_run.specs.Phases.{PhaseLeft, PhasesLeft, PhasesServed}
 use Rattle.cc_run.specs.Aheads.{StepsLeft}
 use Rattle.cc_run.specs.Ticks.{TicksLeft}
-use Rattle.cc_run.proofs.Lists.{all-map, all-front, all-back, all-join}
+use Rattle.cc_run.proofs.Lists.{all-map, all-join}
 use Rattle.cc_run.proofs.Opening.{opened-left}
 use Rattle.cc_run.proofs.PhaseSteps.{phases-lines, same-long}
 use Rattle.cc_run.proofs.RowSteps.{taken}

@@ -1,34 +1,40 @@
 -- The read-ahead steps of a phase: one more of them, others before and behind them, and what they did at the worker's place.
-use Rattle.std.specs.Prelude.{◌≡◌, ◌≢◌, ℕ, zero, suc, ◌+◌, ◌<◌, ◌≤◌, Bool, true, false, List, [], ◌∷◌, ◌++◌, length, map, vec_capacity, refl, ◌⊎◌}
+use Rattle.std.specs.Prelude.{◌≡◌, ◌≢◌, ℕ, ◌+◌, ◌≤◌, true, false, List, [], ◌∷◌, ◌++◌, length, vec_capacity, refl}
 use Rattle.std.specs.declared.option.Option.{Option}
 use Rattle.std.specs.declared.option.Option.TheVariants.{Some, None}
+use Rattle.std.specs.List.{AllByRecursion}
 use Rattle.std.proofs.Common.{ap, sym, subst, ◌∙◌, arith, append_assoc, inl, inr}
 use Rattle.std.proofs.lemmas.List.{append-nil, length-append, map-append}
 use Rattle.cc_entry.specs.declared.answer.Answer.{Answer}
 use Rattle.cc_entry.specs.declared.answer.Answer.TheVariants as answer
 use Rattle.cc_entry.specs.declared.answer.LineReply.{LineReply}
-use Rattle.cc_entry.specs.declared.call.Call.TheVariants as call
 use Rattle.cc_entry.specs.declared.entry.Entry.{Entry}
-use Rattle.cc_entry.specs.declared.error.CcError.{CcError}
 use Rattle.cc_entry.specs.declared.error.CcError.TheVariants as error
 use Rattle.cc_entry.specs.declared.place.Request.{Request}
+use Rattle.cc_script.specs.declared.bound.Bound.{Bound}
 use Rattle.cc_script.specs.declared.script.Action.TheVariants as action
+use Rattle.cc_script.specs.declared.script.ActionLine.{ActionLine}
 use Rattle.cc_model.specs.Setup.{Setup}
 use Rattle.cc_effects.specs.Moments.{IsIdle}
-use Rattle.cc_effects.proofs.Stretches.{idle-none}
+use Rattle.cc_effects.proofs.Stretches.{idle-none, idle-then}
+use Rattle.cc_lines.specs.Holds.{NamesState}
 use Rattle.cc_lines.specs.Line.{IsFullTold, PlaceWent, StepAt, WentOn, hand_of}
 use Rattle.cc_pieces.specs.Answered.{AheadAnswered}
-use Rattle.cc_pieces.specs.Phases.{EndsWithNone, read_ahead_worker}
-use Rattle.cc_pieces.specs.Queue.{is_none_stepped}
+use Rattle.cc_pieces.specs.Bindings.{Binding}
+use Rattle.cc_pieces.specs.Phases.{EndsWithNone, lazy_writer, read_ahead_worker}
+use Rattle.cc_pieces.specs.Queue.{StepPlaced, is_none_stepped}
 use Rattle.cc_pieces.specs.Rooms.{HadNoRoom}
 use Rattle.cc_pieces.proofs.AheadSteps.{AllTook, aheads-idle, aheads-since, none-more, took-more, took-ran}
-use Rattle.cc_pieces.proofs.PlaceSteps.{place-idle, place-stepped, place-then}
+use Rattle.cc_pieces.proofs.PlaceSteps.{place-stepped}
 use Rattle.cc_queue.specs.Places.{PlaceState}
 use Rattle.cc_turns.specs.Standing.{Standing}
-use Rattle.cc_run.specs.Aheads.{MayStep, StepsLeft, StepsMade, step_lines}
+use Rattle.cc_run.specs.Aheads.{MayStep, StepsMade, step_lines}
 use Rattle.cc_run.specs.Desks.{IsReady}
+use Rattle.cc_run.specs.Lines.{IsCaller, LinesEnd}
 use Rattle.cc_run.specs.declared.aheads.Aheads.{Aheads}
 use Rattle.cc_run.proofs.Acting.{full-at}
+use Rattle.cc_run.proofs.LinesRan.{idle-lines}
+use Rattle.cc_run.proofs.PlacesWent.{placed-idle, placed-on, placed-since, placed-then}
 
 -- with little room, where others have little under way at most
 pub room-stepped : (old new : Standing) (taken : Option Request) (told : Answer) → AheadAnswered old.setup old.number taken told old.seen new.seen → IsFullTold new told → new.others ≤ new.most_others → WentOn old new → old.in_flight ≡ 0 → old.most_others ≤ 28 → HadNoRoom old.setup 32 told old.seen new.seen
@@ -41,25 +47,6 @@ room-stepped old new (Some request) (answer.Refused (error.JournalFull entries))
 room-stepped old new None (answer.Refused e) answered full others went none few = absurd answered
 room-stepped old new taken (answer.NcRefused done cause) answered full others went none few = absurd answered
 room-stepped old new taken other answered full others went none few = tt
-
--- ---- places
-
-pub went-idle : (me : ℕ) (place : PlaceState Request) (old new : List Entry) → IsIdle me old new → PlaceWent me [] place place old new
-went-idle me place old new idle = record { ran = place-idle me (hand_of place) old new idle; queue_is = refl }
-
-pub went-then : (me : ℕ) (first rest : List (Action × Answer)) (was mid now : PlaceState Request) (old between new : List Entry) → PlaceWent me first was mid old between → PlaceWent me rest mid now between new → PlaceWent me (first ++ rest) was now old new
-went-then me first rest was mid now old between new one two = record {
-  ran = place-then me first rest (hand_of was) (hand_of mid) (hand_of now) old between new one.ran two.ran;
-  queue_is = two.queue_is ∙ one.queue_is;
-}
-
--- others go on behind lines, and were there before
-pub went-on-idle : (me : ℕ) (lines : List (Action × Answer)) (was now : PlaceState Request) (old between new : List Entry) → PlaceWent me lines was now old between → IsIdle me between new → PlaceWent me lines was now old new
-went-on-idle me lines was now old between new went idle =
-    subst (λ l. PlaceWent me l was now old new) (append-nil lines) (went-then me lines [] was now now old between new went (went-idle me now between new idle))
-
-pub went-since : (me : ℕ) (lines : List (Action × Answer)) (was now : PlaceState Request) (older old new : List Entry) → IsIdle me older old → PlaceWent me lines was now old new → PlaceWent me lines was now older new
-went-since me lines was now older old new idle went = went-then me [] lines was was now older old new (went-idle me was older old idle) went
 
 -- ---- the steps so far, of which each took a request
 
@@ -82,7 +69,7 @@ took-none u phase aheads past = record {
   took = sym (append-nil aheads.place.taken);
   counted = refl;
   all = (refl, idle-none read_ahead_worker past);
-  placed = went-idle read_ahead_worker aheads.place past past (idle-none read_ahead_worker past);
+  placed = placed-idle read_ahead_worker aheads.place past past (idle-none read_ahead_worker past);
   each_is = refl;
   room_is = refl;
 }
@@ -111,7 +98,7 @@ took-on u phase count was now next reply request old between new so items took e
   all = took-more u 32 phase so.answers so.taken reply request old between new so.all is left room;
   placed =
       subst (λ l. PlaceWent read_ahead_worker l was.place next.place old new) (sym (map-append (λ (one : LineReply). (action.AheadStep, one.answer)) so.answers (reply ∷ [])))
-      (went-then read_ahead_worker (step_lines so.answers) ((action.AheadStep, reply.answer) ∷ []) was.place now.place next.place old between new so.placed went);
+      (placed-then read_ahead_worker (step_lines so.answers) ((action.AheadStep, reply.answer) ∷ []) was.place now.place next.place old between new so.placed went);
   each_is = each ∙ so.each_is;
   room_is = capacity ∙ so.room_is;
 }
@@ -135,10 +122,72 @@ none-made u phase count limit was now next reply old between new so less items t
   };
   placed =
       subst (λ l. PlaceWent read_ahead_worker l was.place next.place old new) (sym (map-append (λ (one : LineReply). (action.AheadStep, one.answer)) so.answers (reply ∷ [])))
-      (went-then read_ahead_worker (step_lines so.answers) ((action.AheadStep, reply.answer) ∷ []) was.place now.place next.place old between new so.placed went);
+      (placed-then read_ahead_worker (step_lines so.answers) ((action.AheadStep, reply.answer) ∷ []) was.place now.place next.place old between new so.placed went);
   each_is = each ∙ so.each_is;
   room_is = capacity ∙ so.room_is;
 }
+
+-- ---- a step more, over any turns
+
+-- a step that does not say that there was no request took one, and one that says so took none
+step-took : (u : Setup) (me : ℕ) (taken : Option Request) (told : Answer) (old new : List Entry) → AheadAnswered u me taken told old new → is_none_stepped told ≡ false → (request : Request) × (taken ≡ Some request)
+step-took u me (Some request) told old new left calm = (request, refl)
+step-took u me None (answer.Stepped None) old new left calm = absurd (cc calm)
+step-took u me None (answer.Stepped (Some done)) old new left calm = absurd left
+step-took u me None (answer.Refused e) old new left calm = absurd left
+step-took u me None other old new left calm = absurd left
+
+step-found : (u : Setup) (me : ℕ) (taken : Option Request) (told : Answer) (old new : List Entry) → AheadAnswered u me taken told old new → is_none_stepped told ≡ true → (taken ≡ None) × (told ≡ answer.Stepped None)
+step-found u me None (answer.Stepped None) old new left is = (refl, refl)
+step-found u me (Some request) (answer.Stepped None) old new left is = absurd left
+step-found u me taken (answer.Stepped (Some done)) old new left is = absurd (cc is)
+step-found u me taken (answer.Refused e) old new left is = absurd (cc is)
+step-found u me taken other old new left is = absurd left
+
+module _ (w between new : Standing) (phase count : ℕ) (was now next : Aheads) (told : Answer) (may : MayStep w) (went : WentOn w between) (one : WentOn between new) (step : StepAt between new told now.place next.place) (full : IsFullTold new told) (few : new.others ≤ new.most_others) (so : TookSo w.setup phase count was now w.seen between.seen) (items : next.answers.items ≡ now.answers.items ++ record { line = phase; answer = told } ∷ []) (each : next.each ≡ now.each) (capacity : vec_capacity next.answers ≡ vec_capacity now.answers) where
+  abbrev reply : LineReply
+  reply = record { line = phase; answer = told }
+
+  number-is : between.number ≡ read_ahead_worker
+  number-is = ap (λ v. v.number) went.same ∙ may.is_worker
+
+  setup-is : between.setup ≡ w.setup
+  setup-is = ap (λ v. v.setup) went.same
+
+  answered-as : AheadAnswered w.setup read_ahead_worker step.taken told between.seen new.seen
+  answered-as =
+      subst (λ me. AheadAnswered w.setup me step.taken told between.seen new.seen) number-is
+      (subst (λ u. AheadAnswered u between.number step.taken told between.seen new.seen) setup-is step.answered)
+
+  room-as : HadNoRoom w.setup 32 told between.seen new.seen
+  room-as =
+      let idle : between.in_flight ≡ 0 = ap (λ v. v.in_flight) went.same ∙ may.free.none in
+      let least : between.most_others ≤ 28 = subst (λ (n : ℕ). n ≤ 28) (sym (ap (λ v. v.most_others) went.same)) may.few in
+      subst (λ u. HadNoRoom u 32 told between.seen new.seen) setup-is (room-stepped between new step.taken told step.answered full few one idle least)
+
+  placed-so : PlaceWent read_ahead_worker ((action.AheadStep, told) ∷ []) now.place next.place between.seen new.seen
+  placed-so =
+      subst (λ me. PlaceWent me ((action.AheadStep, told) ∷ []) now.place next.place between.seen new.seen) number-is
+      (record {
+        ran = place-stepped between.setup between.number (hand_of now.place) (hand_of next.place) between.seen new.seen step.taken told step.answered step.placed;
+        queue_is = step.queue_is;
+      })
+
+  -- it took a request
+  pub step-on : is_none_stepped told ≡ false → TookSo w.setup phase (count + 1) was next w.seen new.seen
+  step-on calm =
+      let some = step-took between.setup between.number step.taken told between.seen new.seen step.answered calm in
+      let placed : StepPlaced (Some some.0) (hand_of now.place) (hand_of next.place) = rw some.1 at step.placed in
+      took-on w.setup phase count was now next reply some.0 w.seen between.seen new.seen so items (ap (λ p. p.taken) placed) each capacity refl
+      (subst (λ taken. AheadAnswered w.setup read_ahead_worker taken told between.seen new.seen) some.1 answered-as) room-as placed-so
+
+  -- it found none
+  pub step-last : (limit : ℕ) → count + 1 ≤ limit → is_none_stepped told ≡ true → StepsMade w.setup phase limit was next w.seen new.seen
+  step-last limit less found =
+      let none = step-found between.setup between.number step.taken told between.seen new.seen step.answered found in
+      let placed : StepPlaced None (hand_of now.place) (hand_of next.place) = rw none.0 at step.placed in
+      none-made w.setup phase count limit was now next reply w.seen between.seen new.seen so less items (ap (λ p. p.taken) placed) each capacity refl none.1
+      (subst (λ taken. AheadAnswered w.setup read_ahead_worker taken told between.seen new.seen) none.0 answered-as) room-as placed-so
 
 -- others go on behind them, and were there before
 pub steps-idle : (u : Setup) (phase count : ℕ) (was now : Aheads) (old between new : List Entry) → StepsMade u phase count was now old between → IsIdle read_ahead_worker between new → StepsMade u phase count was now old new
@@ -148,7 +197,7 @@ steps-idle u phase count was now old between new made idle = record {
   taken = made.taken;
   took = made.took;
   left = record { counted = made.left.counted; ran = aheads-idle u 32 phase made.answers made.taken old between new made.left.ran idle };
-  placed = went-on-idle read_ahead_worker (step_lines made.answers) was.place now.place old between new made.placed idle;
+  placed = placed-on read_ahead_worker (step_lines made.answers) was.place now.place old between new made.placed idle;
   each_is = made.each_is;
   room_is = made.room_is;
 }
@@ -160,7 +209,7 @@ steps-since u phase count was now older old new idle made = record {
   taken = made.taken;
   took = made.took;
   left = record { counted = made.left.counted; ran = aheads-since u 32 phase made.answers made.taken older old new idle made.left.ran };
-  placed = went-since read_ahead_worker (step_lines made.answers) was.place now.place older old new idle made.placed;
+  placed = placed-since read_ahead_worker (step_lines made.answers) was.place now.place older old new idle made.placed;
   each_is = made.each_is;
   room_is = made.room_is;
 }
@@ -178,3 +227,21 @@ desk-stepped w0 w1 phase was now new acts made =
     let setup : w1.setup ≡ w0.setup = ap (λ w. w.setup) acts in
     let seen : w1.seen ≡ w0.seen = ap (λ w. w.seen) acts in
     rw (setup, seen) at made
+
+-- steps behind the lines and the ticks of a phase on a desk, whose callers are not the worker, are those of the phase from its begin on
+pub steps-behind : (u v x : Standing) (phase : ℕ) (was at now : Aheads) (bounds : ℕ → List Bound) (bindings : ℕ → List Binding) (lines : List ActionLine) (before after : List LineReply) (old middle new newer newest : List Entry) (rows : List NamesState) → v.setup ≡ u.setup → x.setup ≡ v.setup → middle ≡ old → at ≡ was → AllByRecursion (λ line. IsCaller line.caller) lines → LinesEnd v bounds bindings lines before after middle new rows → ((me : ℕ) → me ≢ lazy_writer → IsIdle me new newer) → StepsMade x.setup phase at.each at now newer newest → StepsMade u.setup phase was.each was now old newest
+steps-behind u v x phase was at now bounds bindings lines before after old middle new newer newest rows setup same entries steps callers ended alone made =
+    let lines_idle = idle-lines v.setup read_ahead_worker bindings lines ended.served.answers middle new (omega arith) callers ended.served.left in
+    let idle = idle-then read_ahead_worker middle new newer lines_idle (alone read_ahead_worker (λ e. omega (arith, e))) in
+    let all : StepsMade x.setup phase at.each at now middle newest = steps-since x.setup phase at.each at now middle newer newest idle made in
+    rw (same, setup, entries, steps) at all
+
+-- what the steps of a phase did at the worker's place, behind those of the phases before
+pub steps-placed : (u : Setup) (phase count : ℕ) (first : PlaceState Request) (was now : Aheads) (old between new : List Entry) → PlaceWent read_ahead_worker (step_lines was.answers.items) first was.place old between → StepsMade u phase count was now between new → PlaceWent read_ahead_worker (step_lines now.answers.items) first now.place old new
+steps-placed u phase count first was now old between new went made =
+    subst (λ l. PlaceWent read_ahead_worker (step_lines l) first now.place old new) (sym made.grew)
+    (subst (λ l. PlaceWent read_ahead_worker l first now.place old new) (sym (map-append (λ (one : LineReply). (action.AheadStep, one.answer)) was.answers.items made.answers))
+    (placed-then read_ahead_worker (step_lines was.answers.items) (step_lines made.answers) first was.place now.place old between new went made.placed))
+
+pub none-placed : (place : PlaceState Request) (answers : List LineReply) (past : List Entry) → answers ≡ [] → PlaceWent read_ahead_worker (step_lines answers) place place past past
+none-placed place answers past none = rw none (placed-idle read_ahead_worker place past past (idle-none read_ahead_worker past))

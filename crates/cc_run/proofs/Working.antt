@@ -1,14 +1,13 @@
 -- The lazy writer and the read-ahead worker on a board: what their seated passes may do, and what they left.
-use Rattle.std.specs.Prelude.{◌≡◌, ℕ, ◌+◌, ◌≤◌, refl}
+use Rattle.std.specs.Prelude.{◌≡◌, ℕ}
 use Rattle.std.proofs.Common.{sym, ap, subst, ◌∙◌, arith}
 use Rattle.atomic_table.specs.Seated.{TableId}
-use Rattle.cc_pieces.specs.Phases.{lazy_writer, read_ahead_worker}
 use Rattle.cc_turns.specs.Desk.{Tells}
 use Rattle.cc_turns.specs.Slots.{setup_in}
 use Rattle.cc_turns.specs.Standing.{nothing}
 use Rattle.cc_lines.specs.Line.{WentOn}
 use Rattle.cc_board.specs.Board.{BoardState, PassState, SeatedState, pass_of}
-use Rattle.cc_board.specs.View.{held_of, run_of, standing_at}
+use Rattle.cc_board.specs.View.{held_of, run_of}
 use Rattle.cc_board.proofs.Names.{same_board}
 use Rattle.cc_run.specs.Ticks.{MayTick, TicksMade}
 use Rattle.cc_run.specs.Aheads.{MayStep, StepsMade}

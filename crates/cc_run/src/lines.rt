@@ -111,6 +111,7 @@ fn serve_line<R: Wait, D: PageDisk, L: LogFile, Q: Fresh, P: Gate>(
     ensures kept_room { names.new.room ≡ names.old.room }
     ensures placed { PlaceWent line.now.caller ((line.now.action, result) ∷ []) names.old.place names.new.place
         desk.old.last.entries desk.new.last.entries }
+    ensures alone { (me : ℕ) → me ≢ line.now.caller → IsIdle me desk.old.last.entries desk.new.last.entries }
     ensures good { IsGood (standing_of D.told D.faults L.told L.faults desk.old).setup desk.new.last.entries }
     ensures run { IsSameRun (standing_of D.told D.faults L.told L.faults desk.old)
         (standing_of D.told D.faults L.told L.faults desk.new) }

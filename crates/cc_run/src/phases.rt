@@ -1,8 +1,8 @@
 //! The phases of a script, one after the other: in each the callers and the lazy writer run on threads, over one board.
 
-ghost use Rattle.std.specs.Prelude.{◌≡◌, ℕ, ◌+◌, ◌*◌, ◌<◌, ◌≤◌, ◌++◌, ◌==◌, [], suc, List, take, drop, length, vec_len, vec_capacity};
+ghost use Rattle.std.specs.Prelude.{◌≡◌, ℕ, ◌+◌, ◌*◌, ◌<◌, ◌≤◌, ◌++◌, ◌==◌, [], suc, List, true, take, drop, length, vec_len, vec_capacity};
 ghost use Rattle.std.specs.List.{AllByRecursion};
-ghost use Rattle.cc_pieces.specs.Rooms.{is_alone};
+ghost use Rattle.cc_pieces.specs.Rooms.{is_alone, room_limit};
 ghost use Rattle.cc_script.specs.Within.{PhasesAscend};
 ghost use Rattle.cc_turns.specs.Desk.{standing_of};
 ghost use Rattle.cc_run.specs.Desks.{IsReady, IsSameRun};
@@ -73,6 +73,7 @@ pub(crate) fn serve_phases<
         result.2.place.taken desk.last.entries result.0.last.entries }
     ensures placed { PlacesRan lines.now replies.old.items replies.new.items names.items result.1.items
         desk.last.entries result.0.last.entries }
+    ensures counted { length result.1.items ≡ 16 }
     ensures stepped { PlaceWent 18 (step_lines result.2.answers.items) aheads.place result.2.place
         desk.last.entries result.0.last.entries }
     ensures run { IsSameRun (standing_of D.told D.faults L.told L.faults desk)
@@ -163,8 +164,7 @@ fn serve_phase<
 {
     let mut desk = desk;
     let mut aheads = aheads;
-    let beside = ticks.each > 0 || aheads.each > 0 || !is_alone(lines);
-    if beside {
+    if runs_beside(lines, ticks.each, aheads.each) {
         match serve_on_threads(
             rt, alloc, desk, queue, phase, lines, gate, calls, names, replies, ticks, aheads,
         ) {
@@ -178,6 +178,14 @@ fn serve_phase<
     serve_ticks(alloc, &mut desk, phase, ticks);
     serve_steps(rt, alloc, &mut desk, queue, phase, &mut aheads);
     (desk, aheads)
+}
+
+// Whether a phase has ticks, read-ahead steps, or lines of several callers.
+fn runs_beside(lines: &[ActionLine], ticks: u32, aheads: u32) -> bool
+    ensures { (phase : ℕ) → AllByRecursion (λ line. line.phase ≡ phase) lines.now → result ≡ true →
+        room_limit ticks aheads (is_alone phase lines.now) ≡ 32 }
+{
+    ticks > 0 || aheads > 0 || !is_alone(lines)
 }
 
 // Whether lines are all of one caller.
