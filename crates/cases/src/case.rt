@@ -124,6 +124,11 @@ pub enum Count {
     Entries,
     Ticks,
     Aheads,
+    /// The places at the queue of read-ahead.
+    Places,
+    /// How often a pass found the queue empty, and full.
+    Empties(u64),
+    Fulls(u64),
     /// Calls that failed, on everything that was handed in.
     Faults,
     /// Calls of the callers that passed the gate and told it their end.
@@ -142,6 +147,9 @@ impl Count {
             Count::Entries => "entries",
             Count::Ticks => "ticks",
             Count::Aheads => "aheads",
+            Count::Places => "places",
+            Count::Empties(_) => "empties",
+            Count::Fulls(_) => "fulls",
             Count::Faults => "faults",
             Count::Passed => "passed",
             Count::Made(..) => "made",

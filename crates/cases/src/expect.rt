@@ -201,12 +201,23 @@ fn count_of(count: Count, left: &Left) -> u64 {
         Count::Entries => left.entries as u64,
         Count::Ticks => left.ticks as u64,
         Count::Aheads => left.aheads as u64,
+        Count::Places => left.places.len() as u64,
+        Count::Empties(pass) => place_of(pass, left).0,
+        Count::Fulls(pass) => place_of(pass, left).1,
         Count::Faults => faults(left),
         Count::Passed => left.passed,
         Count::Made(device, kind) => match left.calls(device) {
             Some(calls) => calls.made(kind),
             None => 0,
         },
+    }
+}
+
+/// How often a pass found the queue of read-ahead empty, and full; never where it has no place.
+fn place_of(pass: u64, left: &Left) -> (u64, u64) {
+    match left.places.get(pass.wrapping_sub(1) as usize) {
+        Some(found) => *found,
+        None => (0, 0),
     }
 }
 
@@ -231,6 +242,10 @@ fn check_count(count: Count, wanted: u64, left: &Left) -> Result<()> {
         Count::Made(device, kind) => ensure!(
             was == wanted,
             "{word} {device} {kind}: {was}, wanted {wanted}"
+        ),
+        Count::Empties(pass) | Count::Fulls(pass) => ensure!(
+            was == wanted,
+            "pass {pass} {word}: {was}, wanted {wanted}"
         ),
         _ => ensure!(was == wanted, "{word}: {was}, wanted {wanted}"),
     }

@@ -348,6 +348,15 @@ fn read_want(alloc: Global, case: &mut Case, first: &str, words: &mut Words) -> 
             let device = words.device(first)?;
             Count::Made(device, kind_of(device, words.word()?)?)
         }
+        "pass" => {
+            let pass = words.number()?;
+            match words.word()? {
+                "empties" => Count::Empties(pass),
+                "fulls" => Count::Fulls(pass),
+                word => bail!("`{word}` is no count of a pass"),
+            }
+        }
+        "places" => Count::Places,
         "status" => Count::Status,
         "lines" => Count::Lines,
         "replies" => Count::Replies,

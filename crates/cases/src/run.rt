@@ -6,8 +6,9 @@ use crate::case::{Case, DiskPlan, LogPlan};
 use crate::devices::{Calls, CaseDisk, CaseLog, CaseSink, CaseSource, Routine};
 use crate::stage::Stage;
 use crate::trouble::Device;
-use cc_entry::{End, Entry};
+use cc_entry::{End, Entry, Request};
 use cc_memdev::{DiskFails, LogFails, MemDisk, MemLog, MemSource};
+use cc_queue::QueuePlace;
 use cc_run::{Ended, cache_main};
 use cc_traits::Faults;
 use std::alloc::{AllocError, Global};
@@ -27,6 +28,8 @@ pub struct Left<'a> {
     pub posted: usize,
     pub ticks: usize,
     pub aheads: usize,
+    /// How often each pass, from 1 on, found the queue of read-ahead empty, and full.
+    pub places: Vec<(u64, u64)>,
     /// How many calls passed the gate and told it their end.
     pub passed: u64,
     pub source: CaseSource<'a>,
@@ -86,6 +89,7 @@ pub fn run_once<'a, R: Threads + Wait + Sync>(
         replies,
         ticks,
         aheads,
+        places,
         journal,
         disks,
         logs,
@@ -110,6 +114,7 @@ pub fn run_once<'a, R: Threads + Wait + Sync>(
         posted: journal.iter().filter(|entry| is_post(entry)).count(),
         ticks: ticks.len(),
         aheads: aheads.len(),
+        places: found(alloc, &places)?,
         passed: stage.moments.passed(),
         source,
         sink,
@@ -117,6 +122,15 @@ pub fn run_once<'a, R: Threads + Wait + Sync>(
         logs,
         posts,
     })
+}
+
+/// How often each pass found the queue empty, and full.
+fn found(alloc: Global, places: &[QueuePlace<Request>]) -> Result<Vec<(u64, u64)>, AllocError> {
+    let mut found = Vec::new(alloc);
+    for place in places {
+        found.push((place.empties(), place.fulls()))?;
+    }
+    Ok(found)
 }
 
 /// Whether an entry says that a device failed.

@@ -22,7 +22,7 @@ use Rattle.cc_model.specs.Setup.{Setup}
 use Rattle.cc_effects.specs.Moments.{Between}
 use Rattle.cc_effects.specs.Repins.{UnpinLeft}
 use Rattle.cc_effects.proofs.Stretches.{grew-after}
-use Rattle.cc_own.proofs.VerbsKeep.{nc_read-unchanged, nc_write-unchanged, tick-unchanged}
+use Rattle.cc_own.proofs.VerbsKeep.{ahead-unchanged, nc_read-unchanged, nc_write-unchanged, tick-unchanged}
 use Rattle.cc_pieces.specs.Answered.{AppendAnswered, CallAnswered, LogFlushAnswered, PostsRefused}
 use Rattle.cc_pieces.specs.Bindings.{Binding, OnHold, hold_named}
 use Rattle.cc_pieces.specs.HoldLines.{HeldReadBy, HoldLine, UnpinAnswered}
@@ -132,6 +132,9 @@ module _ (u : Setup) (me entries : ℕ) (old new : List Entry) where
   grew-served bindings action.Post left = grew-posts left.0 old left.1
   grew-served bindings action.Tick left =
       let kept = tick-unchanged me 0 (Err (error.JournalFull entries)) old new left in record { during = kept.during; grew = kept.grew }
+  grew-served bindings (action.AskAhead file at len) left = grew-call (call.AskAhead file at len) left
+  grew-served bindings action.AheadStep left =
+      let kept = ahead-unchanged u me 0 left.0 (Err (error.JournalFull entries)) old new left.1 in record { during = kept.during; grew = kept.grew }
   grew-served bindings other left = absurd left
 
 -- the same where a noncached line tells it, which is the only one that is answered so
@@ -201,6 +204,7 @@ module _ (u : Setup) (me done : ℕ) (cause : CcError) (old new : List Entry) wh
   grew-cut_off bindings (action.Defer file bytes retrying) left = absurd left
   grew-cut_off bindings action.Post left = absurd left
   grew-cut_off bindings action.Tick left = absurd left
+  grew-cut_off bindings action.AheadStep left = absurd left.1
   grew-cut_off bindings other left = absurd left
 
 -- ---- at the end of a line others had no more under way than they ever have

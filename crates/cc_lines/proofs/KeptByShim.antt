@@ -81,6 +81,8 @@ module _ (u : Setup) (me : ℕ) (file : File) where
   of-file (call.PinnedWrite n at bytes) makes on = absurd (cc makes)
   of-file (call.SetDirty n lsn) makes on = absurd (cc makes)
   of-file (call.EndHold n) makes on = absurd (cc makes)
+  of-file (call.AskAhead n at len) makes on = absurd (cc makes)
+  of-file (call.AheadStep request) makes on = absurd (cc makes)
   of-file it makes on = on
 
   -- what is done on a hold that the list makes

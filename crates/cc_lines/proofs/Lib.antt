@@ -18,3 +18,4 @@ pub mod ThrottleLines
 pub mod TickLines
 pub mod HeldReads
 pub mod ServeLines
+pub mod AheadLines

@@ -63,6 +63,7 @@ module _ (old new : Standing) (names now : NamesState) (word : ℕ) (exclusive :
     goes_on = went;
     good = ends.good can.good;
     room = ap (λ m. m.room) put;
+    placed = ap (λ m. m.place) put;
   }
     where
       went : WentOn old new
@@ -80,6 +81,7 @@ module _ (old new : Standing) (names now : NamesState) (word : ℕ) (exclusive :
     goes_on = went;
     good = ends.good can.good;
     room = ap (λ m. m.room) put;
+    placed = ap (λ m. m.place) put;
   }
     where
       went : WentOn old new
@@ -98,6 +100,7 @@ module _ (w : Standing) (names now : NamesState) (word : ℕ) (exclusive : Bool)
     goes_on = went-none w;
     good = can.good;
     room = ap (λ m. m.room) same;
+    placed = ap (λ m. m.place) same;
   }
 
   inside : word < length names.named
@@ -124,6 +127,7 @@ module _ (old new : Standing) (names now : NamesState) (word : ℕ) (pinned : He
     goes_on = went;
     good = ends.call_ends.good can.good;
     room = ap (λ m. m.room) grew;
+    placed = ap (λ m. m.place) grew;
   }
     where
       went : WentOn old new
@@ -165,4 +169,5 @@ no-repin w names now word can none grew = record {
   goes_on = went-none w;
   good = can.good;
   room = ap (λ m. m.room) grew;
+  placed = ap (λ m. m.place) grew;
 }

@@ -130,6 +130,7 @@ module _ (old new : Standing) (told : Answer) (names : NamesState) (full : IsFul
     goes_on = went;
     good = good;
     room = refl;
+    placed = refl;
   }
 
   pub append-line : (handle : ℕ) (bytes : List ℕ) → AppendAnswered old.setup old.number handle bytes told old.seen new.seen → LineServed old new (action.Append handle bytes) told names names
@@ -139,6 +140,7 @@ module _ (old new : Standing) (told : Answer) (names : NamesState) (full : IsFul
     goes_on = went;
     good = good;
     room = refl;
+    placed = refl;
   }
     where
       by : (told : Answer) → AppendAnswered old.setup old.number handle bytes told old.seen new.seen → (id : ℕ) → IsUnchanged old.number id old.seen new.seen
@@ -156,6 +158,7 @@ module _ (old new : Standing) (told : Answer) (names : NamesState) (full : IsFul
     goes_on = went;
     good = good;
     room = refl;
+    placed = refl;
   }
     where
       by : (told : Answer) → NcReadAnswered old.setup old.number file at len told old.seen new.seen → (id : ℕ) → IsUnchanged old.number id old.seen new.seen
@@ -170,6 +173,7 @@ module _ (old new : Standing) (told : Answer) (names : NamesState) (full : IsFul
     goes_on = went;
     good = good;
     room = refl;
+    placed = refl;
   }
     where
       by : (told : Answer) → NcWriteAnswered old.setup old.number file at bytes told old.seen new.seen → (id : ℕ) → IsUnchanged old.number id old.seen new.seen
@@ -187,6 +191,7 @@ module _ (old new : Standing) (told : Answer) (names : NamesState) (full : IsFul
     goes_on = went;
     good = good;
     room = refl;
+    placed = refl;
   }
     where
       by : (ended : Result (Unit {0}) CcError) → LogFlushLeft {T = Unit {0}} old.setup old.number handle lsn ended old.seen new.seen → LogFlushAnswered old.setup old.number handle lsn (told_of ended) old.seen new.seen

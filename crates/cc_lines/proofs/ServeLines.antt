@@ -153,6 +153,7 @@ module _ (old new : Standing) (names : NamesState) (asked : Action) (told : Answ
         goes_on = ends.goes_on;
         good = ends.good;
         room = refl;
+        placed = refl;
       }
 
   pub purge-line : (file : File) (span : Option Range) (ended : Result (Unit {0}) CcError) → plain_call asked ≡ Some (call.Purge file span) → told ≡ told_of ended → PurgeEnds old new file span ended → LineServed old new asked told names names

@@ -56,6 +56,7 @@ module _ (old new : Standing) (told : Answer) (names : NamesState) (full : WasFu
     goes_on = went;
     good = good;
     room = refl;
+    placed = refl;
   }
 
   pub write-line : (file : File) (at : ℕ) (bytes : List ℕ) → WriteAnswered old.setup old.number file at bytes told old.seen new.seen → LineServed old new (action.Write file at bytes) told names names
@@ -65,6 +66,7 @@ module _ (old new : Standing) (told : Answer) (names : NamesState) (full : WasFu
     goes_on = went;
     good = good;
     room = refl;
+    placed = refl;
   }
 
   pub update-line : (file : File) (at : ℕ) (bytes : List ℕ) → UpdateAnswered old.setup old.number file at bytes told old.seen new.seen → LineServed old new (action.Update file at bytes) told names names
@@ -74,6 +76,7 @@ module _ (old new : Standing) (told : Answer) (names : NamesState) (full : WasFu
     goes_on = went;
     good = good;
     room = refl;
+    placed = refl;
   }
 
 -- a question for levels
@@ -94,4 +97,5 @@ module _ (old new : Standing) (told : Answer) (names : NamesState) (full : IsFul
     goes_on = went;
     good = good;
     room = refl;
+    placed = refl;
   }

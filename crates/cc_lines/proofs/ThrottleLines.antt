@@ -128,6 +128,7 @@ module _ (old new : Standing) (told : Answer) (names : NamesState) (full : IsFul
     goes_on = went;
     good = good;
     room = refl;
+    placed = refl;
   }
     where
       by : (told : Answer) → DeferAnswered old.number file bytes retrying told old.seen new.seen → (id : ℕ) → IsUnchanged old.number id old.seen new.seen
@@ -152,6 +153,7 @@ module _ (old new : Standing) (told : Answer) (names : NamesState) (full : IsFul
     goes_on = went;
     good = good;
     room = refl;
+    placed = refl;
   }
     where
       by : (told : Answer) → PostsAnswered old.setup old.number told old.seen new.seen → (id : ℕ) → IsUnchanged old.number id old.seen new.seen

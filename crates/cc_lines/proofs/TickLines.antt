@@ -35,4 +35,5 @@ tick-line old new told names full went good left = record {
   goes_on = went;
   good = good;
   room = refl;
+  placed = refl;
 }

@@ -74,6 +74,7 @@ module _ (w : Standing) (names : NamesState) where
     goes_on = went-none w;
     good = can.good;
     room = refl;
+    placed = refl;
   }
 
   pub no-word : (bounds : List Bound) (bindings : List Binding) (n : Need) (word : ℕ) (of_kind : HoldKind → Bool) → StandFor w bounds bindings names → Uses n bounds word → serves_word of_kind (named_at names.named word) ≡ false → hold_named bindings word of_kind ≡ None
@@ -146,6 +147,7 @@ module _ (old new : Standing) (names : NamesState) (word : ℕ) (it : Named) (is
     goes_on = ends.goes_on;
     good = ends.good can.good;
     room = refl;
+    placed = refl;
   }
     where
       after : (bounds : List Bound) (bindings : List Binding) → StandFor old bounds bindings names → Uses n bounds word → StandFor new bounds bindings names

@@ -1,16 +1,20 @@
 -- What a line of a script asks, and what it leaves.
-use Rattle.std.specs.Prelude.{◌≡◌, ℕ, Bool, ◌<◌, ◌⊎◌, List, length, Result, Ok, Err}
+use Rattle.std.specs.Prelude.{◌≡◌, ℕ, Bool, ◌<◌, ◌⊎◌, List, [], ◌∷◌, length, Result, Ok, Err}
 use Rattle.std.specs.declared.option.Option.{Option}
 use Rattle.cc_entry.specs.Place.{File, Page}
+use Rattle.cc_entry.specs.declared.place.Request.{Request}
 use Rattle.cc_entry.specs.declared.place.DirtyRow.{DirtyRow}
 use Rattle.cc_entry.specs.declared.place.FileState.{FileState}
+use Rattle.cc_entry.specs.declared.answer.AheadDone.{AheadDone}
 use Rattle.cc_entry.specs.declared.answer.Answer.{Answer}
 use Rattle.cc_entry.specs.declared.answer.Answer.TheVariants as answer
+use Rattle.cc_entry.specs.declared.entry.Entry.{Entry}
 use Rattle.cc_entry.specs.declared.error.CcError.{CcError}
 use Rattle.cc_entry.specs.declared.reply.Reply.TheVariants as reply
 use Rattle.cc_entry.specs.declared.call.Call.{Call}
 use Rattle.cc_entry.specs.declared.hold.HoldKind.{HoldKind}
-use Rattle.cc_pieces.specs.Answered.{CallAnswered}
+use Rattle.cc_pieces.specs.Answered.{AheadAnswered, CallAnswered}
+use Rattle.cc_pieces.specs.Queue.{PlaceRan, QueuePlace, StepPlaced}
 use Rattle.cc_script.specs.declared.script.Action.{Action}
 use Rattle.cc_script.specs.declared.script.Action.TheVariants as action
 use Rattle.cc_script.specs.HoldWords.{UsesRight, bound_after}
@@ -20,6 +24,7 @@ use Rattle.cc_pieces.specs.Bindings.{Binding}
 use Rattle.cc_pieces.specs.Served.{Served, bindings_after}
 use Rattle.cc_turns.specs.Standing.{Standing, nothing}
 use Rattle.cc_calls.specs.Pages.{StaysGood}
+use Rattle.cc_queue.specs.Places.{PlaceState}
 use Rattle.cc_ranges.specs.Stores.{HasToStore}
 use Rattle.cc_ranges.specs.declared.error.NcError.{NcError}
 use Rattle.cc_calls.specs.Held.{IsHolding}
@@ -75,6 +80,8 @@ IsServable streams (action.LogFlush handle lsn) = Unit {0}
 IsServable streams (action.SetGranularity file bytes) = file.stream < streams
 IsServable streams (action.SetAttributes file no_read_ahead no_write_behind) = file.stream < streams
 IsServable streams (action.SetThreshold file pages) = file.stream < streams
+IsServable streams (action.AskAhead file at len) = file.stream < streams
+IsServable streams action.AheadStep = Unit {0}
 IsServable streams action.Tick = Unit {0}
 IsServable streams (action.NcReadPage file page) = ⊥
 IsServable streams (action.NcStorePage file page bytes) = ⊥
@@ -126,9 +133,9 @@ WasFullTold old new (answer.NcRefused done cause) = WasFullError 2 old new cause
 WasFullTold old new other = Unit {0}
 
 -- A line was served: it left what explains its answer, over what the caller's words name, and what is kept of them
--- stands for it then; of a journal that is told to be full this is so; the pass goes on as it stood and may call again; and
--- what it has seen is good.
-pub record LineWith (Full : Type 0) (old new : Standing) (asked : Action) (told : Answer) (was now : NamesState) : Type 0 where
+-- stands for it then; of a journal that is told to be full this is so, and this of the pass's place at the read-ahead queue; the
+-- pass goes on as it stood and may call again; and what it has seen is good.
+pub record LineWith (Full Placed : Type 0) (old new : Standing) (asked : Action) (told : Answer) (was now : NamesState) : Type 0 where
   pub served : (bounds : List Bound) (bindings : List Binding) → StandFor old bounds bindings was → UsesRight bounds asked →
       Served old.setup old.number bindings asked told old.seen new.seen
       × StandFor new (bound_after asked bounds) (bindings_after asked told bindings) now
@@ -136,6 +143,7 @@ pub record LineWith (Full : Type 0) (old new : Standing) (asked : Action) (told 
   pub goes_on : WentOn old new
   pub good : IsGood old.setup new.seen
   pub room : now.room ≡ was.room
+  pub placed : Placed
 
 -- the lines that are lists of calls
 abbrev pub IsList : Action → Type 0
@@ -148,13 +156,36 @@ IsList other = ⊥
 abbrev pub IsFullLine : Standing → Standing → Action → Answer → Type 0
 IsFullLine old new asked told = IsFullTold new told ⊎ (IsList asked × WasFullTold old new told)
 
--- a line that was served
+-- what a place at the queue says of itself
+abbrev pub hand_of : PlaceState Request → QueuePlace
+hand_of place = record { pushed = place.pushed; taken = place.taken; empties = place.empties; fulls = place.fulls }
+
+-- Lines of a pass, each with its answer, did this at the pass's place, which is of the queue that it was of.
+pub record PlaceWent (me : ℕ) (lines : List (Action × Answer)) (was now : PlaceState Request) (old new : List Entry) : Type 0 where
+  pub ran : PlaceRan me lines (hand_of was) (hand_of now) old new
+  pub queue_is : now.queue ≡ was.queue
+
+-- a line that was served which is none of the queue
 abbrev pub LineServed : Standing → Standing → Action → Answer → NamesState → NamesState → Type 0
-LineServed old new asked told was now = LineWith (IsFullLine old new asked told) old new asked told was now
+LineServed old new asked told was now = LineWith (IsFullLine old new asked told) (now.place ≡ was.place) old new asked told was now
+
+-- a line that was served
+abbrev pub AnyServed : Standing → Standing → Action → Answer → NamesState → NamesState → Type 0
+AnyServed old new asked told was now =
+    LineWith (IsFullLine old new asked told) (PlaceWent old.number ((asked, told) ∷ []) was.place now.place old.seen new.seen) old new asked told was now
 
 -- the same, and of each line that tells of a full journal a moment at which it was so
 abbrev pub LineEnds : Standing → Standing → Action → Answer → NamesState → NamesState → Type 0
-LineEnds old new asked told was now = LineWith (IsFullLine old new asked told × WasFullTold old new told) old new asked told was now
+LineEnds old new asked told was now =
+    LineWith (IsFullLine old new asked told × WasFullTold old new told) (PlaceWent old.number ((asked, told) ∷ []) was.place now.place old.seen new.seen)
+    old new asked told was now
+
+-- a step of read-ahead, which took a request, or none
+pub record StepAt (old new : Standing) (told : Answer) (was now : PlaceState Request) : Type 0 where
+  pub taken : Option Request
+  pub answered : AheadAnswered old.setup old.number taken told old.seen new.seen
+  pub placed : StepPlaced taken (hand_of was) (hand_of now)
+  pub queue_is : now.queue ≡ was.queue
 
 -- The same of an action that binds a word, which is the next one: it may be asked so, and its line was served so.
 abbrev pub CanServeNext : Standing → (ℕ → Action) → NamesState → Type 0
@@ -185,6 +216,15 @@ rows_told (Err e) = answer.Refused e
 abbrev pub lsns_told : Result (Option (ℕ × ℕ)) CcError → Answer
 lsns_told (Ok lsns) = answer.Given (reply.Lsns lsns)
 lsns_told (Err e) = answer.Refused e
+
+-- the answer of a line that asks for read-ahead, and of one that asks for a step of it
+abbrev pub ask_told : Result (Option Request) CcError → Answer
+ask_told (Ok request) = answer.Given (reply.Ahead request)
+ask_told (Err e) = answer.Refused e
+
+abbrev pub step_told : Result (Option AheadDone) CcError → Answer
+step_told (Ok step) = answer.Stepped step
+step_told (Err e) = answer.Refused e
 
 -- the answer of a noncached line that was refused
 abbrev pub nc_refused : NcError → Answer

@@ -1,11 +1,12 @@
-//! The holds that the words of a caller name.
+//! The holds that the words of a caller name, and the caller's place at the read-ahead queue.
 
 ghost use Rattle.std.specs.Prelude.{◌≡◌, ◌<◌, ◌≤◌, ◌++◌, ◌∷◌, [], Option, Some, None, IfOk, length, slice_get, slice_set};
 ghost use Rattle.std.specs.Option.{option_copied};
 ghost use Rattle.cc_lines.specs.Holds.{named_at};
 
 use cc_calls::{Hold, Mapped, Pinned, ReadChain, Repinned, WriteChain};
-use cc_entry::NoMemory;
+use cc_entry::{NoMemory, Request};
+use cc_queue::QueuePlace;
 use cc_script::HoldWord;
 use std::alloc::Global;
 use std::marker::Model;
@@ -40,10 +41,11 @@ impl Named {
 }
 
 /// What the words of a caller name, in the order in which its lines bind them: nothing where the hold was not made, or
-/// was ended.
+/// was ended. Beside them goes what else is a caller's through all phases, its place at the read-ahead queue.
 #[derive(Drop)]
 pub struct Names {
     named: Vec<Option<Named>>,
+    pub(crate) place: QueuePlace<Request>,
 }
 
 impl Model for Names {
@@ -52,17 +54,30 @@ impl Model for Names {
 
     ghost Value = { NamesState };
 
-    ghost view = { λ n. record { named = n.named.items; room = vec_capacity n.named } };
+    ghost view = { λ n. record { named = n.named.items; room = vec_capacity n.named; place = n.place } };
 }
 
 impl Names {
-    /// No words yet, with room for so many. Answers `NoMemory` where memory is wanting.
-    pub fn with_room(alloc: Global, words: usize) -> Result<Names, NoMemory>
-        ensures { IfOk result (λ names. (names.named ≡ []) × (words ≤ names.room)) }
+    /// No words yet, with room for so many, and this place. Answers `NoMemory` where memory is wanting.
+    pub fn with_room(
+        alloc: Global,
+        words: usize,
+        place: QueuePlace<Request>,
+    ) -> Result<Names, NoMemory>
+        ensures room { IfOk result (λ names. (names.named ≡ []) × (words ≤ names.room)) }
+        ensures place { IfOk result (λ names. names.place ≡ place) }
     {
         Ok(Names {
             named: Vec::with_capacity(alloc, words)?,
+            place,
         })
+    }
+
+    /// The place at the queue.
+    pub fn into_place(self) -> QueuePlace<Request>
+        ensures { result ≡ self.place }
+    {
+        self.place
     }
 
     /// Binds the next word to what was made, where anything was. There is room for it.

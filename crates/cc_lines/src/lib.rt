@@ -6,11 +6,12 @@
 //! or nothing where none was made or a line has ended it.
 //!
 //! `line` serves an action, `held_lines` one on a hold, `noncached_lines` a noncached one, `shim_lines` one of the file
-//! system shim, `throttle_lines` a deferral and posts, `tick_line` a tick, `openings` opens a stream, and `holds` keeps what
-//! the words of a caller name. The phases of a run stand above (`cc_run`); below are the calls (`cc_calls`, `cc_ranges`), the
+//! system shim, `throttle_lines` a deferral and posts, `tick_line` a tick, `ahead_lines` one of read-ahead, `openings` opens a
+//! stream, and `holds` keeps what the words of a caller name. The phases of a run stand above (`cc_run`); below are the calls (`cc_calls`, `cc_ranges`), the
 //! shim over them (`cc_shim`), and how the journal explains answers (`cc_pieces`).
 #![tactic(auto)]
 
+mod ahead_lines;
 mod held_lines;
 mod holds;
 mod line;
@@ -20,6 +21,7 @@ mod shim_lines;
 mod throttle_lines;
 mod tick_line;
 
+pub use ahead_lines::serve_step;
 pub use holds::{Named, Names};
 pub use line::serve_at;
 pub use openings::open_stream;

@@ -2,12 +2,14 @@
 
 ghost use Rattle.cc_entry.specs.declared.call.Call.TheVariants as call;
 ghost use Rattle.cc_pieces.specs.Answered.{AppendAnswered, CallAnswered};
+ghost use Rattle.cc_pieces.specs.Queue.{is_queue_action};
 ghost use Rattle.cc_turns.specs.Standing.{Standing};
 ghost use Rattle.cc_calls.specs.Answers.{CanCall, IsFree};
 ghost use Rattle.cc_calls.specs.Pages.{StaysGood, WentOn};
-ghost use Rattle.cc_lines.specs.Line.{CanServe, IsFullTold, LineEnds, LineServed, flag_told, lsns_told, rows_told, state_told, told_of};
-ghost use Rattle.std.specs.Prelude.{◌≡◌};
+ghost use Rattle.cc_lines.specs.Line.{AnyServed, CanServe, IsFullTold, LineEnds, LineServed, flag_told, lsns_told, rows_told, state_told, told_of};
+ghost use Rattle.std.specs.Prelude.{◌≡◌, false};
 
+use crate::ahead_lines::{ask_ahead, serve_step};
 use crate::held_lines::{
     chain, chain_abort, chain_done, chain_read, chain_store, held_read, held_write, hold_again,
     map, pin, pin_map, prepare, release, release_repinned, stamp, write_chain,
@@ -22,16 +24,20 @@ use cc_calls::{
     is_dirty_data, log_append, log_flush, lsn_for_file, purge, set_attributes, set_file_sizes,
     set_granularity, set_log_handle, set_threshold, uninitialize, zero_data,
 };
-use cc_entry::{Answer, Bytes, BytesRoom, CcError, FileId, FileState, Lsn, Reply, Rows};
+use cc_entry::{Answer, Bytes, BytesRoom, CcError, FileId, FileState, Lsn, Reply, Request, Rows};
+use cc_queue::Queue;
 use cc_script::Action;
 use cc_traits::Gate;
 use cc_turns::Turns;
 use std::alloc::Global;
+use std::sync::Wait;
 
 /// Serves an action between the gate's `before` and `after`, as the call of its caller with this number.
-pub fn serve_at<T: Turns, P: Gate>(
+pub fn serve_at<R: Wait, T: Turns, P: Gate>(
+    rt: &R,
     alloc: Global,
     turns: &mut T,
+    queue: &Queue<Request>,
     action: &Action,
     gate: &P,
     number: u32,
@@ -39,23 +45,49 @@ pub fn serve_at<T: Turns, P: Gate>(
 ) -> Answer
 where
     T::Post: Fresh,
-    requires { CanServe (T.standing turns.old) action.now names.old }
+    requires can { CanServe (T.standing turns.old) action.now names.old }
+    requires own { names.old.place.queue ≡ queue.now }
     ensures { LineEnds (T.standing turns.old) (T.standing turns.new) action.now result names.old names.new }
 {
     let caller = turns.me();
     gate.before(caller, number);
-    let answer = serve(alloc, turns, action, names);
+    let answer = serve_any(rt, alloc, turns, queue, action, names);
     turns.note_others();
     gate.after(caller, number);
     answer
 }
 
-// Serves an action, and answers its line. Want of memory is an answer, of a call that was not done: what the answer of
-// one that was done takes is there before.
+// Serves an action, at the queue of read-ahead or without it.
+fn serve_any<R: Wait, T: Turns>(
+    rt: &R,
+    alloc: Global,
+    turns: &mut T,
+    queue: &Queue<Request>,
+    action: &Action,
+    names: &mut Names,
+) -> Answer
+where
+    T::Post: Fresh,
+    requires can { CanServe (T.standing turns.old) action.now names.old }
+    requires own { names.old.place.queue ≡ queue.now }
+    ensures { AnyServed (T.standing turns.old) (T.standing turns.new) action.now result names.old names.new }
+{
+    match action {
+        Action::AskAhead { file, at, len } => {
+            ask_ahead(rt, alloc, turns, queue, &mut names.place, *file, *at, *len)
+        }
+        Action::AheadStep => serve_step(rt, alloc, turns, queue, &mut names.place),
+        _ => serve(alloc, turns, action, names),
+    }
+}
+
+// Serves an action that is none of the queue, and answers its line. Want of memory is an answer, of a call that was not done:
+// what the answer of one that was done takes is there before.
 fn serve<T: Turns>(alloc: Global, turns: &mut T, action: &Action, names: &mut Names) -> Answer
 where
     T::Post: Fresh,
-    requires { CanServe (T.standing turns.old) action.now names.old }
+    requires can { CanServe (T.standing turns.old) action.now names.old }
+    requires plain { is_queue_action action.now ≡ false }
     ensures { LineServed (T.standing turns.old) (T.standing turns.new) action.now result names.old names.new }
 {
     match action {
@@ -156,8 +188,10 @@ where
         } => defer_write(turns, *file, *bytes, *retrying),
         Action::Post => post_all(alloc, turns),
         Action::Tick => serve_tick(alloc, turns),
-        // The lines of `steps` alone, which are none of a run.
-        Action::NcReadPage { .. }
+        // The lines of the queue, and those of `steps` alone, which are none of a run.
+        Action::AskAhead { .. }
+        | Action::AheadStep
+        | Action::NcReadPage { .. }
         | Action::NcStorePage { .. }
         | Action::NcWritePage { .. }
         | Action::Fill { .. }

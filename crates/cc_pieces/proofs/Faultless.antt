@@ -16,6 +16,7 @@ use Rattle.cc_entry.specs.declared.entry.End.{End}
 use Rattle.cc_entry.specs.declared.entry.End.TheVariants as how
 use Rattle.cc_entry.specs.declared.entry.Entry.{Entry}
 use Rattle.cc_entry.specs.declared.entry.Entry.TheVariants as entry
+use Rattle.cc_entry.specs.declared.place.Request.{Request}
 use Rattle.cc_entry.specs.declared.error.CcError.{CcError}
 use Rattle.cc_entry.specs.declared.error.CcError.TheVariants as error
 use Rattle.cc_entry.specs.declared.hold.HoldKind.{HoldKind}
@@ -36,7 +37,7 @@ use Rattle.cc_effects.specs.Repins.{UnpinLeft}
 use Rattle.cc_model.specs.Passes.{HasSeen, is_mine, is_same_page}
 use Rattle.cc_script.specs.declared.script.ReadPath.{ReadPath}
 use Rattle.cc_vacb.specs.Levels.{levels_of}
-use Rattle.cc_pieces.specs.Answered.{AppendAnswered, CallAnswered, LevelsAnswered, LogFlushAnswered, DeferAnswered, PostsAnswered, PostsRefused, NcReadAnswered, NcWriteAnswered, TickAnswered}
+use Rattle.cc_pieces.specs.Answered.{AppendAnswered, CallAnswered, LevelsAnswered, LogFlushAnswered, DeferAnswered, PostsAnswered, PostsRefused, NcReadAnswered, NcWriteAnswered, TickAnswered, AheadAnswered}
 use Rattle.cc_pieces.specs.Bindings.{Binding, OnHold, hold_named}
 use Rattle.cc_pieces.specs.Faultless.{shows_fault, tells_fault}
 use Rattle.cc_pieces.specs.HoldLines.{HeldReadBy, HoldLine, UnpinAnswered, UnrepinLine}
@@ -140,6 +141,12 @@ tick-none me (answer.Refused e) old new left none = by e left
     by error.NoMemory left = refl
     by other left = absurd left
 tick-none me other old new left none = absurd left
+
+pub step-none : (u : Setup) (me : ℕ) (taken : Option Request) (told : Answer) (old new : List Entry) → AheadAnswered u me taken told old new → ShowsNone new → tells_fault told ≡ false
+step-none u me taken (answer.Stepped step) old new left none = refl
+step-none u me None (answer.Refused e) old new left none = absurd left
+step-none u me (Some request) (answer.Refused e) old new left none = failed-tells-none u me (call.AheadStep request) e old new left none
+step-none u me taken other old new left none = absurd left
 
 append-none : (u : Setup) (me handle : ℕ) (bytes : List ℕ) (told : Answer) (old new : List Entry) → AppendAnswered u me handle bytes told old new → ShowsNone new → tells_fault told ≡ false
 append-none u me handle bytes (answer.NewLsn lsn) old new left none = refl
@@ -383,6 +390,8 @@ served-none u me bindings (action.SetThreshold file pages) told old new left non
 served-none u me bindings (action.CanWrite file bytes) told old new left none = answered-none u me (call.CanWrite file bytes) told old new left none
 served-none u me bindings (action.Defer file bytes retrying) told old new left none = defer-none me file bytes retrying told old new left
 served-none u me bindings action.Post told old new left none = posts-none u me told old new left
+served-none u me bindings (action.AskAhead file at len) told old new left none = answered-none u me (call.AskAhead file at len) told old new left none
+served-none u me bindings action.AheadStep told old new left none = step-none u me left.0 told old new left.1 none
 served-none u me bindings action.Tick told old new left none = tick-none me told old new left none
 served-none u me bindings other told old new left none = absurd left
 

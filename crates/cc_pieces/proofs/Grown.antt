@@ -1,17 +1,15 @@
 -- The journal grows by what a call leaves.
-use Rattle.std.specs.Prelude.{◌≡◌, ℕ, List, ◌∷◌, ◌++◌, Ok, Err, refl}
+use Rattle.std.specs.Prelude.{ℕ, List, ◌∷◌, ◌++◌, refl}
 use Rattle.std.proofs.Common.{ap, sym, ◌∙◌, append_assoc}
 use Rattle.cc_entry.specs.declared.call.Call.{Call}
 use Rattle.cc_entry.specs.declared.entry.Entry.{Entry}
 use Rattle.cc_entry.specs.declared.entry.Entry.TheVariants as entry
-use Rattle.cc_entry.specs.declared.error.CcError.{CcError}
 use Rattle.cc_entry.specs.declared.error.CcError.TheVariants as error
 use Rattle.cc_entry.specs.declared.reply.Outcome.{Outcome}
 use Rattle.cc_entry.specs.declared.reply.Outcome.TheVariants as outcome
 use Rattle.cc_model.specs.Passes.{HasSeen}
 use Rattle.cc_model.specs.Setup.{Setup}
 use Rattle.cc_effects.specs.Calls.{CallLeft, IsPlaced}
-use Rattle.cc_effects.specs.LogCalls.{AppendLeft}
 use Rattle.cc_effects.specs.Moments.{PlacedOnly}
 use Rattle.cc_effects.proofs.FrontLaws.{placed-of}
 

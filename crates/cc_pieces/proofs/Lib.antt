@@ -9,8 +9,11 @@ pub mod ClosedMaps
 pub mod AskedLines
 pub mod Words
 pub mod Streams
+pub mod Walks
 pub mod LeftStreams
 pub mod TickSteps
+pub mod AheadSteps
+pub mod PlaceSteps
 pub mod RunStreams
 pub mod Faultless
 pub mod RunFaultless

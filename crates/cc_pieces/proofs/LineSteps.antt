@@ -15,6 +15,7 @@ use Rattle.cc_entry.specs.declared.reply.Outcome.TheVariants as outcome
 use Rattle.cc_entry.specs.declared.answer.Answer.{Answer}
 use Rattle.cc_entry.specs.declared.answer.Answer.TheVariants as answer
 use Rattle.cc_entry.specs.declared.answer.LineReply.{LineReply}
+use Rattle.cc_entry.specs.declared.place.Request.{Request}
 use Rattle.cc_entry.specs.declared.entry.Entry.{Entry}
 use Rattle.cc_script.specs.declared.script.Action.{Action}
 use Rattle.cc_script.specs.declared.script.Action.TheVariants as action
@@ -29,7 +30,7 @@ use Rattle.cc_effects.proofs.NoncachedSteps.{nc-read-after, nc-read-before, nc-w
 use Rattle.cc_effects.proofs.PageSteps.{tick-after, tick-before}
 use Rattle.cc_effects.proofs.OtherSteps.{append-after, append-before, levels-after, levels-before, log-flush-after, log-flush-before}
 use Rattle.cc_pieces.specs.Bindings.{Binding, hold_named, OnHold}
-use Rattle.cc_pieces.specs.Answered.{CallAnswered, FlushAnswered, AppendAnswered, LevelsAnswered, LogFlushAnswered, NcReadAnswered, NcWriteAnswered, TickAnswered}
+use Rattle.cc_pieces.specs.Answered.{CallAnswered, FlushAnswered, AppendAnswered, LevelsAnswered, LogFlushAnswered, NcReadAnswered, NcWriteAnswered, TickAnswered, AheadAnswered}
 use Rattle.cc_pieces.specs.HoldLines.{HoldLine, HeldReadBy, UnpinAnswered, UnpinEnded, UnrepinLine}
 use Rattle.cc_pieces.specs.Served.{Served, bindings_after}
 use Rattle.cc_pieces.specs.Rooms.{WasFull, HadNoRoom}
@@ -176,6 +177,27 @@ ticked-after me (answer.Ticked tick) old new newer left idle = tick-after me (Ok
 ticked-after me (answer.Refused e) old new newer left idle = tick-after me (Err e) old new newer left idle
 ticked-after me other old new newer left idle = absurd left
 
+-- nor is it to a read-ahead step
+pub stepped-before : (u : Setup) (me : ℕ) (taken : Option Request) (told : Answer) (older old new : List Entry) → IsIdle me older old → AheadAnswered u me taken told old new → AheadAnswered u me taken told older new
+stepped-before u me None (answer.Stepped None) older old new idle left = idle-then me older old new idle left
+stepped-before u me None (answer.Stepped (Some done)) older old new idle left = absurd left
+stepped-before u me None (answer.Refused e) older old new idle left = absurd left
+stepped-before u me (Some request) (answer.Stepped None) older old new idle left = absurd left
+stepped-before u me (Some request) (answer.Stepped (Some done)) older old new idle left =
+    (left.0, left-before u me (call.AheadStep request) (outcome.Done (reply.Whole done.whole)) older old new idle left.1)
+stepped-before u me (Some request) (answer.Refused e) older old new idle left = left-before u me (call.AheadStep request) (outcome.Failed e) older old new idle left
+stepped-before u me taken other older old new idle left = absurd left
+
+pub stepped-after : (u : Setup) (me : ℕ) (taken : Option Request) (told : Answer) (old new newer : List Entry) → AheadAnswered u me taken told old new → IsIdle me new newer → AheadAnswered u me taken told old newer
+stepped-after u me None (answer.Stepped None) old new newer left idle = idle-then me old new newer left idle
+stepped-after u me None (answer.Stepped (Some done)) old new newer left idle = absurd left
+stepped-after u me None (answer.Refused e) old new newer left idle = absurd left
+stepped-after u me (Some request) (answer.Stepped None) old new newer left idle = absurd left
+stepped-after u me (Some request) (answer.Stepped (Some done)) old new newer left idle =
+    (left.0, left-after u me (call.AheadStep request) (outcome.Done (reply.Whole done.whole)) old new newer left.1 idle)
+stepped-after u me (Some request) (answer.Refused e) old new newer left idle = left-after u me (call.AheadStep request) (outcome.Failed e) old new newer left idle
+stepped-after u me taken other old new newer left idle = absurd left
+
 served-before : (u : Setup) (me : ℕ) (bindings : List Binding) (asked : Action) (told : Answer) (older old new : List Entry) → IsIdle me older old → Served u me bindings asked told old new → Served u me bindings asked told older new
 served-before u me bindings (action.Initialise file sizes quota temporary) told older old new idle left =
     answered-before u me (call.Initialise file sizes quota temporary) told older old new idle left
@@ -230,6 +252,8 @@ served-before u me bindings (action.SetThreshold file pages) told older old new 
 served-before u me bindings (action.CanWrite file bytes) told older old new idle left = answered-before u me (call.CanWrite file bytes) told older old new idle left
 served-before u me bindings (action.Defer file bytes retrying) told older old new idle left = deferred-before me file bytes retrying told older old new idle left
 served-before u me bindings action.Post told older old new idle left = posted-before u me told older old new idle left
+served-before u me bindings (action.AskAhead file at len) told older old new idle left = answered-before u me (call.AskAhead file at len) told older old new idle left
+served-before u me bindings action.AheadStep told older old new idle left = (left.0, stepped-before u me left.0 told older old new idle left.1)
 served-before u me bindings action.Tick told older old new idle left = ticked-before me told older old new idle left
 served-before u me bindings other told older old new idle left = absurd left
 
@@ -287,6 +311,8 @@ served-after u me bindings (action.SetThreshold file pages) told old new newer l
 served-after u me bindings (action.CanWrite file bytes) told old new newer left idle = answered-after u me (call.CanWrite file bytes) told old new newer left idle
 served-after u me bindings (action.Defer file bytes retrying) told old new newer left idle = deferred-after me file bytes retrying told old new newer left idle
 served-after u me bindings action.Post told old new newer left idle = posted-after u me told old new newer left idle
+served-after u me bindings (action.AskAhead file at len) told old new newer left idle = answered-after u me (call.AskAhead file at len) told old new newer left idle
+served-after u me bindings action.AheadStep told old new newer left idle = (left.0, stepped-after u me left.0 told old new newer left.1 idle)
 served-after u me bindings action.Tick told old new newer left idle = ticked-after me told old new newer left idle
 served-after u me bindings other told old new newer left idle = absurd left
 

@@ -27,6 +27,7 @@ use Rattle.cc_pieces.proofs.Faultless.{ShowsNone, TellNone, answered-none, faile
 use Rattle.cc_pieces.proofs.LeftStreams.{HasHandles, IsActionBelow}
 use Rattle.cc_pieces.proofs.RunStreams.{LinesBelow, asked-below, left-opened, left-ran, phases-grow}
 use Rattle.cc_pieces.proofs.TickSteps.{ticks-none}
+use Rattle.cc_pieces.proofs.AheadSteps.{aheads-none}
 
 -- no answer of lines tells a fault
 abbrev LinesTellNone : List (Action × Answer) → Type 0
@@ -76,7 +77,7 @@ module _ (u : Setup) (n : ℕ) (handles : HasHandles u) where
       let front : ShowsNone opened.0 = none-front rest.during opened.0 (subst ShowsNone rest.grew none) in
       (logged-none s stream stream.log reply.answer old opened.0 opened.1.opened front, opened-none (suc s) streams replies opened.0 new (omega (arith, few)) opened.2 none)
 
-  module _ (plan : Plan) (no_aheads : plan.aheads ≡ 0) (within : AllByRecursion (λ line. IsActionBelow n line.action) plan.lines) where
+  module _ (plan : Plan) (within : AllByRecursion (λ line. IsActionBelow n line.action) plan.lines) where
     phases-none : (phase left : ℕ) (ticked stepped : List LineReply) (taken : List Request) (old new : List Entry) → PhasesRan u plan phase left ticked stepped taken old new → ShowsNone new → (p me : ℕ) → phase ≤ p → p < phase + left → me ≢ lazy_writer → me ≢ read_ahead_worker → LinesTellNone (lines_in plan p me)
     phases-none phase zero ticked stepped taken old new ran none p me first last lazy ahead = absurd (omega (arith, first, last))
     phases-none phase (suc left) ticked stepped taken old new ran none p me first last lazy ahead =
@@ -84,7 +85,7 @@ module _ (u : Setup) (n : ℕ) (handles : HasHandles u) where
       where
         front : ShowsNone ran.0
         front =
-            let more = phases-grow u n handles plan no_aheads within (suc phase) left _ _ _ ran.0 new ran.4 in
+            let more = phases-grow u n handles plan within (suc phase) left _ _ _ ran.0 new ran.4 in
             none-front more.0 ran.0 (subst ShowsNone more.1 none)
 
         here : LinesTellNone (lines_in plan phase me)
@@ -100,29 +101,41 @@ module _ (u : Setup) (n : ℕ) (handles : HasHandles u) where
     phases-ticks-none : (phase left : ℕ) (ticked stepped : List LineReply) (taken : List Request) (old new : List Entry) → PhasesRan u plan phase left ticked stepped taken old new → ShowsNone new → TellNone ticked
     phases-ticks-none phase zero ticked stepped taken old new ran none = subst TellNone (sym ran.0) tt
     phases-ticks-none phase (suc left) ticked stepped taken old new ran none =
-        let more = phases-grow u n handles plan no_aheads within (suc phase) left _ _ _ ran.0 new ran.4 in
+        let more = phases-grow u n handles plan within (suc phase) left _ _ _ ran.0 new ran.4 in
         subst TellNone (take-append-drop plan.ticks ticked)
         (tell-append (take plan.ticks ticked) (drop plan.ticks ticked)
         (ticks-none u n handles 32 phase (take plan.ticks ticked) old ran.0 ran.3.ticks (none-front more.0 ran.0 (subst ShowsNone more.1 none)))
         (phases-ticks-none (suc phase) left (drop plan.ticks ticked) _ _ ran.0 new ran.4 none))
 
--- Where the journal of a run shows no failure, no answer tells one, of a line or of a tick.
-pub explained-none : (u : Setup) (n : ℕ) (handles : HasHandles u) (given : Given) (told : Answered) (taken : List Request) (past : List Entry) → length given.streams ≤ n → given.aheads ≡ 0 → AllByRecursion (λ line. IsActionBelow n line.action) given.lines → AllByRecursion (IsLineWithin given.streams given.phases) given.lines → IsExplained u given told taken past → ShowsNone past → TellNone (told.replies ++ told.ticked)
-explained-none u n handles given told taken past few no_aheads below within is none =
-    tell-append told.replies told.ticked
+    -- nor is a step of read-ahead
+    phases-steps-none : (phase left : ℕ) (ticked stepped : List LineReply) (taken : List Request) (old new : List Entry) → PhasesRan u plan phase left ticked stepped taken old new → ShowsNone new → TellNone stepped
+    phases-steps-none phase zero ticked stepped taken old new ran none = subst TellNone (sym ran.1) tt
+    phases-steps-none phase (suc left) ticked stepped taken old new ran none =
+        let more = phases-grow u n handles plan within (suc phase) left _ _ _ ran.0 new ran.4 in
+        subst TellNone (take-append-drop ran.1 stepped)
+        (tell-append (take ran.1 stepped) (drop ran.1 stepped)
+        (aheads-none u n handles 32 phase (take ran.1 stepped) (take ran.2 taken) old ran.0 ran.3.steps (none-front more.0 ran.0 (subst ShowsNone more.1 none)))
+        (phases-steps-none (suc phase) left _ (drop ran.1 stepped) _ ran.0 new ran.4 none))
+
+-- Where the journal of a run shows no failure, no answer tells one, of a line, of a tick or of a read-ahead step.
+pub explained-none : (u : Setup) (n : ℕ) (handles : HasHandles u) (given : Given) (told : Answered) (taken : List Request) (past : List Entry) → length given.streams ≤ n → AllByRecursion (λ line. IsActionBelow n line.action) given.lines → AllByRecursion (IsLineWithin given.streams given.phases) given.lines → IsExplained u given told taken past → ShowsNone past → TellNone (told.replies ++ told.ticked ++ told.stepped)
+explained-none u n handles given told taken past few below within is none =
+    tell-append (told.replies ++ told.ticked) told.stepped
+    (tell-append told.replies told.ticked
     (subst TellNone (sym is.replies_are) (tell-append is.setup is.answers (opened-none u n handles 0 given.streams is.setup [] is.begun (omega (arith, few)) is.opened front) answers))
-    (phases-ticks-none u n handles plan no_aheads below 1 given.phases told.ticked told.stepped taken is.begun past is.ran none)
+    (phases-ticks-none u n handles plan below 1 given.phases told.ticked told.stepped taken is.begun past is.ran none))
+    (phases-steps-none u n handles plan below 1 given.phases told.ticked told.stepped taken is.begun past is.ran none)
   where
     plan : Plan
     plan = record { lines = given.lines; answers = is.answers; ticks = given.ticks; aheads = given.aheads }
 
     front : ShowsNone is.begun
     front =
-        let more = phases-grow u n handles plan no_aheads below 1 given.phases told.ticked told.stepped taken is.begun past is.ran in
+        let more = phases-grow u n handles plan below 1 given.phases told.ticked told.stepped taken is.begun past is.ran in
         none-front more.0 is.begun (subst ShowsNone more.1 none)
 
     answers : TellNone is.answers
     answers =
         every-told given.streams given.phases given.lines is.answers is.answer_lines within
-        (λ phase me first last low high. phases-none u n handles plan no_aheads below 1 given.phases told.ticked told.stepped taken is.begun past is.ran none phase me first (omega (arith, last))
+        (λ phase me first last low high. phases-none u n handles plan below 1 given.phases told.ticked told.stepped taken is.begun past is.ran none phase me first (omega (arith, last))
         (λ same. absurd (omega (arith, same, high))) (λ same. absurd (omega (arith, same, high))))

@@ -1,5 +1,5 @@
 -- The journal of a run is of the streams of its script.
-use Rattle.std.specs.Prelude.{◌≡◌, ◌≢◌, ℕ, zero, suc, ◌+◌, ◌<◌, ◌≤◌, Bool, true, false, ◌==◌, List, [], ◌∷◌, ◌++◌, length, refl, ◌⊎◌, if◌then◌else◌}
+use Rattle.std.specs.Prelude.{◌≡◌, ◌≢◌, ℕ, zero, suc, ◌+◌, ◌<◌, ◌≤◌, Bool, true, false, ◌==◌, List, [], ◌∷◌, ◌++◌, length, refl, if◌then◌else◌}
 use Rattle.std.specs.declared.option.Option.{Option}
 use Rattle.std.specs.declared.option.Option.TheVariants.{Some, None}
 use Rattle.std.specs.List.{AllByRecursion}
@@ -23,12 +23,13 @@ use Rattle.cc_effects.specs.Moments.{EachOwn, IsIdle}
 use Rattle.cc_pieces.specs.Bindings.{Binding}
 use Rattle.cc_pieces.specs.Explained.{Answered, Given, IsExplained}
 use Rattle.cc_pieces.specs.Openings.{LoggedOpening, Opened, first_object_of, opening_call}
-use Rattle.cc_pieces.specs.Phases.{AheadsRan, EndsWithNone, PhaseRan, PhasesRan, Plan, is_of_phase, lazy_writer, lines_in, read_ahead_worker}
+use Rattle.cc_pieces.specs.Phases.{PhaseRan, PhasesRan, Plan, is_of_phase, lazy_writer, lines_in, read_ahead_worker}
 use Rattle.cc_pieces.specs.Runs.{Ran, asked_of}
 use Rattle.cc_pieces.specs.Served.{bindings_after}
 use Rattle.cc_pieces.proofs.Streams.{AllBelow, IsBelow}
 use Rattle.cc_pieces.proofs.LeftStreams.{HasHandles, IsActionBelow, IsLeft, IsSound, StaysBelow, left-answered, left-call, left-idle, left-served, left-then, sound-front, sound-tail}
 use Rattle.cc_pieces.proofs.TickSteps.{left-ticks}
+use Rattle.cc_pieces.proofs.AheadSteps.{left-aheads}
 
 -- an entry of no pass is of no stream
 posted-below : (n logs : ℕ) (e : Entry) → pass_of e ≡ None → IsBelow n logs e
@@ -105,23 +106,12 @@ module _ (u : Setup) (n : ℕ) (handles : HasHandles u) where
           by true is = rw (eqb-true me 0 is) (left-opened 0 streams replies [] begun (omega (arith, few)) opened)
           by false is = left-idle u n me [] begun (alone me (eqb-false me 0 is))
 
-  module _ (plan : Plan) (no_aheads : plan.aheads ≡ 0) (within : AllByRecursion (λ line. IsActionBelow n line.action) plan.lines) where
-    no-aheads : (limit phase : ℕ) (stepped : List LineReply) (taken : List Request) (old new : List Entry) → length stepped ≤ plan.aheads → AheadsRan u limit phase stepped taken old new → IsIdle read_ahead_worker old new
-    no-aheads limit phase [] taken old new count ran = ran.1
-    no-aheads limit phase (reply ∷ replies) taken old new count ran = absurd (omega (arith, count, no_aheads))
-
+  module _ (plan : Plan) (within : AllByRecursion (λ line. IsActionBelow n line.action) plan.lines) where
     left-phase : (phase : ℕ) (ticked stepped : List LineReply) (taken : List Request) (old new : List Entry) → PhaseRan u plan phase ticked stepped taken old new → (me : ℕ) → IsLeft u n me old new
     left-phase phase ticked stepped taken old new ran me = lazy (me == lazy_writer) refl
       where
-        few : length stepped ≤ plan.aheads
-        few = by ran.all_steps
-          where
-            by : (length stepped ≡ plan.aheads) ⊎ ((length stepped ≤ plan.aheads) × EndsWithNone stepped) → length stepped ≤ plan.aheads
-            by (inl all) = omega (arith, all)
-            by (inr some) = some.0
-
         ahead : (b : Bool) → (me == read_ahead_worker) ≡ b → me ≢ lazy_writer → IsLeft u n me old new
-        ahead true is other = left-idle u n me old new (rw (eqb-true me read_ahead_worker is) (no-aheads 32 phase stepped taken old new few ran.steps))
+        ahead true is other = rw (eqb-true me read_ahead_worker is) (left-aheads u n handles 32 phase stepped taken old new ran.steps)
         ahead false is other =
             left-ran _ me _ (lines_in plan phase me) old new (asked-below n (is_of_phase phase me) plan.lines plan.answers within)
             (ran.callers me other (eqb-false me read_ahead_worker is))
@@ -146,13 +136,13 @@ module _ (u : Setup) (n : ℕ) (handles : HasHandles u) where
         (every-left u n old ran.0 (left-phase phase _ _ _ old ran.0 ran.3) (sound-front u more.0 ran.0 (subst (IsSound u) more.1 sound)) all)
 
 -- Each entry of the journal of a run is of a stream of its script, and each log that failed is one of the run.
-pub explained-below : (u : Setup) (n : ℕ) (handles : HasHandles u) (given : Given) (told : Answered) (taken : List Request) (past : List Entry) → length given.streams ≤ n → given.aheads ≡ 0 → AllByRecursion (λ line. IsActionBelow n line.action) given.lines → IsSound u past → IsExplained u given told taken past → AllBelow n u.logs past
-explained-below u n handles given told taken past few no_aheads within sound is =
-    phases-below u n handles plan no_aheads within 1 given.phases told.ticked told.stepped taken is.begun past is.ran sound
+pub explained-below : (u : Setup) (n : ℕ) (handles : HasHandles u) (given : Given) (told : Answered) (taken : List Request) (past : List Entry) → length given.streams ≤ n → AllByRecursion (λ line. IsActionBelow n line.action) given.lines → IsSound u past → IsExplained u given told taken past → AllBelow n u.logs past
+explained-below u n handles given told taken past few within sound is =
+    phases-below u n handles plan within 1 given.phases told.ticked told.stepped taken is.begun past is.ran sound
     (opened-below u n handles given.streams is.setup is.begun few is.opened is.alone (sound-front u grown.0 is.begun (subst (IsSound u) grown.1 sound)))
   where
     plan : Plan
     plan = record { lines = given.lines; answers = is.answers; ticks = given.ticks; aheads = given.aheads }
 
     grown : (during : List Entry) × (past ≡ during ++ is.begun)
-    grown = phases-grow u n handles plan no_aheads within 1 given.phases told.ticked told.stepped taken is.begun past is.ran
+    grown = phases-grow u n handles plan within 1 given.phases told.ticked told.stepped taken is.begun past is.ran

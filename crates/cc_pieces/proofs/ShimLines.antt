@@ -1,8 +1,8 @@
 -- What the lists of calls of the shim leave, by what each of their calls does.
-use Rattle.std.specs.Prelude.{◌≡◌, ℕ, ◌+◌, ◌≤◌, Bool, true, false, nat_lt, List, [], ◌∷◌, ◌++◌, length, map, Result, Ok, Err, refl, if◌then◌else◌}
+use Rattle.std.specs.Prelude.{◌≡◌, ℕ, ◌+◌, Bool, true, false, nat_lt, List, [], ◌∷◌, ◌++◌, length, map, Result, Ok, Err, refl, if◌then◌else◌}
 use Rattle.std.specs.declared.option.Option.{Option}
 use Rattle.std.specs.declared.option.Option.TheVariants.{Some, None}
-use Rattle.std.specs.List.{AllByRecursion, range_with_len}
+use Rattle.std.specs.List.{AllByRecursion}
 use Rattle.std.proofs.Common.{sym, subst, inl, inr}
 use Rattle.cc_entry.specs.Place.{File, Range}
 use Rattle.cc_entry.specs.declared.place.FileState.{FileState}
@@ -36,6 +36,8 @@ IsMadeOn file own (call.MdlBytes id at len) = own ≡ Some id
 IsMadeOn file own (call.PinnedWrite id at bytes) = own ≡ Some id
 IsMadeOn file own (call.SetDirty id lsn) = own ≡ Some id
 IsMadeOn file own (call.EndHold id) = own ≡ Some id
+IsMadeOn file own (call.AskAhead asked at len) = ⊥
+IsMadeOn file own (call.AheadStep request) = ⊥
 IsMadeOn file own other = file_of other ≡ Some file
 
 -- What is said of a list of calls of which all were done, and of one that was refused, beside a hold that the list made, if

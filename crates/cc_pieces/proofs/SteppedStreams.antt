@@ -44,7 +44,7 @@ use Rattle.cc_pieces.specs.Openings.{first_object_of, opening_call}
 use Rattle.cc_pieces.specs.Steps.{EventAnswered, IsSteppedThrough, LineStepped, LinesStepped, LogSetUp, StreamStepped, StreamsStepped, answer_by, bindings_behind, line_event}
 use Rattle.cc_pieces.proofs.Faultless.{ShowsNone, TellNone, none-front, tell-append}
 use Rattle.cc_pieces.proofs.LeftStreams.{IsActionBelow, IsSound, sound-front}
-use Rattle.cc_pieces.proofs.Streams.{AllBelow, IsBelow, IsFileBelow, call-below}
+use Rattle.cc_pieces.proofs.Streams.{AllBelow, IsBelow, IsFileBelow, call-below, file-fits}
 
 -- no fault befell a pass
 unfailed : (b : Bool) (how : End) (it : Fault) → is_failed how ≡ false → (if b && is_failed how then Some it else None) ≡ None
@@ -153,7 +153,7 @@ module _ (u : Setup) (n : ℕ) (past : List Entry) (all : AllBelow n u.logs past
   done-below : (pass : ℕ) (it : Call) (r : Reply) → IsFileBelow n (file_of it) → MayHappen {Q = Unit {0}} u past (event.Do pass it) → AllBelow n u.logs (entries_done past pass it r)
   done-below pass (call.NcStore file page bytes) r below may =
       (below, (call-below n u.logs pass (suc (calls_of past pass)) (filed_under past (call.NcStore file page bytes)) (call.NcStore file page bytes) (outcome.Done r) past may.filed below all, tt))
-  done-below pass it r below may = (call-below n u.logs pass (suc (calls_of past pass)) (filed_under past it) it (outcome.Done r) past may.filed below all, tt)
+  done-below pass it r below may = (call-below n u.logs pass (suc (calls_of past pass)) (filed_under past it) it (outcome.Done r) past may.filed (file-fits n it below) all, tt)
 
   answers-below : (it : Event (Unit {0})) (r : StepReply (Unit {0})) (added : List Entry) → IsEventBelow n it → MayHappen u past it → Answers u past it r added → AllBelow n u.logs added
   answers-below (event.Fill pass page) (step.Done reply.Unit) added below may a = one-below n u.logs added _ a below
@@ -360,6 +360,8 @@ module _ (u : Setup) (n : ℕ) where
   doing-below me bindings (action.Write file at bytes) below = tt
   doing-below me bindings (action.Update file at bytes) below = tt
   doing-below me bindings (action.Levels file) below = tt
+  doing-below me bindings (action.AskAhead file at len) below = tt
+  doing-below me bindings action.AheadStep below = tt
   doing-below me bindings action.Tick below = tt
   doing-below me bindings action.IsDirtyData below = tt
   doing-below me bindings (action.DirtyPages handle) below = tt

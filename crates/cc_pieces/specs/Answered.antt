@@ -82,6 +82,10 @@ AheadAnswered u me taken (answer.Stepped step) old new = AheadLeft u me taken (O
 AheadAnswered u me taken (answer.Refused e) old new = AheadLeft u me taken (Err e) old new
 AheadAnswered u me taken other old new = ⊥
 
+-- a line that asks for a read-ahead step, which took a request, or none
+abbrev pub StepAnswered : Setup → ℕ → Answer → Between
+StepAnswered u me told old new = (taken : Option Request) × AheadAnswered u me taken told old new
+
 -- a question for the levels of a view index, over the levels of each size
 abbrev pub LevelsAnswered : (ℕ → ℕ) → ℕ → File → Answer → Between
 LevelsAnswered levels me file (answer.Levels n) old new = LevelsLeft levels me file (Ok n) old new

@@ -2,7 +2,7 @@
 use Rattle.std.specs.Prelude.{◌≡◌, ℕ, zero, suc, ◌+◌, ◌<◌, ◌≤◌, Bool, true, false, ◌==◌, ◌&&◌, nat_le, List, [], ◌∷◌, ◌++◌, length, reverse, slice_get, IfOk, Result, Ok, Err, refl, if◌then◌else◌}
 use Rattle.std.specs.declared.option.Option.TheVariants.{Some}
 use Rattle.std.specs.List.{AllByRecursion, list_any}
-use Rattle.std.proofs.Common.{arith, eq-eqb}
+use Rattle.std.proofs.Common.{ap, arith, eq-eqb}
 use Rattle.std.proofs.lemmas.Bool.{and_parts, leb-true}
 use Rattle.std.proofs.lemmas.List.{length-take}
 use Rattle.cc_entry.specs.declared.answer.LineReply.{LineReply}
@@ -37,7 +37,8 @@ use Rattle.cc_run.specs.Complete.{HaveStayed, RanWithoutFault}
 use Rattle.cc_run.specs.Disks.{Pairwise}
 use Rattle.cc_run.specs.Ends.{has_devices}
 use Rattle.cc_run.specs.Lines.{given_of, run_answered}
-use Rattle.cc_run.specs.Runs.{HasRun, IsExplainedBy, ticks_asked}
+use Rattle.cc_run.specs.Places.{taken_at}
+use Rattle.cc_run.specs.Runs.{AreQueuedBy, HasRun, IsExplainedBy, ticks_asked}
 use Rattle.cc_run.specs.Setups.{run_disks, run_logs, setup_of}
 use Rattle.cc_run.specs.declared.modes.RunResult.{RunResult}
 
@@ -123,6 +124,7 @@ action-below streams n (action.DirtyPages _) few within = tt
 action-below streams n (action.Append _ _) few within = tt
 action-below streams n (action.LogFlush _ _) few within = tt
 action-below streams n action.Scan few within = tt
+action-below streams n action.AheadStep few within = tt
 action-below streams n action.Tick few within = tt
 action-below streams n action.Post few within = tt
 action-below streams n (action.NcReadPage file page) few within = omega (arith, few, within.in_file.stream)
@@ -166,25 +168,26 @@ module _ {D L Q : Type 0} (tells : Tells D L Q) (m : Mode) (script : Script) (di
   all-below : AllBelow n u.logs past
   all-below = by m has.explained
     where
-      by : (m : Mode) → IsExplainedBy m u script (run_answered ran.replies.items ran.ticks.items) past → AllBelow n u.logs past
+      by : (m : Mode) → IsExplainedBy m u script (run_answered ran.replies.items ran.ticks.items ran.aheads.items) (taken_at ran.places.items) past → AllBelow n u.logs past
       by mode.Run is =
-          explained-below u n handles (given_of script) (run_answered ran.replies.items ran.ticks.items) [] past few within.header.no_aheads below sound is
+          explained-below u n handles (given_of script) (run_answered ran.replies.items ran.ticks.items ran.aheads.items) (taken_at ran.places.items) past few below sound is
       by mode.Steps is = stepped-below u n script.streams script.lines ran.replies.items past few below sound is
 
-  tells-none : ShowsNone past → TellNone (ran.replies.items ++ ran.ticks.items)
-  tells-none none = by m has.explained has.ticked
+  tells-none : ShowsNone past → TellNone (ran.replies.items ++ ran.ticks.items ++ ran.aheads.items)
+  tells-none none = by m has.explained has.ticked has.queued
     where
-      by : (m : Mode) → IsExplainedBy m u script (run_answered ran.replies.items ran.ticks.items) past → length ran.ticks.items ≡ ticks_asked m (Some script) → TellNone (ran.replies.items ++ ran.ticks.items)
-      by mode.Run is count =
-          explained-none u n handles (given_of script) (run_answered ran.replies.items ran.ticks.items) [] past few within.header.no_aheads below within.lines is none
-      by mode.Steps is count =
-          tell-append ran.replies.items ran.ticks.items (stepped-none u n script.streams script.lines ran.replies.items past few below sound is none)
-          (none-of ran.ticks.items count)
+      by : (m : Mode) → IsExplainedBy m u script (run_answered ran.replies.items ran.ticks.items ran.aheads.items) (taken_at ran.places.items) past → length ran.ticks.items ≡ ticks_asked m (Some script) → AreQueuedBy m script (run_answered ran.replies.items ran.ticks.items ran.aheads.items) ran.places.items past → TellNone (ran.replies.items ++ ran.ticks.items ++ ran.aheads.items)
+      by mode.Run is count queued =
+          explained-none u n handles (given_of script) (run_answered ran.replies.items ran.ticks.items ran.aheads.items) (taken_at ran.places.items) past few below within.lines is none
+      by mode.Steps is count queued =
+          tell-append (ran.replies.items ++ ran.ticks.items) ran.aheads.items
+          (tell-append ran.replies.items ran.ticks.items (stepped-none u n script.streams script.lines ran.replies.items past few below sound is none) (none-of ran.ticks.items count))
+          (none-of ran.aheads.items (ap length queued.1))
 
-  ran-without-fault : RanWithoutFault tells.disk_faults tells.log_faults disks ran.disks.items logs ran.logs.items (ran.replies.items ++ ran.ticks.items) past
+  ran-without-fault : RanWithoutFault tells.disk_faults tells.log_faults disks ran.disks.items logs ran.logs.items (ran.replies.items ++ ran.ticks.items ++ ran.aheads.items) past
   ran-without-fault disks_stayed logs_stayed = record {
     entries = any-none shows_fault past none;
-    answers = any-none (λ reply. tells_fault reply.answer) (ran.replies.items ++ ran.ticks.items) (tells-none none);
+    answers = any-none (λ reply. tells_fault reply.answer) (ran.replies.items ++ ran.ticks.items ++ ran.aheads.items) (tells-none none);
   }
     where
       as-many : length (run_disks ran.disks.items) ≡ n
@@ -201,13 +204,13 @@ module _ {D L Q : Type 0} (tells : Tells D L Q) (m : Mode) (script : Script) (di
           (λ handle before after was is. at-least _ _ _ (has.logs_left.counted handle before after was is)) logs_stayed)
 
 -- where a run was made
-pub ok-without-fault : {D L Q E : Type 0} (tells : Tells D L Q) (m : Mode) (script : Script) (disks : List D) (logs : List L) (posts : List Q) (result : Result (RunResult D L Q) E) → IsWithin script → has_devices (length disks) (length logs) (length posts) script ≡ true → IfOk result (HasRun tells m script disks logs posts) → IfOk result (λ ran. RanWithoutFault tells.disk_faults tells.log_faults disks ran.disks.items logs ran.logs.items (ran.replies.items ++ ran.ticks.items) (reverse ran.journal.items))
+pub ok-without-fault : {D L Q E : Type 0} (tells : Tells D L Q) (m : Mode) (script : Script) (disks : List D) (logs : List L) (posts : List Q) (result : Result (RunResult D L Q) E) → IsWithin script → has_devices (length disks) (length logs) (length posts) script ≡ true → IfOk result (HasRun tells m script disks logs posts) → IfOk result (λ ran. RanWithoutFault tells.disk_faults tells.log_faults disks ran.disks.items logs ran.logs.items (ran.replies.items ++ ran.ticks.items ++ ran.aheads.items) (reverse ran.journal.items))
 ok-without-fault tells m script disks logs posts (Ok ran) within enough has = ran-without-fault tells m script disks logs posts ran within enough has
 ok-without-fault tells m script disks logs posts (Err back) within enough has = tt
 
 -- nothing happened where no run was made
-pub faultless-none : {D L : Type 0} (disk_faults : D → ℕ) (log_faults : L → ℕ) (disks disks_after : List D) (logs logs_after : List L) (replies ticked : List LineReply) (journal : List Entry) → replies ≡ [] → ticked ≡ [] → journal ≡ [] → RanWithoutFault disk_faults log_faults disks disks_after logs logs_after (replies ++ ticked) (reverse journal)
-faultless-none disk_faults log_faults disks disks_after logs logs_after replies ticked journal no_reply no_tick no_entry disks_stayed logs_stayed = record {
+pub faultless-none : {D L : Type 0} (disk_faults : D → ℕ) (log_faults : L → ℕ) (disks disks_after : List D) (logs logs_after : List L) (replies ticked stepped : List LineReply) (journal : List Entry) → replies ≡ [] → ticked ≡ [] → stepped ≡ [] → journal ≡ [] → RanWithoutFault disk_faults log_faults disks disks_after logs logs_after (replies ++ ticked ++ stepped) (reverse journal)
+faultless-none disk_faults log_faults disks disks_after logs logs_after replies ticked stepped journal no_reply no_tick no_step no_entry disks_stayed logs_stayed = record {
   entries = rw no_entry refl;
-  answers = rw (no_reply, no_tick) refl;
+  answers = rw (no_reply, no_tick, no_step) refl;
 }

@@ -26,5 +26,8 @@ pub mod CallersRan
 pub mod Rooms
 pub mod OnBoard
 pub mod TicksRan
+pub mod PlacesWent
+pub mod StepsRan
 pub mod Working
+pub mod Queued
 pub mod Untold

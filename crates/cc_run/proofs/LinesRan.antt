@@ -3,7 +3,7 @@ use Rattle.std.specs.declared.option.Option.TheVariants.{Some}
 use Rattle.std.specs.Prelude.{◌≡◌, ◌≢◌, ℕ, zero, suc, ◌<◌, ◌≤◌, ◌==◌, ◌&&◌, Bool, true, false, List, [], ◌∷◌, ◌++◌, length, map, slice_get, slice_set, refl, if◌then◌else◌}
 use Rattle.std.specs.List.{AllByRecursion}
 use Rattle.std.proofs.Common.{sym, ap, subst, ◌∙◌, arith, append_assoc, get_or}
-use Rattle.std.proofs.lemmas.Bool.{eqb-true, eqb-false, eq-eqb}
+use Rattle.std.proofs.lemmas.Bool.{eqb-true, eqb-false, eq-eqb, ne_eqb}
 use Rattle.std.proofs.lemmas.List.{length-map}
 use Rattle.std.proofs.lemmas.Option.{slice_get_within}
 use Rattle.cc_entry.specs.declared.error.CcError.TheVariants as error
@@ -20,7 +20,7 @@ use Rattle.cc_pieces.specs.Bindings.{Binding}
 use Rattle.cc_pieces.specs.Served.{bindings_after}
 use Rattle.cc_pieces.specs.Rooms.{WasFull, HadNoRoom, is_alone, room_limit}
 use Rattle.cc_pieces.specs.Runs.{Explains, Ran, asked_of}
-use Rattle.cc_pieces.specs.Phases.{is_of_phase, lazy_writer}
+use Rattle.cc_pieces.specs.Phases.{is_of_phase, lazy_writer, read_ahead_worker}
 use Rattle.cc_pieces.specs.Explained.{answered_lines}
 use Rattle.cc_pieces.proofs.LineSteps.{explains-before, ran-idle}
 use Rattle.cc_script.specs.declared.bound.Bound.{Bound}
@@ -121,12 +121,12 @@ served-long u bindings lines before after old new served =
     sym (length-map lines (λ line. line.line)) ∙ (sym (ap length (left-lines u bindings lines served.answers old new served.left)) ∙ length-map served.answers (λ reply. reply.line))
 
 -- a row in whose place another was put
-put-same : {A : Type 0} (rows : List A) (k : ℕ) (now one : A) → slice_get (slice_set rows k now) k ≡ Some one → now ≡ one
+pub put-same : {A : Type 0} (rows : List A) (k : ℕ) (now one : A) → slice_get (slice_set rows k now) k ≡ Some one → now ≡ one
 put-same [] k now one at = absurd (cc at)
 put-same (r ∷ rows) zero now one at = cc at
 put-same (r ∷ rows) (suc k) now one at = put-same rows k now one at
 
-put-other : {A : Type 0} (rows : List A) (k n : ℕ) (now one : A) → k ≢ n → slice_get (slice_set rows k now) n ≡ Some one → slice_get rows n ≡ Some one
+pub put-other : {A : Type 0} (rows : List A) (k n : ℕ) (now one : A) → k ≢ n → slice_get (slice_set rows k now) n ≡ Some one → slice_get rows n ≡ Some one
 put-other [] k n now one apart at = absurd (cc at)
 put-other (r ∷ rows) zero zero now one apart at = absurd (apart refl)
 put-other (r ∷ rows) zero (suc n) now one apart at = at
@@ -171,13 +171,13 @@ stand-more u streams k bounds bindings lines answers line reply between new rows
         rw (bound-other (suc n) (bounds (suc n)) lines line apart, after-other (suc n) bindings lines answers line reply same apart)
         (names-keep u streams (suc n) between new (bound_by lines bounds (suc n)) (after_lines lines answers bindings (suc n)) names.named good (alone (suc n) (λ e. apart (sym e))) (stand.each n names (put-other rows k n now names away at)))
 
--- nothing that the lazy writer placed is a matter of a caller's words
-stand-on : (u : Setup) (streams : ℕ) (bounds : ℕ → List Bound) (bindings : ℕ → List Binding) (old new : List Entry) (rows : List NamesState) → IsGood u new → ((me : ℕ) → me ≢ lazy_writer → IsIdle me old new) → AllStand streams old bounds bindings rows → AllStand streams new bounds bindings rows
+-- nothing that the workers placed is a matter of a caller's words
+stand-on : (u : Setup) (streams : ℕ) (bounds : ℕ → List Bound) (bindings : ℕ → List Binding) (old new : List Entry) (rows : List NamesState) → IsGood u new → ((me : ℕ) → me ≢ lazy_writer → me ≢ read_ahead_worker → IsIdle me old new) → AllStand streams old bounds bindings rows → AllStand streams new bounds bindings rows
 stand-on u streams bounds bindings old new rows good alone stand = record {
   counted = stand.counted;
   each = λ n names at.
       let within : n < 16 = omega (arith, slice_get_within rows n names at, stand.counted) in
-      names-keep u streams (suc n) old new (bounds (suc n)) (bindings (suc n)) names.named good (alone (suc n) (λ e. omega (arith, e, within))) (stand.each n names at);
+      names-keep u streams (suc n) old new (bounds (suc n)) (bindings (suc n)) names.named good (alone (suc n) (λ e. omega (arith, e, within)) (λ e. omega (arith, e, within))) (stand.each n names at);
 }
 
 -- the line that is next may be served
@@ -222,10 +222,10 @@ idle-lines u me bindings (line ∷ lines) (reply ∷ replies) old new above all 
     idle-then me old left.0 new (left.2.alone me (λ e. omega (arith, e, above, all.0.last)))
     (idle-lines u me (after_line line reply.answer bindings) lines replies left.0 new above all.1 left.3)
 
--- What lines of a phase left in their order is what the phase left, from where it began, also where the lazy writer goes on
--- behind them.
-pub phase-ends : (u v : Standing) (phase ticks : ℕ) (bounds : ℕ → List Bound) (bindings : ℕ → List Binding) (lines : List ActionLine) (before between after : List LineReply) (old middle new newer : List Entry) (rows : List NamesState) → v.setup ≡ u.setup → v.streams ≡ u.streams → between ≡ before → middle ≡ old → AllByRecursion (λ line. line.phase ≡ phase) lines → LinesEnd v bounds bindings lines between after middle new rows → ((me : ℕ) → me ≢ lazy_writer → IsIdle me new newer) → IsGood v.setup newer → PhaseEnds u.setup u.streams phase ticks bounds bindings lines before after old newer rows
-phase-ends u v phase ticks bounds bindings lines before between after old middle new newer rows setup streams replies entries all ended alone good =
+-- What lines of a phase left in their order is what the phase left, from where it began, also where the workers go on behind
+-- them.
+pub phase-ends : (u v : Standing) (phase ticks aheads : ℕ) (bounds : ℕ → List Bound) (bindings : ℕ → List Binding) (lines : List ActionLine) (before between after : List LineReply) (old middle new newer : List Entry) (rows : List NamesState) → v.setup ≡ u.setup → v.streams ≡ u.streams → between ≡ before → middle ≡ old → AllByRecursion (λ line. line.phase ≡ phase) lines → LinesEnd v bounds bindings lines between after middle new rows → ((me : ℕ) → me ≢ lazy_writer → me ≢ read_ahead_worker → IsIdle me new newer) → IsGood v.setup newer → PhaseEnds u.setup u.streams phase ticks aheads bounds bindings lines before after old newer rows
+phase-ends u v phase ticks aheads bounds bindings lines before between after old middle new newer rows setup streams replies entries all ended alone good =
     let served = ended.served in
     record {
       served = record {
@@ -233,13 +233,18 @@ phase-ends u v phase ticks bounds bindings lines before between after old middle
         grew = rw replies at served.grew;
         left = record {
           lines_are = left-lines v.setup bindings lines served.answers middle new served.left;
-          ran = λ me other.
-              let limit = room_limit ticks 0 (is_alone phase lines) in
+          ran = λ me lazy ahead.
+              let limit = room_limit ticks aheads (is_alone phase lines) in
               let asked = asked_of (is_of_phase phase me) lines served.answers in
-              let ran = ran-lines v.setup limit phase me bindings lines served.answers middle new (least-limit ticks 0 (is_alone phase lines)) all served.left in
-              let on : Ran v.setup limit me (bindings me) asked middle newer = ran-idle v.setup limit me (bindings me) asked middle new newer ran (alone me other) in
+              let ran = ran-lines v.setup limit phase me bindings lines served.answers middle new (least-limit ticks aheads (is_alone phase lines)) all served.left in
+              let on : Ran v.setup limit me (bindings me) asked middle newer = ran-idle v.setup limit me (bindings me) asked middle new newer ran (alone me lazy ahead) in
               rw (setup, entries) at on;
         };
       };
       stand = rw streams at (stand-on v.setup v.streams (bound_by lines bounds) (after_lines lines served.answers bindings) new newer rows good alone ended.stand);
     }
+
+-- no line of a phase is of a number that no caller has
+pub of_none : (phase me : ℕ) (lines : List ActionLine) → ((line : ActionLine) → IsCaller line.caller → line.caller ≢ me) → AllByRecursion (λ line. IsCaller line.caller) lines → AllByRecursion (λ line. is_of_phase phase me line ≡ false) lines
+of_none phase me [] apart callers = tt
+of_none phase me (line ∷ lines) apart callers = (rw (ne_eqb line.caller me (apart line callers.0)) refl, of_none phase me lines apart callers.1)

@@ -1,8 +1,8 @@
 -- Facts of lists and answers.
-use Rattle.std.specs.Prelude.{◌≡◌, ℕ, zero, suc, ◌<◌, List, [], ◌∷◌, ◌++◌, length, map, take, drop, slice_get, Result, Ok, Err, IfOk, IfSome, Option, Some, refl}
+use Rattle.std.specs.Prelude.{◌≡◌, ◌⊎◌, ℕ, zero, suc, ◌<◌, ◌≤◌, List, [], ◌∷◌, ◌++◌, length, map, take, drop, slice_get, Result, Ok, Err, IfOk, IfSome, Option, Some, refl}
 use Rattle.std.specs.Result.{result_ok}
 use Rattle.std.specs.List.{AllByRecursion}
-use Rattle.std.proofs.Common.{sym, subst, arith, ap, get_or}
+use Rattle.std.proofs.Common.{sym, subst, arith, ap, get_or, inl, inr}
 use Rattle.std.proofs.lemmas.List.{take-append-drop}
 
 -- a fact of each element, of one
@@ -57,3 +57,9 @@ pub mapped-at : {A B : Type 0} (f : A → B) (xs : List A) (n : ℕ) (x : A) (d 
 mapped-at f [] n x d at = absurd (cc (at))
 mapped-at f (y ∷ xs) zero x d at = let is : y ≡ x = cc (at) in ap f is
 mapped-at f (y ∷ xs) (suc n) x d at = mapped-at f xs n x d at
+
+-- a number is below another, or not
+pub below-or : (n k : ℕ) → (n < k) ⊎ (k ≤ n)
+below-or n zero = inr (omega arith)
+below-or zero (suc k) = inl (omega arith)
+below-or (suc n) (suc k) = elim (below-or n k) [ inl below ↦ inl (omega (arith, below)) | inr above ↦ inr (omega (arith, above)) ]

@@ -1,8 +1,8 @@
 -- The phases one after the other: the lines of each, and what was served so far.
-use Rattle.std.specs.Prelude.{◌≡◌, ℕ, zero, suc, ◌+◌, ◌*◌, ◌<◌, ◌≤◌, ◌==◌, ◌++◌, Bool, true, false, List, [], ◌∷◌, length, map, slice_get, Some, refl, if◌then◌else◌}
+use Rattle.std.specs.Prelude.{◌≡◌, ℕ, zero, suc, ◌+◌, ◌*◌, ◌<◌, ◌≤◌, ◌==◌, ◌++◌, Bool, true, false, List, [], ◌∷◌, length, map, slice_get, Some, refl, ◌⊎◌, if◌then◌else◌}
 use Rattle.std.specs.Bool.{MatchBool}
 use Rattle.std.specs.List.{AllByRecursion, AllWithin, HoldsAt, list_all}
-use Rattle.std.proofs.Common.{sym, ap, subst, ◌∙◌, arith, append-nil, append_assoc, mul-zero, mul-suc}
+use Rattle.std.proofs.Common.{sym, ap, subst, ◌∙◌, arith, append-nil, append_assoc, inl, inr, mul-zero, mul-suc}
 use Rattle.std.proofs.lemmas.Bool.{eq-eqb}
 use Rattle.std.proofs.lemmas.Nat.{mul-le}
 use Rattle.std.proofs.lemmas.List.{length-append, length-map, map-append}
@@ -11,6 +11,8 @@ use Rattle.std.proofs.lemmas.List.Folds.{list_all_at}
 use Rattle.std.proofs.lemmas.List.Sums.{list_all-from_AllPass}
 use Rattle.cc_entry.specs.declared.answer.LineReply.{LineReply}
 use Rattle.cc_entry.specs.declared.entry.Entry.{Entry}
+use Rattle.cc_entry.specs.declared.place.Request.{Request}
+use Rattle.cc_pieces.specs.Phases.{EndsWithNone}
 use Rattle.cc_script.specs.declared.script.ActionLine.{ActionLine}
 use Rattle.cc_script.specs.Within.{PhasesAscend}
 use Rattle.cc_model.specs.Setup.{Setup}
@@ -22,9 +24,13 @@ use Rattle.cc_pieces.specs.Bindings.{Binding}
 use Rattle.cc_lines.specs.Holds.{NamesState}
 use Rattle.cc_run.specs.Lines.{AllStand, HaveNoWords, HaveRoom, KeepRoom, MayServe, after_lines, bound_by}
 use Rattle.cc_run.specs.Phases.{PhaseEnds, PhaseLeft, PhaseServed, PhasesLeft, PhasesServed}
+use Rattle.cc_run.specs.Aheads.{StepsLeft, StepsMade}
 use Rattle.cc_run.specs.Ticks.{TicksLeft, TicksMade}
+use Rattle.cc_run.specs.declared.aheads.Aheads.{Aheads}
 use Rattle.cc_run.specs.declared.ticks.Ticks.{Ticks}
+use Rattle.cc_run.specs.Places.{PlacesRan}
 use Rattle.cc_run.proofs.Lists.{all-back}
+use Rattle.cc_run.proofs.PlacesWent.{PlacesSo, places-none, places-ran, places-so, places-then}
 use Rattle.cc_lines.proofs.NamesKept.{names-none}
 use Rattle.cc_run.proofs.WordSteps.{after-append, bound-append, right-back, right-front, room-rest, words-append}
 
@@ -50,33 +56,50 @@ pub same-long : (lines : List ActionLine) (replies : List LineReply) → answere
 same-long lines replies same =
     sym (length-map lines (λ line. line.line)) ∙ (sym (ap length same) ∙ length-map replies (λ reply. reply.line))
 
-pub phase-long : (u : Setup) (phase ticks : ℕ) (bindings : ℕ → List Binding) (lines : List ActionLine) (before after : List LineReply) (old new : List Entry) → PhaseServed u phase ticks bindings lines before after old new → length after ≡ length before + length lines
-phase-long u phase ticks bindings lines before after old new served =
+pub phase-long : (u : Setup) (phase ticks aheads : ℕ) (bindings : ℕ → List Binding) (lines : List ActionLine) (before after : List LineReply) (old new : List Entry) → PhaseServed u phase ticks aheads bindings lines before after old new → length after ≡ length before + length lines
+phase-long u phase ticks aheads bindings lines before after old new served =
     ap length served.grew ∙ (length-append before served.answers ∙ ap (λ n. length before + n) (sym (same-long lines served.answers served.left.lines_are)))
 
 -- so has each line of several phases
-pub phases-lines : (u : Setup) (ticks n : ℕ) (lines : List ActionLine) (replies ticked : List LineReply) (old new : List Entry) → PhasesLeft u ticks n lines replies ticked old new → answered_lines replies ≡ map (λ line. line.line) lines
-phases-lines u ticks zero lines replies ticked old new left = rw (left.0, left.1) refl
-phases-lines u ticks (suc n) lines replies ticked old new left =
-    rw (left.7, left.8) (map-append (λ reply. reply.line) left.2 left.3
-    ∙ (ap (λ l. l ++ answered_lines left.3) (phases-lines u ticks n left.0 left.2 left.4 old left.6 left.10)
-    ∙ (ap (λ l. map (λ line. line.line) left.0 ++ l) left.12.lines_are ∙ sym (map-append (λ line. line.line) left.0 left.1))))
+pub phases-lines : (u : Setup) (ticks aheads n : ℕ) (lines : List ActionLine) (replies ticked stepped : List LineReply) (taken : List Request) (old new : List Entry) → PhasesLeft u ticks aheads n lines replies ticked stepped taken old new → answered_lines replies ≡ map (λ line. line.line) lines
+phases-lines u ticks aheads zero lines replies ticked stepped taken old new left = rw (left.0, left.1) refl
+phases-lines u ticks aheads (suc n) lines replies ticked stepped taken old new left =
+    rw (left.11, left.12) (map-append (λ reply. reply.line) left.2 left.3
+    ∙ (ap (λ l. l ++ answered_lines left.3) (phases-lines u ticks aheads n left.0 left.2 left.4 left.6 left.8 old left.10 left.16)
+    ∙ (ap (λ l. map (λ line. line.line) left.0 ++ l) left.18.lines_are ∙ sym (map-append (λ line. line.line) left.0 left.1))))
 
 -- each phase has as many ticks
-phases-ticks : (u : Setup) (ticks n : ℕ) (lines : List ActionLine) (replies ticked : List LineReply) (old new : List Entry) → PhasesLeft u ticks n lines replies ticked old new → length ticked ≡ ticks * n
-phases-ticks u ticks zero lines replies ticked old new left = ap length left.2 ∙ sym (mul-zero ticks)
-phases-ticks u ticks (suc n) lines replies ticked old new left =
+phases-ticks : (u : Setup) (ticks aheads n : ℕ) (lines : List ActionLine) (replies ticked stepped : List LineReply) (taken : List Request) (old new : List Entry) → PhasesLeft u ticks aheads n lines replies ticked stepped taken old new → length ticked ≡ ticks * n
+phases-ticks u ticks aheads zero lines replies ticked stepped taken old new left = ap length left.2 ∙ sym (mul-zero ticks)
+phases-ticks u ticks aheads (suc n) lines replies ticked stepped taken old new left =
     omega (
       arith,
-      ap length left.9,
+      ap length left.13,
       length-append left.4 left.5,
-      phases-ticks u ticks n left.0 left.2 left.4 old left.6 left.10,
-      left.13.counted,
+      phases-ticks u ticks aheads n left.0 left.2 left.4 left.6 left.8 old left.10 left.16,
+      left.19.counted,
       mul-suc ticks n,
     )
 
-pub ticked-long : (u : Setup) (ticks phases : ℕ) (lines : List ActionLine) (before after ticked : List LineReply) (old new : List Entry) → PhasesServed u ticks phases lines before after ticked old new → length ticked ≡ ticks * phases
-ticked-long u ticks phases lines before after ticked old new served = phases-ticks u ticks phases lines served.answers ticked old new served.left
+-- and no more steps of read-ahead than so many
+few-steps : (count : ℕ) (stepped : List LineReply) → (length stepped ≡ count) ⊎ ((length stepped ≤ count) × EndsWithNone stepped) → length stepped ≤ count
+few-steps count stepped (inl all) = omega (arith, all)
+few-steps count stepped (inr some) = some.0
+
+pub phases-steps : (u : Setup) (ticks aheads n : ℕ) (lines : List ActionLine) (replies ticked stepped : List LineReply) (taken : List Request) (old new : List Entry) → PhasesLeft u ticks aheads n lines replies ticked stepped taken old new → length stepped ≤ aheads * n
+phases-steps u ticks aheads zero lines replies ticked stepped taken old new left = omega (arith, ap length left.3, mul-zero aheads)
+phases-steps u ticks aheads (suc n) lines replies ticked stepped taken old new left =
+    omega (
+      arith,
+      ap length left.14,
+      length-append left.6 left.7,
+      phases-steps u ticks aheads n left.0 left.2 left.4 left.6 left.8 old left.10 left.16,
+      few-steps aheads left.7 left.20.counted,
+      mul-suc aheads n,
+    )
+
+pub ticked-long : (u : Setup) (ticks aheads phases : ℕ) (lines : List ActionLine) (before after ticked stepped : List LineReply) (taken : List Request) (old new : List Entry) → PhasesServed u ticks aheads phases lines before after ticked stepped taken old new → length ticked ≡ ticks * phases
+ticked-long u ticks aheads phases lines before after ticked stepped taken old new served = phases-ticks u ticks aheads phases lines served.answers ticked stepped taken old new served.left
 
 -- no line ascends from a phase behind the last one
 pub none-later : (from phases : ℕ) (lines : List ActionLine) → phases < from → PhasesAscend from lines → AllByRecursion (λ line. line.phase ≤ phases) lines → lines ≡ []
@@ -110,35 +133,37 @@ stand-join streams past bounds bindings front now told answers rows same stand =
       rw (bound-append (suc n) (bounds (suc n)) front now, after-append (suc n) bindings front now told answers same) (stand.each n names at);
 }
 
--- The phases before the next one were served; the rest are the lines of that one and of the later ones; and what is kept
--- of the callers' words stands.
-pub record SoFar (u : Setup) (streams ticks next : ℕ) (lines rest : List ActionLine) (before after ticked : List LineReply)
-    (old new : List Entry) (rows : List NamesState) : Type 0 where
+-- The phases before the next one were served; the rest are the lines of that one and of the later ones; what is kept of the
+-- callers' words stands; and this is what the lines did at their callers' places.
+pub record SoFar (u : Setup) (streams ticks aheads next : ℕ) (lines rest : List ActionLine) (before after ticked stepped : List LineReply)
+    (taken : List Request) (old new : List Entry) (was rows : List NamesState) : Type 0 where
   pub phases : ℕ
   pub next_is : next ≡ suc phases
   pub front : List ActionLine
   pub lines_are : lines ≡ front ++ rest
-  pub served : PhasesServed u ticks phases front before after ticked old new
+  pub served : PhasesServed u ticks aheads phases front before after ticked stepped taken old new
   pub stand : AllStand streams new (bound_by front no_bounds) (after_lines front served.answers no_bindings) rows
+  pub placed : PlacesSo front served.answers was rows old new
 
-pub so_far-none : (u : Setup) (streams ticks : ℕ) (lines : List ActionLine) (replies ticked : List LineReply) (past : List Entry) (rows : List NamesState) → ticked ≡ [] → HaveNoWords lines rows → SoFar u streams ticks 1 lines lines replies replies ticked past past rows
-so_far-none u streams ticks lines replies ticked past rows none have = record {
+pub so_far-none : (u : Setup) (streams ticks aheads : ℕ) (lines : List ActionLine) (replies ticked stepped : List LineReply) (taken : List Request) (past : List Entry) (rows : List NamesState) → ticked ≡ [] → stepped ≡ [] → taken ≡ [] → HaveNoWords lines rows → SoFar u streams ticks aheads 1 lines lines replies replies ticked stepped taken past past rows rows
+so_far-none u streams ticks aheads lines replies ticked stepped taken past rows none no_step none_taken have = record {
   phases = 0;
   next_is = refl;
   front = [];
   lines_are = refl;
-  served = record { answers = []; grew = sym (append-nil replies); left = (refl, refl, none, refl) };
+  served = record { answers = []; grew = sym (append-nil replies); left = (refl, refl, none, no_step, none_taken, refl) };
   stand = stand-none streams past lines rows have;
+  placed = places-none rows past;
 }
 
-module _ (u : Setup) (streams ticks next : ℕ) (lines rest : List ActionLine) (before between ticked : List LineReply) (old middle : List Entry) (rows : List NamesState) (so_far : SoFar u streams ticks next lines rest before between ticked old middle rows) where
+module _ (u : Setup) (streams ticks aheads next : ℕ) (lines rest : List ActionLine) (before between ticked stepped : List LineReply) (taken : List Request) (old middle : List Entry) (was rows : List NamesState) (so_far : SoFar u streams ticks aheads next lines rest before between ticked stepped taken old middle was rows) where
   abbrev pub bound_there : ℕ → List Bound
   bound_there = bound_by so_far.front no_bounds
 
   abbrev pub named_there : ℕ → List Binding
   named_there = after_lines so_far.front so_far.served.answers no_bindings
 
-  module _ (was : List NamesState) (now later : List ActionLine) (have : HaveNoWords lines was) (parts : rest ≡ now ++ later) where
+  module _ (now later : List ActionLine) (have : HaveNoWords lines was) (parts : rest ≡ now ++ later) where
     lines_parts : lines ≡ so_far.front ++ (now ++ later)
     lines_parts = so_far.lines_are ∙ ap (λ l. so_far.front ++ l) parts
 
@@ -166,14 +191,25 @@ module _ (u : Setup) (streams ticks next : ℕ) (lines rest : List ActionLine) (
   so_far-room count capacity more room =
       omega (
         arith,
-        phases-ticks u ticks so_far.phases so_far.front so_far.served.answers ticked old middle so_far.served.left,
+        phases-ticks u ticks aheads so_far.phases so_far.front so_far.served.answers ticked stepped taken old middle so_far.served.left,
         mul-suc ticks so_far.phases,
         mul-le ticks (suc so_far.phases) ticks count (omega arith) (omega (arith, more, so_far.next_is)),
         room,
       )
 
-  pub so_far-more : (was made : Ticks) (now later : List ActionLine) (after : List LineReply) (new : List Entry) (rows_now : List NamesState) → ticked ≡ was.answers.items → rest ≡ now ++ later → AllByRecursion (λ line. line.phase ≡ next) now → PhaseEnds u streams next ticks bound_there named_there now between after middle new rows_now → TicksMade u next ticks was made middle new → SoFar u streams ticks (next + 1) lines later before after made.answers.items old new rows_now
-  so_far-more was made now later after new rows_now ticked_are parts those_next ended ticks_made =
+  -- and for those of its read-ahead steps
+  pub so_far-step_room : (count capacity : ℕ) → next < count + 1 → aheads * count ≤ capacity → length stepped + aheads ≤ capacity
+  so_far-step_room count capacity more room =
+      omega (
+        arith,
+        phases-steps u ticks aheads so_far.phases so_far.front so_far.served.answers ticked stepped taken old middle so_far.served.left,
+        mul-suc aheads so_far.phases,
+        mul-le aheads (suc so_far.phases) aheads count (omega arith) (omega (arith, more, so_far.next_is)),
+        room,
+      )
+
+  pub so_far-more : (ticks_was ticks_now : Ticks) (was_steps made_steps : Aheads) (now later : List ActionLine) (after : List LineReply) (new : List Entry) (rows_now : List NamesState) → ticked ≡ ticks_was.answers.items → stepped ≡ was_steps.answers.items → taken ≡ was_steps.place.taken → rest ≡ now ++ later → AllByRecursion (λ line. line.phase ≡ next) now → PhaseEnds u streams next ticks aheads bound_there named_there now between after middle new rows_now → TicksMade u next ticks ticks_was ticks_now middle new → StepsMade u next aheads was_steps made_steps middle new → length was ≡ 16 → PlacesRan now between after rows rows_now middle new → SoFar u streams ticks aheads (next + 1) lines later before after ticks_now.answers.items made_steps.answers.items made_steps.place.taken old new was rows_now
+  so_far-more ticks_was ticks_now was_steps made_steps now later after new rows_now ticked_are stepped_are taken_are parts those_next ended ticks_made steps_made sixteen placed_now =
       let those : AllByRecursion (λ line. line.phase ≡ suc so_far.phases) now = rw so_far.next_is at those_next in
       record {
         phases = suc so_far.phases;
@@ -190,30 +226,53 @@ module _ (u : Setup) (streams ticks next : ℕ) (lines rest : List ActionLine) (
             ended.served.answers,
             ticked,
             ticks_made.answers,
+            stepped,
+            steps_made.answers,
+            taken,
+            steps_made.taken,
             middle,
             refl,
             refl,
             rw (← ticked_are) at ticks_made.grew,
+            rw (← stepped_are) at steps_made.grew,
+            rw (← taken_are) at steps_made.took,
             so_far.served.left,
             those,
             last,
             last_ticks,
+            last_steps,
           );
         };
+        placed = places-then so_far.front now so_far.served.answers ended.served.answers was rows rows_now old middle new answered (so_far.stand.counted ∙ sym sixteen) so_far.placed
+            (places-so now between after ended.served.answers rows rows_now middle new ended.served.grew placed_now);
         stand = stand-join streams new no_bounds no_bindings so_far.front now so_far.served.answers ended.served.answers rows_now
-            (same-long so_far.front so_far.served.answers (phases-lines u ticks so_far.phases so_far.front so_far.served.answers ticked old middle so_far.served.left)) ended.stand;
+            answered ended.stand;
       }
     where
-      last : PhaseLeft u (suc so_far.phases) ticks named_there now ended.served.answers middle new
+      answered : length so_far.front ≡ length so_far.served.answers
+      answered =
+          same-long so_far.front so_far.served.answers
+          (phases-lines u ticks aheads so_far.phases so_far.front so_far.served.answers ticked stepped taken old middle so_far.served.left)
+
+      last : PhaseLeft u (suc so_far.phases) ticks aheads named_there now ended.served.answers middle new
       last = rw so_far.next_is at ended.served.left
 
       last_ticks : TicksLeft u (suc so_far.phases) ticks ticks_made.answers middle new
       last_ticks = rw so_far.next_is at ticks_made.left
 
-  pub so_far-all : (phases : ℕ) → next ≡ phases + 1 → rest ≡ [] → PhasesServed u ticks phases lines before between ticked old middle
+      last_steps : StepsLeft u (suc so_far.phases) aheads steps_made.answers steps_made.taken middle new
+      last_steps = rw so_far.next_is at steps_made.left
+
+  pub so_far-all : (phases : ℕ) → next ≡ phases + 1 → rest ≡ [] → PhasesServed u ticks aheads phases lines before between ticked stepped taken old middle
   so_far-all phases is none =
       let last : so_far.phases ≡ phases = omega (arith, is, so_far.next_is) in
       rw (so_far.lines_are, none, append-nil so_far.front, ← last) so_far.served
+
+  -- what all lines did at their callers' places
+  pub so_far-placed : rest ≡ [] → PlacesRan lines before between was rows old middle
+  so_far-placed none =
+      rw (so_far.lines_are, none, append-nil so_far.front)
+      (places-ran so_far.front before between so_far.served.answers was rows old middle so_far.served.grew so_far.placed)
 
   -- what is so of each line is so of the rest
   pub so_far-rest : (P : ActionLine → Type 0) → AllByRecursion P lines → AllByRecursion P rest

@@ -1,27 +1,29 @@
 -- The run of the phases, one after the other, explains all answers.
 use Rattle.std.specs.Prelude.{◌≡◌, ◌≢◌, ℕ, zero, suc, ◌+◌, ◌<◌, ◌≤◌, ◌==◌, ◌&&◌, Bool, true, false, List, [], ◌∷◌, ◌++◌, length, take, drop, refl, if◌then◌else◌}
 use Rattle.std.specs.List.{AllByRecursion, list_all}
-use Rattle.std.proofs.Common.{sym, ap, subst, ◌∙◌, arith, inl, append-nil, append_assoc}
+use Rattle.std.proofs.Common.{sym, ap, subst, ◌∙◌, arith, append-nil, append_assoc}
 use Rattle.std.proofs.lemmas.Bool.{le-ltb, lt-ltb, ne_eqb}
 use Rattle.std.proofs.lemmas.List.{length-append, length-map}
 use Rattle.std.proofs.lemmas.List.Folds.{list_all-append}
 use Rattle.cc_entry.specs.declared.answer.LineReply.{LineReply}
 use Rattle.cc_entry.specs.declared.entry.Entry.{Entry}
+use Rattle.cc_entry.specs.declared.place.Request.{Request}
 use Rattle.cc_script.specs.declared.script.ActionLine.{ActionLine}
 use Rattle.cc_script.specs.declared.script.Script.{Script}
-use Rattle.cc_script.specs.Within.{IsLineWithin, IsWithin}
+use Rattle.cc_script.specs.Within.{IsWithin}
 use Rattle.cc_model.specs.Setup.{Setup}
 use Rattle.cc_effects.specs.Moments.{IsIdle}
-use Rattle.cc_pieces.specs.Rooms.{is_alone, room_limit}
-use Rattle.cc_pieces.specs.Runs.{Ran, asked_of}
+use Rattle.cc_pieces.specs.Rooms.{is_alone}
+use Rattle.cc_pieces.specs.Runs.{asked_of}
 use Rattle.cc_pieces.specs.Phases.{Plan, PhaseRan, PhasesRan, is_before_phase, is_of_phase, lines_before}
 use Rattle.cc_pieces.specs.Explained.{IsExplained}
 use Rattle.cc_pieces.proofs.AskedLines.{asked-none}
 use Rattle.cc_run.specs.Lines.{StreamsOpened, after_lines, asked_by, given_of, run_answered}
 use Rattle.cc_run.specs.Once.{AllTellPart, AreToldOnce}
 use Rattle.cc_run.specs.Phases.{PhaseLeft, PhasesLeft, PhasesServed}
+use Rattle.cc_run.specs.Aheads.{StepsLeft}
 use Rattle.cc_run.specs.Ticks.{TicksLeft}
-use Rattle.cc_run.proofs.Lists.{all-map, all-front, all-back, all-join}
+use Rattle.cc_run.proofs.Lists.{all-map, all-join}
 use Rattle.cc_run.proofs.Opening.{opened-left}
 use Rattle.cc_run.proofs.PhaseSteps.{phases-lines, same-long}
 use Rattle.cc_run.proofs.RowSteps.{taken}
@@ -87,25 +89,25 @@ alone-before phase (line ∷ lines) more apart = by (line.phase == phase) (alone
     by false rest = rest
 
 -- each line of several phases is of one of them
-phases-within : (u : Setup) (ticks n : ℕ) (lines : List ActionLine) (replies ticked : List LineReply) (old new : List Entry) → PhasesLeft u ticks n lines replies ticked old new → AllByRecursion (λ line. line.phase ≤ n) lines
-phases-within u ticks zero lines replies ticked old new left = rw left.0 tt
-phases-within u ticks (suc n) lines replies ticked old new left =
-    rw left.7 (all-join (λ line. line.phase ≤ suc n) left.0 left.1
-    (all-map (λ line. line.phase ≤ n) (λ line. line.phase ≤ suc n) left.0 (λ line less. omega (arith, less)) (phases-within u ticks n left.0 left.2 left.4 old left.6 left.10))
-    (all-map (λ line. line.phase ≡ suc n) (λ line. line.phase ≤ suc n) left.1 (λ line is. omega (arith, is)) left.11))
+phases-within : (u : Setup) (ticks aheads n : ℕ) (lines : List ActionLine) (replies ticked stepped : List LineReply) (taken : List Request) (old new : List Entry) → PhasesLeft u ticks aheads n lines replies ticked stepped taken old new → AllByRecursion (λ line. line.phase ≤ n) lines
+phases-within u ticks aheads zero lines replies ticked stepped taken old new left = rw left.0 tt
+phases-within u ticks aheads (suc n) lines replies ticked stepped taken old new left =
+    rw left.11 (all-join (λ line. line.phase ≤ suc n) left.0 left.1
+    (all-map (λ line. line.phase ≤ n) (λ line. line.phase ≤ suc n) left.0 (λ line less. omega (arith, less)) (phases-within u ticks aheads n left.0 left.2 left.4 left.6 left.8 old left.10 left.16))
+    (all-map (λ line. line.phase ≡ suc n) (λ line. line.phase ≤ suc n) left.1 (λ line is. omega (arith, is)) left.17))
 
 -- What a phase of a run left: of the lines of all phases, its own are the last of those up to it.
-module _ (u : Setup) (ticks : ℕ) (all : List ActionLine) (answers : List LineReply) (few : AllByRecursion (λ line. line.caller ≤ 16) all) where
+module _ (u : Setup) (ticks aheads : ℕ) (all : List ActionLine) (answers : List LineReply) where
   abbrev plan : Plan
-  plan = record { lines = all; answers = answers; ticks = ticks; aheads = 0 }
+  plan = record { lines = all; answers = answers; ticks = ticks; aheads = aheads }
 
-  phase-ran : (phase : ℕ) (earlier last later : List ActionLine) (told own others ticked : List LineReply) (old new : List Entry) → all ≡ earlier ++ (last ++ later) → answers ≡ told ++ (own ++ others) → length earlier ≡ length told → AllByRecursion (λ line. line.phase < phase) earlier → AllByRecursion (λ line. line.phase ≡ phase) last → AllByRecursion (λ line. phase < line.phase) later → PhaseLeft u phase ticks (after_lines earlier told (λ me. [])) last own old new → TicksLeft u phase ticks ticked old new → PhaseRan u plan phase ticked [] [] old new
-  phase-ran phase earlier last later told own others ticked old new lines_are replies_are long less those more left ticks_left = record {
-    callers = λ me lazy ahead. rw (asked me, alone, asked-before me) (left.ran me lazy);
+  phase-ran : (phase : ℕ) (earlier last later : List ActionLine) (told own others ticked stepped : List LineReply) (taken : List Request) (old new : List Entry) → all ≡ earlier ++ (last ++ later) → answers ≡ told ++ (own ++ others) → length earlier ≡ length told → AllByRecursion (λ line. line.phase < phase) earlier → AllByRecursion (λ line. line.phase ≡ phase) last → AllByRecursion (λ line. phase < line.phase) later → PhaseLeft u phase ticks aheads (after_lines earlier told (λ me. [])) last own old new → TicksLeft u phase ticks ticked old new → StepsLeft u phase aheads stepped taken old new → PhaseRan u plan phase ticked stepped taken old new
+  phase-ran phase earlier last later told own others ticked stepped taken old new lines_are replies_are long less those more left ticks_left steps_left = record {
+    callers = λ me lazy ahead. rw (asked me, alone, asked-before me) (left.ran me lazy ahead);
     all_ticks = ticks_left.counted;
     ticks = ticks_left.ran;
-    all_steps = inl refl;
-    steps = (refl, idle 18 (omega arith));
+    all_steps = steps_left.counted;
+    steps = steps_left.ran;
   }
     where
       other : (me : ℕ) (lines : List ActionLine) → AllByRecursion (λ line. line.phase ≢ phase) lines → AllByRecursion (λ line. is_of_phase phase me line ≡ false) lines
@@ -145,77 +147,85 @@ module _ (u : Setup) (ticks : ℕ) (all : List ActionLine) (answers : List LineR
       alone : is_alone phase all ≡ is_alone phase last
       alone = ap (is_alone phase) lines_are ∙ (alone-behind phase earlier (last ++ later) before ∙ alone-before phase last later behind)
 
-      few_last : AllByRecursion (λ line. line.caller ≤ 16) last
-      few_last =
-          all-front (λ line. line.caller ≤ 16) last later (all-back (λ line. line.caller ≤ 16) earlier (last ++ later) (rw lines_are at few))
-
-      idle : (me : ℕ) → 17 < me → IsIdle me old new
-      idle me above =
-          let none : asked_of (is_of_phase phase me) last own ≡ [] =
-          asked-none (is_of_phase phase me) last own (all-map (λ line. line.caller ≤ 16) (λ line. is_of_phase phase me line ≡ false) last (λ line least. no_caller phase me line (omega (arith, above)) least) few_last) in
-          subst (λ l. Ran u (room_limit ticks 0 (is_alone phase last)) me (after_lines earlier told (λ me. []) me) l old new) none (left.ran me (λ e. omega (arith, e, above)))
-
   -- the phases up to one, where the later ones ran behind them
-  phases-ran : (n left_over : ℕ) (lines more : List ActionLine) (replies others ticked later_ticked : List LineReply) (old between new : List Entry) → all ≡ lines ++ more → answers ≡ replies ++ others → AllByRecursion (λ line. n < line.phase) more → PhasesLeft u ticks n lines replies ticked old between → PhasesRan u plan (suc n) left_over later_ticked [] [] between new → PhasesRan u plan 1 (n + left_over) (ticked ++ later_ticked) [] [] old new
-  phases-ran zero left_over lines more replies others ticked later_ticked old between new lines_are replies_are later left ran =
+  phases-ran : (n left_over : ℕ) (lines more : List ActionLine) (replies others ticked later_ticked stepped later_stepped : List LineReply) (took later_took : List Request) (old between new : List Entry) → all ≡ lines ++ more → answers ≡ replies ++ others → AllByRecursion (λ line. n < line.phase) more → PhasesLeft u ticks aheads n lines replies ticked stepped took old between → PhasesRan u plan (suc n) left_over later_ticked later_stepped later_took between new → PhasesRan u plan 1 (n + left_over) (ticked ++ later_ticked) (stepped ++ later_stepped) (took ++ later_took) old new
+  phases-ran zero left_over lines more replies others ticked later_ticked stepped later_stepped took later_took old between new lines_are replies_are later left ran =
       let counted : left_over ≡ 0 + left_over = omega arith in
       let ticks_are : later_ticked ≡ ticked ++ later_ticked = sym (ap (λ l. l ++ later_ticked) left.2) in
-      subst (λ past. PhasesRan u plan 1 (0 + left_over) (ticked ++ later_ticked) [] [] past new) left.3
-      (subst (λ count. PhasesRan u plan 1 count (ticked ++ later_ticked) [] [] between new) counted
-      (subst (λ l. PhasesRan u plan 1 left_over l [] [] between new) ticks_are ran))
-  phases-ran (suc n) left_over lines more replies others ticked later_ticked old between new lines_are replies_are later left ran =
+      let steps_are : later_stepped ≡ stepped ++ later_stepped = sym (ap (λ l. l ++ later_stepped) left.3) in
+      let took_are : later_took ≡ took ++ later_took = sym (ap (λ l. l ++ later_took) left.4) in
+      subst (λ past. PhasesRan u plan 1 (0 + left_over) (ticked ++ later_ticked) (stepped ++ later_stepped) (took ++ later_took) past new) left.5
+      (subst (λ count. PhasesRan u plan 1 count (ticked ++ later_ticked) (stepped ++ later_stepped) (took ++ later_took) between new) counted
+      (subst (λ l. PhasesRan u plan 1 left_over l (stepped ++ later_stepped) (took ++ later_took) between new) ticks_are
+      (subst (λ l. PhasesRan u plan 1 left_over later_ticked l (took ++ later_took) between new) steps_are
+      (subst (λ l. PhasesRan u plan 1 left_over later_ticked later_stepped l between new) took_are ran))))
+  phases-ran (suc n) left_over lines more replies others ticked later_ticked stepped later_stepped took later_took old between new lines_are replies_are later left ran =
       let counted : n + suc left_over ≡ suc n + left_over = omega arith in
-      subst (λ l. PhasesRan u plan 1 (suc n + left_over) l [] [] old new) ticked_parts
-      (subst (λ count. PhasesRan u plan 1 count (left.4 ++ (left.5 ++ later_ticked)) [] [] old new) counted
-      (phases-ran n (suc left_over) left.0 (left.1 ++ more) left.2 (left.3 ++ others) left.4 (left.5 ++ later_ticked) old left.6 new lines_parts replies_parts
+      subst (λ l. PhasesRan u plan 1 (suc n + left_over) l (stepped ++ later_stepped) (took ++ later_took) old new) ticked_parts
+      (subst (λ l. PhasesRan u plan 1 (suc n + left_over) (left.4 ++ (left.5 ++ later_ticked)) l (took ++ later_took) old new) stepped_parts
+      (subst (λ l. PhasesRan u plan 1 (suc n + left_over) (left.4 ++ (left.5 ++ later_ticked)) (left.6 ++ (left.7 ++ later_stepped)) l old new) took_parts
+      (subst (λ count. PhasesRan u plan 1 count (left.4 ++ (left.5 ++ later_ticked)) (left.6 ++ (left.7 ++ later_stepped)) (left.8 ++ (left.9 ++ later_took)) old new) counted
+      (phases-ran n (suc left_over) left.0 (left.1 ++ more) left.2 (left.3 ++ others) left.4 (left.5 ++ later_ticked) left.6 (left.7 ++ later_stepped) left.8 (left.9 ++ later_took) old left.10 new lines_parts replies_parts
       (all-join (λ line. n < line.phase) left.1 more
-      (all-map (λ line. line.phase ≡ suc n) (λ line. n < line.phase) left.1 (λ line is. omega (arith, is)) left.11)
+      (all-map (λ line. line.phase ≡ suc n) (λ line. n < line.phase) left.1 (λ line is. omega (arith, is)) left.17)
       (all-map (λ line. suc n < line.phase) (λ line. n < line.phase) more (λ line less. omega (arith, less)) later))
-      left.10 (between, 0, 0, rw parts.0 one, rw parts.1 ran)))
+      left.16 (between, length left.7, length left.9, rw (parts.0, step_parts.0, request_parts.0) one, rw (parts.1, step_parts.1, request_parts.1) ran)))))
     where
       lines_parts : all ≡ left.0 ++ (left.1 ++ more)
-      lines_parts = lines_are ∙ (ap (λ l. l ++ more) left.7 ∙ append_assoc left.0 left.1 more)
+      lines_parts = lines_are ∙ (ap (λ l. l ++ more) left.11 ∙ append_assoc left.0 left.1 more)
 
       replies_parts : answers ≡ left.2 ++ (left.3 ++ others)
-      replies_parts = replies_are ∙ (ap (λ l. l ++ others) left.8 ∙ append_assoc left.2 left.3 others)
+      replies_parts = replies_are ∙ (ap (λ l. l ++ others) left.12 ∙ append_assoc left.2 left.3 others)
 
       ticked_parts : left.4 ++ (left.5 ++ later_ticked) ≡ ticked ++ later_ticked
-      ticked_parts = sym (ap (λ l. l ++ later_ticked) left.9 ∙ append_assoc left.4 left.5 later_ticked)
+      ticked_parts = sym (ap (λ l. l ++ later_ticked) left.13 ∙ append_assoc left.4 left.5 later_ticked)
 
-      -- the ticks of the phase are the first of those from it on
+      stepped_parts : left.6 ++ (left.7 ++ later_stepped) ≡ stepped ++ later_stepped
+      stepped_parts = sym (ap (λ l. l ++ later_stepped) left.14 ∙ append_assoc left.6 left.7 later_stepped)
+
+      took_parts : left.8 ++ (left.9 ++ later_took) ≡ took ++ later_took
+      took_parts = sym (ap (λ l. l ++ later_took) left.15 ∙ append_assoc left.8 left.9 later_took)
+
+      -- the ticks of the phase are the first of those from it on, and so are its steps and what they took
       parts : (take ticks (left.5 ++ later_ticked) ≡ left.5) × (drop ticks (left.5 ++ later_ticked) ≡ later_ticked)
-      parts = taken ticks left.5 later_ticked (omega (arith, left.13.counted, length-append left.5 later_ticked))
+      parts = taken ticks left.5 later_ticked (omega (arith, left.19.counted, length-append left.5 later_ticked))
 
-      one : PhaseRan u plan (suc n) left.5 [] [] left.6 between
+      step_parts : (take (length left.7) (left.7 ++ later_stepped) ≡ left.7) × (drop (length left.7) (left.7 ++ later_stepped) ≡ later_stepped)
+      step_parts = taken (length left.7) left.7 later_stepped (omega (arith, length-append left.7 later_stepped))
+
+      request_parts : (take (length left.9) (left.9 ++ later_took) ≡ left.9) × (drop (length left.9) (left.9 ++ later_took) ≡ later_took)
+      request_parts = taken (length left.9) left.9 later_took (omega (arith, length-append left.9 later_took))
+
+      one : PhaseRan u plan (suc n) left.5 left.7 left.9 left.10 between
       one =
-          phase-ran (suc n) left.0 left.1 more left.2 left.3 others left.5 left.6 between lines_parts replies_parts
-          (same-long left.0 left.2 (phases-lines u ticks n left.0 left.2 left.4 old left.6 left.10))
-          (all-map (λ line. line.phase ≤ n) (λ line. line.phase < suc n) left.0 (λ line less. omega (arith, less)) (phases-within u ticks n left.0 left.2 left.4 old left.6 left.10))
-          left.11 later left.12 left.13
+          phase-ran (suc n) left.0 left.1 more left.2 left.3 others left.5 left.7 left.9 left.10 between lines_parts replies_parts
+          (same-long left.0 left.2 (phases-lines u ticks aheads n left.0 left.2 left.4 left.6 left.8 old left.10 left.16))
+          (all-map (λ line. line.phase ≤ n) (λ line. line.phase < suc n) left.0 (λ line less. omega (arith, less)) (phases-within u ticks aheads n left.0 left.2 left.4 left.6 left.8 old left.10 left.16))
+          left.17 later left.18 left.19 left.20
 
-  pub all-ran : (n : ℕ) (ticked : List LineReply) (old new : List Entry) → PhasesLeft u ticks n all answers ticked old new → PhasesRan u (record { lines = all; answers = answers; ticks = ticks; aheads = 0 }) 1 n ticked [] [] old new
-  all-ran n ticked old new left =
+  pub all-ran : (n : ℕ) (ticked stepped : List LineReply) (took : List Request) (old new : List Entry) → PhasesLeft u ticks aheads n all answers ticked stepped took old new → PhasesRan u plan 1 n ticked stepped took old new
+  all-ran n ticked stepped took old new left =
       let counted : n + 0 ≡ n = omega arith in
-      subst (λ count. PhasesRan u plan 1 count ticked [] [] old new) counted
-      (subst (λ l. PhasesRan u plan 1 (n + 0) l [] [] old new) (append-nil ticked)
-      (phases-ran n 0 all [] answers [] ticked [] old new new (sym (append-nil all)) (sym (append-nil answers)) tt left (refl, refl, refl, refl)))
+      subst (λ count. PhasesRan u plan 1 count ticked stepped took old new) counted
+      (subst (λ l. PhasesRan u plan 1 (n + 0) l stepped took old new) (append-nil ticked)
+      (subst (λ l. PhasesRan u plan 1 (n + 0) (ticked ++ []) l took old new) (append-nil stepped)
+      (subst (λ l. PhasesRan u plan 1 (n + 0) (ticked ++ []) (stepped ++ []) l old new) (append-nil took)
+      (phases-ran n 0 all [] answers [] ticked [] stepped [] took [] old new new (sym (append-nil all)) (sym (append-nil answers)) tt left (refl, refl, refl, refl)))))
 
 -- What the streams and the phases of a script left, one after the other, explains all answers.
-explained : (u : Setup) (script : Script) (between replies kept ticked : List LineReply) (begun past : List Entry) → IsWithin script → StreamsOpened u 0 script.streams [] between [] begun → ((me : ℕ) → me ≢ 0 → IsIdle me [] begun) → PhasesServed u script.ticks script.phases script.lines between replies ticked begun past → AreToldOnce script.streams script.lines replies kept → IsExplained u (given_of script) (run_answered kept ticked) [] past
-explained u script between replies kept ticked begun past within opened alone served told = record {
+explained : (u : Setup) (script : Script) (between replies kept ticked stepped : List LineReply) (took : List Request) (begun past : List Entry) → IsWithin script → StreamsOpened u 0 script.streams [] between [] begun → ((me : ℕ) → me ≢ 0 → IsIdle me [] begun) → PhasesServed u script.ticks script.aheads script.phases script.lines between replies ticked stepped took begun past → AreToldOnce script.streams script.lines replies kept → IsExplained u (given_of script) (run_answered kept ticked stepped) took past
+explained u script between replies kept ticked stepped took begun past within opened alone served told = record {
   setup = opened.answers;
   answers = drop (length script.streams) kept;
   begun = begun;
   replies_are = kept-parts script.streams opened.answers served.answers between replies opened.grew served.grew setup_long kept told.setup;
   setup_lines = opened.lines_are;
-  answer_lines = part-lines script.lines served.answers (drop (length script.streams) kept) part ∙ phases-lines u script.ticks script.phases script.lines served.answers ticked begun past served.left;
+  answer_lines = part-lines script.lines served.answers (drop (length script.streams) kept) part ∙ phases-lines u script.ticks script.aheads script.phases script.lines served.answers ticked stepped took begun past served.left;
   opened = opened-left u 0 script.streams opened.answers [] begun opened.left;
   alone = alone;
   ran =
-      phases-part u script.lines served.answers (drop (length script.streams) kept) script.ticks script.aheads part 1 script.phases ticked [] [] begun past
-      (rw within.header.no_aheads (all-ran u script.ticks script.lines served.answers
-      (all-map (IsLineWithin script.streams script.phases) (λ line. line.caller ≤ 16) script.lines (λ line is. is.last_caller) within.lines)
-      script.phases ticked begun past served.left));
+      phases-part u script.lines served.answers (drop (length script.streams) kept) script.ticks script.aheads part 1 script.phases ticked stepped took begun past
+      (all-ran u script.ticks script.aheads script.lines served.answers script.phases ticked stepped took begun past served.left);
   posted_once = told.once;
 }
   where
@@ -227,18 +237,18 @@ explained u script between replies kept ticked begun past within opened alone se
     part = subst (λ l. AllTellPart script.lines l (drop (length script.streams) kept))
         (told-parts script.streams opened.answers served.answers between replies opened.grew served.grew setup_long) told.part
 
-pub run-explained : (u v : Setup) (script : Script) (first between replies kept ticked : List LineReply) (start begun past : List Entry) → IsWithin script → first ≡ [] → start ≡ [] → v ≡ u → StreamsOpened u 0 script.streams first between start begun → ((me : ℕ) → me ≢ 0 → IsIdle me start begun) → PhasesServed v script.ticks script.phases script.lines between replies ticked begun past → AreToldOnce script.streams script.lines replies kept → IsExplained u (given_of script) (run_answered kept ticked) [] past
-run-explained u v script first between replies kept ticked start begun past within none empty same opened alone served told =
-    explained u script between replies kept ticked begun past within (rw (none, empty) at opened) (rw empty at alone) (rw same at served) told
+pub run-explained : (u v : Setup) (script : Script) (first between replies kept ticked stepped : List LineReply) (took : List Request) (start begun past : List Entry) → IsWithin script → first ≡ [] → start ≡ [] → v ≡ u → StreamsOpened u 0 script.streams first between start begun → ((me : ℕ) → me ≢ 0 → IsIdle me start begun) → PhasesServed v script.ticks script.aheads script.phases script.lines between replies ticked stepped took begun past → AreToldOnce script.streams script.lines replies kept → IsExplained u (given_of script) (run_answered kept ticked stepped) took past
+run-explained u v script first between replies kept ticked stepped took start begun past within none empty same opened alone served told =
+    explained u script between replies kept ticked stepped took begun past within (rw (none, empty) at opened) (rw empty at alone) (rw same at served) told
 
 -- each stream and each line has a reply
-pub run-long : (u v : Setup) (script : Script) (first between replies ticked : List LineReply) (start begun past : List Entry) → first ≡ [] → StreamsOpened u 0 script.streams first between start begun → PhasesServed v script.ticks script.phases script.lines between replies ticked begun past → length replies ≡ length script.streams + length script.lines
-run-long u v script first between replies ticked start begun past none opened served =
+pub run-long : (u v : Setup) (script : Script) (first between replies ticked stepped : List LineReply) (took : List Request) (start begun past : List Entry) → first ≡ [] → StreamsOpened u 0 script.streams first between start begun → PhasesServed v script.ticks script.aheads script.phases script.lines between replies ticked stepped took begun past → length replies ≡ length script.streams + length script.lines
+run-long u v script first between replies ticked stepped took start begun past none opened served =
     omega (
       arith,
       ap length served.grew,
       length-append between served.answers,
       opened-long u 0 script.streams first between start begun opened,
       ap length none,
-      same-long script.lines served.answers (phases-lines v script.ticks script.phases script.lines served.answers ticked begun past served.left),
+      same-long script.lines served.answers (phases-lines v script.ticks script.aheads script.phases script.lines served.answers ticked stepped took begun past served.left),
     )

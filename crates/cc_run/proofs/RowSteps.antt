@@ -9,7 +9,7 @@ reverse_twice (x ∷ xs) =
     ap reverse (reverse-append (x ∷ []) xs) ∙ reverse-append (reverse xs) (x ∷ []) ∙ ap (λ ys. x ∷ ys) (reverse_twice xs)
 
 -- the last item of a row is the first of the row turned round
-last_first : {A : Type 0} (row rest : List A) (x : A) → row ≡ rest ++ x ∷ [] → reverse row ≡ x ∷ reverse rest
+pub last_first : {A : Type 0} (row rest : List A) (x : A) → row ≡ rest ++ x ∷ [] → reverse row ≡ x ∷ reverse rest
 last_first row rest x is = ap reverse is ∙ reverse-append rest (x ∷ [])
 
 -- what moved out, and what is left of the row, are the row as it was

@@ -1,5 +1,5 @@
 -- The ticks of a phase: one more of them, others before and behind them, and the answers of all phases.
-use Rattle.std.specs.Prelude.{◌≡◌, ℕ, zero, suc, ◌+◌, ◌<◌, ◌≤◌, Bool, true, false, ◌&&◌, List, [], ◌∷◌, ◌++◌, length, vec_capacity, refl, Err, if◌then◌else◌}
+use Rattle.std.specs.Prelude.{◌≡◌, ℕ, zero, suc, ◌+◌, ◌≤◌, ◌==◌, Bool, true, false, ◌&&◌, List, [], ◌∷◌, ◌++◌, vec_capacity, refl, if◌then◌else◌}
 use Rattle.std.specs.List.{AllByRecursion}
 use Rattle.std.proofs.Common.{ap, sym, subst, ◌∙◌, arith, append-nil, append_assoc, inl, inr}
 use Rattle.std.proofs.lemmas.Bool.{ne_eqb}
@@ -117,13 +117,18 @@ desk-made w0 w1 phase was now new acts made =
     let seen : w1.seen ≡ w0.seen = ap (λ w. w.seen) acts in
     rw (setup, seen) at made
 
--- where there are ticks, or several callers, a line may find little room
-pub beside-limit : (each : ℕ) (alone : Bool) → (each ≡ 0 → alone ≡ true → ⊥) → room_limit each 0 alone ≡ 32
-beside-limit zero true never = absurd (never refl refl)
-beside-limit zero false never = refl
-beside-limit (suc each) alone never = rw (ne_eqb (suc each) 0 (λ e. omega (arith, e))) (by alone)
+-- where there are ticks, read-ahead steps, or several callers, a line may find little room
+pub beside-limit : (ticks aheads : ℕ) (alone : Bool) → (ticks ≡ 0 → aheads ≡ 0 → alone ≡ true → ⊥) → room_limit ticks aheads alone ≡ 32
+beside-limit zero zero true never = absurd (never refl refl refl)
+beside-limit zero zero false never = refl
+beside-limit zero (suc aheads) alone never = rw (ne_eqb (suc aheads) 0 (λ e. omega (arith, e))) (by alone)
   where
-    by : (b : Bool) → ◌≡◌ {A = ℕ} (if b && (false && true) then 4 else 32) 32
+    by : (b : Bool) → ◌≡◌ {A = ℕ} (if b && (true && false) then 4 else 32) 32
+    by true = refl
+    by false = refl
+beside-limit (suc ticks) aheads alone never = rw (ne_eqb (suc ticks) 0 (λ e. omega (arith, e))) (by alone)
+  where
+    by : (b : Bool) → ◌≡◌ {A = ℕ} (if b && (false && (aheads == 0)) then 4 else 32) 32
     by true = refl
     by false = refl
 

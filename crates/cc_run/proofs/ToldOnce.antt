@@ -1,6 +1,5 @@
 -- Answers of lines that post, of which some numbers go untold: what explained them explains what is left.
-use Rattle.std.specs.Prelude.{◌≡◌, ℕ, zero, suc, nat_eq, ◌+◌, ◌<◌, ◌==◌, ◌||◌, ◌⊎◌, Bool, true, false, List, [], ◌∷◌, ◌++◌, length, map, take, drop, slice_get, slice_set, refl, if◌then◌else◌}
-use Rattle.std.specs.declared.option.Option.TheVariants.{Some, None}
+use Rattle.std.specs.Prelude.{◌≡◌, ℕ, zero, suc, nat_eq, ◌==◌, ◌||◌, Bool, true, false, List, [], ◌∷◌, ◌++◌, length, take, drop, refl, if◌then◌else◌}
 use Rattle.std.specs.List.{AllByRecursion, IsDistinct, list_any}
 use Rattle.std.proofs.Common.{sym, ap, subst, ◌∙◌, arith, inl, inr}
 use Rattle.std.proofs.lemmas.List.{take-append-drop}
@@ -17,11 +16,11 @@ use Rattle.cc_script.specs.declared.script.StreamLine.{StreamLine}
 use Rattle.cc_model.specs.Setup.{Setup}
 use Rattle.cc_pieces.specs.Answered.{PostsLeft}
 use Rattle.cc_pieces.specs.Bindings.{Binding}
-use Rattle.cc_pieces.specs.Explained.{answered_lines, posted_in}
+use Rattle.cc_pieces.specs.Explained.{answered_lines}
 use Rattle.cc_pieces.specs.Phases.{PhaseRan, PhasesRan, Plan, is_before_phase, is_of_phase, limit_in}
 use Rattle.cc_pieces.specs.Rooms.{HadNoRoom}
 use Rattle.cc_pieces.specs.Runs.{Explains, Ran, asked_of, bindings_of}
-use Rattle.cc_pieces.specs.Served.{Served, bindings_after, posted_by}
+use Rattle.cc_pieces.specs.Served.{Served, bindings_after}
 use Rattle.cc_pieces.proofs.ThrottleSteps.{posts-before}
 use Rattle.cc_run.specs.Once.{AllTellPart, ArePart, TellsPart}
 

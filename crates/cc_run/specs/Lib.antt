@@ -12,6 +12,8 @@ pub mod Ends
 pub mod Complete
 pub mod Main
 pub mod Ticks
+pub mod Aheads
+pub mod Places
 pub mod Phases
 pub mod Callers
 pub mod Threads

@@ -144,6 +144,6 @@ given_of script = record {
   aheads = script.aheads;
 }
 
--- the answers of a run: those of its lines and of its ticks; there are no steps of read-ahead
-abbrev pub run_answered : List LineReply → List LineReply → Answered
-run_answered replies ticked = record { replies = replies; ticked = ticked; stepped = [] }
+-- the answers of a run: those of its lines, of its ticks and of its read-ahead steps
+abbrev pub run_answered : List LineReply → List LineReply → List LineReply → Answered
+run_answered replies ticked stepped = record { replies = replies; ticked = ticked; stepped = stepped }

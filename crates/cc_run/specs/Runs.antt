@@ -4,6 +4,8 @@ use Rattle.std.specs.declared.option.Option.{Option}
 use Rattle.std.specs.declared.option.Option.TheVariants.{Some, None}
 use Rattle.cc_entry.specs.declared.answer.LineReply.{LineReply}
 use Rattle.cc_entry.specs.declared.entry.Entry.{Entry}
+use Rattle.cc_entry.specs.declared.place.Request.{Request}
+use Rattle.cc_queue.specs.Places.{PlaceState}
 use Rattle.cc_journal.specs.Capacity.{IsWithinCapacity}
 use Rattle.cc_model.specs.Good.{IsGood}
 use Rattle.cc_model.specs.Setup.{Setup}
@@ -17,14 +19,21 @@ use Rattle.cc_turns.specs.Desk.{Tells}
 use Rattle.cc_run.specs.Disks.{DisksLeft}
 use Rattle.cc_run.specs.Lines.{given_of, run_answered}
 use Rattle.cc_run.specs.Logs.{LogsLeft}
+use Rattle.cc_run.specs.Places.{AreQueued, taken_at}
 use Rattle.cc_run.specs.Setups.{setup_of}
 use Rattle.cc_run.specs.declared.modes.RunResult.{RunResult}
 
--- A past explains what a script was answered: in a run, by what each caller's lines left between two moments, without
--- requests for read-ahead; in steps, by one event a line.
-abbrev pub IsExplainedBy : Mode → Setup → Script → Answered → List Entry → Type 0
-IsExplainedBy mode.Run u script told past = IsExplained u (given_of script) told [] past
-IsExplainedBy mode.Steps u script told past = IsSteppedThrough u script.streams script.lines told.replies past
+-- A past explains what a script was answered: in a run, by what each caller's lines left between two moments, and by these
+-- requests that the read-ahead worker took; in steps, by one event a line.
+abbrev pub IsExplainedBy : Mode → Setup → Script → Answered → List Request → List Entry → Type 0
+IsExplainedBy mode.Run u script told taken past = IsExplained u (given_of script) told taken past
+IsExplainedBy mode.Steps u script told taken past = IsSteppedThrough u script.streams script.lines told.replies past
+
+-- What the passes have at the queue of read-ahead: in a run each has a place, as the journal and the answers say; in steps there are
+-- no places and no steps of read-ahead.
+abbrev pub AreQueuedBy : Mode → Script → Answered → List (PlaceState Request) → List Entry → Type 0
+AreQueuedBy mode.Run script told places past = AreQueued (given_of script) told places past
+AreQueuedBy mode.Steps script told places past = (places ≡ []) × (told.stepped ≡ [])
 
 -- the numbers of the deferred writes of a script's `defer` lines, where one was run
 abbrev pub deferrals_in : Option Script → List LineReply → List (Option ℕ)
@@ -45,7 +54,9 @@ pub record HasRun {D L Q : Type 0} (tells : Tells D L Q) (m : Mode) (script : Sc
   pub good : IsGood (setup_of tells.disk tells.disk_faults script disks logs) (reverse ran.journal.items)
   pub within : IsWithinCapacity script.journal (reverse ran.journal.items)
   pub explained : IsExplainedBy m (setup_of tells.disk tells.disk_faults script disks logs) script
-      (run_answered ran.replies.items ran.ticks.items) (reverse ran.journal.items)
+      (run_answered ran.replies.items ran.ticks.items ran.aheads.items) (taken_at ran.places.items) (reverse ran.journal.items)
+  pub queued : AreQueuedBy m script (run_answered ran.replies.items ran.ticks.items ran.aheads.items) ran.places.items
+      (reverse ran.journal.items)
   pub ticked : length ran.ticks.items ≡ ticks_asked m (Some script)
   pub table : IfSome ran.table (λ rows. rows.items ≡ table_of (reverse ran.journal.items))
   pub disks_left : DisksLeft tells.disk tells.disk_faults (reverse ran.journal.items) disks ran.disks.items

@@ -8,8 +8,9 @@ ghost use Rattle.cc_turns.specs.Desk.{tells_of};
 ghost use Rattle.cc_run.specs.Callers.{MayRun, CallerRan, MayAllRun, AllRan};
 
 use cc_board::{Board, Pass, Seated};
-use cc_entry::Answer;
+use cc_entry::{Answer, Request};
 use cc_lines::{Fresh, Names, serve_at};
+use cc_queue::Queue;
 use cc_script::ActionLine;
 use cc_traits::{Gate, LogFile, PageDisk, PostRoutine, Told};
 use cc_turns::Turns;
@@ -23,7 +24,7 @@ pub(crate) struct Caller<D: Told, L: LogFile, Q: PostRoutine> {
     pub(crate) pass: Pass<D, L, Q>,
     /// Room for the answer of each of its lines.
     pub(crate) room: Vec<Answer>,
-    /// What its words name, with room for those that its lines bind.
+    /// What its words name, with room for those that its lines bind, and its place at the queue.
     pub(crate) names: Names,
     /// How many calls it made in the phases before.
     pub(crate) calls: u32,
@@ -49,12 +50,14 @@ pub(crate) fn run_callers<
     rt: &R,
     alloc: Global,
     board: &Board<D, L, Q>,
+    queue: &Queue<Request>,
     lines: &[ActionLine],
     gate: &P,
     callers: Vec<Caller<D, L, Q>>,
     room: Vec<Finished<D, L, Q>>,
 ) -> Vec<Finished<D, L, Q>>
     requires may { MayAllRun (tells_of D.told D.faults L.told L.faults Q.posted) board.now lines.now callers.items }
+    requires own { AllByRecursion (λ caller. caller.names.place.queue ≡ queue.now) callers.items }
     requires room { IsRoomFor (length callers.items) room.items (vec_capacity room) }
     ensures ran { AllRan (tells_of D.told D.faults L.told L.faults Q.posted) board.now lines.now
         callers.items result.items }
@@ -71,7 +74,7 @@ pub(crate) fn run_callers<
             names,
             calls: _,
         } = caller;
-        let mut ended = run_callers(rt, alloc, board, lines, gate, callers, room);
+        let mut ended = run_callers(rt, alloc, board, queue, lines, gate, callers, room);
         ended.push_reserved(Finished {
             pass,
             answers,
@@ -84,15 +87,17 @@ pub(crate) fn run_callers<
         move || -> Vec<Finished<D, L, Q>>
             requires { IsSync R.row
                 × MayAllRun (tells_of D.told D.faults L.told L.faults Q.posted) board.now lines.now callers.items
+                × AllByRecursion (λ caller. caller.names.place.queue ≡ queue.now) callers.items
                 × IsRoomFor (length callers.items) room.items (vec_capacity room) }
             ensures { AllRan (tells_of D.told D.faults L.told L.faults Q.posted) board.entry.now lines.entry.now
                 callers.items result.items × (vec_capacity result ≡ vec_capacity room) }
-        { run_callers(rt, alloc, board, lines, gate, callers, room) },
+        { run_callers(rt, alloc, board, queue, lines, gate, callers, room) },
         move || -> Finished<D, L, Q>
-            requires { IsSync R.row × MayRun (tells_of D.told D.faults L.told L.faults Q.posted) board.now lines.now caller }
+            requires { IsSync R.row × MayRun (tells_of D.told D.faults L.told L.faults Q.posted) board.now lines.now caller
+                × (caller.names.place.queue ≡ queue.now) }
             ensures { CallerRan (tells_of D.told D.faults L.told L.faults Q.posted) board.entry.now lines.entry.now
                 caller result }
-        { run_caller(rt, alloc, board, lines, gate, caller) },
+        { run_caller(rt, alloc, board, queue, lines, gate, caller) },
     );
     ended.push_reserved(last);
     ended
@@ -103,11 +108,13 @@ fn run_caller<R: Wait, D: PageDisk, L: LogFile, Q: Fresh, P: Gate>(
     rt: &R,
     alloc: Global,
     board: &Board<D, L, Q>,
+    queue: &Queue<Request>,
     lines: &[ActionLine],
     gate: &P,
     caller: Caller<D, L, Q>,
 ) -> Finished<D, L, Q>
     requires may { MayRun (tells_of D.told D.faults L.told L.faults Q.posted) board.now lines.now caller }
+    requires own { caller.names.place.queue ≡ queue.now }
     ensures ran { CallerRan (tells_of D.told D.faults L.told L.faults Q.posted) board.now lines.now caller result }
 {
     let Caller {
@@ -121,7 +128,16 @@ fn run_caller<R: Wait, D: PageDisk, L: LogFile, Q: Fresh, P: Gate>(
     for line in lines {
         if line.caller == me {
             calls = calls.saturating_add(1);
-            let answer = serve_at(alloc, &mut seated, &line.action, gate, calls, &mut names);
+            let answer = serve_at(
+                rt,
+                alloc,
+                &mut seated,
+                queue,
+                &line.action,
+                gate,
+                calls,
+                &mut names,
+            );
             answers.push_reserved(answer);
         }
     }

@@ -1,36 +1,46 @@
-//! The lines of a phase on a desk, in their order, and the ticks behind them.
+//! The lines of a phase on a desk, in their order, and the ticks and the read-ahead steps behind them.
 
-ghost use Rattle.std.specs.Prelude.{◌≡◌, ◌≢◌, ℕ, ◌+◌, ◌≤◌, List, length, vec_len, vec_capacity};
+ghost use Rattle.std.specs.Prelude.{◌≡◌, ◌≢◌, ℕ, ◌+◌, ◌≤◌, List, [], ◌∷◌, length, vec_len, vec_capacity};
 ghost use Rattle.std.specs.List.{AllByRecursion};
 ghost use Rattle.cc_effects.specs.Moments.{IsIdle};
 ghost use Rattle.cc_turns.specs.Desk.{standing_of};
 ghost use Rattle.cc_run.specs.Desks.{IsReady, IsSameRun};
 ghost use Rattle.cc_model.specs.Good.{IsGood};
 ghost use Rattle.cc_pieces.specs.Bindings.{Binding};
-ghost use Rattle.cc_pieces.specs.Phases.{lazy_writer};
+ghost use Rattle.cc_pieces.specs.Phases.{lazy_writer, read_ahead_worker};
 ghost use Rattle.cc_script.specs.HoldWords.{AreUsedRight, UsesRight};
 ghost use Rattle.cc_script.specs.declared.bound.Bound.{Bound};
 ghost use Rattle.cc_lines.specs.Holds.{NamesStand};
 ghost use Rattle.cc_lines.specs.Line.{IsServable};
 ghost use Rattle.cc_run.specs.Lines.{AllStand, IsCaller, KeepRoom, LineEnd, LinesEnd, MayServe, MayServeLine};
+ghost use Rattle.cc_run.specs.Aheads.{HasStepRoom, StepsMade};
+ghost use Rattle.cc_run.specs.Places.{AreOfQueue, PlaceWent, PlacesRan};
 ghost use Rattle.cc_run.specs.Ticks.{HasTickRoom, TicksMade};
 
+use crate::aheads::{Aheads, make_steps};
 use crate::call_numbers::Calls;
 use crate::ticks::{Ticks, make_ticks};
-use cc_entry::{Answer, LineReply};
+use cc_entry::{Answer, LineReply, Request};
 use cc_lines::{Fresh, Names, serve_at};
+use cc_queue::Queue;
 use cc_script::ActionLine;
 use cc_traits::{Gate, LogFile, PageDisk, PostRoutine};
 use cc_turns::Desk;
 use std::alloc::Global;
+use std::sync::Wait;
 
 /// The pass of the lazy writer.
 const LAZY_WRITER: u32 = 17;
 
+/// The pass of the read-ahead worker.
+const READ_AHEAD_WORKER: u32 = 18;
+
 /// Serves the lines, and puts the answer of each behind the replies.
-pub(crate) fn serve_lines<D: PageDisk, L: LogFile, Q: Fresh, P: Gate>(
+pub(crate) fn serve_lines<R: Wait, D: PageDisk, L: LogFile, Q: Fresh, P: Gate>(
+    rt: &R,
     alloc: Global,
     desk: &mut Desk<D, L, Q>,
+    queue: &Queue<Request>,
     lines: &[ActionLine],
     gate: &P,
     calls: &mut Calls,
@@ -44,12 +54,15 @@ pub(crate) fn serve_lines<D: PageDisk, L: LogFile, Q: Fresh, P: Gate>(
     requires words { MayServe (standing_of D.told D.faults L.told L.faults desk.old).streams desk.old.last.entries
         lines.now names.old }
     requires room { vec_len replies.old + length lines.now ≤ vec_capacity replies.old }
+    requires own { AreOfQueue queue.now names.old }
     ensures served { (bounds : ℕ → List Bound) (bindings : ℕ → List Binding) →
         AllStand (standing_of D.told D.faults L.told L.faults desk.old).streams desk.old.last.entries bounds bindings names.old →
         ((me : ℕ) → AreUsedRight me (bounds me) lines.now) →
         LinesEnd (standing_of D.told D.faults L.told L.faults desk.old) bounds bindings lines.now
         replies.old.items replies.new.items desk.old.last.entries desk.new.last.entries names.new }
     ensures kept_room { KeepRoom names.old names.new }
+    ensures placed { PlacesRan lines.now replies.old.items replies.new.items names.old names.new
+        desk.old.last.entries desk.new.last.entries }
     ensures run { IsSameRun (standing_of D.told D.faults L.told L.faults desk.old)
         (standing_of D.told D.faults L.told L.faults desk.new) }
     ensures ready { IsReady (standing_of D.told D.faults L.told L.faults desk.new) }
@@ -57,7 +70,16 @@ pub(crate) fn serve_lines<D: PageDisk, L: LogFile, Q: Fresh, P: Gate>(
 {
     for line in lines {
         let own = &mut names[line.caller as usize - 1];
-        let answer = serve_line(alloc, desk, line, gate, calls.next(line.caller), own);
+        let answer = serve_line(
+            rt,
+            alloc,
+            desk,
+            queue,
+            line,
+            gate,
+            calls.next(line.caller),
+            own,
+        );
         replies.push_reserved(LineReply {
             line: line.line,
             answer,
@@ -66,9 +88,11 @@ pub(crate) fn serve_lines<D: PageDisk, L: LogFile, Q: Fresh, P: Gate>(
 }
 
 // Serves a line as its caller.
-fn serve_line<D: PageDisk, L: LogFile, Q: Fresh, P: Gate>(
+fn serve_line<R: Wait, D: PageDisk, L: LogFile, Q: Fresh, P: Gate>(
+    rt: &R,
     alloc: Global,
     desk: &mut Desk<D, L, Q>,
+    queue: &Queue<Request>,
     line: &ActionLine,
     gate: &P,
     number: u32,
@@ -78,12 +102,16 @@ fn serve_line<D: PageDisk, L: LogFile, Q: Fresh, P: Gate>(
     requires servable { IsServable (standing_of D.told D.faults L.told L.faults desk.old).streams line.now.action }
     requires words { MayServeLine (standing_of D.told D.faults L.told L.faults desk.old).streams desk.old.last.entries
         line.now names.old }
+    requires own { names.old.place.queue ≡ queue.now }
     ensures left { (bounds : List Bound) (bindings : List Binding) →
         NamesStand (standing_of D.told D.faults L.told L.faults desk.old).streams line.now.caller
         desk.old.last.entries bounds bindings names.old.named → UsesRight bounds line.now.action →
         LineEnd (standing_of D.told D.faults L.told L.faults desk.old) bounds bindings line.now
         result desk.old.last.entries desk.new.last.entries names.new }
     ensures kept_room { names.new.room ≡ names.old.room }
+    ensures placed { PlaceWent line.now.caller ((line.now.action, result) ∷ []) names.old.place names.new.place
+        desk.old.last.entries desk.new.last.entries }
+    ensures alone { (me : ℕ) → me ≢ line.now.caller → IsIdle me desk.old.last.entries desk.new.last.entries }
     ensures good { IsGood (standing_of D.told D.faults L.told L.faults desk.old).setup desk.new.last.entries }
     ensures run { IsSameRun (standing_of D.told D.faults L.told L.faults desk.old)
         (standing_of D.told D.faults L.told L.faults desk.new) }
@@ -91,7 +119,7 @@ fn serve_line<D: PageDisk, L: LogFile, Q: Fresh, P: Gate>(
 {
     desk.act_as(line.caller);
     desk.good();
-    let answer = serve_at(alloc, desk, &line.action, gate, number, names);
+    let answer = serve_at(rt, alloc, desk, queue, &line.action, gate, number, names);
     desk.own();
     answer
 }
@@ -115,6 +143,32 @@ pub(crate) fn serve_ticks<D: PageDisk, L: LogFile, Q: PostRoutine>(
 {
     desk.act_as(LAZY_WRITER);
     make_ticks(alloc, desk, phase, ticks);
+    desk.own();
+    desk.good();
+}
+
+/// Makes the read-ahead steps of a phase as the worker.
+pub(crate) fn serve_steps<R: Wait, D: PageDisk, L: LogFile, Q: PostRoutine>(
+    rt: &R,
+    alloc: Global,
+    desk: &mut Desk<D, L, Q>,
+    queue: &Queue<Request>,
+    phase: u32,
+    aheads: &mut Aheads,
+)
+    requires ready { IsReady (standing_of D.told D.faults L.told L.faults desk.old) }
+    requires own { aheads.old.place.queue ≡ queue.now }
+    requires room { HasStepRoom aheads.old }
+    ensures made { StepsMade (standing_of D.told D.faults L.told L.faults desk.old).setup phase aheads.old.each
+        aheads.old aheads.new desk.old.last.entries desk.new.last.entries }
+    ensures alone { (me : ℕ) → me ≢ read_ahead_worker → IsIdle me desk.old.last.entries desk.new.last.entries }
+    ensures good { IsGood (standing_of D.told D.faults L.told L.faults desk.old).setup desk.new.last.entries }
+    ensures run { IsSameRun (standing_of D.told D.faults L.told L.faults desk.old)
+        (standing_of D.told D.faults L.told L.faults desk.new) }
+    ensures ready { IsReady (standing_of D.told D.faults L.told L.faults desk.new) }
+{
+    desk.act_as(READ_AHEAD_WORKER);
+    make_steps(rt, alloc, desk, queue, phase, aheads);
     desk.own();
     desk.good();
 }

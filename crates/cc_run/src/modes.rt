@@ -10,8 +10,9 @@ ghost use Rattle.cc_run.specs.Runs.{HasRun};
 
 use crate::run::run_script;
 use crate::steps::step_script;
-use cc_entry::{Entry, LineReply};
+use cc_entry::{Entry, LineReply, Request};
 use cc_print::TableRow;
+use cc_queue::QueuePlace;
 use cc_script::{Mode, Script};
 use cc_traits::{Gate, LogFile, PageDisk, PostRoutine};
 use std::alloc::Global;
@@ -30,6 +31,10 @@ pub(crate) struct RunResult<D, L, Q> {
     pub(crate) replies: Vec<LineReply>,
     /// The answer of each tick, with the number of its phase.
     pub(crate) ticks: Vec<LineReply>,
+    /// The answer of each step of the read-ahead worker, with the number of its phase.
+    pub(crate) aheads: Vec<LineReply>,
+    /// The places of the passes 1 to 18 at the queue of read-ahead, in order; none in steps.
+    pub(crate) places: Vec<QueuePlace<Request>>,
     /// The oldest entry first.
     pub(crate) journal: Vec<Entry>,
     /// The rows of the pages that are dirty at the end; None where memory was wanting after the run began.
@@ -64,7 +69,7 @@ pub(crate) fn run_in_mode<
     ensures ran { IfOk result (HasRun (tells_of D.told D.faults L.told L.faults Q.posted) mode script.now
         disks.items logs.items posts.items) }
     ensures faultless { IfOk result (λ ran. RanWithoutFault D.faults L.faults disks.items ran.disks.items logs.items ran.logs.items
-        (ran.replies.items ++ ran.ticks.items) (reverse ran.journal.items)) }
+        (ran.replies.items ++ ran.ticks.items ++ ran.aheads.items) (reverse ran.journal.items)) }
     ensures kept { IfErr result (λ back. back.0.items ≡ disks.items) }
     ensures logs_kept { IfErr result (λ back. back.1.items ≡ logs.items) }
     ensures posts_kept { IfErr result (λ back. back.2.items ≡ posts.items) }

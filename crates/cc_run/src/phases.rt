@@ -1,8 +1,8 @@
 //! The phases of a script, one after the other: in each the callers and the lazy writer run on threads, over one board.
 
-ghost use Rattle.std.specs.Prelude.{◌≡◌, ℕ, ◌+◌, ◌*◌, ◌<◌, ◌≤◌, ◌++◌, ◌==◌, [], suc, List, take, drop, length, vec_len, vec_capacity};
+ghost use Rattle.std.specs.Prelude.{◌≡◌, ℕ, ◌+◌, ◌*◌, ◌<◌, ◌≤◌, ◌++◌, ◌==◌, [], suc, List, true, take, drop, length, vec_len, vec_capacity};
 ghost use Rattle.std.specs.List.{AllByRecursion};
-ghost use Rattle.cc_pieces.specs.Rooms.{is_alone};
+ghost use Rattle.cc_pieces.specs.Rooms.{is_alone, room_limit};
 ghost use Rattle.cc_script.specs.Within.{PhasesAscend};
 ghost use Rattle.cc_turns.specs.Desk.{standing_of};
 ghost use Rattle.cc_run.specs.Desks.{IsReady, IsSameRun};
@@ -12,14 +12,18 @@ ghost use Rattle.cc_script.specs.declared.bound.Bound.{Bound};
 ghost use Rattle.cc_lines.specs.Line.{IsServable};
 ghost use Rattle.cc_run.specs.Lines.{AllStand, HaveNoWords, IsCaller, KeepRoom, MayServe};
 ghost use Rattle.cc_run.specs.Phases.{PhaseEnds, PhasesServed};
+ghost use Rattle.cc_run.specs.Aheads.{HasStepRoom, StepsMade, step_lines};
+ghost use Rattle.cc_run.specs.Places.{AreOfQueue, PlaceWent, PlacesRan};
 ghost use Rattle.cc_run.specs.Ticks.{HasTickRoom, TicksMade};
 
+use crate::aheads::Aheads;
 use crate::call_numbers::Calls;
-use crate::lines::{serve_lines, serve_ticks};
+use crate::lines::{serve_lines, serve_steps, serve_ticks};
 use crate::threads::serve_on_threads;
 use crate::ticks::Ticks;
-use cc_entry::LineReply;
+use cc_entry::{LineReply, Request};
 use cc_lines::{Fresh, Names};
+use cc_queue::Queue;
 use cc_script::ActionLine;
 use cc_traits::{Gate, LogFile, PageDisk};
 use cc_turns::Desk;
@@ -28,7 +32,7 @@ use std::sync::Wait;
 use std::thread::Threads;
 
 /// Serves the lines phase by phase, and puts the answer of each behind the replies, in the order of the lines, and that of
-/// each tick behind those of the ticks before.
+/// each tick and each read-ahead step behind those before. What the callers' words name, with their places, comes back.
 pub(crate) fn serve_phases<
     R: Threads + Wait + Sync,
     D: PageDisk + Send,
@@ -39,13 +43,15 @@ pub(crate) fn serve_phases<
     rt: &R,
     alloc: Global,
     desk: Desk<D, L, Q>,
+    queue: &Queue<Request>,
     phases: u32,
     lines: &[ActionLine],
     gate: &P,
     names: Vec<Names>,
     replies: &mut Vec<LineReply>,
     ticks: &mut Ticks,
-) -> Desk<D, L, Q>
+    aheads: Aheads,
+) -> (Desk<D, L, Q>, Vec<Names>, Aheads)
     requires ready { IsReady (standing_of D.told D.faults L.told L.faults desk) }
     requires servable { AllByRecursion (λ line.
         IsServable (standing_of D.told D.faults L.told L.faults desk).streams line.action) lines.now }
@@ -55,26 +61,39 @@ pub(crate) fn serve_phases<
     requires within { AllByRecursion (λ line. line.phase ≤ phases) lines.now }
     requires words { HaveNoWords lines.now names.items }
     requires room { vec_len replies.old + length lines.now ≤ vec_capacity replies.old }
+    requires own { AreOfQueue queue.now names.items }
+    requires own_place { aheads.place.queue ≡ queue.now }
     requires no_ticks { ticks.old.answers.items ≡ [] }
     requires tick_room { ticks.old.each * phases ≤ vec_capacity ticks.old.answers }
-    ensures served { PhasesServed (standing_of D.told D.faults L.told L.faults desk).setup ticks.old.each phases lines.now
-        replies.old.items replies.new.items ticks.new.answers.items desk.last.entries result.last.entries }
+    requires no_steps { aheads.answers.items ≡ [] }
+    requires none_taken { aheads.place.taken ≡ [] }
+    requires step_room { aheads.each * phases ≤ vec_capacity aheads.answers }
+    ensures served { PhasesServed (standing_of D.told D.faults L.told L.faults desk).setup ticks.old.each aheads.each phases
+        lines.now replies.old.items replies.new.items ticks.new.answers.items result.2.answers.items
+        result.2.place.taken desk.last.entries result.0.last.entries }
+    ensures placed { PlacesRan lines.now replies.old.items replies.new.items names.items result.1.items
+        desk.last.entries result.0.last.entries }
+    ensures counted { length result.1.items ≡ 16 }
+    ensures stepped { PlaceWent 18 (step_lines result.2.answers.items) aheads.place result.2.place
+        desk.last.entries result.0.last.entries }
     ensures run { IsSameRun (standing_of D.told D.faults L.told L.faults desk)
-        (standing_of D.told D.faults L.told L.faults result) }
-    ensures ready { IsReady (standing_of D.told D.faults L.told L.faults result) }
+        (standing_of D.told D.faults L.told L.faults result.0) }
+    ensures ready { IsReady (standing_of D.told D.faults L.told L.faults result.0) }
 {
     let mut desk = desk;
     let mut names = names;
+    let mut aheads = aheads;
     let mut calls = Calls::new();
     let mut rest = lines;
     for phase in 1..phases + 1 {
         let (now, later) = rest.split_at(count_of_phase(rest, phase));
-        desk = serve_phase(
-            rt, alloc, desk, phase, now, gate, &mut calls, &mut names, replies, ticks,
+        (desk, aheads) = serve_phase(
+            rt, alloc, desk, queue, phase, now, gate, &mut calls, &mut names, replies, ticks,
+            aheads,
         );
         rest = later;
     }
-    desk
+    (desk, names, aheads)
 }
 
 // How many lines are of a phase, which no line is before.
@@ -91,8 +110,8 @@ fn count_of_phase(lines: &[ActionLine], phase: u32) -> usize
     count
 }
 
-// Serves the lines of a phase, and makes its ticks: on threads, but the lines of one caller alone without ticks. Where memory
-// is wanting for threads, the lines are served in their order, and the ticks follow them.
+// Serves the lines of a phase, and makes its ticks and its read-ahead steps: on threads, but the lines of one caller alone without
+// either. Where memory is wanting for threads, the lines are served in their order, the ticks follow them, and then the steps.
 fn serve_phase<
     R: Threads + Wait + Sync,
     D: PageDisk + Send,
@@ -103,6 +122,7 @@ fn serve_phase<
     rt: &R,
     alloc: Global,
     desk: Desk<D, L, Q>,
+    queue: &Queue<Request>,
     phase: u32,
     lines: &[ActionLine],
     gate: &P,
@@ -110,7 +130,8 @@ fn serve_phase<
     names: &mut Vec<Names>,
     replies: &mut Vec<LineReply>,
     ticks: &mut Ticks,
-) -> Desk<D, L, Q>
+    aheads: Aheads,
+) -> (Desk<D, L, Q>, Aheads)
     requires ready { IsReady (standing_of D.told D.faults L.told L.faults desk) }
     requires servable { AllByRecursion (λ line.
         IsServable (standing_of D.told D.faults L.told L.faults desk).streams line.action) lines.now }
@@ -119,34 +140,52 @@ fn serve_phase<
     requires words { MayServe (standing_of D.told D.faults L.told L.faults desk).streams desk.last.entries
         lines.now names.old.items }
     requires room { vec_len replies.old + length lines.now ≤ vec_capacity replies.old }
+    requires own { AreOfQueue queue.now names.old.items }
+    requires own_place { aheads.place.queue ≡ queue.now }
     requires tick_room { HasTickRoom ticks.old }
+    requires step_room { HasStepRoom aheads }
     ensures served { (bounds : ℕ → List Bound) (bindings : ℕ → List Binding) →
         AllStand (standing_of D.told D.faults L.told L.faults desk).streams desk.last.entries bounds bindings
         names.old.items → ((me : ℕ) → AreUsedRight me (bounds me) lines.now) →
         PhaseEnds (standing_of D.told D.faults L.told L.faults desk).setup
-        (standing_of D.told D.faults L.told L.faults desk).streams phase ticks.old.each bounds bindings lines.now
-        replies.old.items replies.new.items desk.last.entries result.last.entries names.new.items }
+        (standing_of D.told D.faults L.told L.faults desk).streams phase ticks.old.each aheads.each bounds bindings lines.now
+        replies.old.items replies.new.items desk.last.entries result.0.last.entries names.new.items }
     ensures ticked { TicksMade (standing_of D.told D.faults L.told L.faults desk).setup phase ticks.old.each
-        ticks.old ticks.new desk.last.entries result.last.entries }
+        ticks.old ticks.new desk.last.entries result.0.last.entries }
+    ensures stepped { StepsMade (standing_of D.told D.faults L.told L.faults desk).setup phase aheads.each
+        aheads result.1 desk.last.entries result.0.last.entries }
+    ensures placed { PlacesRan lines.now replies.old.items replies.new.items names.old.items names.new.items
+        desk.last.entries result.0.last.entries }
     ensures kept_room { KeepRoom names.old.items names.new.items }
     ensures run { IsSameRun (standing_of D.told D.faults L.told L.faults desk)
-        (standing_of D.told D.faults L.told L.faults result) }
-    ensures ready { IsReady (standing_of D.told D.faults L.told L.faults result) }
+        (standing_of D.told D.faults L.told L.faults result.0) }
+    ensures ready { IsReady (standing_of D.told D.faults L.told L.faults result.0) }
     ensures capacity { vec_capacity replies.new ≡ vec_capacity replies.old }
 {
     let mut desk = desk;
-    let beside = ticks.each > 0 || !is_alone(lines);
-    if beside {
+    let mut aheads = aheads;
+    if runs_beside(lines, ticks.each, aheads.each) {
         match serve_on_threads(
-            rt, alloc, desk, phase, lines, gate, calls, names, replies, ticks,
+            rt, alloc, desk, queue, phase, lines, gate, calls, names, replies, ticks, aheads,
         ) {
-            Ok(desk) => return desk,
-            Err(back) => desk = back,
+            Ok(done) => return done,
+            Err(back) => (desk, aheads) = back,
         }
     }
-    serve_lines(alloc, &mut desk, lines, gate, calls, names, replies);
+    serve_lines(
+        rt, alloc, &mut desk, queue, lines, gate, calls, names, replies,
+    );
     serve_ticks(alloc, &mut desk, phase, ticks);
-    desk
+    serve_steps(rt, alloc, &mut desk, queue, phase, &mut aheads);
+    (desk, aheads)
+}
+
+// Whether a phase has ticks, read-ahead steps, or lines of several callers.
+fn runs_beside(lines: &[ActionLine], ticks: u32, aheads: u32) -> bool
+    ensures { (phase : ℕ) → AllByRecursion (λ line. line.phase ≡ phase) lines.now → result ≡ true →
+        room_limit ticks aheads (is_alone phase lines.now) ≡ 32 }
+{
+    ticks > 0 || aheads > 0 || !is_alone(lines)
 }
 
 // Whether lines are all of one caller.

@@ -1,6 +1,6 @@
 //! The run of a script: on a desk its streams are opened, its phases are served, and all comes back.
 
-ghost use Rattle.std.specs.Prelude.{◌≡◌, ◌+◌, ◌*◌, ◌≤◌, [], All, IfOk, IfErr, IfSome, length, reverse, true, false, vec_capacity};
+ghost use Rattle.std.specs.Prelude.{◌≡◌, ◌+◌, ◌*◌, ◌≤◌, ◌++◌, [], ◌∷◌, All, IfOk, IfErr, IfSome, length, map, reverse, true, false, vec_capacity};
 ghost use Rattle.cc_journal.specs.Capacity.{IsWithinCapacity};
 ghost use Rattle.cc_model.specs.Good.{IsGood};
 ghost use Rattle.cc_turns.specs.Desk.{IsFresh, standing_of, tells_of};
@@ -15,8 +15,13 @@ ghost use Rattle.cc_run.specs.Ends.{has_devices};
 ghost use Rattle.cc_run.specs.Disks.{DisksStand};
 ghost use Rattle.cc_run.specs.Lines.{HaveNoWords, given_of, run_answered};
 ghost use Rattle.cc_run.specs.Logs.{LogsStand};
+ghost use Rattle.cc_run.specs.Places.{AreQueued, taken_at};
+ghost use Rattle.cc_queue.specs.Places.{new_place};
+ghost use Rattle.cc_turns.specs.Places.{IsRoomFor};
+ghost use Rattle.std.specs.List.{AllByRecursion};
 ghost use Rattle.cc_run.specs.Runs.{HasRun};
 
+use crate::aheads::Aheads;
 use crate::modes::{MOST_DISKS, MOST_LOGS, RunResult};
 use crate::openings::open_streams;
 use crate::phases::serve_phases;
@@ -24,15 +29,19 @@ use crate::posts::{Mark, settle};
 use crate::row::{first_of, put_back};
 use crate::table::printed_rows;
 use crate::ticks::Ticks;
-use cc_entry::{LineReply, NoMemory};
+use cc_entry::{LineReply, NoMemory, Request};
 use cc_journal::Parts;
 use cc_lines::Names;
+use cc_queue::{Queue, QueuePlace};
 use cc_script::Script;
 use cc_traits::{Gate, LogFile, PageDisk, PostRoutine, Setup};
 use cc_turns::Desk;
 use std::alloc::Global;
 use std::sync::Wait;
 use std::thread::Threads;
+
+/// The passes that have a place at the queue of read-ahead: the callers and the two workers.
+const PLACES: usize = 18;
 
 /// Runs a script over the first disks that are handed in, 16 at most, and the first logs, 4 at most, which come back
 /// with the others. Where memory is wanting before the run begins, they come back as they were.
@@ -67,7 +76,17 @@ pub(crate) fn run_script<
     let Ok(replies) = Vec::with_capacity(alloc, count) else {
         return Err((rest, further, posts));
     };
-    let Ok(names) = names_for(alloc, script) else {
+    let Ok((queue, mut place)) = Queue::new(alloc) else {
+        return Err((rest, further, posts));
+    };
+    let Ok(names) = names_for(alloc, script, &queue, &mut place) else {
+        return Err((rest, further, posts));
+    };
+    let lazy = queue.split(&mut place);
+    let Ok(aheads) = Aheads::with_room(alloc, script.aheads, script.phases, place) else {
+        return Err((rest, further, posts));
+    };
+    let Ok(places) = Vec::with_capacity(alloc, PLACES) else {
         return Err((rest, further, posts));
     };
     let Ok(ticks) = Ticks::with_room(alloc, script.ticks, script.phases) else {
@@ -90,15 +109,22 @@ pub(crate) fn run_script<
             let RunResult {
                 replies,
                 ticks,
+                aheads,
+                places,
                 journal,
                 table,
                 disks,
                 logs,
                 posts,
-            } = run_on(rt, alloc, script, gate, desk, names, replies, ticks, posts);
+            } = run_on(
+                rt, alloc, script, gate, desk, &queue, names, replies, ticks, aheads, lazy, places,
+                posts,
+            );
             Ok(RunResult {
                 replies,
                 ticks,
+                aheads,
+                places,
                 journal,
                 table,
                 disks: put_back(disks, rest),
@@ -114,14 +140,24 @@ pub(crate) fn run_script<
     }
 }
 
-// What is kept of the words of the 16 callers, none yet, with room for all that each binds.
-fn names_for(alloc: Global, script: &Script) -> Result<Vec<Names>, NoMemory>
-    requires { IsWithin script.now }
-    ensures { IfOk result (λ names. HaveNoWords script.now.lines names.items) }
+// What is kept of the words of the 16 callers, none yet, with room for all that each binds, and with a place of each at the
+// queue.
+fn names_for(
+    alloc: Global,
+    script: &Script,
+    queue: &Queue<Request>,
+    place: &mut QueuePlace<Request>,
+) -> Result<Vec<Names>, NoMemory>
+    requires within { IsWithin script.now }
+    requires own { place.old.queue ≡ queue.now }
+    ensures words { IfOk result (λ names. HaveNoWords script.now.lines names.items) }
+    ensures places { IfOk result (λ names. AllByRecursion (λ own. own.place ≡ new_place queue.now) names.items) }
+    ensures same { place.new ≡ place.old }
 {
     let mut names = Vec::with_capacity(alloc, 16)?;
     for caller in 1..17 {
-        names.push_reserved(Names::with_room(alloc, script.words_of(caller))?);
+        let own = queue.split(place);
+        names.push_reserved(Names::with_room(alloc, script.words_of(caller), own)?);
     }
     Ok(names)
 }
@@ -140,9 +176,13 @@ fn run_on<
     script: &Script,
     gate: &P,
     desk: Desk<D, L, Mark>,
+    queue: &Queue<Request>,
     names: Vec<Names>,
     replies: Vec<LineReply>,
     ticks: Ticks,
+    aheads: Aheads,
+    lazy: QueuePlace<Request>,
+    places: Vec<QueuePlace<Request>>,
     posts: Vec<Q>,
 ) -> RunResult<D, L, Q>
     requires fresh { IsFresh desk.begun desk }
@@ -157,10 +197,20 @@ fn run_on<
     requires ticks { ticks.each ≡ script.now.ticks }
     requires no_ticks { ticks.answers.items ≡ [] }
     requires tick_room { script.now.ticks * script.now.phases ≤ vec_capacity ticks.answers }
+    requires new_places { AllByRecursion (λ own. own.place ≡ new_place queue.now) names.items }
+    requires new_lazy { lazy ≡ new_place queue.now }
+    requires new_own { aheads.place ≡ new_place queue.now }
+    requires steps { aheads.each ≡ script.now.aheads }
+    requires no_steps { aheads.answers.items ≡ [] }
+    requires step_room { script.now.aheads * script.now.phases ≤ vec_capacity aheads.answers }
+    requires place_room { IsRoomFor 18 places.items (vec_capacity places) }
     ensures good { IsGood (standing_of D.told D.faults L.told L.faults desk).setup (reverse result.journal.items) }
     ensures within { IsWithinCapacity desk.begun.capacity (reverse result.journal.items) }
     ensures explained { IsExplained (standing_of D.told D.faults L.told L.faults desk).setup
-        (given_of script.now) (run_answered result.replies.items result.ticks.items) [] (reverse result.journal.items) }
+        (given_of script.now) (run_answered result.replies.items result.ticks.items result.aheads.items)
+        (taken_at result.places.items) (reverse result.journal.items) }
+    ensures queued { AreQueued (given_of script.now) (run_answered result.replies.items result.ticks.items result.aheads.items)
+        result.places.items (reverse result.journal.items) }
     ensures ticked { length result.ticks.items ≡ script.now.ticks * script.now.phases }
     ensures table { IfSome result.table (λ rows. rows.items ≡ table_of (reverse result.journal.items)) }
     ensures disks { DisksStand D.told D.faults (standing_of D.told D.faults L.told L.faults desk).disks
@@ -174,17 +224,25 @@ fn run_on<
     let mut replies = replies;
     let mut ticks = ticks;
     open_streams(alloc, &mut desk, script.streams.as_slice(), &mut replies);
-    let desk = serve_phases(
+    let (desk, names, aheads) = serve_phases(
         rt,
         alloc,
         desk,
+        queue,
         script.phases,
         script.lines.as_slice(),
         gate,
         names,
         &mut replies,
         &mut ticks,
+        aheads,
     );
+    let Aheads {
+        answers: aheads,
+        place,
+        ..
+    } = aheads;
+    let places = all_places(places, names, lazy, place);
     let table = printed_rows(alloc, desk.journal().dirty().rows()).ok();
     let Parts {
         disks,
@@ -196,10 +254,34 @@ fn run_on<
     RunResult {
         replies,
         ticks: ticks.answers,
+        aheads,
+        places,
         journal,
         table,
         disks,
         logs,
         posts,
     }
+}
+
+// The places of all passes from the first on: those of the callers, that of the lazy writer, and that of the read-ahead worker.
+fn all_places(
+    places: Vec<QueuePlace<Request>>,
+    names: Vec<Names>,
+    lazy: QueuePlace<Request>,
+    worker: QueuePlace<Request>,
+) -> Vec<QueuePlace<Request>>
+    requires callers { length names.items ≡ 16 }
+    requires room { IsRoomFor 18 places.items (vec_capacity places) }
+    ensures { result.items ≡ map (λ own. own.place) names.items ++ lazy ∷ worker ∷ [] }
+{
+    let mut places = places;
+    let mut names = names;
+    names.reverse();
+    while let Some(own) = names.pop() {
+        places.push_reserved(own.into_place());
+    }
+    places.push_reserved(lazy);
+    places.push_reserved(worker);
+    places
 }

@@ -62,6 +62,8 @@ pub(crate) fn step_script<D: PageDisk, L: LogFile, Q: PostRoutine>(
             Ok(RunResult {
                 replies,
                 ticks: Vec::new(alloc),
+                aheads: Vec::new(alloc),
+                places: Vec::new(alloc),
                 journal,
                 table,
                 disks: put_back(disks, rest),

@@ -1,5 +1,5 @@
-//! A phase on threads: a board is made of the desk, each caller runs its lines with a pass of it, and the lazy writer makes
-//! its ticks with another; then it is closed into the desk again.
+//! A phase on threads: a board is made of the desk, each caller runs its lines with a pass of it, and with two more the lazy
+//! writer makes its ticks, and the read-ahead worker its steps; then it is closed into the desk again.
 
 ghost use Rattle.std.specs.Prelude.{◌≡◌, ◌≢◌, ℕ, ◌+◌, ◌<◌, ◌≤◌, ◌++◌, [], false, List, length, map, vec_len, vec_capacity, IfOk, IfErr, OnOk, OnErr};
 ghost use Rattle.std.specs.List.{AllByRecursion};
@@ -19,15 +19,19 @@ ghost use Rattle.cc_lines.specs.Line.{IsServable};
 ghost use Rattle.cc_run.specs.Lines.{AllStand, IsCaller, KeepRoom, MayServe};
 ghost use Rattle.cc_run.specs.Phases.{PhaseEnds};
 ghost use Rattle.cc_run.specs.Threads.{AreRooms, AreSplit, AreJoined, Merged, MaySplit, MayJoin};
+ghost use Rattle.cc_run.specs.Aheads.{HasStepRoom, StepsMade};
+ghost use Rattle.cc_run.specs.Places.{AreOfQueue, PlacesRan};
 ghost use Rattle.cc_run.specs.Ticks.{HasTickRoom, TicksMade};
 
+use crate::aheads::Aheads;
 use crate::call_numbers::Calls;
 use crate::callers::{Caller, Finished};
 use crate::ticks::Ticks;
-use crate::workers::{join_worker, run_all, split_worker};
+use crate::workers::{join_stepper, join_worker, run_all, split_stepper, split_worker};
 use cc_board::{Board, FirstPass};
-use cc_entry::{Answer, LineReply, NoMemory};
+use cc_entry::{Answer, LineReply, NoMemory, Request};
 use cc_lines::{Fresh, Names};
+use cc_queue::Queue;
 use cc_script::ActionLine;
 use cc_traits::{Gate, LogFile, PageDisk, PostRoutine, Told};
 use cc_turns::Desk;
@@ -38,12 +42,12 @@ use std::thread::Threads;
 /// The most callers of a script.
 const CALLERS: u16 = 16;
 
-/// The most passes beside pass 0: the callers, the lazy writer and the read-ahead worker, which does nothing yet.
+/// The passes beside pass 0: the callers, the lazy writer and the read-ahead worker.
 const PASSES: u16 = CALLERS + 2;
 
 /// Serves the lines of a phase, each caller's on a thread of its own, and puts the answer of each behind the replies, in
-/// the order of the lines; and makes its ticks on another thread. Where memory is wanting for the threads, nothing was done
-/// and the desk comes back.
+/// the order of the lines; and makes its ticks and its read-ahead steps on two further threads. Where memory is wanting for the
+/// threads, nothing was done, and desk and steps come back.
 pub(crate) fn serve_on_threads<
     R: Threads + Wait + Sync,
     D: PageDisk + Send,
@@ -54,6 +58,7 @@ pub(crate) fn serve_on_threads<
     rt: &R,
     alloc: Global,
     desk: Desk<D, L, Q>,
+    queue: &Queue<Request>,
     phase: u32,
     lines: &[ActionLine],
     gate: &P,
@@ -61,7 +66,8 @@ pub(crate) fn serve_on_threads<
     names: &mut Vec<Names>,
     replies: &mut Vec<LineReply>,
     ticks: &mut Ticks,
-) -> Result<Desk<D, L, Q>, Desk<D, L, Q>>
+    aheads: Aheads,
+) -> Result<(Desk<D, L, Q>, Aheads), (Desk<D, L, Q>, Aheads)>
     requires ready { IsReady (standing_of D.told D.faults L.told L.faults desk) }
     requires servable { AllByRecursion (λ line.
         IsServable (standing_of D.told D.faults L.told L.faults desk).streams line.action) lines.now }
@@ -71,25 +77,33 @@ pub(crate) fn serve_on_threads<
     requires those { AllByRecursion (λ line. line.phase ≡ phase) lines.now }
     requires room { vec_len replies.old + length lines.now ≤ vec_capacity replies.old }
     requires tick_room { HasTickRoom ticks.old }
-    requires beside { room_limit ticks.old.each 0 (is_alone phase lines.now) ≡ 32 }
-    ensures served { IfOk result (λ now. (bounds : ℕ → List Bound) (bindings : ℕ → List Binding) →
+    requires own { AreOfQueue queue.now names.old.items }
+    requires own_place { aheads.place.queue ≡ queue.now }
+    requires step_room { HasStepRoom aheads }
+    requires beside { room_limit ticks.old.each aheads.each (is_alone phase lines.now) ≡ 32 }
+    ensures served { IfOk result (λ done. (bounds : ℕ → List Bound) (bindings : ℕ → List Binding) →
         AllStand (standing_of D.told D.faults L.told L.faults desk).streams desk.last.entries bounds bindings
         names.old.items → ((me : ℕ) → AreUsedRight me (bounds me) lines.now) →
         PhaseEnds (standing_of D.told D.faults L.told L.faults desk).setup
-        (standing_of D.told D.faults L.told L.faults desk).streams phase ticks.old.each bounds bindings lines.now
-        replies.old.items replies.new.items desk.last.entries now.last.entries names.new.items) }
-    ensures ticked { IfOk result (λ now. TicksMade (standing_of D.told D.faults L.told L.faults desk).setup phase
-        ticks.old.each ticks.old ticks.new desk.last.entries now.last.entries) }
+        (standing_of D.told D.faults L.told L.faults desk).streams phase ticks.old.each aheads.each bounds bindings lines.now
+        replies.old.items replies.new.items desk.last.entries done.0.last.entries names.new.items) }
+    ensures ticked { IfOk result (λ done. TicksMade (standing_of D.told D.faults L.told L.faults desk).setup phase
+        ticks.old.each ticks.old ticks.new desk.last.entries done.0.last.entries) }
+    ensures stepped { IfOk result (λ done. StepsMade (standing_of D.told D.faults L.told L.faults desk).setup phase
+        aheads.each aheads done.1 desk.last.entries done.0.last.entries) }
+    ensures placed { IfOk result (λ done. PlacesRan lines.now replies.old.items replies.new.items names.old.items
+        names.new.items desk.last.entries done.0.last.entries) }
     ensures kept_room { KeepRoom names.old.items names.new.items }
-    ensures run { IfOk result (λ now. IsSameRun (standing_of D.told D.faults L.told L.faults desk)
-        (standing_of D.told D.faults L.told L.faults now)) }
-    ensures ready { IfOk result (λ now. IsReady (standing_of D.told D.faults L.told L.faults now)) }
+    ensures run { IfOk result (λ done. IsSameRun (standing_of D.told D.faults L.told L.faults desk)
+        (standing_of D.told D.faults L.told L.faults done.0)) }
+    ensures ready { IfOk result (λ done. IsReady (standing_of D.told D.faults L.told L.faults done.0)) }
     ensures kept { OnErr result ((replies.new.items ≡ replies.old.items) × (names.new.items ≡ names.old.items)) }
     ensures kept_ticks { OnErr result (ticks.new ≡ ticks.old) }
-    ensures same { IfErr result (λ back. back.last.entries ≡ desk.last.entries) }
+    ensures kept_aheads { IfErr result (λ back. back.1 ≡ aheads) }
+    ensures same { IfErr result (λ back. back.0.last.entries ≡ desk.last.entries) }
     ensures run_kept { IfErr result (λ back. IsSameRun (standing_of D.told D.faults L.told L.faults desk)
-        (standing_of D.told D.faults L.told L.faults back)) }
-    ensures ready_still { IfErr result (λ back. IsReady (standing_of D.told D.faults L.told L.faults back)) }
+        (standing_of D.told D.faults L.told L.faults back.0)) }
+    ensures ready_still { IfErr result (λ back. IsReady (standing_of D.told D.faults L.told L.faults back.0)) }
     ensures capacity { vec_capacity replies.new ≡ vec_capacity replies.old }
 {
     let Rooms {
@@ -99,27 +113,29 @@ pub(crate) fn serve_on_threads<
         rows,
     } = match rooms_for(alloc, lines) {
         Ok(rooms) => rooms,
-        Err(NoMemory) => return Err(desk),
+        Err(NoMemory) => return Err((desk, aheads)),
     };
     desk.good();
     let (board, mut first) = match Board::new(alloc, desk, PASSES) {
         Ok(made) => made,
-        Err((desk, _)) => return Err(desk),
+        Err((desk, _)) => return Err((desk, aheads)),
     };
     names.reverse();
     let callers = split_all(&board, &mut first, calls, rooms, names, callers);
     let worker = split_worker(alloc, &board, &mut first, ticks);
-    let (ended, worker) = run_all(
-        rt, alloc, &board, phase, lines, gate, callers, ended, worker,
+    let stepper = split_stepper(&board, &mut first, aheads);
+    let (ended, worker, stepper) = run_all(
+        rt, alloc, &board, queue, phase, lines, gate, callers, ended, worker, stepper,
     );
     let rows = join_all(&board, &mut first, calls, ended, names, rows);
     join_worker(&board, &mut first, worker, ticks);
+    let aheads = join_stepper(&board, &mut first, stepper);
     names.reverse();
     match board.close(first) {
         Ok(desk) => {
             desk.good();
             merge(lines, rows, replies);
-            Ok(desk)
+            Ok((desk, aheads))
         }
         Err(_) => unreachable!(),
     }

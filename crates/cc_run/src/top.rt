@@ -18,7 +18,8 @@ ghost use Rattle.cc_run.specs.Logs.{LogsLeft};
 ghost use Rattle.cc_run.specs.Words.{command_of, is_reading, mode_by, mode_in, reads_source};
 ghost use Rattle.cc_run.specs.declared.words.Command.TheVariants as asked;
 ghost use Rattle.cc_run.specs.Lines.{run_answered};
-ghost use Rattle.cc_run.specs.Runs.{IsExplainedBy, deferrals_in, ticks_asked};
+ghost use Rattle.cc_run.specs.Places.{taken_at};
+ghost use Rattle.cc_run.specs.Runs.{AreQueuedBy, IsExplainedBy, deferrals_in, ticks_asked};
 
 use crate::devices::has_devices;
 use crate::intake::{IntakeError, take_all};
@@ -26,8 +27,9 @@ use crate::modes::{RunResult, run_in_mode};
 use crate::no_run::{NoRun, syntax_text};
 use crate::output::{OutputError, put_all};
 use crate::words::{Command, read_words};
-use cc_entry::{Entry, LineReply};
+use cc_entry::{Entry, LineReply, Request};
 use cc_print::{summary_of, text_of};
+use cc_queue::QueuePlace;
 use cc_script::{Mode, Script, ScriptFault, generate, read_script};
 use cc_traits::{Gate, LogFile, PageDisk, PostRoutine, Sink, Source};
 use std::alloc::Global;
@@ -48,8 +50,11 @@ pub struct Ended<D, L = Box<dyn LogFile + Send>, Q = Box<dyn PostRoutine + Send>
     pub replies: Vec<LineReply>,
     /// The answers of the lazy writer's ticks in their order, with the number of the phase, from 1, as line.
     pub ticks: Vec<LineReply>,
-    /// The answers of the read-ahead worker, likewise. There are none.
+    /// The answers of the read-ahead worker's steps, likewise.
     pub aheads: Vec<LineReply>,
+    /// The places of the passes 1 to 18 at the one queue of read-ahead of a run, in order; none in `steps` and `gen`, and where
+    /// no run was made.
+    pub places: Vec<QueuePlace<Request>>,
     /// The journal, oldest entry first; empty where no run was made.
     pub journal: Vec<Entry>,
     pub disks: Vec<D>,
@@ -69,6 +74,8 @@ struct Report<D, L, Q> {
     script: Option<Script>,
     replies: Vec<LineReply>,
     ticks: Vec<LineReply>,
+    aheads: Vec<LineReply>,
+    places: Vec<QueuePlace<Request>>,
     journal: Vec<Entry>,
     disks: Vec<D>,
     logs: Vec<L>,
@@ -106,6 +113,8 @@ fn refused<K: Sink, D, L, Q>(
     ensures script { result.script ≡ None }
     ensures replies { result.replies.items ≡ [] }
     ensures ticks { result.ticks.items ≡ [] }
+    ensures aheads { result.aheads.items ≡ [] }
+    ensures places { result.places.items ≡ [] }
     ensures journal { result.journal.items ≡ [] }
     ensures disks { result.disks ≡ disks }
     ensures logs { result.logs ≡ logs }
@@ -118,6 +127,8 @@ fn refused<K: Sink, D, L, Q>(
         script: None,
         replies: Vec::new(alloc),
         ticks: Vec::new(alloc),
+        aheads: Vec::new(alloc),
+        places: Vec::new(alloc),
         journal: Vec::new(alloc),
         disks,
         logs,
@@ -269,7 +280,13 @@ fn conduct<
         result.script result.replies.items result.journal.items result.status }
     ensures explained { IfSome result.script (λ made. IsExplainedBy (mode_in (map string_bytes words.now))
         (setup_of D.told D.faults made disks.items logs.items) made
-        (run_answered result.replies.items result.ticks.items) (reverse result.journal.items)) }
+        (run_answered result.replies.items result.ticks.items result.aheads.items)
+        (taken_at result.places.items) (reverse result.journal.items)) }
+    ensures queued { IfSome result.script (λ made. AreQueuedBy (mode_in (map string_bytes words.now)) made
+        (run_answered result.replies.items result.ticks.items result.aheads.items) result.places.items
+        (reverse result.journal.items)) }
+    ensures no_places { result.script ≡ None → result.places.items ≡ [] }
+    ensures no_steps { result.script ≡ None → result.aheads.items ≡ [] }
     ensures ticked { length result.ticks.items ≡ ticks_asked (mode_in (map string_bytes words.now)) result.script }
     ensures untouched { reads_source (map string_bytes words.now) ≡ false → source.new ≡ source.old }
     ensures given { WasTaken (S.told source.old) (S.told source.new) (S.given source.old) (S.given source.new) }
@@ -282,7 +299,7 @@ fn conduct<
     ensures logs_unused { result.script ≡ None → result.logs.items ≡ logs.items }
     ensures unused { result.script ≡ None → result.posts.items ≡ posts.items }
     ensures faultless { RanWithoutFault D.faults L.faults disks.items result.disks.items logs.items result.logs.items
-        (result.replies.items ++ result.ticks.items) (reverse result.journal.items) }
+        (result.replies.items ++ result.ticks.items ++ result.aheads.items) (reverse result.journal.items) }
 {
     let Prepared { command, script } = match prepare(
         alloc,
@@ -305,6 +322,8 @@ fn conduct<
     let RunResult {
         replies,
         ticks,
+        aheads,
+        places,
         journal,
         table: _,
         disks,
@@ -316,6 +335,8 @@ fn conduct<
         script: Some(script),
         replies,
         ticks,
+        aheads,
+        places,
         journal,
         disks,
         logs,
@@ -326,8 +347,8 @@ fn conduct<
 /// The program: the words of the command line without its name, the script's bytes from a source, the text to a sink, a
 /// disk for each stream, the logs that streams may name, of which the first four are taken, the post routines, of which
 /// each line that defers a write has one, and the gate that callers pass. `run FILE`, also with a folder behind it, for
-/// whoever hands in the disks: the callers of a phase make the calls of their lines on threads, and the lazy writer its ticks,
-/// phase after phase.
+/// whoever hands in the disks: the callers of a phase make the calls of their lines on threads, the lazy writer its ticks, and
+/// the read-ahead worker its steps, phase after phase.
 /// `steps FILE`: the lines are events, one after the other. `gen N`: so are those of the script that is generated of N,
 /// whose summary is the text; the source is not touched. Whatever is handed in, the journal that is given back is good
 /// over the pages that the disks tell, and it is what happened, also where memory was wanting after the run began. Over
@@ -360,7 +381,15 @@ pub fn cache_main<
     ensures explained { IfSome result.script (λ made. IsExplainedBy (mode_in (map string_bytes words.now))
         (setup_of D.told D.faults made disks.items logs.items) made
         (record { replies = result.replies.items; ticked = result.ticks.items; stepped = result.aheads.items })
-        (reverse result.journal.items)) }
+        (taken_at result.places.items) (reverse result.journal.items)) }
+    // What the passes have at the one queue of read-ahead of a run: each pushed the requests that its done calls for read-ahead
+    // answered, in order; it took a request for each step that does not answer none, among them those of its steps' entries in
+    // order; and it found the queue empty, and full, at least as often as it was answered so. Without a run, and in steps, there
+    // are no places.
+    ensures queued { IfSome result.script (λ made. AreQueuedBy (mode_in (map string_bytes words.now)) made
+        (record { replies = result.replies.items; ticked = result.ticks.items; stepped = result.aheads.items })
+        result.places.items (reverse result.journal.items)) }
+    ensures no_places { result.script ≡ None → result.places.items ≡ [] }
     // How the program ended, with a run and without: the script that the words ask for, what was printed, the status and its
     // cause, which statuses are sure to come, and what was taken of the source.
     ensures ended { HasMain
@@ -381,17 +410,19 @@ pub fn cache_main<
     ensures unused { result.script ≡ None → result.posts.items ≡ posts.items }
     // Where no count of faults rose, no failure stands in the journal, and no answer tells one.
     ensures faultless { RanWithoutFault D.faults L.faults disks.items result.disks.items logs.items result.logs.items
-        (result.replies.items ++ result.ticks.items) (reverse result.journal.items) }
-    // So many ticks are answered as the script has in its phases, none without a run and none in steps; and no step of
-    // read-ahead.
+        (result.replies.items ++ result.ticks.items ++ result.aheads.items) (reverse result.journal.items) }
+    // So many ticks are answered as the script has in its phases, none without a run and none in steps; and no step of read-ahead
+    // without a run.
     ensures ticks { length result.ticks.items ≡ ticks_asked (mode_in (map string_bytes words.now)) result.script }
-    ensures aheads { result.aheads.items ≡ [] }
+    ensures aheads { result.script ≡ None → result.aheads.items ≡ [] }
 {
     let Report {
         status,
         script,
         replies,
         ticks,
+        aheads,
+        places,
         journal,
         disks,
         logs,
@@ -402,7 +433,8 @@ pub fn cache_main<
         script,
         replies,
         ticks,
-        aheads: Vec::new(alloc),
+        aheads,
+        places,
         journal,
         disks,
         logs,

@@ -1,4 +1,4 @@
--- What a line of steps, of the lazy writer or the throttle, or a setting, that is read names and moves.
+-- What a line of steps, of read-ahead, of the lazy writer or the throttle, or a setting, that is read names and moves.
 use Rattle.std.proofs.Common.{◌≡◌, ℕ, ◌<◌, ◌==◌, ◌^◌, true, Some, List, length, refl, ap, subst, arith}
 use Rattle.std.specs.Str.{bytes_eq}
 use Rattle.std.proofs.lemmas.Bool.Decides.{nat_tests}
@@ -10,7 +10,7 @@ use Rattle.cc_script.specs.declared.script.Action.{Action}
 use Rattle.cc_script.specs.declared.script.Action.TheVariants as action
 use Rattle.cc_script.specs.Words.{number_of, number_between, bytes_of}
 use Rattle.cc_script.specs.Actions.{next, ended, stream_named, file_of}
-use Rattle.cc_script.specs.EventActions.{page_number, page_of, fill_of, drop_of, write_begin_of, write_end_of, sync_of, nc_read_page_of, nc_store_page_of, nc_write_page_of, can_write_of, defer_of, set_granularity_of, set_attributes_of, set_threshold_of}
+use Rattle.cc_script.specs.EventActions.{page_number, page_of, fill_of, drop_of, write_begin_of, write_end_of, sync_of, nc_read_page_of, nc_store_page_of, nc_write_page_of, ask_ahead_of, can_write_of, defer_of, set_granularity_of, set_attributes_of, set_threshold_of}
 use Rattle.cc_script.specs.Modes.{RunAlone, StepsAlone, stands}
 use Rattle.cc_script.specs.Within.{IsPageWithin, IsFilePageWithin}
 use Rattle.cc_script.proofs.Steps.{then-gives, if-gives, next-gives, ended-gives, between-gives, position-below, file-gives}
@@ -88,6 +88,22 @@ sync-gives m streams ws in_mode a e =
 pub scan-gives : (m : Mode) (streams : List StreamLine) (ws : List (List ℕ)) → stands StepsAlone m ≡ true → (a : Action) → ended ws action.Scan ≡ Some a → IsPlain m streams a
 scan-gives m streams ws in_mode a e =
     subst (IsPlain m streams) (ended-gives ws action.Scan a e).1
+    (record { file = tt; moved = omega arith; numbered = λ n. refl; in_mode = in_mode })
+
+pub ask_ahead-gives : (m : Mode) (streams : List StreamLine) (ws : List (List ℕ)) → stands RunAlone m ≡ true → (a : Action) → ask_ahead_of streams ws ≡ Some a → IsPlain m streams a
+unfolding ask_ahead_of
+ask_ahead-gives m streams ws in_mode a e =
+    let file = then-gives (next (file_of streams) ws) _ a e in
+    let at = then-gives (next number_of file.0.1) _ a file.2 in
+    let len = then-gives (next number_of at.0.1) _ a at.2 in
+    let end = ended-gives _ _ a len.2 in
+    let f = next-gives (file_of streams) ws file.0.0 file.0.1 file.1 in
+    subst (IsPlain m streams) end.1
+    (record { file = file-gives streams f.word file.0.0 f.reads; moved = omega arith; numbered = λ n. refl; in_mode = in_mode })
+
+pub ahead_step-gives : (m : Mode) (streams : List StreamLine) (ws : List (List ℕ)) → stands RunAlone m ≡ true → (a : Action) → ended ws action.AheadStep ≡ Some a → IsPlain m streams a
+ahead_step-gives m streams ws in_mode a e =
+    subst (IsPlain m streams) (ended-gives ws action.AheadStep a e).1
     (record { file = tt; moved = omega arith; numbered = λ n. refl; in_mode = in_mode })
 
 pub tick-gives : (m : Mode) (streams : List StreamLine) (ws : List (List ℕ)) → stands RunAlone m ≡ true → (a : Action) → ended ws action.Tick ≡ Some a → IsPlain m streams a

@@ -134,7 +134,7 @@ generated_within n =
         least_threshold = lit≤ tt;
         most_threshold = lit≤ tt;
         most_ticks = lit≤ tt;
-        no_aheads = refl;
+        most_aheads = lit≤ tt;
       };
       first_phase = lit≤ tt;
       last_phase = lit≤ tt;

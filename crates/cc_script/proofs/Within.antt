@@ -92,18 +92,18 @@ setting-gives low high ws n e =
     let b = between-gives low high w.word found.0.0 w.reads in
     (omega (arith, end.1, b.least), omega (arith, end.1, b.most))
 
--- so are the ticks, and there are no steps of read-ahead
-workers-gives : (ws : List (List ℕ)) (set : Workers) → workers_of ws ≡ Some set → (set.ticks ≤ 1000) × (set.aheads ≡ 0)
+-- so are the ticks, and the steps of read-ahead
+workers-gives : (ws : List (List ℕ)) (set : Workers) → workers_of ws ≡ Some set → (set.ticks ≤ 1000) × (set.aheads ≤ 1000)
 unfolding workers_of
 workers-gives ws set e =
     let ticks = then-gives (next (number_between 0 1000) ws) _ set e in
-    let aheads = then-gives (next (number_between 0 0) ticks.0.1) _ set ticks.2 in
+    let aheads = then-gives (next (number_between 0 1000) ticks.0.1) _ set ticks.2 in
     let end = ended-gives _ _ set aheads.2 in
     let t = next-gives (number_between 0 1000) ws ticks.0.0 ticks.0.1 ticks.1 in
-    let a = next-gives (number_between 0 0) ticks.0.1 aheads.0.0 aheads.0.1 aheads.1 in
+    let a = next-gives (number_between 0 1000) ticks.0.1 aheads.0.0 aheads.0.1 aheads.1 in
     let few = (between-gives 0 1000 t.word ticks.0.0 t.reads).most in
-    let none = (between-gives 0 0 a.word aheads.0.0 a.reads).most in
-    subst (λ (set : Workers). (set.ticks ≤ 1000) × (set.aheads ≡ 0)) end.1 (few, omega (arith, none))
+    let fewer = (between-gives 0 1000 a.word aheads.0.0 a.reads).most in
+    subst (λ (set : Workers). (set.ticks ≤ 1000) × (set.aheads ≤ 1000)) end.1 (few, fewer)
 
 -- of lists
 all-onto : {A : Type 0} (P : A → Type 0) (xs : List A) (x : A) → AllByRecursion P xs → P x → AllByRecursion P (xs ++ x ∷ [])
@@ -169,7 +169,7 @@ nothing-so_far m =
           least_threshold = lit≤ tt;
           most_threshold = lit≤ tt;
           most_ticks = lit≤ tt;
-          no_aheads = refl;
+          most_aheads = lit≤ tt;
         };
         first_phase = lit≤ tt;
         last_phase = lit≤ tt;
@@ -214,7 +214,7 @@ stream-so_far m n stream r new one is e =
           least_threshold = w.header.least_threshold;
           most_threshold = w.header.most_threshold;
           most_ticks = w.header.most_ticks;
-          no_aheads = w.header.no_aheads;
+          most_aheads = w.header.most_aheads;
         };
         first_phase = w.first_phase;
         last_phase = w.last_phase;
@@ -248,7 +248,7 @@ journal-so_far m n capacity r new range is e =
           least_threshold = w.header.least_threshold;
           most_threshold = w.header.most_threshold;
           most_ticks = w.header.most_ticks;
-          no_aheads = w.header.no_aheads;
+          most_aheads = w.header.most_aheads;
         };
         first_phase = w.first_phase;
         last_phase = w.last_phase;
@@ -282,7 +282,7 @@ threshold-so_far m n pages r new range is e =
           least_threshold = range.0;
           most_threshold = range.1;
           most_ticks = w.header.most_ticks;
-          no_aheads = w.header.no_aheads;
+          most_aheads = w.header.most_aheads;
         };
         first_phase = w.first_phase;
         last_phase = w.last_phase;
@@ -300,7 +300,7 @@ threshold-so_far m n pages r new range is e =
       kept = is.kept;
     })
 
-workers-so_far : (m : Mode) (n : ℕ) (set : Workers) (r new : Reading) → (set.ticks ≤ 1000) × (set.aheads ≡ 0) → IsSoFar m n r → with_workers set r ≡ Some new → IsSoFar m n new
+workers-so_far : (m : Mode) (n : ℕ) (set : Workers) (r new : Reading) → (set.ticks ≤ 1000) × (set.aheads ≤ 1000) → IsSoFar m n r → with_workers set r ≡ Some new → IsSoFar m n new
 unfolding with_workers
 workers-so_far m n set r new range is e =
     let w = is.within in
@@ -316,7 +316,7 @@ workers-so_far m n set r new range is e =
           least_threshold = w.header.least_threshold;
           most_threshold = w.header.most_threshold;
           most_ticks = range.0;
-          no_aheads = range.1;
+          most_aheads = range.1;
         };
         first_phase = w.first_phase;
         last_phase = w.last_phase;
@@ -364,7 +364,7 @@ phase-so_far m n ws r new in_mode is e =
           least_threshold = w.header.least_threshold;
           most_threshold = w.header.most_threshold;
           most_ticks = w.header.most_ticks;
-          no_aheads = w.header.no_aheads;
+          most_aheads = w.header.most_aheads;
         };
         first_phase = omega (arith, first);
         last_phase = omega (arith, below);
@@ -456,7 +456,7 @@ action-so_far m n line caller fails v ws r new room range may_fail in_mode is e 
           least_threshold = w.header.least_threshold;
           most_threshold = w.header.most_threshold;
           most_ticks = w.header.most_ticks;
-          no_aheads = w.header.no_aheads;
+          most_aheads = w.header.most_aheads;
         };
         first_phase = w.first_phase;
         last_phase = w.last_phase;

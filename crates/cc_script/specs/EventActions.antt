@@ -1,4 +1,4 @@
--- The lines of `steps` alone, those of the throttle, and the settings of a stream: the words behind the verb, in their order.
+-- The lines of `steps` alone, of read-ahead, of the throttle, and the settings of a stream: the words behind the verb, in their order.
 use Rattle.std.specs.Prelude.{ℕ, suc, ◌==◌, Bool, true, false, Option, Some, None, List, [], ◌∷◌, length, if◌then◌else◌, codes}
 use Rattle.cc_entry.specs.Place.{Page}
 use Rattle.cc_script.specs.declared.script.Mode.{Mode}
@@ -82,6 +82,14 @@ nc_read_in mode.Steps streams ws = nc_read_page_of streams ws
 abbrev pub nc_write_in : Mode → List StreamLine → List (List ℕ) → Option Action
 nc_write_in mode.Run streams ws = nc_write_of streams ws
 nc_write_in mode.Steps streams ws = nc_write_page_of streams ws
+
+-- ask FILE AT LEN: any two numbers
+unfoldable pub ask_ahead_of : List StreamLine → List (List ℕ) → Option Action
+ask_ahead_of streams ws = do
+  file ← next (file_of streams) ws
+  at ← next number_of file.1
+  len ← next number_of at.1
+  ended len.1 (action.AskAhead file.0 at.0 len.0)
 
 -- canwrite FILE N
 unfoldable pub can_write_of : List StreamLine → List (List ℕ) → Option Action

@@ -98,11 +98,11 @@ with_threshold pages r =
     then Some (record r { script = record r.script { threshold = pages }; has_threshold = true })
     else None
 
--- L A: up to 1000 ticks of the lazy writer in each phase, and no steps of read-ahead
+-- L A: up to 1000 ticks of the lazy writer in each phase, and up to 1000 steps of the read-ahead worker
 unfoldable pub workers_of : List (List ℕ) → Option Workers
 workers_of ws = do
   ticks ← next (number_between 0 1000) ws
-  aheads ← next (number_between 0 0) ticks.1
+  aheads ← next (number_between 0 1000) ticks.1
   ended aheads.1 (record { ticks = ticks.0; aheads = aheads.0 })
 
 -- workers L A: at most once, before the first action

@@ -31,6 +31,8 @@ verb_modes verb.Read = RunAlone
 verb_modes verb.Write = RunAlone
 verb_modes verb.Update = RunAlone
 verb_modes verb.Levels = RunAlone
+verb_modes verb.AskAhead = RunAlone
+verb_modes verb.AheadStep = RunAlone
 verb_modes verb.Tick = RunAlone
 verb_modes verb.NcStore = StepsAlone
 verb_modes verb.Fill = StepsAlone
@@ -51,6 +53,8 @@ action_modes (action.Read _ _ _ _) = RunAlone
 action_modes (action.Write _ _ _) = RunAlone
 action_modes (action.Update _ _ _) = RunAlone
 action_modes (action.Levels _) = RunAlone
+action_modes (action.AskAhead _ _ _) = RunAlone
+action_modes action.AheadStep = RunAlone
 action_modes action.Tick = RunAlone
 action_modes (action.NcReadPage _ _) = StepsAlone
 action_modes (action.NcStorePage _ _ _) = StepsAlone
@@ -64,7 +68,8 @@ action_modes action.Scan = StepsAlone
 action_modes other = Both
 
 -- Whether an action is a call of the cache, which may fail by a fault of its caller. A line of the shim is a list of calls,
--- a tick writes pages by steps of its own, and the levels of a view index are read without an entry.
+-- a tick writes pages by steps of its own, read-ahead has a queue that only a run has, and the levels of a view index are
+-- read without an entry.
 abbrev pub is_call : Action → Bool
 is_call (action.Append _ _) = false
 is_call (action.LogFlush _ _) = false
@@ -74,6 +79,8 @@ is_call (action.WriteBegin _) = false
 is_call (action.WriteEnd _) = false
 is_call (action.Sync _) = false
 is_call action.Scan = false
+is_call (action.AskAhead _ _ _) = false
+is_call action.AheadStep = false
 is_call action.Tick = false
 is_call (action.Read _ _ _ _) = false
 is_call (action.Write _ _ _) = false

@@ -77,6 +77,8 @@ IsActionWithin streams (action.WriteBegin page) = IsPageWithin streams page
 IsActionWithin streams (action.WriteEnd page) = IsPageWithin streams page
 IsActionWithin streams (action.Sync stream) = stream < length streams
 IsActionWithin streams action.Scan = Unit {0}
+IsActionWithin streams (action.AskAhead file _ _) = IsFileWithin streams file
+IsActionWithin streams action.AheadStep = Unit {0}
 IsActionWithin streams action.Tick = Unit {0}
 IsActionWithin streams (action.CanWrite file _) = IsFileWithin streams file
 IsActionWithin streams (action.Defer file _ _) = IsFileWithin streams file
@@ -102,14 +104,14 @@ abbrev pub PhasesAscend : ℕ → List ActionLine → Type 0
 PhasesAscend from [] = Unit {0}
 PhasesAscend from (line ∷ lines) = (from ≤ line.phase) × PhasesAscend line.phase lines
 
--- what is set is in its range, and there are no steps of read-ahead
+-- what is set is in its range
 pub record IsHeaderWithin (script : Script) : Type 0 where
   pub least_journal : 64 ≤ script.journal
   pub most_journal : script.journal ≤ 1048576
   pub least_threshold : 1 ≤ script.threshold
   pub most_threshold : script.threshold ≤ 16384
   pub most_ticks : script.ticks ≤ 1000
-  pub no_aheads : script.aheads ≡ 0
+  pub most_aheads : script.aheads ≤ 1000
 
 -- a script keeps within what its run may rely on
 pub record IsWithin (script : Script) : Type 0 where

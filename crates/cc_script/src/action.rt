@@ -8,8 +8,9 @@ ghost use Rattle.cc_script.specs.ActionTable.{action_of, bytes_counted, dirty_li
 ghost use Rattle.cc_script.specs.declared.script.Action.TheVariants as action;
 
 use crate::event_action::{
-    can_write, defer, drop, fill, nc_read_page, nc_store_page, nc_write_page, post, scan,
-    set_attributes, set_granularity, set_threshold, sync, tick, write_begin, write_end,
+    ahead_step, ask_ahead, can_write, defer, drop, fill, nc_read_page, nc_store_page,
+    nc_write_page, post, scan, set_attributes, set_granularity, set_threshold, sync, tick,
+    write_begin, write_end,
 };
 use crate::fault::LineFault;
 use crate::hold_action::{
@@ -343,6 +344,8 @@ pub(crate) fn action(
         Verb::WriteEnd => write_end(streams, words).ok_or(LineFault::Syntax),
         Verb::Sync => sync(streams, words).ok_or(LineFault::Syntax),
         Verb::Scan => scan(words).ok_or(LineFault::Syntax),
+        Verb::AskAhead => ask_ahead(streams, words).ok_or(LineFault::Syntax),
+        Verb::AheadStep => ahead_step(words).ok_or(LineFault::Syntax),
         Verb::Tick => tick(words).ok_or(LineFault::Syntax),
         Verb::CanWrite => can_write(streams, words).ok_or(LineFault::Syntax),
         Verb::Defer => defer(streams, words).ok_or(LineFault::Syntax),
@@ -352,8 +355,8 @@ pub(crate) fn action(
     }
 }
 
-/// How many bytes of an action count in the total: those that it reads, writes or appends, and the length of a hold
-/// that it makes.
+/// How many bytes of an action count in the total: those that it reads, writes or appends, the length of a hold that it
+/// makes, and that of a read that it announces.
 pub(crate) fn bytes_counted(action: &Action) -> u64
     ensures { result ≡ bytes_counted action.now }
 {
@@ -367,7 +370,8 @@ pub(crate) fn bytes_counted(action: &Action) -> u64
         | Action::PinRead { len, .. }
         | Action::PreparePin { len, .. }
         | Action::MdlRead { len, .. }
-        | Action::MdlWrite { len, .. } => *len,
+        | Action::MdlWrite { len, .. }
+        | Action::AskAhead { len, .. } => *len,
         Action::PinnedWrite { bytes, .. }
         | Action::MdlStore { bytes, .. }
         | Action::NcWrite { bytes, .. }

@@ -21,10 +21,10 @@ pub(crate) const MOST_ENTRIES: u64 = 1048576;
 /// The highest cache threshold, in pages.
 const MOST_PAGES: u64 = 16384;
 
-/// The most ticks of a phase, and the most steps of read-ahead, of which there are none.
+/// The most ticks of a phase, and the most steps of its read-ahead worker.
 const MOST_TICKS: u64 = 1000;
 
-const MOST_AHEADS: u64 = 0;
+const MOST_AHEADS: u64 = 1000;
 
 /// The most bytes that the lines of a script read, write, append and hold.
 const MOST_BYTES: u64 = 33554432;

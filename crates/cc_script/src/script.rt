@@ -373,6 +373,14 @@ pub enum Action {
     },
     /// The lazy writer chooses pages.
     Scan,
+    /// A read is announced, and the read-ahead that follows from it is asked for.
+    AskAhead {
+        file: FileId,
+        at: u64,
+        len: u64,
+    },
+    /// The first read-ahead that was asked for is made.
+    AheadStep,
     /// A tick of the lazy writer: it chooses pages and writes them.
     Tick,
     /// Whether a write of so many bytes may go.
@@ -407,7 +415,8 @@ impl Action {
     }
 
     /// Whether it is a call of the cache, which may fail by a fault of its caller. The others are steps of a page, a log
-    /// or a queue, lines of the shim, which are lists of calls, ticks, and `levels`, which leaves no entry.
+    /// or a queue, lines of the shim, which are lists of calls, ticks, those of read-ahead, whose queue is a run's, and
+    /// `levels`, which leaves no entry.
     pub fn is_call(&self) -> bool
         ensures { result ≡ is_call self.now }
     {
@@ -421,6 +430,8 @@ impl Action {
                 | Action::WriteEnd { .. }
                 | Action::Sync { .. }
                 | Action::Scan
+                | Action::AskAhead { .. }
+                | Action::AheadStep
                 | Action::Tick
                 | Action::Read { .. }
                 | Action::Write { .. }

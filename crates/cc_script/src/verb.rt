@@ -63,6 +63,8 @@ pub(crate) enum Verb {
     WriteEnd,
     Sync,
     Scan,
+    AskAhead,
+    AheadStep,
     Tick,
     CanWrite,
     Defer,
@@ -70,7 +72,7 @@ pub(crate) enum Verb {
     Fail,
 }
 
-pub(crate) const VERBS: [Verb; 58] = [
+pub(crate) const VERBS: [Verb; 60] = [
     Verb::Stream,
     Verb::Journal,
     Verb::Threshold,
@@ -124,6 +126,8 @@ pub(crate) const VERBS: [Verb; 58] = [
     Verb::WriteEnd,
     Verb::Sync,
     Verb::Scan,
+    Verb::AskAhead,
+    Verb::AheadStep,
     Verb::Tick,
     Verb::CanWrite,
     Verb::Defer,
@@ -189,6 +193,8 @@ impl Verb {
             Verb::WriteEnd => b"end",
             Verb::Sync => b"sync",
             Verb::Scan => b"scan",
+            Verb::AskAhead => b"ask",
+            Verb::AheadStep => b"ahead",
             Verb::Tick => b"tick",
             Verb::CanWrite => b"canwrite",
             Verb::Defer => b"defer",
@@ -234,6 +240,8 @@ impl Verb {
                 | Verb::Write
                 | Verb::Update
                 | Verb::Levels
+                | Verb::AskAhead
+                | Verb::AheadStep
                 | Verb::Tick
         )
     }

@@ -16,7 +16,7 @@ fn wrong_line(answer: Result<Script, ScriptFault>) -> Option<u32> {
 }
 
 /// Scripts, each with its first wrong line.
-const SCRIPTS: [(&str, u32); 107] = [
+const SCRIPTS: [(&str, u32); 112] = [
     ("", 0),
     ("# a comment\n\n  \n\r\n  stream   a  8192 8192  \r", 0),
     (" # no comment", 1),
@@ -71,12 +71,17 @@ const SCRIPTS: [(&str, u32); 107] = [
     ("threshold 16385", 1),
     ("t1 threshold 1", 1),
     (
-        "stream a 1 1\nworkers 1000 0\nphase\nstate a\nworkers 0 0",
+        "stream a 1 1\nworkers 1000 1000\nphase\nstate a\nworkers 0 0",
         5,
     ),
     ("workers 0 0\njournal 64\nworkers 0 0", 3),
     ("workers 1001 0", 1),
-    ("workers 0 1", 1),
+    ("workers 0 1001", 1),
+    ("ahead 1", 1),
+    ("stream a 1 1\nask a 0", 2),
+    ("stream a 1 1\nask a 0 1 nowait", 2),
+    ("stream a 1 1\nask b 0 1", 2),
+    ("stream a 1 1\nask a 0 33554432\nask a 0 1", 3),
     ("workers 1", 1),
     ("workers 1 0 0", 1),
     ("t1 workers 1 0", 1),
@@ -185,7 +190,7 @@ const SCRIPTS: [(&str, u32); 107] = [
 ];
 
 /// Scripts of steps, each with its first wrong line.
-const STEPS: [(&str, u32); 36] = [
+const STEPS: [(&str, u32); 37] = [
     (
         "stream a 8192 8192\nfill a 0\nt16 fill a 2251799813685247\nout a 0\nt2 begin a 1\nend a 1\nt3 sync a\nt2 scan\nscan",
         0,
@@ -234,6 +239,7 @@ const STEPS: [(&str, u32); 36] = [
     ("workers 0 0", 1),
     ("tick", 1),
     ("ahead", 1),
+    ("stream a 1 1\nask a 0 1", 2),
     ("stream a 1 1\npin a 0 1 h\nrepin h k\nunrepin k through", 4),
     ("stream a 1 1\nread a cached 0 1", 2),
     ("stream a 1 1\nwrite a 0 AB", 2),
@@ -283,14 +289,14 @@ fn first_write(script: &Script) -> Option<(u32, u32, u32, u64, u64)> {
 #[test]
 fn keeps_values(rt: HostRuntime) -> Result<(), Fail> {
     let text =
-        b"# r\n\njournal 64\nstream a 9 7\nphase\nworkers 12 0\nt3 cwrite a 5 AB,00x2\nzero a 1 4\n";
+        b"# r\n\njournal 64\nstream a 9 7\nphase\nworkers 12 1000\nt3 cwrite a 5 AB,00x2\nzero a 1 4\n";
     let script = read_script(rt.alloc(), text, Mode::Run).ok().ok_or("read")?;
     assert_eq!(rt; first_write(&script), Some((7, 2, 3, 5, 3)));
     assert_eq!(rt;
         (script.journal, script.threshold, script.phases),
         (64, 1024, 2)
     );
-    assert_eq!(rt; (script.ticks, script.aheads), (12, 0));
+    assert_eq!(rt; (script.ticks, script.aheads), (12, 1000));
     Ok(())
 }
 
@@ -379,6 +385,7 @@ fn numbers_of(action: &Action) -> Option<(u8, u64, u64, u64)> {
             retrying,
         } => Some((file.object(), *bytes, u64::from(*retrying), 0)),
         Action::NcRead { file, at, len } => Some((file.object(), *at, *len, 0)),
+        Action::AskAhead { file, at, len } => Some((file.object(), *at, *len, 2)),
         Action::NcWrite { file, at, bytes } => Some((file.object(), *at, bytes.len(), 0)),
         _ => None,
     }
@@ -403,7 +410,8 @@ fn opened(script: &Script) -> Option<(u8, bool)> {
 #[test]
 fn keeps_files_and_their_numbers(rt: HostRuntime) -> Result<(), Fail> {
     let text = b"stream a 9 7\ninit a:15 3 2 1 quota 8 temporary\nuninit a:15 6\npurge a 1 4
-ncread a:0 4096 8192\nncwrite a:1 4096 AB,00x2\ndiscard a:2 5 6\ncanwrite a:3 7\ndefer a:4 8 retry\ndefer a:5 9";
+ncread a:0 4096 8192\nncwrite a:1 4096 AB,00x2\ndiscard a:2 5 6\ncanwrite a:3 7\ndefer a:4 8 retry\ndefer a:5 9
+ask a:6 18446744073709551615 33500000\nahead";
     let script = read_script(rt.alloc(), text, Mode::Run).ok().ok_or("read")?;
     assert_eq!(rt; opened(&script), Some((8, true)));
     assert_eq!(rt; numbers_at(&script, 0), Some((15, 3, 2, 1)));
@@ -415,6 +423,13 @@ ncread a:0 4096 8192\nncwrite a:1 4096 AB,00x2\ndiscard a:2 5 6\ncanwrite a:3 7\
     assert_eq!(rt; numbers_at(&script, 6), Some((3, 7, 0, 0)));
     assert_eq!(rt; numbers_at(&script, 7), Some((4, 8, 1, 0)));
     assert_eq!(rt; numbers_at(&script, 8), Some((5, 9, 0, 0)));
+    assert_eq!(rt;
+        numbers_at(&script, 9),
+        Some((6, 18446744073709551615, 33500000, 2))
+    );
+    assert!(rt;
+        matches!(script.lines.as_slice().get(10), Some(line) if matches!(line.action, Action::AheadStep))
+    );
     Ok(())
 }
 

@@ -1,19 +1,20 @@
 -- What passes have at the read-ahead queue: the calls of a caller for read-ahead, and the answers of the worker's steps. Each
 -- stretch has its newest entry first.
-use Rattle.std.specs.Prelude.{ℕ, ◌==◌, true, List, [], ◌∷◌, map, if◌then◌else◌}
+use Rattle.std.specs.Prelude.{ℕ, ◌==◌, true, List, [], ◌∷◌, if◌then◌else◌}
 use Rattle.std.specs.declared.option.Option.TheVariants.{Some, None}
 use Rattle.cc_entry.specs.declared.call.Call.TheVariants as call
 use Rattle.cc_entry.specs.declared.error.CcError.TheVariants as error
 use Rattle.cc_entry.specs.declared.reply.Reply.TheVariants as reply
-use Rattle.cc_entry.specs.declared.answer.Answer.{Answer}
+use Rattle.cc_entry.specs.declared.answer.Answer.TheVariants as answer
 use Rattle.cc_entry.specs.declared.answer.LineReply.{LineReply}
 use Rattle.cc_entry.specs.declared.entry.Entry.{Entry}
-use Rattle.cc_pieces.specs.Explained.{Answered}
+use Rattle.cc_script.specs.declared.script.Action.TheVariants as action
+use Rattle.cc_pieces.specs.Explained.{Answered, Given}
 use Rattle.cc_entry.specs.declared.place.Request.{Request}
 use Rattle.cc_pieces.specs.Queue.{IsQueued, QueuePlace}
 use Rattle.cc_worked.specs.Values.{a, answers, refused}
 use Rattle.cc_worked.specs.PiecesWithoutEntry.{request, step}
-use Rattle.cc_worked.specs.PiecesRuns.{one_step}
+use Rattle.cc_worked.specs.PiecesRuns.{line_of, one_step}
 use Rattle.cc_worked.specs.PiecesLines.{no_request}
 use Rattle.cc_worked.specs.PiecesAnswered.{first_request}
 
@@ -40,13 +41,23 @@ one_served = one_step ∷ []
 abbrev pub one_idle : List LineReply
 one_idle = no_request ∷ []
 
--- what the steps of each pass were answered, of which the worker alone made any
-abbrev pub steps_of : List LineReply → ℕ → List Answer
-steps_of stepped me = if 18 == me then map (λ reply. reply.answer) stepped else []
+-- a run without a line, and one of a line that asks for read-ahead
+abbrev pub no_line : Given
+no_line = record { streams = []; lines = []; phases = 1; ticks = 0; aheads = 1 }
 
--- what the passes have at the queue explains a run whose worker made these steps
+abbrev pub one_ask : Given
+one_ask = record no_line { lines = line_of 1 1 1 (action.AskAhead a 0 1) ∷ [] }
+
+-- whose line was answered that the queue is full
+abbrev pub told_full : Answered
+told_full = record { replies = record { line = 1; answer = answer.Refused error.QueueFull } ∷ []; ticked = []; stepped = [] }
+
+-- what the passes have at the queue explains a run whose worker made these steps, and one whose line found the queue full
 abbrev pub QueuedBy : List LineReply → List Request → (ℕ → QueuePlace) → List Entry → Type 0
-QueuedBy stepped taken places past = IsQueued (told_steps stepped) (steps_of stepped) taken places past
+QueuedBy stepped taken places past = IsQueued no_line (told_steps stepped) taken places past
+
+abbrev pub FullBy : (ℕ → QueuePlace) → List Entry → Type 0
+FullBy places past = IsQueued one_ask told_full [] places past
 
 -- a place at which nothing was done
 abbrev pub at_rest : QueuePlace
@@ -65,4 +76,8 @@ took_other = record { pushed = []; taken = first_request ∷ []; empties = 0; fu
 
 -- the places of caller 1 and of the worker; nothing was done at the others
 abbrev pub places_with : QueuePlace → QueuePlace → ℕ → QueuePlace
-places_with caller worker me = if 1 == me then caller else (if 18 == me then worker else at_rest)
+places_with caller worker me = if me == 1 then caller else (if me == 18 then worker else at_rest)
+
+-- a place that found the queue full
+abbrev pub found_full : QueuePlace
+found_full = record { pushed = []; taken = []; empties = 0; fulls = 1 }

@@ -19,7 +19,7 @@ ghost use Rattle.cc_worked.specs.PiecesRuns.{OneStream, TwoStreams, opens, opens
 ghost use Rattle.cc_worked.specs.PiecesRuns.{opens_both, opens_first_twice, unit_at, of_capacity, full_at, OneLine, MakesOneCall, flushes};
 ghost use Rattle.cc_worked.specs.PiecesRuns.{first_bytes, reads, asks, two_full, reads_and_asks, asks_and_reads, asks_twice, two_lines};
 ghost use Rattle.cc_worked.specs.PiecesRuns.{line_of, of_one, of_two, plan_with, one_step, stranger_beside, OnePhase, TwoPhases};
-ghost use Rattle.cc_worked.specs.PiecesQueue.{QueuedBy, asks_ahead, finds_it_full, one_served, one_idle, at_rest, asked_once, took_once, took_other, places_with};
+ghost use Rattle.cc_worked.specs.PiecesQueue.{FullBy, QueuedBy, asks_ahead, finds_it_full, found_full, one_served, one_idle, at_rest, asked_once, took_once, took_other, places_with};
 ghost use Rattle.cc_worked.specs.PiecesLines.{no_request, one_map};
 ghost use Rattle.cc_worked.specs.PiecesWithoutEntry.{flushed_to_three, appended, request};
 ghost use Rattle.cc_worked.specs.PiecesAnswered.{flushed_to_four, first_request, one_byte_is_refused};
@@ -140,7 +140,8 @@ pub fn run_is_explained()
 pub fn places_at_the_queue()
     ensures queued { QueuedBy one_served (request ∷ []) (places_with asked_once took_once) asks_ahead }
     ensures each_pushed { QueuedBy one_served (request ∷ []) (places_with at_rest took_once) asks_ahead → ⊥ }
-    ensures each_full { QueuedBy [] [] (places_with at_rest at_rest) finds_it_full → ⊥ }
+    ensures found_full { FullBy (places_with found_full at_rest) finds_it_full }
+    ensures each_full { FullBy (places_with at_rest at_rest) finds_it_full → ⊥ }
     ensures as_told { QueuedBy one_served (request ∷ []) (places_with asked_once at_rest) asks_ahead → ⊥ }
     ensures one_a_step { QueuedBy [] (request ∷ []) (places_with asked_once took_once) asks_ahead → ⊥ }
     ensures as_served { QueuedBy one_served (first_request ∷ []) (places_with asked_once took_other) asks_ahead → ⊥ }

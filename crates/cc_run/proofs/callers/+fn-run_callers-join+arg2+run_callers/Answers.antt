@@ -4,7 +4,7 @@ use Rattle.std.specs.List.{AllByRecursion}
 use Rattle.cc_turns.specs.Desk.{tells_of}
 use Rattle.cc_turns.specs.Places.{IsRoomFor}
 use Rattle.cc_run.specs.Callers.{MayRun, MayAllRun}
-use Rattle.cc_run.proofs.CallersRan.{ran-no_lines, all-ran-long, all-ran-last}
+use Rattle.cc_run.proofs.CallersRan.{own-parts, ran-no_lines, all-ran-long, all-ran-last}
 use Rattle.cc_run.proofs.Lists.{all-front, all-back}
 use Rattle.cc_run.proofs.callers.+fn-run_callers-join+arg2+run_callers.Goals as goal
 
@@ -30,7 +30,8 @@ join-ended-requires-after_bounds g t c κs within =
     let fewer : length c.pop.new.self.items < length c.args.callers.items = omega (arith, c.in-Some.ensures.len) in
     let room : IsRoomFor (length c.pop.new.self.items) c.args.room.items (vec_capacity c.args.room) =
     record { empty = c.requires.room.empty; room = omega (arith, fewer, c.requires.room.room) } in
-    search (rules, others, last, room, fewer)
+    let own = own-parts c.args.queue.now c.args.callers.items c.pop.new.self.items c.in-Some.caller c.in-Some.ensures.items c.requires.own in
+    search (rules, others, last, room, fewer, own.0, own.1)
 
 pub push_reserved-requires-2 : goal.push_reserved-requires-2
 push_reserved-requires-2 g t c =

@@ -1,5 +1,5 @@
 -- One line more, the caller's or another's.
-use Rattle.std.proofs.Common.{rules, ◌≡◌, ℕ, suc, ◌+◌, ◌<◌, ◌++◌, ◌∷◌, [], List, length, take, drop, get_or, vec_capacity, refl, sym, ap, subst, ◌∙◌, arith}
+use Rattle.std.proofs.Common.{◌≡◌, ℕ, suc, ◌+◌, ◌<◌, ◌++◌, ◌∷◌, [], List, length, take, drop, get_or, vec_capacity, refl, sym, ap, subst, ◌∙◌, arith}
 use Rattle.std.proofs.lemmas.List.{take_all, take_more}
 use Rattle.cc_turns.specs.Desk.{tells_of}
 use Rattle.cc_script.specs.declared.script.ActionLine.{ActionLine}
@@ -34,19 +34,20 @@ loop-line-init g c = record {
   room = refl;
 }
 
-pub serve_at-answer-requires : goal.serve_at-answer-requires
-serve_at-answer-requires g c =
+pub serve_at-answer-requires-clause-can : goal.serve_at-answer-requires-clause-can
+serve_at-answer-requires-clause-can g c κs within =
     let i = c.loop-line.line-index in
     let lines = c.args.lines.now in
     let line = c.line-item.result in
     let servable : IsServable (length c.args.board.now.begun.disks) line.action =
     subst (λ (l : ActionLine). IsServable (length c.args.board.now.begun.disks) l.action) (sym c.line-item.is)
     (all-at (λ line. IsServable (length c.args.board.now.begun.disks) line.action) lines i line c.loop-line-test.true c.requires.may.servable) in
-    λ k. (
-      search rules,
-      can-serve (tells_of g.D.Told.told g.D.Told.faults g.L.LogFile.told g.L.LogFile.faults g.Q.PostRoutine.posted) c.args.board.now lines c.args.caller c.requires.may (take i lines) c.loop-line.answers.items c.loop-line.seated c.loop-line.names
-          c.loop-line.invariant.ran line (drop (suc i) lines) (parts-at lines i line c.loop-line-test.true c.line-item.is) (c.if-line-me.true ∙ c.loop-line.invariant.me_is) servable,
-    )
+    can-serve (tells_of g.D.Told.told g.D.Told.faults g.L.LogFile.told g.L.LogFile.faults g.Q.PostRoutine.posted) c.args.board.now lines c.args.caller c.requires.may (take i lines) c.loop-line.answers.items c.loop-line.seated c.loop-line.names
+    c.loop-line.invariant.ran line (drop (suc i) lines) (parts-at lines i line c.loop-line-test.true c.line-item.is) (c.if-line-me.true ∙ c.loop-line.invariant.me_is) servable
+
+-- the place is of the queue still
+pub serve_at-answer-requires-clause-own : goal.serve_at-answer-requires-clause-own
+serve_at-answer-requires-clause-own g c κs within = c.loop-line.invariant.ran.placed.queue_is ∙ c.requires.own
 
 pub loop-line-preserved : goal.loop-line-preserved
 loop-line-preserved g c =

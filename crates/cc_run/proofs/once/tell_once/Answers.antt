@@ -1,5 +1,5 @@
 -- What the later lines tell is left out of one answer more.
-use Rattle.std.proofs.Common.{◌≡◌, ℕ, nat_eq, ◌-◌, ◌+◌, ◌<◌, ◌∷◌, suc, length, drop, take, refl, sym, ap, subst, ◌∙◌, arith}
+use Rattle.std.proofs.Common.{◌≡◌, nat_eq, ◌-◌, ◌+◌, ◌<◌, ◌∷◌, suc, length, drop, take, sym, ap, subst, ◌∙◌, arith}
 use Rattle.std.proofs.Math.Seq.{drop-cons}
 use Rattle.std.specs.List.{IsDistinct}
 use Rattle.cc_pieces.specs.Explained.{posted_in}

@@ -1,5 +1,5 @@
 -- A number stays where none behind it is the same, and no line tells it.
-use Rattle.std.proofs.Common.{◌≡◌, ℕ, ◌-◌, ◌+◌, ◌<◌, ◌++◌, ◌∷◌, ◌⊎◌, suc, true, false, length, drop, take, sym, ap, subst, ◌∙◌, arith, inl, inr}
+use Rattle.std.proofs.Common.{◌≡◌, ◌-◌, ◌+◌, ◌<◌, ◌++◌, ◌∷◌, suc, length, drop, take, sym, ap, ◌∙◌, arith, inl, inr}
 use Rattle.std.proofs.Math.Seq.{drop-cons}
 use Rattle.cc_pieces.specs.Explained.{posted_in}
 use Rattle.cc_run.specs.Once.{tells_it}

@@ -1,5 +1,5 @@
 -- A line more: the routine of its own is posted, where the journal shows it.
-use Rattle.std.proofs.Common.{◌≡◌, ◌+◌, true, false, reverse, subst, sym, ◌∙◌, arith}
+use Rattle.std.proofs.Common.{◌+◌, reverse, subst, sym, ◌∙◌, arith}
 use Rattle.cc_run.proofs.PostSteps.{PostedTo, has-routine, passed-by, posted-first, posted-all, posted-now, unposted-yet, waits-still}
 use Rattle.cc_run.proofs.posts.post_routines.Goals as goal
 use Rattle.cc_run.proofs.posts.post_routines.Goals.{then-defers, else-defers, then-was_posted, else-was_posted}

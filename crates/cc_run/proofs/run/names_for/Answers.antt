@@ -5,6 +5,7 @@ use Rattle.std.specs.List.{AllByRecursion}
 use Rattle.std.specs.declared.option.Option.TheVariants.{Some}
 use Rattle.cc_script.specs.HoldWords.{words_bound}
 use Rattle.cc_lines.specs.Holds.{NamesState}
+use Rattle.cc_queue.specs.Places.{new_place}
 use Rattle.cc_run.proofs.Lists.{all-join}
 use Rattle.cc_run.proofs.Rooms.{behind}
 use Rattle.cc_run.proofs.RowSteps.{longer}
@@ -26,7 +27,9 @@ loop-caller-preserved c =
       counted = omega (arith, longer _ _ _ c.push_reserved.ensures.items, before.counted);
       within = omega arith;
       capacity = omega (arith, c.push_reserved.ensures.capacity, before.capacity);
-      none = rw c.push_reserved.ensures.items (all-join (λ (names : NamesState). names.named ≡ []) c.loop-caller.names.items _ before.none (c.in_ok-with_room.ensures.0, tt));
+      fresh = rw c.push_reserved.ensures.items (all-join (λ (own : NamesState). own.place ≡ new_place c.args.queue.now) c.loop-caller.names.items _ before.fresh (c.in_ok-with_room.ensures.place ∙ c.split-own.ensures.made, tt));
+      same = c.split-own.ensures.same ∙ before.same;
+      none = rw c.push_reserved.ensures.items (all-join (λ (names : NamesState). names.named ≡ []) c.loop-caller.names.items _ before.none (c.in_ok-with_room.ensures.room.0, tt));
       room = λ n names at.
           let which = behind c.loop-caller.names.items _ names n (rw c.push_reserved.ensures.items at at) in
           elim which [
@@ -35,7 +38,7 @@ loop-caller-preserved c =
                 let number : suc n ≡ c.loop-caller.caller = omega (arith, here.0, before.counted) in
                 omega (
                   arith,
-                  c.in_ok-with_room.ensures.1,
+                  c.in_ok-with_room.ensures.room.1,
                   c.words_of.ensures,
                   ap (λ me. words_bound me c.args.script.now.lines) number,
                   ap (λ (names : NamesState). names.room) here.1,
@@ -43,12 +46,21 @@ loop-caller-preserved c =
           ];
     }
 
-pub returns : goal.returns
-returns c =
+pub split-own-requires : goal.split-own-requires
+split-own-requires c = record { own = ap (λ p. p.queue) c.loop-caller.invariant.same ∙ c.requires.own }
+
+pub returns-clause-words : goal.returns-clause-words
+returns-clause-words c =
     let before = c.loop-caller.invariant in
     record {
       counted = omega (arith, before.counted, before.within, c.loop-caller-test.false);
       none = before.none;
-      right = c.requires.words;
+      right = c.requires.within.words;
       room = λ n names at. omega (arith, before.room n names at, none-long c.loop-caller.names.items n names before.none at);
     }
+
+pub returns-clause-places : goal.returns-clause-places
+returns-clause-places c = c.loop-caller.invariant.fresh
+
+pub returns-clause-same : goal.returns-clause-same
+returns-clause-same c = c.loop-caller.invariant.same

@@ -5,13 +5,17 @@ use Rattle.cc_script.specs.Within.{IsLineWithin}
 use Rattle.cc_journal.specs.Capacity.{IsWithinCapacity}
 use Rattle.cc_journal.specs.Rows.{Follows}
 use Rattle.cc_pieces.specs.Table.{table_of}
+use Rattle.cc_lines.specs.Holds.{NamesState}
 use Rattle.cc_lines.specs.Line.{IsServable}
+use Rattle.cc_queue.specs.Places.{new_place}
 use Rattle.cc_run.specs.Lines.{IsCaller}
 use Rattle.cc_run.specs.Rows.{printed_row}
 use Rattle.cc_run.proofs.DirtyRows.{rows-table}
 use Rattle.cc_run.proofs.Lists.{all-map, if_some-ok}
 use Rattle.cc_run.proofs.PhaseSteps.{ticked-long}
 use Rattle.cc_run.proofs.PhasesRan.{run-explained, run-long}
+use Rattle.cc_run.specs.Places.{taken_at}
+use Rattle.cc_run.proofs.Queued.{run-queued, taken-is}
 use Rattle.cc_run.proofs.RunSteps.{servable-all, opened-long, disks-stand, logs-stand}
 use Rattle.cc_run.proofs.run.run_on.Goals as goal
 
@@ -46,40 +50,66 @@ serve_phases-desk-requires-clause-room g c κs within =
 
 pub settle-posts-requires-clause-answered : goal.settle-posts-requires-clause-answered
 settle-posts-requires-clause-answered g c =
-    run-long _ _ c.args.script.now c.args.replies.items c.open_streams.new.replies.items c.serve_phases-desk.new.replies.items c.serve_phases-desk.new.ticks.answers.items c.args.desk.last.entries c.open_streams.new.desk.last.entries c.serve_phases-desk.result.last.entries
-    c.requires.none (rw c.as_slice.ensures.same at c.open_streams.ensures.opened) (rw (c.as_slice-2.ensures, c.requires.ticks) at c.serve_phases-desk.ensures.served)
+    run-long _ _ c.args.script.now c.args.replies.items c.open_streams.new.replies.items c.serve_phases-desk.new.replies.items c.serve_phases-desk.new.ticks.answers.items c.serve_phases-desk.result.2.answers.items c.serve_phases-desk.result.2.place.taken c.args.desk.last.entries c.open_streams.new.desk.last.entries c.serve_phases-desk.result.0.last.entries
+    c.requires.none (rw c.as_slice.ensures.same at c.open_streams.ensures.opened) (rw (c.as_slice-2.ensures, c.requires.ticks, c.requires.steps) at c.serve_phases-desk.ensures.served)
 
 pub returns-clause-within : goal.returns-clause-within
 returns-clause-within g c =
-    rw c.end-disks.ensures.journal (subst (λ n. IsWithinCapacity n c.serve_phases-desk.result.last.entries)
+    rw c.end-disks.ensures.journal (subst (λ n. IsWithinCapacity n c.serve_phases-desk.result.0.last.entries)
     (ap (λ u. u.capacity) c.serve_phases-desk.ensures.run.setup ∙ ap (λ u. u.capacity) c.open_streams.ensures.run.setup) c.end-disks.ensures.within)
 
 pub returns-clause-disks : goal.returns-clause-disks
 returns-clause-disks g c =
-    disks-stand g.D.Told.told g.D.Told.faults _ _ _ c.serve_phases-desk.result c.end-disks.result.disks.items c.end-disks.ensures.disks
+    disks-stand g.D.Told.told g.D.Told.faults _ _ _ c.serve_phases-desk.result.0 c.end-disks.result.disks.items c.end-disks.ensures.disks
     (c.serve_phases-desk.ensures.run.streams ∙ c.open_streams.ensures.run.streams)
     (c.serve_phases-desk.ensures.run.disks ∙ c.open_streams.ensures.run.disks) c.end-disks.ensures.journal
 
 pub returns-clause-logs : goal.returns-clause-logs
 returns-clause-logs g c =
-    logs-stand g.L.LogFile.told g.L.LogFile.faults _ _ _ c.serve_phases-desk.result c.end-disks.result.logs.items c.end-disks.ensures.logs
+    logs-stand g.L.LogFile.told g.L.LogFile.faults _ _ _ c.serve_phases-desk.result.0 c.end-disks.result.logs.items c.end-disks.ensures.logs
     (ap (λ u. u.logs) c.serve_phases-desk.ensures.run.setup ∙ ap (λ u. u.logs) c.open_streams.ensures.run.setup)
     (c.serve_phases-desk.ensures.run.logs ∙ c.open_streams.ensures.run.logs) c.end-disks.ensures.journal
 
 pub returns-clause-table : goal.returns-clause-table
 returns-clause-table g c =
-    let follows : Follows c.serve_phases-desk.result.last.entries c.rows.result.now = rw (ap (λ j. j.entries) c.journal.ensures) at (rw (← c.rows.ensures.rows) at c.dirty.ensures.follows) in
-    let table : map printed_row c.rows.result.now ≡ table_of c.serve_phases-desk.result.last.entries = rows-table _ _ follows c.rows.ensures.sound in
+    let follows : Follows c.serve_phases-desk.result.0.last.entries c.rows.result.now = rw (ap (λ j. j.entries) c.journal.ensures) at (rw (← c.rows.ensures.rows) at c.dirty.ensures.follows) in
+    let table : map printed_row c.rows.result.now ≡ table_of c.serve_phases-desk.result.0.last.entries = rows-table _ _ follows c.rows.ensures.sound in
     rw c.end-disks.ensures.journal (if_some-ok c.printed_rows.result c.ok-table.result c.ok-table.ensures.value (λ printed is. is ∙ table) c.printed_rows.ensures)
 
 pub returns-clause-explained : goal.returns-clause-explained
 returns-clause-explained g c =
-    rw c.end-disks.ensures.journal (run-explained _ _ c.args.script.now c.args.replies.items c.open_streams.new.replies.items c.serve_phases-desk.new.replies.items c.settle-posts.new.replies.items c.serve_phases-desk.new.ticks.answers.items c.args.desk.last.entries c.open_streams.new.desk.last.entries c.serve_phases-desk.result.last.entries
+    let took : taken_at c.all_places-places.result.items ≡ c.serve_phases-desk.result.2.place.taken =
+    ap taken_at c.all_places-places.ensures ∙ taken-is c.serve_phases-desk.result.1.items c.args.lazy c.serve_phases-desk.result.2.place c.serve_phases-desk.ensures.counted in
+    rw (c.end-disks.ensures.journal, took) (run-explained _ _ c.args.script.now c.args.replies.items c.open_streams.new.replies.items c.serve_phases-desk.new.replies.items c.settle-posts.new.replies.items c.serve_phases-desk.new.ticks.answers.items c.serve_phases-desk.result.2.answers.items c.serve_phases-desk.result.2.place.taken c.args.desk.last.entries c.open_streams.new.desk.last.entries c.serve_phases-desk.result.0.last.entries
     c.requires.within c.requires.none c.requires.fresh.journal_is.empty.0 c.open_streams.ensures.run.setup (rw c.as_slice.ensures.same at c.open_streams.ensures.opened) c.open_streams.ensures.alone
-    (rw (c.as_slice-2.ensures, c.requires.ticks) at c.serve_phases-desk.ensures.served) c.settle-posts.ensures.told)
+    (rw (c.as_slice-2.ensures, c.requires.ticks, c.requires.steps) at c.serve_phases-desk.ensures.served) c.settle-posts.ensures.told)
 
 pub returns-clause-ticked : goal.returns-clause-ticked
-returns-clause-ticked g c = rw c.requires.ticks at (ticked-long _ _ _ _ _ _ _ _ _ c.serve_phases-desk.ensures.served)
+returns-clause-ticked g c = rw c.requires.ticks at (ticked-long _ _ _ _ _ _ _ _ _ _ _ _ c.serve_phases-desk.ensures.served)
 
 pub serve_phases-desk-requires-clause-tick_room : goal.serve_phases-desk-requires-clause-tick_room
 serve_phases-desk-requires-clause-tick_room g c κs within = rw c.requires.ticks c.requires.tick_room
+
+-- the places are new ones of one queue
+pub serve_phases-desk-requires-clause-own : goal.serve_phases-desk-requires-clause-own
+serve_phases-desk-requires-clause-own g c κs within =
+    all-map (λ (own : NamesState). own.place ≡ new_place c.args.queue.now) (λ (own : NamesState). own.place.queue ≡ c.args.queue.now) c.args.names.items
+    (λ own is. ap (λ p. p.queue) is) c.requires.new_places
+
+pub serve_phases-desk-requires-clause-own_place : goal.serve_phases-desk-requires-clause-own_place
+serve_phases-desk-requires-clause-own_place g c κs within = ap (λ p. p.queue) c.requires.new_own
+
+pub serve_phases-desk-requires-clause-none_taken : goal.serve_phases-desk-requires-clause-none_taken
+serve_phases-desk-requires-clause-none_taken g c κs within = ap (λ p. p.taken) c.requires.new_own
+
+pub serve_phases-desk-requires-clause-step_room : goal.serve_phases-desk-requires-clause-step_room
+serve_phases-desk-requires-clause-step_room g c κs within = rw c.requires.steps c.requires.step_room
+
+-- what each pass has at the queue is what its lines did there
+pub returns-clause-queued : goal.returns-clause-queued
+returns-clause-queued g c =
+    run-queued _ _ c.args.script.now c.args.replies.items c.open_streams.new.replies.items c.serve_phases-desk.new.replies.items c.settle-posts.new.replies.items c.serve_phases-desk.new.ticks.answers.items c.serve_phases-desk.result.2.answers.items c.serve_phases-desk.result.2.place.taken
+    c.args.desk.last.entries c.open_streams.new.desk.last.entries c.serve_phases-desk.result.0.last.entries _ c.args.names.items c.serve_phases-desk.result.1.items c.args.lazy c.args.aheads.place c.serve_phases-desk.result.2.place _ c.args.queue.now
+    c.requires.within c.requires.none c.requires.fresh.journal_is.empty.0 c.end-disks.ensures.journal c.all_places-places.ensures (rw c.as_slice.ensures.same at c.open_streams.ensures.opened) c.open_streams.ensures.alone
+    (rw (c.as_slice-2.ensures, c.requires.ticks, c.requires.steps) at c.serve_phases-desk.ensures.served) c.settle-posts.ensures.told (rw c.as_slice-2.ensures at c.serve_phases-desk.ensures.placed) c.serve_phases-desk.ensures.stepped
+    c.requires.words.counted c.serve_phases-desk.ensures.counted c.requires.new_places c.requires.new_lazy c.requires.new_own

@@ -1,5 +1,4 @@
 -- So many ticks of the phase were made, and the pass goes on as it stood.
-use Rattle.std.proofs.Common.{◌≡◌, ◌≤◌}
 use Rattle.cc_lines.specs.Line.{WentOn}
 use Rattle.cc_run.specs.Ticks.{TicksMade}
 use Rattle.cc_run.proofs.ticks.make_ticks.Given as goal

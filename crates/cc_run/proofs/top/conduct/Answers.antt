@@ -41,14 +41,14 @@ returns-in-Err-run_in_mode-clause-posts g c =
 
 pub returns-in-Err-clause-faultless : goal.returns-in-Err-clause-faultless
 returns-in-Err-clause-faultless g c =
-    faultless-none g.D.Told.faults g.L.LogFile.faults c.args.disks.items _ c.args.logs.items _ c.refused.result.replies.items c.refused.result.ticks.items c.refused.result.journal.items
-    c.refused.ensures.replies c.refused.ensures.ticks c.refused.ensures.journal
+    faultless-none g.D.Told.faults g.L.LogFile.faults c.args.disks.items _ c.args.logs.items _ c.refused.result.replies.items c.refused.result.ticks.items c.refused.result.aheads.items c.refused.result.journal.items
+    c.refused.ensures.replies c.refused.ensures.ticks c.refused.ensures.aheads c.refused.ensures.journal
 
 pub returns-in-Err-run_in_mode-clause-faultless : goal.returns-in-Err-run_in_mode-clause-faultless
 returns-in-Err-run_in_mode-clause-faultless g c =
     faultless-none g.D.Told.faults g.L.LogFile.faults c.args.disks.items _ c.args.logs.items _ c.refused-in-Err-run_in_mode.result.replies.items
-    c.refused-in-Err-run_in_mode.result.ticks.items c.refused-in-Err-run_in_mode.result.journal.items
-    c.refused-in-Err-run_in_mode.ensures.replies c.refused-in-Err-run_in_mode.ensures.ticks c.refused-in-Err-run_in_mode.ensures.journal
+    c.refused-in-Err-run_in_mode.result.ticks.items c.refused-in-Err-run_in_mode.result.aheads.items c.refused-in-Err-run_in_mode.result.journal.items
+    c.refused-in-Err-run_in_mode.ensures.replies c.refused-in-Err-run_in_mode.ensures.ticks c.refused-in-Err-run_in_mode.ensures.aheads c.refused-in-Err-run_in_mode.ensures.journal
 
 pub returns-clause-ended : goal.returns-clause-ended
 returns-clause-ended g c =

@@ -1,0 +1,167 @@
+-- What lines did at the places of their passes at the read-ahead queue, one more of them, and what others do meanwhile.
+use Rattle.std.specs.Prelude.{◌≡◌, ◌≢◌, ℕ, zero, suc, ◌<◌, ◌≤◌, ◌==◌, Bool, true, false, List, [], ◌∷◌, ◌++◌, length, drop, slice_get, slice_set, refl}
+use Rattle.std.specs.declared.option.Option.TheVariants.{Some}
+use Rattle.std.proofs.Common.{ap, sym, subst, ◌∙◌, arith}
+use Rattle.std.proofs.Math.Seq.{drop-append_seam}
+use Rattle.std.proofs.lemmas.Bool.{eq-eqb, eqb-false, eqb-true, ne_eqb}
+use Rattle.std.proofs.lemmas.List.{append-nil}
+use Rattle.std.proofs.lemmas.Option.{slice_get_within}
+use Rattle.atomic_table.specs.Seated.{TableId}
+use Rattle.cc_entry.specs.declared.answer.Answer.{Answer}
+use Rattle.cc_entry.specs.declared.answer.LineReply.{LineReply}
+use Rattle.cc_entry.specs.declared.entry.Entry.{Entry}
+use Rattle.cc_entry.specs.declared.place.Request.{Request}
+use Rattle.cc_script.specs.declared.script.Action.{Action}
+use Rattle.cc_script.specs.declared.script.ActionLine.{ActionLine}
+use Rattle.cc_effects.specs.Moments.{IsIdle}
+use Rattle.cc_effects.proofs.Stretches.{idle-none}
+use Rattle.cc_lines.specs.Holds.{NamesState}
+use Rattle.cc_lines.specs.Line.{PlaceWent, hand_of}
+use Rattle.cc_pieces.proofs.PlaceSteps.{place-idle, place-then}
+use Rattle.cc_queue.specs.Places.{PlaceState}
+use Rattle.cc_run.specs.Lines.{asked_by}
+use Rattle.cc_run.specs.Places.{AreOfQueue, PlacesRan}
+use Rattle.cc_run.proofs.Lists.{there}
+use Rattle.cc_run.proofs.LinesRan.{put-other, put-same}
+use Rattle.cc_run.proofs.WordSteps.{asked-append}
+
+-- ---- a place
+
+pub placed-idle : (me : ℕ) (place : PlaceState Request) (old new : List Entry) → IsIdle me old new → PlaceWent me [] place place old new
+placed-idle me place old new idle = record { ran = place-idle me (hand_of place) old new idle; queue_is = refl }
+
+pub placed-then : (me : ℕ) (first rest : List (Action × Answer)) (was mid now : PlaceState Request) (old between new : List Entry) → PlaceWent me first was mid old between → PlaceWent me rest mid now between new → PlaceWent me (first ++ rest) was now old new
+placed-then me first rest was mid now old between new one two = record {
+  ran = place-then me first rest (hand_of was) (hand_of mid) (hand_of now) old between new one.ran two.ran;
+  queue_is = two.queue_is ∙ one.queue_is;
+}
+
+-- others go on behind lines, and were there before
+pub placed-on : (me : ℕ) (lines : List (Action × Answer)) (was now : PlaceState Request) (old between new : List Entry) → PlaceWent me lines was now old between → IsIdle me between new → PlaceWent me lines was now old new
+placed-on me lines was now old between new went idle =
+    subst (λ l. PlaceWent me l was now old new) (append-nil lines) (placed-then me lines [] was now now old between new went (placed-idle me now between new idle))
+
+pub placed-since : (me : ℕ) (lines : List (Action × Answer)) (was now : PlaceState Request) (older old new : List Entry) → IsIdle me older old → PlaceWent me lines was now old new → PlaceWent me lines was now older new
+placed-since me lines was now older old new idle went = placed-then me [] lines was was now older old new (placed-idle me was older old idle) went
+
+-- of a pass that acts, and from what it has seen
+pub placed-as : (number me : ℕ) (lines : List (Action × Answer)) (was now : PlaceState Request) (seen old new : List Entry) → number ≡ me → seen ≡ old → PlaceWent number lines was now seen new → PlaceWent me lines was now old new
+placed-as number me lines was now seen old new is same went =
+    subst (λ past. PlaceWent me lines was now past new) same (subst (λ n. PlaceWent n lines was now seen new) is went)
+
+-- ---- the places of the callers
+
+-- the replies behind those that were there are these
+pub same-answers : (before after answers others : List LineReply) → after ≡ before ++ answers → after ≡ before ++ others → answers ≡ others
+same-answers before after answers others one two =
+    sym (drop-append_seam before answers) ∙ (ap (drop (length before)) (sym one ∙ two) ∙ drop-append_seam before others)
+
+-- lines with these answers did this
+pub record PlacesSo (lines : List ActionLine) (answers : List LineReply) (was now : List NamesState) (old new : List Entry) : Type 0 where
+  pub each : (n : ℕ) (a b : NamesState) → slice_get was n ≡ Some a → slice_get now n ≡ Some b →
+      PlaceWent (suc n) (asked_by (suc n) lines answers) a.place b.place old new
+
+pub places-ran : (lines : List ActionLine) (before after answers : List LineReply) (was now : List NamesState) (old new : List Entry) → after ≡ before ++ answers → PlacesSo lines answers was now old new → PlacesRan lines before after was now old new
+places-ran lines before after answers was now old new grew so = record {
+  each = λ others n a b is first second.
+      subst (λ l. PlaceWent (suc n) (asked_by (suc n) lines l) a.place b.place old new) (same-answers before after answers others grew is) (so.each n a b first second);
+}
+
+pub places-so : (lines : List ActionLine) (before after answers : List LineReply) (was now : List NamesState) (old new : List Entry) → after ≡ before ++ answers → PlacesRan lines before after was now old new → PlacesSo lines answers was now old new
+places-so lines before after answers was now old new grew ran = record { each = λ n a b first second. ran.each answers n a b grew first second }
+
+same-row : (rows : List NamesState) (n : ℕ) (a b : NamesState) → slice_get rows n ≡ Some a → slice_get rows n ≡ Some b → a ≡ b
+same-row rows n a b first second = cc (first, second)
+
+-- none were served yet
+pub places-none : (rows : List NamesState) (past : List Entry) → PlacesSo [] [] rows rows past past
+places-none rows past = record {
+  each = λ n a b first second.
+      subst (λ (c : NamesState). PlaceWent (suc n) [] a.place c.place past past) (same-row rows n a b first second)
+      (placed-idle (suc n) a.place past past (idle-none (suc n) past));
+}
+
+-- what a line asks of its caller, and of another
+asked-own : (me : ℕ) (line : ActionLine) (reply : LineReply) → line.caller ≡ me → asked_by me (line ∷ []) (reply ∷ []) ≡ (line.action, reply.answer) ∷ []
+asked-own me line reply own = rw (eq-eqb line.caller me own) refl
+
+asked-other : (me : ℕ) (line : ActionLine) (reply : LineReply) → line.caller ≢ me → asked_by me (line ∷ []) (reply ∷ []) ≡ []
+asked-other me line reply apart = rw (ne_eqb line.caller me apart) refl
+
+-- one line more
+pub places-more : (lines : List ActionLine) (answers : List LineReply) (line : ActionLine) (reply : LineReply) (was rows : List NamesState) (k : ℕ) (names now : NamesState) (old between new : List Entry) → length lines ≡ length answers → line.caller ≡ suc k → slice_get rows k ≡ Some names → PlacesSo lines answers was rows old between → PlaceWent line.caller ((line.action, reply.answer) ∷ []) names.place now.place between new → ((me : ℕ) → me ≢ line.caller → IsIdle me between new) → PlacesSo (lines ++ line ∷ []) (answers ++ reply ∷ []) was (slice_set rows k now) old new
+places-more lines answers line reply was rows k names now old between new long is at so one alone = record {
+  each = λ n a b first second. by n a b first second (k == n) refl;
+}
+  where
+    by : (n : ℕ) (a b : NamesState) → slice_get was n ≡ Some a → slice_get (slice_set rows k now) n ≡ Some b → (here : Bool) → (k == n) ≡ here → PlaceWent (suc n) (asked_by (suc n) (lines ++ line ∷ []) (answers ++ reply ∷ [])) a.place b.place old new
+    by n a b first second true which =
+        let here : k ≡ n = eqb-true k n which in
+        let own : line.caller ≡ suc n = is ∙ ap suc here in
+        let b_is : now ≡ b = put-same rows k now b (subst (λ m. slice_get (slice_set rows k now) m ≡ Some b) (sym here) second) in
+        let before : PlaceWent (suc n) (asked_by (suc n) lines answers) a.place names.place old between =
+        so.each n a names first (subst (λ m. slice_get rows m ≡ Some names) here at) in
+        let last : PlaceWent (suc n) ((line.action, reply.answer) ∷ []) names.place b.place between new =
+        subst (λ (c : NamesState). PlaceWent (suc n) ((line.action, reply.answer) ∷ []) names.place c.place between new) b_is
+        (subst (λ me. PlaceWent me ((line.action, reply.answer) ∷ []) names.place now.place between new) own one) in
+        let shape : asked_by (suc n) (lines ++ line ∷ []) (answers ++ reply ∷ []) ≡ asked_by (suc n) lines answers ++ (line.action, reply.answer) ∷ [] =
+        asked-append (λ line. line.caller == suc n) lines (line ∷ []) answers (reply ∷ []) long ∙ ap (λ l. asked_by (suc n) lines answers ++ l) (asked-own (suc n) line reply own) in
+        subst (λ l. PlaceWent (suc n) l a.place b.place old new) (sym shape)
+        (placed-then (suc n) (asked_by (suc n) lines answers) ((line.action, reply.answer) ∷ []) a.place names.place b.place old between new before last)
+    by n a b first second false which =
+        let away : k ≢ n = eqb-false k n which in
+        let apart : line.caller ≢ suc n = λ e. away (omega (arith, is, e)) in
+        let before : PlaceWent (suc n) (asked_by (suc n) lines answers) a.place b.place old between =
+        so.each n a b first (put-other rows k n now b away second) in
+        let shape : asked_by (suc n) (lines ++ line ∷ []) (answers ++ reply ∷ []) ≡ asked_by (suc n) lines answers =
+        asked-append (λ line. line.caller == suc n) lines (line ∷ []) answers (reply ∷ []) long
+        ∙ (ap (λ l. asked_by (suc n) lines answers ++ l) (asked-other (suc n) line reply apart) ∙ append-nil (asked_by (suc n) lines answers)) in
+        subst (λ l. PlaceWent (suc n) l a.place b.place old new) (sym shape)
+        (placed-on (suc n) (asked_by (suc n) lines answers) a.place b.place old between new before (alone (suc n) (λ e. apart (sym e))))
+
+-- lines after lines
+pub places-then : (first rest : List ActionLine) (told answers : List LineReply) (was mid now : List NamesState) (old between new : List Entry) → length first ≡ length told → length mid ≡ length was → PlacesSo first told was mid old between → PlacesSo rest answers mid now between new → PlacesSo (first ++ rest) (told ++ answers) was now old new
+places-then first rest told answers was mid now old between new long rows one two = record {
+  each = λ n a b at there_now.
+      let here = there mid n (omega (arith, slice_get_within was n a at, rows)) in
+      subst (λ l. PlaceWent (suc n) l a.place b.place old new) (sym (asked-append (λ line. line.caller == suc n) first rest told answers long))
+      (placed-then (suc n) (asked_by (suc n) first told) (asked_by (suc n) rest answers) a.place here.0.place b.place old between new
+      (one.each n a here.0 at here.1) (two.each n here.0 b here.1 there_now));
+}
+
+-- others than the callers go on behind them
+pub places-on : (lines : List ActionLine) (before after : List LineReply) (was now : List NamesState) (old between new : List Entry) → length was ≡ 16 → PlacesRan lines before after was now old between → ((me : ℕ) → 1 ≤ me → me ≤ 16 → IsIdle me between new) → PlacesRan lines before after was now old new
+places-on lines before after was now old between new sixteen ran idle = record {
+  each = λ answers n a b grew first second.
+      let within : n < 16 = omega (arith, slice_get_within was n a first, sixteen) in
+      placed-on (suc n) (asked_by (suc n) lines answers) a.place b.place old between new (ran.each answers n a b grew first second) (idle (suc n) (omega arith) (omega (arith, within)));
+}
+
+-- ---- the queue of the places
+
+-- what is said of each item of a row is said of all
+all-of : (queue : TableId) (rows : List NamesState) → ((n : ℕ) (a : NamesState) → slice_get rows n ≡ Some a → a.place.queue ≡ queue) → AreOfQueue queue rows
+all-of queue [] each = tt
+all-of queue (row ∷ rows) each = (each 0 row refl, all-of queue rows (λ n a at. each (suc n) a at))
+
+pub own-at : (queue : TableId) (rows : List NamesState) (n : ℕ) (a : NamesState) → AreOfQueue queue rows → slice_get rows n ≡ Some a → a.place.queue ≡ queue
+own-at queue [] n a own at = absurd (cc at)
+own-at queue (row ∷ rows) zero a own at =
+    let is : row ≡ a = cc at in
+    subst (λ (c : NamesState). c.place.queue ≡ queue) is own.0
+own-at queue (row ∷ rows) (suc n) a own at = own-at queue rows n a own.1 at
+
+-- a place in whose stead another of the same queue was put
+pub own-put : (queue : TableId) (rows : List NamesState) (k : ℕ) (was now : NamesState) → AreOfQueue queue rows → slice_get rows k ≡ Some was → now.place.queue ≡ was.place.queue → AreOfQueue queue (slice_set rows k now)
+own-put queue [] k was now own at same = tt
+own-put queue (row ∷ rows) zero was now own at same =
+    let is : row ≡ was = cc at in
+    (same ∙ (ap (λ (c : NamesState). c.place.queue) (sym is) ∙ own.0), own.1)
+own-put queue (row ∷ rows) (suc k) was now own at same = (own.0, own-put queue rows k was now own.1 at same)
+
+-- the places stay of their queue
+pub own-after : (queue : TableId) (lines : List ActionLine) (answers : List LineReply) (was now : List NamesState) (old new : List Entry) → length now ≡ length was → AreOfQueue queue was → PlacesSo lines answers was now old new → AreOfQueue queue now
+own-after queue lines answers was now old new rows own so =
+    all-of queue now (λ n b at.
+    let a = there was n (omega (arith, slice_get_within now n b at, rows)) in
+    (so.each n a.0 b a.1 at).queue_is ∙ own-at queue was n a.0 own a.1)

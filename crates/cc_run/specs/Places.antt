@@ -1,0 +1,50 @@
+-- The places of the passes at the one queue of read-ahead of a run.
+use Rattle.std.specs.Prelude.{◌≡◌, ℕ, zero, suc, List, [], ◌++◌, length, slice_get}
+use Rattle.std.specs.declared.option.Option.{Option}
+use Rattle.std.specs.declared.option.Option.TheVariants.{Some, None}
+use Rattle.std.specs.List.{AllByRecursion}
+use Rattle.atomic_table.specs.Seated.{TableId}
+use Rattle.cc_entry.specs.declared.answer.LineReply.{LineReply}
+use Rattle.cc_entry.specs.declared.entry.Entry.{Entry}
+use Rattle.cc_entry.specs.declared.place.Request.{Request}
+use Rattle.cc_script.specs.declared.script.ActionLine.{ActionLine}
+use Rattle.cc_pieces.specs.Explained.{Answered, Given}
+use Rattle.cc_pieces.specs.Queue.{IsQueued, QueuePlace}
+use Rattle.cc_queue.specs.Places.{PlaceState}
+use Rattle.cc_lines.specs.Holds.{NamesState}
+use Rattle.cc_run.specs.Lines.{asked_by}
+-- what lines of a pass, each with its answer, did at its place
+pub use Rattle.cc_lines.specs.Line.{PlaceWent, hand_of}
+
+-- the callers' places are of this queue
+abbrev pub AreOfQueue : TableId → List NamesState → Type 0
+AreOfQueue queue rows = AllByRecursion (λ names. names.place.queue ≡ queue) rows
+
+-- lines whose replies stand behind those that were there did this at their callers' places
+pub record PlacesRan (lines : List ActionLine) (before after : List LineReply) (was now : List NamesState) (old new : List Entry)
+    : Type 0 where
+  pub each : (answers : List LineReply) (n : ℕ) (a b : NamesState) → after ≡ before ++ answers →
+      slice_get was n ≡ Some a → slice_get now n ≡ Some b →
+      PlaceWent (suc n) (asked_by (suc n) lines answers) a.place b.place old new
+
+-- a place at which nothing was done
+abbrev pub at_rest : QueuePlace
+at_rest = record { pushed = []; taken = []; empties = 0; fulls = 0 }
+
+-- the place of a pass, of which the first has the number 1
+abbrev pub or_rest : Option (PlaceState Request) → QueuePlace
+or_rest None = at_rest
+or_rest (Some place) = hand_of place
+
+abbrev pub place_at : List (PlaceState Request) → ℕ → QueuePlace
+place_at places zero = at_rest
+place_at places (suc n) = or_rest (slice_get places n)
+
+-- the requests that the read-ahead worker took
+abbrev pub taken_at : List (PlaceState Request) → List Request
+taken_at places = (place_at places 18).taken
+
+-- There is a place of each of the passes 1 to 18, and they have at the queue what the journal and the answers of a run say.
+pub record AreQueued (given : Given) (told : Answered) (places : List (PlaceState Request)) (past : List Entry) : Type 0 where
+  pub counted : length places ≡ 18
+  pub queued : IsQueued given told (taken_at places) (place_at places) past
