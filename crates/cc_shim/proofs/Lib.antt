@@ -9,3 +9,4 @@ pub mod Writing
 pub mod PartReads
 pub mod Pinning
 pub mod Reading
+pub mod Locking

@@ -2,3 +2,4 @@
 pub mod Names
 pub mod Ends
 pub mod Reads
+pub mod Locks
