@@ -8,7 +8,6 @@ pub mod Calls
 pub mod Licences
 pub mod LogCalls
 pub mod Throttle
-pub mod Locks
 pub mod PageWrites
 pub mod Begins
 pub mod ReadAhead

@@ -150,6 +150,11 @@ abbrev pub misaligned_for : ReadPath → ℕ → ℕ → Option CcError
 misaligned_for Noncached at len = if nat_lt 0 (at % 4096) || nat_lt 0 (len % 4096) then Some error.Unaligned else None
 misaligned_for other at len = None
 
+-- the first of two refusals
+abbrev pub first_of : Option CcError → Option CcError → Option CcError
+first_of (Some e) other = Some e
+first_of None other = other
+
 -- a test of the shim's own refuses so, or finds no memory
 abbrev pub RefusedSo : {T : Type 0} → CcError → Result T CcError → Type 0
 RefusedSo e answered = (answered ≡ Err e) ⊎ (answered ≡ Err error.NoMemory)

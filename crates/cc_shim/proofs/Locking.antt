@@ -1,6 +1,6 @@
--- Calls for locks: their entries may stand, reserve nothing, and need the journal's turn alone; and what the visit to the
--- journal leaves that places them.
-use Rattle.std.specs.Prelude.{◌≡◌, ℕ, suc, ◌+◌, ◌-◌, Bool, true, false, List, [], ◌∷◌, length, Option, None, Result, Ok, Err, refl}
+-- Calls for locks, and tests against them: their entries may stand, reserve nothing, and need the journal's turn alone; and
+-- what the visit to the journal leaves that places them.
+use Rattle.std.specs.Prelude.{◌≡◌, ℕ, suc, ◌+◌, ◌-◌, ◌≤◌, Bool, true, false, List, [], ◌∷◌, length, Option, None, Some, Result, Ok, Err, refl}
 use Rattle.std.specs.List.{sum_by}
 use Rattle.std.proofs.Common.{ap, sym, ◌∙◌, subst, arith, inl, inr}
 use Rattle.std.proofs.lemmas.Bool.{eq-eqb}
@@ -11,10 +11,11 @@ use Rattle.cc_entry.specs.declared.entry.Entry.{Entry}
 use Rattle.cc_entry.specs.declared.entry.Entry.TheVariants as entry
 use Rattle.cc_entry.specs.declared.error.CcError.{CcError}
 use Rattle.cc_entry.specs.declared.error.CcError.TheVariants as error
-use Rattle.cc_effects.specs.Locks.{LockLeft, UnlockLeft}
-use Rattle.cc_journal.specs.Journal.{JournalState}
-use Rattle.cc_journal.specs.Locks.{is_lock_call, GrantsLock, RefusesLock}
-use Rattle.cc_model.specs.Locks.{locks_of}
+use Rattle.cc_pieces.specs.Locks.{LockLeft, TestLeft, UnlockLeft}
+use Rattle.cc_journal.specs.Journal.{JournalState, MayBePushed}
+use Rattle.cc_journal.specs.Locks.{GrantsLock, RefusesLock}
+use Rattle.cc_journal.proofs.GoodEntries.{MayBePushed-good}
+use Rattle.cc_model.specs.Locks.{conflict_of, locks_of}
 use Rattle.cc_entry.specs.declared.lock.LockCall.TheVariants as lock_call
 use Rattle.cc_laws.proofs.HistorySteps.{history-no_effect}
 use Rattle.cc_laws.proofs.TurnSteps.{is_quiet-none, is_quiet-unneeded}
@@ -34,15 +35,27 @@ use Rattle.cc_writes.specs.Logs.{IsStopAt}
 use Rattle.cc_writes.specs.Ways.{IsFull}
 use Rattle.cc_writes.proofs.OneVisit.{Visited, Visiting, visited, visiting, stepping-none}
 use Rattle.cc_calls.proofs.LogCalls.{idle-grows, only-placed}
-use Rattle.cc_shim.specs.Locks.{LockEnds, LockIn, LockedAt, UnlockEnds, UnlockIn}
+use Rattle.cc_calls.proofs.Holding.{so-far}
+use Rattle.cc_model.specs.Passes.{HasSeen}
+use Rattle.cc_pieces.proofs.Grown.{grew-only}
+use Rattle.cc_shim.specs.Ends.{ListEnds}
+use Rattle.cc_shim.specs.Locks.{HasTested, LockEnds, LockIn, LockedAt, TestIn, UnlockEnds, UnlockIn}
+use Rattle.cc_shim.proofs.Going.{HasGone, ends-here, full-now, on-went}
 
--- ---- the two entries
+-- ---- the entries
+
+-- whether an entry tells of a call for a lock, or of a test
+abbrev pub tells_lock : Entry → Bool
+tells_lock (entry.Locked pass file range exclusive granted id) = true
+tells_lock (entry.Unlocked pass file id gone) = true
+tells_lock (entry.Tested pass file range write conflict) = true
+tells_lock other = false
 
 nothing_owed : (e : Entry) (past : List Entry) → owed_begin past ≡ None → IsOwed (owed_begin past) e
 nothing_owed e past none = rw none tt
 
 -- one may stand where the rules give its answer
-good-told : (u : Setup) (past : List Entry) (e : Entry) → is_lock_call e ≡ true → IsGood u past → MayStand u past e → IsGood u (e ∷ past)
+good-told : (u : Setup) (past : List Entry) (e : Entry) → tells_lock e ≡ true → IsGood u past → MayStand u past e → IsGood u (e ∷ past)
 unfolding IsLegal IsLegalEntry IsAllowed IsAllowedSoFar IsCovered IsCoveredEntry
 good-told u past (entry.Locked pass file range exclusive granted id) is good may = record {
   legal = (tt, good.legal);
@@ -54,24 +67,37 @@ good-told u past (entry.Unlocked pass file id gone) is good may = record {
   allowed = ((nothing_owed (entry.Unlocked pass file id gone) past good.allowed.1, may, good.allowed.0), refl);
   covered = (tt, good.covered);
 }
+good-told u past (entry.Tested pass file range write conflict) is good may = record {
+  legal = (tt, good.legal);
+  allowed = ((nothing_owed (entry.Tested pass file range write conflict) past good.allowed.1, may, good.allowed.0), refl);
+  covered = (tt, good.covered);
+}
 good-told u past other is good may = absurd (cc)
+
+-- one of a test may be pushed
+pub pushed-test : (u : Setup) (past : List Entry) (pass : ℕ) (file : File) (range : Range) (write : Bool) (conflict : Option ℕ) → IsGood u past → conflict ≡ conflict_of (locks_of past file.stream).locks write file range → MayBePushed past (entry.Tested pass file range write conflict)
+pushed-test u past pass file range write conflict good is =
+    let e = entry.Tested pass file range write conflict in
+    MayBePushed-good u past e (so-far u (e ∷ past) (good-told u past e refl good is))
 
 sum-same : (f g : ℕ → ℕ) (ns : List ℕ) → ((n : ℕ) → f n ≡ g n) → sum_by f ns ≡ sum_by g ns
 sum-same f g [] same = refl
 sum-same f g (n ∷ ns) same = sum_by-cons f n ns ∙ rw (same n, sum-same f g ns same) (sym (sum_by-cons g n ns))
 
-reserved-told : (e : Entry) (past : List Entry) → is_lock_call e ≡ true → reserved_in (e ∷ past) ≡ reserved_in past
+reserved-told : (e : Entry) (past : List Entry) → tells_lock e ≡ true → reserved_in (e ∷ past) ≡ reserved_in past
 unfolding reserved_in stores_unfinished
 reserved-told (entry.Locked pass file range exclusive granted id) past is =
     rw (sum-same (λ s. owed_by_stream (history (entry.Locked pass file range exclusive granted id ∷ past) s)) (λ s. owed_by_stream (history past s)) all_streams (λ s. ap owed_by_stream (history-no_effect (entry.Locked pass file range exclusive granted id) past s refl))) refl
 reserved-told (entry.Unlocked pass file id gone) past is =
     rw (sum-same (λ s. owed_by_stream (history (entry.Unlocked pass file id gone ∷ past) s)) (λ s. owed_by_stream (history past s)) all_streams (λ s. ap owed_by_stream (history-no_effect (entry.Unlocked pass file id gone) past s refl))) refl
+reserved-told (entry.Tested pass file range write conflict) past is =
+    rw (sum-same (λ s. owed_by_stream (history (entry.Tested pass file range write conflict ∷ past) s)) (λ s. owed_by_stream (history past s)) all_streams (λ s. ap owed_by_stream (history-no_effect (entry.Tested pass file range write conflict) past s refl))) refl
 reserved-told other past is = absurd (cc)
 
 clash : true ≡ false → ⊥
 clash e = absurd (cc)
 
-unneeded : (h : Held) (e : Entry) → is_lock_call e ≡ true → h.journal ≡ true → (t : Turn) → holds h t ≡ false → needs e t ≡ false
+unneeded : (h : Held) (e : Entry) → tells_lock e ≡ true → h.journal ≡ true → (t : Turn) → holds h t ≡ false → needs e t ≡ false
 unneeded h e is journal Journal free = absurd (clash (sym journal ∙ free))
 unneeded h (entry.Locked pass file range exclusive granted id) is journal (Device n) free = refl
 unneeded h (entry.Locked pass file range exclusive granted id) is journal (Book n) free = refl
@@ -79,16 +105,19 @@ unneeded h (entry.Locked pass file range exclusive granted id) is journal (Log n
 unneeded h (entry.Unlocked pass file id gone) is journal (Device n) free = refl
 unneeded h (entry.Unlocked pass file id gone) is journal (Book n) free = refl
 unneeded h (entry.Unlocked pass file id gone) is journal (Log n) free = refl
+unneeded h (entry.Tested pass file range write conflict) is journal (Device n) free = refl
+unneeded h (entry.Tested pass file range write conflict) is journal (Book n) free = refl
+unneeded h (entry.Tested pass file range write conflict) is journal (Log n) free = refl
 unneeded h other is journal t free = absurd (cc)
 
-quiet-told : (h : Held) (e : Entry) → is_lock_call e ≡ true → h.journal ≡ true → (t : Turn) → holds h t ≡ false → is_quiet t (e ∷ []) ≡ true
+quiet-told : (h : Held) (e : Entry) → tells_lock e ≡ true → h.journal ≡ true → (t : Turn) → holds h t ≡ false → is_quiet t (e ∷ []) ≡ true
 quiet-told h e is journal t free = is_quiet-unneeded t e [] (unneeded h e is journal t free) ∙ is_quiet-none t
 
 -- ---- a visit to the journal
 
 module _ {Q : Type 0} (posted : Q → Bool) (w v : Standing) (j k : JournalState Q) (away : w.held.journal ≡ false) (vis : Visiting posted w v j) where
-  told-visited : (e : Entry) → is_lock_call e ≡ true → may_be_of w.number e ≡ true → MayStand w.setup j.entries e → k ≡ record j { entries = e ∷ j.entries } → Visited posted w v w.in_flight k
-  told-visited e is own may placed = visited posted w v w.in_flight (e ∷ []) j k away vis (record {
+  noted-visited : (e : Entry) → tells_lock e ≡ true → may_be_of w.number e ≡ true → MayStand w.setup j.entries e → k ≡ record j { entries = e ∷ j.entries; rows = k.rows } → Visited posted w v w.in_flight k
+  noted-visited e is own may placed = visited posted w v w.in_flight (e ∷ []) j k away vis (record {
     kept = subst (λ (x : JournalState Q). k ≡ record j { entries = e ∷ j.entries; reserved = x.reserved; rows = x.rows }) (sym placed) placed;
     good = subst (λ (past : List Entry). IsGood w.setup past) (sym (ap (λ x. x.entries) placed)) (good-told w.setup j.entries e is vis.good may);
     event = tt;
@@ -97,6 +126,11 @@ module _ {Q : Type 0} (posted : Q → Bool) (w v : Standing) (j k : JournalState
     reserved = ap (λ x. x.reserved) placed
         ∙ (vis.reserved_is ∙ ap (λ (n : ℕ). n + w.in_flight + v.others) (sym (ap (λ x. reserved_in x.entries) placed ∙ reserved-told e j.entries is)));
   })
+
+  -- the rows stayed too
+  told-visited : (e : Entry) → tells_lock e ≡ true → may_be_of w.number e ≡ true → MayStand w.setup j.entries e → k ≡ record j { entries = e ∷ j.entries } → Visited posted w v w.in_flight k
+  told-visited e is own may placed =
+      noted-visited e is own may (subst (λ (x : JournalState Q). k ≡ record j { entries = e ∷ j.entries; rows = x.rows }) (sym placed) placed)
 
   kept-visited : k ≡ j → Visited posted w v w.in_flight k
   kept-visited same = visited posted w v w.in_flight [] j k away vis (stepping-none posted w v w.in_flight j.reserved j k vis same vis.reserved_is)
@@ -186,6 +220,44 @@ module _ {Q : Type 0} (posted : Q → Bool) (w v : Standing) (j k : JournalState
           good = good-given given;
         }
 
+  -- ---- a test
+  module _ (file : File) (range : Range) (write : Bool) where
+    test-visited : (answer : Result (Unit {0}) CcError) → TestIn w.number file range write answer j k → Visited posted w v w.in_flight k
+    test-visited (Ok done) left = noted-visited (entry.Tested w.number file range write None) refl (eq-eqb w.number w.number refl) left.found left.placed
+    test-visited (Err (error.LockConflict id)) left = noted-visited (entry.Tested w.number file range write (Some id)) refl (eq-eqb w.number w.number refl) left.found left.placed
+    test-visited (Err e) left = kept-visited left.1
+
+    stopped-test : (e : CcError) → IsStopAt 1 j e → TestLeft w.number file range write (Err e) w.seen j.entries
+    stopped-test e (inl full) = subst (λ (x : CcError). TestLeft w.number file range write (Err x) w.seen j.entries) (sym full.0) (idle-grows w j.entries vis.grows)
+    stopped-test e (inr none) = subst (λ (x : CcError). TestLeft w.number file range write (Err x) w.seen j.entries) (sym none) (idle-grows w j.entries vis.grows)
+
+    test-left : (answer : Result (Unit {0}) CcError) → TestIn w.number file range write answer j k → TestLeft w.number file range write answer w.seen k.entries
+    test-left (Ok done) left =
+        only-placed w (entry.Tested w.number file range write None) k.entries (eq-eqb w.number w.number refl)
+        (record { front = j.entries; grows = vis.grows; placed = ap (λ x. x.entries) left.placed })
+    test-left (Err (error.LockConflict id)) left =
+        only-placed w (entry.Tested w.number file range write (Some id)) k.entries (eq-eqb w.number w.number refl)
+        (record { front = j.entries; grows = vis.grows; placed = ap (λ x. x.entries) left.placed })
+    test-left (Err e) left =
+        subst (λ (past : List Entry). TestLeft w.number file range write (Err e) w.seen past) (ap (λ x. x.entries) (sym left.1)) (stopped-test e left.0)
+
+    test-full : (answer : Result (Unit {0}) CcError) → TestIn w.number file range write answer j k → IsFull 1 (without_journal k v) answer
+    test-full (Ok done) left = tt
+    test-full (Err (error.LockConflict id)) left = tt
+    test-full (Err e) left = stopped-full (Unit {0}) e left.0 left.1
+
+    pub test-ends : (answer : Result (Unit {0}) CcError) → (without_journal k v).others ≤ (without_journal k v).most_others → TestIn w.number file range write answer j k → ListEnds w (without_journal k v) (TestLeft w.number file range write) answer
+    test-ends answer few left =
+        let given = test-visited answer left in
+        let x = without_journal k v in
+        let gone : HasGone w x = record { on = on-went w x given.went; grew = grew-test answer left; good = λ good. good-given given } in
+        ends-here w x (TestLeft w.number file range write) answer gone (full-now w x 1 answer gone few (omega arith) (test-full answer left)) (test-left answer left)
+      where
+        grew-test : (answer : Result (Unit {0}) CcError) → TestIn w.number file range write answer j k → HasSeen w.seen k.entries
+        grew-test (Ok done) left = grew-only w.number _ w.seen k.entries (test-left (Ok done) left)
+        grew-test (Err (error.LockConflict id)) left = grew-only w.number _ w.seen k.entries (test-left (Err (error.LockConflict id)) left)
+        grew-test (Err e) left = subst (λ (past : List Entry). HasSeen w.seen past) (ap (λ x. x.entries) (sym left.1)) (record { later = vis.grows.later; grew = vis.grows.grew })
+
 -- A visit as a whole, from the taking of the journal.
 module _ {Q : Type 0} (posted : Q → Bool) (w v : Standing) (j k : JournalState Q) (took : Takes with_journal w v) (stands : JournalStands posted v j) (away : w.held.journal ≡ false) (pass : ℕ) (me : pass ≡ v.number) where
   vis : Visiting posted w v j
@@ -213,6 +285,18 @@ module _ {Q : Type 0} (posted : Q → Bool) (w v : Standing) (j k : JournalState
 
     pub whole-unlock : (z : Standing) → z ≡ without_journal k v → UnlockEnds w z file id answer
     whole-unlock z is = subst (λ (x : Standing). UnlockEnds w x file id answer) (sym is) (unlock-ends posted w v j k away vis file id answer own-unlock)
+
+  module _ (file : File) (range : Range) (write : Bool) (answer : Result (Unit {0}) CcError) (left : TestIn pass file range write answer j k) where
+    own-test : TestIn w.number file range write answer j k
+    own-test = subst (λ (n : ℕ). TestIn n file range write answer j k) number left
+
+    pub gives-test : Visited posted w v w.in_flight k
+    gives-test = test-visited posted w v j k away vis file range write answer own-test
+
+    pub whole-test : (z : Standing) → z ≡ without_journal k v → z.others ≤ z.most_others → ListEnds w z (TestLeft w.number file range write) answer
+    whole-test z is few =
+        subst (λ (x : Standing). ListEnds w x (TestLeft w.number file range write) answer) (sym is)
+        (test-ends posted w v j k away vis file range write answer (subst (λ (x : Standing). x.others ≤ x.most_others) is few) own-test)
 
 -- ---- in a journal in hand
 

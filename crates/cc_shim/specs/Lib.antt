@@ -3,3 +3,4 @@ pub mod Names
 pub mod Ends
 pub mod Reads
 pub mod Locks
+pub mod Locked

@@ -1,5 +1,7 @@
--- What a call that makes or ends a lock of bytes leaves, exactly.
+-- What a call leaves, exactly, that makes or ends a lock of bytes, and one that tests bytes against the locks.
 use Rattle.std.specs.Prelude.{◌≡◌, ℕ, Bool, true, false, List, ◌∷◌, Result, Ok, Err}
+use Rattle.std.specs.declared.option.Option.{Option}
+use Rattle.std.specs.declared.option.Option.TheVariants.{Some, None}
 use Rattle.cc_entry.specs.Place.{File, Range}
 use Rattle.cc_entry.specs.Locks.{IsAnswered}
 use Rattle.cc_entry.specs.declared.entry.Entry.{Entry}
@@ -7,10 +9,10 @@ use Rattle.cc_entry.specs.declared.entry.Entry.TheVariants as entry
 use Rattle.cc_entry.specs.declared.error.CcError.{CcError}
 use Rattle.cc_entry.specs.declared.error.CcError.TheVariants as error
 use Rattle.cc_entry.specs.declared.lock.LockCall.TheVariants as lock_call
-use Rattle.cc_effects.specs.Locks.{LockLeft, UnlockLeft}
+use Rattle.cc_pieces.specs.Locks.{LockLeft, UnlockLeft}
 use Rattle.cc_journal.specs.Journal.{JournalState}
 use Rattle.cc_model.specs.Good.{IsGood}
-use Rattle.cc_model.specs.Locks.{locks_of}
+use Rattle.cc_model.specs.Locks.{conflict_of, locks_of}
 use Rattle.cc_turns.specs.Standing.{Standing}
 use Rattle.cc_writes.specs.Hands.{Went}
 use Rattle.cc_writes.specs.Logs.{IsStopAt}
@@ -70,3 +72,14 @@ UnlockIn me file id (Ok gone) j k =
     IsAnswered (locks_of j.entries file.stream) (lock_call.Unlock file id gone)
     × (k ≡ record j { entries = entry.Unlocked me file id gone ∷ j.entries })
 UnlockIn me file id (Err e) j k = IsStopAt 1 j e × (k ≡ j)
+
+-- The entry of a test was placed in a journal, with the conflict that the rules give; nothing else of it changed but rows.
+pub record HasTested {Q : Type 0} (me : ℕ) (file : File) (range : Range) (write : Bool) (conflict : Option ℕ) (j k : JournalState Q)
+    : Type 0 where
+  pub found : conflict ≡ conflict_of (locks_of j.entries file.stream).locks write file range
+  pub placed : k ≡ record j { entries = entry.Tested me file range write conflict ∷ j.entries; rows = k.rows }
+
+abbrev pub TestIn : {Q : Type 0} → ℕ → File → Range → Bool → Result (Unit {0}) CcError → JournalState Q → JournalState Q → Type 0
+TestIn me file range write (Ok done) j k = HasTested me file range write None j k
+TestIn me file range write (Err (error.LockConflict id)) j k = HasTested me file range write (Some id) j k
+TestIn me file range write (Err e) j k = IsStopAt 1 j e × (k ≡ j)

@@ -17,11 +17,6 @@ use Rattle.cc_shim.specs.Ends.{ListEnds}
 use Rattle.cc_shim.specs.declared.parts.By.{By}
 use Rattle.cc_shim.specs.declared.parts.By.TheVariants as way
 
--- the first of two refusals
-abbrev pub first_of : Option CcError → Option CcError → Option CcError
-first_of (Some e) other = Some e
-first_of None other = other
-
 -- how a part is held, and of which parts a range is
 abbrev pub held_by : By → File → HoldPath
 held_by way.Map file = mapped_path file
