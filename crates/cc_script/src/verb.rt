@@ -46,6 +46,8 @@ pub(crate) enum Verb {
     Read,
     Write,
     Update,
+    Lock,
+    Unlock,
     Levels,
     IsDirtyData,
     DirtyPages,
@@ -72,7 +74,7 @@ pub(crate) enum Verb {
     Fail,
 }
 
-pub(crate) const VERBS: [Verb; 60] = [
+pub(crate) const VERBS: [Verb; 62] = [
     Verb::Stream,
     Verb::Journal,
     Verb::Threshold,
@@ -109,6 +111,8 @@ pub(crate) const VERBS: [Verb; 60] = [
     Verb::Read,
     Verb::Write,
     Verb::Update,
+    Verb::Lock,
+    Verb::Unlock,
     Verb::Levels,
     Verb::IsDirtyData,
     Verb::DirtyPages,
@@ -176,6 +180,8 @@ impl Verb {
             Verb::Read => b"read",
             Verb::Write => b"write",
             Verb::Update => b"update",
+            Verb::Lock => b"lock",
+            Verb::Unlock => b"unlock",
             Verb::Levels => b"levels",
             Verb::IsDirtyData => b"isdirty",
             Verb::DirtyPages => b"dirty",
@@ -239,6 +245,8 @@ impl Verb {
                 | Verb::Read
                 | Verb::Write
                 | Verb::Update
+                | Verb::Lock
+                | Verb::Unlock
                 | Verb::Levels
                 | Verb::AskAhead
                 | Verb::AheadStep
