@@ -1,5 +1,5 @@
 -- The byte of a page among those of the pages that have grown, which stand in the order of their pages.
-use Rattle.std.proofs.Common.{◌≡◌, ℕ, zero, suc, ◌/◌, ◌<◌, ◌≤◌, ◌==◌, Bool, true, false, nat_lt, not, max, List, [], ◌∷◌, length, get_or, set, remove, inl, inr, refl, ap, ◌∙◌, sym, subst, if◌then◌else◌, arith}
+use Rattle.std.proofs.Common.{◌≡◌, ℕ, zero, suc, ◌/◌, ◌<◌, ◌≤◌, ◌==◌, Bool, true, false, nat_lt, max, List, [], ◌∷◌, length, get_or, set, remove, inl, inr, refl, ap, sym, subst, if◌then◌else◌, arith}
 use Rattle.std.proofs.lemmas.Bool.{cases_lt}
 use Rattle.std.proofs.lemmas.Bool.Decides.{nat_tests}
 use Rattle.std.proofs.lemmas.List.{get_or_default}

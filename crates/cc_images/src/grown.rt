@@ -1,81 +1,83 @@
-//! The pages that have grown, each by its first byte that became valid since the disk took the page.
+//! The pages that have grown, each by its first byte that became valid since the disk took the page. A flush takes them
+//! out from the front on, so they stand in a ring.
 
-ghost use Rattle.std.specs.Prelude.{◌≡◌, ◌==◌, ◌+◌, ◌-◌, ◌*◌, ◌/◌, ◌<◌, ◌≤◌, ◌^◌, false, max, [], ◌∷◌, ◌++◌, length, slice_set, slice_index_or, vec_capacity, All, Option, None, IfSome};
+ghost use Rattle.std.specs.Prelude.{◌≡◌, ◌==◌, ◌+◌, ◌-◌, ◌*◌, ◌/◌, ◌<◌, ◌≤◌, ◌^◌, false, max, [], ◌∷◌, ◌++◌, length, slice_set, slice_index_or, All, Option, None, IfSome};
 ghost use Rattle.std.specs.List.{find, AllByRecursion};
 ghost use Rattle.std.specs.Option.{option_map};
+ghost use Rattle.std.specs.VecDeque.{deque_capacity};
 ghost use Rattle.cc_model.specs.Ranges.{span_has};
 ghost use Rattle.cc_images.specs.Images.{AscendsByPage};
 ghost use Rattle.cc_images.specs.Changes.{has_page_of, with_page_of, starts, raised, lowered, grew_past, IsByteOf, written};
 
-use crate::reserved::push_reserved;
 use cc_entry::Span;
 use cc_events::span_has;
 use std::cmp::max;
+use std::collections::VecDeque;
 
 /// The valid data length rises from one place to another: each page that it rises over has grown.
-pub(crate) fn raise(bytes: &mut Vec<u64>, was: u64, now: u64)
+pub(crate) fn raise(bytes: &mut VecDeque<u64>, was: u64, now: u64)
     requires rises { was < now }
     requires in_order { AscendsByPage bytes.old.items }
     requires below { AllByRecursion (λ byte. byte < was) bytes.old.items }
-    requires room { length (raised bytes.old.items was now) ≤ vec_capacity bytes.old }
+    requires room { length (raised bytes.old.items was now) ≤ deque_capacity bytes.old }
     ensures bytes { bytes.new.items ≡ raised bytes.old.items was now }
-    ensures capacity { vec_capacity bytes.old ≤ vec_capacity bytes.new }
+    ensures capacity { deque_capacity bytes.old ≤ deque_capacity bytes.new }
 {
     push_first(bytes, was);
     push_starts(bytes, was / 4096 + 1, (now - 1) / 4096 + 1);
 }
 
 // The page of the byte has grown from there on, where it has not before.
-fn push_first(bytes: &mut Vec<u64>, byte: u64)
+fn push_first(bytes: &mut VecDeque<u64>, byte: u64)
     requires in_order { AscendsByPage bytes.old.items }
     requires below { AllByRecursion (λ other. other < byte) bytes.old.items }
-    requires room { length (with_page_of bytes.old.items byte) ≤ vec_capacity bytes.old }
+    requires room { length (with_page_of bytes.old.items byte) ≤ deque_capacity bytes.old }
     ensures bytes { bytes.new.items ≡ with_page_of bytes.old.items byte }
-    ensures capacity { vec_capacity bytes.old ≤ vec_capacity bytes.new }
+    ensures capacity { deque_capacity bytes.old ≤ deque_capacity bytes.new }
 {
     if !ends_with_page_of(bytes, byte) {
-        push_reserved(bytes, byte);
+        bytes.push_back_reserved(byte);
     }
 }
 
 // Whether a byte of the page of a byte past all of them is there: it is the last.
-fn ends_with_page_of(bytes: &[u64], byte: u64) -> bool
-    requires in_order { AscendsByPage bytes.now }
-    requires below { AllByRecursion (λ other. other < byte) bytes.now }
-    ensures { result ≡ has_page_of bytes.now (byte / 4096) }
+fn ends_with_page_of(bytes: &VecDeque<u64>, byte: u64) -> bool
+    requires in_order { AscendsByPage bytes.now.items }
+    requires below { AllByRecursion (λ other. other < byte) bytes.now.items }
+    ensures { result ≡ has_page_of bytes.now.items (byte / 4096) }
 {
-    match bytes.last() {
+    match bytes.back() {
         Some(last) => *last / 4096 == byte / 4096,
         None => false,
     }
 }
 
 // The first bytes of the pages from one number up to, and without, another come in.
-fn push_starts(bytes: &mut Vec<u64>, from: u64, to: u64)
+fn push_starts(bytes: &mut VecDeque<u64>, from: u64, to: u64)
     requires in_order { from ≤ to }
     requires within { to ≤ 2 ^ 52 }
-    requires room { length bytes.old.items + (to - from) ≤ vec_capacity bytes.old }
+    requires room { length bytes.old.items + (to - from) ≤ deque_capacity bytes.old }
     ensures bytes { bytes.new.items ≡ bytes.old.items ++ starts from to }
-    ensures capacity { vec_capacity bytes.old ≤ vec_capacity bytes.new }
+    ensures capacity { deque_capacity bytes.old ≤ deque_capacity bytes.new }
 {
     for page in from..to {
-        push_reserved(bytes, 4096 * page);
+        bytes.push_back_reserved(4096 * page);
     }
 }
 
 /// The valid data length falls to a place.
-pub(crate) fn lower(bytes: &mut Vec<u64>, now: u64)
+pub(crate) fn lower(bytes: &mut VecDeque<u64>, now: u64)
     ensures bytes { bytes.new.items ≡ lowered bytes.old.items now }
-    ensures capacity { vec_capacity bytes.new ≡ vec_capacity bytes.old }
+    ensures capacity { deque_capacity bytes.new ≡ deque_capacity bytes.old }
 {
     bytes.retain(|byte| *byte < now);
 }
 
 /// The disk took a page; `low` is the least valid data length since its transfer began.
-pub(crate) fn write(bytes: &mut Vec<u64>, page: u64, low: u64, valid: u64)
+pub(crate) fn write(bytes: &mut VecDeque<u64>, page: u64, low: u64, valid: u64)
     requires { AscendsByPage bytes.old.items }
     ensures bytes { bytes.new.items ≡ written bytes.old.items page low valid }
-    ensures capacity { vec_capacity bytes.new ≡ vec_capacity bytes.old }
+    ensures capacity { deque_capacity bytes.new ≡ deque_capacity bytes.old }
 {
     match place_of(bytes, page) {
         Some(place) => write_at(bytes, place, page, low, valid),
@@ -84,10 +86,10 @@ pub(crate) fn write(bytes: &mut Vec<u64>, page: u64, low: u64, valid: u64)
 }
 
 // Where the byte of a page stands, by binary search.
-fn place_of(bytes: &[u64], page: u64) -> Option<usize>
-    requires { AscendsByPage bytes.now }
-    ensures some { IfSome result (λ place. IsByteOf bytes.now page place) }
-    ensures none { result ≡ None → All (λ byte. (byte / 4096 == page) ≡ false) bytes.now }
+fn place_of(bytes: &VecDeque<u64>, page: u64) -> Option<usize>
+    requires { AscendsByPage bytes.now.items }
+    ensures some { IfSome result (λ place. IsByteOf bytes.now.items page place) }
+    ensures none { result ≡ None → All (λ byte. (byte / 4096 == page) ≡ false) bytes.now.items }
 {
     let place = bytes.partition_point(|byte| *byte / 4096 < page);
     if place == bytes.len() {
@@ -102,11 +104,11 @@ fn place_of(bytes: &[u64], page: u64) -> Option<usize>
 }
 
 // The disk took the page whose byte stands at a place.
-fn write_at(bytes: &mut Vec<u64>, place: usize, page: u64, low: u64, valid: u64)
+fn write_at(bytes: &mut VecDeque<u64>, place: usize, page: u64, low: u64, valid: u64)
     requires in_order { AscendsByPage bytes.old.items }
     requires place { IsByteOf bytes.old.items page place }
     ensures bytes { bytes.new.items ≡ written bytes.old.items page low valid }
-    ensures capacity { vec_capacity bytes.new ≡ vec_capacity bytes.old }
+    ensures capacity { deque_capacity bytes.new ≡ deque_capacity bytes.old }
 {
     if grew_past(page, low, valid) {
         regrow(bytes, place, low);
@@ -123,18 +125,19 @@ fn grew_past(page: u64, low: u64, valid: u64) -> bool
 }
 
 // The page whose byte stands at a place has grown from `low` on.
-fn regrow(bytes: &mut [u64], place: usize, low: u64)
-    requires { place < length bytes.old }
-    ensures { bytes.new ≡ slice_set bytes.old place (max (slice_index_or bytes.old place 0) low) }
+fn regrow(bytes: &mut VecDeque<u64>, place: usize, low: u64)
+    requires { place < length bytes.old.items }
+    ensures bytes { bytes.new.items ≡ slice_set bytes.old.items place (max (slice_index_or bytes.old.items place 0) low) }
+    ensures capacity { deque_capacity bytes.new ≡ deque_capacity bytes.old }
 {
     let byte = bytes[place];
     bytes[place] = max(byte, low);
 }
 
 /// The first page of a span that has grown.
-pub(crate) fn first_in(bytes: &[u64], span: Option<Span>) -> Option<u64>
+pub(crate) fn first_in(bytes: &VecDeque<u64>, span: Option<Span>) -> Option<u64>
     ensures { result
-        ≡ option_map (λ byte. byte / 4096) (find (λ byte. span_has span (byte / 4096)) bytes.now) }
+        ≡ option_map (λ byte. byte / 4096) (find (λ byte. span_has span (byte / 4096)) bytes.now.items) }
 {
     bytes
         .iter()

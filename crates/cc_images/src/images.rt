@@ -24,13 +24,14 @@ use cc_dirty::Row;
 use cc_entry::{End, NoMemory, Span, StreamId};
 use std::alloc::Global;
 use std::cmp::min;
+use std::collections::VecDeque;
 use std::marker::Model;
 
 /// What is kept of the images of one stream's pages.
 #[derive(Drop)]
 pub struct Images {
     /// Of each page that has grown its first byte that became valid since the disk took the page, ascending.
-    grown: Vec<u64>,
+    grown: VecDeque<u64>,
     /// The least valid data length since the last transfer began.
     begun: u64,
     /// The pages whose image is not known.
@@ -39,6 +40,7 @@ pub struct Images {
 
 impl Model for Images {
     ghost use Rattle.std.specs.Prelude.{vec_capacity};
+    ghost use Rattle.std.specs.VecDeque.{deque_capacity};
     ghost use Rattle.cc_images.specs.Images.{Images};
 
     ghost Value = { Images };
@@ -47,7 +49,7 @@ impl Model for Images {
       grown = i.grown.items;
       begun = i.begun;
       unknown = i.unknown.items;
-      grown_room = vec_capacity i.grown;
+      grown_room = deque_capacity i.grown;
       unknown_room = vec_capacity i.unknown;
     } };
 }
@@ -58,7 +60,7 @@ impl Images {
         ensures { (h : List Effect) → h ≡ [] → ImagesStand h result }
     {
         Images {
-            grown: Vec::new(alloc),
+            grown: VecDeque::new(alloc),
             begun: 0,
             unknown: Vec::new(alloc),
         }

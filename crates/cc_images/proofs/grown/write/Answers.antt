@@ -1,9 +1,7 @@
-use Rattle.std.proofs.Common.{◌≡◌, ◌==◌, ◌/◌, false, subst}
-use Rattle.std.specs.List.{All}
 use Rattle.cc_images.proofs.GrownPlaces.{others-written}
 use Rattle.cc_images.proofs.grown.write.Goals as goal
 
 pub returns-in-None-clause-bytes : goal.returns-in-None-clause-bytes
 returns-in-None-clause-bytes c =
     others-written c.args.bytes.now.items c.args.page c.args.low c.args.valid
-    (subst (λ bs. All (λ byte. (byte / 4096 == c.args.page) ≡ false) bs) c.deref.ensures.value (c.place_of.ensures.none c.in-None.is))
+    (c.place_of.ensures.none c.in-None.is)
