@@ -31,7 +31,7 @@ use Rattle.cc_own.proofs.Unchanged.{unchanged-call, unchanged-idle, unchanged-ke
 use Rattle.cc_own.proofs.VerbsKeep.{append-unchanged, nc_read-unchanged}
 use Rattle.cc_pieces.specs.Locks.{LockedReadAnswered, LockedUpdateAnswered, LockedWriteAnswered}
 use Rattle.cc_pieces.proofs.Grown.{grew-call, grew-only, grew-then}
-use Rattle.cc_pieces.proofs.ShimLines.{Follows, IsMadeOn, Told, told-read, told-update, told-write}
+use Rattle.cc_pieces.proofs.ShimLines.{Follows, FollowsTests, IsMadeOn, Told, told-read, told-update, told-write}
 use Rattle.cc_lines.proofs.WordChanges.{made-apart}
 
 -- the hold is not the list's own
@@ -125,8 +125,6 @@ module _ (u : Setup) (me : ℕ) (file : File) where
     after = λ own e old between new first rest. keeps-then own old between new first rest;
     before = λ id e old between new first rest. keeps-then (Some id) old between new first rest;
     tested = λ own e old new calm idle. keeps-idle own old new idle;
-    noted = λ range write old new only. keeps-only (entry.Tested me file range write None) old new only (λ id. refl);
-    barred = λ range write id old new only. keeps-only (entry.Tested me file range write (Some id)) old new only (λ n. refl);
     held = keeps-held;
     unheld = λ it id e old made new makes on left rest. keeps-held it id old made new makes on left rest;
     read = λ at len bytes old new left. keeps-noncached at len (Ok bytes) old new left;
@@ -135,15 +133,21 @@ module _ (u : Setup) (me : ℕ) (file : File) where
     unappended = λ own handle bytes e old new left. keeps-append own handle bytes (Err e) old new left;
   }
 
+  tests-keep : FollowsTests me file (Keeps u me) (λ own e. Keeps u me own)
+  tests-keep = record {
+    noted = λ range write old new only. keeps-only (entry.Tested me file range write None) old new only (λ id. refl);
+    barred = λ range write id old new only. keeps-only (entry.Tested me file range write (Some id)) old new only (λ n. refl);
+  }
+
   told-keeps : (told : Answer) (old new : List Entry) → Told (Keeps u me) (λ own e. Keeps u me own) told old new → Keeps u me None old new
   told-keeps (answer.Refused e) old new left = left
   told-keeps other old new left = left
 
   pub read-keeps : (path : ReadPath) (at len : ℕ) (told : Answer) (old new : List Entry) → LockedReadAnswered u me file path at len told old new → Keeps u me None old new
-  read-keeps path at len told old new left = told-keeps told old new (told-read u me file (Keeps u me) (λ own e. Keeps u me own) shim-keeps path at len told old new left)
+  read-keeps path at len told old new left = told-keeps told old new (told-read u me file (Keeps u me) (λ own e. Keeps u me own) shim-keeps tests-keep path at len told old new left)
 
   pub write-keeps : (at : ℕ) (bytes : List ℕ) (told : Answer) (old new : List Entry) → LockedWriteAnswered u me file at bytes told old new → Keeps u me None old new
-  write-keeps at bytes told old new left = told-keeps told old new (told-write u me file (Keeps u me) (λ own e. Keeps u me own) shim-keeps at bytes told old new left)
+  write-keeps at bytes told old new left = told-keeps told old new (told-write u me file (Keeps u me) (λ own e. Keeps u me own) shim-keeps tests-keep at bytes told old new left)
 
   pub update-keeps : (at : ℕ) (bytes : List ℕ) (told : Answer) (old new : List Entry) → LockedUpdateAnswered u me file at bytes told old new → Keeps u me None old new
-  update-keeps at bytes told old new left = told-keeps told old new (told-update u me file (Keeps u me) (λ own e. Keeps u me own) shim-keeps at bytes told old new left)
+  update-keeps at bytes told old new left = told-keeps told old new (told-update u me file (Keeps u me) (λ own e. Keeps u me own) shim-keeps tests-keep at bytes told old new left)

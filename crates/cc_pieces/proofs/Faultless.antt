@@ -44,7 +44,7 @@ use Rattle.cc_pieces.specs.HoldLines.{HeldReadBy, HoldLine, UnpinAnswered, Unrep
 use Rattle.cc_pieces.specs.Served.{Served}
 use Rattle.cc_pieces.specs.Locks.{LockAnswered, LockedReadAnswered, LockedUpdateAnswered, LockedWriteAnswered, UnlockAnswered}
 use Rattle.cc_pieces.proofs.Grown.{grew-call, grew-only, grew-then}
-use Rattle.cc_pieces.proofs.ShimLines.{Follows, told-read, told-update, told-write}
+use Rattle.cc_pieces.proofs.ShimLines.{Follows, FollowsTests, calm-faultless, told-read, told-update, told-write}
 
 -- no entry of a stretch shows a failure
 abbrev pub ShowsNone : List Entry → Type 0
@@ -281,9 +281,7 @@ shim-none u me file = record {
   failed = λ own it e old new on left none. failed-tells-none u me it e old new left none;
   after = λ own e old between new first rest none. rest none;
   before = none-before;
-  tested = λ own e old new calm idle none. calm;
-  noted = λ range write old new only. tt;
-  barred = λ range write id old new only none. refl;
+  tested = λ own e old new calm idle none. calm-faultless e calm;
   held = λ it id old made new makes on left rest. tt;
   unheld = λ it id e old made new makes on left rest none. rest none;
   read = λ at len bytes old new left. tt;
@@ -292,22 +290,28 @@ shim-none u me file = record {
   unappended = λ own handle bytes e old new left none. append-none u me handle bytes (answer.Refused e) old new left none;
 }
 
+tests-none : (me : ℕ) (file : File) → FollowsTests me file GrewUnder TellsNone
+tests-none me file = record {
+  noted = λ range write old new only. tt;
+  barred = λ range write id old new only none. refl;
+}
+
 read-none : (u : Setup) (me : ℕ) (file : File) (path : ReadPath) (at len : ℕ) (told : Answer) (old new : List Entry) → LockedReadAnswered u me file path at len told old new → ShowsNone new → tells_fault told ≡ false
 read-none u me file path at len (answer.Given (reply.Read bytes)) old new left none = refl
 read-none u me file path at len (answer.Refused e) old new left none =
-    told-read u me file GrewUnder TellsNone (shim-none u me file) path at len (answer.Refused e) old new left none
+    told-read u me file GrewUnder TellsNone (shim-none u me file) (tests-none me file) path at len (answer.Refused e) old new left none
 read-none u me file path at len other old new left none = absurd left
 
 write-none : (u : Setup) (me : ℕ) (file : File) (at : ℕ) (bytes : List ℕ) (told : Answer) (old new : List Entry) → LockedWriteAnswered u me file at bytes told old new → ShowsNone new → tells_fault told ≡ false
 write-none u me file at bytes (answer.Given reply.Unit) old new left none = refl
 write-none u me file at bytes (answer.Refused e) old new left none =
-    told-write u me file GrewUnder TellsNone (shim-none u me file) at bytes (answer.Refused e) old new left none
+    told-write u me file GrewUnder TellsNone (shim-none u me file) (tests-none me file) at bytes (answer.Refused e) old new left none
 write-none u me file at bytes other old new left none = absurd left
 
 update-none : (u : Setup) (me : ℕ) (file : File) (at : ℕ) (bytes : List ℕ) (told : Answer) (old new : List Entry) → LockedUpdateAnswered u me file at bytes told old new → ShowsNone new → tells_fault told ≡ false
 update-none u me file at bytes (answer.NewLsn lsn) old new left none = refl
 update-none u me file at bytes (answer.Refused e) old new left none =
-    told-update u me file GrewUnder TellsNone (shim-none u me file) at bytes (answer.Refused e) old new left none
+    told-update u me file GrewUnder TellsNone (shim-none u me file) (tests-none me file) at bytes (answer.Refused e) old new left none
 update-none u me file at bytes other old new left none = absurd left
 
 -- neither a lock nor its end goes to a disk or a log

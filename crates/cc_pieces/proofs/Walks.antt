@@ -45,7 +45,7 @@ use Rattle.cc_pieces.specs.Locks.{LockAnswered, UnlockAnswered}
 use Rattle.cc_pieces.specs.Queue.{is_queue_action, is_queue_call}
 use Rattle.cc_pieces.specs.Served.{Served}
 use Rattle.cc_vacb.specs.Levels.{levels_of}
-use Rattle.cc_pieces.proofs.ShimLines.{Follows, IsMadeOn, Told, told-read, told-update, told-write}
+use Rattle.cc_pieces.proofs.ShimLines.{Follows, FollowsTests, IsMadeOn, Told, told-read, told-update, told-write}
 
 -- from one moment to another, each entry that the pass placed may stand on its front
 pub record Walked (Stays : List Entry → Entry → Type 0) (me : ℕ) (old new : List Entry) : Type 0 where
@@ -364,14 +364,18 @@ module _ (u : Setup) (Stays : List Entry → Entry → Type 0) (Fits : List Entr
       after = λ own e old between new first rest. walked-then Stays me old between new first rest;
       before = λ id e old between new first rest. walked-then Stays me old between new first rest;
       tested = λ own e old new calm idle. walked-idle Stays me old new idle;
-      noted = λ range write old new only. walked-only Stays me _ old new only ((keeps me).tested file range write None);
-      barred = λ range write id old new only. walked-only Stays me _ old new only ((keeps me).tested file range write (Some id));
       held = λ it id old made new makes on left rest. walked-then Stays me old made new (walk-call me it (outcome.Done (reply.Hold id)) old made (made-fits me None it old on) left) rest;
       unheld = λ it id e old made new makes on left rest. walked-then Stays me old made new (walk-call me it (outcome.Done (reply.Hold id)) old made (made-fits me None it old on) left) rest;
       read = λ at len bytes old new left. walk-nc-read me at len (answer.Given (reply.Read bytes)) old new left;
       unread = λ at len done e old new left. walk-nc-read me at len (answer.NcRefused done e) old new left;
       appended = λ own handle bytes lsn old new left. walk-append me handle bytes (answer.NewLsn lsn) old new left;
       unappended = λ own handle bytes e old new left. walk-append me handle bytes (answer.Refused e) old new left;
+    }
+
+    walk-tests : (me : ℕ) → FollowsTests me file (λ own. Walked Stays me) (λ own e. Walked Stays me)
+    walk-tests me = record {
+      noted = λ range write old new only. walked-only Stays me _ old new only ((keeps me).tested file range write None);
+      barred = λ range write id old new only. walked-only Stays me _ old new only ((keeps me).tested file range write (Some id));
     }
 
   walk-told : {me : ℕ} {old new : List Entry} (told : Answer) → Told (λ own. Walked Stays me) (λ own e. Walked Stays me) told old new → Walked Stays me old new
@@ -497,11 +501,11 @@ module _ (u : Setup) (Stays : List Entry → Entry → Type 0) (Fits : List Entr
   walk-served me bindings (action.NcRead file at len) told old new plain on left = walk-nc-read file on me at len told old new left
   walk-served me bindings (action.NcWrite file at bytes) told old new plain on left = walk-nc-write file on me at bytes told old new left
   walk-served me bindings (action.Read file path at len) told old new plain on left =
-      walk-told told (told-read u me file _ _ (walk-shim file on me) path at len told old new left)
+      walk-told told (told-read u me file _ _ (walk-shim file on me) (walk-tests file on me) path at len told old new left)
   walk-served me bindings (action.Write file at bytes) told old new plain on left =
-      walk-told told (told-write u me file _ _ (walk-shim file on me) at bytes told old new left)
+      walk-told told (told-write u me file _ _ (walk-shim file on me) (walk-tests file on me) at bytes told old new left)
   walk-served me bindings (action.Update file at bytes) told old new plain on left =
-      walk-told told (told-update u me file _ _ (walk-shim file on me) at bytes told old new left)
+      walk-told told (told-update u me file _ _ (walk-shim file on me) (walk-tests file on me) at bytes told old new left)
   walk-served me bindings (action.Lock file span exclusive) told old new plain on left = walk-lock me file span exclusive told old new left
   walk-served me bindings (action.Unlock file id) told old new plain on left = walk-unlock me file id told old new left
   walk-served me bindings (action.Levels file) told old new plain on left = walk-levels me file told old new left
