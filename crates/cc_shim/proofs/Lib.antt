@@ -10,4 +10,4 @@ pub mod PartReads
 pub mod Pinning
 pub mod Reading
 pub mod Locking
-pub mod Locked
+pub mod LockedCalls

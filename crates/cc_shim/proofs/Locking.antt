@@ -1,17 +1,17 @@
 -- Calls for locks, and tests against them: their entries may stand, reserve nothing, and need the journal's turn alone; and
 -- what the visit to the journal leaves that places them.
-use Rattle.std.specs.Prelude.{◌≡◌, ℕ, suc, ◌+◌, ◌-◌, ◌≤◌, Bool, true, false, List, [], ◌∷◌, length, Option, None, Some, Result, Ok, Err, refl}
+use Rattle.std.specs.Prelude.{◌≡◌, ℕ, suc, ◌+◌, ◌-◌, ◌^◌, ◌≤◌, min, Bool, true, false, List, [], ◌∷◌, length, Option, None, Some, Result, Ok, Err, refl}
 use Rattle.std.specs.List.{sum_by}
 use Rattle.std.proofs.Common.{ap, sym, ◌∙◌, subst, arith, inl, inr}
 use Rattle.std.proofs.lemmas.Bool.{eq-eqb}
 use Rattle.std.proofs.lemmas.List.Sums.{sum_by-cons}
 use Rattle.cc_entry.specs.Place.{File, Range}
-use Rattle.cc_entry.specs.Locks.{IsAnswered, lock_answer}
+use Rattle.cc_entry.specs.Locks.{IsAnswered, LockTable, lock_answer}
 use Rattle.cc_entry.specs.declared.entry.Entry.{Entry}
 use Rattle.cc_entry.specs.declared.entry.Entry.TheVariants as entry
 use Rattle.cc_entry.specs.declared.error.CcError.{CcError}
 use Rattle.cc_entry.specs.declared.error.CcError.TheVariants as error
-use Rattle.cc_pieces.specs.Locks.{LockLeft, TestLeft, UnlockLeft}
+use Rattle.cc_pieces.specs.Locks.{LockLeft, TestLeft, UnlockLeft, tested_range}
 use Rattle.cc_journal.specs.Journal.{JournalState, MayBePushed}
 use Rattle.cc_journal.specs.Locks.{GrantsLock, RefusesLock}
 use Rattle.cc_journal.proofs.GoodEntries.{MayBePushed-good}
@@ -329,3 +329,36 @@ memory-there {Q = Q} pass file range exclusive j between now k same refuses rele
   where
     back : (n : ℕ) → (n + 1) - 1 ≡ n
     back n = omega arith
+
+-- ---- a test
+
+same-range : (a b c d : ℕ) → a ≡ c → b ≡ d → ◌≡◌ {A = Range} (record { from = a; to = b }) (record { from = c; to = d })
+same-range a b c d from to = rw (from, to) refl
+
+-- the range that is tested
+pub span-tested : (at n end : ℕ) (range : Range) → range.from ≡ at → range.to ≡ end → end ≡ min (at + n) (2 ^ 64 - 1) → range ≡ tested_range at n
+span-tested at n end range from to is = same-range range.from range.to at (min (at + n) (2 ^ 64 - 1)) from (to ∙ is)
+
+-- What was found in a journal in which a place was reserved is what the rules give, and its entry may be pushed.
+module _ {Q : Type 0} (u : Setup) (pass : ℕ) (file : File) (range : Range) (write : Bool) (j between : JournalState Q) (same : between ≡ record j { reserved = j.reserved + 1 })
+    (s : ℕ) (table : LockTable) (is : table ≡ locks_of between.entries s) (stream : s ≡ file.stream) (conflict : Option ℕ) (given : conflict ≡ conflict_of table.locks write file range) where
+  entries-same : between.entries ≡ j.entries
+  entries-same = ap (λ (x : JournalState Q). x.entries) same
+
+  found-between : conflict ≡ conflict_of (locks_of between.entries file.stream).locks write file range
+  found-between =
+      given ∙ ap (λ (t : LockTable). conflict_of t.locks write file range) (is ∙ ap (λ (n : ℕ). locks_of between.entries n) stream)
+
+  pub may-test : IsGood u j.entries → MayBePushed between.entries (entry.Tested pass file range write conflict)
+  may-test good = pushed-test u between.entries pass file range write conflict (subst (λ (past : List Entry). IsGood u past) (sym entries-same) good) found-between
+
+  pub tested-there : (k : JournalState Q) (told : Option ℕ) → conflict ≡ told → k ≡ record between { entries = entry.Tested pass file range write conflict ∷ between.entries; reserved = between.reserved - 1; rows = k.rows } → HasTested pass file range write told j k
+  tested-there k told it placed = subst (λ (o : Option ℕ). HasTested pass file range write o j k) it (record {
+    found = subst (λ (past : List Entry). conflict ≡ conflict_of (locks_of past file.stream).locks write file range) entries-same found-between;
+    placed =
+        subst (λ (x : JournalState Q). k ≡ record x { entries = entry.Tested pass file range write conflict ∷ x.entries; reserved = x.reserved - 1; rows = k.rows }) same placed
+        ∙ ap (λ (n : ℕ). record j { entries = entry.Tested pass file range write conflict ∷ j.entries; reserved = n; rows = k.rows }) (back j.reserved);
+  })
+    where
+      back : (n : ℕ) → (n + 1) - 1 ≡ n
+      back n = omega arith

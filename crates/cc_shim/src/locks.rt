@@ -113,7 +113,7 @@ fn test_in<Q>(
     ensures { TestIn pass file span write result journal.old journal.new }
 {
     journal.reserve(1)?;
-    let conflict = conflict_of(journal.locks(file.stream), file, span, write);
+    let conflict = conflict_of(journal.locks(file.stream()), file, span, write);
     journal.push(Entry::Tested {
         pass,
         file,

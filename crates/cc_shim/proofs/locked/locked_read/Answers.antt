@@ -3,7 +3,7 @@ use Rattle.std.specs.Prelude.{false, length, Err, refl}
 use Rattle.cc_pieces.specs.Locks.{read_refused, tested_range}
 use Rattle.cc_pieces.specs.Shim.{ReadTested, misaligned_for, too_long_for}
 use Rattle.cc_shim.specs.Reads.{read_in}
-use Rattle.cc_shim.proofs.Locked.{locked-told, locked-untold}
+use Rattle.cc_shim.proofs.LockedCalls.{locked-told, locked-untold}
 use Rattle.cc_shim.proofs.locked.locked_read.Goals as goal
 
 pub returns-in-Ok : goal.returns-in-Ok

@@ -7,7 +7,7 @@ use Rattle.cc_shim.proofs.Pinning.{answered-earlier}
 use Rattle.cc_calls.specs.Answers.{state_outcome}
 use Rattle.cc_entry.specs.declared.call.Call.TheVariants as call
 use Rattle.std.specs.Prelude.{Ok}
-use Rattle.cc_shim.proofs.Locked.{locked-told, locked-untold}
+use Rattle.cc_shim.proofs.LockedCalls.{locked-told, locked-untold}
 use Rattle.cc_shim.proofs.locked.locked_update.Goals as goal
 
 pub returns-in-Ok : goal.returns-in-Ok

@@ -2,7 +2,7 @@
 use Rattle.std.specs.Prelude.{nat_lt, length, true}
 use Rattle.cc_pieces.specs.Locks.{tested_range, write_refused}
 use Rattle.cc_pieces.specs.Shim.{WriteTested}
-use Rattle.cc_shim.proofs.Locked.{locked-told, locked-untold}
+use Rattle.cc_shim.proofs.LockedCalls.{locked-told, locked-untold}
 use Rattle.cc_shim.proofs.Told.{state-small}
 use Rattle.cc_shim.proofs.locked.locked_write.Goals as goal
 

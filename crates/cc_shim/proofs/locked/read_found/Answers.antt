@@ -6,7 +6,7 @@ use Rattle.cc_pieces.specs.Shim.{ReadTested, first_of, misaligned_for, too_long_
 use Rattle.cc_shim.specs.Locked.{FoundReadEnds}
 use Rattle.cc_shim.specs.Reads.{read_in}
 use Rattle.cc_shim.proofs.Going.{handed}
-use Rattle.cc_shim.proofs.Locked.{found-made, found-refused, found-untested, read-tells}
+use Rattle.cc_shim.proofs.LockedCalls.{found-made, found-refused, found-untested, read-tells}
 use Rattle.cc_shim.proofs.locked.read_found.Goals as goal
 
 pub returns-in-Some : goal.returns-in-Some

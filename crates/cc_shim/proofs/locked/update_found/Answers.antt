@@ -9,7 +9,7 @@ use Rattle.cc_shim.proofs.Pinning.{answered-earlier}
 use Rattle.cc_shim.specs.Ends.{BearsLsn}
 use Rattle.std.specs.Prelude.{IfOk}
 use Rattle.cc_shim.proofs.Going.{handed}
-use Rattle.cc_shim.proofs.Locked.{found-made, found-refused, found-untested, update-tells}
+use Rattle.cc_shim.proofs.LockedCalls.{found-made, found-refused, found-untested, update-tells}
 use Rattle.cc_shim.proofs.locked.update_found.Goals as goal
 
 pub returns-in-Some : goal.returns-in-Some

@@ -6,7 +6,7 @@ use Rattle.cc_pieces.specs.Shim.{WriteTested}
 use Rattle.cc_shim.specs.Ends.{ListEnds}
 use Rattle.cc_shim.specs.Locked.{WriteFound}
 use Rattle.cc_shim.proofs.Going.{handed}
-use Rattle.cc_shim.proofs.Locked.{found-made, found-refused, found-untested, write-tells}
+use Rattle.cc_shim.proofs.LockedCalls.{found-made, found-refused, found-untested, write-tells}
 use Rattle.cc_shim.proofs.locked.write_found.Goals as goal
 
 pub returns-in-Some : goal.returns-in-Some

@@ -1,12 +1,16 @@
 -- The journal with the entry may be given: it needs no other turn.
-use Rattle.std.proofs.Common.{ap, arith}
+use Rattle.std.specs.Prelude.{◌≡◌}
+use Rattle.std.proofs.Common.{ap, arith, subst}
+use Rattle.cc_entry.specs.Place.{Range}
+use Rattle.cc_pieces.specs.Locks.{TestLeft, tested_range}
+use Rattle.cc_shim.specs.Ends.{ListEnds}
 use Rattle.cc_writes.proofs.OneVisit.{visiting}
 use Rattle.cc_writes.proofs.Visiting.{few-left}
-use Rattle.cc_shim.proofs.Locking.{gives-test, whole-test}
+use Rattle.cc_shim.proofs.Locking.{gives-test, span-tested, whole-test}
 use Rattle.cc_shim.proofs.locks.test_range.Goals as goal
 
-pub test_in-requires : goal.test_in-requires
-test_in-requires g c = record {
+pub test_in-answer-requires : goal.test_in-answer-requires
+test_in-answer-requires g c = record {
   good = ((g.T.Turns.standing c.args.turns.now).setup, (visiting g.T.Post.PostRoutine.posted (g.T.Turns.standing c.args.turns.now) (g.T.Turns.standing c.take_journal-journal.new.self) c.take_journal-journal.result c.take_journal-journal.ensures.took c.take_journal-journal.ensures.stands).good);
 }
 
@@ -31,10 +35,17 @@ give_journal-requires-clause-few g c =
     (omega (arith, c.requires.can.none))
 
 pub returns : goal.returns
-returns g c = record {
-  ends =
-      whole-test g.T.Post.PostRoutine.posted (g.T.Turns.standing c.args.turns.now) (g.T.Turns.standing c.take_journal-journal.new.self)
-      c.take_journal-journal.result c.test_in-answer.new.journal c.take_journal-journal.ensures.took c.take_journal-journal.ensures.stands
-      (ap (λ h. h.journal) c.requires.can.free) c.me-pass.result c.me-pass.ensures c.args.file _ c.args.write _ c.test_in-answer.ensures
-      (g.T.Turns.standing c.give_journal.new.self) c.give_journal.ensures c.note_others.ensures.few;
-}
+returns g c =
+    let w = g.T.Turns.standing c.args.turns.now in
+    let z = g.T.Turns.standing c.give_journal.new.self in
+    let span = c.unwrap-span.result in
+    let same : span ≡ tested_range c.args.at c.args.len =
+    span-tested c.args.at c.args.len c.saturating_add.result span (rw c.unwrap-span.ensures at c.new.ensures.start) (rw c.unwrap-span.ensures at c.new.ensures.end) (omega (arith, c.saturating_add.ensures)) in
+    record {
+      ends =
+          subst (λ (r : Range). ListEnds w z (TestLeft w.number c.args.file r c.args.write) c.test_in-answer.result) same
+          (whole-test g.T.Post.PostRoutine.posted w (g.T.Turns.standing c.take_journal-journal.new.self)
+          c.take_journal-journal.result c.test_in-answer.new.journal c.take_journal-journal.ensures.took c.take_journal-journal.ensures.stands
+          (ap (λ h. h.journal) c.requires.can.free) c.me-pass.result c.me-pass.ensures c.args.file span c.args.write _ c.test_in-answer.ensures
+          z c.give_journal.ensures c.note_others.ensures.few);
+    }
