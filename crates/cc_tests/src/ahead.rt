@@ -39,6 +39,8 @@ fn two_reads_in_sequence_lead_to_the_next_granule(rt: HostRuntime) -> Result<(),
         Some(Request { file, at, len })
     );
     assert_eq!(rt; maps.ahead_of(file, 20, 10, true, 5000), None);
+    // The end of such a read lies past 2^64.
+    assert_eq!(rt; maps.ahead_of(file, 20, u64::MAX, false, 5000), None);
     maps.done(&closing, &Reply::Unit, false);
     assert_eq!(rt; maps.ahead_of(file, 20, 10, false, 5000), None);
     Ok(())

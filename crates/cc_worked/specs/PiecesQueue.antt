@@ -14,7 +14,7 @@ use Rattle.cc_entry.specs.declared.place.Request.{Request}
 use Rattle.cc_pieces.specs.Queue.{IsQueued, QueuePlace}
 use Rattle.cc_worked.specs.Values.{a, answers, refused}
 use Rattle.cc_worked.specs.PiecesWithoutEntry.{request, step}
-use Rattle.cc_worked.specs.PiecesRuns.{one_step}
+use Rattle.cc_worked.specs.PiecesRuns.{line_of, one_step}
 use Rattle.cc_worked.specs.PiecesLines.{no_request}
 use Rattle.cc_worked.specs.PiecesAnswered.{first_request}
 
