@@ -27,7 +27,7 @@ use Rattle.cc_effects.specs.Calls.{CallLeft}
 use Rattle.cc_effects.specs.LogCalls.{AppendLeft}
 use Rattle.cc_effects.specs.Moments.{Between, IsIdle, PlacedOnly}
 use Rattle.cc_effects.specs.Noncached.{NcReadLeft}
-use Rattle.cc_model.specs.Reasons.{crosses_blocks, past_size, past_valid, refuse_if}
+use Rattle.cc_model.specs.Reasons.{crosses_blocks, refuse_if}
 use Rattle.cc_pieces.specs.Locks.{AdmittedLeft, FoundLeft, LockedLeft, LockedReadAnswered, LockedReadLeft, LockedUpdateAnswered, LockedUpdateLeft, LockedWriteAnswered, LockedWriteLeft, TestLeft, read_refused, tested_range, update_refused, without_log, write_refused}
 use Rattle.cc_pieces.specs.Shim.{CallsLeft, HeldPartsLeft, HoldPath, LoggedLeft, PartRead, PartRefused, PartsLeft, PathReadLeft, PinnedUpdateLeft, ReadTested, RecordedLeft, RefusedSo, ShortWriteLeft, ToldUpdateLeft, ToldWriteLeft, UpdateLeft, WriteTested, descriptor_path, extensions, first_of, mapped_path, misaligned_for, parts_of, pinned_path, too_long_for, update_record, whole_part, write_calls, zeroings}
 

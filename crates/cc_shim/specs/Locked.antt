@@ -1,5 +1,5 @@
 -- What the reads, writes and updates leave that are tested against the locks first.
-use Rattle.std.specs.Prelude.{ℕ, Bool, true, false, nat_lt, List, length, Result}
+use Rattle.std.specs.Prelude.{ℕ, true, false, nat_lt, List, length, Result}
 use Rattle.cc_entry.specs.Place.{File}
 use Rattle.cc_entry.specs.declared.error.CcError.{CcError}
 use Rattle.cc_entry.specs.declared.place.FileState.{FileState}

@@ -1,5 +1,5 @@
 -- The state was not told, or the read went on by it.
-use Rattle.std.specs.Prelude.{false, length, Err, refl}
+use Rattle.std.specs.Prelude.{false, length, refl}
 use Rattle.cc_pieces.specs.Locks.{read_refused, tested_range}
 use Rattle.cc_pieces.specs.Shim.{ReadTested, misaligned_for, too_long_for}
 use Rattle.cc_shim.specs.Reads.{read_in}
