@@ -14,6 +14,7 @@ pub mod LeftStreams
 pub mod TickSteps
 pub mod AheadSteps
 pub mod PlaceSteps
+pub mod AsyncPlaces
 pub mod RunStreams
 pub mod Faultless
 pub mod RunFaultless

@@ -65,6 +65,8 @@ pub(crate) enum Verb {
     Scan,
     AskAhead,
     AheadStep,
+    AsyncRead,
+    Complete,
     Tick,
     CanWrite,
     Defer,
@@ -72,7 +74,7 @@ pub(crate) enum Verb {
     Fail,
 }
 
-pub(crate) const VERBS: [Verb; 60] = [
+pub(crate) const VERBS: [Verb; 62] = [
     Verb::Stream,
     Verb::Journal,
     Verb::Threshold,
@@ -128,6 +130,8 @@ pub(crate) const VERBS: [Verb; 60] = [
     Verb::Scan,
     Verb::AskAhead,
     Verb::AheadStep,
+    Verb::AsyncRead,
+    Verb::Complete,
     Verb::Tick,
     Verb::CanWrite,
     Verb::Defer,
@@ -195,6 +199,8 @@ impl Verb {
             Verb::Scan => b"scan",
             Verb::AskAhead => b"ask",
             Verb::AheadStep => b"ahead",
+            Verb::AsyncRead => b"aread",
+            Verb::Complete => b"complete",
             Verb::Tick => b"tick",
             Verb::CanWrite => b"canwrite",
             Verb::Defer => b"defer",
@@ -242,6 +248,8 @@ impl Verb {
                 | Verb::Levels
                 | Verb::AskAhead
                 | Verb::AheadStep
+                | Verb::AsyncRead
+                | Verb::Complete
                 | Verb::Tick
         )
     }
