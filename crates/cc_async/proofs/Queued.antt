@@ -42,32 +42,32 @@ module _ (w v : Standing) (file : File) (at len : ℕ) (was : PlaceState QueuedR
   }
 
   -- a page was not resident, and it was queued, or found no place
-  pub starts-queued : (id : AsyncId) (now : PlaceState QueuedRead) (answer : Result AsyncStart CcError) → id ≡ record { pass = w.number; n = suc (length was.pushed) } → ReadLeft w v file at len false (Err error.NotResident) → IsQueued id file at len answer was now → StartEnds w v file at len was now answer
-  starts-queued id now (Ok (start.Queued told)) is left queued = record {
-    left = left.pages.left;
+  pub starts-queued : (id : AsyncId) (now : PlaceState QueuedRead) (answer : Result AsyncStart CcError) → id ≡ record { pass = w.number; n = suc (length was.pushed) } → (page : ℕ) → ReadLeft w v file at len false (Err (error.NotResident page)) → IsQueued id file at len answer was now → StartEnds w v file at len was now answer
+  starts-queued id now (Ok (start.Queued told)) is page left queued = record {
+    left = (page, left.pages.left);
     started = (
       queued.0 ∙ is,
       subst (λ (x : AsyncId). PushLeft (record { id = x; file = file; at = at; len = len }) true was now) (sym queued.0) queued.1,
     );
     plain = λ good. tt;
     full = inl (tt, inl tt);
-    goes_on = went-at-once (Err error.NotResident) left;
+    goes_on = went-at-once (Err (error.NotResident page)) left;
     good = left.pages.good;
   }
-  starts-queued id now (Ok (start.Ready bytes)) is left queued = absurd queued
-  starts-queued id now (Err error.QueueFull) is left queued = record {
-    left = left.pages.left;
+  starts-queued id now (Ok (start.Ready bytes)) is page left queued = absurd queued
+  starts-queued id now (Err error.QueueFull) is page left queued = record {
+    left = (page, left.pages.left);
     started = queued;
     plain = λ good. tt;
     full = inl (tt, inl tt);
-    goes_on = went-at-once (Err error.NotResident) left;
+    goes_on = went-at-once (Err (error.NotResident page)) left;
     good = left.pages.good;
   }
-  starts-queued id now (Err e) is left queued = absurd queued
+  starts-queued id now (Err e) is page left queued = absurd queued
 
   -- it was refused for another reason
-  pub starts-refused : (e : CcError) → (e ≡ error.NotResident → ⊥) → ReadLeft w v file at len false (Err e) → StartEnds w v file at len was was (Err e)
-  starts-refused error.NotResident other left = absurd (other refl)
+  pub starts-refused : (e : CcError) → ((page : ℕ) → e ≡ error.NotResident page → ⊥) → ReadLeft w v file at len false (Err e) → StartEnds w v file at len was was (Err e)
+  starts-refused (error.NotResident page) other left = absurd (other page refl)
   starts-refused error.QueueFull other left = absurd (never-full w.number file at len w.seen v.seen w.setup left.pages.left)
   starts-refused e other left = record {
     left = left.pages.left;
@@ -80,7 +80,7 @@ module _ (w v : Standing) (file : File) (at len : ℕ) (was : PlaceState QueuedR
 
 -- all numbers were given
 pub starts-none : (w : Standing) (file : File) (at len : ℕ) (was : PlaceState QueuedRead) → StartEnds w w file at len was was (Err error.NoMemory)
-starts-none w file at len was = starts-refused w w file at len was error.NoMemory (λ is. absurd (cc (is))) (kept-none w file at len false)
+starts-none w file at len was = starts-refused w w file at len was error.NoMemory (λ page is. absurd (cc (is))) (kept-none w file at len false)
 
 -- a step completed what it took
 pub completes : (w v : Standing) (was now : PlaceState QueuedRead) (done : AsyncDone) → PopLeft (Some (read_of done)) was now → ReadLeft w v done.file done.at done.len true done.answer → CompletionEnds w v was now (Some done)

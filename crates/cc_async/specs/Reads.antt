@@ -17,6 +17,7 @@ use Rattle.cc_entry.specs.declared.reply.Outcome.TheVariants as outcome
 use Rattle.cc_entry.specs.declared.reply.Reply.TheVariants as reply
 use Rattle.cc_book.specs.Book.{failed}
 use Rattle.cc_effects.specs.Calls.{CallLeft}
+use Rattle.cc_effects.specs.Moments.{Between}
 use Rattle.cc_journal.specs.Journal.{JournalState}
 use Rattle.cc_model.specs.Good.{IsGood}
 use Rattle.cc_model.specs.History.{history}
@@ -82,24 +83,29 @@ IsQueued id file at len (Ok (start.Ready bytes)) was now = ⊥
 IsQueued id file at len (Err error.QueueFull) was now = FoundFull was now
 IsQueued id file at len (Err e) was now = ⊥
 
--- How the entry of a read that may be queued says that it ended: one that was queued, or found the queue full, had been
--- refused since a page was not resident; the bytes that are ready are those of its entry.
-abbrev pub start_outcome : Result AsyncStart CcError → Outcome
-start_outcome (Ok (start.Ready bytes)) = outcome.Done (reply.Read bytes)
-start_outcome (Ok (start.Queued id)) = outcome.Failed error.NotResident
-start_outcome (Err error.QueueFull) = outcome.Failed error.NotResident
-start_outcome (Err e) = outcome.Failed e
+-- A read that may not wait left the entry of its refusal, since a page was not resident.
+abbrev pub WasMissing : Setup → ℕ → File → ℕ → ℕ → Between
+WasMissing u me file at len old new =
+    (page : ℕ) × CallLeft u me (call.CopyRead file at len false) (outcome.Failed (error.NotResident page)) old new
+
+-- What a read that may be queued leaves: the bytes that are ready are those of its entry; one that was queued, or found the
+-- queue full, was refused since a page was not resident; and no other was refused so.
+abbrev pub StartLeft : Setup → ℕ → File → ℕ → ℕ → Result AsyncStart CcError → Between
+StartLeft u me file at len (Ok (start.Ready bytes)) old new =
+    CallLeft u me (call.CopyRead file at len false) (outcome.Done (reply.Read bytes)) old new
+StartLeft u me file at len (Ok (start.Queued id)) old new = WasMissing u me file at len old new
+StartLeft u me file at len (Err error.QueueFull) old new = WasMissing u me file at len old new
+StartLeft u me file at len (Err (error.NotResident page)) old new = ⊥
+StartLeft u me file at len (Err e) old new = CallLeft u me (call.CopyRead file at len false) (outcome.Failed e) old new
 
 -- What such a read that was answered so leaves at the queue. It was queued under the next number of its pass, counted from 1;
--- it answers that the queue is full only where it found it so; and else its place is as it was. It never answers that a page
--- was not resident.
+-- it answers that the queue is full only where it found it so; and else its place is as it was.
 abbrev pub StartedAt : ℕ → File → ℕ → ℕ → Result AsyncStart CcError → PlaceState QueuedRead → PlaceState QueuedRead → Type 0
 StartedAt me file at len (Ok (start.Ready bytes)) was now = now ≡ was
 StartedAt me file at len (Ok (start.Queued id)) was now =
     (id ≡ record { pass = me; n = suc (length was.pushed) })
     × PushLeft (record { id = id; file = file; at = at; len = len }) true was now
 StartedAt me file at len (Err error.QueueFull) was now = FoundFull was now
-StartedAt me file at len (Err error.NotResident) was now = ⊥
 StartedAt me file at len (Err e) was now = now ≡ was
 
 -- the bytes of a read that was not queued are the plain file's
@@ -112,7 +118,7 @@ IsReadyPlain u me file at len other old new = Unit {0}
 -- file's.
 pub record StartEnds (old new : Standing) (file : File) (at len : ℕ) (was now : PlaceState QueuedRead)
     (answer : Result AsyncStart CcError) : Type 0 where
-  pub left : CallLeft old.setup old.number (call.CopyRead file at len false) (start_outcome answer) old.seen new.seen
+  pub left : StartLeft old.setup old.number file at len answer old.seen new.seen
   pub started : StartedAt old.number file at len answer was now
   pub plain : IsGood old.setup old.seen → IsReadyPlain old.setup old.number file at len answer old.seen new.seen
   pub full : IsFullFor (call.CopyRead file at len false) old new answer

@@ -1,6 +1,6 @@
 //! A copied read whose bytes are kept: by one that may wait or may not, and of a stream that there is not.
 
-ghost use Rattle.std.specs.Prelude.{◌≡◌, ◌≤◌, true, Err};
+ghost use Rattle.std.specs.Prelude.{◌≡◌, ◌≤◌, true, length, Err};
 ghost use Rattle.cc_model.specs.Good.{IsGood};
 ghost use Rattle.cc_model.specs.Room.{reserved_in};
 ghost use Rattle.cc_model.specs.Setup.{Setup};
@@ -32,7 +32,24 @@ pub(crate) fn keep_read<T: Turns>(
     let Ok(room) = BytesRoom::new(alloc, out.len()) else {
         return Err(CcError::NoMemory);
     };
-    match copy_read(alloc, turns, file, at, wait, &mut out) {
+    read_into(alloc, turns, file, at, wait, &mut out, room)
+}
+
+// The same, into what has the length of the read, with room for its bytes.
+fn read_into<T: Turns>(
+    alloc: Global,
+    turns: &mut T,
+    file: FileId,
+    at: u64,
+    wait: bool,
+    out: &mut [u8],
+    room: BytesRoom,
+) -> Result<Bytes, CcError>
+    requires can { CanCall (T.standing turns.old) file.stream }
+    requires fits { length out.old ≤ room }
+    ensures left { ReadLeft (T.standing turns.old) (T.standing turns.new) file at (length out.old) wait result }
+{
+    match copy_read(alloc, turns, file, at, wait, out) {
         Ok(count) => Ok(room.keep(&out[..count])),
         Err(error) => Err(error),
     }

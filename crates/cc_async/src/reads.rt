@@ -37,7 +37,7 @@ pub fn async_read<R: Wait, T: Turns>(
     match keep_read(alloc, turns, file, at, len, false) {
         Ok(bytes) => Ok(AsyncStart::Ready(bytes)),
         Err(error) => match error {
-            CcError::NotResident => {
+            CcError::NotResident { .. } => {
                 let pass = turns.me();
                 queue_read(rt, queue, place, AsyncId { pass, n }, file, at, len)
             }
