@@ -151,7 +151,7 @@ step-none u me taken other old new left none = absurd left
 started-none : (u : Setup) (me : ℕ) (file : File) (at len : ℕ) (told : Answer) (old new : List Entry) → StartAnswered u me file at len told old new → ShowsNone new → tells_fault told ≡ false
 started-none u me file at len (answer.Started start) old new left none = refl
 started-none u me file at len (answer.Refused error.QueueFull) old new left none = refl
-started-none u me file at len (answer.Refused error.NotResident) old new left none = absurd left
+started-none u me file at len (answer.Refused (error.NotResident page)) old new left none = absurd left
 started-none u me file at len (answer.Refused e) old new left none = failed-tells-none u me (call.CopyRead file at len false) e old new left none
 started-none u me file at len other old new left none = absurd left
 

@@ -203,17 +203,17 @@ stepped-after u me taken other old new newer left idle = absurd left
 -- nor to a read that may be queued, or to the step that completes one
 started-before : (u : Setup) (me : ℕ) (file : File) (at len : ℕ) (told : Answer) (older old new : List Entry) → IsIdle me older old → StartAnswered u me file at len told old new → StartAnswered u me file at len told older new
 started-before u me file at len (answer.Started (start.Ready bytes)) older old new idle left = left-before u me (call.CopyRead file at len false) (outcome.Done (reply.Read bytes)) older old new idle left
-started-before u me file at len (answer.Started (start.Queued id)) older old new idle left = left-before u me (call.CopyRead file at len false) (outcome.Failed error.NotResident) older old new idle left
-started-before u me file at len (answer.Refused error.QueueFull) older old new idle left = left-before u me (call.CopyRead file at len false) (outcome.Failed error.NotResident) older old new idle left
-started-before u me file at len (answer.Refused error.NotResident) older old new idle left = absurd left
+started-before u me file at len (answer.Started (start.Queued id)) older old new idle left = (left.0, left-before u me (call.CopyRead file at len false) (outcome.Failed (error.NotResident left.0)) older old new idle left.1)
+started-before u me file at len (answer.Refused error.QueueFull) older old new idle left = (left.0, left-before u me (call.CopyRead file at len false) (outcome.Failed (error.NotResident left.0)) older old new idle left.1)
+started-before u me file at len (answer.Refused (error.NotResident page)) older old new idle left = absurd left
 started-before u me file at len (answer.Refused e) older old new idle left = left-before u me (call.CopyRead file at len false) (outcome.Failed e) older old new idle left
 started-before u me file at len other older old new idle left = absurd left
 
 started-after : (u : Setup) (me : ℕ) (file : File) (at len : ℕ) (told : Answer) (old new newer : List Entry) → StartAnswered u me file at len told old new → IsIdle me new newer → StartAnswered u me file at len told old newer
 started-after u me file at len (answer.Started (start.Ready bytes)) old new newer left idle = left-after u me (call.CopyRead file at len false) (outcome.Done (reply.Read bytes)) old new newer left idle
-started-after u me file at len (answer.Started (start.Queued id)) old new newer left idle = left-after u me (call.CopyRead file at len false) (outcome.Failed error.NotResident) old new newer left idle
-started-after u me file at len (answer.Refused error.QueueFull) old new newer left idle = left-after u me (call.CopyRead file at len false) (outcome.Failed error.NotResident) old new newer left idle
-started-after u me file at len (answer.Refused error.NotResident) old new newer left idle = absurd left
+started-after u me file at len (answer.Started (start.Queued id)) old new newer left idle = (left.0, left-after u me (call.CopyRead file at len false) (outcome.Failed (error.NotResident left.0)) old new newer left.1 idle)
+started-after u me file at len (answer.Refused error.QueueFull) old new newer left idle = (left.0, left-after u me (call.CopyRead file at len false) (outcome.Failed (error.NotResident left.0)) old new newer left.1 idle)
+started-after u me file at len (answer.Refused (error.NotResident page)) old new newer left idle = absurd left
 started-after u me file at len (answer.Refused e) old new newer left idle = left-after u me (call.CopyRead file at len false) (outcome.Failed e) old new newer left idle
 started-after u me file at len other old new newer left idle = absurd left
 

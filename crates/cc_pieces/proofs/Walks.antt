@@ -195,9 +195,9 @@ module _ (u : Setup) (Stays : List Entry → Entry → Type 0) (Fits : List Entr
   -- a read that may be queued, and the step that completes one
   walk-started : (me : ℕ) (file : File) (at len : ℕ) (told : Answer) (old new : List Entry) → Fits old (call.CopyRead file at len false) → StartAnswered u me file at len told old new → Walked Stays me old new
   walk-started me file at len (answer.Started (start.Ready bytes)) old new fits left = walk-call me (call.CopyRead file at len false) (outcome.Done (reply.Read bytes)) old new fits left
-  walk-started me file at len (answer.Started (start.Queued id)) old new fits left = walk-call me (call.CopyRead file at len false) (outcome.Failed error.NotResident) old new fits left
-  walk-started me file at len (answer.Refused error.QueueFull) old new fits left = walk-call me (call.CopyRead file at len false) (outcome.Failed error.NotResident) old new fits left
-  walk-started me file at len (answer.Refused error.NotResident) old new fits left = absurd left
+  walk-started me file at len (answer.Started (start.Queued id)) old new fits left = walk-call me (call.CopyRead file at len false) (outcome.Failed (error.NotResident left.0)) old new fits left.1
+  walk-started me file at len (answer.Refused error.QueueFull) old new fits left = walk-call me (call.CopyRead file at len false) (outcome.Failed (error.NotResident left.0)) old new fits left.1
+  walk-started me file at len (answer.Refused (error.NotResident page)) old new fits left = absurd left
   walk-started me file at len (answer.Refused e) old new fits left = walk-call me (call.CopyRead file at len false) (outcome.Failed e) old new fits left
   walk-started me file at len other old new fits left = absurd left
 

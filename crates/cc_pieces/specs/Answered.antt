@@ -89,16 +89,19 @@ AheadAnswered u me taken other old new = ⊥
 abbrev pub StepAnswered : Setup → ℕ → Answer → Between
 StepAnswered u me told old new = (taken : Option Request) × AheadAnswered u me taken told old new
 
+-- a read that may not wait was refused, since a page was not resident
+abbrev pub WasMissing : Setup → ℕ → File → ℕ → ℕ → Between
+WasMissing u me file at len old new =
+    (page : ℕ) × CallLeft u me (call.CopyRead file at len false) (outcome.Failed (error.NotResident page)) old new
+
 -- A read that may be queued: it was done, or it was refused; one that was queued, or found the queue full, had been refused
 -- since a page was not resident.
 abbrev pub StartAnswered : Setup → ℕ → File → ℕ → ℕ → Answer → Between
 StartAnswered u me file at len (answer.Started (start.Ready bytes)) old new =
     CallLeft u me (call.CopyRead file at len false) (outcome.Done (reply.Read bytes)) old new
-StartAnswered u me file at len (answer.Started (start.Queued id)) old new =
-    CallLeft u me (call.CopyRead file at len false) (outcome.Failed error.NotResident) old new
-StartAnswered u me file at len (answer.Refused error.QueueFull) old new =
-    CallLeft u me (call.CopyRead file at len false) (outcome.Failed error.NotResident) old new
-StartAnswered u me file at len (answer.Refused error.NotResident) old new = ⊥
+StartAnswered u me file at len (answer.Started (start.Queued id)) old new = WasMissing u me file at len old new
+StartAnswered u me file at len (answer.Refused error.QueueFull) old new = WasMissing u me file at len old new
+StartAnswered u me file at len (answer.Refused (error.NotResident page)) old new = ⊥
 StartAnswered u me file at len (answer.Refused e) old new =
     CallLeft u me (call.CopyRead file at len false) (outcome.Failed e) old new
 StartAnswered u me file at len other old new = ⊥
