@@ -30,7 +30,8 @@ abbrev pub lock_in_way : List Entry → File → Range → Bool → Option ℕ
 lock_in_way past file range exclusive = lock_conflict (locks_of past file.stream).locks range exclusive
 
 -- A lock was granted, as no other is in its way, with the stream's next id.
-pub record GrantsLock {Q : Type 0} (old new : JournalState Q) (pass : ℕ) (file : File) (range : Range) (exclusive : Bool) (id : ℕ) : Type 0 where
+pub record GrantsLock {Q : Type 0} (old new : JournalState Q) (pass : ℕ) (file : File) (range : Range) (exclusive : Bool) (id : ℕ)
+    : Type 0 where
   pub free : lock_in_way old.entries file range exclusive ≡ None
   pub next : id ≡ suc (locks_of old.entries file.stream).granted
   pub placed : new ≡ record old {
@@ -64,7 +65,8 @@ pub record Granted (past : List Entry) (new : List Held) (file : File) (range : 
 
 abbrev pub Refused : List Entry → List Held → List Held → File → Range → Bool → CcError → Type 0
 Refused past old new file range exclusive (error.LockConflict id) =
-    (lock_in_way past file range exclusive ≡ Some id) × ((pass : ℕ) → LocksStand (entry.Locked pass file range exclusive false id ∷ past) new)
+    (lock_in_way past file range exclusive ≡ Some id)
+    × ((pass : ℕ) → LocksStand (entry.Locked pass file range exclusive false id ∷ past) new)
 Refused past old new file range exclusive error.NoMemory = (lock_in_way past file range exclusive ≡ None) × (new ≡ old)
 Refused past old new file range exclusive _ = ⊥
 

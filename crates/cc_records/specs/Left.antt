@@ -80,7 +80,8 @@ pub record IsSettled (u : Setup) (me : ℕ) (file : File) (answer : FileState) (
   pub begun : List Entry
   pub flushed : List Entry
   pub has_flushed : HasFlushed u me file told begun old flushed
-  pub recorded : SyncedRecord me file.stream (valid_of (history begun file.stream)) answer.sizes.size answer.sizes.valid how.Good flushed new
+  pub recorded :
+      SyncedRecord me file.stream (valid_of (history begun file.stream)) answer.sizes.size answer.sizes.valid how.Good flushed new
   pub allocation : answer.sizes.allocation ≡ told.sizes.allocation
   pub log : answer.log ≡ told.log
 

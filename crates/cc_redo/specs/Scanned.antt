@@ -85,7 +85,8 @@ IsAllSettled disk = (page : ℕ) → may_of disk page ≡ page_of disk page ∷ 
 
 -- The record of a stream is written behind a sync, and a sync behind it. Before the first sync the disk is as it was.
 pub record IsSettling (told : List ℕ) (old new : Disk) : Type 0 where
-  pub others : (page : ℕ) → (record_number == page) ≡ false → (page_of new page ≡ page_of old page) × (may_of new page ≡ page_of old page ∷ [])
+  pub others : (page : ℕ) → (record_number == page) ≡ false →
+      (page_of new page ≡ page_of old page) × (may_of new page ≡ page_of old page ∷ [])
   pub record_is : Contains (may_of new record_number) (page_of new record_number)
   pub record_may : (bytes : List ℕ) → Contains (may_of new record_number) bytes → (bytes ≡ page_of old record_number) ⊎ (bytes ≡ told)
 

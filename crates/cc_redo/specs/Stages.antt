@@ -28,13 +28,15 @@ pub record PagesDone {D : Type 0} (told : D → Option Disk) (faults : D → ℕ
   pub counted : faults now ≡ faults was
 
 -- the record of a stream was written, or maybe not
-pub record RecordLeft {D : Type 0} (told : D → Option Disk) (faults : D → ℕ) (entries : List ReadEntry) (redo : Redo) (was now : D) : Type 0 where
+pub record RecordLeft {D : Type 0} (told : D → Option Disk) (faults : D → ℕ) (entries : List ReadEntry) (redo : Redo) (was now : D)
+    : Type 0 where
   pub settling : Both (told was) (told now)
       (λ old new. (new ≡ old) ⊎ IsSettling (record_page redo.size (valid_of entries redo)) old new)
   pub counted : faults was ≤ faults now
 
 -- it was, and the disk is settled
-pub record RecordDone {D : Type 0} (told : D → Option Disk) (faults : D → ℕ) (entries : List ReadEntry) (redo : Redo) (was now : D) : Type 0 where
+pub record RecordDone {D : Type 0} (told : D → Option Disk) (faults : D → ℕ) (entries : List ReadEntry) (redo : Redo) (was now : D)
+    : Type 0 where
   pub settled : Both (told was) (told now) (IsSettled (record_page redo.size (valid_of entries redo)))
   pub counted : faults now ≡ faults was
 

@@ -199,11 +199,16 @@ impl Views {
         }
     }
 
-    // Where a mapped block stands in the order. The index has the place that it had as it was mapped,
-    // and only if another block stands there now is it looked up by its hash.
+    // Where a mapped block stands in the order. Blocks are used one after another for the most part, so it is looked for
+    // where it then stands. The index has the place that it had as it was mapped, and only if another block stands there
+    // now is it looked up by its hash.
     fn place_of(&self, block: u64) -> Option<usize>
         ensures { result ≡ position (nat_eq block) (mapped_blocks self.now) }
     {
+        let in_turn = self.place_in_turn(block);
+        if in_turn.is_some() {
+            return in_turn;
+        }
         match self.view_of(block) {
             Some(view) => {
                 if self.is_at(view as usize, block) {
@@ -213,6 +218,23 @@ impl Views {
                 }
             }
             None => None,
+        }
+    }
+
+    // The place of a block that is used again, or of one that was used as many blocks behind the oldest as it stands in
+    // the stream.
+    fn place_in_turn(&self, block: u64) -> Option<usize>
+        ensures { IsSome result → result ≡ position (nat_eq block) (mapped_blocks self.now) }
+    {
+        let last = self.order.len().checked_sub(1)?;
+        if self.is_at(last, block) {
+            return Some(last);
+        }
+        let place = block.checked_sub(self.block_at(0))? as usize;
+        if self.is_at(place, block) {
+            Some(place)
+        } else {
+            None
         }
     }
 
