@@ -65,6 +65,7 @@ doing-known disks me bindings (action.Read file path at len) known = tt
 doing-known disks me bindings (action.Write file at bytes) known = tt
 doing-known disks me bindings (action.Update file at bytes) known = tt
 doing-known disks me bindings (action.Levels file) known = tt
+doing-known disks me bindings (action.Settle file) known = tt
 doing-known disks me bindings (action.AskAhead file at len) known = tt
 doing-known disks me bindings action.AheadStep known = tt
 doing-known disks me bindings action.Tick known = tt

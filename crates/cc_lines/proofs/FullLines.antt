@@ -33,6 +33,7 @@ use Rattle.cc_writes.specs.Ways.{IsFullError}
 use Rattle.cc_shim.specs.Ends.{WasFullError}
 use Rattle.cc_lines.specs.Line.{IsFullLine, WasFullTold}
 use Rattle.cc_lines.proofs.KeptByShim.{read-keeps, update-keeps, write-keeps}
+use Rattle.cc_lines.proofs.SettleServed.{settled-unchanged}
 
 -- the journal has what it had, and more in front
 record Grew (old new : List Entry) : Type 0 where
@@ -118,6 +119,8 @@ module _ (u : Setup) (me entries : ℕ) (old new : List Entry) where
   grew-served bindings (action.Read file path at len) left = grew-seen (read-keeps u me file path at len full old new left).0
   grew-served bindings (action.Write file at bytes) left = grew-seen (write-keeps u me file at bytes full old new left).0
   grew-served bindings (action.Update file at bytes) left = grew-seen (update-keeps u me file at bytes full old new left).0
+  grew-served bindings (action.Settle file) left =
+      let kept = settled-unchanged u me 0 file full old new left in record { during = kept.during; grew = kept.grew }
   grew-served bindings action.IsDirtyData left = grew-call call.IsDirtyData left
   grew-served bindings (action.DirtyPages handle) left = grew-call (call.DirtyPages handle) left
   grew-served bindings (action.LsnForFile file) left = grew-call (call.LsnForFile file) left
@@ -191,6 +194,7 @@ module _ (u : Setup) (me done : ℕ) (cause : CcError) (old new : List Entry) wh
   grew-cut_off bindings (action.Write file at bytes) left = absurd left
   grew-cut_off bindings (action.Update file at bytes) left = absurd left
   grew-cut_off bindings (action.Levels file) left = absurd left
+  grew-cut_off bindings (action.Settle file) left = absurd left
   grew-cut_off bindings action.IsDirtyData left = absurd left
   grew-cut_off bindings (action.DirtyPages handle) left = absurd left
   grew-cut_off bindings (action.LsnForFile file) left = absurd left

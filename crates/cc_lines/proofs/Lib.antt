@@ -9,6 +9,8 @@ pub mod HoldLines
 pub mod KeptByShim
 pub mod ShimCalls
 pub mod ShimServed
+pub mod SettleServed
+pub mod StoredOpenings
 pub mod FullLines
 pub mod UseLines
 pub mod EndLines

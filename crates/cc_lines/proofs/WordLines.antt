@@ -55,7 +55,7 @@ went-none w = record { same = refl }
 
 -- ---- a full journal
 
-full-less : (n m : ℕ) (w : Standing) (e : CcError) → n ≤ m → IsFullError n w e → IsFullError m w e
+pub full-less : (n m : ℕ) (w : Standing) (e : CcError) → n ≤ m → IsFullError n w e → IsFullError m w e
 full-less n m w (error.JournalFull entries) less full = (full.0, omega (arith, less, full.1))
 full-less n m w other less full = tt
 

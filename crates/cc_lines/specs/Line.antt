@@ -71,6 +71,7 @@ IsServable streams (action.Read file path at len) = file.stream < streams
 IsServable streams (action.Write file at bytes) = file.stream < streams
 IsServable streams (action.Update file at bytes) = file.stream < streams
 IsServable streams (action.Levels file) = file.stream < streams
+IsServable streams (action.Settle file) = file.stream < streams
 IsServable streams action.IsDirtyData = Unit {0}
 IsServable streams (action.DirtyPages handle) = Unit {0}
 IsServable streams (action.LsnForFile file) = file.stream < streams

@@ -16,6 +16,7 @@ use crate::held_lines::{
 };
 use crate::holds::Names;
 use crate::noncached_lines::{read_noncached, write_noncached};
+use crate::settle_line::settle_stream;
 use crate::shim_lines::{levels, read_along, update_logged, write_extending};
 use crate::throttle_lines::{Fresh, defer_write, post_all};
 use crate::tick_line::serve_tick;
@@ -163,6 +164,7 @@ where
         Action::Write { file, at, bytes } => write_extending(alloc, turns, *file, *at, bytes),
         Action::Update { file, at, bytes } => update_logged(alloc, turns, *file, *at, bytes),
         Action::Levels { file } => levels(turns, *file),
+        Action::Settle { file } => settle_stream(alloc, turns, *file),
         Action::IsDirtyData => flag(is_dirty_data(turns)),
         Action::DirtyPages { handle } => rows(dirty_pages(alloc, turns, *handle)),
         Action::LsnForFile { file } => lsns(lsn_for_file(alloc, turns, *file)),

@@ -1,5 +1,5 @@
 -- A line whose journal shows no failure is answered none.
-use Rattle.std.specs.Prelude.{◌≡◌, ℕ, zero, suc, ◌+◌, ◌*◌, ◌/◌, ◌%◌, Bool, true, false, cond, ◌==◌, ◌&&◌, ◌||◌, nat_lt, List, [], ◌∷◌, ◌++◌, length, take, drop, Err, refl, if◌then◌else◌}
+use Rattle.std.specs.Prelude.{◌≡◌, ℕ, zero, suc, ◌+◌, ◌*◌, ◌/◌, ◌%◌, Bool, true, false, cond, ◌==◌, ◌&&◌, ◌||◌, nat_lt, List, [], ◌∷◌, ◌++◌, length, take, drop, Err, refl, ◌⊎◌, if◌then◌else◌}
 use Rattle.std.specs.declared.option.Option.{Option}
 use Rattle.std.specs.declared.option.Option.TheVariants.{Some, None}
 use Rattle.std.specs.List.{AllByRecursion, count_by, list_any}
@@ -24,6 +24,7 @@ use Rattle.cc_entry.specs.declared.reply.Outcome.TheVariants as outcome
 use Rattle.cc_entry.specs.declared.reply.Reply.TheVariants as reply
 use Rattle.cc_script.specs.declared.script.Action.{Action}
 use Rattle.cc_script.specs.declared.script.Action.TheVariants as action
+use Rattle.cc_format.specs.declared.record.StreamRecord.{StreamRecord}
 use Rattle.cc_model.specs.Allowed.{is_fault}
 use Rattle.cc_model.specs.Faults.{Fault, fault_of, is_failed}
 use Rattle.cc_model.specs.Holds.{range_held}
@@ -37,7 +38,8 @@ use Rattle.cc_effects.specs.Repins.{UnpinLeft}
 use Rattle.cc_model.specs.Passes.{HasSeen, is_mine, is_same_page}
 use Rattle.cc_script.specs.declared.script.ReadPath.{ReadPath}
 use Rattle.cc_vacb.specs.Levels.{levels_of}
-use Rattle.cc_pieces.specs.Answered.{AppendAnswered, CallAnswered, LevelsAnswered, LogFlushAnswered, DeferAnswered, PostsAnswered, PostsRefused, NcReadAnswered, NcWriteAnswered, TickAnswered, AheadAnswered}
+use Rattle.cc_records.specs.Left.{LoadLeft, RecordStopped, SettleLeft, SyncedSome, WroteSome}
+use Rattle.cc_pieces.specs.Answered.{AppendAnswered, CallAnswered, LevelsAnswered, LogFlushAnswered, DeferAnswered, PostsAnswered, PostsRefused, NcReadAnswered, NcWriteAnswered, SettleAnswered, TickAnswered, AheadAnswered}
 use Rattle.cc_pieces.specs.Bindings.{Binding, OnHold, hold_named}
 use Rattle.cc_pieces.specs.Faultless.{shows_fault, tells_fault}
 use Rattle.cc_pieces.specs.HoldLines.{HeldReadBy, HoldLine, UnpinAnswered, UnrepinLine}
@@ -314,6 +316,42 @@ levels-none me file (answer.Refused error.NotCached) old new left = refl
 levels-none me file (answer.Refused error.NoMemory) old new left = refl
 levels-none me file other old new left = absurd left
 
+-- the settling of a stream: a write of the record that failed shows it, and so does the sync behind it
+wrote-shown : (me s first : ℕ) (old new : List Entry) → WroteSome me s first how.Failed old new → ShowsNone new → ⊥
+wrote-shown me s first old new is none =
+    not-shown (entry.Record me s is.size is.valid how.Failed) is.wrote.after.during is.wrote.front (subst ShowsNone is.wrote.after.grew none) refl
+
+synced-shown : (me s first : ℕ) (old new : List Entry) → SyncedSome me s first how.Failed old new → ShowsNone new → ⊥
+synced-shown me s first old new is none =
+    only-not-shown me (entry.Sync me s how.Failed) is.synced.written new is.synced.synced none refl
+
+stopped-none : (me s first : ℕ) (e : CcError) (old new : List Entry) → RecordStopped me s first e old new → ShowsNone new → is_fault e ≡ false
+stopped-none me s first (error.JournalFull entries) old new left none = refl
+stopped-none me s first error.NoMemory old new left none = refl
+stopped-none me s first (error.WriteFault page) old new left none = by left.1
+  where
+    by : WroteSome me s first how.Failed old new ⊎ SyncedSome me s first how.Failed old new → is_fault (error.WriteFault page) ≡ false
+    by (inl wrote) = absurd (wrote-shown me s first old new wrote none)
+    by (inr synced) = absurd (synced-shown me s first old new synced none)
+stopped-none me s first other old new left none = absurd left
+
+-- nor is a read of a record that shows no failure told one
+pub load-none : (me s : ℕ) (e : CcError) (old new : List Entry) → LoadLeft {A = Option StreamRecord} me s (Err e) old new → ShowsNone new → is_fault e ≡ false
+load-none me s (error.ReadFault page) old new left none = absurd (only-not-shown me (entry.RecordFailed me s) old new left.1 none refl)
+load-none me s (error.JournalFull entries) old new left none = refl
+load-none me s error.NoMemory old new left none = refl
+load-none me s other old new left none = absurd left
+
+pub settle-none : (u : Setup) (me : ℕ) (file : File) (e : CcError) (old new : List Entry) → SettleLeft u me file (Err e) old new → ShowsNone new → is_fault e ≡ false
+settle-none u me file e old new (inl left) none = failed-tells-none u me (call.State file) e old new left none
+settle-none u me file e old new (inr (inl is)) none = failed-tells-none u me (call.Flush file None) e is.begun new is.flush none
+settle-none u me file e old new (inr (inr is)) none = stopped-none me file.stream _ e is.flushed new is.stopped none
+
+settled-none : (u : Setup) (me : ℕ) (file : File) (told : Answer) (old new : List Entry) → SettleAnswered u me file told old new → ShowsNone new → tells_fault told ≡ false
+settled-none u me file (answer.Given (reply.State state)) old new left none = refl
+settled-none u me file (answer.Refused e) old new left none = settle-none u me file e old new left none
+settled-none u me file other old new left none = absurd left
+
 -- neither a deferral nor a post goes to a disk or a log
 defer-none : (me : ℕ) (file : File) (bytes : ℕ) (retrying : Bool) (told : Answer) (old new : List Entry) → DeferAnswered me file bytes retrying told old new → tells_fault told ≡ false
 defer-none me file bytes retrying (answer.Deferred id) old new left = refl
@@ -377,6 +415,7 @@ served-none u me bindings (action.Read file path at len) told old new left none 
 served-none u me bindings (action.Write file at bytes) told old new left none = write-none u me file at bytes told old new left none
 served-none u me bindings (action.Update file at bytes) told old new left none = update-none u me file at bytes told old new left none
 served-none u me bindings (action.Levels file) told old new left none = levels-none me file told old new left
+served-none u me bindings (action.Settle file) told old new left none = settled-none u me file told old new left none
 served-none u me bindings action.IsDirtyData told old new left none = answered-none u me call.IsDirtyData told old new left none
 served-none u me bindings (action.DirtyPages handle) told old new left none = answered-none u me (call.DirtyPages handle) told old new left none
 served-none u me bindings (action.LsnForFile file) told old new left none = answered-none u me (call.LsnForFile file) told old new left none

@@ -1,5 +1,5 @@
 -- What a line of a caller leaves is of the first streams, where its file is.
-use Rattle.std.specs.Prelude.{◌≡◌, ℕ, ◌<◌, true, ◌&&◌, List, [], ◌∷◌, ◌++◌, refl}
+use Rattle.std.specs.Prelude.{◌≡◌, ℕ, ◌<◌, true, ◌&&◌, List, [], ◌∷◌, ◌++◌, Result, Ok, Err, refl}
 use Rattle.std.specs.declared.option.Option.{Option}
 use Rattle.std.specs.declared.option.Option.TheVariants.{Some, None}
 use Rattle.std.proofs.Common.{sym, subst}
@@ -11,6 +11,9 @@ use Rattle.cc_entry.specs.declared.call.Call.{Call}
 use Rattle.cc_entry.specs.declared.call.Call.TheVariants as call
 use Rattle.cc_entry.specs.declared.entry.Entry.{Entry}
 use Rattle.cc_entry.specs.declared.entry.Entry.TheVariants as entry
+use Rattle.cc_entry.specs.declared.error.CcError.{CcError}
+use Rattle.cc_entry.specs.declared.error.CcError.TheVariants as error
+use Rattle.cc_entry.specs.declared.place.FileState.{FileState}
 use Rattle.cc_entry.specs.declared.place.Request.{Request}
 use Rattle.cc_entry.specs.declared.reply.Outcome.{Outcome}
 use Rattle.cc_entry.specs.declared.reply.Outcome.TheVariants as outcome
@@ -28,11 +31,12 @@ use Rattle.cc_effects.specs.Calls.{CallLeft}
 use Rattle.cc_effects.specs.Moments.{EachOwn, IsIdle}
 use Rattle.cc_effects.specs.Places.{MayPlace}
 use Rattle.cc_effects.proofs.Stretches.{each-implies}
+use Rattle.cc_records.specs.Left.{LoadLeft, SettleLeft}
 use Rattle.cc_pieces.specs.Answered.{AheadAnswered, CallAnswered, TickAnswered}
 use Rattle.cc_pieces.specs.Bindings.{Binding}
 use Rattle.cc_pieces.specs.Served.{Served}
 use Rattle.cc_pieces.proofs.Streams.{AllBelow, FitsBelow, IsBelow, IsFileBelow, call-below, done-fits, file-fits, hold-below, open-below, resident-below, sized-below}
-use Rattle.cc_pieces.proofs.Walks.{IsActionOn, Keeps, Walked, walk-answered, walk-call, walk-served, walk-tick, walked-idle, walked-then}
+use Rattle.cc_pieces.proofs.Walks.{IsActionOn, Keeps, Walked, walk-answered, walk-call, walk-served, walk-settle, walk-tick, walked-idle, walked-only, walked-then}
 
 -- a journal is legal, and allowed so far
 abbrev pub IsSound : Setup → List Entry → Type 0
@@ -161,6 +165,8 @@ module _ (u : Setup) (n : ℕ) (handles : HasHandles u) where
     refused = λ it nth s e past plain sound all. tt;
     begun = λ file page past on sound all. on;
     ended = λ file page end past on sound all. on;
+    recorded = λ file size valid end past on sound all. on;
+    synced = λ file end past on sound all. on;
     out = λ file page past on sound all. on;
     scanned = λ picked past sound all. tt;
     appended = λ handle lsn bytes past sound all. tt;
@@ -174,6 +180,17 @@ module _ (u : Setup) (n : ℕ) (handles : HasHandles u) where
 
   pub left-call : (me : ℕ) (it : Call) (ended : Outcome) (old new : List Entry) → FitsBelow n it → CallLeft u me it ended old new → IsLeft u n me old new
   left-call me it ended old new fits left = walk-call u _ _ _ keeps-below me it ended old new (λ all. fits) left
+
+  pub left-settle : (me : ℕ) (file : File) (answered : Result FileState CcError) (old new : List Entry) → file.stream < n → SettleLeft u me file answered old new → IsLeft u n me old new
+  left-settle me file answered old new low left = walk-settle u _ _ _ keeps-below me file low answered old new left
+
+  -- a read of a record, of which only a failed one has an entry
+  pub left-load : {A : Type 0} (me s : ℕ) (answered : Result A CcError) (old new : List Entry) → s < n → LoadLeft me s answered old new → IsLeft u n me old new
+  left-load me s (Ok told) old new low left = left-idle u n me old new left
+  left-load me s (Err (error.ReadFault page)) old new low left = walked-only (StaysBelow u n) me (entry.RecordFailed me s) old new left.1 (λ past sound all. low)
+  left-load me s (Err (error.JournalFull entries)) old new low left = left-idle u n me old new left
+  left-load me s (Err error.NoMemory) old new low left = left-idle u n me old new left
+  left-load me s (Err other) old new low left = absurd left
 
   pub left-answered : (me : ℕ) (it : Call) (told : Answer) (old new : List Entry) → FitsBelow n it → CallAnswered u me it told old new → IsLeft u n me old new
   left-answered me it told old new fits left = walk-answered u _ _ _ keeps-below me it told old new (λ all. fits) left

@@ -2,6 +2,7 @@ pub mod ShimSteps
 pub mod Grown
 pub mod ShimLines
 pub mod ThrottleSteps
+pub mod SettleSteps
 pub mod LineSteps
 pub mod PlainReads
 pub mod PlainPages
@@ -15,6 +16,7 @@ pub mod TickSteps
 pub mod AheadSteps
 pub mod PlaceSteps
 pub mod RunStreams
+pub mod Unrecorded
 pub mod Faultless
 pub mod RunFaultless
 pub mod SteppedStreams

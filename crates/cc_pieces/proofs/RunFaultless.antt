@@ -7,10 +7,15 @@ use Rattle.std.proofs.Common.{sym, ap, arith, subst, ◌∙◌, inl, inr, eq-eqb
 use Rattle.std.proofs.lemmas.Bool.{cases_lt}
 use Rattle.std.proofs.lemmas.List.{take-append-drop}
 use Rattle.cc_entry.specs.declared.answer.Answer.{Answer}
+use Rattle.cc_entry.specs.declared.answer.Answer.TheVariants as answer
 use Rattle.cc_entry.specs.declared.answer.LineReply.{LineReply}
 use Rattle.cc_entry.specs.declared.place.Request.{Request}
+use Rattle.cc_entry.specs.declared.call.Call.{Call}
 use Rattle.cc_entry.specs.declared.call.Call.TheVariants as call
 use Rattle.cc_entry.specs.declared.entry.Entry.{Entry}
+use Rattle.cc_entry.specs.declared.reply.Reply.TheVariants as reply
+use Rattle.cc_format.specs.declared.record.StreamRecord.{StreamRecord}
+use Rattle.cc_format.specs.declared.record.StreamRecord.TheVariants.{V1, V2}
 use Rattle.cc_script.specs.Within.{IsLineWithin}
 use Rattle.cc_script.specs.declared.script.Action.{Action}
 use Rattle.cc_script.specs.declared.script.ActionLine.{ActionLine}
@@ -19,11 +24,11 @@ use Rattle.cc_model.specs.Setup.{Setup}
 use Rattle.cc_pieces.specs.Bindings.{Binding}
 use Rattle.cc_pieces.specs.Explained.{Answered, Given, IsExplained, answered_lines}
 use Rattle.cc_pieces.specs.Faultless.{tells_fault}
-use Rattle.cc_pieces.specs.Openings.{LoggedOpening, Opened, first_object_of, opening_call}
+use Rattle.cc_pieces.specs.Openings.{LoggedOpening, MigrationLeft, Opened, RecordedOpening, StreamOpening, first_object_of, opening_call, recorded_call}
 use Rattle.cc_pieces.specs.Phases.{PhasesRan, Plan, is_of_phase, lazy_writer, lines_in, read_ahead_worker}
 use Rattle.cc_pieces.specs.Runs.{Ran, asked_of}
 use Rattle.cc_pieces.specs.Served.{bindings_after}
-use Rattle.cc_pieces.proofs.Faultless.{ShowsNone, TellNone, answered-none, failed-tells-none, none-front, served-none, tell-append}
+use Rattle.cc_pieces.proofs.Faultless.{ShowsNone, TellNone, answered-none, failed-tells-none, load-none, none-front, served-none, settle-none, tell-append}
 use Rattle.cc_pieces.proofs.LeftStreams.{HasHandles, IsActionBelow}
 use Rattle.cc_pieces.proofs.RunStreams.{LinesBelow, asked-below, left-opened, left-ran, phases-grow}
 use Rattle.cc_pieces.proofs.TickSteps.{ticks-none}
@@ -62,11 +67,26 @@ module _ (u : Setup) (n : ℕ) (handles : HasHandles u) where
       let front : ShowsNone ran.0 = none-front rest.during ran.0 (subst ShowsNone rest.grew none) in
       (served-none u me bindings line.0 line.1 old ran.0 ran.1.served front, ran-none limit me (bindings_after line.0 line.1 bindings) more ran.0 new below.1 ran.2 none)
 
-  logged-none : (s : ℕ) (stream : StreamLine) (log : Option ℕ) (told : Answer) (old new : List Entry) → LoggedOpening u s stream log told old new → ShowsNone new → tells_fault told ≡ false
-  logged-none s stream None told old new opened none = answered-none u 0 (opening_call s stream) told old new opened none
-  logged-none s stream (Some handle) told old new (inl refused) none =
-      ap tells_fault refused.1 ∙ failed-tells-none u 0 (opening_call s stream) refused.0 old new refused.2 none
-  logged-none s stream (Some handle) told old new (inr done) none = answered-none u 0 (call.SetLog (first_object_of s) handle) told done.0 new done.2 none
+  logged-none : (s : ℕ) (it : Call) (log : Option ℕ) (told : Answer) (old new : List Entry) → LoggedOpening u s it log told old new → ShowsNone new → tells_fault told ≡ false
+  logged-none s it None told old new opened none = answered-none u 0 it told old new opened none
+  logged-none s it (Some handle) told old new (inl refused) none = ap tells_fault refused.1 ∙ failed-tells-none u 0 it refused.0 old new refused.2 none
+  logged-none s it (Some handle) told old new (inr done) none = answered-none u 0 (call.SetLog (first_object_of s) handle) told done.0 new done.2 none
+
+  migration-none : (s : ℕ) (told : Answer) (old new : List Entry) → MigrationLeft u s told old new → ShowsNone new → tells_fault told ≡ false
+  migration-none s (answer.Given reply.Unit) old new left none = refl
+  migration-none s (answer.Refused e) old new left none = settle-none u 0 (first_object_of s) e old new left none
+  migration-none s other old new left none = absurd left
+
+  recorded-none : (s : ℕ) (stream : StreamLine) (read : Option StreamRecord) (told : Answer) (old new : List Entry) → RecordedOpening u s stream read told old new → ShowsNone new → tells_fault told ≡ false
+  recorded-none s stream None told old new opened none = logged-none s (recorded_call s stream None) stream.log told old new opened none
+  recorded-none s stream (Some (V2 size valid)) told old new opened none = logged-none s (recorded_call s stream (Some (V2 size valid))) stream.log told old new opened none
+  recorded-none s stream (Some (V1 size)) told old new (inl refused) none = logged-none s (recorded_call s stream (Some (V1 size))) stream.log told old new refused.2 none
+  recorded-none s stream (Some (V1 size)) told old new (inr done) none = migration-none s told done.0 new done.2 none
+
+  opening-none : (s : ℕ) (stream : StreamLine) (stored : Bool) (told : Answer) (old new : List Entry) → StreamOpening u s stream stored told old new → ShowsNone new → tells_fault told ≡ false
+  opening-none s stream false told old new opened none = logged-none s (opening_call s stream) stream.log told old new opened none
+  opening-none s stream true told old new (inl unread) none = ap tells_fault unread.1 ∙ load-none 0 s unread.0 old new unread.2 none
+  opening-none s stream true told old new (inr is) none = recorded-none s stream is.read told is.loaded new is.opened none
 
   opened-none : (s : ℕ) (streams : List StreamLine) (replies : List LineReply) (old new : List Entry) → s + length streams ≤ n → Opened u s streams replies old new → ShowsNone new → TellNone replies
   opened-none s [] [] old new few opened none = tt
@@ -75,7 +95,7 @@ module _ (u : Setup) (n : ℕ) (handles : HasHandles u) where
   opened-none s (stream ∷ streams) (reply ∷ replies) old new few opened none =
       let rest = left-opened u n handles (suc s) streams replies opened.0 new (omega (arith, few)) opened.2 in
       let front : ShowsNone opened.0 = none-front rest.during opened.0 (subst ShowsNone rest.grew none) in
-      (logged-none s stream stream.log reply.answer old opened.0 opened.1.opened front, opened-none (suc s) streams replies opened.0 new (omega (arith, few)) opened.2 none)
+      (opening-none s stream stream.stored reply.answer old opened.0 opened.1.opened front, opened-none (suc s) streams replies opened.0 new (omega (arith, few)) opened.2 none)
 
   module _ (plan : Plan) (within : AllByRecursion (λ line. IsActionBelow n line.action) plan.lines) where
     phases-none : (phase left : ℕ) (ticked stepped : List LineReply) (taken : List Request) (old new : List Entry) → PhasesRan u plan phase left ticked stepped taken old new → ShowsNone new → (p me : ℕ) → phase ≤ p → p < phase + left → me ≢ lazy_writer → me ≢ read_ahead_worker → LinesTellNone (lines_in plan p me)

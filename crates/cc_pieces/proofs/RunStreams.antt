@@ -1,5 +1,5 @@
 -- The journal of a run is of the streams of its script.
-use Rattle.std.specs.Prelude.{◌≡◌, ◌≢◌, ℕ, zero, suc, ◌+◌, ◌<◌, ◌≤◌, Bool, true, false, ◌==◌, List, [], ◌∷◌, ◌++◌, length, refl, if◌then◌else◌}
+use Rattle.std.specs.Prelude.{◌≡◌, ◌≢◌, ℕ, zero, suc, ◌+◌, ◌<◌, ◌≤◌, Bool, true, false, ◌==◌, List, [], ◌∷◌, ◌++◌, length, Ok, Err, refl, if◌then◌else◌}
 use Rattle.std.specs.declared.option.Option.{Option}
 use Rattle.std.specs.declared.option.Option.TheVariants.{Some, None}
 use Rattle.std.specs.List.{AllByRecursion}
@@ -7,8 +7,10 @@ use Rattle.std.proofs.Common.{sym, ap, arith, subst, ◌∙◌, inl, inr, eq-eqb
 use Rattle.std.proofs.lemmas.Bool.{eqb-true, eqb-false}
 use Rattle.std.proofs.lemmas.List.{append_cancel_right}
 use Rattle.cc_entry.specs.declared.answer.Answer.{Answer}
+use Rattle.cc_entry.specs.declared.answer.Answer.TheVariants as answer
 use Rattle.cc_entry.specs.declared.answer.LineReply.{LineReply}
 use Rattle.cc_entry.specs.declared.place.Request.{Request}
+use Rattle.cc_entry.specs.declared.call.Call.{Call}
 use Rattle.cc_entry.specs.declared.call.Call.TheVariants as call
 use Rattle.cc_entry.specs.declared.entry.Entry.{Entry}
 use Rattle.cc_entry.specs.declared.entry.Entry.TheVariants as entry
@@ -17,17 +19,19 @@ use Rattle.cc_entry.specs.declared.reply.Reply.TheVariants as reply
 use Rattle.cc_script.specs.declared.script.Action.{Action}
 use Rattle.cc_script.specs.declared.script.ActionLine.{ActionLine}
 use Rattle.cc_script.specs.declared.script.StreamLine.{StreamLine}
+use Rattle.cc_format.specs.declared.record.StreamRecord.{StreamRecord}
+use Rattle.cc_format.specs.declared.record.StreamRecord.TheVariants.{V1, V2}
 use Rattle.cc_model.specs.Passes.{is_pass, pass_of}
 use Rattle.cc_model.specs.Setup.{Setup}
 use Rattle.cc_effects.specs.Moments.{EachOwn, IsIdle}
 use Rattle.cc_pieces.specs.Bindings.{Binding}
 use Rattle.cc_pieces.specs.Explained.{Answered, Given, IsExplained}
-use Rattle.cc_pieces.specs.Openings.{LoggedOpening, Opened, first_object_of, opening_call}
+use Rattle.cc_pieces.specs.Openings.{LoggedOpening, MigrationLeft, Opened, RecordedOpening, StreamOpening, first_object_of, opening_call, recorded_call}
 use Rattle.cc_pieces.specs.Phases.{PhaseRan, PhasesRan, Plan, is_of_phase, lazy_writer, lines_in, read_ahead_worker}
 use Rattle.cc_pieces.specs.Runs.{Ran, asked_of}
 use Rattle.cc_pieces.specs.Served.{bindings_after}
-use Rattle.cc_pieces.proofs.Streams.{AllBelow, IsBelow}
-use Rattle.cc_pieces.proofs.LeftStreams.{HasHandles, IsActionBelow, IsLeft, IsSound, StaysBelow, left-answered, left-call, left-idle, left-served, left-then, sound-front, sound-tail}
+use Rattle.cc_pieces.proofs.Streams.{AllBelow, FitsBelow, IsBelow}
+use Rattle.cc_pieces.proofs.LeftStreams.{HasHandles, IsActionBelow, IsLeft, IsSound, StaysBelow, left-answered, left-call, left-idle, left-load, left-served, left-settle, left-then, sound-front, sound-tail}
 use Rattle.cc_pieces.proofs.TickSteps.{left-ticks}
 use Rattle.cc_pieces.proofs.AheadSteps.{left-aheads}
 
@@ -79,20 +83,39 @@ module _ (u : Setup) (n : ℕ) (handles : HasHandles u) where
       left-then u n me old ran.0 new (left-served u n handles me bindings line.0 line.1 old ran.0 below.0 ran.1.served)
       (left-ran limit me (bindings_after line.0 line.1 bindings) more ran.0 new below.1 ran.2)
 
-  left-logged : (s : ℕ) (stream : StreamLine) (log : Option ℕ) (told : Answer) (old new : List Entry) → s < n → LoggedOpening u s stream log told old new → IsLeft u n 0 old new
-  left-logged s stream None told old new low opened = left-answered u n handles 0 (opening_call s stream) told old new low opened
-  left-logged s stream (Some handle) told old new low (inl refused) =
-      left-call u n handles 0 (opening_call s stream) (outcome.Failed refused.0) old new low refused.2
-  left-logged s stream (Some handle) told old new low (inr done) =
-      left-then u n 0 old done.0 new (left-call u n handles 0 (opening_call s stream) (outcome.Done reply.Unit) old done.0 low done.1)
+  left-logged : (s : ℕ) (it : Call) (log : Option ℕ) (told : Answer) (old new : List Entry) → s < n → FitsBelow n it → LoggedOpening u s it log told old new → IsLeft u n 0 old new
+  left-logged s it None told old new low fits opened = left-answered u n handles 0 it told old new fits opened
+  left-logged s it (Some handle) told old new low fits (inl refused) = left-call u n handles 0 it (outcome.Failed refused.0) old new fits refused.2
+  left-logged s it (Some handle) told old new low fits (inr done) =
+      left-then u n 0 old done.0 new (left-call u n handles 0 it (outcome.Done reply.Unit) old done.0 fits done.1)
       (left-answered u n handles 0 (call.SetLog (first_object_of s) handle) told done.0 new low done.2)
+
+  left-migration : (s : ℕ) (told : Answer) (old new : List Entry) → s < n → MigrationLeft u s told old new → IsLeft u n 0 old new
+  left-migration s (answer.Given reply.Unit) old new low left = left-settle u n handles 0 (first_object_of s) (Ok left.0) old new low left.1
+  left-migration s (answer.Refused e) old new low left = left-settle u n handles 0 (first_object_of s) (Err e) old new low left
+  left-migration s other old new low left = absurd left
+
+  left-recorded : (s : ℕ) (stream : StreamLine) (read : Option StreamRecord) (told : Answer) (old new : List Entry) → s < n → RecordedOpening u s stream read told old new → IsLeft u n 0 old new
+  left-recorded s stream None told old new low opened = left-logged s (recorded_call s stream None) stream.log told old new low low opened
+  left-recorded s stream (Some (V2 size valid)) told old new low opened = left-logged s (recorded_call s stream (Some (V2 size valid))) stream.log told old new low low opened
+  left-recorded s stream (Some (V1 size)) told old new low (inl refused) = left-logged s (recorded_call s stream (Some (V1 size))) stream.log told old new low low refused.2
+  left-recorded s stream (Some (V1 size)) told old new low (inr done) =
+      left-then u n 0 old done.0 new (left-logged s (recorded_call s stream (Some (V1 size))) stream.log (answer.Given reply.Unit) old done.0 low low done.1)
+      (left-migration s told done.0 new low done.2)
+
+  left-opening : (s : ℕ) (stream : StreamLine) (stored : Bool) (told : Answer) (old new : List Entry) → s < n → StreamOpening u s stream stored told old new → IsLeft u n 0 old new
+  left-opening s stream false told old new low opened = left-logged s (opening_call s stream) stream.log told old new low low opened
+  left-opening s stream true told old new low (inl unread) = left-load u n handles {A = Option StreamRecord} 0 s (Err unread.0) old new low unread.2
+  left-opening s stream true told old new low (inr is) =
+      left-then u n 0 old is.loaded new (left-load u n handles {A = Option StreamRecord} 0 s (Ok is.read) old is.loaded low is.load)
+      (left-recorded s stream is.read told is.loaded new low is.opened)
 
   pub left-opened : (s : ℕ) (streams : List StreamLine) (replies : List LineReply) (old new : List Entry) → s + length streams ≤ n → Opened u s streams replies old new → IsLeft u n 0 old new
   left-opened s [] [] old new few opened = left-idle u n 0 old new opened
   left-opened s [] (reply ∷ replies) old new few opened = absurd opened
   left-opened s (stream ∷ streams) [] old new few opened = absurd opened
   left-opened s (stream ∷ streams) (reply ∷ replies) old new few opened =
-      left-then u n 0 old opened.0 new (left-logged s stream stream.log reply.answer old opened.0 (omega (arith, few)) opened.1.opened)
+      left-then u n 0 old opened.0 new (left-opening s stream stream.stored reply.answer old opened.0 (omega (arith, few)) opened.1.opened)
       (left-opened (suc s) streams replies opened.0 new (omega (arith, few)) opened.2)
 
   -- the streams were opened, and nobody but pass 0 placed anything

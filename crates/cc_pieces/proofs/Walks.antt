@@ -5,6 +5,7 @@ use Rattle.std.specs.declared.option.Option.{Option}
 use Rattle.std.specs.declared.option.Option.TheVariants.{Some, None}
 use Rattle.std.proofs.Common.{sym, subst, inl, inr}
 use Rattle.cc_entry.specs.Place.{File, Page, Range}
+use Rattle.cc_entry.specs.declared.place.FileState.{FileState}
 use Rattle.cc_entry.specs.declared.answer.Answer.{Answer}
 use Rattle.cc_entry.specs.declared.answer.Answer.TheVariants as answer
 use Rattle.cc_entry.specs.declared.call.Call.{Call}
@@ -38,7 +39,8 @@ use Rattle.cc_effects.specs.Places.{Works}
 use Rattle.cc_effects.specs.Repins.{UnpinLeft}
 use Rattle.cc_effects.specs.Throttle.{PostLeft}
 use Rattle.cc_effects.proofs.Stretches.{each-append, each-implies, each-others, grew-after}
-use Rattle.cc_pieces.specs.Answered.{AppendAnswered, CallAnswered, LevelsAnswered, LogFlushAnswered, DeferAnswered, PostsAnswered, PostsLeft, PostsRefused, NcReadAnswered, NcWriteAnswered, TickAnswered}
+use Rattle.cc_records.specs.Left.{HasFlushed, IsUnflushed, RecordStopped, SettleLeft, SyncedRecord, SyncedSome, WroteRecord, WroteSome}
+use Rattle.cc_pieces.specs.Answered.{AppendAnswered, CallAnswered, LevelsAnswered, LogFlushAnswered, DeferAnswered, PostsAnswered, PostsLeft, PostsRefused, NcReadAnswered, NcWriteAnswered, SettleAnswered, TickAnswered}
 use Rattle.cc_pieces.specs.Bindings.{Binding, OnHold, hold_named}
 use Rattle.cc_pieces.specs.HoldLines.{HeldReadBy, HoldLine, UnpinAnswered, UnrepinLine}
 use Rattle.cc_pieces.specs.Queue.{is_queue_action, is_queue_call}
@@ -68,7 +70,7 @@ walked-entry Stays me e old stays = record { during = e ∷ []; grew = refl; eac
 walked-others : (Stays : List Entry → Entry → Type 0) (me : ℕ) (later old : List Entry) → Others me later → Walked Stays me old (later ++ old)
 walked-others Stays me later old others = record { during = later; grew = refl; each = each-others me Stays later old others }
 
-walked-only : (Stays : List Entry → Entry → Type 0) (me : ℕ) (e : Entry) (old new : List Entry) → PlacedOnly me e old new → ((past : List Entry) → Stays past e) → Walked Stays me old new
+pub walked-only : (Stays : List Entry → Entry → Type 0) (me : ℕ) (e : Entry) (old new : List Entry) → PlacedOnly me e old new → ((past : List Entry) → Stays past e) → Walked Stays me old new
 walked-only Stays me e old new only stays =
     subst (Walked Stays me old) (sym only.grew)
     (walked-then Stays me old (only.earlier ++ old) _ (walked-others Stays me only.earlier old only.quiet_before)
@@ -89,6 +91,8 @@ pub record Keeps (u : Setup) (Stays : List Entry → Entry → Type 0) (Fits : L
   pub refused : (it : Call) (nth s : ℕ) (e : CcError) (past : List Entry) → is_queue_call it ≡ false → Stays past (entry.Call me nth (Some s) it (outcome.Failed e))
   pub begun : (file : File) (page : ℕ) (past : List Entry) → On file → Stays past (entry.WriteBegin me (record { stream = file.stream; page = page }))
   pub ended : (file : File) (page : ℕ) (end : End) (past : List Entry) → On file → Stays past (entry.WriteEnd me (record { stream = file.stream; page = page }) end)
+  pub recorded : (file : File) (size valid : ℕ) (end : End) (past : List Entry) → On file → Stays past (entry.Record me file.stream size valid end)
+  pub synced : (file : File) (end : End) (past : List Entry) → On file → Stays past (entry.Sync me file.stream end)
   pub out : (file : File) (page : ℕ) (past : List Entry) → On file → Stays past (entry.PageOut me (record { stream = file.stream; page = page }))
   pub scanned : (picked : List Page) (past : List Entry) → Stays past (entry.Scan me picked)
   pub appended : (handle lsn : ℕ) (bytes : List ℕ) (past : List Entry) → Stays past (entry.Append me handle lsn bytes)
@@ -114,6 +118,7 @@ IsActionOn On (action.Read file _ _ _) = On file
 IsActionOn On (action.Write file _ _) = On file
 IsActionOn On (action.Update file _ _) = On file
 IsActionOn On (action.Levels file) = On file
+IsActionOn On (action.Settle file) = On file
 IsActionOn On (action.SetSizes file _ _) = On file
 IsActionOn On (action.State file) = On file
 IsActionOn On (action.Flush file _) = On file
@@ -377,6 +382,71 @@ module _ (u : Setup) (Stays : List Entry → Entry → Type 0) (Fits : List Entr
   walk-levels me file (answer.Refused error.NoMemory) old new left = walked-idle Stays me old new left
   walk-levels me file other old new left = absurd left
 
+  -- the settling of a stream: its state, a flush of it, a write of its record and a sync
+  module _ (me : ℕ) (file : File) (on : On file) where
+    walk-wrote : (first size valid : ℕ) (end : End) (old new : List Entry) → WroteRecord me file.stream first size valid end old new → Walked Stays me old new
+    walk-wrote first size valid end old new is =
+        walked-then Stays me old is.front new (walked-idle Stays me old is.front is.before)
+        (walked-then Stays me is.front (entry.Record me file.stream size valid end ∷ is.front) new
+        (walked-entry Stays me (entry.Record me file.stream size valid end) is.front ((keeps me).recorded file size valid end is.front on))
+        (walked-idle Stays me _ new is.after))
+
+    walk-synced : (first size valid : ℕ) (end : End) (old new : List Entry) → SyncedRecord me file.stream first size valid end old new → Walked Stays me old new
+    walk-synced first size valid end old new is =
+        walked-then Stays me old is.written new (walk-wrote first size valid how.Good old is.written is.wrote)
+        (walked-only Stays me (entry.Sync me file.stream end) is.written new is.synced (λ past. (keeps me).synced file end past on))
+
+    walk-some : (first : ℕ) (end : End) (old new : List Entry) → WroteSome me file.stream first end old new → Walked Stays me old new
+    walk-some first end old new is = walk-wrote first is.size is.valid end old new is.wrote
+
+    walk-synced-some : (first : ℕ) (end : End) (old new : List Entry) → SyncedSome me file.stream first end old new → Walked Stays me old new
+    walk-synced-some first end old new is = walk-synced first is.size is.valid end old new is.synced
+
+    walk-stopped : (first : ℕ) (e : CcError) (old new : List Entry) → RecordStopped me file.stream first e old new → Walked Stays me old new
+    walk-stopped first (error.JournalFull entries) old new (inl idle) = walked-idle Stays me old new idle
+    walk-stopped first (error.JournalFull entries) old new (inr wrote) = walk-some first how.Good old new wrote
+    walk-stopped first error.NoMemory old new (inl (inl idle)) = walked-idle Stays me old new idle
+    walk-stopped first error.NoMemory old new (inl (inr wrote)) = walk-some first how.NoMemory old new wrote
+    walk-stopped first error.NoMemory old new (inr (inl wrote)) = walk-some first how.Good old new wrote
+    walk-stopped first error.NoMemory old new (inr (inr synced)) = walk-synced-some first how.NoMemory old new synced
+    walk-stopped first (error.WriteFault page) old new left = by left.1
+      where
+        by : WroteSome me file.stream first how.Failed old new ⊎ SyncedSome me file.stream first how.Failed old new → Walked Stays me old new
+        by (inl wrote) = walk-some first how.Failed old new wrote
+        by (inr synced) = walk-synced-some first how.Failed old new synced
+    walk-stopped first other old new left = absurd left
+
+    walk-state : (ended : Outcome) (old new : List Entry) → CallLeft u me (call.State file) ended old new → Walked Stays me old new
+    walk-state ended old new left = walk-call me (call.State file) ended old new ((keeps me).on_file (call.State file) file old on refl refl) left
+
+    walk-flush : (ended : Outcome) (old new : List Entry) → CallLeft u me (call.Flush file None) ended old new → Walked Stays me old new
+    walk-flush ended old new left = walk-call me (call.Flush file None) ended old new ((keeps me).on_file (call.Flush file None) file old on refl refl) left
+
+    walk-flushed : (told : FileState) (begun old new : List Entry) → HasFlushed u me file told begun old new → Walked Stays me old new
+    walk-flushed told begun old new is =
+        walked-then Stays me old is.stated new (walk-state (outcome.Done (reply.State told)) old is.stated is.state)
+        (walked-then Stays me is.stated begun new (walked-idle Stays me is.stated begun is.idle) (walk-flush (outcome.Done reply.Unit) begun new is.flush))
+
+    walk-unflushed : (e : CcError) (old new : List Entry) → IsUnflushed u me file e old new → Walked Stays me old new
+    walk-unflushed e old new is =
+        walked-then Stays me old is.stated new (walk-state (outcome.Done (reply.State is.told)) old is.stated is.state)
+        (walked-then Stays me is.stated is.begun new (walked-idle Stays me is.stated is.begun is.idle) (walk-flush (outcome.Failed e) is.begun new is.flush))
+
+    pub walk-settle : (answered : Result FileState CcError) (old new : List Entry) → SettleLeft u me file answered old new → Walked Stays me old new
+    walk-settle (Ok state) old new is =
+        walked-then Stays me old is.flushed new (walk-flushed is.told is.begun old is.flushed is.has_flushed)
+        (walk-synced _ state.sizes.size state.sizes.valid how.Good is.flushed new is.recorded)
+    walk-settle (Err e) old new (inl left) = walk-state (outcome.Failed e) old new left
+    walk-settle (Err e) old new (inr (inl is)) = walk-unflushed e old new is
+    walk-settle (Err e) old new (inr (inr is)) =
+        walked-then Stays me old is.flushed new (walk-flushed is.told is.begun old is.flushed is.has_flushed)
+        (walk-stopped _ e is.flushed new is.stopped)
+
+    walk-settled : (told : Answer) (old new : List Entry) → SettleAnswered u me file told old new → Walked Stays me old new
+    walk-settled (answer.Given (reply.State state)) old new left = walk-settle (Ok state) old new left
+    walk-settled (answer.Refused e) old new left = walk-settle (Err e) old new left
+    walk-settled other old new left = absurd left
+
   -- lines on holds
   walk-on-hold : (me : ℕ) (hold : Option ℕ) (Left : ℕ → Answer → List Entry → List Entry → Type 0) (told : Answer) (old new : List Entry) → ((id : ℕ) → Left id told old new → Walked Stays me old new) → OnHold me hold Left told old new → Walked Stays me old new
   walk-on-hold me None Left told old new step left = walked-idle Stays me old new left.1
@@ -479,6 +549,7 @@ module _ (u : Setup) (Stays : List Entry → Entry → Type 0) (Fits : List Entr
   walk-served me bindings (action.Update file at bytes) told old new plain on left =
       walk-told told (told-update u me file _ _ (walk-shim file on me) at bytes told old new left)
   walk-served me bindings (action.Levels file) told old new plain on left = walk-levels me file told old new left
+  walk-served me bindings (action.Settle file) told old new plain on left = walk-settled me file on told old new left
   walk-served me bindings action.IsDirtyData told old new plain on left = walk-answered me call.IsDirtyData told old new ((keeps me).on_none call.IsDirtyData old refl refl) left
   walk-served me bindings (action.DirtyPages handle) told old new plain on left = walk-answered me (call.DirtyPages handle) told old new ((keeps me).on_none (call.DirtyPages handle) old refl refl) left
   walk-served me bindings (action.LsnForFile file) told old new plain on left = walk-answered me (call.LsnForFile file) told old new ((keeps me).on_file (call.LsnForFile file) file old on refl refl) left

@@ -22,6 +22,7 @@ use Rattle.cc_effects.specs.PageWrites.{TickLeft}
 use Rattle.cc_effects.specs.ReadAhead.{AheadLeft}
 use Rattle.cc_effects.specs.Levels.{LevelsLeft}
 use Rattle.cc_effects.specs.Noncached.{NcReadLeft, NcWriteLeft}
+use Rattle.cc_records.specs.Left.{SettleLeft}
 
 -- a call with an entry of its own
 abbrev pub CallAnswered : Setup → ℕ → Call → Answer → Between
@@ -91,6 +92,12 @@ abbrev pub LevelsAnswered : (ℕ → ℕ) → ℕ → File → Answer → Betwee
 LevelsAnswered levels me file (answer.Levels n) old new = LevelsLeft levels me file (Ok n) old new
 LevelsAnswered levels me file (answer.Refused e) old new = LevelsLeft levels me file (Err e) old new
 LevelsAnswered levels me file other old new = ⊥
+
+-- the settling of a stream
+abbrev pub SettleAnswered : Setup → ℕ → File → Answer → Between
+SettleAnswered u me file (answer.Given (reply.State state)) old new = SettleLeft u me file (Ok state) old new
+SettleAnswered u me file (answer.Refused e) old new = SettleLeft u me file (Err e) old new
+SettleAnswered u me file other old new = ⊥
 
 -- a noncached read
 abbrev pub NcReadAnswered : Setup → ℕ → File → ℕ → ℕ → Answer → Between

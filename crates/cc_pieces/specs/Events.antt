@@ -65,6 +65,7 @@ doing_of me bindings (action.Read file path at len) = NamesNone
 doing_of me bindings (action.Write file at bytes) = NamesNone
 doing_of me bindings (action.Update file at bytes) = NamesNone
 doing_of me bindings (action.Levels file) = NamesNone
+doing_of me bindings (action.Settle file) = NamesNone
 doing_of me bindings (action.AskAhead file at len) = NamesNone
 doing_of me bindings action.AheadStep = NamesNone
 doing_of me bindings action.Tick = NamesNone

@@ -11,7 +11,7 @@ use Rattle.cc_entry.specs.declared.hold.HoldKind.TheVariants as kind
 use Rattle.cc_pieces.specs.Bindings.{Binding, bound, pinned}
 use Rattle.cc_pieces.specs.HoldLines.{PinMappedLine, HeldReadLine, PinnedWriteLine, StampLine, UnpinLine, RepinLine, UnrepinLine}
 use Rattle.cc_pieces.specs.HoldLines.{ChainReadLine, ChainStoreLine, ChainDoneLine, ChainAbortLine}
-use Rattle.cc_pieces.specs.Answered.{CallAnswered, FlushAnswered, AppendAnswered, LogFlushAnswered, DeferAnswered, PostsAnswered, TickAnswered, StepAnswered, LevelsAnswered, NcReadAnswered, NcWriteAnswered}
+use Rattle.cc_pieces.specs.Answered.{CallAnswered, FlushAnswered, AppendAnswered, LogFlushAnswered, DeferAnswered, PostsAnswered, TickAnswered, StepAnswered, LevelsAnswered, SettleAnswered, NcReadAnswered, NcWriteAnswered}
 use Rattle.cc_pieces.specs.Shim.{ReadAnswered, WriteAnswered, UpdateAnswered}
 use Rattle.cc_vacb.specs.Levels.{levels_of}
 
@@ -54,6 +54,7 @@ Served u me bindings (action.Read file path at len) told old new = ReadAnswered 
 Served u me bindings (action.Write file at bytes) told old new = WriteAnswered u me file at bytes told old new
 Served u me bindings (action.Update file at bytes) told old new = UpdateAnswered u me file at bytes told old new
 Served u me bindings (action.Levels file) told old new = LevelsAnswered levels_of me file told old new
+Served u me bindings (action.Settle file) told old new = SettleAnswered u me file told old new
 Served u me bindings action.IsDirtyData told old new = CallAnswered u me call.IsDirtyData told old new
 Served u me bindings (action.DirtyPages handle) told old new = CallAnswered u me (call.DirtyPages handle) told old new
 Served u me bindings (action.LsnForFile file) told old new = CallAnswered u me (call.LsnForFile file) told old new

@@ -1,7 +1,8 @@
 //! How a caller's run grows, what a read in it answers, and which holds words name. Each function does
 //! nothing: its contract is the law.
 
-ghost use Rattle.std.specs.Prelude.{◌≡◌, ℕ, Bool, not, Some, None, List, [], ◌∷◌, ◌++◌};
+ghost use Rattle.std.specs.Prelude.{◌≡◌, ◌≢◌, ◌≤◌, ◌+◌, ℕ, Bool, false, not, Some, None, List, [], ◌∷◌, ◌++◌, length};
+ghost use Rattle.std.specs.List.{list_any};
 ghost use Rattle.std.specs.declared.option.Option.{Option};
 ghost use Rattle.cc_entry.specs.Kinds.{is_map, is_pin};
 ghost use Rattle.cc_entry.specs.declared.hold.HoldKind.TheVariants as kind;
@@ -12,9 +13,11 @@ ghost use Rattle.cc_entry.specs.declared.reply.Reply.TheVariants as reply;
 ghost use Rattle.cc_entry.specs.declared.reply.Outcome.TheVariants as outcome;
 ghost use Rattle.cc_entry.specs.declared.answer.Answer.{Answer};
 ghost use Rattle.cc_entry.specs.declared.answer.Answer.TheVariants as answer;
+ghost use Rattle.cc_entry.specs.declared.answer.LineReply.{LineReply};
 ghost use Rattle.cc_entry.specs.declared.entry.Entry.{Entry};
 ghost use Rattle.cc_entry.specs.declared.entry.Entry.TheVariants as entry;
 ghost use Rattle.cc_script.specs.declared.script.Action.{Action};
+ghost use Rattle.cc_script.specs.declared.script.StreamLine.{StreamLine};
 ghost use Rattle.cc_script.specs.declared.script.Action.TheVariants as action;
 ghost use Rattle.cc_model.specs.Setup.{Setup};
 ghost use Rattle.cc_model.specs.History.{Did, history};
@@ -25,6 +28,7 @@ ghost use Rattle.cc_effects.specs.Moments.{IsIdle};
 ghost use Rattle.cc_effects.specs.Noncached.{pages_from};
 ghost use Rattle.cc_pieces.specs.Bindings.{Binding, bound, pinned, hold_named, OnHold};
 ghost use Rattle.cc_pieces.specs.HoldLines.{HeldReadLine, PinnedWriteLine};
+ghost use Rattle.cc_pieces.specs.Openings.{Opened, is_record_of};
 ghost use Rattle.cc_pieces.specs.PlainPages.{ArePlainPages};
 ghost use Rattle.cc_pieces.specs.Runs.{Explains, Ran, bindings_of};
 
@@ -112,4 +116,12 @@ pub fn lines_without_hold_leave_nothing()
     ensures write { (u : Setup) (me word : ℕ) (bytes : List ℕ) (id at : ℕ) (told : Answer) (old new : List Entry) →
         PinnedWriteLine u me (bound word kind.Map (answer.Given (reply.Hold id)) []) word at bytes told old new →
         (told ≡ answer.NoHold) × IsIdle me old new }
+{}
+
+/// Behind the lines of streams, numbered from one on, no record of a later stream stands that was not there before: so what
+/// the line of a stored stream read of its record is what its opening page spells, where the disk told its pages.
+pub fn no_record_is_written_before_its_line()
+    ensures { (u : Setup) (t s : ℕ) (streams : List StreamLine) (replies : List LineReply) (old new : List Entry) →
+        Opened u s streams replies old new → ((me : ℕ) → me ≢ 0 → IsIdle me old new) → s + length streams ≤ t →
+        list_any (is_record_of t) old ≡ false → list_any (is_record_of t) new ≡ false }
 {}

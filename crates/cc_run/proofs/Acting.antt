@@ -10,6 +10,7 @@ use Rattle.cc_script.specs.declared.bound.Bound.{Bound}
 use Rattle.cc_script.specs.declared.script.ActionLine.{ActionLine}
 use Rattle.cc_script.specs.HoldWords.{UsesRight}
 use Rattle.cc_model.specs.Good.{IsGood}
+use Rattle.cc_model.specs.Passes.{HasSeen}
 use Rattle.cc_model.specs.Room.{room_in}
 use Rattle.cc_model.specs.Setup.{Setup}
 use Rattle.cc_effects.specs.Moments.{IsIdle}
@@ -54,10 +55,11 @@ room-then w v limit (answer.NcRefused done (error.JournalFull entries)) rest few
 room-then w v limit other rest few was = tt
 
 -- on a desk others have nothing under way
-pub room-left : (w : Standing) (u : Setup) (me : ℕ) (it : Call) (told : Answer) (old : List Entry) → CallAnswered u me it told old w.seen → w.in_flight ≡ 0 → w.others ≡ 0 → IsFullTold w told → HadNoRoom w.setup 4 told old w.seen
-room-left w u me it (answer.Refused (error.JournalFull entries)) old left rest alone full = full-at w 4 entries 3 (omega arith) left.during old left.grew rest (omega (arith, alone)) full
-room-left w u me it (answer.NcRefused done cause) old left rest alone full = absurd left
-room-left w u me it other old left rest alone full = tt
+pub room-left : (w : Standing) (told : Answer) (old : List Entry) → HasSeen old w.seen → w.in_flight ≡ 0 → w.others ≡ 0 → IsFullTold w told → HadNoRoom w.setup 4 told old w.seen
+room-left w (answer.Refused (error.JournalFull entries)) old seen rest alone full = full-at w 4 entries 3 (omega arith) seen.later old seen.grew rest (omega (arith, alone)) full
+room-left w (answer.NcRefused done (error.JournalFull entries)) old seen rest alone (inl full) = full-at w 4 entries 2 (omega arith) seen.later old seen.grew rest (omega (arith, alone)) full
+room-left w (answer.NcRefused done (error.JournalFull entries)) old seen rest alone (inr full) = full-at w 4 entries 4 (omega arith) seen.later old seen.grew rest (omega (arith, alone)) full.1
+room-left w other old seen rest alone full = tt
 
 -- the same pass in the same run, where a call went on
 pub goes-pass : (old new : Standing) → WentOn old new → IsSamePass old new

@@ -16,6 +16,7 @@ mod Statuses
 mod DirtyRows
 mod Returned
 mod DiskSteps
+mod RecordsTold
 mod LogSteps
 mod PostSteps
 mod WorldEnds

@@ -53,6 +53,7 @@ servable streams n (action.Read file path at len) few run within = let there = w
 servable streams n (action.Write file at bytes) few run within = let there = within.stream in omega (arith, there, few)
 servable streams n (action.Update file at bytes) few run within = let there = within.stream in omega (arith, there, few)
 servable streams n (action.Levels file) few run within = let there = within.stream in omega (arith, there, few)
+servable streams n (action.Settle file) few run within = let there = within.stream in omega (arith, there, few)
 servable streams n (action.NcWrite file at bytes) few run within = let there = within.stream in omega (arith, there, few)
 servable streams n (action.LsnForFile file) few run within = let there = within.stream in omega (arith, there, few)
 servable streams n (action.SetLog file handle) few run within = let there = within.stream in omega (arith, there, few)

@@ -1,12 +1,25 @@
 //! What follows of how the program ended. Each function does nothing: its contract is the law.
 
-ghost use Rattle.std.specs.Prelude.{◌≡◌, ◌⊎◌, ◌<◌, ℕ, [], List, None, is_some, true, false, IfSome};
+ghost use Rattle.std.specs.Prelude.{◌≡◌, ◌⊎◌, ◌<◌, ◌≤◌, ◌+◌, ◌-◌, ◌*◌, ℕ, [], ◌∷◌, List, None, Some, is_some, true, false, IfSome, Contains, slice_get, slice_index};
 ghost use Rattle.std.specs.declared.option.Option.{Option};
 ghost use Rattle.cc_entry.specs.declared.answer.LineReply.{LineReply};
 ghost use Rattle.cc_entry.specs.declared.entry.Entry.{Entry};
 ghost use Rattle.cc_script.specs.declared.script.Script.{Script};
+ghost use Rattle.cc_format.specs.Spelling.{IsReadAs};
+ghost use Rattle.cc_format.specs.declared.record.StreamRecord.{StreamRecord};
+ghost use Rattle.cc_model.specs.Good.{IsGood};
+ghost use Rattle.cc_model.specs.History.{history};
+ghost use Rattle.cc_model.specs.Records.{first_valid};
+ghost use Rattle.cc_model.specs.Setup.{Setup};
+ghost use Rattle.cc_records.specs.Recorded.{told_valid, WasByte};
+ghost use Rattle.cc_traits.specs.Disk.{Disk, page_of, may_of};
+ghost use Rattle.cc_turns.specs.RecordPage.{record_number};
+ghost use Rattle.cc_run.specs.Disks.{DisksLeft};
+ghost use Rattle.cc_run.specs.Setups.{run_disks};
 ghost use Rattle.cc_run.specs.Ends.{Input, Output, HasFailed, HasTooFewDevices, IsAsked, IsEnded, IsPut, IsWrong, TookMany, printed_by};
 ghost use Rattle.cc_run.specs.Words.{command_of, is_command};
+
+use cc_traits::PageDisk;
 
 /// Each exit status that tells of no run, or of a text that was not written, has its cause.
 pub fn statuses_have_causes()
@@ -36,4 +49,21 @@ pub fn runs_are_of_the_script()
         IfSome script (λ made. IsPut o (printed_by (command_of i.words) made replies journal)) }
     ensures empty { (i : Input) (o : Output) (script : Option Script) (replies : List LineReply) (journal : List Entry)
         (status : ℕ) → IsEnded i o script replies journal status → script ≡ None → journal ≡ [] }
+{}
+
+/// What follows of the clauses `good` and `disks` of the program's call. Of a disk of the run that tells its pages, each of
+/// which a crash could leave in one way alone at first: whatever a crash leaves of it now, each byte below the valid data
+/// length that its record then tells, 0 where that page spells none, is one that the plain file had there at some place of
+/// the journal. The record that it had at first told no more than the first initialise made valid, if it told any: so it is of
+/// a stored stream, which is initialised with what that record tells.
+pub fn records_tell_what_was_there<D: PageDisk>()
+    ensures { (u : Setup) (past : List Entry) (old new : List D) → IsGood u past → DisksLeft D.told D.faults past old new →
+        (s : ℕ) (before after : D) (opening now : Disk) → slice_get (run_disks old) s ≡ Some before →
+        slice_get (run_disks new) s ≡ Some after → D.told before ≡ Some opening → D.told after ≡ Some now →
+        ((p : ℕ) → may_of opening p ≡ page_of opening p ∷ []) →
+        (content : List ℕ) (first read : Option StreamRecord) (p i : ℕ) (bytes : List ℕ) →
+        IsReadAs (page_of opening record_number) first → told_valid first ≤ first_valid (history past s) →
+        Contains (may_of now record_number) content → IsReadAs content read → i < told_valid read →
+        4096 * p ≤ i → i < 4096 * p + 4096 → Contains (may_of now p) bytes →
+        WasByte (page_of opening) past s i (slice_index bytes (i - 4096 * p)) }
 {}

@@ -17,7 +17,7 @@
 //! are, `command_line` has clap read them, `intake` takes the script's bytes and `output` puts the text, `devices`
 //! tests whether there are enough disks, logs and post routines, `row` parts those that a run takes from the others,
 //! `table` has the table of the text, and `no_run` why no run was made. `laws` has what follows of how the program
-//! ended.
+//! ended, and of what the records of its disks tell.
 //!
 //! It stands on the script, on the text, on the calls, on the turns of one thread and on those that threads share, on the
 //! events of a script of steps, on the traits of the outside, on what a journal means and on how it explains answers. The
@@ -49,6 +49,6 @@ mod top;
 mod words;
 mod workers;
 
-pub use laws::{runs_are_of_the_script, statuses_have_causes};
+pub use laws::{records_tell_what_was_there, runs_are_of_the_script, statuses_have_causes};
 pub use no_run::NoRun;
 pub use top::{Ended, cache_main};

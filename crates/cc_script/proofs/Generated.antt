@@ -151,7 +151,7 @@ generated_within n =
 
 pub generated_of_steps : (n : ℕ) → IsOfMode mode.Steps (generated n)
 unfolding generated
-generated_of_steps n = record { lines = lines-of_steps 4000 3 n; phases = refl }
+generated_of_steps n = record { streams = (refl, (refl, tt)); lines = lines-of_steps 4000 3 n; phases = refl }
 
 first_drawn : (more number x : ℕ) → drawn_lines (suc more) number x ≡ (drawn_line number (draws_of x) ∷ []) ++ drawn_lines more (suc number) (byte_state x)
 unfolding drawn_lines

@@ -5,12 +5,15 @@ use Rattle.std.specs.Fmt.{decimal}
 use Rattle.std.proofs.lemmas.Option.{same_Some}
 use Rattle.std.proofs.lemmas.Slice.Eq.{bytes_eq-Decides}
 use Rattle.std.proofs.lemmas.Bool.Decides.{nat_tests}
+use Rattle.cc_script.specs.declared.script.Mode.{Mode}
+use Rattle.cc_script.specs.declared.script.Mode.TheVariants as mode
 use Rattle.cc_script.specs.declared.script.StreamLine.{StreamLine}
 use Rattle.cc_script.specs.declared.script.Action.{Action}
 use Rattle.cc_script.specs.declared.script.Action.TheVariants as action
 use Rattle.cc_script.specs.Words.{number_of, number_between, is_name, name_of}
 use Rattle.cc_script.specs.Actions.{next, flag, ended, file_of, quota_of, copy_read_of}
-use Rattle.cc_script.specs.Grammar.{log_of, stream_of, setting_of}
+use Rattle.cc_script.specs.Grammar.{log_of, stored_of, stream_of, setting_of}
+use Rattle.cc_script.specs.Modes.{IsStreamOf}
 use Rattle.cc_script.specs.Laws.{SpellsQuota, SpellsLog, flag_words, IsStreamSpelling, IsReadSpelling, SpellsSetting}
 use Rattle.cc_script.proofs.Numbers.{decimal-number_of, number_of-decimal}
 use Rattle.cc_script.proofs.Steps.{then-gives, if-gives, next-gives, ended-gives, between-gives}
@@ -176,29 +179,50 @@ log_spelled ws log more e = either (flag (codes "log") ws).0 (flag_spelled (code
           spells = subst (λ (log : Option ℕ). SpellsLog log []) same refl;
         }
 
--- and they are read so at the end of the line
-log_read : (log : Option ℕ) (own : List (List ℕ)) → SpellsLog log own → log_of own ≡ Some (log, [])
+-- and they are read so before the last word
+log_read : (log : Option ℕ) (stored : Bool) (own : List (List ℕ)) → SpellsLog log own → log_of (own ++ flag_words (codes "stored") stored) ≡ Some (log, flag_words (codes "stored") stored)
 unfolding log_of
-log_read None own unsaid = rw unsaid refl
-log_read (Some handle) own said =
+log_read None true own unsaid = rw unsaid refl
+log_read None false own unsaid = rw unsaid refl
+log_read (Some handle) stored own said =
     let read : number_between 0 3 (decimal handle) ≡ Some handle = between-decimal 0 3 handle (omega arith) said.0 (omega arith) in
     rw (said.1, read) refl
 
--- what stands behind a quota is no quota
-no_quota : (temporary : Bool) (log : Option ℕ) (own : List (List ℕ)) → SpellsLog log own → flag (codes "quota") (flag_words (codes "temporary") temporary ++ own) ≡ (false, flag_words (codes "temporary") temporary ++ own)
-no_quota true log own said = refl
-no_quota false None own said = rw said refl
-no_quota false (Some handle) own said = rw said.1 refl
+-- so is the last word
+stored_read : (m : Mode) (stream : StreamLine) → IsStreamOf m stream → stored_of m (flag_words (codes "stored") stream.stored) ≡ (stream.stored, [])
+unfolding stored_of
+stored_read mode.Run stream of_mode = flag_read (codes "stored") stream.stored refl
+stored_read mode.Steps stream of_mode = rw of_mode refl
 
--- and what stands in the place of `temporary` is that or the log
-temporary_read : (temporary : Bool) (log : Option ℕ) (own : List (List ℕ)) → SpellsLog log own → flag (codes "temporary") (flag_words (codes "temporary") temporary ++ own) ≡ (temporary, own)
-temporary_read true log own said = refl
-temporary_read false None own said = rw said refl
-temporary_read false (Some handle) own said = rw said.1 refl
+-- what stands behind the words of a quota is no quota
+no_quota : (temporary stored : Bool) (log : Option ℕ) (own : List (List ℕ)) → SpellsLog log own → flag (codes "quota") (flag_words (codes "temporary") temporary ++ (own ++ flag_words (codes "stored") stored)) ≡ (false, flag_words (codes "temporary") temporary ++ (own ++ flag_words (codes "stored") stored))
+no_quota true stored log own said = refl
+no_quota false true None own said = rw said refl
+no_quota false false None own said = rw said refl
+no_quota false stored (Some handle) own said = rw said.1 refl
 
-stream_spelled : (n : ℕ) (ws : List (List ℕ)) (stream : StreamLine) → stream_of n ws ≡ Some stream → IsStreamSpelling n ws stream
+-- and what stands in the place of `temporary` is that, the log or the last word
+temporary_read : (temporary stored : Bool) (log : Option ℕ) (own : List (List ℕ)) → SpellsLog log own → flag (codes "temporary") (flag_words (codes "temporary") temporary ++ (own ++ flag_words (codes "stored") stored)) ≡ (temporary, own ++ flag_words (codes "stored") stored)
+temporary_read true stored log own said = refl
+temporary_read false true None own said = rw said refl
+temporary_read false false None own said = rw said refl
+temporary_read false stored (Some handle) own said = rw said.1 refl
+
+-- the last word is the one that is read, and none in steps
+stored_spelled : (m : Mode) (ws : List (List ℕ)) → (stored_of m ws).1 ≡ [] → ws ≡ flag_words (codes "stored") (stored_of m ws).0
+unfolding stored_of
+stored_spelled mode.Run ws ended =
+    flag_spelled (codes "stored") ws ∙ (ap (flag_words (codes "stored") (flag (codes "stored") ws).0 ++◌) ended ∙ append-nil (flag_words (codes "stored") (flag (codes "stored") ws).0))
+stored_spelled mode.Steps ws ended = ended
+
+stored_of_mode : (m : Mode) (ws : List (List ℕ)) (stream : StreamLine) → stream.stored ≡ (stored_of m ws).0 → IsStreamOf m stream
+unfolding stored_of
+stored_of_mode mode.Run ws stream is = tt
+stored_of_mode mode.Steps ws stream is = is
+
+stream_spelled : (m : Mode) (n : ℕ) (ws : List (List ℕ)) (stream : StreamLine) → stream_of m n ws ≡ Some stream → IsStreamSpelling m n ws stream
 unfolding stream_of name_of
-stream_spelled n ws stream e =
+stream_spelled m n ws stream e =
     let name = then-gives (next name_of ws) _ stream e in
     let size = then-gives (next number_of name.0.1) _ stream name.2 in
     let valid = then-gives (next number_of size.0.1) _ stream size.2 in
@@ -206,44 +230,47 @@ stream_spelled n ws stream e =
     let is_set = (flag (codes "temporary") quota.0.1).0 in
     let log = then-gives (log_of (flag (codes "temporary") quota.0.1).1) _ stream quota.2 in
     let end = ended-gives _ _ stream log.2 in
-    let m = next-gives name_of ws name.0.0 name.0.1 name.1 in
+    let w = next-gives name_of ws name.0.0 name.0.1 name.1 in
     let s = next-gives number_of name.0.1 size.0.0 size.0.1 size.1 in
     let v = next-gives number_of size.0.1 valid.0.0 valid.0.1 valid.1 in
     let q = quota_spelled valid.0.1 quota.0.0 quota.0.1 quota.1 in
-    let named = if-gives (is_name m.word) (Some m.word) name.0.0 m.reads in
-    let same_name : m.word ≡ name.0.0 = same_Some m.word name.0.0 named.1 in
+    let named = if-gives (is_name w.word) (Some w.word) name.0.0 w.reads in
+    let same_name : w.word ≡ name.0.0 = same_Some w.word name.0.0 named.1 in
     let size_is = decimal-number_of s.word size.0.0 s.reads in
     let valid_is = decimal-number_of v.word valid.0.0 v.reads in
     let l = log_spelled (flag (codes "temporary") quota.0.1).1 log.0.0 log.0.1 log.1 in
-    let all : (flag (codes "temporary") quota.0.1).1 ≡ l.own = l.words ∙ (ap (l.own ++◌) end.0 ∙ append-nil l.own) in
-    let last : quota.0.1 ≡ flag_words (codes "temporary") is_set ++ l.own = flag_spelled (codes "temporary") quota.0.1 ∙ ap (flag_words (codes "temporary") is_set ++◌) all in
-    subst (IsStreamSpelling n ws) end.1
+    let behind : List (List ℕ) = flag_words (codes "stored") (stored_of m log.0.1).0 in
+    let all : (flag (codes "temporary") quota.0.1).1 ≡ l.own ++ behind = l.words ∙ ap (l.own ++◌) (stored_spelled m log.0.1 end.0) in
+    let last : quota.0.1 ≡ flag_words (codes "temporary") is_set ++ (l.own ++ behind) = flag_spelled (codes "temporary") quota.0.1 ∙ ap (flag_words (codes "temporary") is_set ++◌) all in
+    subst (IsStreamSpelling m n ws) end.1
     (record {
       quota_words = q.own;
       log_words = l.own;
-      words = m.words ∙ rw same_name (ap (name.0.0 ∷◌) (s.words ∙ rw size_is.1 (ap (decimal size.0.0 ∷◌) (v.words ∙ rw valid_is.1 (ap (decimal valid.0.0 ∷◌) (q.words ∙ ap (q.own ++◌) last))))));
+      words = w.words ∙ rw same_name (ap (name.0.0 ∷◌) (s.words ∙ rw size_is.1 (ap (decimal size.0.0 ∷◌) (v.words ∙ rw valid_is.1 (ap (decimal valid.0.0 ∷◌) (q.words ∙ ap (q.own ++◌) last))))));
       quota = q.spells;
       name = ap is_name (sym same_name) ∙ named.0;
       size = size_is.0;
       valid = valid_is.0;
       line = refl;
       log = l.spells;
+      of_mode = stored_of_mode m log.0.1 _ refl;
     })
 
-stream_read : (n : ℕ) (ws : List (List ℕ)) (stream : StreamLine) → IsStreamSpelling n ws stream → stream_of n ws ≡ Some stream
+stream_read : (m : Mode) (n : ℕ) (ws : List (List ℕ)) (stream : StreamLine) → IsStreamSpelling m n ws stream → stream_of m n ws ≡ Some stream
 unfolding stream_of name_of
-stream_read n ws stream s =
+stream_read m n ws stream s =
     let named : is_name stream.name ≡ true = s.name in
     let size : number_of (decimal stream.size) ≡ Some stream.size = number_of-decimal stream.size s.size in
     let valid : number_of (decimal stream.valid) ≡ Some stream.valid = number_of-decimal stream.valid s.valid in
-    let behind = flag_words (codes "temporary") stream.temporary ++ s.log_words in
-    let quota = quota_read stream.quota s.quota_words behind (no_quota stream.temporary stream.log s.log_words s.log) s.quota in
-    let temporary = temporary_read stream.temporary stream.log s.log_words s.log in
-    let log = log_read stream.log s.log_words s.log in
-    rw (s.words, named, size, valid, quota, temporary, log) (ap Some same)
+    let behind = flag_words (codes "temporary") stream.temporary ++ (s.log_words ++ flag_words (codes "stored") stream.stored) in
+    let quota = quota_read stream.quota s.quota_words behind (no_quota stream.temporary stream.stored stream.log s.log_words s.log) s.quota in
+    let temporary = temporary_read stream.temporary stream.stored stream.log s.log_words s.log in
+    let log = log_read stream.log stream.stored s.log_words s.log in
+    let stored = stored_read m stream s.of_mode in
+    rw (s.words, named, size, valid, quota, temporary, log, stored) (ap Some same)
   where
-    same : (let made : StreamLine = record { line = n; name = stream.name; size = stream.size; valid = stream.valid; quota = stream.quota; temporary = stream.temporary; log = stream.log } in made) ≡ stream
+    same : (let made : StreamLine = record { line = n; name = stream.name; size = stream.size; valid = stream.valid; quota = stream.quota; temporary = stream.temporary; log = stream.log; stored = stream.stored } in made) ≡ stream
     same = rw (← s.line) refl
 
-pub streams_spell : (n : ℕ) (ws : List (List ℕ)) (stream : StreamLine) → (stream_of n ws ≡ Some stream) ↔ IsStreamSpelling n ws stream
-streams_spell n ws stream = (stream_spelled n ws stream, stream_read n ws stream)
+pub streams_spell : (m : Mode) (n : ℕ) (ws : List (List ℕ)) (stream : StreamLine) → (stream_of m n ws ≡ Some stream) ↔ IsStreamSpelling m n ws stream
+streams_spell m n ws stream = (stream_spelled m n ws stream, stream_read m n ws stream)

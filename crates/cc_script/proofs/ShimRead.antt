@@ -1,11 +1,11 @@
--- What a line of the shim, or of the levels of a view index, that is read names and moves.
+-- What a line of the shim, of the levels of a view index or of the record of a stream, that is read names and moves.
 use Rattle.std.proofs.Common.{◌≡◌, ℕ, true, Some, List, refl, subst, arith}
 use Rattle.cc_script.specs.declared.script.Mode.{Mode}
 use Rattle.cc_script.specs.declared.script.StreamLine.{StreamLine}
 use Rattle.cc_script.specs.declared.script.Action.{Action}
 use Rattle.cc_script.specs.Words.{number_of, number_between, bytes_of}
 use Rattle.cc_script.specs.Actions.{next, file_of}
-use Rattle.cc_script.specs.ShimActions.{path_of, read_of, write_of, update_of, levels_of}
+use Rattle.cc_script.specs.ShimActions.{path_of, read_of, write_of, update_of, levels_of, settle_of}
 use Rattle.cc_script.specs.Modes.{RunAlone, stands}
 use Rattle.cc_script.proofs.Steps.{then-gives, next-gives, ended-gives, between-gives, file-gives, bytes-give}
 use Rattle.cc_script.proofs.Plain.{IsPlain}
@@ -51,6 +51,15 @@ update-gives m streams ws in_mode a e =
 pub levels-gives : (m : Mode) (streams : List StreamLine) (ws : List (List ℕ)) → stands RunAlone m ≡ true → (a : Action) → levels_of streams ws ≡ Some a → IsPlain m streams a
 unfolding levels_of
 levels-gives m streams ws in_mode a e =
+    let file = then-gives (next (file_of streams) ws) _ a e in
+    let end = ended-gives _ _ a file.2 in
+    let f = next-gives (file_of streams) ws file.0.0 file.0.1 file.1 in
+    subst (IsPlain m streams) end.1
+    (record { file = file-gives streams f.word file.0.0 f.reads; moved = omega arith; numbered = λ n. refl; in_mode = in_mode })
+
+pub settle-gives : (m : Mode) (streams : List StreamLine) (ws : List (List ℕ)) → stands RunAlone m ≡ true → (a : Action) → settle_of streams ws ≡ Some a → IsPlain m streams a
+unfolding settle_of
+settle-gives m streams ws in_mode a e =
     let file = then-gives (next (file_of streams) ws) _ a e in
     let end = ended-gives _ _ a file.2 in
     let f = next-gives (file_of streams) ws file.0.0 file.0.1 file.1 in

@@ -18,14 +18,14 @@ use Rattle.cc_script.specs.declared.reading.Reading.{Reading}
 use Rattle.cc_script.specs.declared.reading.Workers.{Workers}
 use Rattle.cc_script.specs.Text.{lines, words}
 use Rattle.cc_script.specs.Words.{number_of, number_between, name_of, caller_of}
-use Rattle.cc_script.specs.Modes.{RunAlone, StepsAlone, stands, verb_modes, is_call, IsLineOf, HasPhases, IsOfMode}
+use Rattle.cc_script.specs.Modes.{RunAlone, StepsAlone, stands, verb_modes, is_call, IsLineOf, HasPhases, IsOfMode, IsStreamOf}
 use Rattle.cc_script.specs.Verbs.{takes_caller, verb_in}
 use Rattle.cc_script.specs.declared.bound.Bound.{Bound}
 use Rattle.cc_script.specs.declared.caller_words.CallerWords.{CallerWords}
 use Rattle.cc_script.specs.Actions.{next, flag, quota_of}
 use Rattle.cc_script.specs.ActionTable.{action_of, bytes_counted, dirty_lines}
 use Rattle.cc_script.specs.HoldWords.{may_use, bound_after, IsRightIf, bound_so_far, UsesRight}
-use Rattle.cc_script.specs.Grammar.{nothing_read, may_add, with_stream, log_of, stream_of, setting_of, with_journal, with_threshold, workers_of, with_workers, with_phase, placed, no_words, words_by, keeps_totals, with_action, action_line, caller_line, verb_line, called_line, uncalled_line, line_by, words_line, is_printable, text_line, line_of, or_wrong, lines_of, script_of}
+use Rattle.cc_script.specs.Grammar.{nothing_read, may_add, with_stream, log_of, stored_of, stream_of, setting_of, with_journal, with_threshold, workers_of, with_workers, with_phase, placed, no_words, words_by, keeps_totals, with_action, action_line, caller_line, verb_line, called_line, uncalled_line, line_by, words_line, is_printable, text_line, line_of, or_wrong, lines_of, script_of}
 use Rattle.cc_script.specs.declared.script.ScriptFault.{ScriptFault}
 use Rattle.cc_script.specs.Answers.{Reads}
 use Rattle.cc_script.specs.Within.{IsStreamWithin, IsLineWithin, PhasesAscend, IsWithin}
@@ -69,9 +69,15 @@ log-gives ws log more e = either (flag (codes "log") ws).0 e
         let same : None ≡ log = ap (λ (it : Option ℕ × List (List ℕ)). it.0) pair in
         subst (λ (log : Option ℕ). IfSome log (λ handle. handle < 4)) same tt
 
-stream-gives : (n : ℕ) (ws : List (List ℕ)) (stream : StreamLine) → stream_of n ws ≡ Some stream → IsStreamWithin stream
+-- in steps no stream is stored
+stored-gives : (m : Mode) (ws : List (List ℕ)) (stream : StreamLine) → stream.stored ≡ (stored_of m ws).0 → IsStreamOf m stream
+unfolding stored_of
+stored-gives mode.Run ws stream is = tt
+stored-gives mode.Steps ws stream is = is
+
+stream-gives : (m : Mode) (n : ℕ) (ws : List (List ℕ)) (stream : StreamLine) → stream_of m n ws ≡ Some stream → IsStreamWithin stream × IsStreamOf m stream
 unfolding stream_of
-stream-gives n ws stream e =
+stream-gives m n ws stream e =
     let name = then-gives (next name_of ws) _ stream e in
     let size = then-gives (next number_of name.0.1) _ stream name.2 in
     let valid = then-gives (next number_of size.0.1) _ stream size.2 in
@@ -80,7 +86,7 @@ stream-gives n ws stream e =
     let end = ended-gives _ _ stream log.2 in
     let q = quota-gives valid.0.1 quota.0.0 quota.0.1 quota.1 in
     let l = log-gives (flag (codes "temporary") quota.0.1).1 log.0.0 log.0.1 log.1 in
-    subst IsStreamWithin end.1 (record { least_quota = q.0; most_quota = q.1; log = l })
+    subst (λ (stream : StreamLine). IsStreamWithin stream × IsStreamOf m stream) end.1 (record { least_quota = q.0; most_quota = q.1; log = l }, stored-gives m log.0.1 _ refl)
 
 -- a number that is set is in its range
 setting-gives : (low high : ℕ) (ws : List (List ℕ)) (n : ℕ) → setting_of low high ws ≡ Some n → (low ≤ n) × (n ≤ high)
@@ -147,6 +153,7 @@ fails-call false call e f = absurd (cc)
 -- The script so far keeps within that and is of its mode, has no more lines than were read, and its words are kept.
 record IsSoFar (m : Mode) (n : ℕ) (r : Reading) : Type 0 where
   within : IsWithin r.script
+  streams : AllByRecursion (IsStreamOf m) r.script.streams
   lines : AllByRecursion (IsLineOf m) r.script.lines
   phases : HasPhases m r.script.phases
   few : length r.script.lines ≤ n
@@ -180,6 +187,7 @@ nothing-so_far m =
         in_order = tt;
         words = λ caller. tt;
       };
+      streams = tt;
       lines = tt;
       phases = one-phase m;
       few = lit≤ tt;
@@ -189,12 +197,12 @@ nothing-so_far m =
 
 -- a line that adds no action leaves room for it
 later : (m : Mode) (n : ℕ) (r : Reading) → IsSoFar m n r → IsSoFar m (n + 1) r
-later m n r is = record { within = is.within; lines = is.lines; phases = is.phases; few = let few = is.few in omega (arith, few); callers = is.callers; kept = is.kept }
+later m n r is = record { within = is.within; streams = is.streams; lines = is.lines; phases = is.phases; few = let few = is.few in omega (arith, few); callers = is.callers; kept = is.kept }
 
 no_lines : (xs : List ActionLine) → (length xs == 0) ≡ true → xs ≡ []
 no_lines xs e = let z : length xs ≡ 0 = grind (arith, nat_tests, e) in nil_from_length xs z
 
-stream-so_far : (m : Mode) (n : ℕ) (stream : StreamLine) (r new : Reading) → IsStreamWithin stream → IsSoFar m n r → with_stream stream r ≡ Some new → IsSoFar m n new
+stream-so_far : (m : Mode) (n : ℕ) (stream : StreamLine) (r new : Reading) → IsStreamWithin stream × IsStreamOf m stream → IsSoFar m n r → with_stream stream r ≡ Some new → IsSoFar m n new
 unfolding with_stream may_add
 stream-so_far m n stream r new one is e =
     let t = if-gives (may_add stream r) _ new e in
@@ -219,12 +227,13 @@ stream-so_far m n stream r new one is e =
         first_phase = w.first_phase;
         last_phase = w.last_phase;
         few_streams = omega (arith, len, below);
-        streams = all-onto IsStreamWithin r.script.streams stream w.streams one;
+        streams = all-onto IsStreamWithin r.script.streams stream w.streams one.0;
         few_lines = w.few_lines;
         lines = subst (AllByRecursion (IsLineWithin (r.script.streams ++ stream ∷ []) r.script.phases)) (sym empty) tt;
         in_order = w.in_order;
         words = w.words;
       };
+      streams = all-onto (IsStreamOf m) r.script.streams stream is.streams one.1;
       lines = is.lines;
       phases = is.phases;
       few = is.few;
@@ -259,6 +268,7 @@ journal-so_far m n capacity r new range is e =
         in_order = w.in_order;
         words = w.words;
       };
+      streams = is.streams;
       lines = is.lines;
       phases = is.phases;
       few = is.few;
@@ -293,6 +303,7 @@ threshold-so_far m n pages r new range is e =
         in_order = w.in_order;
         words = w.words;
       };
+      streams = is.streams;
       lines = is.lines;
       phases = is.phases;
       few = is.few;
@@ -327,6 +338,7 @@ workers-so_far m n set r new range is e =
         in_order = w.in_order;
         words = w.words;
       };
+      streams = is.streams;
       lines = is.lines;
       phases = is.phases;
       few = is.few;
@@ -375,6 +387,7 @@ phase-so_far m n ws r new in_mode is e =
         in_order = w.in_order;
         words = w.words;
       };
+      streams = is.streams;
       lines = is.lines;
       phases = more-phases m (r.script.phases + 1) in_mode;
       few = is.few;
@@ -467,6 +480,7 @@ action-so_far m n line caller fails v ws r new room range may_fail in_mode is e 
         in_order = ascend-onto r.script.streams 1 r.script.lines last w.first_phase w.lines w.in_order;
         words = λ c. right-onto c [] r.script.lines last (w.words c) (right-if caller c a r.script.lines (caller == c) refl so_far);
       };
+      streams = is.streams;
       lines = all-onto (IsLineOf m) r.script.lines last is.lines of_mode;
       phases = is.phases;
       few = omega (arith, len, few);
@@ -487,8 +501,8 @@ caller-so_far m n line caller v ws r new room range in_mode is e =
 verb-so_far : (m : Mode) (n line : ℕ) (v : Verb) (ws : List (List ℕ)) (r new : Reading) → n < 65536 → stands (verb_modes v) m ≡ true → IsSoFar m n r → verb_line m line v ws r ≡ Some new → IsSoFar m (n + 1) new
 unfolding verb_line
 verb-so_far m n line verb.Stream ws r new room in_mode is e =
-    let found = then-gives (stream_of line ws) _ new e in
-    later m n new (stream-so_far m n found.0 r new (stream-gives line ws found.0 found.1) is found.2)
+    let found = then-gives (stream_of m line ws) _ new e in
+    later m n new (stream-so_far m n found.0 r new (stream-gives m line ws found.0 found.1) is found.2)
 verb-so_far m n line verb.Journal ws r new room in_mode is e =
     let found = then-gives (setting_of 64 1048576 ws) _ new e in
     later m n new (journal-so_far m n found.0 r new (setting-gives 64 1048576 ws found.0 found.1) is found.2)
@@ -536,7 +550,7 @@ lines-so_far : (m : Mode) (n : ℕ) (ls : List (List ℕ)) (r : Reading) (script
 unfolding lines_of
 lines-so_far m n [] r script is e =
     let same : r.script ≡ script = cc in
-    subst (λ (script : Script). IsWithin script × IsOfMode m script) same (is.within, record { lines = is.lines; phases = is.phases })
+    subst (λ (script : Script). IsWithin script × IsOfMode m script) same (is.within, record { streams = is.streams; lines = is.lines; phases = is.phases })
 lines-so_far m n (line ∷ more) r script is e = either (nat_lt n 65536) refl e (λ new. lines-so_far m (n + 1) more new script)
   where
     on : (o : Option Reading) → line_of m (n + 1) line r ≡ o → n < 65536 → or_wrong (n + 1) o (λ next. lines_of m (n + 1) more next) ≡ Ok script → ((new : Reading) → IsSoFar m (n + 1) new → lines_of m (n + 1) more new ≡ Ok script → IsWithin script × IsOfMode m script) → IsWithin script × IsOfMode m script

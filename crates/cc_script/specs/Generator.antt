@@ -77,8 +77,8 @@ drawn_lines (suc more) number x = drawn_line number (draws_of x) ∷ drawn_lines
 -- `stream a 1048576 1048576 log 0` and `stream b 8192 5000`
 abbrev pub drawn_streams : List StreamLine
 drawn_streams =
-    record { line = 1; name = codes "a"; size = 1048576; valid = 1048576; quota = 16; temporary = false; log = Some 0 }
-    ∷ record { line = 2; name = codes "b"; size = 8192; valid = 5000; quota = 16; temporary = false; log = None }
+    record { line = 1; name = codes "a"; size = 1048576; valid = 1048576; quota = 16; temporary = false; log = Some 0; stored = false }
+    ∷ record { line = 2; name = codes "b"; size = 8192; valid = 5000; quota = 16; temporary = false; log = None; stored = false }
     ∷ []
 
 -- the streams on lines 1 and 2, and the lines behind them

@@ -3,6 +3,7 @@ use Rattle.std.specs.Prelude.{ℕ, ◌+◌, ◌==◌, Bool, true, false, ◌&&�
 use Rattle.std.specs.List.{list_all}
 use Rattle.std.specs.Str.Lines.{strip_carriage_return}
 use Rattle.cc_script.specs.declared.script.Mode.{Mode}
+use Rattle.cc_script.specs.declared.script.Mode.TheVariants as mode
 use Rattle.cc_script.specs.declared.script.Script.{Script}
 use Rattle.cc_script.specs.declared.script.StreamLine.{StreamLine}
 use Rattle.cc_script.specs.declared.script.Action.{Action}
@@ -60,15 +61,20 @@ log_of ws =
     then option_map (λ log. (Some log.0, log.1)) (next (number_between 0 3) (flag (codes "log") ws).1)
     else Some (None, ws)
 
--- stream NAME SIZE VALID [quota Q] [temporary] [log LOG]
-unfoldable pub stream_of : ℕ → List (List ℕ) → Option StreamLine
-stream_of n ws = do
+-- [stored]: whether the stream is opened with the sizes of its record; a word of run alone
+unfoldable pub stored_of : Mode → List (List ℕ) → Bool × List (List ℕ)
+stored_of mode.Run ws = flag (codes "stored") ws
+stored_of mode.Steps ws = (false, ws)
+
+-- stream NAME SIZE VALID [quota Q] [temporary] [log LOG] [stored]
+unfoldable pub stream_of : Mode → ℕ → List (List ℕ) → Option StreamLine
+stream_of m n ws = do
   name ← next name_of ws
   size ← next number_of name.1
   valid ← next number_of size.1
   quota ← quota_of valid.1
   log ← log_of (flag (codes "temporary") quota.1).1
-  ended log.1 (record {
+  ended (stored_of m log.1).1 (record {
     line = n;
     name = name.0;
     size = size.0;
@@ -76,6 +82,7 @@ stream_of n ws = do
     quota = quota.0;
     temporary = (flag (codes "temporary") quota.1).0;
     log = log.0;
+    stored = (stored_of m log.1).0;
   })
 
 -- the number of a line that sets one
@@ -159,7 +166,7 @@ caller_line mode n caller v ws r = action_line mode n caller false v ws r
 -- a line of a verb, without a caller word
 unfoldable pub verb_line : Mode → ℕ → Verb → List (List ℕ) → Reading → Option Reading
 verb_line mode n verb.Stream ws r = do
-  stream ← stream_of n ws
+  stream ← stream_of mode n ws
   with_stream stream r
 verb_line mode n verb.Journal ws r = do
   capacity ← setting_of 64 1048576 ws

@@ -20,7 +20,7 @@ use Rattle.cc_script.specs.Grammar.{stream_of, setting_of, script_of}
 use Rattle.cc_script.specs.declared.bound.Bound.{Bound}
 use Rattle.cc_script.specs.HoldWords.{bound_so_far, AreUsedRight, words_bound}
 use Rattle.cc_script.specs.Within.{PhasesAscend, IsWithin}
-use Rattle.cc_script.specs.Modes.{IsOfMode}
+use Rattle.cc_script.specs.Modes.{IsOfMode, IsStreamOf}
 
 -- a number's word is exactly its decimal text
 abbrev pub NumbersAreDecimal : Type 0
@@ -111,24 +111,27 @@ abbrev pub SpellsLog : Option ℕ → List (List ℕ) → Type 0
 SpellsLog None ws = ws ≡ []
 SpellsLog (Some handle) ws = (handle ≤ 3) × (ws ≡ codes "log" ∷ decimal handle ∷ [])
 
--- the words behind `stream` for this stream, on line n
-pub record IsStreamSpelling (n : ℕ) (ws : List (List ℕ)) (stream : StreamLine) : Type 0 where
+-- the words behind `stream` for this stream, on line n; in steps it has no word `stored`
+pub record IsStreamSpelling (m : Mode) (n : ℕ) (ws : List (List ℕ)) (stream : StreamLine) : Type 0 where
   pub quota_words : List (List ℕ)
   pub log_words : List (List ℕ)
   pub words :
       ws ≡ stream.name ∷ decimal stream.size ∷ decimal stream.valid
-      ∷ (quota_words ++ (flag_words (codes "temporary") stream.temporary ++ log_words))
+      ∷ (quota_words
+      ++ (flag_words (codes "temporary") stream.temporary ++ (log_words ++ flag_words (codes "stored") stream.stored)))
   pub quota : SpellsQuota stream.quota quota_words
   pub name : is_name stream.name ≡ true
   pub size : stream.size < 2 ^ 64
   pub valid : stream.valid < 2 ^ 64
   pub line : stream.line ≡ n
   pub log : SpellsLog stream.log log_words
+  pub of_mode : IsStreamOf m stream
 
 -- the words that are read as a stream are those that spell it
 abbrev pub StreamsSpell : Type 0
 StreamsSpell =
-    (n : ℕ) (ws : List (List ℕ)) (stream : StreamLine) → (stream_of n ws ≡ Some stream) ↔ IsStreamSpelling n ws stream
+    (m : Mode) (n : ℕ) (ws : List (List ℕ)) (stream : StreamLine) →
+    (stream_of m n ws ≡ Some stream) ↔ IsStreamSpelling m n ws stream
 
 -- no byte of a name is a colon
 abbrev pub has_no_colon : List ℕ → Bool

@@ -8,6 +8,7 @@ use Rattle.cc_script.specs.declared.script.Mode.TheVariants as mode
 use Rattle.cc_script.specs.declared.script.Action.{Action}
 use Rattle.cc_script.specs.declared.script.Action.TheVariants as action
 use Rattle.cc_script.specs.declared.script.ActionLine.{ActionLine}
+use Rattle.cc_script.specs.declared.script.StreamLine.{StreamLine}
 use Rattle.cc_script.specs.declared.script.Script.{Script}
 
 -- in which modes something stands
@@ -31,6 +32,7 @@ verb_modes verb.Read = RunAlone
 verb_modes verb.Write = RunAlone
 verb_modes verb.Update = RunAlone
 verb_modes verb.Levels = RunAlone
+verb_modes verb.Settle = RunAlone
 verb_modes verb.AskAhead = RunAlone
 verb_modes verb.AheadStep = RunAlone
 verb_modes verb.Tick = RunAlone
@@ -53,6 +55,7 @@ action_modes (action.Read _ _ _ _) = RunAlone
 action_modes (action.Write _ _ _) = RunAlone
 action_modes (action.Update _ _ _) = RunAlone
 action_modes (action.Levels _) = RunAlone
+action_modes (action.Settle _) = RunAlone
 action_modes (action.AskAhead _ _ _) = RunAlone
 action_modes action.AheadStep = RunAlone
 action_modes action.Tick = RunAlone
@@ -68,8 +71,8 @@ action_modes action.Scan = StepsAlone
 action_modes other = Both
 
 -- Whether an action is a call of the cache, which may fail by a fault of its caller. A line of the shim is a list of calls,
--- a tick writes pages by steps of its own, read-ahead has a queue that only a run has, and the levels of a view index are
--- read without an entry.
+-- so is the settling of a stream, a tick writes pages by steps of its own, read-ahead has a queue that only a run has, and the
+-- levels of a view index are read without an entry.
 abbrev pub is_call : Action → Bool
 is_call (action.Append _ _) = false
 is_call (action.LogFlush _ _) = false
@@ -86,6 +89,7 @@ is_call (action.Read _ _ _ _) = false
 is_call (action.Write _ _ _) = false
 is_call (action.Update _ _ _) = false
 is_call (action.Levels _) = false
+is_call (action.Settle _) = false
 is_call (action.Defer _ _ _) = false
 is_call action.Post = false
 is_call other = true
@@ -95,6 +99,11 @@ pub record IsLineOf (m : Mode) (line : ActionLine) : Type 0 where
   pub in_mode : stands (action_modes line.action) m ≡ true
   pub fails : line.fails ≡ true → (m ≡ mode.Steps) × (is_call line.action ≡ true)
 
+-- a stream of a mode: in steps none is opened with its record
+abbrev pub IsStreamOf : Mode → StreamLine → Type 0
+IsStreamOf mode.Run stream = Unit {0}
+IsStreamOf mode.Steps stream = stream.stored ≡ false
+
 -- steps has one phase
 abbrev pub HasPhases : Mode → ℕ → Type 0
 HasPhases mode.Run phases = Unit {0}
@@ -102,5 +111,6 @@ HasPhases mode.Steps phases = phases ≡ 1
 
 -- a script of a mode
 pub record IsOfMode (m : Mode) (script : Script) : Type 0 where
+  pub streams : AllByRecursion (IsStreamOf m) script.streams
   pub lines : AllByRecursion (IsLineOf m) script.lines
   pub phases : HasPhases m script.phases

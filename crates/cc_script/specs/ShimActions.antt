@@ -1,4 +1,5 @@
--- The lines of the file system shim, and of the levels of a view index: the words behind the verb, in their order.
+-- The lines of the file system shim, of the levels of a view index and of the record of a stream: the words behind the verb, in
+-- their order.
 use Rattle.std.specs.Prelude.{ℕ, Option, List, find, codes}
 use Rattle.std.specs.Str.{bytes_eq}
 use Rattle.cc_script.specs.declared.script.StreamLine.{StreamLine}
@@ -53,3 +54,9 @@ unfoldable pub levels_of : List StreamLine → List (List ℕ) → Option Action
 levels_of streams ws = do
   file ← next (file_of streams) ws
   ended file.1 (action.Levels file.0)
+
+-- settle FILE
+unfoldable pub settle_of : List StreamLine → List (List ℕ) → Option Action
+settle_of streams ws = do
+  file ← next (file_of streams) ws
+  ended file.1 (action.Settle file.0)

@@ -59,6 +59,7 @@ IsActionWithin streams (action.Read file _ _ _) = IsFileWithin streams file
 IsActionWithin streams (action.Write file _ _) = IsFileWithin streams file
 IsActionWithin streams (action.Update file _ _) = IsFileWithin streams file
 IsActionWithin streams (action.Levels file) = IsFileWithin streams file
+IsActionWithin streams (action.Settle file) = IsFileWithin streams file
 IsActionWithin streams action.IsDirtyData = Unit {0}
 IsActionWithin streams (action.DirtyPages _) = Unit {0}
 IsActionWithin streams (action.LsnForFile file) = IsFileWithin streams file

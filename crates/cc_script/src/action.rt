@@ -20,7 +20,7 @@ use crate::hold_action::{
 use crate::hold_word::HoldNames;
 use crate::part::Words;
 use crate::script::{Action, Mode, StreamLines};
-use crate::shim_action::{levels, read, update, write};
+use crate::shim_action::{levels, read, settle, update, write};
 use crate::verb::Verb;
 use std::alloc::Global;
 
@@ -329,6 +329,7 @@ pub(crate) fn action(
         Verb::Write => write(alloc, streams, words),
         Verb::Update => update(alloc, streams, words),
         Verb::Levels => levels(streams, words).ok_or(LineFault::Syntax),
+        Verb::Settle => settle(streams, words).ok_or(LineFault::Syntax),
         Verb::IsDirtyData => is_dirty_data(words).ok_or(LineFault::Syntax),
         Verb::DirtyPages => dirty_pages(words).ok_or(LineFault::Syntax),
         Verb::LsnForFile => lsn_for_file(streams, words).ok_or(LineFault::Syntax),

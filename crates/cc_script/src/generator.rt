@@ -55,6 +55,7 @@ fn stream(
       quota = 16;
       temporary = false;
       log = log;
+      stored = false;
     }) }
 {
     Ok(StreamLine {
@@ -65,6 +66,7 @@ fn stream(
         quota: Quota::new(16).unwrap(),
         temporary: false,
         log,
+        stored: false,
     })
 }
 

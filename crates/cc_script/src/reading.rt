@@ -257,7 +257,7 @@ impl Reading {
     {
         match verb {
             Verb::Stream => {
-                let stream = stream(alloc, number, words)?;
+                let stream = stream(alloc, mode, number, words)?;
                 self.add_stream(stream)
             }
             Verb::Journal => {
@@ -279,8 +279,13 @@ impl Reading {
 }
 
 #[tactic(auto, unfolding(crate::specs::Grammar::stream_of))]
-fn stream(alloc: Global, number: u32, words: &mut Words) -> Result<StreamLine, LineFault>
-    ensures { Gives (stream_of number words.old) result }
+fn stream(
+    alloc: Global,
+    mode: Mode,
+    number: u32,
+    words: &mut Words,
+) -> Result<StreamLine, LineFault>
+    ensures { Gives (stream_of mode number words.old) result }
 {
     let name = words.name(alloc)?;
     let size = words.number().ok_or(LineFault::Syntax)?;
@@ -288,6 +293,7 @@ fn stream(alloc: Global, number: u32, words: &mut Words) -> Result<StreamLine, L
     let quota = words.quota().ok_or(LineFault::Syntax)?;
     let temporary = words.flag(b"temporary");
     let log = words.log().ok_or(LineFault::Syntax)?;
+    let stored = words.stored(mode);
     if !words.is_empty() {
         return Err(LineFault::Syntax);
     }
@@ -299,6 +305,7 @@ fn stream(alloc: Global, number: u32, words: &mut Words) -> Result<StreamLine, L
         quota,
         temporary,
         log,
+        stored,
     })
 }
 

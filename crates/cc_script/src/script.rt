@@ -31,6 +31,8 @@ pub struct StreamLine {
     pub quota: Quota,
     pub temporary: bool,
     pub log: Option<u8>,
+    /// Whether the stream is opened with the sizes of its record, where its disk has one.
+    pub stored: bool,
 }
 
 /// The streams of a script, at most 16.
@@ -302,6 +304,10 @@ pub enum Action {
     Levels {
         file: FileId,
     },
+    /// A stream is flushed, and its size and valid data length are told on its disk.
+    Settle {
+        file: FileId,
+    },
     IsDirtyData,
     DirtyPages {
         handle: u8,
@@ -415,8 +421,8 @@ impl Action {
     }
 
     /// Whether it is a call of the cache, which may fail by a fault of its caller. The others are steps of a page, a log
-    /// or a queue, lines of the shim, which are lists of calls, ticks, those of read-ahead, whose queue is a run's, and
-    /// `levels`, which leaves no entry.
+    /// or a queue, lines of the shim and `settle`, which are lists of calls, ticks, those of read-ahead, whose queue is a
+    /// run's, and `levels`, which leaves no entry.
     pub fn is_call(&self) -> bool
         ensures { result ≡ is_call self.now }
     {
@@ -437,6 +443,7 @@ impl Action {
                 | Action::Write { .. }
                 | Action::Update { .. }
                 | Action::Levels { .. }
+                | Action::Settle { .. }
                 | Action::Defer { .. }
                 | Action::Post
         )

@@ -1,8 +1,9 @@
-//! The lines of the file system shim, and of the levels of a view index, each read from the words behind its verb.
+//! The lines of the file system shim, of the levels of a view index and of the record of a stream, each read from the words
+//! behind its verb.
 
 ghost use Rattle.std.specs.Prelude.{◌≡◌};
 ghost use Rattle.cc_script.specs.Outcome.{Gives};
-ghost use Rattle.cc_script.specs.ShimActions.{read_of, write_of, update_of, levels_of};
+ghost use Rattle.cc_script.specs.ShimActions.{read_of, write_of, update_of, levels_of, settle_of};
 
 use crate::fault::LineFault;
 use crate::part::Words;
@@ -72,6 +73,18 @@ pub(crate) fn levels(streams: &StreamLines, words: &mut Words) -> Option<Action>
     let file = words.file(streams)?;
     if words.is_empty() {
         Some(Action::Levels { file })
+    } else {
+        None
+    }
+}
+
+#[tactic(auto, unfolding(crate::specs::ShimActions::settle_of))]
+pub(crate) fn settle(streams: &StreamLines, words: &mut Words) -> Option<Action>
+    ensures { result ≡ settle_of streams.now words.old }
+{
+    let file = words.file(streams)?;
+    if words.is_empty() {
+        Some(Action::Settle { file })
     } else {
         None
     }

@@ -9,7 +9,7 @@ ghost use Rattle.cc_script.specs.EventActions.{page_number, page_of};
 ghost use Rattle.cc_script.specs.ShimActions.{path_of};
 ghost use Rattle.cc_script.specs.HoldNames.{word_of};
 ghost use Rattle.cc_script.specs.HoldActions.{stretch_of};
-ghost use Rattle.cc_script.specs.Grammar.{log_of};
+ghost use Rattle.cc_script.specs.Grammar.{log_of, stored_of};
 
 use crate::byte_word::LONGEST;
 use crate::fault::LineFault;
@@ -120,6 +120,17 @@ impl Words<'_> {
             Some(Some(handle))
         } else {
             Some(None)
+        }
+    }
+
+    /// Whether a stream is opened with the sizes of its record, which only a run asks.
+    #[tactic(auto, unfolding(crate::specs::Grammar::stored_of))]
+    pub(crate) fn stored(&mut self, mode: Mode) -> bool
+        ensures { stored_of mode self.old ≡ (result, self.new) }
+    {
+        match mode {
+            Mode::Run => self.flag(b"stored"),
+            Mode::Steps => false,
         }
     }
 

@@ -47,6 +47,7 @@ pub(crate) enum Verb {
     Write,
     Update,
     Levels,
+    Settle,
     IsDirtyData,
     DirtyPages,
     LsnForFile,
@@ -72,7 +73,7 @@ pub(crate) enum Verb {
     Fail,
 }
 
-pub(crate) const VERBS: [Verb; 60] = [
+pub(crate) const VERBS: [Verb; 61] = [
     Verb::Stream,
     Verb::Journal,
     Verb::Threshold,
@@ -110,6 +111,7 @@ pub(crate) const VERBS: [Verb; 60] = [
     Verb::Write,
     Verb::Update,
     Verb::Levels,
+    Verb::Settle,
     Verb::IsDirtyData,
     Verb::DirtyPages,
     Verb::LsnForFile,
@@ -177,6 +179,7 @@ impl Verb {
             Verb::Write => b"write",
             Verb::Update => b"update",
             Verb::Levels => b"levels",
+            Verb::Settle => b"settle",
             Verb::IsDirtyData => b"isdirty",
             Verb::DirtyPages => b"dirty",
             Verb::LsnForFile => b"lsns",
@@ -240,6 +243,7 @@ impl Verb {
                 | Verb::Write
                 | Verb::Update
                 | Verb::Levels
+                | Verb::Settle
                 | Verb::AskAhead
                 | Verb::AheadStep
                 | Verb::Tick

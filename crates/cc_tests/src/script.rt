@@ -16,7 +16,7 @@ fn wrong_line(answer: Result<Script, ScriptFault>) -> Option<u32> {
 }
 
 /// Scripts, each with its first wrong line.
-const SCRIPTS: [(&str, u32); 112] = [
+const SCRIPTS: [(&str, u32); 118] = [
     ("", 0),
     ("# a comment\n\n  \n\r\n  stream   a  8192 8192  \r", 0),
     (" # no comment", 1),
@@ -187,10 +187,19 @@ const SCRIPTS: [(&str, u32); 112] = [
     ("stream a 1 1\nupdate a 0 ABx2097153", 2),
     ("stream a 1 1\nlevels a:15\nt3 levels a\nlevels a 0", 4),
     ("stream a 1 1\nlevels b", 2),
+    ("stream a 1 1\nsettle a:15\nt3 settle a\nsettle a 0", 4),
+    ("stream a 1 1\nsettle b", 2),
+    (
+        "stream a 1 1 stored\nstream b 1 1 quota 8 temporary log 0 stored\nstream c 1 1 stored stored",
+        3,
+    ),
+    ("stream a 1 1 stored log 0", 1),
+    ("stream a 1 1 stored temporary", 1),
+    ("stream a 1 stored 1", 1),
 ];
 
 /// Scripts of steps, each with its first wrong line.
-const STEPS: [(&str, u32); 37] = [
+const STEPS: [(&str, u32); 39] = [
     (
         "stream a 8192 8192\nfill a 0\nt16 fill a 2251799813685247\nout a 0\nt2 begin a 1\nend a 1\nt3 sync a\nt2 scan\nscan",
         0,
@@ -245,6 +254,8 @@ const STEPS: [(&str, u32); 37] = [
     ("stream a 1 1\nwrite a 0 AB", 2),
     ("stream a 1 1\nupdate a 0 AB", 2),
     ("stream a 1 1\nlevels a", 2),
+    ("stream a 1 1\nsettle a", 2),
+    ("stream a 1 1 stored", 1),
     ("stream a 1 1\nfail read a cached 0 1", 2),
 ];
 
@@ -433,7 +444,7 @@ ask a:6 18446744073709551615 33500000\nahead";
     Ok(())
 }
 
-/// Of a line of the shim, or of levels: the object of its file, the number of its path, and its place and length.
+/// Of a line of the shim, of levels or of a settling: the object of its file, the number of its path, and its place and length.
 fn shim_of(action: &Action) -> Option<(u8, u8, u64, u64)> {
     match action {
         Action::Read {
@@ -445,6 +456,7 @@ fn shim_of(action: &Action) -> Option<(u8, u8, u64, u64)> {
         Action::Write { file, at, bytes } => Some((file.object(), 6, *at, bytes.len())),
         Action::Update { file, at, bytes } => Some((file.object(), 7, *at, bytes.len())),
         Action::Levels { file } => Some((file.object(), 8, 0, 0)),
+        Action::Settle { file } => Some((file.object(), 9, 0, 0)),
         _ => None,
     }
 }
@@ -466,7 +478,7 @@ fn shim_at(script: &Script, place: usize) -> Option<(u8, u8, u64, u64)> {
 #[test]
 fn keeps_paths(rt: HostRuntime) -> Result<(), Fail> {
     let text = b"stream a 9 7\nread a:15 cached 3 2\nread a mapped 4 1\nread a:2 pinned 5 0
-read a descriptor 6 9\nread a noncached 7 8\nwrite a:1 4 AB,00x2\nupdate a:3 2 ABx9\nlevels a:4";
+read a descriptor 6 9\nread a noncached 7 8\nwrite a:1 4 AB,00x2\nupdate a:3 2 ABx9\nlevels a:4\nsettle a:5";
     let script = read_script(rt.alloc(), text, Mode::Run).ok().ok_or("read")?;
     assert_eq!(rt; shim_at(&script, 0), Some((15, 1, 3, 2)));
     assert_eq!(rt; shim_at(&script, 1), Some((0, 2, 4, 1)));
@@ -476,6 +488,7 @@ read a descriptor 6 9\nread a noncached 7 8\nwrite a:1 4 AB,00x2\nupdate a:3 2 A
     assert_eq!(rt; shim_at(&script, 5), Some((1, 6, 4, 3)));
     assert_eq!(rt; shim_at(&script, 6), Some((3, 7, 2, 9)));
     assert_eq!(rt; shim_at(&script, 7), Some((4, 8, 0, 0)));
+    assert_eq!(rt; shim_at(&script, 8), Some((5, 9, 0, 0)));
     Ok(())
 }
 

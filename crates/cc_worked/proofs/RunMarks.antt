@@ -32,7 +32,7 @@ opened_marks s stream (Some handle) =
 given_not_refused : (e : CcError) → answer.Given reply.Unit ≡ answer.Refused e → ⊥
 given_not_refused e same = absurd (cc)
 
-pub opening-marked : (u : Setup) (s : ℕ) (stream : StreamLine) (log : Option ℕ) (old new : List Entry) → LoggedOpening u s stream log (answer.Given reply.Unit) old new → Marked 0 (opened_marks s stream log) old new
+pub opening-marked : (u : Setup) (s : ℕ) (stream : StreamLine) (log : Option ℕ) (old new : List Entry) → LoggedOpening u s (opening_call s stream) log (answer.Given reply.Unit) old new → Marked 0 (opened_marks s stream log) old new
 opening-marked u s stream None old new left = marked-call u 0 (opening_call s stream) (outcome.Done reply.Unit) old new left refl
 opening-marked u s stream (Some handle) old new (inl left) = absurd (given_not_refused left.0 left.1)
 opening-marked u s stream (Some handle) old new (inr left) =
@@ -41,7 +41,7 @@ opening-marked u s stream (Some handle) old new (inr left) =
     (marked-call u 0 (call.SetLog (first_object_of s) handle) (outcome.Done reply.Unit) left.0 new left.2 refl)
 
 -- a refused one: the first call was, or the second after it
-pub refused-opening : (u : Setup) (s : ℕ) (stream : StreamLine) (handle : ℕ) (e : CcError) (old new : List Entry) → LoggedOpening u s stream (Some handle) (answer.Refused e) old new → Marked 0 (end_of (opening_call s stream) (outcome.Failed e)) old new ⊎ Marked 0 (Ended (opening_call s stream) (outcome.Done reply.Unit) ∷ end_of (call.SetLog (first_object_of s) handle) (outcome.Failed e)) old new
+pub refused-opening : (u : Setup) (s : ℕ) (stream : StreamLine) (handle : ℕ) (e : CcError) (old new : List Entry) → LoggedOpening u s (opening_call s stream) (Some handle) (answer.Refused e) old new → Marked 0 (end_of (opening_call s stream) (outcome.Failed e)) old new ⊎ Marked 0 (Ended (opening_call s stream) (outcome.Done reply.Unit) ∷ end_of (call.SetLog (first_object_of s) handle) (outcome.Failed e)) old new
 refused-opening u s stream handle e old new (inl left) =
     let failed : CallLeft u 0 (opening_call s stream) (outcome.Failed e) old new = rw (sym (same_refusal e left.0 left.1)) at left.2 in
     inl (marked-left u 0 (opening_call s stream) (outcome.Failed e) old new failed)

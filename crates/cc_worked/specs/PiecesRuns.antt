@@ -34,7 +34,7 @@ use Rattle.cc_worked.specs.PiecesWithoutEntry.{request}
 
 -- a stream of two pages with such a log, or none
 abbrev pub stream_with : Option ℕ → StreamLine
-stream_with log = record { line = 1; name = 97 ∷ []; size = 8192; valid = 8192; quota = 16; temporary = false; log = log }
+stream_with log = record { line = 1; name = 97 ∷ []; size = 8192; valid = 8192; quota = 16; temporary = false; log = log; stored = false }
 
 -- its first object is initialised
 abbrev pub initialises : Call

@@ -6,6 +6,7 @@ use Rattle.cc_lines.proofs.ServeLines.{asked-as, can-as, change-line, discard-li
 use Rattle.cc_lines.proofs.ThrottleLines.{defer-line, post-line}
 use Rattle.cc_lines.proofs.TickLines.{tick-line}
 use Rattle.cc_lines.proofs.ShimServed.{levels-line, read-line, update-line, write-line}
+use Rattle.cc_lines.proofs.SettleServed.{settle-line}
 use Rattle.cc_lines.proofs.line.serve.Goals as goal
 
 pub initialize-requires : goal.initialize-requires
@@ -286,6 +287,14 @@ pub returns-in-Levels : goal.returns-in-Levels
 returns-in-Levels g c =
     asked-as _ _ _ _ _ _ _ c.in-Levels.is
     (levels-line _ _ _ c.args.names.now c.levels.ensures.full c.levels.ensures.goes_on (c.levels.ensures.good c.requires.can.good) c.in-Levels.file c.levels.ensures.answered)
+
+pub settle_stream-requires : goal.settle_stream-requires
+settle_stream-requires g c = may-on (g.T.Turns.standing c.args.turns.now) _ c.args.names.now c.in-Settle.file.stream c.requires.can (can-as (g.T.Turns.standing c.args.turns.now) _ _ c.args.names.now c.in-Settle.is c.requires.can).servable
+
+pub returns-in-Settle : goal.returns-in-Settle
+returns-in-Settle g c =
+    asked-as _ _ _ _ _ _ _ c.in-Settle.is
+    (settle-line _ _ _ c.args.names.now c.settle_stream.ensures.full c.settle_stream.ensures.goes_on (c.settle_stream.ensures.good c.requires.can.good) c.in-Settle.file c.settle_stream.ensures.answered)
 
 pub can_i_write-requires : goal.can_i_write-requires
 can_i_write-requires g c = record { can = may-on (g.T.Turns.standing c.args.turns.now) _ c.args.names.now c.in-CanWrite.file.stream c.requires.can (can-as (g.T.Turns.standing c.args.turns.now) _ _ c.args.names.now c.in-CanWrite.is c.requires.can).servable }
