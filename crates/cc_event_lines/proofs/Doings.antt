@@ -53,6 +53,8 @@ on-hold Q me bindings (action.NcWrite file at bytes) none_first none_range none_
 on-hold Q me bindings (action.Read file path at len) none_first none_range none_file none_written = refl
 on-hold Q me bindings (action.Write file at bytes) none_first none_range none_file none_written = refl
 on-hold Q me bindings (action.Update file at bytes) none_first none_range none_file none_written = refl
+on-hold Q me bindings (action.Lock file span exclusive) none_first none_range none_file none_written = refl
+on-hold Q me bindings (action.Unlock file id) none_first none_range none_file none_written = refl
 on-hold Q me bindings (action.Levels file) none_first none_range none_file none_written = refl
 on-hold Q me bindings (action.Settle file) none_first none_range none_file none_written = refl
 on-hold Q me bindings (action.AskAhead file at len) none_first none_range none_file none_written = refl

@@ -121,6 +121,8 @@ module _ (u : Setup) (me entries : ℕ) (old new : List Entry) where
   grew-served bindings (action.Update file at bytes) left = grew-seen (update-keeps u me file at bytes full old new left).0
   grew-served bindings (action.Settle file) left =
       let kept = settled-unchanged u me 0 file full old new left in record { during = kept.during; grew = kept.grew }
+  grew-served bindings (action.Lock file span exclusive) left = record { during = left.during; grew = left.grew }
+  grew-served bindings (action.Unlock file id) left = record { during = left.during; grew = left.grew }
   grew-served bindings action.IsDirtyData left = grew-call call.IsDirtyData left
   grew-served bindings (action.DirtyPages handle) left = grew-call (call.DirtyPages handle) left
   grew-served bindings (action.LsnForFile file) left = grew-call (call.LsnForFile file) left
@@ -193,6 +195,8 @@ module _ (u : Setup) (me done : ℕ) (cause : CcError) (old new : List Entry) wh
   grew-cut_off bindings (action.Read file path at len) left = absurd left
   grew-cut_off bindings (action.Write file at bytes) left = absurd left
   grew-cut_off bindings (action.Update file at bytes) left = absurd left
+  grew-cut_off bindings (action.Lock file span exclusive) left = absurd left
+  grew-cut_off bindings (action.Unlock file id) left = absurd left
   grew-cut_off bindings (action.Levels file) left = absurd left
   grew-cut_off bindings (action.Settle file) left = absurd left
   grew-cut_off bindings action.IsDirtyData left = absurd left

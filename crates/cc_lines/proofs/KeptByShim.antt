@@ -9,6 +9,7 @@ use Rattle.cc_entry.specs.declared.answer.Answer.TheVariants as answer
 use Rattle.cc_entry.specs.declared.call.Call.{Call}
 use Rattle.cc_entry.specs.declared.call.Call.TheVariants as call
 use Rattle.cc_entry.specs.declared.entry.Entry.{Entry}
+use Rattle.cc_entry.specs.declared.entry.Entry.TheVariants as entry
 use Rattle.cc_entry.specs.declared.error.CcError.{CcError}
 use Rattle.cc_entry.specs.declared.reply.Outcome.{Outcome}
 use Rattle.cc_entry.specs.declared.reply.Outcome.TheVariants as outcome
@@ -22,15 +23,15 @@ use Rattle.cc_model.specs.Passes.{HasSeen}
 use Rattle.cc_model.specs.Setup.{Setup}
 use Rattle.cc_effects.specs.Calls.{CallLeft}
 use Rattle.cc_effects.specs.LogCalls.{AppendLeft}
-use Rattle.cc_effects.specs.Moments.{IsIdle}
+use Rattle.cc_effects.specs.Moments.{IsIdle, PlacedOnly}
 use Rattle.cc_effects.specs.Noncached.{NcReadLeft}
-use Rattle.cc_own.specs.Own.{HasHold, IsUnchanged, changes_it}
+use Rattle.cc_own.specs.Own.{HasHold, IsUnchanged, changes_hold, changes_it}
 use Rattle.cc_own.proofs.CallsKeep.{filed-stream, good-tail}
-use Rattle.cc_own.proofs.Unchanged.{unchanged-call, unchanged-idle, unchanged-keeps, unchanged-then}
+use Rattle.cc_own.proofs.Unchanged.{unchanged-call, unchanged-idle, unchanged-keeps, unchanged-only, unchanged-then}
 use Rattle.cc_own.proofs.VerbsKeep.{append-unchanged, nc_read-unchanged}
-use Rattle.cc_pieces.specs.Shim.{ReadAnswered, UpdateAnswered, WriteAnswered}
-use Rattle.cc_pieces.proofs.Grown.{grew-call, grew-then}
-use Rattle.cc_pieces.proofs.ShimLines.{Follows, IsMadeOn, Told, told-read, told-update, told-write}
+use Rattle.cc_pieces.specs.Locks.{LockedReadAnswered, LockedUpdateAnswered, LockedWriteAnswered}
+use Rattle.cc_pieces.proofs.Grown.{grew-call, grew-only, grew-then}
+use Rattle.cc_pieces.proofs.ShimLines.{Follows, FollowsTests, IsMadeOn, Told, told-read, told-update, told-write}
 use Rattle.cc_lines.proofs.WordChanges.{made-apart}
 
 -- the hold is not the list's own
@@ -58,6 +59,10 @@ module _ (u : Setup) (me : ℕ) (file : File) where
 
   keeps-idle : (own : Option ℕ) (old new : List Entry) → IsIdle me old new → Keeps u me own old new
   keeps-idle own old new idle = (record { later = idle.during; grew = idle.grew }, λ s id hold good has other. unchanged-idle me id old new idle)
+
+  -- an entry of no call changes none
+  keeps-only : (e : Entry) (old new : List Entry) → PlacedOnly me e old new → ((id : ℕ) → changes_hold id e ≡ false) → Keeps u me None old new
+  keeps-only e old new only none = (grew-only me e old new only, λ s id hold good has other. unchanged-only me id e old new only (none id))
 
   -- a call on the file or on the list's own hold changes no other
   spares : (own : Option ℕ) (it : Call) (id : ℕ) → IsMadeOn file own it → IsOther own id → changes_it id it ≡ false
@@ -128,15 +133,21 @@ module _ (u : Setup) (me : ℕ) (file : File) where
     unappended = λ own handle bytes e old new left. keeps-append own handle bytes (Err e) old new left;
   }
 
+  tests-keep : FollowsTests me file (Keeps u me) (λ own e. Keeps u me own)
+  tests-keep = record {
+    noted = λ range write old new only. keeps-only (entry.Tested me file range write None) old new only (λ id. refl);
+    barred = λ range write id old new only. keeps-only (entry.Tested me file range write (Some id)) old new only (λ n. refl);
+  }
+
   told-keeps : (told : Answer) (old new : List Entry) → Told (Keeps u me) (λ own e. Keeps u me own) told old new → Keeps u me None old new
   told-keeps (answer.Refused e) old new left = left
   told-keeps other old new left = left
 
-  pub read-keeps : (path : ReadPath) (at len : ℕ) (told : Answer) (old new : List Entry) → ReadAnswered u me file path at len told old new → Keeps u me None old new
-  read-keeps path at len told old new left = told-keeps told old new (told-read u me file (Keeps u me) (λ own e. Keeps u me own) shim-keeps path at len told old new left)
+  pub read-keeps : (path : ReadPath) (at len : ℕ) (told : Answer) (old new : List Entry) → LockedReadAnswered u me file path at len told old new → Keeps u me None old new
+  read-keeps path at len told old new left = told-keeps told old new (told-read u me file (Keeps u me) (λ own e. Keeps u me own) shim-keeps tests-keep path at len told old new left)
 
-  pub write-keeps : (at : ℕ) (bytes : List ℕ) (told : Answer) (old new : List Entry) → WriteAnswered u me file at bytes told old new → Keeps u me None old new
-  write-keeps at bytes told old new left = told-keeps told old new (told-write u me file (Keeps u me) (λ own e. Keeps u me own) shim-keeps at bytes told old new left)
+  pub write-keeps : (at : ℕ) (bytes : List ℕ) (told : Answer) (old new : List Entry) → LockedWriteAnswered u me file at bytes told old new → Keeps u me None old new
+  write-keeps at bytes told old new left = told-keeps told old new (told-write u me file (Keeps u me) (λ own e. Keeps u me own) shim-keeps tests-keep at bytes told old new left)
 
-  pub update-keeps : (at : ℕ) (bytes : List ℕ) (told : Answer) (old new : List Entry) → UpdateAnswered u me file at bytes told old new → Keeps u me None old new
-  update-keeps at bytes told old new left = told-keeps told old new (told-update u me file (Keeps u me) (λ own e. Keeps u me own) shim-keeps at bytes told old new left)
+  pub update-keeps : (at : ℕ) (bytes : List ℕ) (told : Answer) (old new : List Entry) → LockedUpdateAnswered u me file at bytes told old new → Keeps u me None old new
+  update-keeps at bytes told old new left = told-keeps told old new (told-update u me file (Keeps u me) (λ own e. Keeps u me own) shim-keeps tests-keep at bytes told old new left)

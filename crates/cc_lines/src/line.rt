@@ -17,7 +17,7 @@ use crate::held_lines::{
 use crate::holds::Names;
 use crate::noncached_lines::{read_noncached, write_noncached};
 use crate::settle_line::settle_stream;
-use crate::shim_lines::{levels, read_along, update_logged, write_extending};
+use crate::shim_lines::{levels, read_along, update_logged, write_extending, lock, unlock};
 use crate::throttle_lines::{Fresh, defer_write, post_all};
 use crate::tick_line::serve_tick;
 use cc_calls::{
@@ -163,6 +163,12 @@ where
         } => read_along(alloc, turns, *file, *path, *at, *len),
         Action::Write { file, at, bytes } => write_extending(alloc, turns, *file, *at, bytes),
         Action::Update { file, at, bytes } => update_logged(alloc, turns, *file, *at, bytes),
+        Action::Lock {
+            file,
+            span,
+            exclusive,
+        } => lock(turns, *file, *span, *exclusive),
+        Action::Unlock { file, id } => unlock(turns, *file, *id),
         Action::Levels { file } => levels(turns, *file),
         Action::Settle { file } => settle_stream(alloc, turns, *file),
         Action::IsDirtyData => flag(is_dirty_data(turns)),

@@ -5,7 +5,7 @@ use Rattle.std.specs.declared.option.Option.TheVariants.{Some, None}
 use Rattle.std.specs.List.{AllByRecursion, count_by, list_any}
 use Rattle.std.proofs.Common.{sym, ap, subst, ◌∙◌, inl, inr}
 use Rattle.std.proofs.lemmas.Option.{same_Some}
-use Rattle.cc_entry.specs.Place.{File, Page}
+use Rattle.cc_entry.specs.Place.{File, Page, Range}
 use Rattle.cc_entry.specs.Kinds.{is_map, is_pin, is_repin, is_read_chain, is_write_chain}
 use Rattle.cc_entry.specs.declared.answer.Answer.{Answer}
 use Rattle.cc_entry.specs.declared.answer.Answer.TheVariants as answer
@@ -44,9 +44,9 @@ use Rattle.cc_pieces.specs.Bindings.{Binding, OnHold, hold_named}
 use Rattle.cc_pieces.specs.Faultless.{shows_fault, tells_fault}
 use Rattle.cc_pieces.specs.HoldLines.{HeldReadBy, HoldLine, UnpinAnswered, UnrepinLine}
 use Rattle.cc_pieces.specs.Served.{Served}
-use Rattle.cc_pieces.specs.Shim.{ReadAnswered, UpdateAnswered, WriteAnswered}
+use Rattle.cc_pieces.specs.Locks.{LockAnswered, LockedReadAnswered, LockedUpdateAnswered, LockedWriteAnswered, UnlockAnswered}
 use Rattle.cc_pieces.proofs.Grown.{grew-call, grew-only, grew-then}
-use Rattle.cc_pieces.proofs.ShimLines.{Follows, told-read, told-update, told-write}
+use Rattle.cc_pieces.proofs.ShimLines.{Follows, FollowsTests, calm-faultless, told-read, told-update, told-write}
 
 -- no entry of a stretch shows a failure
 abbrev pub ShowsNone : List Entry → Type 0
@@ -283,7 +283,7 @@ shim-none u me file = record {
   failed = λ own it e old new on left none. failed-tells-none u me it e old new left none;
   after = λ own e old between new first rest none. rest none;
   before = none-before;
-  tested = λ own e old new calm idle none. calm;
+  tested = λ own e old new calm idle none. calm-faultless e calm;
   held = λ it id old made new makes on left rest. tt;
   unheld = λ it id e old made new makes on left rest none. rest none;
   read = λ at len bytes old new left. tt;
@@ -292,23 +292,45 @@ shim-none u me file = record {
   unappended = λ own handle bytes e old new left none. append-none u me handle bytes (answer.Refused e) old new left none;
 }
 
-read-none : (u : Setup) (me : ℕ) (file : File) (path : ReadPath) (at len : ℕ) (told : Answer) (old new : List Entry) → ReadAnswered u me file path at len told old new → ShowsNone new → tells_fault told ≡ false
+tests-none : (me : ℕ) (file : File) → FollowsTests me file GrewUnder TellsNone
+tests-none me file = record {
+  noted = λ range write old new only. tt;
+  barred = λ range write id old new only none. refl;
+}
+
+read-none : (u : Setup) (me : ℕ) (file : File) (path : ReadPath) (at len : ℕ) (told : Answer) (old new : List Entry) → LockedReadAnswered u me file path at len told old new → ShowsNone new → tells_fault told ≡ false
 read-none u me file path at len (answer.Given (reply.Read bytes)) old new left none = refl
 read-none u me file path at len (answer.Refused e) old new left none =
-    told-read u me file GrewUnder TellsNone (shim-none u me file) path at len (answer.Refused e) old new left none
+    told-read u me file GrewUnder TellsNone (shim-none u me file) (tests-none me file) path at len (answer.Refused e) old new left none
 read-none u me file path at len other old new left none = absurd left
 
-write-none : (u : Setup) (me : ℕ) (file : File) (at : ℕ) (bytes : List ℕ) (told : Answer) (old new : List Entry) → WriteAnswered u me file at bytes told old new → ShowsNone new → tells_fault told ≡ false
+write-none : (u : Setup) (me : ℕ) (file : File) (at : ℕ) (bytes : List ℕ) (told : Answer) (old new : List Entry) → LockedWriteAnswered u me file at bytes told old new → ShowsNone new → tells_fault told ≡ false
 write-none u me file at bytes (answer.Given reply.Unit) old new left none = refl
 write-none u me file at bytes (answer.Refused e) old new left none =
-    told-write u me file GrewUnder TellsNone (shim-none u me file) at bytes (answer.Refused e) old new left none
+    told-write u me file GrewUnder TellsNone (shim-none u me file) (tests-none me file) at bytes (answer.Refused e) old new left none
 write-none u me file at bytes other old new left none = absurd left
 
-update-none : (u : Setup) (me : ℕ) (file : File) (at : ℕ) (bytes : List ℕ) (told : Answer) (old new : List Entry) → UpdateAnswered u me file at bytes told old new → ShowsNone new → tells_fault told ≡ false
+update-none : (u : Setup) (me : ℕ) (file : File) (at : ℕ) (bytes : List ℕ) (told : Answer) (old new : List Entry) → LockedUpdateAnswered u me file at bytes told old new → ShowsNone new → tells_fault told ≡ false
 update-none u me file at bytes (answer.NewLsn lsn) old new left none = refl
 update-none u me file at bytes (answer.Refused e) old new left none =
-    told-update u me file GrewUnder TellsNone (shim-none u me file) at bytes (answer.Refused e) old new left none
+    told-update u me file GrewUnder TellsNone (shim-none u me file) (tests-none me file) at bytes (answer.Refused e) old new left none
 update-none u me file at bytes other old new left none = absurd left
+
+-- neither a lock nor its end goes to a disk or a log
+lock-none : (me : ℕ) (file : File) (range : Range) (exclusive : Bool) (told : Answer) (old new : List Entry) → LockAnswered me file range exclusive told old new → tells_fault told ≡ false
+lock-none me file range exclusive (answer.LockId id) old new left = refl
+lock-none me file range exclusive (answer.Refused (error.LockConflict id)) old new left = refl
+lock-none me file range exclusive (answer.Refused (error.JournalFull entries)) old new left = refl
+lock-none me file range exclusive (answer.Refused error.NoMemory) old new left = refl
+lock-none me file range exclusive (answer.Refused other) old new left = absurd left
+lock-none me file range exclusive other old new left = absurd left
+
+unlock-none : (me : ℕ) (file : File) (id : ℕ) (told : Answer) (old new : List Entry) → UnlockAnswered me file id told old new → tells_fault told ≡ false
+unlock-none me file id (answer.Given (reply.Flag gone)) old new left = refl
+unlock-none me file id (answer.Refused (error.JournalFull entries)) old new left = refl
+unlock-none me file id (answer.Refused error.NoMemory) old new left = refl
+unlock-none me file id (answer.Refused other) old new left = absurd left
+unlock-none me file id other old new left = absurd left
 
 levels-none : (me : ℕ) (file : File) (told : Answer) (old new : List Entry) → LevelsAnswered levels_of me file told old new → tells_fault told ≡ false
 levels-none me file (answer.Levels levels) old new left = refl
@@ -414,6 +436,8 @@ served-none u me bindings (action.NcWrite file at bytes) told old new left none 
 served-none u me bindings (action.Read file path at len) told old new left none = read-none u me file path at len told old new left none
 served-none u me bindings (action.Write file at bytes) told old new left none = write-none u me file at bytes told old new left none
 served-none u me bindings (action.Update file at bytes) told old new left none = update-none u me file at bytes told old new left none
+served-none u me bindings (action.Lock file span exclusive) told old new left none = lock-none me file span exclusive told old new left
+served-none u me bindings (action.Unlock file id) told old new left none = unlock-none me file id told old new left
 served-none u me bindings (action.Levels file) told old new left none = levels-none me file told old new left
 served-none u me bindings (action.Settle file) told old new left none = settled-none u me file told old new left none
 served-none u me bindings action.IsDirtyData told old new left none = answered-none u me call.IsDirtyData told old new left none

@@ -172,6 +172,9 @@ module _ (u : Setup) (n : ℕ) (handles : HasHandles u) where
     appended = λ handle lsn bytes past sound all. tt;
     flushed = λ handle to past sound all. tt;
     log_failed = λ handle past low sound all. low;
+    locked = λ file range exclusive granted id past sound all. tt;
+    unlocked = λ file id gone past sound all. tt;
+    tested = λ file range write conflict past sound all. tt;
     deferred = λ id file pages retrying past sound all. tt;
   }
 

@@ -1,6 +1,7 @@
 pub mod ShimSteps
 pub mod Grown
 pub mod ShimLines
+pub mod Conflicts
 pub mod ThrottleSteps
 pub mod SettleSteps
 pub mod LineSteps

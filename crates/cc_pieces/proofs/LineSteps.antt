@@ -38,7 +38,7 @@ use Rattle.cc_pieces.specs.Runs.{Explains, Ran, bindings_of, asked_of}
 use Rattle.cc_vacb.specs.Levels.{levels_of}
 use Rattle.cc_pieces.proofs.ThrottleSteps.{deferred-after, deferred-before, posted-after, posted-before}
 use Rattle.cc_pieces.proofs.SettleSteps.{settled-after, settled-before}
-use Rattle.cc_pieces.proofs.ShimSteps.{read-after, read-before, update-after, update-before, write-after, write-before}
+use Rattle.cc_pieces.proofs.ShimSteps.{read-after, read-before, update-after, update-before, write-after, write-before, lock-after, lock-before, unlock-after, unlock-before}
 
 answered-before : (u : Setup) (me : ℕ) (it : Call) (told : Answer) (older old new : List Entry) → IsIdle me older old → CallAnswered u me it told old new → CallAnswered u me it told older new
 answered-before u me it (answer.Given r) older old new idle left = left-before u me it (outcome.Done r) older old new idle left
@@ -240,6 +240,8 @@ served-before u me bindings (action.NcWrite file at bytes) told older old new id
 served-before u me bindings (action.Read file path at len) told older old new idle left = read-before u me older old idle file path at len told new left
 served-before u me bindings (action.Write file at bytes) told older old new idle left = write-before u me older old idle file at bytes told new left
 served-before u me bindings (action.Update file at bytes) told older old new idle left = update-before u me older old idle file at bytes told new left
+served-before u me bindings (action.Lock file span exclusive) told older old new idle left = lock-before u me older old idle file span exclusive told new left
+served-before u me bindings (action.Unlock file id) told older old new idle left = unlock-before u me older old idle file id told new left
 served-before u me bindings (action.Levels file) told older old new idle left = levels_told-before me file told older old new idle left
 served-before u me bindings (action.Settle file) told older old new idle left = settled-before u me file older old idle told new left
 served-before u me bindings action.IsDirtyData told older old new idle left = answered-before u me call.IsDirtyData told older old new idle left
@@ -300,6 +302,8 @@ served-after u me bindings (action.NcWrite file at bytes) told old new newer lef
 served-after u me bindings (action.Read file path at len) told old new newer left idle = read-after u me new newer idle file path at len told old left
 served-after u me bindings (action.Write file at bytes) told old new newer left idle = write-after u me new newer idle file at bytes told old left
 served-after u me bindings (action.Update file at bytes) told old new newer left idle = update-after u me new newer idle file at bytes told old left
+served-after u me bindings (action.Lock file span exclusive) told old new newer left idle = lock-after u me new newer idle file span exclusive told old left
+served-after u me bindings (action.Unlock file id) told old new newer left idle = unlock-after u me new newer idle file id told old left
 served-after u me bindings (action.Levels file) told old new newer left idle = levels_told-after me file told old new newer left idle
 served-after u me bindings (action.Settle file) told old new newer left idle = settled-after me new newer idle u file told old left
 served-after u me bindings action.IsDirtyData told old new newer left idle = answered-after u me call.IsDirtyData told old new newer left idle

@@ -74,6 +74,9 @@ keeps-calm u me = record {
   appended = λ handle lsn bytes past. refl;
   flushed = λ handle to past. refl;
   log_failed = λ handle past low. refl;
+  locked = λ file range exclusive granted id past. refl;
+  unlocked = λ file id gone past. refl;
+  tested = λ file range write conflict past. refl;
   deferred = λ id file pages retrying past. refl;
 }
 
@@ -93,6 +96,8 @@ on-any (action.NcWrite file at bytes) = tt
 on-any (action.Read file path at len) = tt
 on-any (action.Write file at bytes) = tt
 on-any (action.Update file at bytes) = tt
+on-any (action.Lock file span exclusive) = tt
+on-any (action.Unlock file id) = tt
 on-any (action.Levels file) = tt
 on-any (action.Settle file) = tt
 on-any (action.SetSizes file allocation size) = tt

@@ -11,6 +11,7 @@ use Rattle.cc_entry.specs.declared.call.Call.TheVariants as call
 use Rattle.cc_entry.specs.declared.answer.Answer.{Answer}
 use Rattle.cc_entry.specs.declared.answer.Answer.TheVariants as answer
 use Rattle.cc_entry.specs.declared.entry.Entry.{Entry}
+use Rattle.cc_entry.specs.declared.entry.Entry.TheVariants as entry
 use Rattle.cc_entry.specs.declared.error.CcError.{CcError}
 use Rattle.cc_entry.specs.declared.error.CcError.TheVariants as error
 use Rattle.cc_entry.specs.declared.reply.Reply.{Reply}
@@ -24,9 +25,11 @@ use Rattle.cc_model.specs.Cache.{makes_hold}
 use Rattle.cc_model.specs.Setup.{Setup}
 use Rattle.cc_effects.specs.Calls.{CallLeft}
 use Rattle.cc_effects.specs.LogCalls.{AppendLeft}
-use Rattle.cc_effects.specs.Moments.{IsIdle}
+use Rattle.cc_effects.specs.Moments.{Between, IsIdle, PlacedOnly}
 use Rattle.cc_effects.specs.Noncached.{NcReadLeft}
-use Rattle.cc_pieces.specs.Shim.{CallsLeft, HeldPartsLeft, HoldPath, LoggedLeft, PartRead, PartRefused, PartsLeft, PathReadLeft, PinnedUpdateLeft, ReadAnswered, ReadTested, RecordedLeft, RefusedSo, ShortWriteLeft, ToldUpdateLeft, ToldWriteLeft, UpdateAnswered, UpdateLeft, WriteAnswered, WriteTested, descriptor_path, extensions, mapped_path, misaligned_for, parts_of, pinned_path, too_long_for, update_record, whole_part, write_calls, zeroings}
+use Rattle.cc_model.specs.Reasons.{crosses_blocks, refuse_if}
+use Rattle.cc_pieces.specs.Locks.{AdmittedLeft, FoundLeft, LockedLeft, LockedReadAnswered, LockedReadLeft, LockedUpdateAnswered, LockedUpdateLeft, LockedWriteAnswered, LockedWriteLeft, TestLeft, read_refused, tested_range, update_refused, without_log, write_refused}
+use Rattle.cc_pieces.specs.Shim.{CallsLeft, HeldPartsLeft, HoldPath, LoggedLeft, PartRead, PartRefused, PartsLeft, PathReadLeft, PinnedUpdateLeft, ReadTested, RecordedLeft, RefusedSo, ShortWriteLeft, ToldUpdateLeft, ToldWriteLeft, UpdateLeft, WriteTested, descriptor_path, extensions, first_of, mapped_path, misaligned_for, parts_of, pinned_path, too_long_for, update_record, whole_part, write_calls, zeroings}
 
 -- a call of a list is on the file, or on the hold that the list made
 abbrev pub IsMadeOn : File → Option ℕ → Call → Type 0
@@ -40,6 +43,20 @@ IsMadeOn file own (call.AskAhead asked at len) = ⊥
 IsMadeOn file own (call.AheadStep request) = ⊥
 IsMadeOn file own other = file_of other ≡ Some file
 
+-- whether an error tells no fault, and no lock: as one does that no device and no lock has a part in
+abbrev pub is_calm : CcError → Bool
+is_calm (error.ReadFault page) = false
+is_calm (error.WriteFault page) = false
+is_calm (error.LogFault handle) = false
+is_calm (error.LockConflict id) = false
+is_calm other = true
+
+pub calm-faultless : (e : CcError) → is_calm e ≡ true → is_fault e ≡ false
+calm-faultless (error.ReadFault page) calm = absurd (cc calm)
+calm-faultless (error.WriteFault page) calm = absurd (cc calm)
+calm-faultless (error.LogFault handle) calm = absurd (cc calm)
+calm-faultless other calm = refl
+
 -- What is said of a list of calls of which all were done, and of one that was refused, beside a hold that the list made, if
 -- it made one; it follows from what each call left.
 pub record Follows (u : Setup) (me : ℕ) (file : File) (Done : Option ℕ → List Entry → List Entry → Type 0)
@@ -50,13 +67,19 @@ pub record Follows (u : Setup) (me : ℕ) (file : File) (Done : Option ℕ → L
   pub failed : (own : Option ℕ) (it : Call) (e : CcError) (old new : List Entry) → IsMadeOn file own it → CallLeft u me it (outcome.Failed e) old new → Failed own e old new
   pub after : (own : Option ℕ) (e : CcError) (old between new : List Entry) → Done own old between → Failed own e between new → Failed own e old new
   pub before : (id : ℕ) (e : CcError) (old between new : List Entry) → Failed (Some id) e old between → Done (Some id) between new → Failed (Some id) e old new
-  pub tested : (own : Option ℕ) (e : CcError) (old new : List Entry) → is_fault e ≡ false → IsIdle me old new → Failed own e old new
+  pub tested : (own : Option ℕ) (e : CcError) (old new : List Entry) → is_calm e ≡ true → IsIdle me old new → Failed own e old new
   pub held : (it : Call) (id : ℕ) (old made new : List Entry) → makes_hold it ≡ true → IsMadeOn file None it → CallLeft u me it (outcome.Done (reply.Hold id)) old made → Done (Some id) made new → Done None old new
   pub unheld : (it : Call) (id : ℕ) (e : CcError) (old made new : List Entry) → makes_hold it ≡ true → IsMadeOn file None it → CallLeft u me it (outcome.Done (reply.Hold id)) old made → Failed (Some id) e made new → Failed None e old new
   pub read : (at len : ℕ) (bytes : List ℕ) (old new : List Entry) → NcReadLeft u me file at len (Ok bytes) old new → Done None old new
   pub unread : (at len done : ℕ) (e : CcError) (old new : List Entry) → NcReadLeft u me file at len (Err (done, e)) old new → Failed None e old new
   pub appended : (own : Option ℕ) (handle : ℕ) (bytes : List ℕ) (lsn : ℕ) (old new : List Entry) → AppendLeft u me handle bytes (Ok lsn) old new → Done own old new
   pub unappended : (own : Option ℕ) (handle : ℕ) (bytes : List ℕ) (e : CcError) (old new : List Entry) → AppendLeft u me handle bytes (Err e) old new → Failed own e old new
+
+-- What is said of the test against the locks in front of such a list: none conflicts, or one does.
+pub record FollowsTests (me : ℕ) (file : File) (Done : Option ℕ → List Entry → List Entry → Type 0)
+    (Failed : Option ℕ → CcError → List Entry → List Entry → Type 0) : Type 0 where
+  pub noted : (range : Range) (write : Bool) (old new : List Entry) → PlacedOnly me (entry.Tested me file range write None) old new → Done None old new
+  pub barred : (range : Range) (write : Bool) (id : ℕ) (old new : List Entry) → PlacedOnly me (entry.Tested me file range write (Some id)) old new → Failed None (error.LockConflict id) old new
 
 -- what is said of a line by its answer
 abbrev pub Told : (Option ℕ → List Entry → List Entry → Type 0) → (Option ℕ → CcError → List Entry → List Entry → Type 0) → Answer → List Entry → List Entry → Type 0
@@ -78,22 +101,49 @@ over-pinned file = record { makes = λ r. refl; of_file = λ r. refl; on_hold = 
 over-descriptor : (file : File) → GoesOver file (descriptor_path file)
 over-descriptor file = record { makes = λ r. refl; of_file = λ r. refl; on_hold = λ id r. refl }
 
--- a test of the shim's own tells no fault
-abbrev IsCalm : Option CcError → Type 0
+-- a test of the shim's own tells none of these
+abbrev pub IsCalm : Option CcError → Type 0
 IsCalm None = Unit {0}
-IsCalm (Some e) = is_fault e ≡ false
+IsCalm (Some e) = is_calm e ≡ true
 
-calm-if : (b : Bool) (e : CcError) → is_fault e ≡ false → IsCalm (if b then Some e else None)
+calm-if : (b : Bool) (e : CcError) → is_calm e ≡ true → IsCalm (if b then Some e else None)
 calm-if true e calm = calm
 calm-if false e calm = tt
 
-calm-long : (path : ReadPath) (len : ℕ) → IsCalm (too_long_for path len)
+pub calm-long : (path : ReadPath) (len : ℕ) → IsCalm (too_long_for path len)
 calm-long Noncached len = calm-if (nat_lt 65536 len) (error.TooLong 65536) refl
 calm-long other len = calm-if (nat_lt 1048576 len) (error.TooLong 1048576) refl
 
-calm-misaligned : (path : ReadPath) (at len : ℕ) → IsCalm (misaligned_for path at len)
+pub calm-misaligned : (path : ReadPath) (at len : ℕ) → IsCalm (misaligned_for path at len)
 calm-misaligned Noncached at len = calm-if _ error.Unaligned refl
 calm-misaligned other at len = tt
+
+calm-first : (a b : Option CcError) → IsCalm a → IsCalm b → IsCalm (first_of a b)
+calm-first (Some e) b one two = one
+calm-first None b one two = two
+
+calm-refuse : (b : Bool) (e : CcError) → is_calm e ≡ true → IsCalm (refuse_if b e)
+calm-refuse true e calm = calm
+calm-refuse false e calm = tt
+
+calm-log : (log : Option ℕ) → IsCalm (without_log log)
+calm-log None = refl
+calm-log (Some handle) = tt
+
+-- nor does what is refused by the state
+pub calm-read : (path : ReadPath) (at len : ℕ) (state : FileState) → IsCalm (read_refused path at len state)
+calm-read path at len state = calm-first (too_long_for path len) (misaligned_for path at len) (calm-long path len) (calm-misaligned path at len)
+
+pub calm-write : (at len : ℕ) (state : FileState) → IsCalm (write_refused at len state)
+calm-write at len state =
+    calm-first _ _ (calm-refuse (nat_lt 1048576 len) (error.TooLong 1048576) refl) (calm-refuse (nat_lt (state.sizes.valid + 67108864) at) (error.GapTooLong 67108864) refl)
+
+pub calm-update : (at len : ℕ) (state : FileState) → IsCalm (update_refused at len state)
+calm-update at len state =
+    calm-first _ _ (calm-refuse (crosses_blocks at len) error.ViewBoundary refl)
+    (calm-first _ _ (calm-log state.log)
+    (calm-first _ _ (calm-refuse (nat_lt state.sizes.size (at + len)) (error.BeyondSize state.sizes.size) refl)
+    (calm-refuse (nat_lt state.sizes.valid at) (error.BeyondValid state.sizes.valid) refl)))
 
 -- the calls of a write are on the file
 all-append : (file : File) (own : Option ℕ) (first rest : List Call) → AllByRecursion (λ it. IsMadeOn file own it) first → AllByRecursion (λ it. IsMadeOn file own it) rest → AllByRecursion (λ it. IsMadeOn file own it) (first ++ rest)
@@ -135,7 +185,7 @@ module _ (u : Setup) (me : ℕ) (file : File) (Done : Option ℕ → List Entry 
   ended-refused : {A : Type 0} (own : Option ℕ) (e : CcError) (answered : Result A CcError) (old new : List Entry) → answered ≡ Err e → Failed own e old new → Ended own answered old new
   ended-refused own e answered old new is left = subst (λ a. Ended own a old new) (sym is) left
 
-  ended-tested : {A : Type 0} (own : Option ℕ) (e : CcError) (answered : Result A CcError) (old new : List Entry) → is_fault e ≡ false → RefusedSo e answered → IsIdle me old new → Ended own answered old new
+  ended-tested : {A : Type 0} (own : Option ℕ) (e : CcError) (answered : Result A CcError) (old new : List Entry) → is_calm e ≡ true → RefusedSo e answered → IsIdle me old new → Ended own answered old new
   ended-tested own e answered old new calm (inl is) idle = ended-refused own e answered old new is (f.tested own e old new calm idle)
   ended-tested own e answered old new calm (inr is) idle = ended-refused own error.NoMemory answered old new is (f.tested own error.NoMemory old new refl idle)
 
@@ -194,7 +244,7 @@ module _ (u : Setup) (me : ℕ) (file : File) (Done : Option ℕ → List Entry 
   follow-path Noncached at len (Ok bytes) old new left = f.read at len bytes old new left
   follow-path Noncached at len (Err e) old new left = f.unread at len left.0 e old new left.1
 
-  follow-read : (path : ReadPath) (at len : ℕ) (long misaligned : Option CcError) (answered : Result (List ℕ) CcError) (old new : List Entry) → IsCalm long → IsCalm misaligned → ReadTested u me file path at len long misaligned answered old new → Ended None answered old new
+  pub follow-read : (path : ReadPath) (at len : ℕ) (long misaligned : Option CcError) (answered : Result (List ℕ) CcError) (old new : List Entry) → IsCalm long → IsCalm misaligned → ReadTested u me file path at len long misaligned answered old new → Ended None answered old new
   follow-read path at len (Some e) misaligned answered old new calm calm_too left = ended-tested None e answered old new calm left.0 left.1
   follow-read path at len None (Some e) answered old new calm calm_too left = ended-tested None e answered old new calm_too left.0 left.1
   follow-read path at len None None answered old new calm calm_too left = follow-path path at len answered old new left
@@ -210,7 +260,7 @@ module _ (u : Setup) (me : ℕ) (file : File) (Done : Option ℕ → List Entry 
   follow-short at bytes answered old new (inr left) =
       ended-after None answered old left.0 new (follow-state None left.1 old left.0 left.2) (follow-told_write at bytes left.1 answered left.0 new left.3)
 
-  follow-write : (at : ℕ) (bytes : List ℕ) (long : Bool) (answered : Result (Unit {0}) CcError) (old new : List Entry) → WriteTested u me file at bytes long answered old new → Ended None answered old new
+  pub follow-write : (at : ℕ) (bytes : List ℕ) (long : Bool) (answered : Result (Unit {0}) CcError) (old new : List Entry) → WriteTested u me file at bytes long answered old new → Ended None answered old new
   follow-write at bytes true answered old new left = ended-tested None (error.TooLong 1048576) answered old new refl left.0 left.1
   follow-write at bytes false answered old new left = follow-short at bytes answered old new left
 
@@ -238,28 +288,67 @@ module _ (u : Setup) (me : ℕ) (file : File) (Done : Option ℕ → List Entry 
   follow-pinned id at bytes answered old new (inr left) =
       ended-after (Some id) answered old left.0 new (follow-state (Some id) left.1 old left.0 left.2) (follow-told_update id at bytes left.1.log left.1.sizes.valid answered left.0 new left.3)
 
-  follow-update : (at : ℕ) (bytes : List ℕ) (answered : Result ℕ CcError) (old new : List Entry) → UpdateLeft u me file at bytes answered old new → Ended None answered old new
+  pub follow-update : (at : ℕ) (bytes : List ℕ) (answered : Result ℕ CcError) (old new : List Entry) → UpdateLeft u me file at bytes answered old new → Ended None answered old new
   follow-update at bytes answered old new (inl left) =
       ended-refused None left.0 answered old new left.1 (f.failed None (call.PinRead file at (length bytes) true) left.0 old new refl left.2)
   follow-update at bytes answered old new (inr left) =
       ended-held (call.PinRead file at (length bytes) true) left.0 answered old left.1 new refl refl left.3
       (ended-before left.0 answered left.1 left.2 new (follow-pinned left.0 at bytes answered left.1 left.2 left.4) (follow-end left.0 left.2 new left.5))
 
-  -- ---- lines
+  -- ---- what is tested against the locks first
 
-  pub told-read : (path : ReadPath) (at len : ℕ) (told : Answer) (old new : List Entry) → ReadAnswered u me file path at len told old new → Told Done Failed told old new
-  told-read path at len (answer.Given (reply.Read bytes)) old new left =
-      follow-read path at len (too_long_for path len) (misaligned_for path at len) (Ok bytes) old new (calm-long path len) (calm-misaligned path at len) left
-  told-read path at len (answer.Refused e) old new left =
-      follow-read path at len (too_long_for path len) (misaligned_for path at len) (Err e) old new (calm-long path len) (calm-misaligned path at len) left
-  told-read path at len other old new left = absurd left
+  module _ (t : FollowsTests me file Done Failed) where
+    follow-untested : (range : Range) (write : Bool) (e : CcError) (old new : List Entry) → TestLeft me file range write (Err e) old new → Failed None e old new
+    follow-untested range write (error.LockConflict id) old new left = t.barred range write id old new left
+    follow-untested range write (error.JournalFull entries) old new left = f.tested None (error.JournalFull entries) old new refl left
+    follow-untested range write error.NoMemory old new left = f.tested None error.NoMemory old new refl left
+    follow-untested range write other old new left = absurd left
 
-  pub told-write : (at : ℕ) (bytes : List ℕ) (told : Answer) (old new : List Entry) → WriteAnswered u me file at bytes told old new → Told Done Failed told old new
-  told-write at bytes (answer.Given reply.Unit) old new left = follow-write at bytes (nat_lt 1048576 (length bytes)) (Ok tt) old new left
-  told-write at bytes (answer.Refused e) old new left = follow-write at bytes (nat_lt 1048576 (length bytes)) (Err e) old new left
-  told-write at bytes other old new left = absurd left
+    module _ {A : Type 0} (range : Range) (write : Bool) (Left : Result A CcError → Between) (made : (answered : Result A CcError) (old new : List Entry) → Left answered old new → Ended None answered old new) where
+      follow-admitted : (answered : Result A CcError) (old new : List Entry) → AdmittedLeft me file range write Left answered old new → Ended None answered old new
+      follow-admitted answered old new (inl left) = ended-refused None left.0 answered old new left.1 (follow-untested range write left.0 old new left.2)
+      follow-admitted answered old new (inr left) =
+          ended-after None answered old left.0 new (t.noted range write old left.0 left.1) (made answered left.0 new left.2)
 
-  pub told-update : (at : ℕ) (bytes : List ℕ) (told : Answer) (old new : List Entry) → UpdateAnswered u me file at bytes told old new → Told Done Failed told old new
-  told-update at bytes (answer.NewLsn lsn) old new left = follow-update at bytes (Ok lsn) old new left
-  told-update at bytes (answer.Refused e) old new left = follow-update at bytes (Err e) old new left
-  told-update at bytes other old new left = absurd left
+      follow-found : (refused : Option CcError) (answered : Result A CcError) (old new : List Entry) → IsCalm refused → FoundLeft me file range write refused Left answered old new → Ended None answered old new
+      follow-found (Some e) answered old new calm left = ended-refused None e answered old new left.0 (f.tested None e old new calm left.1)
+      follow-found None answered old new calm left = follow-admitted answered old new left
+
+      follow-locked : (by : FileState → Option CcError) (answered : Result A CcError) (old new : List Entry) → ((state : FileState) → IsCalm (by state)) → LockedLeft u me file range write by Left answered old new → Ended None answered old new
+      follow-locked by answered old new calm (inl left) = ended-refused None left.0 answered old new left.1 (f.failed None (call.State file) left.0 old new refl left.2)
+      follow-locked by answered old new calm (inr left) =
+          ended-after None answered old left.0 new (follow-state None left.1 old left.0 left.2) (follow-found (by left.1) answered left.0 new (calm left.1) left.3)
+
+    follow-locked_read : (path : ReadPath) (at len : ℕ) (answered : Result (List ℕ) CcError) (old new : List Entry) → LockedReadLeft u me file path at len answered old new → Ended None answered old new
+    follow-locked_read path at len answered old new left =
+        follow-locked (tested_range at len) false (ReadTested u me file path at len (too_long_for path len) (misaligned_for path at len))
+        (λ answered old new left. follow-read path at len (too_long_for path len) (misaligned_for path at len) answered old new (calm-long path len) (calm-misaligned path at len) left)
+        (read_refused path at len) answered old new (calm-read path at len) left
+
+    follow-locked_write : (at : ℕ) (bytes : List ℕ) (answered : Result (Unit {0}) CcError) (old new : List Entry) → LockedWriteLeft u me file at bytes answered old new → Ended None answered old new
+    follow-locked_write at bytes answered old new left =
+        follow-locked (tested_range at (length bytes)) true (WriteTested u me file at bytes (nat_lt 1048576 (length bytes)))
+        (λ answered old new left. follow-write at bytes (nat_lt 1048576 (length bytes)) answered old new left)
+        (write_refused at (length bytes)) answered old new (calm-write at (length bytes)) left
+
+    follow-locked_update : (at : ℕ) (bytes : List ℕ) (answered : Result ℕ CcError) (old new : List Entry) → LockedUpdateLeft u me file at bytes answered old new → Ended None answered old new
+    follow-locked_update at bytes answered old new left =
+        follow-locked (tested_range at (length bytes)) true (UpdateLeft u me file at bytes) (λ answered old new left. follow-update at bytes answered old new left)
+        (update_refused at (length bytes)) answered old new (calm-update at (length bytes)) left
+
+    -- ---- lines
+
+    pub told-read : (path : ReadPath) (at len : ℕ) (told : Answer) (old new : List Entry) → LockedReadAnswered u me file path at len told old new → Told Done Failed told old new
+    told-read path at len (answer.Given (reply.Read bytes)) old new left = follow-locked_read path at len (Ok bytes) old new left
+    told-read path at len (answer.Refused e) old new left = follow-locked_read path at len (Err e) old new left
+    told-read path at len other old new left = absurd left
+
+    pub told-write : (at : ℕ) (bytes : List ℕ) (told : Answer) (old new : List Entry) → LockedWriteAnswered u me file at bytes told old new → Told Done Failed told old new
+    told-write at bytes (answer.Given reply.Unit) old new left = follow-locked_write at bytes (Ok tt) old new left
+    told-write at bytes (answer.Refused e) old new left = follow-locked_write at bytes (Err e) old new left
+    told-write at bytes other old new left = absurd left
+
+    pub told-update : (at : ℕ) (bytes : List ℕ) (told : Answer) (old new : List Entry) → LockedUpdateAnswered u me file at bytes told old new → Told Done Failed told old new
+    told-update at bytes (answer.NewLsn lsn) old new left = follow-locked_update at bytes (Ok lsn) old new left
+    told-update at bytes (answer.Refused e) old new left = follow-locked_update at bytes (Err e) old new left
+    told-update at bytes other old new left = absurd left

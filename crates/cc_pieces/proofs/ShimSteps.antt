@@ -11,17 +11,19 @@ use Rattle.cc_entry.specs.declared.answer.Answer.{Answer}
 use Rattle.cc_entry.specs.declared.answer.Answer.TheVariants as answer
 use Rattle.cc_entry.specs.declared.entry.Entry.{Entry}
 use Rattle.cc_entry.specs.declared.error.CcError.{CcError}
+use Rattle.cc_entry.specs.declared.error.CcError.TheVariants as error
 use Rattle.cc_entry.specs.declared.reply.Reply.TheVariants as reply
 use Rattle.cc_entry.specs.declared.reply.Outcome.TheVariants as outcome
 use Rattle.cc_script.specs.declared.script.ReadPath.{ReadPath}
 use Rattle.cc_script.specs.declared.script.ReadPath.TheVariants.{Cached, Mapped, Pinned, Descriptor, Noncached}
 use Rattle.cc_model.specs.Setup.{Setup}
 use Rattle.cc_effects.specs.Calls.{CallLeft}
-use Rattle.cc_effects.specs.Moments.{IsIdle}
-use Rattle.cc_effects.proofs.Stretches.{idle-then}
+use Rattle.cc_effects.specs.Moments.{Between, IsIdle}
+use Rattle.cc_effects.proofs.Stretches.{idle-then, only-after, only-before}
 use Rattle.cc_effects.proofs.CallSteps.{left-after, left-before}
 use Rattle.cc_effects.proofs.NoncachedSteps.{nc-read-after, nc-read-before}
-use Rattle.cc_pieces.specs.Shim.{CallsLeft, HeldPartsLeft, HoldPath, PartRead, PartRefused, PartsLeft, PathReadLeft, ReadAnswered, ReadTested, StateLeft, ToldWriteLeft, UpdateAnswered, UpdateLeft, WriteAnswered, WriteTested, descriptor_path, mapped_path, misaligned_for, parts_of, pinned_path, too_long_for, whole_part, write_calls}
+use Rattle.cc_pieces.specs.Locks.{AdmittedLeft, FoundLeft, LockAnswered, LockedLeft, LockedReadAnswered, LockedReadLeft, LockedUpdateAnswered, LockedUpdateLeft, LockedWriteAnswered, LockedWriteLeft, TestLeft, UnlockAnswered, read_refused, tested_range, update_refused, write_refused}
+use Rattle.cc_pieces.specs.Shim.{CallsLeft, HeldPartsLeft, HoldPath, PartRead, PartRefused, PartsLeft, PathReadLeft, ReadTested, StateLeft, ToldWriteLeft, UpdateLeft, WriteTested, descriptor_path, mapped_path, misaligned_for, parts_of, pinned_path, too_long_for, whole_part, write_calls}
 
 -- ---- what others placed before
 
@@ -72,20 +74,10 @@ module _ (u : Setup) (me : ℕ) (older old : List Entry) (idle : IsIdle me older
     tested-before path at len None (Some e) answered new left = (left.0, idle-then me older old new idle left.1)
     tested-before path at len None None answered new left = path-before path at len answered new left
 
-    pub read-before : (path : ReadPath) (at len : ℕ) (told : Answer) (new : List Entry) → ReadAnswered u me file path at len told old new → ReadAnswered u me file path at len told older new
-    read-before path at len (answer.Given (reply.Read bytes)) new left = tested-before path at len (too_long_for path len) (misaligned_for path at len) (Ok bytes) new left
-    read-before path at len (answer.Refused e) new left = tested-before path at len (too_long_for path len) (misaligned_for path at len) (Err e) new left
-    read-before path at len other new left = absurd left
-
     written-before : (at : ℕ) (bytes : List ℕ) (long : Bool) (answered : Result (Unit {0}) CcError) (new : List Entry) → WriteTested u me file at bytes long answered old new → WriteTested u me file at bytes long answered older new
     written-before at bytes true answered new left = (left.0, idle-then me older old new idle left.1)
     written-before at bytes false answered new (inl left) = inl (left.0, left.1, left-before u me (call.State file) (outcome.Failed left.0) older old new idle left.2)
     written-before at bytes false answered new (inr left) = inr (left.0, left.1, state-before left.1 left.0 left.2, left.3)
-
-    pub write-before : (at : ℕ) (bytes : List ℕ) (told : Answer) (new : List Entry) → WriteAnswered u me file at bytes told old new → WriteAnswered u me file at bytes told older new
-    write-before at bytes (answer.Given reply.Unit) new left = written-before at bytes (nat_lt 1048576 (length bytes)) (Ok tt) new left
-    write-before at bytes (answer.Refused e) new left = written-before at bytes (nat_lt 1048576 (length bytes)) (Err e) new left
-    write-before at bytes other new left = absurd left
 
     updated-before : (at : ℕ) (bytes : List ℕ) (answered : Result ℕ CcError) (new : List Entry) → UpdateLeft u me file at bytes answered old new → UpdateLeft u me file at bytes answered older new
     updated-before at bytes answered new (inl left) =
@@ -93,10 +85,40 @@ module _ (u : Setup) (me : ℕ) (older old : List Entry) (idle : IsIdle me older
     updated-before at bytes answered new (inr left) =
         inr (left.0, left.1, left.2, left-before u me (call.PinRead file at (length bytes) true) (outcome.Done (reply.Hold left.0)) older old left.1 idle left.3, left.4, left.5)
 
-    pub update-before : (at : ℕ) (bytes : List ℕ) (told : Answer) (new : List Entry) → UpdateAnswered u me file at bytes told old new → UpdateAnswered u me file at bytes told older new
-    update-before at bytes (answer.NewLsn lsn) new left = updated-before at bytes (Ok lsn) new left
-    update-before at bytes (answer.Refused e) new left = updated-before at bytes (Err e) new left
+    -- what is tested against the locks first begins by the state
+    locked-before : {A : Type 0} (range : Range) (write : Bool) (by : FileState → Option CcError) (Left : Result A CcError → Between) (answered : Result A CcError) (new : List Entry) → LockedLeft u me file range write by Left answered old new → LockedLeft u me file range write by Left answered older new
+    locked-before range write by Left answered new (inl left) = inl (left.0, left.1, left-before u me (call.State file) (outcome.Failed left.0) older old new idle left.2)
+    locked-before range write by Left answered new (inr left) = inr (left.0, left.1, state-before left.1 left.0 left.2, left.3)
+
+    pub read-before : (path : ReadPath) (at len : ℕ) (told : Answer) (new : List Entry) → LockedReadAnswered u me file path at len told old new → LockedReadAnswered u me file path at len told older new
+    read-before path at len (answer.Given (reply.Read bytes)) new left = locked-before _ false (read_refused path at len) _ (Ok bytes) new left
+    read-before path at len (answer.Refused e) new left = locked-before {A = List ℕ} _ false (read_refused path at len) _ (Err e) new left
+    read-before path at len other new left = absurd left
+
+    pub write-before : (at : ℕ) (bytes : List ℕ) (told : Answer) (new : List Entry) → LockedWriteAnswered u me file at bytes told old new → LockedWriteAnswered u me file at bytes told older new
+    write-before at bytes (answer.Given reply.Unit) new left = locked-before _ true (write_refused at (length bytes)) _ (Ok tt) new left
+    write-before at bytes (answer.Refused e) new left = locked-before {A = Unit {0}} _ true (write_refused at (length bytes)) _ (Err e) new left
+    write-before at bytes other new left = absurd left
+
+    pub update-before : (at : ℕ) (bytes : List ℕ) (told : Answer) (new : List Entry) → LockedUpdateAnswered u me file at bytes told old new → LockedUpdateAnswered u me file at bytes told older new
+    update-before at bytes (answer.NewLsn lsn) new left = locked-before _ true (update_refused at (length bytes)) _ (Ok lsn) new left
+    update-before at bytes (answer.Refused e) new left = locked-before {A = ℕ} _ true (update_refused at (length bytes)) _ (Err e) new left
     update-before at bytes other new left = absurd left
+
+    pub lock-before : (range : Range) (exclusive : Bool) (told : Answer) (new : List Entry) → LockAnswered me file range exclusive told old new → LockAnswered me file range exclusive told older new
+    lock-before range exclusive (answer.LockId id) new left = only-before me _ older old new idle left
+    lock-before range exclusive (answer.Refused (error.LockConflict id)) new left = only-before me _ older old new idle left
+    lock-before range exclusive (answer.Refused (error.JournalFull entries)) new left = idle-then me older old new idle left
+    lock-before range exclusive (answer.Refused error.NoMemory) new left = idle-then me older old new idle left
+    lock-before range exclusive (answer.Refused other) new left = absurd left
+    lock-before range exclusive other new left = absurd left
+
+    pub unlock-before : (id : ℕ) (told : Answer) (new : List Entry) → UnlockAnswered me file id told old new → UnlockAnswered me file id told older new
+    unlock-before id (answer.Given (reply.Flag gone)) new left = only-before me _ older old new idle left
+    unlock-before id (answer.Refused (error.JournalFull entries)) new left = idle-then me older old new idle left
+    unlock-before id (answer.Refused error.NoMemory) new left = idle-then me older old new idle left
+    unlock-before id (answer.Refused other) new left = absurd left
+    unlock-before id other new left = absurd left
 
 -- ---- what others placed after
 
@@ -145,11 +167,6 @@ module _ (u : Setup) (me : ℕ) (new newer : List Entry) (idle : IsIdle me new n
     tested-after path at len None (Some e) answered old left = (left.0, idle-then me old new newer left.1 idle)
     tested-after path at len None None answered old left = path-after path at len answered old left
 
-    pub read-after : (path : ReadPath) (at len : ℕ) (told : Answer) (old : List Entry) → ReadAnswered u me file path at len told old new → ReadAnswered u me file path at len told old newer
-    read-after path at len (answer.Given (reply.Read bytes)) old left = tested-after path at len (too_long_for path len) (misaligned_for path at len) (Ok bytes) old left
-    read-after path at len (answer.Refused e) old left = tested-after path at len (too_long_for path len) (misaligned_for path at len) (Err e) old left
-    read-after path at len other old left = absurd left
-
     told_write-after : (at : ℕ) (bytes : List ℕ) (state : FileState) (answered : Result (Unit {0}) CcError) (old : List Entry) → ToldWriteLeft u me file at bytes state answered old new → ToldWriteLeft u me file at bytes state answered old newer
     told_write-after at bytes state answered old (inl left) = inl (left.0, left.1, idle-then me old new newer left.2 idle)
     told_write-after at bytes state answered old (inr left) = inr (left.0, calls-after (write_calls file at bytes state) answered old left.1)
@@ -159,17 +176,71 @@ module _ (u : Setup) (me : ℕ) (new newer : List Entry) (idle : IsIdle me new n
     written-after at bytes false answered old (inl left) = inl (left.0, left.1, left-after u me (call.State file) (outcome.Failed left.0) old new newer left.2 idle)
     written-after at bytes false answered old (inr left) = inr (left.0, left.1, left.2, told_write-after at bytes left.1 answered left.0 left.3)
 
-    pub write-after : (at : ℕ) (bytes : List ℕ) (told : Answer) (old : List Entry) → WriteAnswered u me file at bytes told old new → WriteAnswered u me file at bytes told old newer
-    write-after at bytes (answer.Given reply.Unit) old left = written-after at bytes (nat_lt 1048576 (length bytes)) (Ok tt) old left
-    write-after at bytes (answer.Refused e) old left = written-after at bytes (nat_lt 1048576 (length bytes)) (Err e) old left
-    write-after at bytes other old left = absurd left
-
     updated-after : (at : ℕ) (bytes : List ℕ) (answered : Result ℕ CcError) (old : List Entry) → UpdateLeft u me file at bytes answered old new → UpdateLeft u me file at bytes answered old newer
     updated-after at bytes answered old (inl left) =
         inl (left.0, left.1, left-after u me (call.PinRead file at (length bytes) true) (outcome.Failed left.0) old new newer left.2 idle)
     updated-after at bytes answered old (inr left) = inr (left.0, left.1, left.2, left.3, left.4, end-after left.0 left.2 left.5)
 
-    pub update-after : (at : ℕ) (bytes : List ℕ) (told : Answer) (old : List Entry) → UpdateAnswered u me file at bytes told old new → UpdateAnswered u me file at bytes told old newer
-    update-after at bytes (answer.NewLsn lsn) old left = updated-after at bytes (Ok lsn) old left
-    update-after at bytes (answer.Refused e) old left = updated-after at bytes (Err e) old left
+    untested-after : (range : Range) (write : Bool) (e : CcError) (old : List Entry) → TestLeft me file range write (Err e) old new → TestLeft me file range write (Err e) old newer
+    untested-after range write (error.LockConflict id) old left = only-after me _ old new newer left idle
+    untested-after range write (error.JournalFull entries) old left = idle-then me old new newer left idle
+    untested-after range write error.NoMemory old left = idle-then me old new newer left idle
+    untested-after range write other old left = absurd left
+
+    module _ {A : Type 0} (range : Range) (write : Bool) (Left : Result A CcError → Between) (longer : (answered : Result A CcError) (old : List Entry) → Left answered old new → Left answered old newer) where
+      admitted-after : (answered : Result A CcError) (old : List Entry) → AdmittedLeft me file range write Left answered old new → AdmittedLeft me file range write Left answered old newer
+      admitted-after answered old (inl left) = inl (left.0, left.1, untested-after range write left.0 old left.2)
+      admitted-after answered old (inr left) = inr (left.0, left.1, longer answered left.0 left.2)
+
+      found-after : (refused : Option CcError) (answered : Result A CcError) (old : List Entry) → FoundLeft me file range write refused Left answered old new → FoundLeft me file range write refused Left answered old newer
+      found-after (Some e) answered old left = (left.0, idle-then me old new newer left.1 idle)
+      found-after None answered old left = admitted-after answered old left
+
+      locked-after : (by : FileState → Option CcError) (answered : Result A CcError) (old : List Entry) → LockedLeft u me file range write by Left answered old new → LockedLeft u me file range write by Left answered old newer
+      locked-after by answered old (inl left) = inl (left.0, left.1, left-after u me (call.State file) (outcome.Failed left.0) old new newer left.2 idle)
+      locked-after by answered old (inr left) = inr (left.0, left.1, left.2, found-after (by left.1) answered left.0 left.3)
+
+    locked_read-after : (path : ReadPath) (at len : ℕ) (answered : Result (List ℕ) CcError) (old : List Entry) → LockedReadLeft u me file path at len answered old new → LockedReadLeft u me file path at len answered old newer
+    locked_read-after path at len answered old left =
+        locked-after (tested_range at len) false (ReadTested u me file path at len (too_long_for path len) (misaligned_for path at len))
+        (λ answered old left. tested-after path at len (too_long_for path len) (misaligned_for path at len) answered old left) (read_refused path at len) answered old left
+
+    locked_write-after : (at : ℕ) (bytes : List ℕ) (answered : Result (Unit {0}) CcError) (old : List Entry) → LockedWriteLeft u me file at bytes answered old new → LockedWriteLeft u me file at bytes answered old newer
+    locked_write-after at bytes answered old left =
+        locked-after (tested_range at (length bytes)) true (WriteTested u me file at bytes (nat_lt 1048576 (length bytes)))
+        (λ answered old left. written-after at bytes (nat_lt 1048576 (length bytes)) answered old left) (write_refused at (length bytes)) answered old left
+
+    locked_update-after : (at : ℕ) (bytes : List ℕ) (answered : Result ℕ CcError) (old : List Entry) → LockedUpdateLeft u me file at bytes answered old new → LockedUpdateLeft u me file at bytes answered old newer
+    locked_update-after at bytes answered old left =
+        locked-after (tested_range at (length bytes)) true (UpdateLeft u me file at bytes) (λ answered old left. updated-after at bytes answered old left)
+        (update_refused at (length bytes)) answered old left
+
+    pub read-after : (path : ReadPath) (at len : ℕ) (told : Answer) (old : List Entry) → LockedReadAnswered u me file path at len told old new → LockedReadAnswered u me file path at len told old newer
+    read-after path at len (answer.Given (reply.Read bytes)) old left = locked_read-after path at len (Ok bytes) old left
+    read-after path at len (answer.Refused e) old left = locked_read-after path at len (Err e) old left
+    read-after path at len other old left = absurd left
+
+    pub write-after : (at : ℕ) (bytes : List ℕ) (told : Answer) (old : List Entry) → LockedWriteAnswered u me file at bytes told old new → LockedWriteAnswered u me file at bytes told old newer
+    write-after at bytes (answer.Given reply.Unit) old left = locked_write-after at bytes (Ok tt) old left
+    write-after at bytes (answer.Refused e) old left = locked_write-after at bytes (Err e) old left
+    write-after at bytes other old left = absurd left
+
+    pub update-after : (at : ℕ) (bytes : List ℕ) (told : Answer) (old : List Entry) → LockedUpdateAnswered u me file at bytes told old new → LockedUpdateAnswered u me file at bytes told old newer
+    update-after at bytes (answer.NewLsn lsn) old left = locked_update-after at bytes (Ok lsn) old left
+    update-after at bytes (answer.Refused e) old left = locked_update-after at bytes (Err e) old left
     update-after at bytes other old left = absurd left
+
+    pub lock-after : (range : Range) (exclusive : Bool) (told : Answer) (old : List Entry) → LockAnswered me file range exclusive told old new → LockAnswered me file range exclusive told old newer
+    lock-after range exclusive (answer.LockId id) old left = only-after me _ old new newer left idle
+    lock-after range exclusive (answer.Refused (error.LockConflict id)) old left = only-after me _ old new newer left idle
+    lock-after range exclusive (answer.Refused (error.JournalFull entries)) old left = idle-then me old new newer left idle
+    lock-after range exclusive (answer.Refused error.NoMemory) old left = idle-then me old new newer left idle
+    lock-after range exclusive (answer.Refused other) old left = absurd left
+    lock-after range exclusive other old left = absurd left
+
+    pub unlock-after : (id : ℕ) (told : Answer) (old : List Entry) → UnlockAnswered me file id told old new → UnlockAnswered me file id told old newer
+    unlock-after id (answer.Given (reply.Flag gone)) old left = only-after me _ old new newer left idle
+    unlock-after id (answer.Refused (error.JournalFull entries)) old left = idle-then me old new newer left idle
+    unlock-after id (answer.Refused error.NoMemory) old left = idle-then me old new newer left idle
+    unlock-after id (answer.Refused other) old left = absurd left
+    unlock-after id other old left = absurd left

@@ -359,6 +359,8 @@ module _ (u : Setup) (n : ℕ) where
   doing-below me bindings (action.Read file path at len) below = tt
   doing-below me bindings (action.Write file at bytes) below = tt
   doing-below me bindings (action.Update file at bytes) below = tt
+  doing-below me bindings (action.Lock file span exclusive) below = tt
+  doing-below me bindings (action.Unlock file id) below = tt
   doing-below me bindings (action.Levels file) below = tt
   doing-below me bindings (action.Settle file) below = tt
   doing-below me bindings (action.AskAhead file at len) below = tt

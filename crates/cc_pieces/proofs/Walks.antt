@@ -43,10 +43,11 @@ use Rattle.cc_records.specs.Left.{HasFlushed, IsUnflushed, RecordStopped, Settle
 use Rattle.cc_pieces.specs.Answered.{AppendAnswered, CallAnswered, LevelsAnswered, LogFlushAnswered, DeferAnswered, PostsAnswered, PostsLeft, PostsRefused, NcReadAnswered, NcWriteAnswered, SettleAnswered, TickAnswered}
 use Rattle.cc_pieces.specs.Bindings.{Binding, OnHold, hold_named}
 use Rattle.cc_pieces.specs.HoldLines.{HeldReadBy, HoldLine, UnpinAnswered, UnrepinLine}
+use Rattle.cc_pieces.specs.Locks.{LockAnswered, UnlockAnswered}
 use Rattle.cc_pieces.specs.Queue.{is_queue_action, is_queue_call}
 use Rattle.cc_pieces.specs.Served.{Served}
 use Rattle.cc_vacb.specs.Levels.{levels_of}
-use Rattle.cc_pieces.proofs.ShimLines.{Follows, IsMadeOn, Told, told-read, told-update, told-write}
+use Rattle.cc_pieces.proofs.ShimLines.{Follows, FollowsTests, IsMadeOn, Told, told-read, told-update, told-write}
 
 -- from one moment to another, each entry that the pass placed may stand on its front
 pub record Walked (Stays : List Entry → Entry → Type 0) (me : ℕ) (old new : List Entry) : Type 0 where
@@ -98,6 +99,9 @@ pub record Keeps (u : Setup) (Stays : List Entry → Entry → Type 0) (Fits : L
   pub appended : (handle lsn : ℕ) (bytes : List ℕ) (past : List Entry) → Stays past (entry.Append me handle lsn bytes)
   pub flushed : (handle to : ℕ) (past : List Entry) → Stays past (entry.Flushed me handle to)
   pub log_failed : (handle : ℕ) (past : List Entry) → handle < u.logs → Stays past (entry.LogFailed me handle)
+  pub locked : (file : File) (range : Range) (exclusive granted : Bool) (id : ℕ) (past : List Entry) → Stays past (entry.Locked me file range exclusive granted id)
+  pub unlocked : (file : File) (id : ℕ) (gone : Bool) (past : List Entry) → Stays past (entry.Unlocked me file id gone)
+  pub tested : (file : File) (range : Range) (write : Bool) (conflict : Option ℕ) (past : List Entry) → Stays past (entry.Tested me file range write conflict)
   pub deferred : (id : ℕ) (file : File) (pages : ℕ) (retrying : Bool) (past : List Entry) → Stays past (entry.Defer me id file pages retrying)
 
 -- what is asked of the file of an action of a run, where it names one
@@ -117,6 +121,8 @@ IsActionOn On (action.NcWrite file _ _) = On file
 IsActionOn On (action.Read file _ _ _) = On file
 IsActionOn On (action.Write file _ _) = On file
 IsActionOn On (action.Update file _ _) = On file
+IsActionOn On (action.Lock file _ _) = On file
+IsActionOn On (action.Unlock file _) = On file
 IsActionOn On (action.Levels file) = On file
 IsActionOn On (action.Settle file) = On file
 IsActionOn On (action.SetSizes file _ _) = On file
@@ -371,9 +377,31 @@ module _ (u : Setup) (Stays : List Entry → Entry → Type 0) (Fits : List Entr
       unappended = λ own handle bytes e old new left. walk-append me handle bytes (answer.Refused e) old new left;
     }
 
+    walk-tests : (me : ℕ) → FollowsTests me file (λ own. Walked Stays me) (λ own e. Walked Stays me)
+    walk-tests me = record {
+      noted = λ range write old new only. walked-only Stays me _ old new only ((keeps me).tested file range write None);
+      barred = λ range write id old new only. walked-only Stays me _ old new only ((keeps me).tested file range write (Some id));
+    }
+
   walk-told : {me : ℕ} {old new : List Entry} (told : Answer) → Told (λ own. Walked Stays me) (λ own e. Walked Stays me) told old new → Walked Stays me old new
   walk-told (answer.Refused e) left = left
   walk-told other left = left
+
+  -- a lock, and the end of one
+  walk-lock : (me : ℕ) (file : File) (range : Range) (exclusive : Bool) (told : Answer) (old new : List Entry) → LockAnswered me file range exclusive told old new → Walked Stays me old new
+  walk-lock me file range exclusive (answer.LockId id) old new left = walked-only Stays me _ old new left ((keeps me).locked file range exclusive true id)
+  walk-lock me file range exclusive (answer.Refused (error.LockConflict id)) old new left = walked-only Stays me _ old new left ((keeps me).locked file range exclusive false id)
+  walk-lock me file range exclusive (answer.Refused (error.JournalFull entries)) old new left = walked-idle Stays me old new left
+  walk-lock me file range exclusive (answer.Refused error.NoMemory) old new left = walked-idle Stays me old new left
+  walk-lock me file range exclusive (answer.Refused other) old new left = absurd left
+  walk-lock me file range exclusive other old new left = absurd left
+
+  walk-unlock : (me : ℕ) (file : File) (id : ℕ) (told : Answer) (old new : List Entry) → UnlockAnswered me file id told old new → Walked Stays me old new
+  walk-unlock me file id (answer.Given (reply.Flag gone)) old new left = walked-only Stays me _ old new left ((keeps me).unlocked file id gone)
+  walk-unlock me file id (answer.Refused (error.JournalFull entries)) old new left = walked-idle Stays me old new left
+  walk-unlock me file id (answer.Refused error.NoMemory) old new left = walked-idle Stays me old new left
+  walk-unlock me file id (answer.Refused other) old new left = absurd left
+  walk-unlock me file id other old new left = absurd left
 
   -- a question for levels
   walk-levels : (me : ℕ) (file : File) (told : Answer) (old new : List Entry) → LevelsAnswered levels_of me file told old new → Walked Stays me old new
@@ -543,11 +571,13 @@ module _ (u : Setup) (Stays : List Entry → Entry → Type 0) (Fits : List Entr
   walk-served me bindings (action.NcRead file at len) told old new plain on left = walk-nc-read file on me at len told old new left
   walk-served me bindings (action.NcWrite file at bytes) told old new plain on left = walk-nc-write file on me at bytes told old new left
   walk-served me bindings (action.Read file path at len) told old new plain on left =
-      walk-told told (told-read u me file _ _ (walk-shim file on me) path at len told old new left)
+      walk-told told (told-read u me file _ _ (walk-shim file on me) (walk-tests file on me) path at len told old new left)
   walk-served me bindings (action.Write file at bytes) told old new plain on left =
-      walk-told told (told-write u me file _ _ (walk-shim file on me) at bytes told old new left)
+      walk-told told (told-write u me file _ _ (walk-shim file on me) (walk-tests file on me) at bytes told old new left)
   walk-served me bindings (action.Update file at bytes) told old new plain on left =
-      walk-told told (told-update u me file _ _ (walk-shim file on me) at bytes told old new left)
+      walk-told told (told-update u me file _ _ (walk-shim file on me) (walk-tests file on me) at bytes told old new left)
+  walk-served me bindings (action.Lock file span exclusive) told old new plain on left = walk-lock me file span exclusive told old new left
+  walk-served me bindings (action.Unlock file id) told old new plain on left = walk-unlock me file id told old new left
   walk-served me bindings (action.Levels file) told old new plain on left = walk-levels me file told old new left
   walk-served me bindings (action.Settle file) told old new plain on left = walk-settled me file on told old new left
   walk-served me bindings action.IsDirtyData told old new plain on left = walk-answered me call.IsDirtyData told old new ((keeps me).on_none call.IsDirtyData old refl refl) left

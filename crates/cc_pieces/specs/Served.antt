@@ -12,7 +12,7 @@ use Rattle.cc_pieces.specs.Bindings.{Binding, bound, pinned}
 use Rattle.cc_pieces.specs.HoldLines.{PinMappedLine, HeldReadLine, PinnedWriteLine, StampLine, UnpinLine, RepinLine, UnrepinLine}
 use Rattle.cc_pieces.specs.HoldLines.{ChainReadLine, ChainStoreLine, ChainDoneLine, ChainAbortLine}
 use Rattle.cc_pieces.specs.Answered.{CallAnswered, FlushAnswered, AppendAnswered, LogFlushAnswered, DeferAnswered, PostsAnswered, TickAnswered, StepAnswered, LevelsAnswered, SettleAnswered, NcReadAnswered, NcWriteAnswered}
-use Rattle.cc_pieces.specs.Shim.{ReadAnswered, WriteAnswered, UpdateAnswered}
+use Rattle.cc_pieces.specs.Locks.{LockAnswered, UnlockAnswered, LockedReadAnswered, LockedWriteAnswered, LockedUpdateAnswered}
 use Rattle.cc_vacb.specs.Levels.{levels_of}
 
 -- From one moment to another, the caller's line left what explains its answer. The lines of `steps` alone are none of a
@@ -50,9 +50,11 @@ Served u me bindings (action.Purge file span) told old new = CallAnswered u me (
 Served u me bindings (action.Discard file span) told old new = CallAnswered u me (call.Discard file span) told old new
 Served u me bindings (action.NcRead file at len) told old new = NcReadAnswered u me file at len told old new
 Served u me bindings (action.NcWrite file at bytes) told old new = NcWriteAnswered u me file at bytes told old new
-Served u me bindings (action.Read file path at len) told old new = ReadAnswered u me file path at len told old new
-Served u me bindings (action.Write file at bytes) told old new = WriteAnswered u me file at bytes told old new
-Served u me bindings (action.Update file at bytes) told old new = UpdateAnswered u me file at bytes told old new
+Served u me bindings (action.Read file path at len) told old new = LockedReadAnswered u me file path at len told old new
+Served u me bindings (action.Write file at bytes) told old new = LockedWriteAnswered u me file at bytes told old new
+Served u me bindings (action.Update file at bytes) told old new = LockedUpdateAnswered u me file at bytes told old new
+Served u me bindings (action.Lock file span exclusive) told old new = LockAnswered me file span exclusive told old new
+Served u me bindings (action.Unlock file id) told old new = UnlockAnswered me file id told old new
 Served u me bindings (action.Levels file) told old new = LevelsAnswered levels_of me file told old new
 Served u me bindings (action.Settle file) told old new = SettleAnswered u me file told old new
 Served u me bindings action.IsDirtyData told old new = CallAnswered u me call.IsDirtyData told old new

@@ -13,8 +13,6 @@ use Rattle.cc_entry.specs.declared.error.CcError.{CcError}
 use Rattle.cc_entry.specs.declared.error.CcError.TheVariants as error
 use Rattle.cc_entry.specs.declared.reply.Reply.TheVariants as reply
 use Rattle.cc_entry.specs.declared.reply.Outcome.TheVariants as outcome
-use Rattle.cc_entry.specs.declared.answer.Answer.{Answer}
-use Rattle.cc_entry.specs.declared.answer.Answer.TheVariants as answer
 use Rattle.cc_entry.specs.declared.entry.Entry.{Entry}
 use Rattle.cc_script.specs.declared.script.ReadPath.{ReadPath}
 use Rattle.cc_script.specs.declared.script.ReadPath.TheVariants.{Cached, Mapped, Pinned, Descriptor, Noncached}
@@ -150,6 +148,11 @@ abbrev pub misaligned_for : ReadPath → ℕ → ℕ → Option CcError
 misaligned_for Noncached at len = if nat_lt 0 (at % 4096) || nat_lt 0 (len % 4096) then Some error.Unaligned else None
 misaligned_for other at len = None
 
+-- the first of two refusals
+abbrev pub first_of : Option CcError → Option CcError → Option CcError
+first_of (Some e) other = Some e
+first_of None other = other
+
 -- a test of the shim's own refuses so, or finds no memory
 abbrev pub RefusedSo : {T : Type 0} → CcError → Result T CcError → Type 0
 RefusedSo e answered = (answered ≡ Err e) ⊎ (answered ≡ Err error.NoMemory)
@@ -159,14 +162,6 @@ abbrev pub ReadTested : Setup → ℕ → File → ReadPath → ℕ → ℕ → 
 ReadTested u me file path at len (Some e) misaligned answered old new = RefusedSo e answered × IsIdle me old new
 ReadTested u me file path at len None (Some e) answered old new = RefusedSo e answered × IsIdle me old new
 ReadTested u me file path at len None None answered old new = PathReadLeft u me file path at len answered old new
-
--- a read by a path
-abbrev pub ReadAnswered : Setup → ℕ → File → ReadPath → ℕ → ℕ → Answer → Between
-ReadAnswered u me file path at len (answer.Given (reply.Read bytes)) old new =
-    ReadTested u me file path at len (too_long_for path len) (misaligned_for path at len) (Ok bytes) old new
-ReadAnswered u me file path at len (answer.Refused e) old new =
-    ReadTested u me file path at len (too_long_for path len) (misaligned_for path at len) (Err e) old new
-ReadAnswered u me file path at len other old new = ⊥
 
 -- the zeroings from one place to another, 1048576 bytes each and the last one the rest
 abbrev pub zeroings : File → ℕ → ℕ → List Call
@@ -203,13 +198,6 @@ ShortWriteLeft u me file at bytes answered old new =
 abbrev pub WriteTested : Setup → ℕ → File → ℕ → List ℕ → Bool → Result (Unit {0}) CcError → Between
 WriteTested u me file at bytes true answered old new = RefusedSo (error.TooLong 1048576) answered × IsIdle me old new
 WriteTested u me file at bytes false answered old new = ShortWriteLeft u me file at bytes answered old new
-
--- a write that extends the stream
-abbrev pub WriteAnswered : Setup → ℕ → File → ℕ → List ℕ → Answer → Between
-WriteAnswered u me file at bytes (answer.Given reply.Unit) old new =
-    WriteTested u me file at bytes (nat_lt 1048576 (length bytes)) (Ok tt) old new
-WriteAnswered u me file at bytes (answer.Refused e) old new = WriteTested u me file at bytes (nat_lt 1048576 (length bytes)) (Err e) old new
-WriteAnswered u me file at bytes other old new = ⊥
 
 -- the log's record of an update: the stream, the place, the length and the bytes
 abbrev pub update_record : File → ℕ → List ℕ → List ℕ
@@ -264,8 +252,3 @@ UpdateLeft u me file at bytes answered old new =
     × CallLeft u me (call.PinRead file at (length bytes) true) (outcome.Done (reply.Hold id)) old made
     × PinnedUpdateLeft u me file id at bytes answered made done
     × CallLeft u me (call.EndHold id) (outcome.Done reply.Unit) done new)
-
-abbrev pub UpdateAnswered : Setup → ℕ → File → ℕ → List ℕ → Answer → Between
-UpdateAnswered u me file at bytes (answer.NewLsn lsn) old new = UpdateLeft u me file at bytes (Ok lsn) old new
-UpdateAnswered u me file at bytes (answer.Refused e) old new = UpdateLeft u me file at bytes (Err e) old new
-UpdateAnswered u me file at bytes other old new = ⊥

@@ -1,12 +1,14 @@
-//! How a caller's run grows, what a read in it answers, and which holds words name. Each function does
+//! How a caller's run grows, what a read in it answers, which test tells of a lock, and which holds words name. Each function does
 //! nothing: its contract is the law.
 
-ghost use Rattle.std.specs.Prelude.{◌≡◌, ◌≢◌, ◌≤◌, ◌+◌, ℕ, Bool, false, not, Some, None, List, [], ◌∷◌, ◌++◌, length};
+ghost use Rattle.std.specs.Prelude.{◌≡◌, ◌≢◌, ◌≤◌, ◌+◌, ℕ, Bool, false, not, Some, None, List, [], ◌∷◌, ◌++◌, length, true, Err};
 ghost use Rattle.std.specs.List.{list_any};
 ghost use Rattle.std.specs.declared.option.Option.{Option};
 ghost use Rattle.cc_entry.specs.Kinds.{is_map, is_pin};
 ghost use Rattle.cc_entry.specs.declared.hold.HoldKind.TheVariants as kind;
 ghost use Rattle.cc_entry.specs.declared.error.CcError.{CcError};
+ghost use Rattle.cc_entry.specs.declared.error.CcError.TheVariants as error;
+ghost use Rattle.cc_script.specs.declared.script.ReadPath.{ReadPath};
 ghost use Rattle.cc_entry.specs.Place.{File};
 ghost use Rattle.cc_entry.specs.declared.call.Call.TheVariants as call;
 ghost use Rattle.cc_entry.specs.declared.reply.Reply.TheVariants as reply;
@@ -29,6 +31,7 @@ ghost use Rattle.cc_effects.specs.Noncached.{pages_from};
 ghost use Rattle.cc_pieces.specs.Bindings.{Binding, bound, pinned, hold_named, OnHold};
 ghost use Rattle.cc_pieces.specs.HoldLines.{HeldReadLine, PinnedWriteLine};
 ghost use Rattle.cc_pieces.specs.Openings.{Opened, is_record_of};
+ghost use Rattle.cc_pieces.specs.Locks.{TestLeft, tested_range};
 ghost use Rattle.cc_pieces.specs.PlainPages.{ArePlainPages};
 ghost use Rattle.cc_pieces.specs.Runs.{Explains, Ran, bindings_of};
 
@@ -95,6 +98,23 @@ pub fn uninitialise_tells_whether_the_map_went()
         ++ (entry.Call me nth (Some file.stream) (call.Uninitialise file truncate) (outcome.Done (reply.Flag gone))
         ∷ (earlier ++ old)))
         × (gone ≡ not (is_mapped (Did me (call.Uninitialise file truncate) (reply.Flag gone) ∷ history (earlier ++ old) file.stream))) }
+{}
+
+/// A line that reads, writes or updates and is told of a lock in its way has the test that tells it, of its own range, as its
+/// last entry: the calls behind a test are told of none.
+pub fn conflicts_are_tested()
+    ensures read { (u : Setup) (limit me : ℕ) (bindings : List Binding) (file : File) (path : ReadPath) (at len id : ℕ)
+        (old new : List Entry) →
+        Explains u limit me bindings (action.Read file path at len) (answer.Refused (error.LockConflict id)) old new →
+        (between : List Entry) × TestLeft me file (tested_range at len) false (Err (error.LockConflict id)) between new }
+    ensures write { (u : Setup) (limit me : ℕ) (bindings : List Binding) (file : File) (at : ℕ) (bytes : List ℕ) (id : ℕ)
+        (old new : List Entry) →
+        Explains u limit me bindings (action.Write file at bytes) (answer.Refused (error.LockConflict id)) old new →
+        (between : List Entry) × TestLeft me file (tested_range at (length bytes)) true (Err (error.LockConflict id)) between new }
+    ensures update { (u : Setup) (limit me : ℕ) (bindings : List Binding) (file : File) (at : ℕ) (bytes : List ℕ) (id : ℕ)
+        (old new : List Entry) →
+        Explains u limit me bindings (action.Update file at bytes) (answer.Refused (error.LockConflict id)) old new →
+        (between : List Entry) × TestLeft me file (tested_range at (length bytes)) true (Err (error.LockConflict id)) between new }
 {}
 
 /// Of a caller's first word: it names the hold that its line made, of the kind that the hold is now; a refused line binds

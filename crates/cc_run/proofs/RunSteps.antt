@@ -52,6 +52,8 @@ servable streams n (action.NcRead file at len) few run within = let there = with
 servable streams n (action.Read file path at len) few run within = let there = within.stream in omega (arith, there, few)
 servable streams n (action.Write file at bytes) few run within = let there = within.stream in omega (arith, there, few)
 servable streams n (action.Update file at bytes) few run within = let there = within.stream in omega (arith, there, few)
+servable streams n (action.Lock file span exclusive) few run within = let there = within.stream in omega (arith, there, few)
+servable streams n (action.Unlock file id) few run within = let there = within.stream in omega (arith, there, few)
 servable streams n (action.Levels file) few run within = let there = within.stream in omega (arith, there, few)
 servable streams n (action.Settle file) few run within = let there = within.stream in omega (arith, there, few)
 servable streams n (action.NcWrite file at bytes) few run within = let there = within.stream in omega (arith, there, few)

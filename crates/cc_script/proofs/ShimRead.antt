@@ -4,8 +4,8 @@ use Rattle.cc_script.specs.declared.script.Mode.{Mode}
 use Rattle.cc_script.specs.declared.script.StreamLine.{StreamLine}
 use Rattle.cc_script.specs.declared.script.Action.{Action}
 use Rattle.cc_script.specs.Words.{number_of, number_between, bytes_of}
-use Rattle.cc_script.specs.Actions.{next, file_of}
-use Rattle.cc_script.specs.ShimActions.{path_of, read_of, write_of, update_of, levels_of, settle_of}
+use Rattle.cc_script.specs.Actions.{next, file_of, span_of}
+use Rattle.cc_script.specs.ShimActions.{path_of, read_of, write_of, update_of, levels_of, settle_of, lock_of, unlock_of}
 use Rattle.cc_script.specs.Modes.{RunAlone, stands}
 use Rattle.cc_script.proofs.Steps.{then-gives, next-gives, ended-gives, between-gives, file-gives, bytes-give}
 use Rattle.cc_script.proofs.Plain.{IsPlain}
@@ -47,6 +47,26 @@ update-gives m streams ws in_mode a e =
     let b = next-gives bytes_of at.0.1 bytes.0.0 bytes.0.1 bytes.1 in
     subst (IsPlain m streams) end.1
     (record { file = file-gives streams f.word file.0.0 f.reads; moved = bytes-give b.word bytes.0.0 b.reads; numbered = λ n. refl; in_mode = in_mode })
+
+pub lock-gives : (m : Mode) (streams : List StreamLine) (ws : List (List ℕ)) → stands RunAlone m ≡ true → (a : Action) → lock_of streams ws ≡ Some a → IsPlain m streams a
+unfolding lock_of
+lock-gives m streams ws in_mode a e =
+    let file = then-gives (next (file_of streams) ws) _ a e in
+    let span = then-gives (span_of file.0.1) _ a file.2 in
+    let end = ended-gives _ _ a span.2 in
+    let f = next-gives (file_of streams) ws file.0.0 file.0.1 file.1 in
+    subst (IsPlain m streams) end.1
+    (record { file = file-gives streams f.word file.0.0 f.reads; moved = omega arith; numbered = λ n. refl; in_mode = in_mode })
+
+pub unlock-gives : (m : Mode) (streams : List StreamLine) (ws : List (List ℕ)) → stands RunAlone m ≡ true → (a : Action) → unlock_of streams ws ≡ Some a → IsPlain m streams a
+unfolding unlock_of
+unlock-gives m streams ws in_mode a e =
+    let file = then-gives (next (file_of streams) ws) _ a e in
+    let id = then-gives (next number_of file.0.1) _ a file.2 in
+    let end = ended-gives _ _ a id.2 in
+    let f = next-gives (file_of streams) ws file.0.0 file.0.1 file.1 in
+    subst (IsPlain m streams) end.1
+    (record { file = file-gives streams f.word file.0.0 f.reads; moved = omega arith; numbered = λ n. refl; in_mode = in_mode })
 
 pub levels-gives : (m : Mode) (streams : List StreamLine) (ws : List (List ℕ)) → stands RunAlone m ≡ true → (a : Action) → levels_of streams ws ≡ Some a → IsPlain m streams a
 unfolding levels_of

@@ -8,7 +8,7 @@ use Rattle.cc_script.specs.declared.verb.Verb.{Verb}
 use Rattle.cc_script.specs.declared.verb.Verb.TheVariants as verb
 use Rattle.cc_script.specs.Actions.{ended, initialise_of, uninitialise_of, copy_read_of, copy_write_of, zero_of, set_sizes_of, state_of, flush_of, purge_of, discard_of, set_log_of, append_of, log_flush_of, dirty_pages_of, lsn_for_file_of}
 use Rattle.cc_script.specs.EventActions.{nc_read_in, nc_write_in, nc_store_page_of, ask_ahead_of, set_granularity_of, set_attributes_of, set_threshold_of, fill_of, drop_of, write_begin_of, write_end_of, sync_of, can_write_of, defer_of}
-use Rattle.cc_script.specs.ShimActions.{read_of, write_of, update_of, levels_of, settle_of}
+use Rattle.cc_script.specs.ShimActions.{read_of, write_of, update_of, levels_of, settle_of, lock_of, unlock_of}
 use Rattle.cc_script.specs.HoldActions.{map_of, pin_read_of, pin_mapped_of, prepare_pin_of, held_read_of, pinned_write_of, set_dirty_of, unpin_of, repin_of, unpin_repinned_of, mdl_read_of, mdl_write_of, mdl_bytes_of, mdl_store_of, mdl_done_of, mdl_abort_of}
 
 -- an action that binds no word
@@ -49,6 +49,8 @@ action_of mode streams names verb.Discard ws = binds_none names (discard_of stre
 action_of mode streams names verb.Read ws = binds_none names (read_of streams ws)
 action_of mode streams names verb.Write ws = binds_none names (write_of streams ws)
 action_of mode streams names verb.Update ws = binds_none names (update_of streams ws)
+action_of mode streams names verb.Lock ws = binds_none names (lock_of streams ws)
+action_of mode streams names verb.Unlock ws = binds_none names (unlock_of streams ws)
 action_of mode streams names verb.Levels ws = binds_none names (levels_of streams ws)
 action_of mode streams names verb.Settle ws = binds_none names (settle_of streams ws)
 action_of mode streams names verb.IsDirtyData ws = binds_none names (ended ws action.IsDirtyData)

@@ -1,4 +1,5 @@
--- The lines of the file system shim, of the levels of a view index and of the record of a stream: the words behind the verb, in
+-- The lines of the file system shim, byte-range locks among them, of the levels of a view index and of the record of a stream: the words behind the verb,
+-- in
 -- their order.
 use Rattle.std.specs.Prelude.{ℕ, Option, List, find, codes}
 use Rattle.std.specs.Str.{bytes_eq}
@@ -10,7 +11,7 @@ use Rattle.cc_script.specs.declared.script.Action.TheVariants as action
 use Rattle.cc_script.specs.declared.path_word.TheConstants.{PATHS}
 use Rattle.cc_script.specs.Outcome.{◌>>=◌}
 use Rattle.cc_script.specs.Words.{number_of, number_between, bytes_of}
-use Rattle.cc_script.specs.Actions.{next, ended, file_of}
+use Rattle.cc_script.specs.Actions.{next, flag, ended, file_of, span_of}
 
 -- the word that a path of a read is written by
 abbrev pub path_text : ReadPath → List ℕ
@@ -48,6 +49,20 @@ update_of streams ws = do
   at ← next number_of file.1
   bytes ← next bytes_of at.1
   ended bytes.1 (action.Update file.0 at.0 bytes.0)
+
+-- lock FILE FROM TO [excl]
+unfoldable pub lock_of : List StreamLine → List (List ℕ) → Option Action
+lock_of streams ws = do
+  file ← next (file_of streams) ws
+  span ← span_of file.1
+  ended (flag (codes "excl") span.1).1 (action.Lock file.0 span.0 (flag (codes "excl") span.1).0)
+
+-- unlock FILE N
+unfoldable pub unlock_of : List StreamLine → List (List ℕ) → Option Action
+unlock_of streams ws = do
+  file ← next (file_of streams) ws
+  id ← next number_of file.1
+  ended id.1 (action.Unlock file.0 id.0)
 
 -- levels FILE
 unfoldable pub levels_of : List StreamLine → List (List ℕ) → Option Action

@@ -20,7 +20,7 @@ use crate::hold_action::{
 use crate::hold_word::HoldNames;
 use crate::part::Words;
 use crate::script::{Action, Mode, StreamLines};
-use crate::shim_action::{levels, read, settle, update, write};
+use crate::shim_action::{levels, read, settle, update, write, lock, unlock};
 use crate::verb::Verb;
 use std::alloc::Global;
 
@@ -328,6 +328,8 @@ pub(crate) fn action(
         Verb::Read => read(streams, words).ok_or(LineFault::Syntax),
         Verb::Write => write(alloc, streams, words),
         Verb::Update => update(alloc, streams, words),
+        Verb::Lock => lock(streams, words).ok_or(LineFault::Syntax),
+        Verb::Unlock => unlock(streams, words).ok_or(LineFault::Syntax),
         Verb::Levels => levels(streams, words).ok_or(LineFault::Syntax),
         Verb::Settle => settle(streams, words).ok_or(LineFault::Syntax),
         Verb::IsDirtyData => is_dirty_data(words).ok_or(LineFault::Syntax),

@@ -300,6 +300,17 @@ pub enum Action {
         at: u64,
         bytes: Bytes,
     },
+    /// Locks a range of a stream, so that no other may lock it, or none exclusively.
+    Lock {
+        file: FileId,
+        span: Span,
+        exclusive: bool,
+    },
+    /// Ends the lock of this id.
+    Unlock {
+        file: FileId,
+        id: u64,
+    },
     /// How many levels the view index of a stream has.
     Levels {
         file: FileId,
@@ -442,6 +453,8 @@ impl Action {
                 | Action::Read { .. }
                 | Action::Write { .. }
                 | Action::Update { .. }
+                | Action::Lock { .. }
+                | Action::Unlock { .. }
                 | Action::Levels { .. }
                 | Action::Settle { .. }
                 | Action::Defer { .. }

@@ -1,9 +1,10 @@
-//! The lines of the file system shim, of the levels of a view index and of the record of a stream, each read from the words
+//! The lines of the file system shim, byte-range locks among them, of the levels of a view index and of the record of a stream, each read from the
+//! words
 //! behind its verb.
 
 ghost use Rattle.std.specs.Prelude.{◌≡◌};
 ghost use Rattle.cc_script.specs.Outcome.{Gives};
-ghost use Rattle.cc_script.specs.ShimActions.{read_of, write_of, update_of, levels_of, settle_of};
+ghost use Rattle.cc_script.specs.ShimActions.{read_of, write_of, update_of, levels_of, settle_of, lock_of, unlock_of};
 
 use crate::fault::LineFault;
 use crate::part::Words;
@@ -63,6 +64,37 @@ pub(crate) fn update(
         Ok(Action::Update { file, at, bytes })
     } else {
         Err(LineFault::Syntax)
+    }
+}
+
+#[tactic(auto, unfolding(crate::specs::ShimActions::lock_of))]
+pub(crate) fn lock(streams: &StreamLines, words: &mut Words) -> Option<Action>
+    ensures { result ≡ lock_of streams.now words.old }
+{
+    let file = words.file(streams)?;
+    let span = words.span()?;
+    let exclusive = words.flag(b"excl");
+    if words.is_empty() {
+        Some(Action::Lock {
+            file,
+            span,
+            exclusive,
+        })
+    } else {
+        None
+    }
+}
+
+#[tactic(auto, unfolding(crate::specs::ShimActions::unlock_of))]
+pub(crate) fn unlock(streams: &StreamLines, words: &mut Words) -> Option<Action>
+    ensures { result ≡ unlock_of streams.now words.old }
+{
+    let file = words.file(streams)?;
+    let id = words.number()?;
+    if words.is_empty() {
+        Some(Action::Unlock { file, id })
+    } else {
+        None
     }
 }
 

@@ -46,6 +46,8 @@ pub(crate) enum Verb {
     Read,
     Write,
     Update,
+    Lock,
+    Unlock,
     Levels,
     Settle,
     IsDirtyData,
@@ -73,7 +75,7 @@ pub(crate) enum Verb {
     Fail,
 }
 
-pub(crate) const VERBS: [Verb; 61] = [
+pub(crate) const VERBS: [Verb; 63] = [
     Verb::Stream,
     Verb::Journal,
     Verb::Threshold,
@@ -110,6 +112,8 @@ pub(crate) const VERBS: [Verb; 61] = [
     Verb::Read,
     Verb::Write,
     Verb::Update,
+    Verb::Lock,
+    Verb::Unlock,
     Verb::Levels,
     Verb::Settle,
     Verb::IsDirtyData,
@@ -178,6 +182,8 @@ impl Verb {
             Verb::Read => b"read",
             Verb::Write => b"write",
             Verb::Update => b"update",
+            Verb::Lock => b"lock",
+            Verb::Unlock => b"unlock",
             Verb::Levels => b"levels",
             Verb::Settle => b"settle",
             Verb::IsDirtyData => b"isdirty",
@@ -242,6 +248,8 @@ impl Verb {
                 | Verb::Read
                 | Verb::Write
                 | Verb::Update
+                | Verb::Lock
+                | Verb::Unlock
                 | Verb::Levels
                 | Verb::Settle
                 | Verb::AskAhead

@@ -9,3 +9,5 @@ pub mod Writing
 pub mod PartReads
 pub mod Pinning
 pub mod Reading
+pub mod Locking
+pub mod LockedCalls

@@ -24,9 +24,9 @@ use Rattle.cc_turns.specs.Standing.{Standing}
 use Rattle.cc_calls.specs.Answers.{CallEnds, state_outcome}
 use Rattle.cc_calls.specs.Pages.{IsFullFor, KeepsRest, ReadEnds, read_outcome}
 use Rattle.cc_calls.proofs.Paging.{full-within, most_room}
-use Rattle.cc_pieces.specs.Shim.{HeldPartsLeft, PartsLeft, PathReadLeft, ReadTested, misaligned_for, too_long_for}
+use Rattle.cc_pieces.specs.Shim.{HeldPartsLeft, PartsLeft, PathReadLeft, ReadTested, first_of, misaligned_for, too_long_for}
 use Rattle.cc_shim.specs.Ends.{WasFull, WasFullError}
-use Rattle.cc_shim.specs.Reads.{BelowSizeEnds, KeepsBehind, PathReadEnds, ReadLeft, ToldSizeEnds, first_of, held_by, nc_cause, parts_by, path_by, read_in}
+use Rattle.cc_shim.specs.Reads.{BelowSizeEnds, KeepsBehind, PathReadEnds, ReadLeft, ToldSizeEnds, held_by, nc_cause, parts_by, path_by, read_in}
 use Rattle.cc_shim.specs.declared.parts.By.{By}
 use Rattle.cc_shim.specs.declared.parts.By.TheVariants as way
 use Rattle.cc_shim.proofs.Going.{HasGone, ends-after, ends-more, ends-here, full-now, gone-ends, gone-none, gone-noncached, gone-pages, moved, one-asked}
@@ -74,14 +74,14 @@ module _ (w : Standing) where
   tests-full true x e full is = as-full x e full is
   tests-full false x e full is = absurd (cc)
 
-  long-full : (p : ReadPath) (len : ℕ) (e : CcError) → too_long_for p len ≡ Some e → WasFullError 2 w w e
+  pub long-full : (p : ReadPath) (len : ℕ) (e : CcError) → too_long_for p len ≡ Some e → WasFullError 2 w w e
   long-full read_path.Noncached len e is = tests-full (nat_lt 65536 len) (error.TooLong 65536) e tt is
   long-full read_path.Cached len e is = tests-full (nat_lt 1048576 len) (error.TooLong 1048576) e tt is
   long-full read_path.Mapped len e is = tests-full (nat_lt 1048576 len) (error.TooLong 1048576) e tt is
   long-full read_path.Pinned len e is = tests-full (nat_lt 1048576 len) (error.TooLong 1048576) e tt is
   long-full read_path.Descriptor len e is = tests-full (nat_lt 1048576 len) (error.TooLong 1048576) e tt is
 
-  misaligned-full : (p : ReadPath) (at len : ℕ) (e : CcError) → misaligned_for p at len ≡ Some e → WasFullError 2 w w e
+  pub misaligned-full : (p : ReadPath) (at len : ℕ) (e : CcError) → misaligned_for p at len ≡ Some e → WasFullError 2 w w e
   misaligned-full read_path.Noncached at len e is = tests-full (nat_lt 0 (at % 4096) || nat_lt 0 (len % 4096)) error.Unaligned e tt is
   misaligned-full read_path.Cached at len e is = absurd (cc)
   misaligned-full read_path.Mapped at len e is = absurd (cc)

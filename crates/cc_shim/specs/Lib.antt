@@ -2,3 +2,5 @@
 pub mod Names
 pub mod Ends
 pub mod Reads
+pub mod Locks
+pub mod Locked

@@ -1,7 +1,5 @@
 -- What the reads of the shim leave, by their paths.
 use Rattle.std.specs.Prelude.{◌≡◌, ℕ, ◌≤◌, List, length, take, drop, Result, Ok, Err}
-use Rattle.std.specs.declared.option.Option.{Option}
-use Rattle.std.specs.declared.option.Option.TheVariants.{Some, None}
 use Rattle.cc_entry.specs.Place.{File, Range}
 use Rattle.cc_entry.specs.declared.error.CcError.{CcError}
 use Rattle.cc_entry.specs.declared.place.FileState.{FileState}
@@ -16,11 +14,6 @@ use Rattle.cc_pieces.specs.Shim.{HeldPartsLeft, HoldPath, PartRead, PartRefused,
 use Rattle.cc_shim.specs.Ends.{ListEnds}
 use Rattle.cc_shim.specs.declared.parts.By.{By}
 use Rattle.cc_shim.specs.declared.parts.By.TheVariants as way
-
--- the first of two refusals
-abbrev pub first_of : Option CcError → Option CcError → Option CcError
-first_of (Some e) other = Some e
-first_of None other = other
 
 -- how a part is held, and of which parts a range is
 abbrev pub held_by : By → File → HoldPath

@@ -8,10 +8,14 @@
 //! `volume` keeps the names of the streams, and opens a file object by name. `reads` reads along one of five paths;
 //! `parts` holds, reads and lets go the parts of a range, one for each view block, or the whole range as a descriptor
 //! chain. `writes` extends a stream, zeroes the gap behind its valid data length and copies the bytes. `updates` writes
-//! pinned bytes behind a record of them in the stream's log, `record` makes that record. Below are the calls
-//! (`cc_calls`, `cc_ranges`); the lines of a script that make these calls stand above (`cc_lines`).
+//! pinned bytes behind a record of them in the stream's log, `record` makes that record. `locks` makes, ends and tests
+//! byte-range locks, each by one visit to the journal with an entry of its own. `locked` has the reads, writes and updates
+//! that are tested against them first. Below are the calls (`cc_calls`, `cc_ranges`) and the journal (`cc_journal`); the
+//! lines of a script that make these calls stand above (`cc_lines`).
 #![tactic(auto)]
 
+mod locked;
+mod locks;
 mod parts;
 mod reads;
 mod record;
@@ -19,6 +23,8 @@ mod updates;
 mod volume;
 mod writes;
 
+pub use locked::{locked_read, locked_update, locked_write};
+pub use locks::{lock_range, unlock_range};
 pub use reads::read;
 pub use updates::update;
 pub use volume::Volume;

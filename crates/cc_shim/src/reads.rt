@@ -2,9 +2,9 @@
 
 ghost use Rattle.std.specs.Prelude.{◌≡◌, ◌<◌, ◌^◌, None, length};
 ghost use Rattle.cc_calls.specs.Answers.{CanCall};
-ghost use Rattle.cc_pieces.specs.Shim.{misaligned_for, too_long_for};
+ghost use Rattle.cc_pieces.specs.Shim.{first_of, misaligned_for, too_long_for};
 ghost use Rattle.cc_script.specs.declared.script.ReadPath.TheVariants.{Noncached};
-ghost use Rattle.cc_shim.specs.Reads.{BelowSizeEnds, PathReadEnds, ToldSizeEnds, first_of};
+ghost use Rattle.cc_shim.specs.Reads.{BelowSizeEnds, PathReadEnds, ToldSizeEnds};
 
 use crate::parts::{By, read_parts};
 use cc_calls::{copy_read, file_state};
@@ -84,8 +84,8 @@ fn read_along<T: Turns>(
     }
 }
 
-// Why a place and a length are refused before the first call.
-fn refusal_of(path: ReadPath, at: u64, len: usize) -> Option<CcError>
+/// Why a place and a length are refused.
+pub(crate) fn refusal_of(path: ReadPath, at: u64, len: usize) -> Option<CcError>
     ensures { result ≡ first_of (too_long_for path len) (misaligned_for path at len) }
 {
     match path {

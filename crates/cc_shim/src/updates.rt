@@ -18,7 +18,7 @@ use cc_turns::Turns;
 use std::alloc::Global;
 
 /// The handle that is told where a stream has no log.
-const NO_HANDLE: u64 = 255;
+pub(crate) const NO_HANDLE: u64 = 255;
 
 /// Changes bytes of a stream from a place on, all of one view block: pins them for itself alone, appends a record of the
 /// change to the stream's log, writes the bytes, stamps their pages with the record's LSN, and ends the pin. The answer is

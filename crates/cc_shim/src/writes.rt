@@ -11,10 +11,10 @@ use cc_turns::Turns;
 use std::alloc::Global;
 
 /// The most bytes of a write, and of a piece that is zeroed at once: 1 MiB.
-const PIECE: u64 = 1048576;
+pub(crate) const PIECE: u64 = 1048576;
 
 /// The longest gap that a write zeroes: 64 MiB.
-const GAP: u64 = 67108864;
+pub(crate) const GAP: u64 = 67108864;
 
 /// Writes bytes into a stream from a place on, anywhere: it sets the size where the end of the bytes is past it, sets the
 /// bytes from the valid data length up to the place to zero, in pieces of 1 MiB, and copies the bytes. At most 1 MiB, and

@@ -1,34 +1,43 @@
 -- What lines of the shim leave: writes, updates, and reads that hold what they read. Each stretch has its newest
 -- entry first, and stands on a past.
-use Rattle.std.specs.Prelude.{ℕ, ◌+◌, Bool, true, false, List, [], ◌∷◌, ◌++◌}
+use Rattle.std.specs.Prelude.{ℕ, ◌+◌, Bool, true, false, nat_lt, List, [], ◌∷◌, ◌++◌, length, Ok, Err}
 use Rattle.std.specs.declared.option.Option.TheVariants.{Some, None}
 use Rattle.cc_entry.specs.declared.place.FileState.{FileState}
 use Rattle.cc_entry.specs.declared.call.Call.{Call}
 use Rattle.cc_entry.specs.declared.call.Call.TheVariants as call
 use Rattle.cc_entry.specs.declared.reply.Reply.TheVariants as reply
 use Rattle.cc_entry.specs.declared.answer.Answer.{Answer}
+use Rattle.cc_entry.specs.declared.answer.Answer.TheVariants as answer
 use Rattle.cc_entry.specs.declared.error.CcError.TheVariants as error
 use Rattle.cc_entry.specs.declared.entry.Entry.{Entry}
 use Rattle.cc_entry.specs.declared.entry.Entry.TheVariants as entry
 use Rattle.cc_effects.specs.Moments.{Between}
 use Rattle.cc_script.specs.declared.script.ReadPath.{ReadPath}
-use Rattle.cc_pieces.specs.Shim.{ReadAnswered, WriteAnswered, UpdateAnswered, write_calls}
+use Rattle.cc_pieces.specs.Shim.{ReadTested, UpdateLeft, WriteTested, misaligned_for, too_long_for, write_calls}
 use Rattle.cc_worked.specs.Values.{setup, a, page, sized, opened, done, answers, refused, read_in}
 
--- a read by a path, from a place on, of so many bytes
+-- what the calls of a read by a path leave behind its test, from a place on, of so many bytes
 abbrev pub ReadBy : ReadPath → ℕ → ℕ → Answer → Between
-ReadBy path at len = ReadAnswered setup 1 a path at len
+ReadBy path at len (answer.Given (reply.Read bytes)) old new =
+    ReadTested setup 1 a path at len (too_long_for path len) (misaligned_for path at len) (Ok bytes) old new
+ReadBy path at len (answer.Refused e) old new =
+    ReadTested setup 1 a path at len (too_long_for path len) (misaligned_for path at len) (Err e) old new
+ReadBy path at len other old new = ⊥
 
--- a write of bytes at a place
+-- those of a write of bytes at a place
 abbrev pub WriteOf : List ℕ → ℕ → Answer → Between
-WriteOf bytes at = WriteAnswered setup 1 a at bytes
+WriteOf bytes at (answer.Given reply.Unit) old new = WriteTested setup 1 a at bytes (nat_lt 1048576 (length bytes)) (Ok tt) old new
+WriteOf bytes at (answer.Refused e) old new = WriteTested setup 1 a at bytes (nat_lt 1048576 (length bytes)) (Err e) old new
+WriteOf bytes at other old new = ⊥
 
 -- a write, and an update, of the byte AB at a place
 abbrev pub ByteWrite : ℕ → Answer → Between
 ByteWrite at = WriteOf (171 ∷ []) at
 
 abbrev pub ByteUpdate : ℕ → Answer → Between
-ByteUpdate at = UpdateAnswered setup 1 a at (171 ∷ [])
+ByteUpdate at (answer.NewLsn lsn) old new = UpdateLeft setup 1 a at (171 ∷ []) (Ok lsn) old new
+ByteUpdate at (answer.Refused e) old new = UpdateLeft setup 1 a at (171 ∷ []) (Err e) old new
+ByteUpdate at other old new = ⊥
 
 -- the call that writes that byte, and the calls of such a write after the sizes were told so
 abbrev pub writes_at : ℕ → Call

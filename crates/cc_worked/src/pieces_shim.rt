@@ -1,4 +1,4 @@
-//! What lines of the shim leave between two moments: writes, updates, and reads that hold what they read.
+//! What the calls of the shim leave between two moments: writes, updates, and reads that hold what they read.
 
 ghost use Rattle.std.specs.Prelude.{◌≡◌, ℕ, ◌<◌, true, false, List, [], ◌∷◌, length};
 ghost use Rattle.cc_entry.specs.declared.call.Call.TheVariants as call;

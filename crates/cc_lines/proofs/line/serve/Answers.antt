@@ -5,7 +5,7 @@ use Rattle.cc_lines.proofs.PlainLines.{append-line, nc_read-line, nc_write-line,
 use Rattle.cc_lines.proofs.ServeLines.{asked-as, can-as, change-line, discard-line, flag-line, flush-line, flushed-line, lsns-line, may-free, may-on, next-chain, next-map, next-pin, next-prepare, next-repin, next-write_chain, purge-line, rows-line, set-line, state-line}
 use Rattle.cc_lines.proofs.ThrottleLines.{defer-line, post-line}
 use Rattle.cc_lines.proofs.TickLines.{tick-line}
-use Rattle.cc_lines.proofs.ShimServed.{levels-line, read-line, update-line, write-line}
+use Rattle.cc_lines.proofs.ShimServed.{levels-line, read-line, update-line, write-line, lock-line, unlock-line}
 use Rattle.cc_lines.proofs.SettleServed.{settle-line}
 use Rattle.cc_lines.proofs.line.serve.Goals as goal
 
@@ -279,6 +279,22 @@ pub returns-in-Update : goal.returns-in-Update
 returns-in-Update g c =
     asked-as _ _ _ _ _ _ _ c.in-Update.is
     (update-line _ _ _ c.args.names.now c.update_logged.ensures.full c.update_logged.ensures.goes_on (c.update_logged.ensures.good c.requires.can.good) c.in-Update.file c.in-Update.at c.in-Update.bytes c.update_logged.ensures.answered)
+
+pub lock-requires : goal.lock-requires
+lock-requires g c = may-free (g.T.Turns.standing c.args.turns.now) _ c.args.names.now c.requires.can
+
+pub returns-in-Lock : goal.returns-in-Lock
+returns-in-Lock g c =
+    asked-as _ _ _ _ _ _ _ c.in-Lock.is
+    (lock-line _ _ _ c.args.names.now c.lock.ensures.full c.lock.ensures.goes_on (c.lock.ensures.good c.requires.can.good) c.in-Lock.file c.in-Lock.span c.in-Lock.exclusive c.lock.ensures.answered)
+
+pub unlock-requires : goal.unlock-requires
+unlock-requires g c = may-free (g.T.Turns.standing c.args.turns.now) _ c.args.names.now c.requires.can
+
+pub returns-in-Unlock : goal.returns-in-Unlock
+returns-in-Unlock g c =
+    asked-as _ _ _ _ _ _ _ c.in-Unlock.is
+    (unlock-line _ _ _ c.args.names.now c.unlock.ensures.full c.unlock.ensures.goes_on (c.unlock.ensures.good c.requires.can.good) c.in-Unlock.file c.in-Unlock.id c.unlock.ensures.answered)
 
 pub levels-requires : goal.levels-requires
 levels-requires g c = may-on (g.T.Turns.standing c.args.turns.now) _ c.args.names.now c.in-Levels.file.stream c.requires.can (can-as (g.T.Turns.standing c.args.turns.now) _ _ c.args.names.now c.in-Levels.is c.requires.can).servable

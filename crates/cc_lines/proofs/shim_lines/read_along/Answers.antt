@@ -15,4 +15,4 @@ returns-in_default-new-clause-answered g c =
 
 pub returns-clause-full : goal.returns-clause-full
 returns-clause-full g c =
-    full-three (g.T.Turns.standing c.args.turns.now) (g.T.Turns.standing c.read.new.turns) c.in-Err.error c.in-Err.ensures.ends.ends.full
+    full-three (g.T.Turns.standing c.args.turns.now) (g.T.Turns.standing c.locked_read.new.turns) c.in-Err.error c.in-Err.ensures.ends.ends.full

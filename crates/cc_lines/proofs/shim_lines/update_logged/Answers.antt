@@ -1,7 +1,7 @@
 -- An update for which memory is wanting leaves nothing; one that asks two places asks no more than three.
 use Rattle.std.specs.Prelude.{◌≡◌, ℕ, List, Ok, Err}
 use Rattle.std.proofs.Common.{subst}
-use Rattle.cc_pieces.specs.Shim.{UpdateLeft}
+use Rattle.cc_pieces.specs.Locks.{LockedUpdateLeft}
 use Rattle.cc_lines.proofs.ShimCalls.{update-wanting}
 use Rattle.cc_lines.proofs.ShimServed.{full-three}
 use Rattle.cc_lines.proofs.shim_lines.update_logged.Goals as goal
@@ -13,18 +13,18 @@ returns-in_default-clause-answered g c =
 
 pub returns-clause-full : goal.returns-clause-full
 returns-clause-full g c =
-    full-three (g.T.Turns.standing c.args.turns.now) (g.T.Turns.standing c.update.new.turns) c.in-Err.error c.in-Err.ensures.ends.full
+    full-three (g.T.Turns.standing c.args.turns.now) (g.T.Turns.standing c.locked_update.new.turns) c.in-Err.error c.in-Err.ensures.ends.full
 
-pub returns-in-Ok-update-clause-answered : goal.returns-in-Ok-update-clause-answered
-returns-in-Ok-update-clause-answered g c =
+pub returns-in-Ok-locked_update-clause-answered : goal.returns-in-Ok-locked_update-clause-answered
+returns-in-Ok-locked_update-clause-answered g c =
     let w = g.T.Turns.standing c.args.turns.now in
-    let v = g.T.Turns.standing c.update.new.turns in
+    let v = g.T.Turns.standing c.locked_update.new.turns in
     let same : c.deref.result.now ≡ c.args.bytes.now = cc (c.deref.ensures.value, c.in-Ok.ensures) in
-    subst (λ (l : List ℕ). UpdateLeft w.setup w.number c.args.file c.args.at l (Ok c.in-Ok-update.lsn) w.seen v.seen) same c.in-Ok-update.ensures.ends.left
+    subst (λ (l : List ℕ). LockedUpdateLeft w.setup w.number c.args.file c.args.at l (Ok c.in-Ok-locked_update.lsn) w.seen v.seen) same c.in-Ok-locked_update.ensures.ends.left
 
 pub returns-clause-answered : goal.returns-clause-answered
 returns-clause-answered g c =
     let w = g.T.Turns.standing c.args.turns.now in
-    let v = g.T.Turns.standing c.update.new.turns in
+    let v = g.T.Turns.standing c.locked_update.new.turns in
     let same : c.deref.result.now ≡ c.args.bytes.now = cc (c.deref.ensures.value, c.in-Ok.ensures) in
-    subst (λ (l : List ℕ). UpdateLeft w.setup w.number c.args.file c.args.at l (Err c.in-Err.error) w.seen v.seen) same c.in-Err.ensures.ends.left
+    subst (λ (l : List ℕ). LockedUpdateLeft w.setup w.number c.args.file c.args.at l (Err c.in-Err.error) w.seen v.seen) same c.in-Err.ensures.ends.left

@@ -10,4 +10,4 @@ returns-in_default-clause-answered g c =
 
 pub returns-clause-full : goal.returns-clause-full
 returns-clause-full g c =
-    full-three (g.T.Turns.standing c.args.turns.now) (g.T.Turns.standing c.write.new.turns) c.in-Err.error c.in-Err.ensures.ends.full
+    full-three (g.T.Turns.standing c.args.turns.now) (g.T.Turns.standing c.locked_write.new.turns) c.in-Err.error c.in-Err.ensures.ends.full
