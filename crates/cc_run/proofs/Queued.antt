@@ -125,10 +125,10 @@ load-placed s (Err (error.ReadFault page)) place old new left =
     let failed = left.1 in
     let before : IsIdle 0 old (failed.earlier ++ old) = record { during = failed.earlier; grew = refl; others = failed.quiet_before } in
     let after : IsIdle 0 (entry.RecordFailed 0 s ∷ (failed.earlier ++ old)) new =
-        record { during = failed.later; grew = failed.grew; others = failed.quiet_after } in
+    record { during = failed.later; grew = failed.grew; others = failed.quiet_after } in
     place-then 0 [] [] place place place old (failed.earlier ++ old) new (place-idle 0 place old (failed.earlier ++ old) before)
     (place-then 0 [] [] place place place (failed.earlier ++ old) (entry.RecordFailed 0 s ∷ (failed.earlier ++ old)) new
-        (placed-unread s place (failed.earlier ++ old)) (place-idle 0 place (entry.RecordFailed 0 s ∷ (failed.earlier ++ old)) new after))
+    (placed-unread s place (failed.earlier ++ old)) (place-idle 0 place (entry.RecordFailed 0 s ∷ (failed.earlier ++ old)) new after))
 load-placed s (Err (error.JournalFull entries)) place old new left = place-idle 0 place old new left
 load-placed s (Err error.NoMemory) place old new left = place-idle 0 place old new left
 load-placed s (Err other) place old new left = absurd left
