@@ -1,0 +1,49 @@
+-- What a stop leaves of a log, what a restart is given, and what the file is then.
+use Rattle.std.specs.Prelude.{◌≡◌, ℕ, ◌+◌, ◌*◌, ◌/◌, ◌%◌, ◌<◌, ◌≤◌, nat_lt, true, max, List, ◌++◌, fold, slice_index, if◌then◌else◌}
+use Rattle.std.specs.List.{AllByRecursion, filter_map}
+use Rattle.cc_entry.specs.declared.entry.Entry.{Entry}
+use Rattle.cc_model.specs.History.{history}
+use Rattle.cc_model.specs.Objects.{had_map}
+use Rattle.cc_model.specs.Records.{first_valid, is_settled}
+use Rattle.cc_model.specs.Touches.{size_of}
+use Rattle.cc_traits.specs.Log.{LogEntry}
+use Rattle.cc_redo.specs.Changes.{byte_after, page_after}
+use Rattle.cc_redo.specs.Heard.{Change, change_said, end_of, from_of, readings, redone_of}
+use Rattle.cc_redo.specs.Reading.{said_by}
+use Rattle.cc_redo.specs.declared.redo.Redo.{Redo}
+
+-- The log keeps the first of its entries, all that are durable among them.
+pub record IsKept (durable : ℕ) (all kept : List LogEntry) : Type 0 where
+  pub rest : List LogEntry
+  pub splits : all ≡ kept ++ rest
+  pub beyond : AllByRecursion (λ entry. durable < entry.lsn) rest
+
+-- A stream is given to a restart with its size, and with a valid data length that it may be told to have: that of its first
+-- initialise, or one that a record of it told since.
+pub record IsGivenAs (s first : ℕ) (past : List Entry) (redo : Redo) : Type 0 where
+  pub stream : redo.stream ≡ s
+  pub size : had_map (history past s) ≡ true → redo.size ≡ size_of (history past s)
+  pub opened : had_map (history past s) ≡ true → first_valid (history past s) ≡ first
+  pub least : first ≤ redo.valid
+  pub told : (p : ℕ) → first < redo.valid → first < 4096 * p + 4096 → 4096 * p < redo.valid → is_settled (history past s) p ≡ true
+
+-- the pages as the restart makes them of these
+abbrev pub pages_redone : List Redo → List LogEntry → Redo → (ℕ → List ℕ) → ℕ → List ℕ
+pages_redone streams kept redo disk page = page_after (redone_of redo (from_of streams (readings kept)) (readings kept)) page (disk page)
+
+-- the byte at i of a file with these pages and this valid data length, from which on every byte is zero
+abbrev pub file_byte : (ℕ → List ℕ) → ℕ → ℕ → ℕ
+file_byte pages valid i = if nat_lt i valid then slice_index (pages (i / 4096)) (i % 4096) else 0
+
+-- the updates of the stream among the entries of a log, in their order
+abbrev pub updates_in : Redo → List LogEntry → List Change
+updates_in redo entries = filter_map (λ entry. change_said redo (said_by entry.bytes)) entries
+
+-- the valid data length as changes raise it
+abbrev pub valid_after : List Change → ℕ → ℕ
+valid_after changes valid = fold (λ reached change. max reached (end_of change)) valid changes
+
+-- the byte at i of that file as changes leave it that are applied whole, in their order
+abbrev pub updated_byte : (ℕ → List ℕ) → ℕ → List Change → ℕ → ℕ
+updated_byte pages valid changes i =
+    if nat_lt i (valid_after changes valid) then byte_after changes (i / 4096) (i % 4096) (file_byte pages valid i) else 0

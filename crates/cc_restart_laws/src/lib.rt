@@ -1,0 +1,9 @@
+//! A run that is stopped, and then a restart: what the stream is then.
+//!
+//! The functions have no body, and their contracts are laws. They join what a journal says of a stream that changes by logged
+//! updates alone, of its disk and of its log to what a restart makes of them (`cc_redo`).
+#![tactic(auto)]
+
+mod laws;
+
+pub use laws::stopped_runs_are_redone;
