@@ -1,1 +1,3 @@
 -- Lemmas on runs that stop.
+pub mod Entries
+pub mod Apart

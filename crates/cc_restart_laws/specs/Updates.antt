@@ -100,10 +100,10 @@ pub record MayAppend (s log pass at : ℕ) (bytes : List ℕ) (past : List Entry
   pub logged : log_of (history past s) ≡ Some log
 
 -- a call is the pinned write of an update that has its record
-pub record IsUpdate (s log : ℕ) (past : List Entry) (pass : ℕ) (call : Call) : Type 0 where
+pub record IsUpdate (s log : ℕ) (past : List Entry) (pass : ℕ) (done : Call) : Type 0 where
   pub it : Updating
   pub mine : it.pass ≡ pass
-  pub is : call ≡ call.PinnedWrite it.hold it.at it.bytes
+  pub is : done ≡ call.PinnedWrite it.hold it.at it.bytes
   pub recorded : HasRecord s log it past
 
 -- What a done call may do to the stream: it changes bytes by an update alone, sets no size and throws no page away.
