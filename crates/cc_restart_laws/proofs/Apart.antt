@@ -1,6 +1,6 @@
 -- Two open pins of which one is exclusive have no page in common.
 use Rattle.std.specs.Prelude.{◌≡◌, ℕ, ◌+◌, Bool, true, false, cond, not, ◌==◌, ◌&&◌, ◌||◌, List, [], ◌∷◌, length, refl, if◌then◌else◌}
-use Rattle.std.specs.List.{filter, find, list_any}
+use Rattle.std.specs.List.{cons_option, filter, find, list_any}
 use Rattle.std.specs.Option.{option_map}
 use Rattle.std.specs.declared.option.Option.{Option}
 use Rattle.std.specs.declared.option.Option.TheVariants.{Some, None}
@@ -24,13 +24,14 @@ use Rattle.cc_model.specs.Filing.{IsFiled, serves}
 use Rattle.cc_model.specs.Good.{IsGoodSoFar}
 use Rattle.cc_model.specs.History.{Effect, Did, CameIn, WentOut, Began, Ended, Synced, effect_of, history}
 use Rattle.cc_model.specs.Holds.{Hold, changed_at, held_after, hold_at, holds_of, id_of, least_id, lesser, made, range_held, repinned}
+use Rattle.cc_model.specs.Legal.{IsAdmitted}
 use Rattle.cc_model.specs.Setup.{Setup}
-use Rattle.cc_laws.proofs.HistorySteps.{history-effect}
-use Rattle.cc_laws.proofs.HoldSteps.{holds_of-done, holds_of-came_in, holds_of-went_out, holds_of-began, holds_of-ended, holds_of-synced}
+use Rattle.cc_laws.proofs.HoldSteps.{changes_holds, holds_of-done, holds_of-came_in, holds_of-went_out, holds_of-began, holds_of-ended, holds_of-synced}
 use Rattle.cc_laws.proofs.Lists1.{among-any, among-pages}
 use Rattle.cc_laws.proofs.UnrefusedCalls.{unrefused}
 use Rattle.cc_own.proofs.FoundHolds.{changed-found, changed-other, ended-gone, ended-other, some-is}
 use Rattle.cc_own.proofs.OwnHolds.{filed-at}
+use Rattle.cc_own.specs.Own.{new_hold}
 use Rattle.cc_restart_laws.proofs.Entries.{IsCall, admitted, did-entry, good-tail}
 
 -- of the open holds, two pins with a page in common of which one is exclusive are one
@@ -184,23 +185,58 @@ pinned-step holds pass named exclusive (Some old) is serves free apart = apart-p
 
 repinned-step : (id pass : ℕ) (o : Option Hold) (holds : List Hold) → AreApart holds → AreApart (repinned id pass o holds)
 repinned-step id pass None holds apart = apart
-repinned-step id pass (Some it) holds apart = apart-made _ holds (no-pin holds _ refl) apart
+repinned-step id pass (Some it) holds apart =
+    let new = new_hold id pass it.file it.at it.len kind.Repin false [] in
+    apart-made new holds (no-pin holds new refl) apart
 
-call-step : (holds : List Hold) (pass id : ℕ) (it : Call) → busy holds it ≡ None → IsFiled holds pass (Some id) it (file_of it) → AreApart holds → AreApart (held_after pass it id holds)
-call-step holds pass id (call.Map file at len) free filed apart = apart-made _ holds (no-pin holds _ refl) apart
-call-step holds pass id (call.PinRead file at len exclusive) free filed apart =
-    apart-made _ holds (free-pin (whole_range at len) exclusive holds _ (busy-none _ free) refl refl) apart
-call-step holds pass id (call.PinMapped named exclusive) free filed apart = pinned-step holds pass named exclusive (hold_at holds named) refl filed free apart
-call-step holds pass id (call.PreparePin file at len true exclusive) free filed apart =
-    apart-made _ holds (free-pin (whole_range at len) exclusive holds _ (busy-none _ free) refl refl) apart
-call-step holds pass id (call.PreparePin file at len false exclusive) free filed apart =
-    apart-made _ holds (free-pin (whole_range at len) exclusive holds _ (busy-none _ free) refl refl) apart
-call-step holds pass id (call.PinnedWrite named at bytes) free filed apart =
+call-step : (holds : List Hold) (pass id s : ℕ) (it : Call) → (changes_holds it ≡ true → busy holds it ≡ None) → IsFiled holds pass (Some s) it (file_of it) → AreApart holds → AreApart (held_after pass it id holds)
+call-step holds pass id s (call.Map file at len) free filed apart =
+    let new = new_hold id pass file at len kind.Map false [] in apart-made new holds (no-pin holds new refl) apart
+call-step holds pass id s (call.PinRead file at len exclusive) free filed apart =
+    let new = new_hold id pass file at len kind.Pin exclusive [] in
+    apart-made new holds (free-pin (whole_range at len) exclusive holds new (busy-none _ (free refl)) refl refl) apart
+call-step holds pass id s (call.PinMapped named exclusive) free filed apart = pinned-step holds pass named exclusive (hold_at holds named) refl filed (free refl) apart
+call-step holds pass id s (call.PreparePin file at len true exclusive) free filed apart =
+    let new = new_hold id pass file at len kind.Pin exclusive (whole_range at len ∷ []) in
+    apart-made new holds (free-pin (whole_range at len) exclusive holds new (busy-none _ (free refl)) refl refl) apart
+call-step holds pass id s (call.PreparePin file at len false exclusive) free filed apart =
+    let new = new_hold id pass file at len kind.Pin exclusive [] in
+    apart-made new holds (free-pin (whole_range at len) exclusive holds new (busy-none _ (free refl)) refl refl) apart
+call-step holds pass id s (call.PinnedWrite named at bytes) free filed apart =
     apart-less holds _ (λ n now found. changed-before holds named n _ now (λ it. refl) (λ it. record { kind = λ k. k; exclusive = refl; range = refl }) found) apart
-call-step holds pass id (call.SetDirty named lsn) free filed apart =
+call-step holds pass id s (call.SetDirty named lsn) free filed apart =
     apart-less holds _ (λ n now found. changed-before holds named n _ now (λ it. refl) (λ it. record { kind = λ k. k; exclusive = refl; range = refl }) found) apart
-call-step holds pass id (call.EndHold named) free filed apart = apart-less holds _ (λ n now found. ended-before holds named n now found) apart
-call-step holds pass id (call.Repin named) free filed apart = repinned-step id pass (hold_at holds named) holds apart
-call-step holds pass id (call.MdlRead file at len) free filed apart = apart-made _ holds (no-pin holds _ refl) apart
-call-step holds pass id (call.MdlWrite file at len) free filed apart = apart-made _ holds (no-pin holds _ refl) apart
-call-step holds pass id other free filed apart = apart
+call-step holds pass id s (call.EndHold named) free filed apart = apart-less holds _ (λ n now found. ended-before holds named n now found) apart
+call-step holds pass id s (call.Repin named) free filed apart = repinned-step id pass (hold_at holds named) holds apart
+call-step holds pass id s (call.MdlRead file at len) free filed apart =
+    let new = new_hold id pass file at len kind.ReadChain false [] in apart-made new holds (no-pin holds new refl) apart
+call-step holds pass id s (call.MdlWrite file at len) free filed apart =
+    let new = new_hold id pass file at len kind.WriteChain false [] in apart-made new holds (no-pin holds new refl) apart
+call-step holds pass id s other free filed apart = apart
+
+not-busy : (u : Setup) (past : List Entry) (h : List Effect) (it : Call) → IsAdmitted u past h it → changes_holds it ≡ true → busy (holds_of h) it ≡ None
+not-busy u past h (call.NcWrite file page) passed changes = absurd (cc)
+not-busy u past h other passed changes = (unrefused u past h other passed).not_busy
+
+effect-step : (u : Setup) (e : Entry) (past : List Entry) (s : ℕ) (o : Option Effect) → effect_of e s ≡ o → IsGoodSoFar u (e ∷ past) → AreApart (holds_of (history past s)) →
+    AreApart (holds_of (cons_option o (history past s)))
+effect-step u e past s None is good apart = apart
+effect-step u e past s (Some (Did pass it reply)) is good apart =
+    let k = did-entry e s pass it reply is in
+    let sound : IsGoodSoFar u (entry.Call pass k.nth (Some s) it (outcome.Done reply) ∷ past) = subst (λ (x : Entry). IsGoodSoFar u (x ∷ past)) k.is good in
+    subst (λ (l : List Hold). AreApart l) (sym (holds_of-done pass it reply (history past s)))
+    (call-step (holds_of (history past s)) pass (id_of reply) s it (not-busy u past (history past s) it (admitted u past pass k.nth s it reply sound))
+    (filed-at u pass k.nth s it (outcome.Done reply) past sound.allowed) apart)
+effect-step u e past s (Some (CameIn pass page from_disk)) is good apart = subst (λ (l : List Hold). AreApart l) (sym (holds_of-came_in pass page from_disk (history past s))) apart
+effect-step u e past s (Some (WentOut pass page)) is good apart = subst (λ (l : List Hold). AreApart l) (sym (holds_of-went_out pass page (history past s))) apart
+effect-step u e past s (Some (Began pass page)) is good apart = subst (λ (l : List Hold). AreApart l) (sym (holds_of-began pass page (history past s))) apart
+effect-step u e past s (Some (Ended pass page how)) is good apart = subst (λ (l : List Hold). AreApart l) (sym (holds_of-ended pass page how (history past s))) apart
+effect-step u e past s (Some (Synced pass how)) is good apart = subst (λ (l : List Hold). AreApart l) (sym (holds_of-synced pass how (history past s))) apart
+
+none-apart : AreApart []
+none-apart a b one other p differ at_a at_b pin_one pin_other alone in_one in_other = absurd (cc)
+
+pub holds-apart : (u : Setup) (past : List Entry) (s : ℕ) → IsGoodSoFar u past → AreApart (holds_of (history past s))
+unfolding history holds_of
+holds-apart u [] s good = none-apart
+holds-apart u (e ∷ past) s good = effect-step u e past s (effect_of e s) refl good (holds-apart u past s (good-tail u e past good))

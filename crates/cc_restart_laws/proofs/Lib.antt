@@ -1,3 +1,6 @@
 -- Lemmas on runs that stop.
 pub mod Entries
 pub mod Apart
+pub mod Records
+pub mod Orders
+pub mod Stamped
