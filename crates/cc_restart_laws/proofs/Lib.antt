@@ -4,3 +4,6 @@ pub mod Apart
 pub mod Records
 pub mod Orders
 pub mod Stamped
+pub mod Safe
+pub mod Fronts
+pub mod Redoing

@@ -55,37 +55,31 @@ stamp-new n place ts false is = absurd (clash (sym is))
 
 -- the LSN lies between the two
 pub record IsBetween (n : ℕ) (o : Option (ℕ × ℕ)) : Type 0 where
-  pub low : ℕ
-  pub high : ℕ
-  pub is : o ≡ Some (low, high)
-  pub least : low ≤ n
-  pub greatest : n ≤ high
+  pub pair : ℕ × ℕ
+  pub is : o ≡ Some pair
+  pub least : pair.0 ≤ n
+  pub greatest : n ≤ pair.1
 
 between-first : (n : ℕ) (o : Option (ℕ × ℕ)) → IsBetween n (joined (alone (Some n)) o)
-between-first n None = record { low = n; high = n; is = refl; least = omega arith; greatest = omega arith }
-between-first n (Some b) = record { low = min n b.0; high = max n b.1; is = refl; least = omega arith; greatest = omega arith }
+between-first n None = record { pair = (n, n); is = refl; least = omega arith; greatest = omega arith }
+between-first n (Some b) = record { pair = (min n b.0, max n b.1); is = refl; least = omega arith; greatest = omega arith }
+
+none-pair : (x : ℕ × ℕ) → None ≡ Some x → ⊥
+none-pair x is = cc
+
+some-pair : (x y : ℕ × ℕ) → Some x ≡ Some y → x ≡ y
+some-pair x y is = cc
 
 between-rest : (n : ℕ) (lsn : Option ℕ) (o : Option (ℕ × ℕ)) → IsBetween n o → IsBetween n (joined (alone lsn) o)
 between-rest n None o k = k
-between-rest n (Some m) None k = absurd (none k.is)
-  where
-    none : None ≡ Some (k.low, k.high) → ⊥
-    none is = cc
+between-rest n (Some m) None k = absurd (none-pair k.pair k.is)
 between-rest n (Some m) (Some b) k =
-    let least = k.least in
-    let greatest = k.greatest in
-    let first : b.0 ≡ k.low = parts b k.low k.high k.is in
-    let second : b.1 ≡ k.high = others b k.low k.high k.is in
-    record { low = min m b.0; high = max m b.1; is = refl; least = omega arith; greatest = omega arith }
-  where
-    some : (x y : ℕ × ℕ) → Some x ≡ Some y → x ≡ y
-    some x y is = cc
-
-    parts : (x : ℕ × ℕ) (low high : ℕ) → Some x ≡ Some (low, high) → x.0 ≡ low
-    parts x low high is = ap (λ (q : ℕ × ℕ). q.0) (some x (low, high) is)
-
-    others : (x : ℕ × ℕ) (low high : ℕ) → Some x ≡ Some (low, high) → x.1 ≡ high
-    others x low high is = ap (λ (q : ℕ × ℕ). q.1) (some x (low, high) is)
+    let same : b ≡ k.pair = some-pair b k.pair k.is in
+    let first : b.0 ≡ k.pair.0 = ap (λ (q : ℕ × ℕ). q.0) same in
+    let second : b.1 ≡ k.pair.1 = ap (λ (q : ℕ × ℕ). q.1) same in
+    let least : k.pair.0 ≤ n = k.least in
+    let greatest : n ≤ k.pair.1 = k.greatest in
+    record { pair = (min m b.0, max m b.1); is = refl; least = omega (arith, least, first); greatest = omega (arith, greatest, second) }
 
 pub stamp-between : (n : ℕ) (ts : List Touch) → has_stamp n ts ≡ true → IsBetween n (lsns_among ts)
 stamp-between n [] is = absurd (cc)
@@ -157,15 +151,15 @@ stamp-open n (Began pass page ∷ h) p is = go (page == p) refl (stamp-open n h 
     go : (b : Bool) → (page == p) ≡ b → (has_stamp n (touches true h p) ≡ true → has_stamp n (touches false h p) ≡ true) →
         has_stamp n (touches true (Began pass page ∷ h) p) ≡ true → has_stamp n (touches false (Began pass page ∷ h) p) ≡ true
     go true same mono is = absurd (clash (sym is ∙ ap (has_stamp n) (touches-began_written pass page h p same)))
-    go false other mono = through n _ _ _ _ (touches-began_other true pass page h p other) (touches-began_other false pass page h p other) mono
+    go false other mono is = through n _ _ _ _ (touches-began_other true pass page h p other) (touches-began_other false pass page h p other) mono is
 stamp-open n (Ended pass page how ∷ h) p is = go (page == p) refl (ended_ok how) refl (stamp-open n h p) is
   where
     go : (b : Bool) → (page == p) ≡ b → (c : Bool) → ended_ok how ≡ c → (has_stamp n (touches true h p) ≡ true → has_stamp n (touches false h p) ≡ true) →
         has_stamp n (touches true (Ended pass page how ∷ h) p) ≡ true → has_stamp n (touches false (Ended pass page how ∷ h) p) ≡ true
     go true same true good mono is =
         ap (has_stamp n) (touches-ended_good false pass page how h p same good) ∙ (sym (ap (has_stamp n) (touches-ended_after pass page how h p)) ∙ is)
-    go true same false bad mono = through n _ _ _ _ (touches-ended_after pass page how h p) (touches-ended_bad false pass page how h p bad) mono
-    go false other c is_c mono = through n _ _ _ _ (touches-ended_after pass page how h p) (touches-ended_other false pass page how h p other) mono
+    go true same false bad mono is = through n _ _ _ _ (touches-ended_after pass page how h p) (touches-ended_bad false pass page how h p bad) mono is
+    go false other c is_c mono is = through n _ _ _ _ (touches-ended_after pass page how h p) (touches-ended_other false pass page how h p other) mono is
 stamp-open n (Synced pass how ∷ h) p is = stamp-open n h p is
 
 -- ---- done calls of a stream that is updated leave each stamp
