@@ -83,7 +83,7 @@ module _ (O : Type 0) (B : List Entry → Type 0) (pages : ℕ → List ℕ) (s 
         is = some-is f (history past s) (sym is ∙ begun-began_page pass page (history past s) p same);
         said = may pass (began-entry e s pass p (effect ∙ ap (λ (n : ℕ). Some (Began pass n)) (eqb-true page p same)));
       }
-      go false other = same-begun _ _ (begun-began_other pass page (history past s) p other) k
+      go false other f is = same-begun _ _ (begun-began_other pass page (history past s) p other) k f is
   begun-step e past may (Some (Ended pass page how)) effect k = same-begun _ _ (begun-ended pass page how (history past s) p) k
   begun-step e past may (Some (Synced pass how)) effect k = same-begun _ _ (begun-synced pass how (history past s) p) k
 
@@ -107,7 +107,7 @@ module _ (O : Type 0) (B : List Entry → Type 0) (pages : ℕ → List ℕ) (s 
       go true same bytes is =
           ended-known (history past s) (begun (history past s) p) (ended_ok how) (image pages (history past s) p) refl begins k bytes
           (sym (image-ended_page pages pass page how (history past s) p same) ∙ is)
-      go false other = same-known _ _ (image-ended_other pages pass page how (history past s) p other) k
+      go false other bytes is = same-known _ _ (image-ended_other pages pass page how (history past s) p other) k bytes is
   known-step e past (Some (Synced pass how)) effect begins k = same-known _ _ (image-synced pages pass how (history past s) p) k
 
   one-alone : (only bytes : List ℕ) → Contains (only ∷ []) bytes → only ≡ bytes
@@ -144,9 +144,9 @@ module _ (O : Type 0) (B : List Entry → Type 0) (pages : ℕ → List ℕ) (s 
           either same bytes
           (Contains-push_cases (crash_pages pages (history past s) p) (page_bytes pages (history past s) p) bytes
           (subst (λ (l : List (List ℕ)). Contains l bytes) (crash_pages-began_page pages pass page (history past s) p same) among))
-      go false other = same-crash _ _ (crash_pages-began_other pages pass page (history past s) p other) k
+      go false other bytes among = same-crash _ _ (crash_pages-began_other pages pass page (history past s) p other) k bytes among
   crash-step e past may (Some (Ended pass page how)) effect known k = same-crash _ _ (crash_pages-ended pages pass page how (history past s) p) k
-  crash-step e past may (Some (Synced pass how)) effect known k bytes among =
+  crash-step e past may (Some (Synced pass how)) effect known k = λ bytes among.
       settled-left (ended_ok how) (image pages (history past s) p) (crash_pages pages (history past s) p) known k bytes
       (subst (λ (l : List (List ℕ)). Contains l bytes) (crash_pages-synced pages pass how (history past s) p) among)
 

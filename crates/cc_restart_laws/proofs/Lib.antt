@@ -7,3 +7,4 @@ pub mod Stamped
 pub mod Safe
 pub mod Fronts
 pub mod Redoing
+pub mod Contents

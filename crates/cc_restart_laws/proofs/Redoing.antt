@@ -331,13 +331,11 @@ from-cases streams (entry ∷ entries) from = go entry.says refl (from-cases str
     far : IsFromCheckpoint streams entries (from_behind streams (from_said streams from entry) entries) → IsFromCheckpoint streams (entry ∷ entries) (from_behind streams (from_said streams from entry) entries)
     far k = record { entry = k.entry; rows = k.rows; among = inr k.among; says = k.says; is = k.is }
 
-    abbrev to : ℕ
-    to = from_behind streams (from_said streams from entry) entries
-
     said : (o : Option LogRecord) → entry.says ≡ o → from_said streams from entry ≡ from_said streams from (record { lsn = entry.lsn; says = o })
     said o is = ap (λ (x : Option LogRecord). from_said streams from (record { lsn = entry.lsn; says = x })) is
 
-    go : (o : Option LogRecord) → entry.says ≡ o → (to ≡ from_said streams from entry) ⊎ IsFromCheckpoint streams entries to → (to ≡ from) ⊎ IsFromCheckpoint streams (entry ∷ entries) to
+    go : (o : Option LogRecord) → entry.says ≡ o → (from_behind streams (from_said streams from entry) entries ≡ from_said streams from entry) ⊎ IsFromCheckpoint streams entries (from_behind streams (from_said streams from entry) entries) →
+        (from_behind streams (from_said streams from entry) entries ≡ from) ⊎ IsFromCheckpoint streams (entry ∷ entries) (from_behind streams (from_said streams from entry) entries)
     go o says (inr k) = inr (far k)
     go None says (inl same) = inl (same ∙ said None says)
     go (Some (Update stream at bytes)) says (inl same) = inl (same ∙ said (Some (Update stream at bytes)) says)

@@ -191,7 +191,7 @@ module _ (u : Setup) (s log : ℕ) (past : List Entry) (pass nth : ℕ) (it : Ca
   now : history (did ∷ past) s ≡ Did pass it reply ∷ h
   now = history-effect did past s (Some (Did pass it reply)) (rw (eq-eqb s s refl) refl)
 
-  no-truncation : (file : File) (truncate : Option ℕ) → act_of it ≡ Closes file truncate → truncation (objects h) (size_of h) file truncate ≡ None
+  pub no-truncation : (file : File) (truncate : Option ℕ) → act_of it ≡ Closes file truncate → truncation (objects h) (size_of h) file truncate ≡ None
   no-truncation file truncate is = go (had_map h) refl
     where
       go : (b : Bool) → had_map h ≡ b → truncation (objects h) (size_of h) file truncate ≡ None
