@@ -285,6 +285,14 @@ mapped-at s log past updated had =
     go false is = refl
     go true is = absurd (clash is)
 
+none-had : (s : ℕ) → had_map (history [] s) ≡ false
+unfolding history had_map
+none-had s = refl
+
+none-valid : (s : ℕ) → valid_of (history [] s) ≡ 0
+unfolding history sizes
+none-valid s = refl
+
 module _ (u : Setup) (s log : ℕ) where
   abbrev Steps : List Entry → Entry → Type 0
   Steps past e = (sizes (history (e ∷ past) s) ≡ sizes (history past s)) ⊎ HasRaised s log past e
@@ -406,11 +414,7 @@ module _ (u : Setup) (s log : ℕ) where
 
   -- the first initialise made no more valid than there is now
   pub first-least : (past : List Entry) → IsGoodSoFar u past → IsUpdated s log past → had_map (history past s) ≡ true → first_valid (history past s) ≤ valid_of (history past s)
-  first-least [] good updated had = absurd (none had)
-    where
-      none : had_map (history [] s) ≡ true → ⊥
-      unfolding history had_map
-      none is = cc
+  first-least [] good updated had = absurd (clash (sym had ∙ none-had s))
   first-least (e ∷ past) good updated had = go (had_map (history past s)) refl
     where
       go : (b : Bool) → had_map (history past s) ≡ b → first_valid (history (e ∷ past) s) ≤ valid_of (history (e ∷ past) s)
@@ -428,11 +432,7 @@ module _ (u : Setup) (s log : ℕ) where
     pub covers : has_byte (range_of it) i ≡ true
 
   pub valid-covered : (past : List Entry) (i : ℕ) → IsGoodSoFar u past → IsUpdated s log past → i < valid_of (history past s) → (i < first_valid (history past s)) ⊎ IsCovered past i
-  valid-covered [] i good updated below = absurd (none below)
-    where
-      none : i < valid_of (history [] s) → ⊥
-      unfolding history sizes
-      none is = omega (arith, is)
+  valid-covered [] i good updated below = let none = none-valid s in absurd (omega (arith, none, below))
   valid-covered (e ∷ past) i good updated below = go (had_map (history past s)) refl
     where
       rest : IsGoodSoFar u past

@@ -8,3 +8,5 @@ pub mod Safe
 pub mod Fronts
 pub mod Redoing
 pub mod Contents
+pub mod Logs
+pub mod Walks

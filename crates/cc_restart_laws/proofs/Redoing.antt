@@ -13,7 +13,6 @@ use Rattle.cc_redo.specs.Reading.{said_by}
 use Rattle.cc_redo.specs.declared.record.LogRecord.{LogRecord}
 use Rattle.cc_redo.specs.declared.record.LogRecord.TheVariants.{Update, Checkpoint}
 use Rattle.cc_redo.specs.declared.redo.Redo.{Redo}
-use Rattle.cc_redo.specs.declared.scan.ReadEntry.{ReadEntry}
 use Rattle.cc_restart_laws.specs.Stops.{updates_in, valid_after}
 
 -- one of a list
@@ -22,7 +21,7 @@ IsAmong [] x = ⊥
 IsAmong (y ∷ ys) x = (x ≡ y) ⊎ IsAmong ys x
 
 -- each entry has a lower LSN than those behind it
-abbrev pub AreAscending : List ReadEntry → Type 0
+abbrev pub AreAscending : List LogEntry → Type 0
 AreAscending [] = Unit {0}
 AreAscending (entry ∷ entries) = AllByRecursion (λ later. entry.lsn < later.lsn) entries × AreAscending entries
 
@@ -38,8 +37,8 @@ covers change page place = nat_lt place 4096 && (nat_le change.at (4096 * page +
 abbrev pub own_byte : Change → ℕ → ℕ → ℕ
 own_byte change page place = slice_index change.bytes (4096 * page + place - change.at)
 
-abbrev pub all_of : Redo → List ReadEntry → List Change
-all_of redo entries = filter_map (λ entry. change_said redo entry.says) entries
+abbrev pub all_of : Redo → List LogEntry → List Change
+all_of redo entries = filter_map (λ entry. change_said redo (said_by entry.bytes)) entries
 
 by-covered : (change : Change) (page place byte : ℕ) → covers change page place ≡ true → byte_by change page place byte ≡ own_byte change page place
 by-covered change page place byte is = rw is refl
@@ -49,56 +48,56 @@ by-uncovered change page place byte is = rw is refl
 
 module _ (redo : Redo) (from page place : ℕ) where
   -- an entry that gives the place its byte
-  abbrev pub Gives : ReadEntry → Change → Type 0
-  Gives entry change = (change_said redo entry.says ≡ Some change) × (covers change page place ≡ true)
+  abbrev pub Gives : LogEntry → Change → Type 0
+  Gives entry change = (change_said redo (said_by entry.bytes) ≡ Some change) × (covers change page place ≡ true)
 
   -- no entry does
-  pub record IsUngiven (entries : List ReadEntry) : Type 0 where
-    pub none : (entry : ReadEntry) (change : Change) → IsAmong entries entry → Gives entry change → ⊥
+  pub record IsUngiven (entries : List LogEntry) : Type 0 where
+    pub none : (entry : LogEntry) (change : Change) → IsAmong entries entry → Gives entry change → ⊥
     pub all : (byte : ℕ) → byte_after (all_of redo entries) page place byte ≡ byte
-    pub redone : (byte : ℕ) → byte_after (redone_of redo from entries) page place byte ≡ byte
+    pub redone : (byte : ℕ) → byte_after (redone_of redo from (readings entries)) page place byte ≡ byte
 
   -- the last that does decides it; those redone do not where it is not among them
-  pub record IsGivenBy (entries : List ReadEntry) : Type 0 where
-    pub entry : ReadEntry
+  pub record IsGivenBy (entries : List LogEntry) : Type 0 where
+    pub entry : LogEntry
     pub change : Change
     pub among : IsAmong entries entry
     pub gives : Gives entry change
-    pub last : (other : ReadEntry) (its : Change) → IsAmong entries other → Gives other its → other.lsn ≤ entry.lsn
+    pub last : (other : LogEntry) (its : Change) → IsAmong entries other → Gives other its → other.lsn ≤ entry.lsn
     pub all : (byte : ℕ) → byte_after (all_of redo entries) page place byte ≡ own_byte change page place
-    pub late : from ≤ entry.lsn → (byte : ℕ) → byte_after (redone_of redo from entries) page place byte ≡ own_byte change page place
-    pub early : entry.lsn < from → (byte : ℕ) → byte_after (redone_of redo from entries) page place byte ≡ byte
+    pub late : from ≤ entry.lsn → (byte : ℕ) → byte_after (redone_of redo from (readings entries)) page place byte ≡ own_byte change page place
+    pub early : entry.lsn < from → (byte : ℕ) → byte_after (redone_of redo from (readings entries)) page place byte ≡ byte
 
-  abbrev pub IsDecidedSo : List ReadEntry → Type 0
+  abbrev pub IsDecidedSo : List LogEntry → Type 0
   IsDecidedSo entries = IsUngiven entries ⊎ IsGivenBy entries
 
   after-option : (o : Option Change) (changes : List Change) (byte : ℕ) → ℕ
   after-option None changes byte = byte_after changes page place byte
   after-option (Some change) changes byte = byte_after changes page place (byte_by change page place byte)
 
-  passed-redone : (entry : ReadEntry) (entries : List ReadEntry) → redone_by redo from entry ≡ None → redone_of redo from (entry ∷ entries) ≡ redone_of redo from entries
+  passed-redone : (entry : LogEntry) (entries : List LogEntry) → redone_by redo from (reading entry) ≡ None → redone_of redo from (readings (entry ∷ entries)) ≡ redone_of redo from (readings entries)
   passed-redone entry entries none = rw none refl
 
-  kept-redone : (entry : ReadEntry) (entries : List ReadEntry) (change : Change) → redone_by redo from entry ≡ Some change → redone_of redo from (entry ∷ entries) ≡ change ∷ redone_of redo from entries
+  kept-redone : (entry : LogEntry) (entries : List LogEntry) (change : Change) → redone_by redo from (reading entry) ≡ Some change → redone_of redo from (readings (entry ∷ entries)) ≡ change ∷ redone_of redo from (readings entries)
   kept-redone entry entries change some = rw some refl
 
-  passed-all : (entry : ReadEntry) (entries : List ReadEntry) → change_said redo entry.says ≡ None → all_of redo (entry ∷ entries) ≡ all_of redo entries
+  passed-all : (entry : LogEntry) (entries : List LogEntry) → change_said redo (said_by entry.bytes) ≡ None → all_of redo (entry ∷ entries) ≡ all_of redo entries
   passed-all entry entries none = rw none refl
 
-  kept-all : (entry : ReadEntry) (entries : List ReadEntry) (change : Change) → change_said redo entry.says ≡ Some change → all_of redo (entry ∷ entries) ≡ change ∷ all_of redo entries
+  kept-all : (entry : LogEntry) (entries : List LogEntry) (change : Change) → change_said redo (said_by entry.bytes) ≡ Some change → all_of redo (entry ∷ entries) ≡ change ∷ all_of redo entries
   kept-all entry entries change some = rw some refl
 
-  redone-none : (entry : ReadEntry) → change_said redo entry.says ≡ None → redone_by redo from entry ≡ None
+  redone-none : (entry : LogEntry) → change_said redo (said_by entry.bytes) ≡ None → redone_by redo from (reading entry) ≡ None
   redone-none entry none = go (nat_le from entry.lsn)
     where
-      go : (b : Bool) → (if b then change_said redo entry.says else None) ≡ None
+      go : (b : Bool) → (if b then change_said redo (said_by entry.bytes) else None) ≡ None
       go true = none
       go false = refl
 
-  redone-late : (entry : ReadEntry) (change : Change) → change_said redo entry.says ≡ Some change → nat_le from entry.lsn ≡ true → redone_by redo from entry ≡ Some change
+  redone-late : (entry : LogEntry) (change : Change) → change_said redo (said_by entry.bytes) ≡ Some change → nat_le from entry.lsn ≡ true → redone_by redo from (reading entry) ≡ Some change
   redone-late entry change said late = rw late said
 
-  redone-early : (entry : ReadEntry) → nat_le from entry.lsn ≡ false → redone_by redo from entry ≡ None
+  redone-early : (entry : LogEntry) → nat_le from entry.lsn ≡ false → redone_by redo from (reading entry) ≡ None
   redone-early entry early = rw early refl
 
   clash-some : (change other : Change) (b : Bool) → Some change ≡ Some other → covers change page place ≡ false → covers other page place ≡ true → ⊥
@@ -110,20 +109,20 @@ module _ (redo : Redo) (from page place : ℕ) where
       some : Some change ≡ Some other → change ≡ other
       some is = cc
 
-  none-said : (entry : ReadEntry) (change : Change) → change_said redo entry.says ≡ None → change_said redo entry.says ≡ Some change → ⊥
+  none-said : (entry : LogEntry) (change : Change) → change_said redo (said_by entry.bytes) ≡ None → change_said redo (said_by entry.bytes) ≡ Some change → ⊥
   none-said entry change none some = cc
 
   -- an entry that gives the place nothing changes nothing of it
-  longer : (entry : ReadEntry) (entries : List ReadEntry) → ((other : ReadEntry) (change : Change) → other ≡ entry → Gives other change → ⊥) →
+  longer : (entry : LogEntry) (entries : List LogEntry) → ((other : LogEntry) (change : Change) → other ≡ entry → Gives other change → ⊥) →
       ((byte : ℕ) → byte_after (all_of redo (entry ∷ entries)) page place byte ≡ byte_after (all_of redo entries) page place byte) →
-      ((byte : ℕ) → byte_after (redone_of redo from (entry ∷ entries)) page place byte ≡ byte_after (redone_of redo from entries) page place byte) → IsDecidedSo entries → IsDecidedSo (entry ∷ entries)
+      ((byte : ℕ) → byte_after (redone_of redo from (readings (entry ∷ entries))) page place byte ≡ byte_after (redone_of redo from (readings entries)) page place byte) → IsDecidedSo entries → IsDecidedSo (entry ∷ entries)
   longer entry entries idle all redone (inl k) = inl (record {
     none = λ other change among gives. go other change among gives;
     all = λ byte. all byte ∙ k.all byte;
     redone = λ byte. redone byte ∙ k.redone byte;
   })
     where
-      go : (other : ReadEntry) (change : Change) → IsAmong (entry ∷ entries) other → Gives other change → ⊥
+      go : (other : LogEntry) (change : Change) → IsAmong (entry ∷ entries) other → Gives other change → ⊥
       go other change (inl same) gives = idle other change same gives
       go other change (inr among) gives = k.none other change among gives
   longer entry entries idle all redone (inr k) = inr (record {
@@ -137,48 +136,48 @@ module _ (redo : Redo) (from page place : ℕ) where
     early = λ lt byte. redone byte ∙ k.early lt byte;
   })
     where
-      go : (other : ReadEntry) (its : Change) → IsAmong (entry ∷ entries) other → Gives other its → other.lsn ≤ k.entry.lsn
+      go : (other : LogEntry) (its : Change) → IsAmong (entry ∷ entries) other → Gives other its → other.lsn ≤ k.entry.lsn
       go other its (inl same) gives = absurd (idle other its same gives)
       go other its (inr among) gives = k.last other its among gives
 
-  passed : (entry : ReadEntry) (entries : List ReadEntry) → change_said redo entry.says ≡ None → IsDecidedSo entries → IsDecidedSo (entry ∷ entries)
+  passed : (entry : LogEntry) (entries : List LogEntry) → change_said redo (said_by entry.bytes) ≡ None → IsDecidedSo entries → IsDecidedSo (entry ∷ entries)
   passed entry entries none k =
       longer entry entries
-      (λ other change same gives. none-said entry change none (ap (λ (e : ReadEntry). change_said redo e.says) (sym same) ∙ gives.0))
+      (λ other change same gives. none-said entry change none (ap (λ (e : LogEntry). change_said redo (said_by e.bytes)) (sym same) ∙ gives.0))
       (λ byte. ap (λ (l : List Change). byte_after l page place byte) (passed-all entry entries none))
       (λ byte. ap (λ (l : List Change). byte_after l page place byte) (passed-redone entry entries (redone-none entry none))) k
 
   -- the same of one whose change does not cover the place, and of one that does
-  aside : (entry : ReadEntry) (entries : List ReadEntry) (change : Change) → change_said redo entry.says ≡ Some change → covers change page place ≡ false → IsDecidedSo entries → IsDecidedSo (entry ∷ entries)
+  aside : (entry : LogEntry) (entries : List LogEntry) (change : Change) → change_said redo (said_by entry.bytes) ≡ Some change → covers change page place ≡ false → IsDecidedSo entries → IsDecidedSo (entry ∷ entries)
   aside entry entries change said no k =
       longer entry entries
-      (λ other its same gives. clash-some change its true (sym said ∙ (ap (λ (e : ReadEntry). change_said redo e.says) (sym same) ∙ gives.0)) no gives.1)
+      (λ other its same gives. clash-some change its true (sym said ∙ (ap (λ (e : LogEntry). change_said redo (said_by e.bytes)) (sym same) ∙ gives.0)) no gives.1)
       (λ byte. ap (λ (l : List Change). byte_after l page place byte) (kept-all entry entries change said) ∙ ap (byte_after (all_of redo entries) page place) (by-uncovered change page place byte no))
       (λ byte. go byte (nat_le from entry.lsn) refl) k
     where
-      go : (byte : ℕ) (b : Bool) → nat_le from entry.lsn ≡ b → byte_after (redone_of redo from (entry ∷ entries)) page place byte ≡ byte_after (redone_of redo from entries) page place byte
+      go : (byte : ℕ) (b : Bool) → nat_le from entry.lsn ≡ b → byte_after (redone_of redo from (readings (entry ∷ entries))) page place byte ≡ byte_after (redone_of redo from (readings entries)) page place byte
       go byte true late =
           ap (λ (l : List Change). byte_after l page place byte) (kept-redone entry entries change (redone-late entry change said late))
-          ∙ ap (byte_after (redone_of redo from entries) page place) (by-uncovered change page place byte no)
+          ∙ ap (byte_after (redone_of redo from (readings entries)) page place) (by-uncovered change page place byte no)
       go byte false early = ap (λ (l : List Change). byte_after l page place byte) (passed-redone entry entries (redone-early entry early))
 
-  all-kept : (entry : ReadEntry) (entries : List ReadEntry) (change : Change) (byte : ℕ) → change_said redo entry.says ≡ Some change →
+  all-kept : (entry : LogEntry) (entries : List LogEntry) (change : Change) (byte : ℕ) → change_said redo (said_by entry.bytes) ≡ Some change →
       byte_after (all_of redo (entry ∷ entries)) page place byte ≡ byte_after (all_of redo entries) page place (byte_by change page place byte)
   all-kept entry entries change byte said = ap (λ (l : List Change). byte_after l page place byte) (kept-all entry entries change said)
 
-  redone-kept : (entry : ReadEntry) (entries : List ReadEntry) (change : Change) (byte : ℕ) → change_said redo entry.says ≡ Some change → from ≤ entry.lsn →
-      byte_after (redone_of redo from (entry ∷ entries)) page place byte ≡ byte_after (redone_of redo from entries) page place (byte_by change page place byte)
+  redone-kept : (entry : LogEntry) (entries : List LogEntry) (change : Change) (byte : ℕ) → change_said redo (said_by entry.bytes) ≡ Some change → from ≤ entry.lsn →
+      byte_after (redone_of redo from (readings (entry ∷ entries))) page place byte ≡ byte_after (redone_of redo from (readings entries)) page place (byte_by change page place byte)
   redone-kept entry entries change byte said late =
       ap (λ (l : List Change). byte_after l page place byte) (kept-redone entry entries change (redone-late entry change said (le-leb from entry.lsn late)))
 
-  redone-passed : (entry : ReadEntry) (entries : List ReadEntry) (byte : ℕ) → entry.lsn < from → byte_after (redone_of redo from (entry ∷ entries)) page place byte ≡ byte_after (redone_of redo from entries) page place byte
+  redone-passed : (entry : LogEntry) (entries : List LogEntry) (byte : ℕ) → entry.lsn < from → byte_after (redone_of redo from (readings (entry ∷ entries))) page place byte ≡ byte_after (redone_of redo from (readings entries)) page place byte
   redone-passed entry entries byte early = ap (λ (l : List Change). byte_after l page place byte) (passed-redone entry entries (redone-early entry (go (nat_le from entry.lsn) refl)))
     where
       go : (b : Bool) → nat_le from entry.lsn ≡ b → nat_le from entry.lsn ≡ false
       go false is = is
       go true is = let le = leb-true from entry.lsn is in absurd (omega (arith, le, early))
 
-  covering : (entry : ReadEntry) (entries : List ReadEntry) (change : Change) → AllByRecursion (λ later. entry.lsn < later.lsn) entries → change_said redo entry.says ≡ Some change → covers change page place ≡ true → IsDecidedSo entries → IsDecidedSo (entry ∷ entries)
+  covering : (entry : LogEntry) (entries : List LogEntry) (change : Change) → AllByRecursion (λ later. entry.lsn < later.lsn) entries → change_said redo (said_by entry.bytes) ≡ Some change → covers change page place ≡ true → IsDecidedSo entries → IsDecidedSo (entry ∷ entries)
   covering entry entries change above said yes (inl k) = inr (record {
     entry = entry;
     change = change;
@@ -190,10 +189,10 @@ module _ (redo : Redo) (from page place : ℕ) where
     early = λ lt byte. redone-passed entry entries byte lt ∙ k.redone byte;
   })
     where
-      same-lsn : (a b : ReadEntry) → a ≡ b → a.lsn ≤ b.lsn
-      same-lsn a b same = let lsn : a.lsn ≡ b.lsn = ap (λ (e : ReadEntry). e.lsn) same in omega arith
+      same-lsn : (a b : LogEntry) → a ≡ b → a.lsn ≤ b.lsn
+      same-lsn a b same = let lsn : a.lsn ≡ b.lsn = ap (λ (e : LogEntry). e.lsn) same in omega arith
 
-      go : (other : ReadEntry) (its : Change) → IsAmong (entry ∷ entries) other → Gives other its → other.lsn ≤ entry.lsn
+      go : (other : LogEntry) (its : Change) → IsAmong (entry ∷ entries) other → Gives other its → other.lsn ≤ entry.lsn
       go other its (inl same) gives = same-lsn other entry same
       go other its (inr among) gives = absurd (k.none other its among gives)
   covering entry entries change above said yes (inr k) = inr (record {
@@ -208,28 +207,28 @@ module _ (redo : Redo) (from page place : ℕ) where
   })
     where
       higher : entry.lsn < k.entry.lsn
-      higher = all-among (λ (later : ReadEntry). entry.lsn < later.lsn) entries k.entry above k.among
+      higher = all-among (λ (later : LogEntry). entry.lsn < later.lsn) entries k.entry above k.among
 
-      same-lsn : (a b : ReadEntry) → a ≡ b → a.lsn ≡ b.lsn
-      same-lsn a b same = ap (λ (e : ReadEntry). e.lsn) same
+      same-lsn : (a b : LogEntry) → a ≡ b → a.lsn ≡ b.lsn
+      same-lsn a b same = ap (λ (e : LogEntry). e.lsn) same
 
-      go : (other : ReadEntry) (its : Change) → IsAmong (entry ∷ entries) other → Gives other its → other.lsn ≤ k.entry.lsn
+      go : (other : LogEntry) (its : Change) → IsAmong (entry ∷ entries) other → Gives other its → other.lsn ≤ k.entry.lsn
       go other its (inl same) gives = let lsn = same-lsn other entry same in omega (arith, higher, lsn)
       go other its (inr among) gives = k.last other its among gives
 
-      late : from ≤ k.entry.lsn → (byte : ℕ) (b : Bool) → nat_le from entry.lsn ≡ b → byte_after (redone_of redo from (entry ∷ entries)) page place byte ≡ own_byte k.change page place
+      late : from ≤ k.entry.lsn → (byte : ℕ) (b : Bool) → nat_le from entry.lsn ≡ b → byte_after (redone_of redo from (readings (entry ∷ entries))) page place byte ≡ own_byte k.change page place
       late le byte true is = redone-kept entry entries change byte said (leb-true from entry.lsn is) ∙ k.late le (byte_by change page place byte)
       late le byte false is = redone-passed entry entries byte (leb-false from entry.lsn is) ∙ k.late le byte
 
-  pub decided-so : (entries : List ReadEntry) → AreAscending entries → IsDecidedSo entries
+  pub decided-so : (entries : List LogEntry) → AreAscending entries → IsDecidedSo entries
   decided-so [] ascending = inl (record { none = λ entry change among gives. among; all = λ byte. refl; redone = λ byte. refl })
-  decided-so (entry ∷ entries) ascending = go (change_said redo entry.says) refl (decided-so entries ascending.1)
+  decided-so (entry ∷ entries) ascending = go (change_said redo (said_by entry.bytes)) refl (decided-so entries ascending.1)
     where
-      either : (change : Change) → change_said redo entry.says ≡ Some change → (b : Bool) → covers change page place ≡ b → IsDecidedSo entries → IsDecidedSo (entry ∷ entries)
+      either : (change : Change) → change_said redo (said_by entry.bytes) ≡ Some change → (b : Bool) → covers change page place ≡ b → IsDecidedSo entries → IsDecidedSo (entry ∷ entries)
       either change said true yes k = covering entry entries change ascending.0 said yes k
       either change said false no k = aside entry entries change said no k
 
-      go : (o : Option Change) → change_said redo entry.says ≡ o → IsDecidedSo entries → IsDecidedSo (entry ∷ entries)
+      go : (o : Option Change) → change_said redo (said_by entry.bytes) ≡ o → IsDecidedSo entries → IsDecidedSo (entry ∷ entries)
       go None none k = passed entry entries none k
       go (Some change) said k = either change said (covers change page place) refl k
 
@@ -239,29 +238,29 @@ raised-more : (valid : ℕ) (o : Option Change) → valid ≤ raised valid o
 raised-more valid None = omega arith
 raised-more valid (Some change) = omega arith
 
-pub valid-least : (redo : Redo) (entries : List ReadEntry) (valid : ℕ) → valid ≤ valid_behind entries redo valid
+pub valid-least : (redo : Redo) (entries : List LogEntry) (valid : ℕ) → valid ≤ valid_behind (readings entries) redo valid
 valid-least redo [] valid = omega arith
 valid-least redo (entry ∷ entries) valid =
-    let here = raised-more valid (change_said redo entry.says) in
-    let rest = valid-least redo entries (raised valid (change_said redo entry.says)) in
+    let here = raised-more valid (change_said redo (said_by entry.bytes)) in
+    let rest = valid-least redo entries (raised valid (change_said redo (said_by entry.bytes))) in
     omega arith
 
 -- a place below it is below what was given, or below the end of an update
-pub record EndsBehind (redo : Redo) (entries : List ReadEntry) (i : ℕ) : Type 0 where
-  pub entry : ReadEntry
+pub record EndsBehind (redo : Redo) (entries : List LogEntry) (i : ℕ) : Type 0 where
+  pub entry : LogEntry
   pub change : Change
   pub among : IsAmong entries entry
-  pub said : change_said redo entry.says ≡ Some change
+  pub said : change_said redo (said_by entry.bytes) ≡ Some change
   pub below : i < end_of change
 
-pub valid-cases : (redo : Redo) (entries : List ReadEntry) (valid i : ℕ) → i < valid_behind entries redo valid → (i < valid) ⊎ EndsBehind redo entries i
+pub valid-cases : (redo : Redo) (entries : List LogEntry) (valid i : ℕ) → i < valid_behind (readings entries) redo valid → (i < valid) ⊎ EndsBehind redo entries i
 valid-cases redo [] valid i below = inl below
-valid-cases redo (entry ∷ entries) valid i below = go (change_said redo entry.says) refl (valid-cases redo entries (raised valid (change_said redo entry.says)) i below)
+valid-cases redo (entry ∷ entries) valid i below = go (change_said redo (said_by entry.bytes)) refl (valid-cases redo entries (raised valid (change_said redo (said_by entry.bytes))) i below)
   where
     far : EndsBehind redo entries i → EndsBehind redo (entry ∷ entries) i
     far k = record { entry = k.entry; change = k.change; among = inr k.among; said = k.said; below = k.below }
 
-    here : (change : Change) → change_said redo entry.says ≡ Some change → (b : Bool) → nat_lt i valid ≡ b → i < max valid (end_of change) → (i < valid) ⊎ EndsBehind redo (entry ∷ entries) i
+    here : (change : Change) → change_said redo (said_by entry.bytes) ≡ Some change → (b : Bool) → nat_lt i valid ≡ b → i < max valid (end_of change) → (i < valid) ⊎ EndsBehind redo (entry ∷ entries) i
     here change said true is lt = inl (ltb i valid is)
       where
         ltb : (a b : ℕ) → nat_lt a b ≡ true → a < b
@@ -271,20 +270,20 @@ valid-cases redo (entry ∷ entries) valid i below = go (change_said redo entry.
         less : (a b c : ℕ) → nat_lt a b ≡ false → a < max b c → a < c
         less a b c is lt = grind arith
 
-    go : (o : Option Change) → change_said redo entry.says ≡ o → (i < raised valid o) ⊎ EndsBehind redo entries i → (i < valid) ⊎ EndsBehind redo (entry ∷ entries) i
+    go : (o : Option Change) → change_said redo (said_by entry.bytes) ≡ o → (i < raised valid o) ⊎ EndsBehind redo entries i → (i < valid) ⊎ EndsBehind redo (entry ∷ entries) i
     go o said (inr k) = inr (far k)
     go None said (inl lt) = inl lt
     go (Some change) said (inl lt) = here change said (nat_lt i valid) refl lt
 
 -- the end of an update is no farther
-pub valid-ends : (redo : Redo) (entries : List ReadEntry) (valid : ℕ) (entry : ReadEntry) (change : Change) → IsAmong entries entry → change_said redo entry.says ≡ Some change → end_of change ≤ valid_behind entries redo valid
+pub valid-ends : (redo : Redo) (entries : List LogEntry) (valid : ℕ) (entry : LogEntry) (change : Change) → IsAmong entries entry → change_said redo (said_by entry.bytes) ≡ Some change → end_of change ≤ valid_behind (readings entries) redo valid
 valid-ends redo [] valid entry change among said = absurd among
 valid-ends redo (first ∷ entries) valid entry change (inl same) said =
-    let its : change_said redo first.says ≡ Some change = ap (λ (e : ReadEntry). change_said redo e.says) (sym same) ∙ said in
-    let rest = valid-least redo entries (raised valid (change_said redo first.says)) in
-    let reached : raised valid (change_said redo first.says) ≡ max valid (end_of change) = ap (raised valid) its in
+    let its : change_said redo (said_by first.bytes) ≡ Some change = ap (λ (e : LogEntry). change_said redo (said_by e.bytes)) (sym same) ∙ said in
+    let rest = valid-least redo entries (raised valid (change_said redo (said_by first.bytes))) in
+    let reached : raised valid (change_said redo (said_by first.bytes)) ≡ max valid (end_of change) = ap (raised valid) its in
     omega arith
-valid-ends redo (first ∷ entries) valid entry change (inr among) said = valid-ends redo entries (raised valid (change_said redo first.says)) entry change among said
+valid-ends redo (first ∷ entries) valid entry change (inr among) said = valid-ends redo entries (raised valid (change_said redo (said_by first.bytes))) entry change among said
 
 raised-within : (valid size : ℕ) (redo : Redo) (o : Option LogRecord) → size ≡ redo.size → valid ≤ size → raised valid (change_said redo o) ≤ size
 raised-within valid size redo None same within = within
@@ -296,46 +295,42 @@ raised-within valid size redo (Some (Update stream at bytes)) same within = go (
     go true false is = within
     go false c is = within
 
-pub valid-within : (redo : Redo) (entries : List ReadEntry) (valid : ℕ) → valid ≤ redo.size → valid_behind entries redo valid ≤ redo.size
+pub valid-within : (redo : Redo) (entries : List LogEntry) (valid : ℕ) → valid ≤ redo.size → valid_behind (readings entries) redo valid ≤ redo.size
 valid-within redo [] valid within = within
-valid-within redo (entry ∷ entries) valid within = valid-within redo entries (raised valid (change_said redo entry.says)) (raised-within valid redo.size redo entry.says refl within)
+valid-within redo (entry ∷ entries) valid within = valid-within redo entries (raised valid (change_said redo (said_by entry.bytes))) (raised-within valid redo.size redo (said_by entry.bytes) refl within)
 
 -- ---- the updates as the definitions name them
 
-pub all-same : (redo : Redo) (kept : List LogEntry) → updates_in redo kept ≡ all_of redo (readings kept)
-all-same redo [] = refl
-all-same redo (entry ∷ kept) = ap (cons_option (change_said redo (said_by entry.bytes))) (all-same redo kept)
-
-pub valid-same : (redo : Redo) (entries : List ReadEntry) (valid : ℕ) → valid_after (all_of redo entries) valid ≡ valid_behind entries redo valid
+pub valid-same : (redo : Redo) (entries : List LogEntry) (valid : ℕ) → valid_after (all_of redo entries) valid ≡ valid_behind (readings entries) redo valid
 valid-same redo [] valid = refl
-valid-same redo (entry ∷ entries) valid = go (change_said redo entry.says) refl (λ (v : ℕ). valid-same redo entries v)
+valid-same redo (entry ∷ entries) valid = go (change_said redo (said_by entry.bytes)) refl (λ (v : ℕ). valid-same redo entries v)
   where
-    go : (o : Option Change) → change_said redo entry.says ≡ o → ((v : ℕ) → valid_after (all_of redo entries) v ≡ valid_behind entries redo v) →
-        valid_after (cons_option o (all_of redo entries)) valid ≡ valid_behind entries redo (raised valid o)
+    go : (o : Option Change) → change_said redo (said_by entry.bytes) ≡ o → ((v : ℕ) → valid_after (all_of redo entries) v ≡ valid_behind (readings entries) redo v) →
+        valid_after (cons_option o (all_of redo entries)) valid ≡ valid_behind (readings entries) redo (raised valid o)
     go None is rest = rest valid
     go (Some change) is rest = rest (max valid (end_of change))
 
 -- ---- from where updates are redone
 
-pub record IsFromCheckpoint (streams : List Redo) (entries : List ReadEntry) (from : ℕ) : Type 0 where
-  pub entry : ReadEntry
+pub record IsFromCheckpoint (streams : List Redo) (entries : List LogEntry) (from : ℕ) : Type 0 where
+  pub entry : LogEntry
   pub rows : List OldestRow
   pub among : IsAmong entries entry
-  pub says : entry.says ≡ Some (Checkpoint rows)
+  pub says : (said_by entry.bytes) ≡ Some (Checkpoint rows)
   pub is : from ≡ oldest_in streams entry.lsn rows
 
-pub from-cases : (streams : List Redo) (entries : List ReadEntry) (from : ℕ) → (from_behind streams from entries ≡ from) ⊎ IsFromCheckpoint streams entries (from_behind streams from entries)
+pub from-cases : (streams : List Redo) (entries : List LogEntry) (from : ℕ) → (from_behind streams from (readings entries) ≡ from) ⊎ IsFromCheckpoint streams entries (from_behind streams from (readings entries))
 from-cases streams [] from = inl refl
-from-cases streams (entry ∷ entries) from = go entry.says refl (from-cases streams entries (from_said streams from entry))
+from-cases streams (entry ∷ entries) from = go (said_by entry.bytes) refl (from-cases streams entries (from_said streams from (reading entry)))
   where
-    far : IsFromCheckpoint streams entries (from_behind streams (from_said streams from entry) entries) → IsFromCheckpoint streams (entry ∷ entries) (from_behind streams (from_said streams from entry) entries)
+    far : IsFromCheckpoint streams entries (from_behind streams (from_said streams from (reading entry)) (readings entries)) → IsFromCheckpoint streams (entry ∷ entries) (from_behind streams (from_said streams from (reading entry)) (readings entries))
     far k = record { entry = k.entry; rows = k.rows; among = inr k.among; says = k.says; is = k.is }
 
-    said : (o : Option LogRecord) → entry.says ≡ o → from_said streams from entry ≡ from_said streams from (record { lsn = entry.lsn; says = o })
+    said : (o : Option LogRecord) → (said_by entry.bytes) ≡ o → from_said streams from (reading entry) ≡ from_said streams from (record { lsn = entry.lsn; says = o })
     said o is = ap (λ (x : Option LogRecord). from_said streams from (record { lsn = entry.lsn; says = x })) is
 
-    go : (o : Option LogRecord) → entry.says ≡ o → (from_behind streams (from_said streams from entry) entries ≡ from_said streams from entry) ⊎ IsFromCheckpoint streams entries (from_behind streams (from_said streams from entry) entries) →
-        (from_behind streams (from_said streams from entry) entries ≡ from) ⊎ IsFromCheckpoint streams (entry ∷ entries) (from_behind streams (from_said streams from entry) entries)
+    go : (o : Option LogRecord) → (said_by entry.bytes) ≡ o → (from_behind streams (from_said streams from (reading entry)) (readings entries) ≡ from_said streams from (reading entry)) ⊎ IsFromCheckpoint streams entries (from_behind streams (from_said streams from (reading entry)) (readings entries)) →
+        (from_behind streams (from_said streams from (reading entry)) (readings entries) ≡ from) ⊎ IsFromCheckpoint streams (entry ∷ entries) (from_behind streams (from_said streams from (reading entry)) (readings entries))
     go o says (inr k) = inr (far k)
     go None says (inl same) = inl (same ∙ said None says)
     go (Some (Update stream at bytes)) says (inl same) = inl (same ∙ said (Some (Update stream at bytes)) says)

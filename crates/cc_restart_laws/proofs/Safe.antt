@@ -68,7 +68,7 @@ safe-flushed u s log it p past good its may in_range (inr (inr stamped)) = stamp
 more-flushed : (log n : ℕ) (e : Entry) (past : List Entry) → n ≤ flushed_to past log → n ≤ flushed_to (e ∷ past) log
 more-flushed log n e past le = let step = flushed_to-entry e past log in omega arith
 
-logged-at : (u : Setup) (e : Entry) (past : List Entry) (s pass page p : ℕ) → IsGoodSoFar u (e ∷ past) → IsBegin e s pass page → page ≡ p → IsLogged past s p
+pub logged-at : (u : Setup) (e : Entry) (past : List Entry) (s pass page p : ℕ) → IsGoodSoFar u (e ∷ past) → IsBegin e s pass page → page ≡ p → IsLogged past s p
 logged-at u e past s pass page p good k same =
     subst (λ (n : ℕ). IsLogged past s n) (k.number ∙ same)
     (subst (λ (n : ℕ). IsLogged past n k.place.page) k.stream (logged u past pass k.place (subst (λ (x : Entry). IsGoodSoFar u (x ∷ past)) k.is good)))
