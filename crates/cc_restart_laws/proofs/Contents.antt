@@ -344,13 +344,13 @@ module _ (u : Setup) (s log : ℕ) where
   pub first-more : (later past : List Entry) → had_map (history past s) ≡ true → first_valid (history (later ++ past) s) ≡ first_valid (history past s)
   first-more later past had = ap first_valid (history-grown later past s) ∙ first-stays (history later s) (history past s) had
 
-  never-valid : (past : List Entry) → IsGoodSoFar u past → had_map (history past s) ≡ false → valid_of (history past s) ≡ 0
+  pub never-valid : (past : List Entry) → IsGoodSoFar u past → had_map (history past s) ≡ false → valid_of (history past s) ≡ 0
   never-valid past good never = valid-never (history past s) (IsSteady-good u past s good) never
 
   -- the first map, which only a call makes
   had-same : (past : List Entry) (e : Entry) (x : Effect) → effect_of e s ≡ Some x → is_did x ≡ false → had_map (history (e ∷ past) s) ≡ had_map (history past s)
   unfolding had_map
-  had-same past e (Did pass it reply) effect not_did = absurd (clash not_did)
+  had-same past e (Did pass c reply) effect not_did = absurd (clash not_did)
   had-same past e (CameIn pass page from_disk) effect not_did = ap had_map (history-effect e past s _ effect)
   had-same past e (WentOut pass page) effect not_did = ap had_map (history-effect e past s _ effect)
   had-same past e (Began pass page) effect not_did = ap had_map (history-effect e past s _ effect)
@@ -415,15 +415,15 @@ module _ (u : Setup) (s log : ℕ) where
   -- the first initialise made no more valid than there is now
   pub first-least : (past : List Entry) → IsGoodSoFar u past → IsUpdated s log past → had_map (history past s) ≡ true → first_valid (history past s) ≤ valid_of (history past s)
   first-least [] good updated had = absurd (clash (sym had ∙ none-had s))
-  first-least (e ∷ past) good updated had = go (had_map (history past s)) refl
+  first-least (e ∷ past) good updated had = go (had_map (history past s)) refl (λ before. first-least past (good-tail u e past good) (updated-tail s log e past updated) before)
     where
-      go : (b : Bool) → had_map (history past s) ≡ b → first_valid (history (e ∷ past) s) ≤ valid_of (history (e ∷ past) s)
-      go true before =
-          let rest = first-least past (good-tail u e past good) (updated-tail s log e past updated) before in
+      go : (b : Bool) → had_map (history past s) ≡ b → (had_map (history past s) ≡ true → first_valid (history past s) ≤ valid_of (history past s)) → first_valid (history (e ∷ past) s) ≤ valid_of (history (e ∷ past) s)
+      go true before least =
+          let rest = least before in
           let step = valid-step past e good updated in
           let first = first-more (e ∷ []) past before in
           omega (arith, rest, step, first)
-      go false never = let is = opened past e (effect_of e s) refl (good-tail u e past good) never had in omega (arith, is)
+      go false never least = let is = opened past e (effect_of e s) refl (good-tail u e past good) never had in omega (arith, is)
 
   -- a valid byte past what the first initialise made valid is covered by a change
   pub record IsCovered (past : List Entry) (i : ℕ) : Type 0 where
@@ -433,7 +433,7 @@ module _ (u : Setup) (s log : ℕ) where
 
   pub valid-covered : (past : List Entry) (i : ℕ) → IsGoodSoFar u past → IsUpdated s log past → i < valid_of (history past s) → (i < first_valid (history past s)) ⊎ IsCovered past i
   valid-covered [] i good updated below = let none = none-valid s in absurd (omega (arith, none, below))
-  valid-covered (e ∷ past) i good updated below = go (had_map (history past s)) refl
+  valid-covered (e ∷ past) i good updated below = go (had_map (history past s)) refl (λ lt. valid-covered past i rest earlier lt)
     where
       rest : IsGoodSoFar u past
       rest = good-tail u e past good
@@ -445,27 +445,25 @@ module _ (u : Setup) (s log : ℕ) where
       far before (inl lt) = let first = first-more (e ∷ []) past before in inl (omega (arith, lt, first))
       far before (inr k) = inr (record { it = k.it; change = inr k.change; covers = k.covers })
 
-      here : had_map (history past s) ≡ true → (k : HasRaised s log past e) → (b : Bool) → nat_lt i (valid_of (history past s)) ≡ b → (i < first_valid (history (e ∷ past) s)) ⊎ IsCovered (e ∷ past) i
-      here before k true is = far before (valid-covered-rest (ltb-true i (valid_of (history past s)) is))
-        where
-          valid-covered-rest : i < valid_of (history past s) → (i < first_valid (history past s)) ⊎ IsCovered past i
-          valid-covered-rest lt = valid-covered past i rest earlier lt
-      here before k false is =
+      here : had_map (history past s) ≡ true → (k : HasRaised s log past e) → (i < valid_of (history past s) → (i < first_valid (history past s)) ⊎ IsCovered past i) → (b : Bool) → nat_lt i (valid_of (history past s)) ≡ b →
+          (i < first_valid (history (e ∷ past) s)) ⊎ IsCovered (e ∷ past) i
+      here before k covered true is = far before (covered (ltb-true i (valid_of (history past s)) is))
+      here before k covered false is =
           let valid : valid_of (history (e ∷ past) s) ≡ max (valid_of (history past s)) (k.it.at + length k.it.bytes) = ap (λ (x : Sizes). x.valid) k.sizes_are in
           let above = ltb-false i (valid_of (history past s)) is in
           let within = k.within in
           inr (record { it = k.it; change = inl k.by; covers = has_byte-between (range_of k.it) i (omega (arith, above, within)) (omega (arith, valid, above, below)) })
 
-      by : had_map (history past s) ≡ true → Steps past e → (i < first_valid (history (e ∷ past) s)) ⊎ IsCovered (e ∷ past) i
-      by before (inl same) =
+      by : had_map (history past s) ≡ true → (i < valid_of (history past s) → (i < first_valid (history past s)) ⊎ IsCovered past i) → Steps past e → (i < first_valid (history (e ∷ past) s)) ⊎ IsCovered (e ∷ past) i
+      by before covered (inl same) =
           let valid : valid_of (history (e ∷ past) s) ≡ valid_of (history past s) = ap (λ (x : Sizes). x.valid) same in
-          far before (valid-covered past i rest earlier (omega (arith, valid, below)))
-      by before (inr k) = here before k (nat_lt i (valid_of (history past s))) refl
+          far before (covered (omega (arith, valid, below)))
+      by before covered (inr k) = here before k covered (nat_lt i (valid_of (history past s))) refl
 
       first : had_map (history past s) ≡ false → (b : Bool) → had_map (history (e ∷ past) s) ≡ b → (i < first_valid (history (e ∷ past) s)) ⊎ IsCovered (e ∷ past) i
       first never true had = let is = opened past e (effect_of e s) refl rest never had in inl (omega (arith, is, below))
       first never false none = let zero = never-valid (e ∷ past) good none in absurd (omega (arith, zero, below))
 
-      go : (b : Bool) → had_map (history past s) ≡ b → (i < first_valid (history (e ∷ past) s)) ⊎ IsCovered (e ∷ past) i
-      go true before = by before (sizes-step past e good updated before)
-      go false never = first never (had_map (history (e ∷ past) s)) refl
+      go : (b : Bool) → had_map (history past s) ≡ b → (i < valid_of (history past s) → (i < first_valid (history past s)) ⊎ IsCovered past i) → (i < first_valid (history (e ∷ past) s)) ⊎ IsCovered (e ∷ past) i
+      go true before covered = by before covered (sizes-step past e good updated before)
+      go false never covered = first never (had_map (history (e ∷ past) s)) refl

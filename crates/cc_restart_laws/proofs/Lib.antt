@@ -10,3 +10,4 @@ pub mod Redoing
 pub mod Contents
 pub mod Logs
 pub mod Walks
+pub mod Listed

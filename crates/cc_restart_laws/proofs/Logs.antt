@@ -131,17 +131,17 @@ is-appended log x [] among = none (appended [] log) (appended-none log) among
     none : (l : List LogEntry) → l ≡ [] → IsAmong l x → ⊥
     none [] is among = among
     none (y ∷ ys) is among = absurd (cc)
-is-appended log x (e ∷ past) among = go (appended-step e past log)
+is-appended log x (e ∷ past) among = go (appended-step e past log) (λ before. is-appended log x past before)
   where
-    pushed : (k : IsPush e past log) → IsAmong (appended past log) x ⊎ IsAmong (entry_of k.lsn k.bytes ∷ []) x → IsAppended log x.lsn x.bytes (e ∷ past)
-    pushed k (inl before) = inr (is-appended log x past before)
-    pushed k (inr (inl same)) =
+    pushed : (k : IsPush e past log) → IsAmong (appended past log) x ⊎ IsAmong (entry_of k.lsn k.bytes ∷ []) x → (IsAmong (appended past log) x → IsAppended log x.lsn x.bytes past) → IsAppended log x.lsn x.bytes (e ∷ past)
+    pushed k (inl before) rest = inr (rest before)
+    pushed k (inr (inl same)) rest =
         inl (k.pass, k.is ∙ (ap (λ (n : ℕ). entry.Append k.pass log n k.bytes) (sym (ap (λ (y : LogEntry). y.lsn) same)) ∙ ap (λ (b : List ℕ). entry.Append k.pass log x.lsn b) (sym (ap (λ (y : LogEntry). y.bytes) same))))
-    pushed k (inr (inr none)) = absurd none
+    pushed k (inr (inr none)) rest = absurd none
 
-    go : (appended (e ∷ past) log ≡ appended past log) ⊎ IsPush e past log → IsAppended log x.lsn x.bytes (e ∷ past)
-    go (inl same) = inr (is-appended log x past (subst (λ (l : List LogEntry). IsAmong l x) same among))
-    go (inr k) = pushed k (among-cases (appended past log) (entry_of k.lsn k.bytes ∷ []) x (subst (λ (l : List LogEntry). IsAmong l x) k.pushed among))
+    go : (appended (e ∷ past) log ≡ appended past log) ⊎ IsPush e past log → (IsAmong (appended past log) x → IsAppended log x.lsn x.bytes past) → IsAppended log x.lsn x.bytes (e ∷ past)
+    go (inl same) rest = inr (rest (subst (λ (l : List LogEntry). IsAmong l x) same among))
+    go (inr k) rest = pushed k (among-cases (appended past log) (entry_of k.lsn k.bytes ∷ []) x (subst (λ (l : List LogEntry). IsAmong l x) k.pushed among)) rest
 
 pub are-rising : (u : Setup) (log : ℕ) (past : List Entry) → IsGoodSoFar u past → AreAscending (appended past log)
 are-rising u log [] good = subst (λ (l : List LogEntry). AreAscending l) (sym (appended-none log)) tt

@@ -142,7 +142,7 @@ held-later u s it during past good others k = record {
   long = k.long;
 }
 
-good-rest' : (u : Setup) (later past : List Entry) → IsGoodSoFar u (later ++ past) → IsGoodSoFar u past
+pub good-rest' : (u : Setup) (later past : List Entry) → IsGoodSoFar u (later ++ past) → IsGoodSoFar u past
 good-rest' u [] past good = good
 good-rest' u (e ∷ later) past good = good-rest' u later past (good-tail u e (later ++ past) good)
 

@@ -101,7 +101,7 @@ module _ (redo : Redo) (from page place : ℕ) where
   redone-early entry early = rw early refl
 
   clash-some : (change other : Change) (b : Bool) → Some change ≡ Some other → covers change page place ≡ false → covers other page place ≡ true → ⊥
-  clash-some change other b same no yes = bad (sym yes ∙ (ap (λ (c : Change). covers c page place) (sym (some same)) ∙ no))
+  clash-some change other b same bare covered = bad (sym covered ∙ (ap (λ (c : Change). covers c page place) (sym (some same)) ∙ bare))
     where
       bad : true ≡ false → ⊥
       bad is = cc
@@ -149,16 +149,16 @@ module _ (redo : Redo) (from page place : ℕ) where
 
   -- the same of one whose change does not cover the place, and of one that does
   aside : (entry : LogEntry) (entries : List LogEntry) (change : Change) → change_said redo (said_by entry.bytes) ≡ Some change → covers change page place ≡ false → IsDecidedSo entries → IsDecidedSo (entry ∷ entries)
-  aside entry entries change said no k =
+  aside entry entries change said bare k =
       longer entry entries
-      (λ other its same gives. clash-some change its true (sym said ∙ (ap (λ (e : LogEntry). change_said redo (said_by e.bytes)) (sym same) ∙ gives.0)) no gives.1)
-      (λ byte. ap (λ (l : List Change). byte_after l page place byte) (kept-all entry entries change said) ∙ ap (byte_after (all_of redo entries) page place) (by-uncovered change page place byte no))
+      (λ other its same gives. clash-some change its true (sym said ∙ (ap (λ (e : LogEntry). change_said redo (said_by e.bytes)) (sym same) ∙ gives.0)) bare gives.1)
+      (λ byte. ap (λ (l : List Change). byte_after l page place byte) (kept-all entry entries change said) ∙ ap (byte_after (all_of redo entries) page place) (by-uncovered change page place byte bare))
       (λ byte. go byte (nat_le from entry.lsn) refl) k
     where
       go : (byte : ℕ) (b : Bool) → nat_le from entry.lsn ≡ b → byte_after (redone_of redo from (readings (entry ∷ entries))) page place byte ≡ byte_after (redone_of redo from (readings entries)) page place byte
       go byte true late =
           ap (λ (l : List Change). byte_after l page place byte) (kept-redone entry entries change (redone-late entry change said late))
-          ∙ ap (byte_after (redone_of redo from (readings entries)) page place) (by-uncovered change page place byte no)
+          ∙ ap (byte_after (redone_of redo from (readings entries)) page place) (by-uncovered change page place byte bare)
       go byte false early = ap (λ (l : List Change). byte_after l page place byte) (passed-redone entry entries (redone-early entry early))
 
   all-kept : (entry : LogEntry) (entries : List LogEntry) (change : Change) (byte : ℕ) → change_said redo (said_by entry.bytes) ≡ Some change →
@@ -178,14 +178,14 @@ module _ (redo : Redo) (from page place : ℕ) where
       go true is = let le = leb-true from entry.lsn is in absurd (omega (arith, le, early))
 
   covering : (entry : LogEntry) (entries : List LogEntry) (change : Change) → AllByRecursion (λ later. entry.lsn < later.lsn) entries → change_said redo (said_by entry.bytes) ≡ Some change → covers change page place ≡ true → IsDecidedSo entries → IsDecidedSo (entry ∷ entries)
-  covering entry entries change above said yes (inl k) = inr (record {
+  covering entry entries change above said covered (inl k) = inr (record {
     entry = entry;
     change = change;
     among = inl refl;
-    gives = (said, yes);
+    gives = (said, covered);
     last = λ other its among gives. go other its among gives;
-    all = λ byte. all-kept entry entries change byte said ∙ (k.all (byte_by change page place byte) ∙ by-covered change page place byte yes);
-    late = λ le byte. redone-kept entry entries change byte said le ∙ (k.redone (byte_by change page place byte) ∙ by-covered change page place byte yes);
+    all = λ byte. all-kept entry entries change byte said ∙ (k.all (byte_by change page place byte) ∙ by-covered change page place byte covered);
+    late = λ le byte. redone-kept entry entries change byte said le ∙ (k.redone (byte_by change page place byte) ∙ by-covered change page place byte covered);
     early = λ lt byte. redone-passed entry entries byte lt ∙ k.redone byte;
   })
     where
@@ -195,7 +195,7 @@ module _ (redo : Redo) (from page place : ℕ) where
       go : (other : LogEntry) (its : Change) → IsAmong (entry ∷ entries) other → Gives other its → other.lsn ≤ entry.lsn
       go other its (inl same) gives = same-lsn other entry same
       go other its (inr among) gives = absurd (k.none other its among gives)
-  covering entry entries change above said yes (inr k) = inr (record {
+  covering entry entries change above said covered (inr k) = inr (record {
     entry = k.entry;
     change = k.change;
     among = inr k.among;
@@ -225,8 +225,8 @@ module _ (redo : Redo) (from page place : ℕ) where
   decided-so (entry ∷ entries) ascending = go (change_said redo (said_by entry.bytes)) refl (decided-so entries ascending.1)
     where
       either : (change : Change) → change_said redo (said_by entry.bytes) ≡ Some change → (b : Bool) → covers change page place ≡ b → IsDecidedSo entries → IsDecidedSo (entry ∷ entries)
-      either change said true yes k = covering entry entries change ascending.0 said yes k
-      either change said false no k = aside entry entries change said no k
+      either change said true covered k = covering entry entries change ascending.0 said covered k
+      either change said false bare k = aside entry entries change said bare k
 
       go : (o : Option Change) → change_said redo (said_by entry.bytes) ≡ o → IsDecidedSo entries → IsDecidedSo (entry ∷ entries)
       go None none k = passed entry entries none k

@@ -1,5 +1,5 @@
 -- What is said of each begin of a page's transfer, and from there of all that a crash may leave of the page.
-use Rattle.std.specs.Prelude.{◌≡◌, ℕ, ◌+◌, ◌*◌, ◌<◌, ◌≤◌, ◌⊎◌, Bool, true, false, not, ◌==◌, List, [], ◌∷◌, ◌++◌, Contains, is_some, refl}
+use Rattle.std.specs.Prelude.{◌≡◌, ℕ, ◌+◌, ◌*◌, ◌<◌, ◌≤◌, ◌⊎◌, Bool, true, false, not, ◌==◌, List, [], ◌∷◌, ◌++◌, Contains, is_some, refl, if◌then◌else◌}
 use Rattle.std.specs.declared.option.Option.{Option}
 use Rattle.std.specs.declared.option.Option.TheVariants.{Some, None}
 use Rattle.std.proofs.Common.{ap, sym, subst, ◌∙◌, inl, inr, arith, append_assoc}
@@ -203,7 +203,7 @@ module _ (u : Setup) (s log p : ℕ) (whole : List Entry) where
     synced-leaves pages pass past known k = go (image pages (history past s) p) refl (sym (image-known (λ page. []) pages (history past s) p) ∙ known)
       where
         go : (o : Option (List ℕ)) → image pages (history past s) p ≡ o → is_some o ≡ true → CrashLeaves ⊥ Behind pages s p (history (entry.Sync pass s how.Good ∷ past) s)
-        go None is some = absurd (cc)
+        go None is some bytes among = absurd (cc)
         go (Some only) is some bytes among =
             let contents : crash_pages pages (history (entry.Sync pass s how.Good ∷ past) s) p ≡ only ∷ [] =
             ap (λ (h : List Effect). crash_pages pages h p) (history-sync pass s how.Good past s (same s)) ∙ crash_pages-synced_known pages pass how.Good (history past s) p only refl is in
