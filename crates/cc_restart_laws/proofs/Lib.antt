@@ -11,3 +11,4 @@ pub mod Contents
 pub mod Logs
 pub mod Walks
 pub mod Listed
+pub mod Ends

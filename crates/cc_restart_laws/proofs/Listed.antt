@@ -4,7 +4,7 @@ use Rattle.std.specs.List.{cons_option, filter_map, flat_map, list_any, range_wi
 use Rattle.std.specs.Option.{option_map}
 use Rattle.std.specs.declared.option.Option.{Option}
 use Rattle.std.specs.declared.option.Option.TheVariants.{Some, None}
-use Rattle.std.proofs.Common.{ap, sym, subst, ◌∙◌, inl, inr, arith}
+use Rattle.std.proofs.Common.{ap, sym, subst, ◌∙◌, inl, inr, arith, append_assoc}
 use Rattle.std.proofs.lemmas.Bool.{eqb-true, eq-eqb, or_parts}
 use Rattle.cc_entry.specs.Pages.{has_page}
 use Rattle.cc_entry.specs.declared.call.Call.{Call}
@@ -36,7 +36,7 @@ use Rattle.cc_redo.specs.declared.record.LogRecord.{LogRecord}
 use Rattle.cc_redo.specs.declared.record.LogRecord.TheVariants.{Update, Checkpoint}
 use Rattle.cc_restart_laws.proofs.Contents.{had-more}
 use Rattle.cc_restart_laws.proofs.Entries.{good-tail, updated-rest, updated-tail}
-use Rattle.cc_restart_laws.proofs.Fronts.{CrashLeaves, IsBegunSince, IsSince}
+use Rattle.cc_restart_laws.proofs.Fronts.{CrashLeaves, IsBegunSince, IsKnownAs, IsSince}
 use Rattle.cc_restart_laws.proofs.Orders.{IsChange, change-more}
 use Rattle.cc_restart_laws.proofs.Records.{IsAppended, good-rest', log-stays, owing-of, range_of, recorded-log}
 use Rattle.cc_restart_laws.proofs.Redoing.{IsAmong}
@@ -103,7 +103,7 @@ was-stamped s log lsn at bytes spelled rows past k is said =
 
 -- ---- the rows of the table
 
-among-map : {A B : Type 0} (f : A → B) (xs : List A) (x : A) → IsAmong xs x → IsAmong (map f xs) (f x)
+pub among-map : {A B : Type 0} (f : A → B) (xs : List A) (x : A) → IsAmong xs x → IsAmong (map f xs) (f x)
 among-map f [] x among = absurd among
 among-map f (y ∷ ys) x (inl same) = inl (ap f same)
 among-map f (y ∷ ys) x (inr among) = inr (among-map f ys x among)
@@ -119,30 +119,30 @@ among-right (z ∷ xs) ys x among = inr (among-right xs ys x among)
 
 among-flat : {A : Type 0} (f : ℕ → List A) (ns : List ℕ) (n : ℕ) (x : A) → is_among n ns ≡ true → IsAmong (f n) x → IsAmong (flat_map f ns) x
 among-flat f [] n x is among = absurd (cc)
-among-flat f (m ∷ ns) n x is among = go (m == n) refl is
+among-flat f (m ∷ ns) n x is among = go (m == n) refl is (λ rest. among-flat f ns n x rest among)
   where
-    go : (b : Bool) → (m == n) ≡ b → (b || is_among n ns) ≡ true → IsAmong (f m ++ flat_map f ns) x
-    go true same is = among-left (f m) (flat_map f ns) x (subst (λ (k : ℕ). IsAmong (f k) x) (sym (eqb-true m n same)) among)
-    go false other is = among-right (f m) (flat_map f ns) x (among-flat f ns n x is among)
+    go : (b : Bool) → (m == n) ≡ b → (b || is_among n ns) ≡ true → (is_among n ns ≡ true → IsAmong (flat_map f ns) x) → IsAmong (f m ++ flat_map f ns) x
+    go true same is rest = among-left (f m) (flat_map f ns) x (subst (λ (k : ℕ). IsAmong (f k) x) (sym (eqb-true m n same)) among)
+    go false other is rest = among-right (f m) (flat_map f ns) x (rest is)
+
+first-option : {A : Type 0} (o : Option A) (xs : List A) (x : A) → o ≡ Some x → IsAmong (cons_option o xs) x
+first-option None xs x some = absurd (cc)
+first-option (Some y) xs x some = inl (same y x some)
+  where
+    same : {B : Type 0} (a b : B) → Some a ≡ Some b → b ≡ a
+    same a b is = cc
+
+later-option : {A : Type 0} (o : Option A) (xs : List A) (x : A) → IsAmong xs x → IsAmong (cons_option o xs) x
+later-option None xs x among = among
+later-option (Some y) xs x among = inr among
 
 among-filtered : {A : Type 0} (f : ℕ → Option A) (ns : List ℕ) (n : ℕ) (x : A) → is_among n ns ≡ true → f n ≡ Some x → IsAmong (filter_map f ns) x
 among-filtered f [] n x is gives = absurd (cc)
-among-filtered f (m ∷ ns) n x is gives = go (m == n) refl is
+among-filtered f (m ∷ ns) n x is gives = go (m == n) refl is (λ rest. among-filtered f ns n x rest gives)
   where
-    first : (o : Option _) → o ≡ Some x → IsAmong (cons_option o (filter_map f ns)) x
-    first None some = absurd (cc)
-    first (Some y) some = inl (same y x some)
-      where
-        same : (a b : _) → Some a ≡ Some b → b ≡ a
-        same a b is = cc
-
-    later : (o : Option _) → IsAmong (filter_map f ns) x → IsAmong (cons_option o (filter_map f ns)) x
-    later None among = among
-    later (Some y) among = inr among
-
-    go : (b : Bool) → (m == n) ≡ b → (b || is_among n ns) ≡ true → IsAmong (filter_map f (m ∷ ns)) x
-    go true same is = first (f m) (ap f (eqb-true m n same) ∙ gives)
-    go false other is = later (f m) (among-filtered f ns n x is gives)
+    go : (b : Bool) → (m == n) ≡ b → (b || is_among n ns) ≡ true → (is_among n ns ≡ true → IsAmong (filter_map f ns) x) → IsAmong (filter_map f (m ∷ ns)) x
+    go true same is rest = first-option (f m) (filter_map f ns) x (ap f (eqb-true m n same) ∙ gives)
+    go false other is rest = later-option (f m) (filter_map f ns) x (rest is)
 
 -- a row of the table, which has the page
 pub record HasRow (s log n p : ℕ) (past : List Entry) : Type 0 where
@@ -216,9 +216,6 @@ module _ (u : Setup) (s log p : ℕ) (whole : List Entry) (pages : ℕ → List 
       (has_stamp lsn (touches false (history listed s) p) ≡ true → ⊥) → IsKnownBehind u s log p whole (base_of lsn listed w) pages (history listed s)
   since-listed lsn listed w good updated within in_range gone = go walked
     where
-      abbrev-base : List Entry
-      abbrev-base = w.stamp ∷ w.front
-
       good-all : IsGoodSoFar u (w.later ++ w.stamp ∷ w.front)
       good-all = subst (λ (l : List Entry). IsGoodSoFar u l) w.splits good
 
@@ -241,7 +238,7 @@ module _ (u : Setup) (s log p : ℕ) (whole : List Entry) (pages : ℕ → List 
           some-is : (a b : List Effect) → Some a ≡ Some b → a ≡ b
           some-is a b is = cc
 
-          left : (has_stamp lsn (touches false (history listed s) p) ≡ true) ⊎ _ → IsKnownBehind u s log p whole (w.stamp ∷ w.front) pages (history listed s)
+          left : (has_stamp lsn (touches false (history listed s) p) ≡ true) ⊎ IsKnownAs ⊥ (Behind u s log p whole (w.stamp ∷ w.front)) pages s p (history listed s) → IsKnownBehind u s log p whole (w.stamp ∷ w.front) pages (history listed s)
           left (inl stamped) = absurd (gone stamped)
           left (inr known) = record { begins = λ f is. record { front = k.front; is = some-is f (history k.front s) (sym is ∙ k.is); said = k.said }; known = known }
 
@@ -253,4 +250,50 @@ module _ (u : Setup) (s log p : ℕ) (whole : List Entry) (pages : ℕ → List 
   pub leaves-behind : (lsn : ℕ) (rows : List OldestRow) (later past : List Entry) (k : IsCheckpoint s log rows past) (w : WasStamped s log lsn k.listed) → IsGoodSoFar u (later ++ past) → IsUpdated s log (later ++ past) →
       IsFrontOf whole (later ++ past) → has_page (range_of w.it) p ≡ true → 4096 * p < size_of (history whole s) → ((front : List Entry) → IsFrontOf whole front → had_map (history front s) ≡ true → size_of (history front s) ≡ size_of (history whole s)) →
       (has_stamp lsn (touches false (history k.listed s) p) ≡ true → ⊥) → CrashLeaves ⊥ (Behind u s log p whole (base_of lsn k.listed w)) pages s p (history (later ++ past) s)
-  leaves-behind lsn rows later past k w good updated within in_range in_size sizes gone = ?
+  leaves-behind lsn rows later past k w good updated within in_range in_size sizes gone =
+      let listing : Entry = entry.Call k.pass k.nth None (call.DirtyPages log) (outcome.Done k.reply) in
+      let base : List Entry = w.stamp ∷ w.front in
+      let good_past : IsGoodSoFar u past = good-rest' u later past good in
+      let updated_past : IsUpdated s log past = updated-rest s log later past updated in
+      let within_past : IsFrontOf whole past = front-rest whole later past within in
+      let good_listing : IsGoodSoFar u (listing ∷ k.listed) = good-rest' u k.later (listing ∷ k.listed) (subst (λ (l : List Entry). IsGoodSoFar u l) k.splits good_past) in
+      let updated_listing : IsUpdated s log (listing ∷ k.listed) = updated-rest s log k.later (listing ∷ k.listed) (subst (λ (l : List Entry). IsUpdated s log l) k.splits updated_past) in
+      let within_listing : IsFrontOf whole (listing ∷ k.listed) = front-rest whole k.later (listing ∷ k.listed) (subst (λ (l : List Entry). IsFrontOf whole l) k.splits within_past) in
+      let good_listed : IsGoodSoFar u k.listed = good-tail u listing k.listed good_listing in
+      let updated_listed : IsUpdated s log k.listed = updated-tail s log listing k.listed updated_listing in
+      let within_listed : IsFrontOf whole k.listed = front-tail whole listing k.listed within_listing in
+      let known_listed : IsKnownBehind u s log p whole base pages (history k.listed s) = since-listed lsn k.listed w good_listed updated_listed within_listed in_range gone in
+      let good_front : IsGoodSoFar u w.front = good-tail u w.stamp w.front (good-rest' u w.later base (subst (λ (l : List Entry). IsGoodSoFar u l) w.splits good_listed)) in
+      let had_front : had_map (history w.front s) ≡ true = written-had w.it w.front good_front w.written in
+      let had_listed : had_map (history k.listed s) ≡ true =
+      ap (λ (l : List Entry). had_map (history l s)) w.splits ∙ had-more u s log w.later base (had-more u s log (w.stamp ∷ []) w.front had_front) in
+      let sync = k.synced had_listed in
+      let before : List Entry = sync.since ++ listing ∷ k.listed in
+      let synced : Entry = entry.Sync sync.pass s how.Good in
+      let more : List Entry = sync.since ++ listing ∷ [] in
+      let same : before ≡ more ++ (w.later ++ base) = ap (λ (l : List Entry). sync.since ++ listing ∷ l) w.splits ∙ sym (append_assoc sync.since (listing ∷ []) (w.later ++ base)) in
+      let good_synced : IsGoodSoFar u (synced ∷ before) = good-rest' u sync.later (synced ∷ before) (subst (λ (l : List Entry). IsGoodSoFar u l) sync.splits good_past) in
+      let updated_synced : IsUpdated s log (synced ∷ before) = updated-rest s log sync.later (synced ∷ before) (subst (λ (l : List Entry). IsUpdated s log l) sync.splits updated_past) in
+      let within_synced : IsFrontOf whole (synced ∷ before) = front-rest whole sync.later (synced ∷ before) (subst (λ (l : List Entry). IsFrontOf whole l) sync.splits within_past) in
+      let within_before : IsFrontOf whole before = front-tail whole synced before within_synced in
+      let known_base : IsKnownBehind u s log p whole base pages (history (w.later ++ base) s) = subst (λ (l : List Entry). IsKnownBehind u s log p whole base pages (history l s)) w.splits known_listed in
+      let known_before : IsKnownBehind u s log p whole base pages (history before s) =
+      subst (λ (l : List Entry). IsKnownBehind u s log p whole base pages (history l s)) (sym same)
+      (known-walk u s log p whole base pages more w.later (subst (λ (l : List Entry). IsGoodSoFar u l) same (good-tail u synced before good_synced))
+      (subst (λ (l : List Entry). IsUpdated s log l) same (updated-tail s log synced before updated_synced)) (subst (λ (l : List Entry). IsFrontOf whole l) same within_before) known_base) in
+      let had_before : had_map (history before s) ≡ true = had-more u s log sync.since (listing ∷ k.listed) (had-more u s log (listing ∷ []) k.listed had_listed) in
+      let size_before : size_of (history before s) ≡ size_of (history whole s) = sizes before within_before had_before in
+      let crash_synced : CrashLeaves ⊥ (Behind u s log p whole base) pages s p (history (synced ∷ before) s) =
+      synced-leaves u s log p whole base pages sync.pass before (sync.known p (omega (arith, in_size, size_before))) known_before in
+      let known_synced : IsKnownBehind u s log p whole base pages (history (synced ∷ before) s) =
+      subst (λ (l : List Entry). IsKnownBehind u s log p whole base pages (history (synced ∷ l) s)) (sym same)
+      (known-walk u s log p whole base pages (synced ∷ more) w.later (subst (λ (l : List Entry). IsGoodSoFar u (synced ∷ l)) same good_synced)
+      (subst (λ (l : List Entry). IsUpdated s log (synced ∷ l)) same updated_synced) (subst (λ (l : List Entry). IsFrontOf whole (synced ∷ l)) same within_synced) known_base) in
+      let since : List Entry = synced ∷ (more ++ w.later) in
+      let same_since : since ++ base ≡ synced ∷ before = ap (λ (l : List Entry). synced ∷ l) (append_assoc more w.later base ∙ sym same) in
+      let all : later ++ past ≡ (later ++ sync.later) ++ (since ++ base) =
+      ap (λ (l : List Entry). later ++ l) sync.splits ∙ (sym (append_assoc later sync.later (synced ∷ before)) ∙ ap (λ (l : List Entry). (later ++ sync.later) ++ l) (sym same_since)) in
+      subst (λ (l : List Entry). CrashLeaves ⊥ (Behind u s log p whole base) pages s p (history l s)) (sym all)
+      (crash-walk u s log p whole base pages (later ++ sync.later) since (subst (λ (l : List Entry). IsGoodSoFar u l) all good) (subst (λ (l : List Entry). IsUpdated s log l) all updated) (subst (λ (l : List Entry). IsFrontOf whole l) all within)
+      (subst (λ (l : List Entry). IsKnownBehind u s log p whole base pages (history l s)) (sym same_since) known_synced)
+      (subst (λ (l : List Entry). CrashLeaves ⊥ (Behind u s log p whole base) pages s p (history l s)) (sym same_since) crash_synced))
