@@ -4,7 +4,7 @@ use Rattle.std.specs.List.{list_any, range_with_len}
 use Rattle.std.specs.declared.option.Option.{Option}
 use Rattle.std.specs.declared.option.Option.TheVariants.{Some, None}
 use Rattle.std.proofs.Common.{ap, sym, subst, ◌∙◌, inl, inr, arith}
-use Rattle.std.proofs.lemmas.Bool.{and_from, and_parts, eq-eqb, ltb-true, ltb-false, lt-ltb}
+use Rattle.std.proofs.lemmas.Bool.{and_from, and_parts, eq-eqb, leb-true, leb-false, ltb-true, ltb-false, lt-ltb}
 use Rattle.std.proofs.lemmas.List.FromFn.{length-map-range_with_len}
 use Rattle.cc_entry.specs.Pages.{has_byte, has_page, whole_range}
 use Rattle.cc_entry.specs.Place.{Range}
@@ -39,7 +39,7 @@ use Rattle.cc_redo.specs.declared.redo.Redo.{Redo}
 use Rattle.cc_restart_laws.proofs.Contents.{IsCovered, IsDecided, IsDecidedBy, IsOpening, decided, first-least, first-more, had-more, never-valid, size-more, valid-covered, written-valid}
 use Rattle.cc_restart_laws.proofs.Entries.{good-tail, next-lsn, updated-head, updated-rest, updated-tail}
 use Rattle.cc_restart_laws.proofs.Fronts.{CrashLeaves, IsLeft, IsWrittenAt}
-use Rattle.cc_restart_laws.proofs.Listed.{HasRow, IsAppendAt, among-map, append-at, base_of, has-row, leaves-behind, was-stamped, written-change, written-log}
+use Rattle.cc_restart_laws.proofs.Listed.{HasRow, IsAppendAt, among-map, append-at, base_of, has-row, held-had, leaves-behind, was-stamped, written-change, written-log}
 use Rattle.cc_restart_laws.proofs.Logs.{durable-kept, kept-appended, kept-rising, lower-kept, lsn-above, said-update, update-said}
 use Rattle.cc_restart_laws.proofs.Orders.{IsChange, IsSaid, change-more, change-said}
 use Rattle.cc_restart_laws.proofs.Records.{IsAppended, appended-before, appended-floor, appended-more, appended-once, floor-grows, good-rest', log-stays, may-append, range_of, recorded-appended}
@@ -95,7 +95,7 @@ chosen true x y is = refl
 chosen false x y is = absurd (cc)
 
 module _ (u : Setup) (whole : List Entry) (s log first durable : ℕ) (pages : ℕ → List ℕ) (below : s < 16) (good : IsGoodSoFar u whole) (updated : IsUpdated s log whole) (long : (p : ℕ) → length (pages p) ≡ 4096)
-    (streams : List Redo) (redo : Redo) (among : Contains streams redo) (given : IsGivenAs s first whole redo) (kept : List LogEntry) (flushed : flushed_to whole log ≤ durable) (keeps : IsKept durable (appended whole log) kept)
+    (streams : List Redo) (redo : Redo) (handed : Contains streams redo) (given : IsGivenAs s first whole redo) (kept : List LogEntry) (flushed : flushed_to whole log ≤ durable) (keeps : IsKept durable (appended whole log) kept)
     (settled-left : (p : ℕ) → is_settled (history whole s) p ≡ true → CrashLeaves ⊥ (Front u s log p whole) pages s p (history whole s)) (i : ℕ) where
   abbrev from : ℕ
   from = from_of streams (readings kept)
@@ -374,7 +374,7 @@ module _ (u : Setup) (whole : List Entry) (s log first durable : ℕ) (pages : �
           (written-log u s log (i / 4096) whole pages below stamped.it stamped.front (updated-tail s log stamped.stamp stamped.front updated_base) stamped.written))
 
       is-mine : is_given streams s ≡ true
-      is-mine = contains-any (λ (r : Redo). r.stream == s) streams redo among (eq-eqb redo.stream s given.stream)
+      is-mine = contains-any (λ (r : Redo). r.stream == s) streams redo handed (eq-eqb redo.stream s given.stream)
 
       gone : has_stamp last.entry.lsn (touches false (history k.listed s) (i / 4096)) ≡ true → ⊥
       gone left =
@@ -496,3 +496,126 @@ module _ (u : Setup) (whole : List Entry) (s log first durable : ℕ) (pages : �
           go : IsLeft ⊥ (Front u s log (i / 4096) whole) pages s (i / 4096) (disk (i / 4096)) → slice_index (disk (i / 4096)) (i % 4096) ≡ 0
           go (inl opening) = absurd opening.0
           go (inr k) = written-byte (disk (i / 4096)) k.front k.is ∙ begun-zero none k.front k.said above
+
+      -- a kept update gives the byte, and stands in the file
+      last-had : IsGivenBy redo from (i / 4096) (i % 4096) kept → had_map (history whole s) ≡ true
+      last-had last =
+          let is = kept-appended u log durable whole good kept keeps last.entry last.among in
+          let at = append-at log last.entry.lsn last.entry.bytes whole is in
+          let appending : Entry = entry.Append at.pass log last.entry.lsn last.entry.bytes in
+          let good_at : IsGoodSoFar u (appending ∷ at.front) = good-rest' u at.later (appending ∷ at.front) (subst (λ (l : List Entry). IsGoodSoFar u l) at.splits good) in
+          let updated_at : IsUpdated s log (appending ∷ at.front) = updated-rest s log at.later (appending ∷ at.front) (subst (λ (l : List Entry). IsUpdated s log l) at.splits updated) in
+          let said : said_by last.entry.bytes ≡ Some (Update s last.change.at last.change.bytes) =
+          said-update redo (said_by last.entry.bytes) last.change last.gives.0 ∙ ap (λ (n : ℕ). Some (Update n last.change.at last.change.bytes)) given.stream in
+          let may = may-append s log at.pass last.entry.lsn last.change.at last.change.bytes last.entry.bytes at.front updated_at said in
+          let had_front : had_map (history at.front s) ≡ true = held-had u at.front s may.hold may.pinned.it (good-tail u appending at.front good_at) may.pinned.found in
+          ap (λ (l : List Entry). had_map (history l s)) at.splits ∙ had-more u s log at.later (appending ∷ at.front) (had-more u s log (appending ∷ []) at.front had_front)
+
+      last-ends : (last : IsGivenBy redo from (i / 4096) (i % 4096) kept) → i < end_of last.change
+      last-ends last = byte-below (whole_range last.change.at (length last.change.bytes)) i (byte-covers last.change.at last.change.bytes i last.gives.1)
+
+      last-byte : (last : IsGivenBy redo from (i / 4096) (i % 4096) kept) →
+          byte_after (redone_of redo from (readings kept)) (i / 4096) (i % 4096) (slice_index (disk (i / 4096)) (i % 4096)) ≡ own_byte last.change (i / 4096) (i % 4096)
+      last-byte last = go (nat_le from last.entry.lsn) refl
+        where
+          in_size : 4096 * (i / 4096) < size_of (history whole s)
+          in_size = let size = given.size (last-had last) in omega (arith, size, inside)
+
+          go : (b : Bool) → nat_le from last.entry.lsn ≡ b →
+              byte_after (redone_of redo from (readings kept)) (i / 4096) (i % 4096) (slice_index (disk (i / 4096)) (i % 4096)) ≡ own_byte last.change (i / 4096) (i % 4096)
+          go true late = last.late (leb-true from last.entry.lsn late) (slice_index (disk (i / 4096)) (i % 4096))
+          go false early =
+              let lt = leb-false from last.entry.lsn early in
+              last.early lt (slice_index (disk (i / 4096)) (i % 4096)) ∙ early-byte last lt in_size (disk (i / 4096)) contains
+
+      -- the two valid data lengths
+      abbrev made_valid : ℕ
+      made_valid = valid_behind (readings kept) redo redo.valid
+
+      abbrev file_valid : ℕ
+      file_valid = valid_after (updates_in redo kept) first
+
+      file-is : valid_after (updates_in redo kept) first ≡ valid_behind (readings kept) redo first
+      file-is = valid-same redo kept first
+
+      file-cases : i < valid_after (updates_in redo kept) first → (i < first) ⊎ EndsBehind redo kept i
+      file-cases lt = let is = file-is in valid-cases redo kept first i (omega (arith, is, lt))
+
+      below-first : IsUngiven redo from (i / 4096) (i % 4096) kept → i < valid_after (updates_in redo kept) first → i < first
+      below-first none lt = go (nat_lt i first) refl (file-cases lt)
+        where
+          go : (b : Bool) → nat_lt i first ≡ b → (i < first) ⊎ EndsBehind redo kept i → i < first
+          go b is (inl below_it) = below_it
+          go true is (inr ends) = ltb-true i first is
+          go false is (inr ends) = absurd (none-ends none (ltb-false i first is) ends)
+
+      both : IsUngiven redo from (i / 4096) (i % 4096) kept ⊎ IsGivenBy redo from (i / 4096) (i % 4096) kept → nat_lt i (valid_behind (readings kept) redo redo.valid) ≡ true → nat_lt i (valid_after (updates_in redo kept) first) ≡ true →
+          slice_index (page_after (redone_of redo from (readings kept)) (i / 4096) (disk (i / 4096))) (i % 4096) ≡ byte_after (updates_in redo kept) (i / 4096) (i % 4096) (file_byte pages first i)
+      both (inl none) made file =
+          let lt = below-first none (ltb-true i (valid_after (updates_in redo kept) first) file) in
+          made-byte
+          ∙ (none.redone (slice_index (disk (i / 4096)) (i % 4096))
+          ∙ (opening-byte none lt
+          ∙ (sym (chosen (nat_lt i first) (slice_index (pages (i / 4096)) (i % 4096)) 0 (lt-ltb i first lt)) ∙ sym (none.all (file_byte pages first i)))))
+      both (inr last) made file = made-byte ∙ (last-byte last ∙ sym (last.all (file_byte pages first i)))
+
+      made-alone : IsUngiven redo from (i / 4096) (i % 4096) kept ⊎ IsGivenBy redo from (i / 4096) (i % 4096) kept → nat_lt i (valid_behind (readings kept) redo redo.valid) ≡ true → nat_lt i (valid_after (updates_in redo kept) first) ≡ false →
+          slice_index (page_after (redone_of redo from (readings kept)) (i / 4096) (disk (i / 4096))) (i % 4096) ≡ 0
+      made-alone (inl none) made file = made-byte ∙ (none.redone (slice_index (disk (i / 4096)) (i % 4096)) ∙ zero-byte none above (settled (valid-cases redo kept redo.valid i (ltb-true i (valid_behind (readings kept) redo redo.valid) made))))
+        where
+          above : first ≤ i
+          above =
+              let is = file-is in
+              let least = valid-least redo kept first in
+              let past_file = ltb-false i (valid_after (updates_in redo kept) first) file in
+              omega (arith, is, least, past_file)
+
+          settled : (i < redo.valid) ⊎ EndsBehind redo kept i → is_settled (history whole s) (i / 4096) ≡ true
+          settled (inl lt) = given.told (i / 4096) (omega (arith, lt, above)) (omega (arith, above)) (omega (arith, lt))
+          settled (inr ends) = absurd (none-ends none above ends)
+      made-alone (inr last) made file =
+          let is = file-is in
+          let ends = valid-ends redo kept first last.entry last.change last.among last.gives.0 in
+          let lt = last-ends last in
+          let past_file = ltb-false i (valid_after (updates_in redo kept) first) file in
+          absurd (omega (arith, is, ends, lt, past_file))
+
+      file-alone : nat_lt i (valid_behind (readings kept) redo redo.valid) ≡ false → nat_lt i (valid_after (updates_in redo kept) first) ≡ true → ⊥
+      file-alone made file = go (file-cases (ltb-true i (valid_after (updates_in redo kept) first) file))
+        where
+          past_made : valid_behind (readings kept) redo redo.valid ≤ i
+          past_made = ltb-false i (valid_behind (readings kept) redo redo.valid) made
+
+          go : (i < first) ⊎ EndsBehind redo kept i → ⊥
+          go (inl lt) = let least = valid-least redo kept redo.valid in let told = given.least in let over = past_made in omega (arith, least, told, over, lt)
+          go (inr k) = let ends = valid-ends redo kept redo.valid k.entry k.change k.among k.said in let lt = k.below in let over = past_made in omega (arith, ends, lt, over)
+
+      inside-file : file_byte (pages_redone streams kept redo disk) (valid_behind (readings kept) redo redo.valid) i ≡ updated_byte pages first (updates_in redo kept) i
+      inside-file =
+          guarded (nat_lt i (valid_behind (readings kept) redo redo.valid)) (nat_lt i (valid_after (updates_in redo kept) first)) _ _
+          (both (decided-so redo from (i / 4096) (i % 4096) kept (kept-rising u log durable whole good kept keeps)))
+          (made-alone (decided-so redo from (i / 4096) (i % 4096) kept (kept-rising u log durable whole good kept keeps)))
+          file-alone
+
+    pub same-file : redo.valid ≤ redo.size → file_byte (pages_redone streams kept redo disk) (valid_behind (readings kept) redo redo.valid) i ≡ updated_byte pages first (updates_in redo kept) i
+    same-file within = go (nat_lt i redo.size) refl
+      where
+        past : (a b : Bool) (x y : ℕ) → a ≡ false → b ≡ false → (if a then x else 0) ≡ (if b then y else 0)
+        past false false x y one other = refl
+        past true b x y one other = absurd (cc)
+        past false true x y one other = absurd (cc)
+
+        over : (n v : ℕ) → v ≤ n → nat_lt n v ≡ false
+        over n v le = grind arith
+
+        go : (b : Bool) → nat_lt i redo.size ≡ b → file_byte (pages_redone streams kept redo disk) (valid_behind (readings kept) redo redo.valid) i ≡ updated_byte pages first (updates_in redo kept) i
+        go true is = inside-file (ltb-true i redo.size is)
+        go false is =
+            let above = ltb-false i redo.size is in
+            let made = valid-within redo kept redo.valid within in
+            let least = given.least in
+            let file = valid-within redo kept first (omega (arith, within, least)) in
+            let same = valid-same redo kept first in
+            past (nat_lt i (valid_behind (readings kept) redo redo.valid)) (nat_lt i (valid_after (updates_in redo kept) first)) _ _
+            (over i (valid_behind (readings kept) redo redo.valid) (omega (arith, above, made)))
+            (over i (valid_after (updates_in redo kept) first) (omega (arith, above, file, same)))

@@ -110,7 +110,7 @@ module _ (O : Type 0) (B : List Entry → Type 0) (pages : ℕ → List ℕ) (s 
       go false other bytes is = same-known _ _ (image-ended_other pages pass page how (history past s) p other) k bytes is
   known-step e past (Some (Synced pass how)) effect begins k = same-known _ _ (image-synced pages pass how (history past s) p) k
 
-  one-alone : (only bytes : List ℕ) → Contains (only ∷ []) bytes → only ≡ bytes
+  pub one-alone : (only bytes : List ℕ) → Contains (only ∷ []) bytes → only ≡ bytes
   one-alone only bytes among = go (Contains-push_cases [] only bytes among)
     where
       go : Contains [] bytes ⊎ (only ≡ bytes) → only ≡ bytes

@@ -12,3 +12,4 @@ pub mod Logs
 pub mod Walks
 pub mod Listed
 pub mod Ends
+pub mod Settled

@@ -178,8 +178,8 @@ has-row s log n p past below its stamped =
 
 -- ---- what a crash leaves behind the checkpoint
 
-held-had : (h : List Effect) (u : Setup) (past : List Entry) (s id : ℕ) (hold : Hold) → IsGoodSoFar u past → hold_at (holds_of (history past s)) id ≡ Some hold → had_map (history past s) ≡ true
-held-had h u past s id hold good found = go (had_map (history past s)) refl
+pub held-had : (u : Setup) (past : List Entry) (s id : ℕ) (hold : Hold) → IsGoodSoFar u past → hold_at (holds_of (history past s)) id ≡ Some hold → had_map (history past s) ≡ true
+held-had u past s id hold good found = go (had_map (history past s)) refl
   where
     none : (holds : List Hold) → holds ≡ [] → hold_at holds id ≡ Some hold → ⊥
     none [] is some = cc
@@ -195,9 +195,9 @@ module _ (u : Setup) (s log p : ℕ) (whole : List Entry) (pages : ℕ → List 
   base_of lsn past w = w.stamp ∷ w.front
 
   written-had : (it : Updating) (past : List Entry) → IsGoodSoFar u past → HasWritten s log it past → had_map (history past s) ≡ true
-  written-had it past good k = let owing = owing-of u s log it past good k in held-had [] u past s it.hold owing.held.hold good owing.held.has.found
+  written-had it past good k = let owing = owing-of u s log it past good k in held-had u past s it.hold owing.held.hold good owing.held.has.found
 
-  written-log : (it : Updating) (past : List Entry) → IsUpdated s log past → HasWritten s log it past → log_of (history past s) ≡ Some log
+  pub written-log : (it : Updating) (past : List Entry) → IsUpdated s log past → HasWritten s log it past → log_of (history past s) ≡ Some log
   written-log it past updated k =
       let wrote : Entry = entry.Call it.pass k.nth (Some s) (call.PinnedWrite it.hold it.at it.bytes) (outcome.Done k.reply) in
       let all : IsUpdated s log (k.idle.during ++ wrote ∷ k.front) = subst (λ (l : List Entry). IsUpdated s log l) k.idle.grew updated in
