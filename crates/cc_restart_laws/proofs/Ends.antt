@@ -83,22 +83,24 @@ byte-covers at bytes i is =
 byte-below : (r : Range) (i : ℕ) → has_byte r i ≡ true → i < r.to
 byte-below r i has = ltb-true i r.to (and_parts (nat_le r.from i) (nat_lt i r.to) has).1
 
+pub covered-below : (change : Change) (i : ℕ) → covers change (i / 4096) (i % 4096) ≡ true → i < end_of change
+covered-below change i is = byte-below (whole_range change.at (length change.bytes)) i (byte-covers change.at change.bytes i is)
+
 -- two tests that guard two bytes
-guarded : (a b : Bool) (x y : ℕ) → (a ≡ true → b ≡ true → x ≡ y) → (a ≡ true → b ≡ false → x ≡ 0) → (a ≡ false → b ≡ true → ⊥) → (if a then x else 0) ≡ (if b then y else 0)
+pub guarded : (a b : Bool) (x y : ℕ) → (a ≡ true → b ≡ true → x ≡ y) → (a ≡ true → b ≡ false → x ≡ 0) → (a ≡ false → b ≡ true → ⊥) → (if a then x else 0) ≡ (if b then y else 0)
 guarded true true x y both left right = both refl refl
 guarded true false x y both left right = left refl refl
 guarded false true x y both left right = absurd (right refl refl)
 guarded false false x y both left right = refl
 
-chosen : (b : Bool) (x y : ℕ) → b ≡ true → (if b then x else y) ≡ x
+pub chosen : (b : Bool) (x y : ℕ) → b ≡ true → (if b then x else y) ≡ x
 chosen true x y is = refl
 chosen false x y is = absurd (cc)
 
 module _ (u : Setup) (whole : List Entry) (s log first durable : ℕ) (pages : ℕ → List ℕ) (below : s < 16) (good : IsGoodSoFar u whole) (updated : IsUpdated s log whole) (long : (p : ℕ) → length (pages p) ≡ 4096)
     (streams : List Redo) (redo : Redo) (handed : Contains streams redo) (given : IsGivenAs s first whole redo) (kept : List LogEntry) (flushed : flushed_to whole log ≤ durable) (keeps : IsKept durable (appended whole log) kept)
-    (settled-left : (p : ℕ) → is_settled (history whole s) p ≡ true → CrashLeaves ⊥ (Front u s log p whole) pages s p (history whole s)) (i : ℕ) where
-  abbrev from : ℕ
-  from = from_of streams (readings kept)
+    (settled-left : (p : ℕ) → is_settled (history whole s) p ≡ true → CrashLeaves ⊥ (Front u s log p whole) pages s p (history whole s))
+    (from : ℕ) (check-of : (x : LogEntry) → IsAmong kept x → x.lsn < from → IsFromCheckpoint streams kept from) (i : ℕ) where
 
   -- ---- a change of which the record is durable is among those kept
 
@@ -209,7 +211,7 @@ module _ (u : Setup) (whole : List Entry) (s log first durable : ℕ) (pages : �
         go false is = byte_of-above pages (history front s) i is
 
     -- no kept update ends behind it, past the opening file's valid data length
-    none-ends : first ≤ i → EndsBehind redo kept i → ⊥
+    pub none-ends : first ≤ i → EndsBehind redo kept i → ⊥
     none-ends above k = go (nat_le k.change.at i) refl
       where
         is : IsAppended log k.entry.lsn k.entry.bytes whole
@@ -452,45 +454,39 @@ module _ (u : Setup) (whole : List Entry) (s log first durable : ℕ) (pages : �
           crash-byte check.rows (at-log.later ++ appending ∷ []) at-log.front (at-log.splits ∙ all-of at-log.later appending at-log.front) checkpoint appended-earlier
           (λ row here mine. let least = oldest-row streams check.entry.lsn check.rows row here mine in let is = check.is in omega (arith, least, is))
 
-    -- there is one: from the first LSN on, nothing is early
     early-byte : (bytes : List ℕ) → Contains (crash_pages pages (history whole s) (i / 4096)) bytes → slice_index bytes (i % 4096) ≡ own_byte last.change (i / 4096) (i % 4096)
-    early-byte = go (from-cases streams kept 1)
-      where
-        go : (from_of streams (readings kept) ≡ 1) ⊎ IsFromCheckpoint streams kept (from_of streams (readings kept)) → (bytes : List ℕ) → Contains (crash_pages pages (history whole s) (i / 4096)) bytes →
-            slice_index bytes (i % 4096) ≡ own_byte last.change (i / 4096) (i % 4096)
-        go (inl one) = let above = lsn-above u log last.entry.lsn last.entry.bytes whole good is-appended-last in absurd (omega (arith, one, above, early))
-        go (inr check) = checked-byte check
+    early-byte = checked-byte (check-of last.entry last.among early)
 
   -- ---- the file
 
-  module _ (disk : ℕ → List ℕ) (left : (q : ℕ) → 4096 * q < redo.size → Contains (crash_pages pages (history whole s) q) (disk q)) where
+  module _ (disk : ℕ → List ℕ) (left : 4096 * (i / 4096) < redo.size → Contains (crash_pages pages (history whole s) (i / 4096)) (disk (i / 4096))) where
     all-traced : CrashLeaves (Unit {0}) (Front u s log (i / 4096) whole) pages s (i / 4096) (history whole s)
     all-traced = (traced u s log (i / 4096) whole pages whole good updated ([], refl)).crash
 
     module _ (inside : i < redo.size) where
       contains : Contains (crash_pages pages (history whole s) (i / 4096)) (disk (i / 4096))
-      contains = left (i / 4096) (omega arith)
+      contains = left (omega arith)
 
       disk-long : length (disk (i / 4096)) ≡ 4096
       disk-long = left-long (disk (i / 4096)) (all-traced (disk (i / 4096)) contains)
 
-      made-byte : slice_index (page_after (redone_of redo from (readings kept)) (i / 4096) (disk (i / 4096))) (i % 4096) ≡ byte_after (redone_of redo from (readings kept)) (i / 4096) (i % 4096) (slice_index (disk (i / 4096)) (i % 4096))
-      made-byte =
-          page-byte (redone_of redo from (readings kept)) (i / 4096) 0 (i % 4096) (disk (i / 4096)) (let long_disk = disk-long in omega (arith, long_disk))
-          ∙ ap (λ (n : ℕ). byte_after (redone_of redo from (readings kept)) (i / 4096) n (slice_index (disk (i / 4096)) (i % 4096))) (none (i % 4096))
+      pub made-byte : (changes : List Change) → slice_index (page_after changes (i / 4096) (disk (i / 4096))) (i % 4096) ≡ byte_after changes (i / 4096) (i % 4096) (slice_index (disk (i / 4096)) (i % 4096))
+      made-byte changes =
+          page-byte changes (i / 4096) 0 (i % 4096) (disk (i / 4096)) (let long_disk = disk-long in omega (arith, long_disk))
+          ∙ ap (λ (n : ℕ). byte_after changes (i / 4096) n (slice_index (disk (i / 4096)) (i % 4096))) (none (i % 4096))
         where
           none : (n : ℕ) → 0 + n ≡ n
           none n = omega arith
 
       -- no kept update gives the byte
-      opening-byte : IsUngiven redo from (i / 4096) (i % 4096) kept → i < first → slice_index (disk (i / 4096)) (i % 4096) ≡ slice_index (pages (i / 4096)) (i % 4096)
+      pub opening-byte : IsUngiven redo from (i / 4096) (i % 4096) kept → i < first → slice_index (disk (i / 4096)) (i % 4096) ≡ slice_index (pages (i / 4096)) (i % 4096)
       opening-byte none lt = go (all-traced (disk (i / 4096)) contains)
         where
           go : IsLeft (Unit {0}) (Front u s log (i / 4096) whole) pages s (i / 4096) (disk (i / 4096)) → slice_index (disk (i / 4096)) (i % 4096) ≡ slice_index (pages (i / 4096)) (i % 4096)
           go (inl opening) = ap (λ (l : List ℕ). slice_index l (i % 4096)) opening.1
           go (inr k) = written-byte (disk (i / 4096)) k.front k.is ∙ begun-byte none k.front k.said lt
 
-      zero-byte : IsUngiven redo from (i / 4096) (i % 4096) kept → first ≤ i → is_settled (history whole s) (i / 4096) ≡ true → slice_index (disk (i / 4096)) (i % 4096) ≡ 0
+      pub zero-byte : IsUngiven redo from (i / 4096) (i % 4096) kept → first ≤ i → is_settled (history whole s) (i / 4096) ≡ true → slice_index (disk (i / 4096)) (i % 4096) ≡ 0
       zero-byte none above settled = go (settled-left (i / 4096) settled (disk (i / 4096)) contains)
         where
           go : IsLeft ⊥ (Front u s log (i / 4096) whole) pages s (i / 4096) (disk (i / 4096)) → slice_index (disk (i / 4096)) (i % 4096) ≡ 0
@@ -511,111 +507,18 @@ module _ (u : Setup) (whole : List Entry) (s log first durable : ℕ) (pages : �
           let had_front : had_map (history at.front s) ≡ true = held-had u at.front s may.hold may.pinned.it (good-tail u appending at.front good_at) may.pinned.found in
           ap (λ (l : List Entry). had_map (history l s)) at.splits ∙ had-more u s log at.later (appending ∷ at.front) (had-more u s log (appending ∷ []) at.front had_front)
 
-      last-ends : (last : IsGivenBy redo from (i / 4096) (i % 4096) kept) → i < end_of last.change
+      pub last-ends : (last : IsGivenBy redo from (i / 4096) (i % 4096) kept) → i < end_of last.change
       last-ends last = byte-below (whole_range last.change.at (length last.change.bytes)) i (byte-covers last.change.at last.change.bytes i last.gives.1)
 
-      last-byte : (last : IsGivenBy redo from (i / 4096) (i % 4096) kept) →
-          byte_after (redone_of redo from (readings kept)) (i / 4096) (i % 4096) (slice_index (disk (i / 4096)) (i % 4096)) ≡ own_byte last.change (i / 4096) (i % 4096)
-      last-byte last = go (nat_le from last.entry.lsn) refl
+      pub last-byte : (last : IsGivenBy redo from (i / 4096) (i % 4096) kept) (byte : ℕ) → (last.entry.lsn < from → byte ≡ slice_index (disk (i / 4096)) (i % 4096)) →
+          byte_after (redone_of redo from (readings kept)) (i / 4096) (i % 4096) byte ≡ own_byte last.change (i / 4096) (i % 4096)
+      last-byte last byte is = go (nat_le from last.entry.lsn) refl
         where
           in_size : 4096 * (i / 4096) < size_of (history whole s)
           in_size = let size = given.size (last-had last) in omega (arith, size, inside)
 
-          go : (b : Bool) → nat_le from last.entry.lsn ≡ b →
-              byte_after (redone_of redo from (readings kept)) (i / 4096) (i % 4096) (slice_index (disk (i / 4096)) (i % 4096)) ≡ own_byte last.change (i / 4096) (i % 4096)
-          go true late = last.late (leb-true from last.entry.lsn late) (slice_index (disk (i / 4096)) (i % 4096))
+          go : (b : Bool) → nat_le from last.entry.lsn ≡ b → byte_after (redone_of redo from (readings kept)) (i / 4096) (i % 4096) byte ≡ own_byte last.change (i / 4096) (i % 4096)
+          go true late = last.late (leb-true from last.entry.lsn late) byte
           go false early =
               let lt = leb-false from last.entry.lsn early in
-              last.early lt (slice_index (disk (i / 4096)) (i % 4096)) ∙ early-byte last lt in_size (disk (i / 4096)) contains
-
-      -- the two valid data lengths
-      abbrev made_valid : ℕ
-      made_valid = valid_behind (readings kept) redo redo.valid
-
-      abbrev file_valid : ℕ
-      file_valid = valid_after (updates_in redo kept) first
-
-      file-is : valid_after (updates_in redo kept) first ≡ valid_behind (readings kept) redo first
-      file-is = valid-same redo kept first
-
-      file-cases : i < valid_after (updates_in redo kept) first → (i < first) ⊎ EndsBehind redo kept i
-      file-cases lt = let is = file-is in valid-cases redo kept first i (omega (arith, is, lt))
-
-      below-first : IsUngiven redo from (i / 4096) (i % 4096) kept → i < valid_after (updates_in redo kept) first → i < first
-      below-first none lt = go (nat_lt i first) refl (file-cases lt)
-        where
-          go : (b : Bool) → nat_lt i first ≡ b → (i < first) ⊎ EndsBehind redo kept i → i < first
-          go b is (inl below_it) = below_it
-          go true is (inr ends) = ltb-true i first is
-          go false is (inr ends) = absurd (none-ends none (ltb-false i first is) ends)
-
-      both : IsUngiven redo from (i / 4096) (i % 4096) kept ⊎ IsGivenBy redo from (i / 4096) (i % 4096) kept → nat_lt i (valid_behind (readings kept) redo redo.valid) ≡ true → nat_lt i (valid_after (updates_in redo kept) first) ≡ true →
-          slice_index (page_after (redone_of redo from (readings kept)) (i / 4096) (disk (i / 4096))) (i % 4096) ≡ byte_after (updates_in redo kept) (i / 4096) (i % 4096) (file_byte pages first i)
-      both (inl none) made file =
-          let lt = below-first none (ltb-true i (valid_after (updates_in redo kept) first) file) in
-          made-byte
-          ∙ (none.redone (slice_index (disk (i / 4096)) (i % 4096))
-          ∙ (opening-byte none lt
-          ∙ (sym (chosen (nat_lt i first) (slice_index (pages (i / 4096)) (i % 4096)) 0 (lt-ltb i first lt)) ∙ sym (none.all (file_byte pages first i)))))
-      both (inr last) made file = made-byte ∙ (last-byte last ∙ sym (last.all (file_byte pages first i)))
-
-      made-alone : IsUngiven redo from (i / 4096) (i % 4096) kept ⊎ IsGivenBy redo from (i / 4096) (i % 4096) kept → nat_lt i (valid_behind (readings kept) redo redo.valid) ≡ true → nat_lt i (valid_after (updates_in redo kept) first) ≡ false →
-          slice_index (page_after (redone_of redo from (readings kept)) (i / 4096) (disk (i / 4096))) (i % 4096) ≡ 0
-      made-alone (inl none) made file = made-byte ∙ (none.redone (slice_index (disk (i / 4096)) (i % 4096)) ∙ zero-byte none above (settled (valid-cases redo kept redo.valid i (ltb-true i (valid_behind (readings kept) redo redo.valid) made))))
-        where
-          above : first ≤ i
-          above =
-              let is = file-is in
-              let least = valid-least redo kept first in
-              let past_file = ltb-false i (valid_after (updates_in redo kept) first) file in
-              omega (arith, is, least, past_file)
-
-          settled : (i < redo.valid) ⊎ EndsBehind redo kept i → is_settled (history whole s) (i / 4096) ≡ true
-          settled (inl lt) = given.told (i / 4096) (omega (arith, lt, above)) (omega (arith, above)) (omega (arith, lt))
-          settled (inr ends) = absurd (none-ends none above ends)
-      made-alone (inr last) made file =
-          let is = file-is in
-          let ends = valid-ends redo kept first last.entry last.change last.among last.gives.0 in
-          let lt = last-ends last in
-          let past_file = ltb-false i (valid_after (updates_in redo kept) first) file in
-          absurd (omega (arith, is, ends, lt, past_file))
-
-      file-alone : nat_lt i (valid_behind (readings kept) redo redo.valid) ≡ false → nat_lt i (valid_after (updates_in redo kept) first) ≡ true → ⊥
-      file-alone made file = go (file-cases (ltb-true i (valid_after (updates_in redo kept) first) file))
-        where
-          past_made : valid_behind (readings kept) redo redo.valid ≤ i
-          past_made = ltb-false i (valid_behind (readings kept) redo redo.valid) made
-
-          go : (i < first) ⊎ EndsBehind redo kept i → ⊥
-          go (inl lt) = let least = valid-least redo kept redo.valid in let told = given.least in let over = past_made in omega (arith, least, told, over, lt)
-          go (inr k) = let ends = valid-ends redo kept redo.valid k.entry k.change k.among k.said in let lt = k.below in let over = past_made in omega (arith, ends, lt, over)
-
-      inside-file : file_byte (pages_redone streams kept redo disk) (valid_behind (readings kept) redo redo.valid) i ≡ updated_byte pages first (updates_in redo kept) i
-      inside-file =
-          guarded (nat_lt i (valid_behind (readings kept) redo redo.valid)) (nat_lt i (valid_after (updates_in redo kept) first)) _ _
-          (both (decided-so redo from (i / 4096) (i % 4096) kept (kept-rising u log durable whole good kept keeps)))
-          (made-alone (decided-so redo from (i / 4096) (i % 4096) kept (kept-rising u log durable whole good kept keeps)))
-          file-alone
-
-    pub same-file : redo.valid ≤ redo.size → file_byte (pages_redone streams kept redo disk) (valid_behind (readings kept) redo redo.valid) i ≡ updated_byte pages first (updates_in redo kept) i
-    same-file within = go (nat_lt i redo.size) refl
-      where
-        past : (a b : Bool) (x y : ℕ) → a ≡ false → b ≡ false → (if a then x else 0) ≡ (if b then y else 0)
-        past false false x y one other = refl
-        past true b x y one other = absurd (cc)
-        past false true x y one other = absurd (cc)
-
-        over : (n v : ℕ) → v ≤ n → nat_lt n v ≡ false
-        over n v le = grind arith
-
-        go : (b : Bool) → nat_lt i redo.size ≡ b → file_byte (pages_redone streams kept redo disk) (valid_behind (readings kept) redo redo.valid) i ≡ updated_byte pages first (updates_in redo kept) i
-        go true is = inside-file (ltb-true i redo.size is)
-        go false is =
-            let above = ltb-false i redo.size is in
-            let made = valid-within redo kept redo.valid within in
-            let least = given.least in
-            let file = valid-within redo kept first (omega (arith, within, least)) in
-            let same = valid-same redo kept first in
-            past (nat_lt i (valid_behind (readings kept) redo redo.valid)) (nat_lt i (valid_after (updates_in redo kept) first)) _ _
-            (over i (valid_behind (readings kept) redo redo.valid) (omega (arith, above, made)))
-            (over i (valid_after (updates_in redo kept) first) (omega (arith, above, file, same)))
+              last.early lt byte ∙ (is lt ∙ early-byte last lt in_size (disk (i / 4096)) contains)

@@ -13,3 +13,5 @@ pub mod Walks
 pub mod Listed
 pub mod Ends
 pub mod Settled
+pub mod Files
+pub mod Again

@@ -19,8 +19,8 @@ use Rattle.cc_redo.specs.declared.record.LogRecord.TheVariants.{Update, Checkpoi
 use Rattle.cc_redo.specs.declared.redo.Redo.{Redo}
 use Rattle.cc_restart_laws.proofs.Entries.{good-tail, next-lsn}
 use Rattle.cc_restart_laws.proofs.Records.{IsAppended, appended-floor}
-use Rattle.cc_restart_laws.proofs.Redoing.{AreAscending, IsAmong}
-use Rattle.cc_restart_laws.specs.Stops.{IsKept}
+use Rattle.cc_restart_laws.proofs.Redoing.{IsAmong}
+use Rattle.cc_restart_laws.specs.Stops.{AreAscending, IsKept}
 
 -- ---- lists of entries
 
@@ -51,12 +51,12 @@ among-cases (z ∷ xs) ys x (inr among) = go (among-cases xs ys x among)
     go (inl left) = inl (inr left)
     go (inr right) = inr right
 
-rising-first : (xs ys : List LogEntry) → AreAscending (xs ++ ys) → AreAscending xs
+pub rising-first : (xs ys : List LogEntry) → AreAscending (xs ++ ys) → AreAscending xs
 rising-first [] ys rising = tt
 rising-first (x ∷ xs) ys rising =
     (all-among (λ (later : LogEntry). x.lsn < later.lsn) xs (λ y among. among-all (λ (later : LogEntry). x.lsn < later.lsn) (xs ++ ys) y rising.0 (among-left xs ys y among)), rising-first xs ys rising.1)
 
-rising-across : (xs ys : List LogEntry) (x y : LogEntry) → AreAscending (xs ++ ys) → IsAmong xs x → IsAmong ys y → x.lsn < y.lsn
+pub rising-across : (xs ys : List LogEntry) (x y : LogEntry) → AreAscending (xs ++ ys) → IsAmong xs x → IsAmong ys y → x.lsn < y.lsn
 rising-across [] ys x y rising among behind = absurd among
 rising-across (z ∷ xs) ys x y rising (inl same) behind =
     let higher : z.lsn < y.lsn = among-all (λ (later : LogEntry). z.lsn < later.lsn) (xs ++ ys) y rising.0 (among-right xs ys y behind) in

@@ -13,17 +13,12 @@ use Rattle.cc_redo.specs.Reading.{said_by}
 use Rattle.cc_redo.specs.declared.record.LogRecord.{LogRecord}
 use Rattle.cc_redo.specs.declared.record.LogRecord.TheVariants.{Update, Checkpoint}
 use Rattle.cc_redo.specs.declared.redo.Redo.{Redo}
-use Rattle.cc_restart_laws.specs.Stops.{updates_in, valid_after}
+use Rattle.cc_restart_laws.specs.Stops.{AreAscending, updates_in, valid_after}
 
 -- one of a list
 abbrev pub IsAmong : {A : Type 0} → List A → A → Type 0
 IsAmong [] x = ⊥
 IsAmong (y ∷ ys) x = (x ≡ y) ⊎ IsAmong ys x
-
--- each entry has a lower LSN than those behind it
-abbrev pub AreAscending : List LogEntry → Type 0
-AreAscending [] = Unit {0}
-AreAscending (entry ∷ entries) = AllByRecursion (λ later. entry.lsn < later.lsn) entries × AreAscending entries
 
 all-among : {A : Type 0} (P : A → Type 0) (xs : List A) (x : A) → AllByRecursion P xs → IsAmong xs x → P x
 all-among P [] x all among = absurd among

@@ -1,5 +1,5 @@
 -- What a stop leaves of a log, what a restart is given, and what the file is then.
-use Rattle.std.specs.Prelude.{◌≡◌, ℕ, ◌+◌, ◌*◌, ◌/◌, ◌%◌, ◌<◌, ◌≤◌, nat_lt, true, max, List, ◌++◌, fold, slice_index, if◌then◌else◌}
+use Rattle.std.specs.Prelude.{◌≡◌, ℕ, ◌+◌, ◌*◌, ◌/◌, ◌%◌, ◌<◌, ◌≤◌, nat_lt, true, max, List, [], ◌∷◌, ◌++◌, fold, slice_index, if◌then◌else◌}
 use Rattle.std.specs.List.{AllByRecursion, filter_map}
 use Rattle.cc_entry.specs.declared.entry.Entry.{Entry}
 use Rattle.cc_model.specs.History.{history}
@@ -8,9 +8,14 @@ use Rattle.cc_model.specs.Records.{first_valid, is_settled}
 use Rattle.cc_model.specs.Touches.{size_of}
 use Rattle.cc_traits.specs.Log.{LogEntry}
 use Rattle.cc_redo.specs.Changes.{byte_after, page_after}
-use Rattle.cc_redo.specs.Heard.{Change, change_said, end_of, from_of, readings, redone_of}
+use Rattle.cc_redo.specs.Heard.{Change, change_said, end_of, from_of, readings, redone_of, valid_of}
 use Rattle.cc_redo.specs.Reading.{said_by}
 use Rattle.cc_redo.specs.declared.redo.Redo.{Redo}
+
+-- each entry of a log has a lower LSN than those behind it
+abbrev pub AreAscending : List LogEntry → Type 0
+AreAscending [] = Unit {0}
+AreAscending (entry ∷ entries) = AllByRecursion (λ later. entry.lsn < later.lsn) entries × AreAscending entries
 
 -- The log keeps the first of its entries, all that are durable among them.
 pub record IsKept (durable : ℕ) (all kept : List LogEntry) : Type 0 where
@@ -47,3 +52,17 @@ valid_after changes valid = fold (λ reached change. max reached (end_of change)
 abbrev pub updated_byte : (ℕ → List ℕ) → ℕ → List Change → ℕ → ℕ
 updated_byte pages valid changes i =
     if nat_lt i (valid_after changes valid) then byte_after changes (i / 4096) (i % 4096) (file_byte pages valid i) else 0
+
+-- a restart makes the file of a page that holds these bytes
+abbrev pub MakesFile : List Redo → List LogEntry → Redo → (ℕ → List ℕ) → ℕ → ℕ → List ℕ → Type 0
+MakesFile streams kept redo pages first page bytes =
+    (i : ℕ) → i / 4096 ≡ page →
+    file_byte (pages_redone streams kept redo (λ p. bytes)) (valid_of (readings kept) redo) i ≡ updated_byte pages first (updates_in redo kept) i
+
+-- The log had entries as the run began, all with lower LSNs than those that the run appended, and a restart had made the opening
+-- file of them: that of these pages and this valid data length, with their updates applied.
+pub record HadBegun (redo : Redo) (begun appended : List LogEntry) (pages : ℕ → List ℕ) (first : ℕ) (old_pages : ℕ → List ℕ) (old_first : ℕ)
+    : Type 0 where
+  pub ascending : AreAscending (begun ++ appended)
+  pub valid : first ≡ valid_after (updates_in redo begun) old_first
+  pub file : (i : ℕ) → file_byte pages first i ≡ updated_byte old_pages old_first (updates_in redo begun) i

@@ -1,7 +1,10 @@
-use Rattle.cc_restart_laws.proofs.Ends.{same-file}
-use Rattle.cc_restart_laws.proofs.Settled.{settled-leaves}
+use Rattle.cc_restart_laws.proofs.Files.{first-file, first-page}
 use Rattle.cc_restart_laws.proofs.laws.stopped_runs_are_redone.Goals as goal
 
-pub returns : goal.returns
-returns c = λ u past s log first durable pages below good updated long streams redo handed given kept flushed keeps disk left i.
-    same-file u past s log first durable pages below good updated long streams redo handed given kept flushed keeps (λ p is. settled-leaves u s log p past pages good updated is) i disk left redo.within
+pub returns-clause-file : goal.returns-clause-file
+returns-clause-file c = λ u past s log first durable pages below good updated long streams redo handed given kept flushed keeps disk left i.
+    first-file u past s log first durable pages below good updated long streams redo handed given kept flushed keeps disk left i
+
+pub returns-clause-page : goal.returns-clause-page
+returns-clause-page c = λ u past s log first durable pages below good updated long streams redo handed given kept flushed keeps page bytes in_size contains.
+    first-page u past s log first durable pages below good updated long streams redo handed given kept flushed keeps page bytes in_size contains

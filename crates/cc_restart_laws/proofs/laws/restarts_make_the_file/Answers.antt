@@ -1,0 +1,8 @@
+use Rattle.cc_restart_laws.proofs.Again.{again-file, made-file}
+use Rattle.cc_restart_laws.proofs.laws.restarts_make_the_file.Goals as goal
+
+pub returns-clause-made : goal.returns-clause-made
+returns-clause-made c = made-file
+
+pub returns-clause-again : goal.returns-clause-again
+returns-clause-again c = again-file
