@@ -1,5 +1,5 @@
 -- A restart that is done makes the file, and one that stopped leaves pages of which the next one makes it.
-use Rattle.std.specs.Prelude.{◌≡◌, ℕ, zero, suc, ◌+◌, ◌-◌, ◌*◌, ◌/◌, ◌%◌, ◌^◌, ◌<◌, ◌≤◌, ◌⊎◌, ◌==◌, Bool, true, false, nat_lt, List, [], ◌∷◌, length, take, Contains, slice_index, refl, if◌then◌else◌}
+use Rattle.std.specs.Prelude.{◌≡◌, ℕ, ◌*◌, ◌/◌, ◌%◌, ◌^◌, ◌<◌, ◌⊎◌, ◌==◌, Bool, true, false, nat_lt, List, [], ◌∷◌, length, take, Contains, slice_index, refl, if◌then◌else◌}
 use Rattle.std.proofs.Common.{ap, sym, subst, ◌∙◌, inl, inr, arith}
 use Rattle.std.proofs.lemmas.Bool.{eqb-true}
 use Rattle.cc_traits.specs.Disk.{Disk, may_of, page_of}
@@ -7,11 +7,11 @@ use Rattle.cc_traits.specs.Log.{LogEntry}
 use Rattle.cc_model.specs.Records.{record_page}
 use Rattle.cc_redo.proofs.Again.{page-again}
 use Rattle.cc_redo.specs.Changes.{page_after}
-use Rattle.cc_redo.specs.Disks.{IsBetween, IsLeftOrMade, IsMade, Was, changed_page, record_number, with_record}
+use Rattle.cc_redo.specs.Disks.{IsBetween, IsMade, Was, changed_page, record_number, with_record}
 use Rattle.cc_redo.specs.Ends.{made_from}
 use Rattle.cc_redo.specs.Heard.{Change, from_of, readings, redone_of, valid_of}
 use Rattle.cc_redo.specs.declared.redo.Redo.{Redo}
-use Rattle.cc_restart_laws.specs.Stops.{MakesFile, file_byte, pages_redone, updated_byte, updates_in}
+use Rattle.cc_restart_laws.specs.Stops.{MakesFile, file_byte, updated_byte, updates_in}
 
 take-all : (changes : List Change) → take (length changes) changes ≡ changes
 take-all [] = refl

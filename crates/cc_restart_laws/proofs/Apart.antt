@@ -1,29 +1,26 @@
 -- Two open pins of which one is exclusive have no page in common.
-use Rattle.std.specs.Prelude.{◌≡◌, ℕ, ◌+◌, Bool, true, false, cond, not, ◌==◌, ◌&&◌, ◌||◌, List, [], ◌∷◌, length, refl, if◌then◌else◌}
-use Rattle.std.specs.List.{cons_option, filter, find, list_any}
+use Rattle.std.specs.Prelude.{◌≡◌, ℕ, Bool, true, false, cond, not, ◌==◌, ◌||◌, List, [], ◌∷◌, refl, if◌then◌else◌}
+use Rattle.std.specs.List.{cons_option, filter}
 use Rattle.std.specs.Option.{option_map}
 use Rattle.std.specs.declared.option.Option.{Option}
 use Rattle.std.specs.declared.option.Option.TheVariants.{Some, None}
 use Rattle.std.proofs.Common.{ap, sym, subst, ◌∙◌}
-use Rattle.std.proofs.lemmas.Bool.{eqb-true, eq-eqb, and_parts, and_from, or_left, or_right, true_from_ne_false}
+use Rattle.std.proofs.lemmas.Bool.{eqb-true, eq-eqb, and_from, or_left, or_right}
 use Rattle.cc_entry.specs.Kinds.{is_map, is_pin}
-use Rattle.cc_entry.specs.Place.{File, Range}
+use Rattle.cc_entry.specs.Place.{Range}
 use Rattle.cc_entry.specs.Pages.{has_page, pages_of, share_page, whole_range}
 use Rattle.cc_entry.specs.declared.call.Call.{Call}
 use Rattle.cc_entry.specs.declared.call.Call.TheVariants as call
-use Rattle.cc_entry.specs.declared.hold.HoldKind.{HoldKind}
 use Rattle.cc_entry.specs.declared.hold.HoldKind.TheVariants as kind
-use Rattle.cc_entry.specs.declared.reply.Reply.{Reply}
 use Rattle.cc_entry.specs.declared.reply.Outcome.TheVariants as outcome
 use Rattle.cc_entry.specs.declared.entry.Entry.{Entry}
 use Rattle.cc_entry.specs.declared.entry.Entry.TheVariants as entry
-use Rattle.cc_entry.specs.declared.error.CcError.{CcError}
 use Rattle.cc_model.specs.Acts.{file_of}
 use Rattle.cc_model.specs.Conflicts.{bars_pin, busy, busy_by, pin_in_the_way}
 use Rattle.cc_model.specs.Filing.{IsFiled, serves}
 use Rattle.cc_model.specs.Good.{IsGoodSoFar}
 use Rattle.cc_model.specs.History.{Effect, Did, CameIn, WentOut, Began, Ended, Synced, effect_of, history}
-use Rattle.cc_model.specs.Holds.{Hold, changed_at, held_after, hold_at, holds_of, id_of, least_id, lesser, made, range_held, repinned}
+use Rattle.cc_model.specs.Holds.{Hold, changed_at, held_after, hold_at, holds_of, id_of, least_id, lesser, range_held, repinned}
 use Rattle.cc_model.specs.Legal.{IsAdmitted}
 use Rattle.cc_model.specs.Setup.{Setup}
 use Rattle.cc_laws.proofs.HoldSteps.{changes_holds, holds_of-done, holds_of-came_in, holds_of-went_out, holds_of-began, holds_of-ended, holds_of-synced}
@@ -32,7 +29,7 @@ use Rattle.cc_laws.proofs.UnrefusedCalls.{unrefused}
 use Rattle.cc_own.proofs.FoundHolds.{changed-found, changed-other, ended-gone, ended-other, some-is}
 use Rattle.cc_own.proofs.OwnHolds.{filed-at}
 use Rattle.cc_own.specs.Own.{new_hold}
-use Rattle.cc_restart_laws.proofs.Entries.{IsCall, admitted, did-entry, good-tail}
+use Rattle.cc_restart_laws.proofs.Entries.{admitted, did-entry, good-tail}
 
 -- of the open holds, two pins with a page in common of which one is exclusive are one
 abbrev pub AreApart : List Hold → Type 0

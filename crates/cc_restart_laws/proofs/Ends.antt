@@ -1,10 +1,9 @@
 -- The file after a stop and a restart: each byte of it is that of the opening file with the kept updates applied.
-use Rattle.std.specs.Prelude.{◌≡◌, ℕ, zero, suc, ◌+◌, ◌-◌, ◌*◌, ◌/◌, ◌%◌, ◌^◌, ◌<◌, ◌≤◌, ◌⊎◌, ◌&&◌, ◌==◌, Bool, true, false, nat_le, nat_lt, List, [], ◌∷◌, ◌++◌, length, map, Contains, slice_index, refl, if◌then◌else◌}
-use Rattle.std.specs.List.{list_any, range_with_len}
+use Rattle.std.specs.Prelude.{◌≡◌, ℕ, zero, suc, ◌+◌, ◌-◌, ◌*◌, ◌/◌, ◌%◌, ◌<◌, ◌≤◌, ◌⊎◌, ◌&&◌, ◌==◌, Bool, true, false, nat_le, nat_lt, List, [], ◌∷◌, ◌++◌, length, Contains, slice_index, refl, if◌then◌else◌}
 use Rattle.std.specs.declared.option.Option.{Option}
 use Rattle.std.specs.declared.option.Option.TheVariants.{Some, None}
 use Rattle.std.proofs.Common.{ap, sym, subst, ◌∙◌, inl, inr, arith}
-use Rattle.std.proofs.lemmas.Bool.{and_from, and_parts, eq-eqb, leb-true, leb-false, ltb-true, ltb-false, lt-ltb}
+use Rattle.std.proofs.lemmas.Bool.{and_from, and_parts, eq-eqb, leb-true, leb-false, ltb-true, lt-ltb}
 use Rattle.std.proofs.lemmas.List.FromFn.{length-map-range_with_len}
 use Rattle.cc_entry.specs.Pages.{has_byte, has_page, whole_range}
 use Rattle.cc_entry.specs.Place.{Range}
@@ -14,15 +13,15 @@ use Rattle.cc_entry.specs.declared.call.Call.TheVariants as call
 use Rattle.cc_entry.specs.declared.reply.Outcome.TheVariants as outcome
 use Rattle.cc_log.specs.Turn.{appended}
 use Rattle.cc_laws.proofs.ByteSteps.{byte_of-above, byte_of-below}
-use Rattle.cc_laws.proofs.CoveredBytes.{has_byte-between, has_page-byte}
+use Rattle.cc_laws.proofs.CoveredBytes.{has_page-byte}
 use Rattle.cc_laws.proofs.DiskBytes.{page_bytes-at}
 use Rattle.cc_laws.proofs.SoundFacts.{valid_of-good}
 use Rattle.cc_format.specs.declared.log.OldestRow.{OldestRow}
-use Rattle.cc_model.specs.Bytes.{byte_of, content, page_bytes, page_size}
+use Rattle.cc_model.specs.Bytes.{byte_of, page_bytes, page_size}
 use Rattle.cc_model.specs.Good.{IsGoodSoFar}
 use Rattle.cc_model.specs.History.{Effect, history}
 use Rattle.cc_model.specs.Images.{crash_pages}
-use Rattle.cc_model.specs.Logs.{floor_of, flushed_to}
+use Rattle.cc_model.specs.Logs.{flushed_to}
 use Rattle.cc_model.specs.Objects.{had_map}
 use Rattle.cc_model.specs.Records.{first_valid, is_settled}
 use Rattle.cc_model.specs.Settings.{log_of}
@@ -31,23 +30,23 @@ use Rattle.cc_model.specs.Stamps.{dirty_table}
 use Rattle.cc_model.specs.Touches.{size_of, touches, valid_of}
 use Rattle.cc_traits.specs.Log.{LogEntry}
 use Rattle.cc_redo.specs.Changes.{byte_after, bytes_after, page_after}
-use Rattle.cc_redo.specs.Heard.{Change, change_said, end_of, from_of, is_given, oldest_in, readings, redone_of, valid_behind}
+use Rattle.cc_redo.specs.Heard.{Change, change_said, end_of, is_given, readings, redone_of}
 use Rattle.cc_redo.specs.Reading.{said_by}
 use Rattle.cc_redo.specs.declared.record.LogRecord.{LogRecord}
-use Rattle.cc_redo.specs.declared.record.LogRecord.TheVariants.{Update, Checkpoint}
+use Rattle.cc_redo.specs.declared.record.LogRecord.TheVariants.{Update}
 use Rattle.cc_redo.specs.declared.redo.Redo.{Redo}
-use Rattle.cc_restart_laws.proofs.Contents.{IsCovered, IsDecided, IsDecidedBy, IsOpening, decided, first-least, first-more, had-more, never-valid, size-more, valid-covered, written-valid}
+use Rattle.cc_restart_laws.proofs.Contents.{IsCovered, IsDecided, decided, first-least, first-more, had-more, never-valid, size-more, valid-covered, written-valid}
 use Rattle.cc_restart_laws.proofs.Entries.{good-tail, next-lsn, updated-head, updated-rest, updated-tail}
-use Rattle.cc_restart_laws.proofs.Fronts.{CrashLeaves, IsLeft, IsWrittenAt}
-use Rattle.cc_restart_laws.proofs.Listed.{HasRow, IsAppendAt, among-map, append-at, base_of, has-row, held-had, leaves-behind, was-stamped, written-change, written-log}
-use Rattle.cc_restart_laws.proofs.Logs.{durable-kept, kept-appended, kept-rising, lower-kept, lsn-above, said-update, update-said}
+use Rattle.cc_restart_laws.proofs.Fronts.{CrashLeaves, IsLeft}
+use Rattle.cc_restart_laws.proofs.Listed.{IsAppendAt, among-map, append-at, has-row, held-had, leaves-behind, was-stamped, written-change, written-log}
+use Rattle.cc_restart_laws.proofs.Logs.{durable-kept, kept-appended, lower-kept, said-update, update-said}
 use Rattle.cc_restart_laws.proofs.Orders.{IsChange, IsSaid, change-more, change-said}
-use Rattle.cc_restart_laws.proofs.Records.{IsAppended, appended-before, appended-floor, appended-more, appended-once, floor-grows, good-rest', log-stays, may-append, range_of, recorded-appended}
-use Rattle.cc_restart_laws.proofs.Redoing.{EndsBehind, Gives, IsAmong, IsFromCheckpoint, IsGivenBy, IsUngiven, contains-any, covers, decided-so, from-cases, oldest-least, oldest-row, own_byte, valid-cases, valid-ends, valid-least, valid-same, valid-within}
+use Rattle.cc_restart_laws.proofs.Records.{IsAppended, appended-before, appended-floor, appended-once, good-rest', log-stays, may-append, range_of}
+use Rattle.cc_restart_laws.proofs.Redoing.{EndsBehind, IsAmong, IsFromCheckpoint, IsGivenBy, IsUngiven, contains-any, covers, oldest-least, oldest-row, own_byte}
 use Rattle.cc_restart_laws.proofs.Stamped.{has_stamp}
-use Rattle.cc_restart_laws.proofs.Walks.{Behind, Front, IsBegunBehind, IsBegunFront, IsFrontOf, front-rest, front-tail, traced}
-use Rattle.cc_restart_laws.specs.Stops.{IsGivenAs, IsKept, file_byte, pages_redone, updated_byte, updates_in, valid_after}
-use Rattle.cc_restart_laws.specs.Updates.{HasRecord, IsCheckpoint, IsUpdated, MayAppend, MayLog, Updating, WasStamped, row_told}
+use Rattle.cc_restart_laws.proofs.Walks.{Behind, Front, IsBegunFront, IsFrontOf, front-rest, front-tail, traced}
+use Rattle.cc_restart_laws.specs.Stops.{IsGivenAs, IsKept}
+use Rattle.cc_restart_laws.specs.Updates.{IsCheckpoint, IsUpdated, MayAppend, MayLog, Updating, WasStamped, row_told}
 
 -- ---- bytes of a page
 
@@ -101,7 +100,6 @@ module _ (u : Setup) (whole : List Entry) (s log first durable : ℕ) (pages : �
     (streams : List Redo) (redo : Redo) (handed : Contains streams redo) (given : IsGivenAs s first whole redo) (kept : List LogEntry) (flushed : flushed_to whole log ≤ durable) (keeps : IsKept durable (appended whole log) kept)
     (settled-left : (p : ℕ) → is_settled (history whole s) p ≡ true → CrashLeaves ⊥ (Front u s log p whole) pages s p (history whole s))
     (from : ℕ) (check-of : (x : LogEntry) → IsAmong kept x → x.lsn < from → IsFromCheckpoint streams kept from) (i : ℕ) where
-
   -- ---- a change of which the record is durable is among those kept
 
   ends-within : (it : Updating) → IsChange s log it whole → it.at + length it.bytes ≤ redo.size

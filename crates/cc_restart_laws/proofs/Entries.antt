@@ -1,8 +1,7 @@
 -- Which entries mean what to a stream, and what is good and updated of the past before an entry.
 use Rattle.std.specs.Prelude.{◌≡◌, ℕ, Bool, true, false, ◌==◌, List, [], ◌∷◌, ◌++◌, refl, if◌then◌else◌}
-use Rattle.std.proofs.Common.{ap, sym, ◌∙◌}
+use Rattle.std.proofs.Common.{ap}
 use Rattle.std.proofs.lemmas.Bool.{eqb-true, eq-eqb}
-use Rattle.std.specs.declared.option.Option.{Option}
 use Rattle.std.specs.declared.option.Option.TheVariants.{Some, None}
 use Rattle.cc_entry.specs.Place.{Page}
 use Rattle.cc_entry.specs.declared.call.Call.{Call}
@@ -10,12 +9,10 @@ use Rattle.cc_entry.specs.declared.reply.Reply.{Reply}
 use Rattle.cc_entry.specs.declared.reply.Outcome.TheVariants as outcome
 use Rattle.cc_entry.specs.declared.entry.Entry.{Entry}
 use Rattle.cc_entry.specs.declared.entry.Entry.TheVariants as entry
-use Rattle.cc_model.specs.Conditions.{MayBegin}
 use Rattle.cc_model.specs.Covered.{IsLogged, IsNextLsn}
 use Rattle.cc_model.specs.Good.{IsGoodSoFar}
-use Rattle.cc_model.specs.History.{Effect, Did, CameIn, WentOut, Began, Ended, Synced, effect_of, history}
+use Rattle.cc_model.specs.History.{Did, CameIn, WentOut, Began, Ended, Synced, effect_of, history}
 use Rattle.cc_model.specs.Legal.{IsAdmitted, IsLegal, IsLegalEntry}
-use Rattle.cc_model.specs.Allowed.{IsAllowedSoFar}
 use Rattle.cc_model.specs.Covered.{IsCovered, IsCoveredEntry}
 use Rattle.cc_model.specs.Setup.{Setup}
 use Rattle.cc_records.proofs.Settling.{good-rest}

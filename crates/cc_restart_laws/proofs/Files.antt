@@ -1,5 +1,5 @@
 -- The file after a stop and a restart, of a log that had entries before the run.
-use Rattle.std.specs.Prelude.{◌≡◌, ℕ, ◌+◌, ◌*◌, ◌/◌, ◌%◌, ◌<◌, ◌≤◌, ◌⊎◌, Bool, true, false, nat_le, nat_lt, max, List, [], ◌∷◌, ◌++◌, length, Contains, slice_index, refl, if◌then◌else◌}
+use Rattle.std.specs.Prelude.{◌≡◌, ℕ, ◌*◌, ◌/◌, ◌%◌, ◌<◌, ◌≤◌, ◌⊎◌, Bool, true, false, nat_le, nat_lt, max, List, [], ◌∷◌, ◌++◌, length, Contains, slice_index, refl, if◌then◌else◌}
 use Rattle.std.specs.List.{cons_option}
 use Rattle.std.specs.declared.option.Option.{Option}
 use Rattle.std.specs.declared.option.Option.TheVariants.{Some, None}
@@ -20,7 +20,7 @@ use Rattle.cc_redo.specs.Reading.{said_by}
 use Rattle.cc_redo.specs.declared.redo.Redo.{Redo}
 use Rattle.cc_restart_laws.proofs.Ends.{chosen, covered-below, guarded, last-byte, last-ends, made-byte, none-ends, opening-byte, zero-byte}
 use Rattle.cc_restart_laws.proofs.Fronts.{CrashLeaves}
-use Rattle.cc_restart_laws.proofs.Logs.{among-cases, among-left, are-rising, kept-appended, kept-rising, lsn-above, rising-across, rising-first}
+use Rattle.cc_restart_laws.proofs.Logs.{among-cases, among-left, kept-appended, kept-rising, lsn-above, rising-across, rising-first}
 use Rattle.cc_restart_laws.proofs.Walks.{Front}
 use Rattle.cc_restart_laws.proofs.Redoing.{EndsBehind, IsAmong, IsFromCheckpoint, IsGivenBy, IsUngiven, decided-so, from-cases, oldest-least, valid-cases, valid-ends, valid-least, valid-same, valid-within}
 use Rattle.cc_restart_laws.proofs.Settled.{settled-leaves}
@@ -309,3 +309,10 @@ module _ (u : Setup) (whole : List Entry) (s log first durable : ℕ) (pages : �
       whole-file u whole s log first durable pages below good updated long streams redo handed given kept flushed keeps begun old_pages old_first (rising-first begun (appended whole log) had.ascending)
       (λ x y before here. rising-across begun (appended whole log) x y had.ascending before (subst (λ (l : List LogEntry). IsAmong l y) (sym keeps.splits) (among-left kept keeps.rest y here)))
       had.valid i (had.file i) disk (left (i / 4096)) redo.within
+
+  pub later-page : (begun : List LogEntry) (old_pages : ℕ → List ℕ) (old_first : ℕ) → HadBegun redo begun (appended whole log) pages first old_pages old_first →
+      (page : ℕ) (bytes : List ℕ) → 4096 * page < redo.size → Contains (crash_pages pages (history whole s) page) bytes → MakesFile streams (begun ++ kept) redo old_pages old_first page bytes
+  later-page begun old_pages old_first had page bytes in_size contains i same =
+      whole-file u whole s log first durable pages below good updated long streams redo handed given kept flushed keeps begun old_pages old_first (rising-first begun (appended whole log) had.ascending)
+      (λ x y before here. rising-across begun (appended whole log) x y had.ascending before (subst (λ (l : List LogEntry). IsAmong l y) (sym keeps.splits) (among-left kept keeps.rest y here)))
+      had.valid i (had.file i) (λ p. bytes) (λ lt. subst (λ (q : ℕ). Contains (crash_pages pages (history whole s) q) bytes) (sym same) contains) redo.within

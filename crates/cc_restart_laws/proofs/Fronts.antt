@@ -1,20 +1,16 @@
 -- What a crash may leave of a page: the opening page, or the page at the begin of a transfer; and what is said of each such begin.
-use Rattle.std.specs.Prelude.{◌≡◌, ℕ, ◌<◌, ◌≤◌, ◌⊎◌, Bool, true, false, ◌==◌, List, [], ◌∷◌, ◌++◌, length, Contains, refl}
+use Rattle.std.specs.Prelude.{◌≡◌, ℕ, ◌⊎◌, Bool, true, false, ◌==◌, List, [], ◌∷◌, Contains, refl}
 use Rattle.std.specs.List.{cons_option}
 use Rattle.std.specs.declared.option.Option.{Option}
 use Rattle.std.specs.declared.option.Option.TheVariants.{Some, None}
 use Rattle.std.proofs.Common.{ap, sym, subst, ◌∙◌, inl, inr, arith}
 use Rattle.std.proofs.lemmas.Bool.{eqb-true}
 use Rattle.std.proofs.lemmas.List.Elements.{Contains-push_cases}
-use Rattle.cc_entry.specs.declared.call.Call.{Call}
-use Rattle.cc_entry.specs.declared.entry.End.{End}
 use Rattle.cc_entry.specs.declared.entry.Entry.{Entry}
 use Rattle.cc_entry.specs.declared.entry.Entry.TheVariants as entry
 use Rattle.cc_entry.specs.declared.reply.Outcome.TheVariants as outcome
-use Rattle.cc_entry.specs.declared.reply.Reply.{Reply}
-use Rattle.cc_laws.proofs.HistorySteps.{history-effect}
 use Rattle.cc_laws.proofs.ImageSteps.{begun-done, begun-came_in, begun-went_out, begun-began_page, begun-began_other, begun-ended, begun-synced, image-done, image-came_in, image-went_out, image-began, image-ended_page, image-ended_other, image-synced, crash_pages-done, crash_pages-came_in, crash_pages-went_out, crash_pages-began_page, crash_pages-began_other, crash_pages-ended, crash_pages-synced}
-use Rattle.cc_laws.proofs.TouchSteps.{touches-came_in, touches-went_out, touches-synced, touches-began_open, touches-began_other, touches-ended_after, touches-ended_bad, touches-ended_other}
+use Rattle.cc_laws.proofs.TouchSteps.{touches-came_in, touches-went_out, touches-synced, touches-began_open, touches-began_other, touches-ended_after, touches-ended_other}
 use Rattle.cc_model.specs.Bytes.{page_bytes}
 use Rattle.cc_model.specs.Good.{IsGoodSoFar}
 use Rattle.cc_model.specs.History.{Effect, Did, CameIn, WentOut, Began, Ended, Synced, effect_of, history}

@@ -15,3 +15,5 @@ pub mod Ends
 pub mod Settled
 pub mod Files
 pub mod Again
+pub mod Raised
+pub mod Left

@@ -1,5 +1,5 @@
 -- What a checkpoint shows of an update below the LSN from which a restart redoes: the disk has it, and a crash leaves nothing older.
-use Rattle.std.specs.Prelude.{◌≡◌, ℕ, suc, ◌+◌, ◌*◌, ◌<◌, ◌≤◌, ◌⊎◌, Bool, true, false, not, ◌==◌, ◌&&◌, ◌||◌, List, [], ◌∷◌, ◌++◌, map, length, refl, if◌then◌else◌}
+use Rattle.std.specs.Prelude.{◌≡◌, ℕ, ◌*◌, ◌<◌, ◌≤◌, ◌⊎◌, Bool, true, false, not, ◌==◌, ◌&&◌, ◌||◌, List, [], ◌∷◌, ◌++◌, map, refl, if◌then◌else◌}
 use Rattle.std.specs.List.{cons_option, filter_map, flat_map, list_any, range_with_len}
 use Rattle.std.specs.Option.{option_map}
 use Rattle.std.specs.declared.option.Option.{Option}
@@ -17,7 +17,6 @@ use Rattle.cc_entry.specs.declared.reply.Outcome.TheVariants as outcome
 use Rattle.cc_entry.specs.declared.reply.Reply.{Reply}
 use Rattle.cc_laws.proofs.DirtyAmong.{dirty-among}
 use Rattle.cc_laws.proofs.FirstMap.{IsFirst-steady}
-use Rattle.cc_laws.proofs.HistorySteps.{history-no_stream}
 use Rattle.cc_laws.proofs.Lists1.{among-range}
 use Rattle.cc_laws.proofs.SteadyPasts.{IsSteady-good}
 use Rattle.cc_format.specs.declared.log.OldestRow.{OldestRow}
@@ -29,11 +28,11 @@ use Rattle.cc_model.specs.Objects.{had_map}
 use Rattle.cc_model.specs.Settings.{log_of}
 use Rattle.cc_model.specs.Setup.{Setup}
 use Rattle.cc_model.specs.Sizes.{Touch}
-use Rattle.cc_model.specs.Stamps.{dirty_table, is_log, lsns_of, row_of, rows_of}
-use Rattle.cc_model.specs.Touches.{dirty_pages, is_dirty, size_of, touches, unwritten}
+use Rattle.cc_model.specs.Stamps.{dirty_table, is_log, row_of, rows_of}
+use Rattle.cc_model.specs.Touches.{dirty_pages, size_of, touches, unwritten}
 use Rattle.cc_redo.specs.Reading.{said_by}
 use Rattle.cc_redo.specs.declared.record.LogRecord.{LogRecord}
-use Rattle.cc_redo.specs.declared.record.LogRecord.TheVariants.{Update, Checkpoint}
+use Rattle.cc_redo.specs.declared.record.LogRecord.TheVariants.{Update}
 use Rattle.cc_restart_laws.proofs.Contents.{had-more}
 use Rattle.cc_restart_laws.proofs.Entries.{good-tail, updated-rest, updated-tail}
 use Rattle.cc_restart_laws.proofs.Fronts.{CrashLeaves, IsBegunSince, IsKnownAs, IsSince}
@@ -43,7 +42,7 @@ use Rattle.cc_restart_laws.proofs.Redoing.{IsAmong}
 use Rattle.cc_restart_laws.proofs.Safe.{stamp-set}
 use Rattle.cc_restart_laws.proofs.Stamped.{has_stamp, stamp-between, stamp-open}
 use Rattle.cc_restart_laws.proofs.Walks.{Behind, IsFrontOf, IsKnownBehind, crash-walk, front-rest, front-tail, known-walk, since-walk, synced-leaves}
-use Rattle.cc_restart_laws.specs.Updates.{HasSynced, HasWritten, IsCheckpoint, IsUpdated, Updating, WasStamped, is_update_of, records_update, row_told}
+use Rattle.cc_restart_laws.specs.Updates.{HasWritten, IsCheckpoint, IsUpdated, Updating, WasStamped, is_update_of, records_update}
 
 -- ---- where an entry of the log was appended
 

@@ -4,7 +4,7 @@ use Rattle.std.specs.List.{AllByRecursion}
 use Rattle.std.specs.declared.option.Option.{Option}
 use Rattle.std.specs.declared.option.Option.TheVariants.{Some, None}
 use Rattle.std.proofs.Common.{ap, sym, subst, ◌∙◌, inl, inr, arith}
-use Rattle.std.proofs.lemmas.Bool.{eqb-true, eq-eqb, leb-true, le-leb}
+use Rattle.std.proofs.lemmas.Bool.{eqb-true, eq-eqb, le-leb}
 use Rattle.cc_entry.specs.declared.entry.Entry.{Entry}
 use Rattle.cc_entry.specs.declared.entry.Entry.TheVariants as entry
 use Rattle.cc_log.specs.Turn.{appended}
@@ -12,8 +12,7 @@ use Rattle.cc_model.specs.Good.{IsGoodSoFar}
 use Rattle.cc_model.specs.Logs.{floor_of}
 use Rattle.cc_model.specs.Setup.{Setup}
 use Rattle.cc_traits.specs.Log.{LogEntry}
-use Rattle.cc_redo.specs.Heard.{Change, change_said, end_of}
-use Rattle.cc_redo.specs.Reading.{said_by}
+use Rattle.cc_redo.specs.Heard.{Change, change_said}
 use Rattle.cc_redo.specs.declared.record.LogRecord.{LogRecord}
 use Rattle.cc_redo.specs.declared.record.LogRecord.TheVariants.{Update, Checkpoint}
 use Rattle.cc_redo.specs.declared.redo.Redo.{Redo}

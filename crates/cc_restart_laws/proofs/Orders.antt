@@ -1,7 +1,7 @@
 -- The changes of a stream, and the order of those that have a page in common: it is that of their records.
-use Rattle.std.specs.Prelude.{◌≡◌, ℕ, suc, ◌+◌, ◌*◌, ◌/◌, ◌<◌, ◌≤◌, ◌⊎◌, Bool, true, false, ◌==◌, ◌&&◌, ◌||◌, List, [], ◌∷◌, ◌++◌, length, refl}
+use Rattle.std.specs.Prelude.{◌≡◌, ℕ, ◌≤◌, ◌⊎◌, Bool, true, false, ◌==◌, List, [], ◌∷◌, ◌++◌, length, refl}
 use Rattle.std.specs.declared.option.Option.{Option}
-use Rattle.std.specs.declared.option.Option.TheVariants.{Some, None}
+use Rattle.std.specs.declared.option.Option.TheVariants.{Some}
 use Rattle.std.proofs.Common.{ap, sym, subst, ◌∙◌, inl, inr, arith}
 use Rattle.std.proofs.lemmas.Bool.{eqb-true, eq-eqb, or_left}
 use Rattle.cc_entry.specs.Pages.{has_page}
@@ -15,7 +15,6 @@ use Rattle.cc_effects.specs.Moments.{Others}
 use Rattle.cc_model.specs.Good.{IsGoodSoFar}
 use Rattle.cc_model.specs.History.{history}
 use Rattle.cc_model.specs.Holds.{Hold, hold_at, holds_of}
-use Rattle.cc_model.specs.Logs.{floor_of}
 use Rattle.cc_model.specs.Passes.{is_mine}
 use Rattle.cc_model.specs.Setup.{Setup}
 use Rattle.cc_own.proofs.FoundHolds.{some-is}

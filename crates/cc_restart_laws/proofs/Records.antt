@@ -1,20 +1,19 @@
 -- What is known of an update that has its record: its entry in the log, and its pin, which stays as it is.
-use Rattle.std.specs.Prelude.{◌≡◌, ℕ, suc, ◌+◌, ◌<◌, ◌≤◌, ◌⊎◌, Bool, true, false, ◌==◌, ◌&&◌, ◌||◌, List, [], ◌∷◌, ◌++◌, length, max, refl, if◌then◌else◌}
-use Rattle.std.specs.List.{cons_option, list_any}
+use Rattle.std.specs.Prelude.{◌≡◌, ℕ, suc, ◌≤◌, ◌⊎◌, true, ◌==◌, List, [], ◌∷◌, ◌++◌, length, refl}
+use Rattle.std.specs.List.{cons_option}
 use Rattle.std.specs.declared.option.Option.{Option}
 use Rattle.std.specs.declared.option.Option.TheVariants.{Some, None}
 use Rattle.std.proofs.Common.{ap, sym, subst, ◌∙◌, inl, inr, arith}
-use Rattle.std.proofs.lemmas.Bool.{eqb-true, eq-eqb, and_from, or_left}
+use Rattle.std.proofs.lemmas.Bool.{eq-eqb, and_from, or_left}
 use Rattle.cc_entry.specs.Kinds.{is_pin}
 use Rattle.cc_entry.specs.Place.{Range}
 use Rattle.cc_entry.specs.Pages.{has_page, whole_range}
-use Rattle.cc_entry.specs.declared.call.Call.{Call}
 use Rattle.cc_entry.specs.declared.call.Call.TheVariants as call
 use Rattle.cc_entry.specs.declared.entry.Entry.{Entry}
 use Rattle.cc_entry.specs.declared.entry.Entry.TheVariants as entry
 use Rattle.cc_entry.specs.declared.reply.Outcome.TheVariants as outcome
 use Rattle.cc_entry.specs.declared.reply.Reply.{Reply}
-use Rattle.cc_effects.specs.Moments.{IsIdle, Others}
+use Rattle.cc_effects.specs.Moments.{Others}
 use Rattle.cc_laws.proofs.HistorySteps.{history-effect, history-log_append}
 use Rattle.cc_laws.proofs.Lists1.{any-found}
 use Rattle.cc_laws.proofs.LogSteps.{floor_of-entry, flushed_to-entry}
@@ -22,21 +21,18 @@ use Rattle.cc_laws.proofs.SettingEffects.{log_of-came_in, log_of-went_out, log_o
 use Rattle.cc_laws.proofs.SettingSteps.{log_of-done}
 use Rattle.cc_model.specs.Good.{IsGoodSoFar}
 use Rattle.cc_model.specs.History.{Effect, Did, CameIn, WentOut, Began, Ended, Synced, effect_of, history}
-use Rattle.cc_model.specs.Holds.{Hold, hold_at, holds_of, range_held}
-use Rattle.cc_model.specs.Logs.{floor_of, flush_of, flushed_to, reach_of}
-use Rattle.cc_model.specs.Passes.{is_mine}
+use Rattle.cc_model.specs.Holds.{Hold, holds_of, range_held}
+use Rattle.cc_model.specs.Logs.{floor_of, flushed_to, reach_of}
 use Rattle.cc_model.specs.Settings.{log_after, log_of}
 use Rattle.cc_model.specs.Setup.{Setup}
 use Rattle.cc_model.specs.Stamps.{is_unstamped, owes_stamp}
 use Rattle.cc_own.proofs.OwnHolds.{done-changes, others-keep, own-keeps}
-use Rattle.cc_own.proofs.FoundHolds.{some-is}
 use Rattle.cc_own.specs.Own.{HasHold, hold_after}
 use Rattle.cc_redo.specs.Reading.{said_by}
 use Rattle.cc_redo.specs.declared.record.LogRecord.{LogRecord}
-use Rattle.cc_redo.specs.declared.record.LogRecord.TheVariants.{Update, Checkpoint}
-use Rattle.cc_restart_laws.proofs.Apart.{AreApart, holds-apart}
+use Rattle.cc_redo.specs.declared.record.LogRecord.TheVariants.{Update}
 use Rattle.cc_restart_laws.proofs.Entries.{did-entry, good-tail, next-lsn, updated-head, updated-rest, updated-tail}
-use Rattle.cc_restart_laws.specs.Updates.{HasRecord, HasWritten, IsPinned, IsUpdated, IsUpdatedBy, MayAppend, MayDo, MayLog, Updating}
+use Rattle.cc_restart_laws.specs.Updates.{HasRecord, HasWritten, IsPinned, IsUpdated, IsUpdatedBy, MayAppend, MayLog, Updating}
 
 -- the bytes of an update
 abbrev pub range_of : Updating → Range

@@ -1,19 +1,19 @@
 -- A byte of a page as the updates of a log leave it, all of them and those that are redone.
-use Rattle.std.specs.Prelude.{◌≡◌, ℕ, zero, suc, ◌+◌, ◌-◌, ◌*◌, ◌<◌, ◌≤◌, ◌⊎◌, ◌&&◌, ◌==◌, Bool, true, false, nat_le, nat_lt, min, max, List, [], ◌∷◌, length, map, fold, Contains, slice_index, refl, if◌then◌else◌}
+use Rattle.std.specs.Prelude.{◌≡◌, ℕ, zero, suc, ◌+◌, ◌-◌, ◌*◌, ◌<◌, ◌≤◌, ◌⊎◌, ◌&&◌, ◌==◌, Bool, true, false, nat_le, nat_lt, min, max, List, [], ◌∷◌, length, Contains, slice_index, refl, if◌then◌else◌}
 use Rattle.std.specs.List.{AllByRecursion, cons_option, filter_map, list_any}
 use Rattle.std.specs.declared.option.Option.{Option}
 use Rattle.std.specs.declared.option.Option.TheVariants.{Some, None}
 use Rattle.std.proofs.Common.{ap, sym, subst, ◌∙◌, inl, inr, arith}
-use Rattle.std.proofs.lemmas.Bool.{eqb-true, eq-eqb, leb-true, leb-false, le-leb, or_left, or_right}
+use Rattle.std.proofs.lemmas.Bool.{leb-true, leb-false, le-leb, or_left, or_right}
 use Rattle.cc_traits.specs.Log.{LogEntry}
 use Rattle.cc_format.specs.declared.log.OldestRow.{OldestRow}
 use Rattle.cc_redo.specs.Changes.{byte_after, byte_by}
-use Rattle.cc_redo.specs.Heard.{Change, change_said, end_of, from_behind, from_of, from_said, is_given, oldest_in, raised, reading, readings, redone_by, redone_of, valid_behind, valid_of}
+use Rattle.cc_redo.specs.Heard.{Change, change_said, end_of, from_behind, from_said, is_given, oldest_in, raised, reading, readings, redone_by, redone_of, valid_behind}
 use Rattle.cc_redo.specs.Reading.{said_by}
 use Rattle.cc_redo.specs.declared.record.LogRecord.{LogRecord}
 use Rattle.cc_redo.specs.declared.record.LogRecord.TheVariants.{Update, Checkpoint}
 use Rattle.cc_redo.specs.declared.redo.Redo.{Redo}
-use Rattle.cc_restart_laws.specs.Stops.{AreAscending, updates_in, valid_after}
+use Rattle.cc_restart_laws.specs.Stops.{AreAscending, valid_after}
 
 -- one of a list
 abbrev pub IsAmong : {A : Type 0} → List A → A → Type 0

@@ -1,5 +1,5 @@
 -- Before a page goes to the disk, the log was flushed to the records of all its changes.
-use Rattle.std.specs.Prelude.{◌≡◌, ℕ, suc, ◌+◌, ◌*◌, ◌<◌, ◌≤◌, ◌⊎◌, Bool, true, false, ◌==◌, List, [], ◌∷◌, ◌++◌, length, max, refl}
+use Rattle.std.specs.Prelude.{◌≡◌, ℕ, suc, ◌≤◌, ◌⊎◌, Bool, true, false, ◌==◌, List, [], ◌∷◌, length, refl}
 use Rattle.std.specs.List.{cons_option}
 use Rattle.std.specs.Option.{option_map}
 use Rattle.std.specs.declared.option.Option.{Option}
@@ -7,10 +7,7 @@ use Rattle.std.specs.declared.option.Option.TheVariants.{Some, None}
 use Rattle.std.proofs.Common.{ap, sym, subst, ◌∙◌, inl, inr, arith}
 use Rattle.std.proofs.lemmas.Bool.{eqb-true, eq-eqb}
 use Rattle.cc_entry.specs.Pages.{has_page}
-use Rattle.cc_entry.specs.Place.{Page, Range}
-use Rattle.cc_entry.specs.declared.call.Call.{Call}
 use Rattle.cc_entry.specs.declared.call.Call.TheVariants as call
-use Rattle.cc_entry.specs.declared.entry.End.{End}
 use Rattle.cc_entry.specs.declared.entry.Entry.{Entry}
 use Rattle.cc_entry.specs.declared.entry.Entry.TheVariants as entry
 use Rattle.cc_entry.specs.declared.reply.Outcome.TheVariants as outcome
@@ -21,19 +18,19 @@ use Rattle.cc_laws.proofs.TouchSteps.{touches-stamps, touches-came_in, touches-w
 use Rattle.cc_model.specs.Covered.{FlushedUpTo, IsLogged}
 use Rattle.cc_model.specs.Good.{IsGoodSoFar}
 use Rattle.cc_model.specs.History.{Effect, Did, CameIn, WentOut, Began, Ended, Synced, effect_of, history}
-use Rattle.cc_model.specs.Holds.{Hold, hold_at, holds_of, range_held}
-use Rattle.cc_model.specs.Logs.{flush_of, flushed_to}
+use Rattle.cc_model.specs.Holds.{Hold, hold_at, holds_of}
+use Rattle.cc_model.specs.Logs.{flushed_to}
 use Rattle.cc_model.specs.Passes.{is_mine}
 use Rattle.cc_model.specs.Settings.{log_of}
 use Rattle.cc_model.specs.Setup.{Setup}
 use Rattle.cc_model.specs.Sizes.{hold_has}
-use Rattle.cc_model.specs.Stamps.{is_unstamped, lsns_among, lsns_of, newest_of}
+use Rattle.cc_model.specs.Stamps.{newest_of}
 use Rattle.cc_model.specs.Touches.{touches, unwritten}
-use Rattle.cc_restart_laws.proofs.Entries.{IsBegin, began-entry, did-entry, good-tail, logged, updated-head, updated-rest, updated-tail}
+use Rattle.cc_restart_laws.proofs.Entries.{IsBegin, began-entry, did-entry, good-tail, logged, updated-head, updated-tail}
 use Rattle.cc_restart_laws.proofs.Orders.{IsChange, IsChangeBy}
-use Rattle.cc_restart_laws.proofs.Records.{IsHeldPin, IsOwing, held-page, log-stays, owing-of, range_of, recorded-log, unstamped-of}
-use Rattle.cc_restart_laws.proofs.Stamped.{IsBetween, has_stamp, stamp-between, stamp-did, stamp-new, stamp-open}
-use Rattle.cc_restart_laws.specs.Updates.{HasRecord, HasWritten, IsStamp, IsUpdated, Updating}
+use Rattle.cc_restart_laws.proofs.Records.{held-page, log-stays, owing-of, range_of, recorded-log, unstamped-of}
+use Rattle.cc_restart_laws.proofs.Stamped.{has_stamp, stamp-between, stamp-did, stamp-new, stamp-open}
+use Rattle.cc_restart_laws.specs.Updates.{HasWritten, IsStamp, IsUpdated, Updating}
 
 -- A change of a page waits for its set-dirty, or its record is flushed, or its stamp is not yet in a transfer.
 abbrev pub IsSafe : ℕ → ℕ → Updating → ℕ → List Entry → Type 0

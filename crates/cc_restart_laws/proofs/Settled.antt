@@ -1,9 +1,9 @@
 -- What a crash may leave of a page that was settled since its stream was initialised: no opening page.
-use Rattle.std.specs.Prelude.{◌≡◌, ℕ, ◌⊎◌, Bool, true, false, ◌==◌, ◌&&◌, ◌||◌, List, [], ◌∷◌, ◌++◌, Contains, is_some, refl}
+use Rattle.std.specs.Prelude.{◌≡◌, ℕ, Bool, true, false, ◌==◌, ◌&&◌, ◌||◌, List, [], ◌∷◌, Contains, is_some, refl}
 use Rattle.std.specs.List.{cons_option}
 use Rattle.std.specs.declared.option.Option.{Option}
 use Rattle.std.specs.declared.option.Option.TheVariants.{Some, None}
-use Rattle.std.proofs.Common.{ap, sym, subst, ◌∙◌, inl, inr, arith}
+use Rattle.std.proofs.Common.{ap, sym, subst, ◌∙◌, inr}
 use Rattle.std.proofs.lemmas.Bool.{and_parts}
 use Rattle.cc_entry.specs.declared.entry.End.{End}
 use Rattle.cc_entry.specs.declared.entry.Entry.{Entry}
@@ -14,12 +14,12 @@ use Rattle.cc_laws.proofs.SteadyPasts.{IsSteady-good}
 use Rattle.cc_model.specs.Bytes.{page_bytes}
 use Rattle.cc_model.specs.Good.{IsGoodSoFar}
 use Rattle.cc_model.specs.History.{Effect, Did, CameIn, WentOut, Began, Ended, Synced, effect_of, history}
-use Rattle.cc_model.specs.Images.{Transfer, begun, crash_pages, image, open_of}
+use Rattle.cc_model.specs.Images.{Transfer, begun, image, open_of}
 use Rattle.cc_model.specs.Records.{is_settled, is_stored}
 use Rattle.cc_model.specs.Setup.{Setup}
 use Rattle.cc_model.specs.Sizes.{ended_ok}
 use Rattle.cc_restart_laws.proofs.Entries.{IsBegin, good-tail, updated-tail}
-use Rattle.cc_restart_laws.proofs.Fronts.{AreBegun, CrashLeaves, IsKnownAs, IsLeft, begun-step, crash-step, known-step, one-alone}
+use Rattle.cc_restart_laws.proofs.Fronts.{AreBegun, CrashLeaves, IsKnownAs, begun-step, crash-step, known-step, one-alone}
 use Rattle.cc_restart_laws.proofs.Walks.{Front, IsFrontOf, begun-front, front-tail}
 use Rattle.cc_restart_laws.specs.Updates.{IsUpdated}
 
@@ -61,9 +61,10 @@ module _ (u : Setup) (s log p : ℕ) (whole : List Entry) (pages : ℕ → List 
     begins = begun-step ⊥ (Front u s log p whole) pages s p e past may (Some x) effect k.begins;
     stored = λ is. let before = k.stored (sym stored ∙ is) in (known-step ⊥ (Front u s log p whole) pages s p e past (Some x) effect k.begins before.0, ap is_some images ∙ before.1);
     settled = λ is.
-        let before = k.settled (sym settled ∙ is) in
-        (known-step ⊥ (Front u s log p whole) pages s p e past (Some x) effect k.begins before.0,
-        crash-step ⊥ (Front u s log p whole) pages s p e past may (Some x) effect before.0 before.1);
+        let before = k.settled (sym settled ∙ is) in (
+          known-step ⊥ (Front u s log p whole) pages s p e past (Some x) effect k.begins before.0,
+          crash-step ⊥ (Front u s log p whole) pages s p e past may (Some x) effect before.0 before.1,
+        );
   }
 
   -- the page's transfer ended well: the image is the page at its begin
@@ -84,9 +85,10 @@ module _ (u : Setup) (s log p : ℕ) (whole : List Entry) (pages : ℕ → List 
     begins = begun-step ⊥ (Front u s log p whole) pages s p e past may (Some (Ended pass page how)) effect k.begins;
     stored = λ is. stored (page == p) refl (ended_ok how) refl is;
     settled = λ is.
-        let before = k.settled is in
-        (known-step ⊥ (Front u s log p whole) pages s p e past (Some (Ended pass page how)) effect k.begins before.0,
-        crash-step ⊥ (Front u s log p whole) pages s p e past may (Some (Ended pass page how)) effect before.0 before.1);
+        let before = k.settled is in (
+          known-step ⊥ (Front u s log p whole) pages s p e past (Some (Ended pass page how)) effect k.begins before.0,
+          crash-step ⊥ (Front u s log p whole) pages s p e past may (Some (Ended pass page how)) effect before.0 before.1,
+        );
   }
     where
       stored : (b : Bool) → (page == p) ≡ b → (c : Bool) → ended_ok how ≡ c → elim b [ true ↦ ended_ok how | false ↦ is_stored (history past s) p ] ≡ true →
@@ -124,9 +126,10 @@ module _ (u : Setup) (s log p : ℕ) (whole : List Entry) (pages : ℕ → List 
           let before = k.stored parts.1 in
           (known-step ⊥ (Front u s log p whole) pages s p e past (Some (Synced pass how)) effect k.begins before.0, synced-crash pass how (history past s) parts.0 before.0 before.1)
       settled false neither is =
-          let before = k.settled is in
-          (known-step ⊥ (Front u s log p whole) pages s p e past (Some (Synced pass how)) effect k.begins before.0,
-          crash-step ⊥ (Front u s log p whole) pages s p e past may (Some (Synced pass how)) effect before.0 before.1)
+          let before = k.settled is in (
+            known-step ⊥ (Front u s log p whole) pages s p e past (Some (Synced pass how)) effect k.begins before.0,
+            crash-step ⊥ (Front u s log p whole) pages s p e past may (Some (Synced pass how)) effect before.0 before.1,
+          )
 
   step : (e : Entry) (past : List Entry) (o : Option Effect) → effect_of e s ≡ o → IsGoodSoFar u (e ∷ past) → ((pass : ℕ) → IsBegin e s pass p → Front u s log p whole past) → IsSettling (history past s) → IsSettling (cons_option o (history past s))
   unfolding is_stored is_settled

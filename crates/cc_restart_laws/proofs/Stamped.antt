@@ -1,17 +1,14 @@
 -- Touches with the LSN of an update: how they stay until the page is written.
-use Rattle.std.specs.Prelude.{◌≡◌, ℕ, suc, ◌+◌, ◌*◌, ◌<◌, ◌≤◌, ◌⊎◌, Bool, true, false, not, ◌==◌, ◌&&◌, ◌||◌, nat_le, nat_lt, List, [], ◌∷◌, ◌++◌, length, min, max, refl, if◌then◌else◌}
-use Rattle.std.specs.List.{cons_option, list_any}
-use Rattle.std.specs.Option.{option_map}
+use Rattle.std.specs.Prelude.{◌≡◌, ℕ, suc, ◌+◌, ◌*◌, ◌≤◌, Bool, true, false, ◌==◌, ◌&&◌, ◌||◌, nat_le, nat_lt, List, [], ◌∷◌, length, min, max, refl, if◌then◌else◌}
+use Rattle.std.specs.List.{list_any}
 use Rattle.std.specs.declared.option.Option.{Option}
 use Rattle.std.specs.declared.option.Option.TheVariants.{Some, None}
-use Rattle.std.proofs.Common.{ap, sym, subst, ◌∙◌, inl, inr, arith}
+use Rattle.std.proofs.Common.{ap, sym, subst, ◌∙◌, arith}
 use Rattle.std.proofs.lemmas.Bool.{eqb-true, eq-eqb, or_right}
 use Rattle.cc_entry.specs.Lsns.{alone, joined}
 use Rattle.cc_entry.specs.Pages.{has_page}
-use Rattle.cc_entry.specs.Place.{File, Range}
+use Rattle.cc_entry.specs.Place.{File}
 use Rattle.cc_entry.specs.declared.call.Call.{Call}
-use Rattle.cc_entry.specs.declared.call.Call.TheVariants as call
-use Rattle.cc_entry.specs.declared.entry.End.{End}
 use Rattle.cc_entry.specs.declared.entry.Entry.{Entry}
 use Rattle.cc_entry.specs.declared.entry.Entry.TheVariants as entry
 use Rattle.cc_entry.specs.declared.reply.Outcome.TheVariants as outcome
@@ -21,20 +18,20 @@ use Rattle.cc_laws.proofs.HistorySteps.{history-effect}
 use Rattle.cc_laws.proofs.Lists1.{among-not_empty}
 use Rattle.cc_laws.proofs.ObjectSteps.{had_map-closes, objects-closes}
 use Rattle.cc_laws.proofs.SteadyPasts.{IsSteady-good}
-use Rattle.cc_laws.proofs.TouchSteps.{touches-opens, touches-closes, touches-resizes, touches-writes, touches-zeroes, touches-stores, touches-stamps, touches-discards, touches-looks, touches-came_in, touches-went_out, touches-synced, touches-began_open, touches-began_written, touches-began_other, touches-ended_after, touches-ended_good, touches-ended_bad, touches-ended_other}
+use Rattle.cc_laws.proofs.TouchSteps.{touches-opens, touches-closes, touches-resizes, touches-writes, touches-zeroes, touches-stores, touches-stamps, touches-discards, touches-looks, touches-began_written, touches-began_other, touches-ended_after, touches-ended_good, touches-ended_bad, touches-ended_other}
 use Rattle.cc_model.specs.Acts.{Act, act_of, Opens, Closes, Resizes, Writes, Zeroes, Stores, Stamps, Discards, Looks}
 use Rattle.cc_model.specs.Good.{IsGoodSoFar}
-use Rattle.cc_model.specs.History.{Effect, Did, CameIn, WentOut, Began, Ended, Synced, effect_of, history}
+use Rattle.cc_model.specs.History.{Effect, Did, CameIn, WentOut, Began, Ended, Synced, history}
 use Rattle.cc_model.specs.Holds.{hold_at, holds_of}
 use Rattle.cc_model.specs.Numbers.{is_among, is_empty, without}
 use Rattle.cc_model.specs.Objects.{had_map, objects, truncation}
 use Rattle.cc_model.specs.Ranges.{span_has}
 use Rattle.cc_model.specs.Setup.{Setup}
 use Rattle.cc_model.specs.Sizes.{Touch, cut_if, dropped_if, ended_ok, hold_has, stored_range, touched_if}
-use Rattle.cc_model.specs.Stamps.{is_log, lsns_among, lsns_of, newest_of}
+use Rattle.cc_model.specs.Stamps.{is_log, lsns_among}
 use Rattle.cc_model.specs.Touches.{size_of, touches}
-use Rattle.cc_restart_laws.proofs.Entries.{did-entry, good-tail, updated-head}
-use Rattle.cc_restart_laws.specs.Updates.{IsUpdated, IsUpdatedBy, MayAct, MayDo}
+use Rattle.cc_restart_laws.proofs.Entries.{good-tail, updated-head}
+use Rattle.cc_restart_laws.specs.Updates.{IsUpdated, MayAct, MayDo}
 
 -- whether one of the touches has the LSN
 abbrev pub has_stamp : ℕ → List Touch → Bool

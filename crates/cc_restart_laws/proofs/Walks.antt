@@ -1,5 +1,5 @@
 -- What is said of each begin of a page's transfer, and from there of all that a crash may leave of the page.
-use Rattle.std.specs.Prelude.{◌≡◌, ℕ, ◌+◌, ◌*◌, ◌<◌, ◌≤◌, ◌⊎◌, Bool, true, false, not, ◌==◌, List, [], ◌∷◌, ◌++◌, Contains, is_some, refl, if◌then◌else◌}
+use Rattle.std.specs.Prelude.{◌≡◌, ℕ, ◌≤◌, ◌⊎◌, Bool, true, false, not, ◌==◌, List, [], ◌∷◌, ◌++◌, Contains, is_some, refl, if◌then◌else◌}
 use Rattle.std.specs.declared.option.Option.{Option}
 use Rattle.std.specs.declared.option.Option.TheVariants.{Some, None}
 use Rattle.std.proofs.Common.{ap, sym, subst, ◌∙◌, inl, inr, arith, append_assoc}
@@ -16,7 +16,7 @@ use Rattle.cc_laws.proofs.Steady.{IsSteady}
 use Rattle.cc_laws.proofs.SteadyPasts.{IsSteady-good}
 use Rattle.cc_model.specs.Discards.{is_known}
 use Rattle.cc_model.specs.Good.{IsGoodSoFar}
-use Rattle.cc_model.specs.History.{Effect, Did, CameIn, WentOut, Began, Ended, Synced, effect_of, history}
+use Rattle.cc_model.specs.History.{Effect, Began, effect_of, history}
 use Rattle.cc_model.specs.Images.{begun, crash_pages, image}
 use Rattle.cc_model.specs.Logs.{flushed_to}
 use Rattle.cc_model.specs.Numbers.{is_empty}
@@ -24,7 +24,7 @@ use Rattle.cc_model.specs.Objects.{had_map}
 use Rattle.cc_model.specs.Setup.{Setup}
 use Rattle.cc_model.specs.Touches.{is_dirty, unwritten}
 use Rattle.cc_restart_laws.proofs.Entries.{IsBegin, good-tail, updated-tail}
-use Rattle.cc_restart_laws.proofs.Fronts.{AreBegun, CrashLeaves, IsBegunAt, IsKnownAs, IsLeft, IsSince, IsWrittenAt, begun-step, crash-step, known-step, since-step}
+use Rattle.cc_restart_laws.proofs.Fronts.{AreBegun, CrashLeaves, IsKnownAs, IsSince, begun-step, crash-step, known-step, since-step}
 use Rattle.cc_restart_laws.proofs.Orders.{IsChange}
 use Rattle.cc_restart_laws.proofs.Records.{flushed-grows, range_of}
 use Rattle.cc_restart_laws.proofs.Safe.{change-flushed, logged-at}

@@ -23,6 +23,12 @@ pub record IsKept (durable : ℕ) (all kept : List LogEntry) : Type 0 where
   pub splits : all ≡ kept ++ rest
   pub beyond : AllByRecursion (λ entry. durable < entry.lsn) rest
 
+-- So of a log that had entries before, which are all durable: what it keeps begins with them.
+pub record KeepsBehind (durable : ℕ) (begun appended all : List LogEntry) : Type 0 where
+  pub kept : List LogEntry
+  pub is : all ≡ begun ++ kept
+  pub keeps : IsKept durable appended kept
+
 -- A stream is given to a restart with its size, and with a valid data length that it may be told to have: that of its first
 -- initialise, or one that a record of it told since.
 pub record IsGivenAs (s first : ℕ) (past : List Entry) (redo : Redo) : Type 0 where

@@ -1,21 +1,22 @@
 //! What follows of a stop and a restart. Each function does nothing: its contract is the law.
 
 ghost use Rattle.std.specs.Prelude.{◌≡◌, ℕ, ◌*◌, ◌<◌, ◌≤◌, List, ◌++◌, length, Contains};
+ghost use Rattle.std.specs.List.{AllByRecursion};
 ghost use Rattle.cc_entry.specs.declared.entry.Entry.{Entry};
-ghost use Rattle.cc_log.specs.Turn.{appended};
+ghost use Rattle.cc_log.specs.Turn.{Holds, appended};
 ghost use Rattle.cc_model.specs.Good.{IsGoodSoFar};
 ghost use Rattle.cc_model.specs.History.{history};
 ghost use Rattle.cc_model.specs.Images.{crash_pages};
 ghost use Rattle.cc_model.specs.Logs.{flushed_to};
 ghost use Rattle.cc_model.specs.Setup.{Setup};
 ghost use Rattle.cc_traits.specs.Disk.{Disk, may_of, page_of};
-ghost use Rattle.cc_traits.specs.Log.{LogEntry};
+ghost use Rattle.cc_traits.specs.Log.{Log, LogEntry};
 ghost use Rattle.cc_redo.specs.Disks.{IsBetween, IsMade, Was};
 ghost use Rattle.cc_redo.specs.Ends.{made_from};
-ghost use Rattle.cc_redo.specs.Heard.{readings, valid_of};
+ghost use Rattle.cc_redo.specs.Heard.{is_given, readings, valid_of};
 ghost use Rattle.cc_redo.specs.declared.redo.Redo.{Redo};
 ghost use Rattle.cc_restart_laws.specs.Updates.{IsUpdated};
-ghost use Rattle.cc_restart_laws.specs.Stops.{HadBegun, IsGivenAs, IsKept, MakesFile, file_byte, pages_redone, updated_byte, updates_in};
+ghost use Rattle.cc_restart_laws.specs.Stops.{HadBegun, IsGivenAs, IsKept, KeepsBehind, MakesFile, file_byte, pages_redone, updated_byte, updates_in};
 
 /// Wherever a run stops whose journal is good and whose log had no entry at first: if a stream changes by updates alone, each
 /// with its record in the log, each page of its disk is left as a crash may leave it, and the log keeps its first entries, all
@@ -40,7 +41,7 @@ pub fn stopped_runs_are_redone()
 /// The same of a run that began with a restart of its log: the updates of the entries that the log had then, and those of the
 /// kept entries behind them, are applied to the file from which that restart made the opening file.
 pub fn restarted_runs_are_redone()
-    ensures { (u : Setup) (past : List Entry) (s log first durable : ℕ) (pages : ℕ → List ℕ) → s < 16 →
+    ensures file { (u : Setup) (past : List Entry) (s log first durable : ℕ) (pages : ℕ → List ℕ) → s < 16 →
         IsGoodSoFar u past → IsUpdated s log past → ((p : ℕ) → length (pages p) ≡ 4096) →
         (streams : List Redo) (redo : Redo) → Contains streams redo → IsGivenAs s first past redo →
         (kept : List LogEntry) → flushed_to past log ≤ durable → IsKept durable (appended past log) kept →
@@ -49,10 +50,19 @@ pub fn restarted_runs_are_redone()
         (disk : ℕ → List ℕ) → ((p : ℕ) → 4096 * p < redo.size → Contains (crash_pages pages (history past s) p) (disk p)) →
         (i : ℕ) → file_byte (pages_redone streams (begun ++ kept) redo disk) (valid_of (readings (begun ++ kept)) redo) i
         ≡ updated_byte old_pages old_first (updates_in redo (begun ++ kept)) i }
+    ensures page { (u : Setup) (past : List Entry) (s log first durable : ℕ) (pages : ℕ → List ℕ) → s < 16 →
+        IsGoodSoFar u past → IsUpdated s log past → ((p : ℕ) → length (pages p) ≡ 4096) →
+        (streams : List Redo) (redo : Redo) → Contains streams redo → IsGivenAs s first past redo →
+        (kept : List LogEntry) → flushed_to past log ≤ durable → IsKept durable (appended past log) kept →
+        (begun : List LogEntry) (old_pages : ℕ → List ℕ) (old_first : ℕ) →
+        HadBegun redo begun (appended past log) pages first old_pages old_first →
+        (page : ℕ) (bytes : List ℕ) → 4096 * page < redo.size → Contains (crash_pages pages (history past s) page) bytes →
+        MakesFile streams (begun ++ kept) redo old_pages old_first page bytes }
 {}
 
 /// A restart that is done over pages of which it makes the file leaves that file on the disk. One that stopped leaves pages of
-/// which the next one makes it, whatever a crash leaves of them, if it was so of all that the page could be before.
+/// which the next one makes it, whatever a crash leaves of them, if it was so of all that the page could be before; also where
+/// that one is given the valid data length to which the updates raised it.
 pub fn restarts_make_the_file()
     ensures made { (streams : List Redo) (kept : List LogEntry) (redo : Redo) (pages : ℕ → List ℕ) (first : ℕ) (old new : Disk) →
         ((p : ℕ) → 4096 * p < redo.size → MakesFile streams kept redo pages first p (page_of old p)) →
@@ -63,4 +73,17 @@ pub fn restarts_make_the_file()
         IsBetween (made_from streams (readings kept) redo old) old new → (p : ℕ) → 4096 * p < redo.size →
         ((bytes : List ℕ) → Was old p bytes → MakesFile streams kept redo pages first p bytes) →
         (bytes : List ℕ) → Contains (may_of new p) bytes → MakesFile streams kept redo pages first p bytes }
+    ensures raised { (streams others : List Redo) (kept : List LogEntry) (redo later : Redo) (pages : ℕ → List ℕ) (first : ℕ) →
+        later.stream ≡ redo.stream → later.size ≡ redo.size → later.valid ≡ valid_of (readings kept) redo →
+        ((n : ℕ) → is_given others n ≡ is_given streams n) → (page : ℕ) (bytes : List ℕ) →
+        MakesFile streams kept redo pages first page bytes → MakesFile others kept later pages first page bytes }
+{}
+
+/// What a run leaves of its log, as its devices tell it, and what a stop keeps of that: the entries that it had at first, if all
+/// of them are durable, and behind them the first of those that the run appended, all durable ones among them.
+pub fn logs_keep_what_is_durable()
+    ensures { (past : List Entry) (log : ℕ) (begun now : Log) (all : List LogEntry) →
+        Holds (appended past log) (flushed_to past log) begun now →
+        AllByRecursion (λ entry. entry.lsn ≤ now.durable) begun.entries → IsKept now.durable now.entries all →
+        KeepsBehind now.durable begun.entries (appended past log) all }
 {}

@@ -6,4 +6,4 @@
 
 mod laws;
 
-pub use laws::{restarted_runs_are_redone, restarts_make_the_file, stopped_runs_are_redone};
+pub use laws::{logs_keep_what_is_durable, restarted_runs_are_redone, restarts_make_the_file, stopped_runs_are_redone};
