@@ -17,3 +17,4 @@ pub mod Files
 pub mod Again
 pub mod Raised
 pub mod Left
+pub mod Told

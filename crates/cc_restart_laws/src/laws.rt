@@ -1,14 +1,19 @@
 //! What follows of a stop and a restart. Each function does nothing: its contract is the law.
 
-ghost use Rattle.std.specs.Prelude.{◌≡◌, ℕ, ◌*◌, ◌<◌, ◌≤◌, List, ◌++◌, length, Contains};
+ghost use Rattle.std.specs.Prelude.{◌≡◌, ℕ, ◌+◌, ◌*◌, ◌<◌, ◌≤◌, true, Option, List, ◌++◌, length, Contains};
 ghost use Rattle.std.specs.List.{AllByRecursion};
 ghost use Rattle.cc_entry.specs.declared.entry.Entry.{Entry};
+ghost use Rattle.cc_format.specs.Spelling.{IsReadAs};
+ghost use Rattle.cc_format.specs.declared.record.StreamRecord.{StreamRecord};
 ghost use Rattle.cc_log.specs.Turn.{Holds, appended};
 ghost use Rattle.cc_model.specs.Good.{IsGoodSoFar};
 ghost use Rattle.cc_model.specs.History.{history};
 ghost use Rattle.cc_model.specs.Images.{crash_pages};
 ghost use Rattle.cc_model.specs.Logs.{flushed_to};
+ghost use Rattle.cc_model.specs.Objects.{had_map};
+ghost use Rattle.cc_model.specs.Records.{crash_records, first_valid, is_settled};
 ghost use Rattle.cc_model.specs.Setup.{Setup};
+ghost use Rattle.cc_records.specs.Recorded.{told_valid};
 ghost use Rattle.cc_traits.specs.Disk.{Disk, may_of, page_of};
 ghost use Rattle.cc_traits.specs.Log.{Log, LogEntry};
 ghost use Rattle.cc_redo.specs.Disks.{IsBetween, IsMade, Was};
@@ -86,4 +91,15 @@ pub fn logs_keep_what_is_durable()
         Holds (appended past log) (flushed_to past log) begun now →
         AllByRecursion (λ entry. entry.lsn ≤ now.durable) begun.entries → IsKept now.durable now.entries all →
         KeepsBehind now.durable begun.entries (appended past log) all }
+{}
+
+/// Whatever a crash leaves of a stream's record page, the valid data length that it then tells may be given to a restart
+/// (`IsGivenAs`), as far as that asks for pages that are settled: the record that was there at first told no more than the first
+/// initialise made valid, if it told any.
+pub fn records_tell_what_may_be_given()
+    ensures { (u : Setup) (past : List Entry) (s first : ℕ) → IsGoodSoFar u past →
+        (had_map (history past s) ≡ true → first_valid (history past s) ≡ first) →
+        (opening content : List ℕ) (before read : Option StreamRecord) → IsReadAs opening before → told_valid before ≤ first →
+        Contains (crash_records opening past s) content → IsReadAs content read → (p : ℕ) → first < told_valid read →
+        first < 4096 * p + 4096 → 4096 * p < told_valid read → is_settled (history past s) p ≡ true }
 {}

@@ -6,4 +6,7 @@
 
 mod laws;
 
-pub use laws::{logs_keep_what_is_durable, restarted_runs_are_redone, restarts_make_the_file, stopped_runs_are_redone};
+pub use laws::{
+    logs_keep_what_is_durable, records_tell_what_may_be_given, restarted_runs_are_redone,
+    restarts_make_the_file, stopped_runs_are_redone,
+};
