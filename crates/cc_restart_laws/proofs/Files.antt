@@ -39,7 +39,7 @@ redone-append redo from (entry ∷ first) rest =
     ap (cons_option (redone_by redo from (reading entry))) (redone-append redo from first rest)
     ∙ option-append (redone_by redo from (reading entry)) (redone_of redo from (readings first)) (redone_of redo from (readings rest))
 
-updates-append : (redo : Redo) (first rest : List LogEntry) → updates_in redo (first ++ rest) ≡ updates_in redo first ++ updates_in redo rest
+pub updates-append : (redo : Redo) (first rest : List LogEntry) → updates_in redo (first ++ rest) ≡ updates_in redo first ++ updates_in redo rest
 updates-append redo [] rest = refl
 updates-append redo (entry ∷ first) rest =
     ap (cons_option (change_said redo (said_by entry.bytes))) (updates-append redo first rest)
@@ -71,7 +71,7 @@ passed-all redo from page place byte (entry ∷ entries) early =
 module _ (u : Setup) (whole : List Entry) (s log first durable : ℕ) (pages : ℕ → List ℕ) (below : s < 16) (good : IsGoodSoFar u whole) (updated : IsUpdated s log whole) (long : (p : ℕ) → length (pages p) ≡ 4096)
     (streams : List Redo) (redo : Redo) (handed : Contains streams redo) (given : IsGivenAs s first whole redo) (kept : List LogEntry) (flushed : flushed_to whole log ≤ durable) (keeps : IsKept durable (appended whole log) kept)
     (begun : List LogEntry) (pages0 : ℕ → List ℕ) (first0 : ℕ) (ascending : AreAscending begun) (apart : (x y : LogEntry) → IsAmong begun x → IsAmong kept y → x.lsn < y.lsn)
-    (reached : first ≡ valid_after (updates_in redo begun) first0) (i : ℕ) (opening : file_byte pages first i ≡ updated_byte pages0 first0 (updates_in redo begun) i)
+    (reached : valid_after (updates_in redo begun) first0 ≤ first) (i : ℕ) (opening : i < redo.size → file_byte pages first i ≡ updated_byte pages0 first0 (updates_in redo begun) i)
     (disk : ℕ → List ℕ) (left : 4096 * (i / 4096) < redo.size → Contains (crash_pages pages (history whole s) (i / 4096)) (disk (i / 4096))) where
   abbrev from : ℕ
   from = from_of streams (readings (begun ++ kept))
@@ -99,12 +99,12 @@ module _ (u : Setup) (whole : List Entry) (s log first durable : ℕ) (pages : �
 
   -- ---- the valid data lengths
 
-  reached-is : first ≡ valid_behind (readings begun) redo first0
-  reached-is = reached ∙ valid-same redo begun first0
+  reached-is : valid_behind (readings begun) redo first0 ≤ first
+  reached-is = let is = valid-same redo begun first0 in let le = reached in omega (arith, is, le)
 
-  -- what the opening file has by the entries before it is within its valid data
-  begun-ends : EndsBehind redo begun i → i < first
-  begun-ends k = let ends = valid-ends redo begun first0 k.entry k.change k.among k.said in let is = reached-is in let lt = k.below in omega (arith, ends, is, lt)
+  -- what the opening file has by the entries before it is within the valid data that they made
+  begun-ends : EndsBehind redo begun i → i < valid_after (updates_in redo begun) first0
+  begun-ends k = let ends = valid-ends redo begun first0 k.entry k.change k.among k.said in let is = valid-same redo begun first0 in let lt = k.below in omega (arith, ends, is, lt)
 
   begun-valid : valid_behind (readings begun) redo redo.valid ≡ redo.valid
   begun-valid = go (nat_lt redo.valid (valid_behind (readings begun) redo redo.valid)) refl
@@ -128,10 +128,10 @@ module _ (u : Setup) (whole : List Entry) (s log first durable : ℕ) (pages : �
   made-is : valid_behind (readings (begun ++ kept)) redo redo.valid ≡ valid_behind (readings kept) redo redo.valid
   made-is = behind-append redo begun kept redo.valid ∙ ap (valid_behind (readings kept) redo) begun-valid
 
-  file-is : valid_after (updates_in redo (begun ++ kept)) first0 ≡ valid_behind (readings kept) redo first
+  file-is : valid_after (updates_in redo (begun ++ kept)) first0 ≡ valid_behind (readings kept) redo (valid_after (updates_in redo begun) first0)
   file-is =
       ap (λ (l : List Change). valid_after l first0) (updates-append redo begun kept)
-      ∙ (raised-append (updates_in redo begun) (updates_in redo kept) first0 ∙ (ap (valid_after (updates_in redo kept)) (sym reached) ∙ valid-same redo kept first))
+      ∙ (raised-append (updates_in redo begun) (updates_in redo kept) first0 ∙ valid-same redo kept (valid_after (updates_in redo begun) first0))
 
   -- ---- the bytes
 
@@ -153,21 +153,61 @@ module _ (u : Setup) (whole : List Entry) (s log first durable : ℕ) (pages : �
         made-byte u whole s log first durable pages below good updated long streams redo handed given kept flushed keeps settled-left from check-of i disk left inside (redone_of redo from (readings (begun ++ kept)))
         ∙ redone-is byte
 
-    below-first : IsUngiven redo from (i / 4096) (i % 4096) kept → i < valid_behind (readings kept) redo first → i < first
-    below-first none lt = go (nat_lt i first) refl (valid-cases redo kept first i lt)
+    below-first : IsUngiven redo from (i / 4096) (i % 4096) kept → i < valid_behind (readings kept) redo (valid_after (updates_in redo begun) first0) → i < first
+    below-first none lt = go (nat_lt i first) refl (valid-cases redo kept (valid_after (updates_in redo begun) first0) i lt)
       where
-        go : (b : Bool) → nat_lt i first ≡ b → (i < first) ⊎ EndsBehind redo kept i → i < first
-        go b is (inl it) = it
+        go : (b : Bool) → nat_lt i first ≡ b → (i < valid_after (updates_in redo begun) first0) ⊎ EndsBehind redo kept i → i < first
+        go b is (inl it) = let le = reached in omega (arith, le, it)
         go true is (inr ends) = ltb-true i first is
         go false is (inr ends) =
             absurd (none-ends u whole s log first durable pages below good updated long streams redo handed given kept flushed keeps settled-left from check-of i none (ltb-false i first is) ends)
 
+    -- past what the entries before it made valid, they give no byte
+    past-begun : valid_after (updates_in redo begun) first0 ≤ i → IsUngiven redo from (i / 4096) (i % 4096) begun
+    past-begun above = go (decided-so redo from (i / 4096) (i % 4096) begun ascending)
+      where
+        go : IsUngiven redo from (i / 4096) (i % 4096) begun ⊎ IsGivenBy redo from (i / 4096) (i % 4096) begun → IsUngiven redo from (i / 4096) (i % 4096) begun
+        go (inl k) = k
+        go (inr k) =
+            let lt = begun-ends (record { entry = k.entry; change = k.change; among = k.among; said = k.gives.0; below = covered-below k.change i k.gives.1 }) in
+            absurd (omega (arith, lt, above))
+
     -- where no kept update gives the byte, it is that of the opening file
-    opened : IsUngiven redo from (i / 4096) (i % 4096) kept → i < first → byte ≡ byte_after (updates_in redo begun) (i / 4096) (i % 4096) (file_byte pages0 first0 i)
-    opened none lt =
+    opening-is : IsUngiven redo from (i / 4096) (i % 4096) kept → i < first → byte ≡ updated_byte pages0 first0 (updates_in redo begun) i
+    opening-is none lt =
         opening-byte u whole s log first durable pages below good updated long streams redo handed given kept flushed keeps settled-left from check-of i disk left inside none lt
-        ∙ (sym (chosen (nat_lt i first) (slice_index (pages (i / 4096)) (i % 4096)) 0 (lt-ltb i first lt))
-        ∙ (opening ∙ chosen (nat_lt i (valid_after (updates_in redo begun) first0)) _ 0 (lt-ltb i (valid_after (updates_in redo begun) first0) (let is = reached in omega (arith, lt, is)))))
+        ∙ (sym (chosen (nat_lt i first) (slice_index (pages (i / 4096)) (i % 4096)) 0 (lt-ltb i first lt)) ∙ opening inside)
+
+    zero-opened : IsUngiven redo from (i / 4096) (i % 4096) kept → i < first → valid_after (updates_in redo begun) first0 ≤ i → byte ≡ 0
+    zero-opened none lt above = opening-is none lt ∙ unchosen (nat_lt i (valid_after (updates_in redo begun) first0)) _ (over i (valid_after (updates_in redo begun) first0) above)
+      where
+        unchosen : (b : Bool) (x : ℕ) → b ≡ false → (if b then x else 0) ≡ 0
+        unchosen false x is = refl
+        unchosen true x is = absurd (cc)
+
+        over : (n v : ℕ) → v ≤ n → nat_lt n v ≡ false
+        over n v le = grind arith
+
+    opened : IsUngiven redo from (i / 4096) (i % 4096) kept → i < first → byte ≡ byte_after (updates_in redo begun) (i / 4096) (i % 4096) (file_byte pages0 first0 i)
+    opened none lt = go (nat_lt i (valid_after (updates_in redo begun) first0)) refl
+      where
+        base-zero : valid_after (updates_in redo begun) first0 ≤ i → file_byte pages0 first0 i ≡ 0
+        base-zero above =
+            unchosen (nat_lt i first0) _
+            (over i first0 (let least = valid-least redo begun first0 in let is = valid-same redo begun first0 in omega (arith, least, is, above)))
+          where
+            unchosen : (b : Bool) (x : ℕ) → b ≡ false → (if b then x else 0) ≡ 0
+            unchosen false x is = refl
+            unchosen true x is = absurd (cc)
+
+            over : (n v : ℕ) → v ≤ n → nat_lt n v ≡ false
+            over n v le = grind arith
+
+        go : (b : Bool) → nat_lt i (valid_after (updates_in redo begun) first0) ≡ b → byte ≡ byte_after (updates_in redo begun) (i / 4096) (i % 4096) (file_byte pages0 first0 i)
+        go true is = opening-is none lt ∙ chosen (nat_lt i (valid_after (updates_in redo begun) first0)) _ 0 is
+        go false is =
+            let above = ltb-false i (valid_after (updates_in redo begun) first0) is in
+            zero-opened none lt above ∙ (sym (base-zero above) ∙ sym ((past-begun above).all (file_byte pages0 first0 i)))
 
     -- what is redone of the entries before it makes the same of it
     before-same : (base : ℕ) → byte ≡ byte_after (updates_in redo begun) (i / 4096) (i % 4096) base →
@@ -203,50 +243,45 @@ module _ (u : Setup) (whole : List Entry) (s log first durable : ℕ) (pages : �
     -- past the file's valid data the byte is zero
     alone : IsUngiven redo from (i / 4096) (i % 4096) kept ⊎ IsGivenBy redo from (i / 4096) (i % 4096) kept → nat_lt i (valid_behind (readings (begun ++ kept)) redo redo.valid) ≡ true →
         nat_lt i (valid_after (updates_in redo (begun ++ kept)) first0) ≡ false → slice_index (page_after (redone_of redo from (readings (begun ++ kept))) (i / 4096) (disk (i / 4096))) (i % 4096) ≡ 0
-    alone (inl none) yields file =
-        made ∙ (none.redone _ ∙ (none-before ∙ zero-byte u whole s log first durable pages below good updated long streams redo handed given kept flushed keeps settled-left from check-of i disk left inside none above told))
+    alone (inl none) yields file = made ∙ (none.redone _ ∙ ((past-begun above-begun).redone byte ∙ go (nat_lt i first) refl))
       where
-        above : first ≤ i
-        above =
+        above-begun : valid_after (updates_in redo begun) first0 ≤ i
+        above-begun =
             let is = file-is in
-            let least = valid-least redo kept first in
+            let least = valid-least redo kept (valid_after (updates_in redo begun) first0) in
             let past_file = ltb-false i (valid_after (updates_in redo (begun ++ kept)) first0) file in
             omega (arith, is, least, past_file)
 
-        settled : (i < redo.valid) ⊎ EndsBehind redo kept i → is_settled (history whole s) (i / 4096) ≡ true
-        settled (inl lt) = let over = above in given.told (i / 4096) (omega (arith, lt, over)) (omega (arith, over)) (omega (arith, lt))
-        settled (inr ends) = absurd (none-ends u whole s log first durable pages below good updated long streams redo handed given kept flushed keeps settled-left from check-of i none above ends)
+        settled : first ≤ i → (i < redo.valid) ⊎ EndsBehind redo kept i → is_settled (history whole s) (i / 4096) ≡ true
+        settled above (inl lt) = given.told (i / 4096) (omega (arith, lt, above)) (omega (arith, above)) (omega (arith, lt))
+        settled above (inr ends) = absurd (none-ends u whole s log first durable pages below good updated long streams redo handed given kept flushed keeps settled-left from check-of i none above ends)
 
-        told : is_settled (history whole s) (i / 4096) ≡ true
-        told =
-            settled (valid-cases redo kept redo.valid i
+        told : first ≤ i → is_settled (history whole s) (i / 4096) ≡ true
+        told above =
+            settled above (valid-cases redo kept redo.valid i
             (let lt = ltb-true i (valid_behind (readings (begun ++ kept)) redo redo.valid) yields in let is = made-is in omega (arith, lt, is)))
 
-        none-before : byte_after (redone_of redo from (readings begun)) (i / 4096) (i % 4096) byte ≡ byte
-        none-before = go (decided-so redo from (i / 4096) (i % 4096) begun ascending)
-          where
-            go : IsUngiven redo from (i / 4096) (i % 4096) begun ⊎ IsGivenBy redo from (i / 4096) (i % 4096) begun → byte_after (redone_of redo from (readings begun)) (i / 4096) (i % 4096) byte ≡ byte
-            go (inl k) = k.redone byte
-            go (inr k) =
-                let lt : i < first = begun-ends (record { entry = k.entry; change = k.change; among = k.among; said = k.gives.0; below = covered-below k.change i k.gives.1 }) in
-                let over = above in
-                absurd (omega (arith, lt, over))
+        go : (b : Bool) → nat_lt i first ≡ b → byte ≡ 0
+        go true is = zero-opened none (ltb-true i first is) above-begun
+        go false is =
+            let above = ltb-false i first is in
+            zero-byte u whole s log first durable pages below good updated long streams redo handed given kept flushed keeps settled-left from check-of i disk left inside none above (told above)
     alone (inr last) yields file =
         let is = file-is in
-        let ends = valid-ends redo kept first last.entry last.change last.among last.gives.0 in
+        let ends = valid-ends redo kept (valid_after (updates_in redo begun) first0) last.entry last.change last.among last.gives.0 in
         let lt = last-ends u whole s log first durable pages below good updated long streams redo handed given kept flushed keeps settled-left from check-of i disk left inside last in
         let past_file = ltb-false i (valid_after (updates_in redo (begun ++ kept)) first0) file in
         absurd (omega (arith, is, ends, lt, past_file))
 
     file-alone : nat_lt i (valid_behind (readings (begun ++ kept)) redo redo.valid) ≡ false → nat_lt i (valid_after (updates_in redo (begun ++ kept)) first0) ≡ true → ⊥
     file-alone yields file =
-        go (valid-cases redo kept first i (let lt = ltb-true i (valid_after (updates_in redo (begun ++ kept)) first0) file in let is = file-is in omega (arith, lt, is)))
+        go (valid-cases redo kept (valid_after (updates_in redo begun) first0) i (let lt = ltb-true i (valid_after (updates_in redo (begun ++ kept)) first0) file in let is = file-is in omega (arith, lt, is)))
       where
         past_made : valid_behind (readings kept) redo redo.valid ≤ i
         past_made = let over = ltb-false i (valid_behind (readings (begun ++ kept)) redo redo.valid) yields in let is = made-is in omega (arith, over, is)
 
-        go : (i < first) ⊎ EndsBehind redo kept i → ⊥
-        go (inl lt) = let least = valid-least redo kept redo.valid in let told = given.least in let over = past_made in omega (arith, least, told, over, lt)
+        go : (i < valid_after (updates_in redo begun) first0) ⊎ EndsBehind redo kept i → ⊥
+        go (inl lt) = let least = valid-least redo kept redo.valid in let told = given.least in let le = reached in let over = past_made in omega (arith, least, told, le, over, lt)
         go (inr k) = let ends = valid-ends redo kept redo.valid k.entry k.change k.among k.said in let lt = k.below in let over = past_made in omega (arith, ends, lt, over)
 
     decision : IsUngiven redo from (i / 4096) (i % 4096) kept ⊎ IsGivenBy redo from (i / 4096) (i % 4096) kept
@@ -273,7 +308,8 @@ module _ (u : Setup) (whole : List Entry) (s log first durable : ℕ) (pages : �
           let above = ltb-false i redo.size is in
           let made_within = valid-within redo (begun ++ kept) redo.valid within in
           let least = given.least in
-          let file_within = valid-within redo kept first (omega (arith, within, least)) in
+          let le = reached in
+          let file_within = valid-within redo kept (valid_after (updates_in redo begun) first0) (omega (arith, within, least, le)) in
           let same = file-is in
           past (nat_lt i (valid_behind (readings (begun ++ kept)) redo redo.valid)) (nat_lt i (valid_after (updates_in redo (begun ++ kept)) first0)) _ _
           (over i (valid_behind (readings (begun ++ kept)) redo redo.valid) (omega (arith, above, made_within)))
@@ -285,6 +321,9 @@ twice : (b : Bool) (x : ℕ) → (if b then x else 0) ≡ (if b then (if b then 
 twice true x = refl
 twice false x = refl
 
+self : (n : ℕ) → n ≤ n
+self n = omega arith
+
 none-lower : (kept : List LogEntry) (x y : LogEntry) → IsAmong [] x → IsAmong kept y → x.lsn < y.lsn
 none-lower kept x y among here = absurd among
 
@@ -293,13 +332,13 @@ module _ (u : Setup) (whole : List Entry) (s log first durable : ℕ) (pages : �
   pub first-file : (disk : ℕ → List ℕ) → ((p : ℕ) → 4096 * p < redo.size → Contains (crash_pages pages (history whole s) p) (disk p)) → (i : ℕ) →
       file_byte (pages_redone streams kept redo disk) (valid_behind (readings kept) redo redo.valid) i ≡ updated_byte pages first (updates_in redo kept) i
   first-file disk left i =
-      whole-file u whole s log first durable pages below good updated long streams redo handed given kept flushed keeps [] pages first tt (none-lower kept) refl i
-      (twice (nat_lt i first) (slice_index (pages (i / 4096)) (i % 4096))) disk (left (i / 4096)) redo.within
+      whole-file u whole s log first durable pages below good updated long streams redo handed given kept flushed keeps [] pages first tt (none-lower kept) (self first) i
+      (λ lt. twice (nat_lt i first) (slice_index (pages (i / 4096)) (i % 4096))) disk (left (i / 4096)) redo.within
 
   pub first-page : (page : ℕ) (bytes : List ℕ) → 4096 * page < redo.size → Contains (crash_pages pages (history whole s) page) bytes → MakesFile streams kept redo pages first page bytes
   first-page page bytes in_size contains i same =
-      whole-file u whole s log first durable pages below good updated long streams redo handed given kept flushed keeps [] pages first tt (none-lower kept) refl i
-      (twice (nat_lt i first) (slice_index (pages (i / 4096)) (i % 4096))) (λ p. bytes) (λ lt. subst (λ (q : ℕ). Contains (crash_pages pages (history whole s) q) bytes) (sym same) contains) redo.within
+      whole-file u whole s log first durable pages below good updated long streams redo handed given kept flushed keeps [] pages first tt (none-lower kept) (self first) i
+      (λ lt. twice (nat_lt i first) (slice_index (pages (i / 4096)) (i % 4096))) (λ p. bytes) (λ lt. subst (λ (q : ℕ). Contains (crash_pages pages (history whole s) q) bytes) (sym same) contains) redo.within
 
   -- ---- a log that had some
   pub later-file : (begun : List LogEntry) (old_pages : ℕ → List ℕ) (old_first : ℕ) → HadBegun redo begun (appended whole log) pages first old_pages old_first →

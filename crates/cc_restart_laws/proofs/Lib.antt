@@ -18,3 +18,4 @@ pub mod Again
 pub mod Raised
 pub mod Left
 pub mod Told
+pub mod Kept

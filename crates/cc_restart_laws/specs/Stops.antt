@@ -66,9 +66,9 @@ MakesFile streams kept redo pages first page bytes =
     file_byte (pages_redone streams kept redo (λ p. bytes)) (valid_of (readings kept) redo) i ≡ updated_byte pages first (updates_in redo kept) i
 
 -- The log had entries as the run began, all with lower LSNs than those that the run appended, and a restart had made the opening
--- file of them: that of these pages and this valid data length, with their updates applied.
+-- file of them: that of the old pages and the old valid data length, with their updates applied.
 pub record HadBegun (redo : Redo) (begun appended : List LogEntry) (pages : ℕ → List ℕ) (first : ℕ) (old_pages : ℕ → List ℕ) (old_first : ℕ)
     : Type 0 where
   pub ascending : AreAscending (begun ++ appended)
-  pub valid : first ≡ valid_after (updates_in redo begun) old_first
-  pub file : (i : ℕ) → file_byte pages first i ≡ updated_byte old_pages old_first (updates_in redo begun) i
+  pub valid : valid_after (updates_in redo begun) old_first ≤ first
+  pub file : (i : ℕ) → i < redo.size → file_byte pages first i ≡ updated_byte old_pages old_first (updates_in redo begun) i

@@ -1,6 +1,6 @@
 //! What follows of a stop and a restart. Each function does nothing: its contract is the law.
 
-ghost use Rattle.std.specs.Prelude.{◌≡◌, ℕ, ◌+◌, ◌*◌, ◌<◌, ◌≤◌, true, Option, List, ◌++◌, length, Contains};
+ghost use Rattle.std.specs.Prelude.{◌≡◌, ℕ, ◌+◌, ◌*◌, ◌<◌, ◌≤◌, true, Option, List, ◌++◌, length, take, Contains};
 ghost use Rattle.std.specs.List.{AllByRecursion};
 ghost use Rattle.cc_entry.specs.declared.entry.Entry.{Entry};
 ghost use Rattle.cc_format.specs.Spelling.{IsReadAs};
@@ -82,6 +82,14 @@ pub fn restarts_make_the_file()
         later.stream ≡ redo.stream → later.size ≡ redo.size → later.valid ≡ valid_of (readings kept) redo →
         ((n : ℕ) → is_given others n ≡ is_given streams n) → (page : ℕ) (bytes : List ℕ) →
         MakesFile streams kept redo pages first page bytes → MakesFile others kept later pages first page bytes }
+{}
+
+/// The updates of the kept entries are the first of all that the log has, and each entry that is durable is kept.
+pub fn kept_updates_are_the_first()
+    ensures first { (redo : Redo) (durable : ℕ) (all kept : List LogEntry) → IsKept durable all kept →
+        updates_in redo kept ≡ take (length (updates_in redo kept)) (updates_in redo all) }
+    ensures durable { (durable : ℕ) (all kept : List LogEntry) → IsKept durable all kept → (entry : LogEntry) →
+        Contains all entry → entry.lsn ≤ durable → Contains kept entry }
 {}
 
 /// What a run leaves of its log, as its devices tell it, and what a stop keeps of that: the entries that it had at first, if all

@@ -7,6 +7,6 @@
 mod laws;
 
 pub use laws::{
-    logs_keep_what_is_durable, records_tell_what_may_be_given, restarted_runs_are_redone,
-    restarts_make_the_file, stopped_runs_are_redone,
+    kept_updates_are_the_first, logs_keep_what_is_durable, records_tell_what_may_be_given,
+    restarted_runs_are_redone, restarts_make_the_file, stopped_runs_are_redone,
 };
