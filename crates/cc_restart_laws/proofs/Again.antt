@@ -1,5 +1,5 @@
 -- A restart that is done makes the file, and one that stopped leaves pages of which the next one makes it.
-use Rattle.std.specs.Prelude.{◌≡◌, ℕ, ◌*◌, ◌/◌, ◌%◌, ◌^◌, ◌<◌, ◌⊎◌, ◌==◌, Bool, true, false, nat_lt, List, [], ◌∷◌, length, take, Contains, slice_index, refl, if◌then◌else◌}
+use Rattle.std.specs.Prelude.{◌≡◌, ℕ, ◌*◌, ◌/◌, ◌%◌, ◌^◌, ◌<◌, ◌≤◌, ◌⊎◌, ◌==◌, Bool, true, false, nat_lt, max, List, [], ◌∷◌, length, take, Contains, slice_index, refl, if◌then◌else◌}
 use Rattle.std.proofs.Common.{ap, sym, subst, ◌∙◌, inl, inr, arith}
 use Rattle.std.proofs.lemmas.Bool.{eqb-true}
 use Rattle.cc_traits.specs.Disk.{Disk, may_of, page_of}
@@ -9,9 +9,13 @@ use Rattle.cc_redo.proofs.Again.{page-again}
 use Rattle.cc_redo.specs.Changes.{page_after}
 use Rattle.cc_redo.specs.Disks.{IsBetween, IsMade, Was, changed_page, record_number, with_record}
 use Rattle.cc_redo.specs.Ends.{made_from}
-use Rattle.cc_redo.specs.Heard.{Change, from_of, readings, redone_of, valid_of}
+use Rattle.cc_redo.specs.Heard.{Change, change_said, end_of, from_of, raised, readings, redone_of, valid_behind, valid_of}
+use Rattle.cc_redo.specs.Reading.{said_by}
 use Rattle.cc_redo.specs.declared.redo.Redo.{Redo}
-use Rattle.cc_restart_laws.specs.Stops.{MakesFile, file_byte, updated_byte, updates_in}
+use Rattle.std.specs.declared.option.Option.{Option}
+use Rattle.std.specs.declared.option.Option.TheVariants.{Some, None}
+use Rattle.cc_restart_laws.proofs.Redoing.{valid-same}
+use Rattle.cc_restart_laws.specs.Stops.{MakesFile, file_byte, updated_byte, updates_in, valid_after}
 
 take-all : (changes : List Change) → take (length changes) changes ≡ changes
 take-all [] = refl
@@ -66,3 +70,20 @@ module _ (streams : List Redo) (kept : List LogEntry) (redo : Redo) (pages : ℕ
       go (inr is) i page =
           ap (λ (l : List ℕ). if nat_lt i (valid_of (readings kept) redo) then slice_index l (i % 4096) else 0) (at i page (same (is ∙ made-data old p below)))
           ∙ makes (page_of old p) (inr refl) i page
+
+-- ---- the next run begins with as much valid data as the file has, or more
+
+raised-more : (least most : ℕ) (o : Option Change) → least ≤ most → raised least o ≤ raised most o
+raised-more least most None le = le
+raised-more least most (Some change) le = grow least most (end_of change) le
+  where
+    grow : (a b c : ℕ) → a ≤ b → max a c ≤ max b c
+    grow a b c le = omega arith
+
+behind-more : (redo : Redo) (entries : List LogEntry) (least most : ℕ) → least ≤ most → valid_behind (readings entries) redo least ≤ valid_behind (readings entries) redo most
+behind-more redo [] least most le = le
+behind-more redo (entry ∷ entries) least most le =
+    behind-more redo entries (raised least (change_said redo (said_by entry.bytes))) (raised most (change_said redo (said_by entry.bytes))) (raised-more least most (change_said redo (said_by entry.bytes)) le)
+
+pub valid-more : (kept : List LogEntry) (redo : Redo) (first : ℕ) → first ≤ redo.valid → valid_after (updates_in redo kept) first ≤ valid_of (readings kept) redo
+valid-more kept redo first le = let same = valid-same redo kept first in let more = behind-more redo kept first redo.valid le in omega (arith, same, more)

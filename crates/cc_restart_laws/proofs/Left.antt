@@ -1,7 +1,7 @@
 -- What a run leaves of a log, and what a stop keeps of it.
 use Rattle.std.specs.Prelude.{◌≡◌, ℕ, ◌<◌, ◌≤◌, List, [], ◌∷◌, ◌++◌, refl}
 use Rattle.std.specs.List.{AllByRecursion}
-use Rattle.std.proofs.Common.{ap, sym, subst, ◌∙◌, arith}
+use Rattle.std.proofs.Common.{ap, sym, ◌∙◌, arith}
 use Rattle.cc_entry.specs.declared.entry.Entry.{Entry}
 use Rattle.cc_log.specs.Turn.{Holds, appended}
 use Rattle.cc_model.specs.Logs.{flushed_to}

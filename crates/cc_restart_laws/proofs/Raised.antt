@@ -1,5 +1,5 @@
 -- A stream that is given to the next restart with the valid data length to which its updates raised it: that one makes the same.
-use Rattle.std.specs.Prelude.{◌≡◌, ℕ, ◌+◌, ◌/◌, ◌%◌, ◌<◌, ◌&&◌, ◌==◌, nat_le, nat_lt, min, List, [], ◌∷◌, length, slice_index, refl, if◌then◌else◌}
+use Rattle.std.specs.Prelude.{◌≡◌, ℕ, ◌+◌, ◌/◌, ◌%◌, ◌&&◌, ◌==◌, nat_le, nat_lt, min, List, [], ◌∷◌, length, slice_index, refl, if◌then◌else◌}
 use Rattle.std.specs.List.{cons_option}
 use Rattle.std.specs.declared.option.Option.{Option}
 use Rattle.std.specs.declared.option.Option.TheVariants.{Some, None}

@@ -9,9 +9,9 @@ use Rattle.cc_entry.specs.declared.entry.End.{End}
 use Rattle.cc_entry.specs.declared.entry.Entry.{Entry}
 use Rattle.cc_entry.specs.declared.entry.Entry.TheVariants as entry
 use Rattle.cc_format.proofs.Numbers.{spelled_once}
-use Rattle.cc_format.specs.Spelling.{IsReadAs, Spells}
+use Rattle.cc_format.specs.Spelling.{IsReadAs}
 use Rattle.cc_format.specs.declared.record.StreamRecord.{StreamRecord}
-use Rattle.cc_format.specs.declared.record.StreamRecord.TheVariants.{V1, V2}
+use Rattle.cc_format.specs.declared.record.StreamRecord.TheVariants.{V2}
 use Rattle.cc_laws.proofs.HistorySteps.{history-grown}
 use Rattle.cc_laws.proofs.SoundFacts.{size_of-good, valid_of-good}
 use Rattle.cc_laws.proofs.SteadyPasts.{IsSteady-good}

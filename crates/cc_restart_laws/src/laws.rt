@@ -21,7 +21,7 @@ ghost use Rattle.cc_redo.specs.Ends.{made_from};
 ghost use Rattle.cc_redo.specs.Heard.{is_given, readings, valid_of};
 ghost use Rattle.cc_redo.specs.declared.redo.Redo.{Redo};
 ghost use Rattle.cc_restart_laws.specs.Updates.{IsUpdated};
-ghost use Rattle.cc_restart_laws.specs.Stops.{HadBegun, IsGivenAs, IsKept, KeepsBehind, MakesFile, file_byte, pages_redone, updated_byte, updates_in};
+ghost use Rattle.cc_restart_laws.specs.Stops.{HadBegun, IsGivenAs, IsKept, KeepsBehind, MakesFile, file_byte, pages_redone, updated_byte, updates_in, valid_after};
 
 /// Wherever a run stops whose journal is good and whose log had no entry at first: if a stream changes by updates alone, each
 /// with its record in the log, each page of its disk is left as a crash may leave it, and the log keeps its first entries, all
@@ -65,7 +65,8 @@ pub fn restarted_runs_are_redone()
         MakesFile streams (begun ++ kept) redo old_pages old_first page bytes }
 {}
 
-/// A restart that is done over pages of which it makes the file leaves that file on the disk. One that stopped leaves pages of
+/// A restart that is done over pages of which it makes the file leaves that file on the disk, with as much valid data as it has,
+/// or more. One that stopped leaves pages of
 /// which the next one makes it, whatever a crash leaves of them, if it was so of all that the page could be before; also where
 /// that one is given the valid data length to which the updates raised it.
 pub fn restarts_make_the_file()
@@ -74,6 +75,8 @@ pub fn restarts_make_the_file()
         IsMade (made_from streams (readings kept) redo old) new →
         (i : ℕ) → i < redo.size → file_byte (page_of new) (valid_of (readings kept) redo) i
         ≡ updated_byte pages first (updates_in redo kept) i }
+    ensures valid { (kept : List LogEntry) (redo : Redo) (first : ℕ) → first ≤ redo.valid →
+        valid_after (updates_in redo kept) first ≤ valid_of (readings kept) redo }
     ensures again { (streams : List Redo) (kept : List LogEntry) (redo : Redo) (pages : ℕ → List ℕ) (first : ℕ) (old new : Disk) →
         IsBetween (made_from streams (readings kept) redo old) old new → (p : ℕ) → 4096 * p < redo.size →
         ((bytes : List ℕ) → Was old p bytes → MakesFile streams kept redo pages first p bytes) →

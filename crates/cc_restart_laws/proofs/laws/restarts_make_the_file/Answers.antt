@@ -1,4 +1,4 @@
-use Rattle.cc_restart_laws.proofs.Again.{again-file, made-file}
+use Rattle.cc_restart_laws.proofs.Again.{again-file, made-file, valid-more}
 use Rattle.cc_restart_laws.proofs.Raised.{makes-same}
 use Rattle.cc_restart_laws.proofs.laws.restarts_make_the_file.Goals as goal
 
@@ -10,3 +10,6 @@ returns-clause-again c = again-file
 
 pub returns-clause-raised : goal.returns-clause-raised
 returns-clause-raised c = makes-same
+
+pub returns-clause-valid : goal.returns-clause-valid
+returns-clause-valid c = valid-more
