@@ -93,7 +93,7 @@ was-stamped s log lsn at bytes spelled rows past k is said =
     go (appended-in log lsn spelled k.later (entry.Call k.pass k.nth None (call.DirtyPages log) (outcome.Done k.reply) ∷ k.listed) (subst (λ (l : List Entry). IsAppended log lsn spelled l) k.splits is))
   where
     stamped : IsAppended log lsn spelled k.listed → WasStamped s log lsn k.listed
-    stamped here = let at_place = append-at log lsn spelled k.listed here in k.stamped at_place.later at_place.front at_place.pass lsn at bytes spelled at_place.splits said
+    stamped here = let at_place = append-at log lsn spelled k.listed here in k.stamped lsn (record { pass = at_place.pass; at = at; bytes = bytes; spelled = spelled; later = at_place.later; front = at_place.front; splits = at_place.splits; said = said })
 
     go : IsAppended log lsn spelled k.later ⊎ IsAppended log lsn spelled (entry.Call k.pass k.nth None (call.DirtyPages log) (outcome.Done k.reply) ∷ k.listed) → WasStamped s log lsn k.listed
     go (inl since) = absurd (none-recorded s log lsn at bytes spelled k.later said k.none_since since)

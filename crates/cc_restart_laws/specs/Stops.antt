@@ -59,11 +59,14 @@ abbrev pub updated_byte : (ℕ → List ℕ) → ℕ → List Change → ℕ →
 updated_byte pages valid changes i =
     if nat_lt i (valid_after changes valid) then byte_after changes (i / 4096) (i % 4096) (file_byte pages valid i) else 0
 
+-- the byte at i of the file that a restart makes of these pages
+abbrev pub redone_byte : List Redo → List LogEntry → Redo → (ℕ → List ℕ) → ℕ → ℕ
+redone_byte streams kept redo disk i = file_byte (pages_redone streams kept redo disk) (valid_of (readings kept) redo) i
+
 -- a restart makes the file of a page that holds these bytes
 abbrev pub MakesFile : List Redo → List LogEntry → Redo → (ℕ → List ℕ) → ℕ → ℕ → List ℕ → Type 0
 MakesFile streams kept redo pages first page bytes =
-    (i : ℕ) → i / 4096 ≡ page →
-    file_byte (pages_redone streams kept redo (λ p. bytes)) (valid_of (readings kept) redo) i ≡ updated_byte pages first (updates_in redo kept) i
+    (i : ℕ) → i / 4096 ≡ page → redone_byte streams kept redo (λ p. bytes) i ≡ updated_byte pages first (updates_in redo kept) i
 
 -- The log had entries as the run began, all with lower LSNs than those that the run appended, and a restart had made the opening
 -- file of them: that of the old pages and the old valid data length, with their updates applied.

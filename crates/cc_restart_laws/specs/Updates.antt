@@ -80,6 +80,17 @@ pub record IsStamp (s : ℕ) (it : Updating) (e : Entry) : Type 0 where
   pub reply : Reply
   pub is : e ≡ entry.Call it.pass nth (Some s) (call.SetDirty it.hold (Some it.lsn)) (outcome.Done reply)
 
+-- The record of an update with this LSN was appended to the log before.
+pub record HasRecorded (s log lsn : ℕ) (past : List Entry) : Type 0 where
+  pub pass : ℕ
+  pub at : ℕ
+  pub bytes : List ℕ
+  pub spelled : List ℕ
+  pub later : List Entry
+  pub front : List Entry
+  pub splits : past ≡ later ++ entry.Append pass log lsn spelled ∷ front
+  pub said : said_by spelled ≡ Some (Update s at bytes)
+
 -- An update with a record of this LSN was written and set dirty before.
 pub record WasStamped (s log lsn : ℕ) (past : List Entry) : Type 0 where
   pub it : Updating
@@ -146,8 +157,7 @@ pub record IsCheckpoint (s log : ℕ) (rows : List OldestRow) (past : List Entry
   pub listed : List Entry
   pub splits : past ≡ later ++ entry.Call pass nth None (call.DirtyPages log) (outcome.Done reply) ∷ listed
   pub told : rows ≡ map row_told (dirty_table listed log)
-  pub stamped : (after before : List Entry) (who lsn at : ℕ) (bytes spelled : List ℕ) → listed ≡ after ++ entry.Append who log lsn spelled ∷ before →
-      said_by spelled ≡ Some (Update s at bytes) → WasStamped s log lsn listed
+  pub stamped : (lsn : ℕ) → HasRecorded s log lsn listed → WasStamped s log lsn listed
   pub none_since : list_any (records_update s log) later ≡ false
   pub synced : had_map (history listed s) ≡ true →
       HasSynced s (entry.Call pass nth None (call.DirtyPages log) (outcome.Done reply) ∷ listed) past

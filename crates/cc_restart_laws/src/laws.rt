@@ -21,7 +21,7 @@ ghost use Rattle.cc_redo.specs.Ends.{made_from};
 ghost use Rattle.cc_redo.specs.Heard.{is_given, readings, valid_of};
 ghost use Rattle.cc_redo.specs.declared.redo.Redo.{Redo};
 ghost use Rattle.cc_restart_laws.specs.Updates.{IsUpdated};
-ghost use Rattle.cc_restart_laws.specs.Stops.{HadBegun, IsGivenAs, IsKept, KeepsBehind, MakesFile, file_byte, pages_redone, updated_byte, updates_in, valid_after};
+ghost use Rattle.cc_restart_laws.specs.Stops.{HadBegun, IsGivenAs, IsKept, KeepsBehind, MakesFile, file_byte, redone_byte, updated_byte, updates_in, valid_after};
 
 /// Wherever a run stops whose journal is good and whose log had no entry at first: if a stream changes by updates alone, each
 /// with its record in the log, each page of its disk is left as a crash may leave it, and the log keeps its first entries, all
@@ -33,8 +33,7 @@ pub fn stopped_runs_are_redone()
         (streams : List Redo) (redo : Redo) → Contains streams redo → IsGivenAs s first past redo →
         (kept : List LogEntry) → flushed_to past log ≤ durable → IsKept durable (appended past log) kept →
         (disk : ℕ → List ℕ) → ((p : ℕ) → 4096 * p < redo.size → Contains (crash_pages pages (history past s) p) (disk p)) →
-        (i : ℕ) → file_byte (pages_redone streams kept redo disk) (valid_of (readings kept) redo) i
-        ≡ updated_byte pages first (updates_in redo kept) i }
+        (i : ℕ) → redone_byte streams kept redo disk i ≡ updated_byte pages first (updates_in redo kept) i }
     ensures page { (u : Setup) (past : List Entry) (s log first durable : ℕ) (pages : ℕ → List ℕ) → s < 16 →
         IsGoodSoFar u past → IsUpdated s log past → ((p : ℕ) → length (pages p) ≡ 4096) →
         (streams : List Redo) (redo : Redo) → Contains streams redo → IsGivenAs s first past redo →
@@ -53,8 +52,7 @@ pub fn restarted_runs_are_redone()
         (begun : List LogEntry) (old_pages : ℕ → List ℕ) (old_first : ℕ) →
         HadBegun redo begun (appended past log) pages first old_pages old_first →
         (disk : ℕ → List ℕ) → ((p : ℕ) → 4096 * p < redo.size → Contains (crash_pages pages (history past s) p) (disk p)) →
-        (i : ℕ) → file_byte (pages_redone streams (begun ++ kept) redo disk) (valid_of (readings (begun ++ kept)) redo) i
-        ≡ updated_byte old_pages old_first (updates_in redo (begun ++ kept)) i }
+        (i : ℕ) → redone_byte streams (begun ++ kept) redo disk i ≡ updated_byte old_pages old_first (updates_in redo (begun ++ kept)) i }
     ensures page { (u : Setup) (past : List Entry) (s log first durable : ℕ) (pages : ℕ → List ℕ) → s < 16 →
         IsGoodSoFar u past → IsUpdated s log past → ((p : ℕ) → length (pages p) ≡ 4096) →
         (streams : List Redo) (redo : Redo) → Contains streams redo → IsGivenAs s first past redo →
