@@ -1,0 +1,3 @@
+-- What the contracts cite.
+pub mod Updates
+pub mod Stops
