@@ -63,10 +63,9 @@ pub fn restarted_runs_are_redone()
         MakesFile streams (begun ++ kept) redo old_pages old_first page bytes }
 {}
 
-/// A restart that is done over pages of which it makes the file leaves that file on the disk, with as much valid data as it has,
-/// or more. One that stopped leaves pages of
-/// which the next one makes it, whatever a crash leaves of them, if it was so of all that the page could be before; also where
-/// that one is given the valid data length to which the updates raised it.
+/// A restart that is done over pages of which it makes the file leaves that file on the disk, with as much valid data as it has
+/// or more. One that stopped leaves pages of which the next one makes it, whatever a crash leaves of them, if it was so of all
+/// that the page could be before; also where the next one is given the valid data length to which the updates raised it.
 pub fn restarts_make_the_file()
     ensures made { (streams : List Redo) (kept : List LogEntry) (redo : Redo) (pages : ℕ → List ℕ) (first : ℕ) (old new : Disk) →
         ((p : ℕ) → 4096 * p < redo.size → MakesFile streams kept redo pages first p (page_of old p)) →
