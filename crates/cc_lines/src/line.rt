@@ -17,7 +17,7 @@ use crate::held_lines::{
 use crate::holds::Names;
 use crate::noncached_lines::{read_noncached, write_noncached};
 use crate::settle_line::settle_stream;
-use crate::shim_lines::{levels, read_along, update_logged, write_extending, lock, unlock};
+use crate::shim_lines::{levels, lock, read_along, unlock, update_logged, write_extending};
 use crate::throttle_lines::{Fresh, defer_write, post_all};
 use crate::tick_line::serve_tick;
 use cc_calls::{

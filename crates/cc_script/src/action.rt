@@ -20,7 +20,7 @@ use crate::hold_action::{
 use crate::hold_word::HoldNames;
 use crate::part::Words;
 use crate::script::{Action, Mode, StreamLines};
-use crate::shim_action::{levels, read, settle, update, write, lock, unlock};
+use crate::shim_action::{levels, lock, read, settle, unlock, update, write};
 use crate::verb::Verb;
 use std::alloc::Global;
 
