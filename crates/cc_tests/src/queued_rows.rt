@@ -102,11 +102,17 @@ fn first_row(rt: HostRuntime) -> Result<(), Fail> {
     let (queue, mut place) = AsyncQueue::new(alloc)?;
     let mut desk = desk_with(alloc, false)?;
     desk.act_as(1);
-    assert_eq!(rt; initialize(alloc, &mut desk, file, sizes(), quota, false), Ok(()));
+    assert_eq!(rt;
+        initialize(alloc, &mut desk, file, sizes(), quota, false),
+        Ok(())
+    );
     let first = async_read(&rt, alloc, &mut desk, &queue, &mut place, file, 0, 4);
     assert_eq!(rt; number_of(&first), Some((1, 1)));
     let mut byte = [0; 1];
-    assert_eq!(rt; copy_read(alloc, &mut desk, file, 4096, true, &mut byte), Ok(1));
+    assert_eq!(rt;
+        copy_read(alloc, &mut desk, file, 4096, true, &mut byte),
+        Ok(1)
+    );
     let second = async_read(&rt, alloc, &mut desk, &queue, &mut place, file, 4096, 2);
     assert_eq!(rt; length_of(&second), Some(2));
     let done = async_step(&rt, alloc, &mut desk, &queue, &mut place);
@@ -129,16 +135,25 @@ fn second_row_and_a_reopening(rt: HostRuntime) -> Result<(), Fail> {
     let (queue, mut place) = AsyncQueue::new(alloc)?;
     let mut desk = desk_with(alloc, false)?;
     desk.act_as(1);
-    assert_eq!(rt; initialize(alloc, &mut desk, file, sizes(), quota, false), Ok(()));
+    assert_eq!(rt;
+        initialize(alloc, &mut desk, file, sizes(), quota, false),
+        Ok(())
+    );
     let mut other = queue.split(&mut place);
     let first = async_read(&rt, alloc, &mut desk, &queue, &mut place, file, 0, 4);
     let second = async_read(&rt, alloc, &mut desk, &queue, &mut place, file, 4000, 200);
-    assert_eq!(rt; (number_of(&first), number_of(&second)), (Some((1, 1)), Some((1, 2))));
+    assert_eq!(rt;
+        (number_of(&first), number_of(&second)),
+        (Some((1, 1)), Some((1, 2)))
+    );
     assert_eq!(rt; uninitialize(alloc, &mut desk, file, None), Ok(true));
     desk.act_as(2);
     let done = async_step(&rt, alloc, &mut desk, &queue, &mut other);
     assert_eq!(rt; refused(&done), Some((1, 1, 1)));
-    assert_eq!(rt; initialize(alloc, &mut desk, file, sizes(), quota, false), Ok(()));
+    assert_eq!(rt;
+        initialize(alloc, &mut desk, file, sizes(), quota, false),
+        Ok(())
+    );
     assert_eq!(rt; set_file_sizes(alloc, &mut desk, file, 8192, 4100), Ok(()));
     let cut = async_step(&rt, alloc, &mut desk, &queue, &mut other);
     assert_eq!(rt; answered(&cut), Some((1, 2, 100, Some(0x5A))));
@@ -165,9 +180,15 @@ fn third_row(rt: HostRuntime) -> Result<(), Fail> {
     let (queue, mut place) = AsyncQueue::new(alloc)?;
     let mut desk = desk_with(alloc, false)?;
     desk.act_as(1);
-    assert_eq!(rt; initialize(alloc, &mut desk, file, sizes(), quota, false), Ok(()));
+    assert_eq!(rt;
+        initialize(alloc, &mut desk, file, sizes(), quota, false),
+        Ok(())
+    );
     for n in 1..=64 {
-        assert_eq!(rt; ask(&rt, alloc, &mut desk, &queue, &mut place, file), Some((1, n)));
+        assert_eq!(rt;
+            ask(&rt, alloc, &mut desk, &queue, &mut place, file),
+            Some((1, n))
+        );
     }
     let last = async_read(&rt, alloc, &mut desk, &queue, &mut place, file, 0, 1);
     assert!(rt; matches!(last, Err(CcError::QueueFull)));
@@ -184,7 +205,10 @@ fn a_read_of_no_stream(rt: HostRuntime) -> Result<(), Fail> {
     let (queue, mut place) = AsyncQueue::new(alloc)?;
     let mut desk = desk_with(alloc, true)?;
     desk.act_as(1);
-    assert_eq!(rt; initialize(alloc, &mut desk, file, sizes(), quota, false), Ok(()));
+    assert_eq!(rt;
+        initialize(alloc, &mut desk, file, sizes(), quota, false),
+        Ok(())
+    );
     let first = async_read(&rt, alloc, &mut desk, &queue, &mut place, file, 0, 4);
     assert_eq!(rt; number_of(&first), Some((1, 1)));
     let Parts { .. } = desk.end();
