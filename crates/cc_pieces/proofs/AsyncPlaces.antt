@@ -14,16 +14,10 @@ use Rattle.cc_entry.specs.declared.error.CcError.{CcError}
 use Rattle.cc_entry.specs.declared.error.CcError.TheVariants as error
 use Rattle.cc_script.specs.declared.script.Action.{Action}
 use Rattle.cc_script.specs.declared.script.Action.TheVariants as action
-use Rattle.cc_pieces.specs.AsyncQueue.{AreNumbered, AsyncPlace, AsyncRan, CompletionPlaced, HasQueued, Numbered, ReadPlaced, finds_empty, finds_full, reads_done, reads_queued, with_done, with_queued}
+use Rattle.cc_pieces.specs.AsyncQueue.{AreNumbered, AsyncPlace, AsyncRan, CompletionPlaced, HasQueued, Numbered, ReadPlaced, finds_empty, finds_full, is_async, reads_done, reads_queued, with_done, with_queued}
 use Rattle.cc_pieces.specs.Explained.{Answered, Given}
 use Rattle.cc_pieces.specs.Queue.{lines_told, risen_by}
 use Rattle.cc_pieces.proofs.PlaceSteps.{risen-exact, risen-sum}
-
--- whether an action is one at the queue of copied reads
-abbrev pub is_async : Action → Bool
-is_async (action.AsyncRead file at len) = true
-is_async action.Complete = true
-is_async other = false
 
 -- ---- one line
 

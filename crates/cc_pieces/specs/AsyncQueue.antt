@@ -14,6 +14,12 @@ use Rattle.cc_script.specs.declared.script.Action.TheVariants as action
 use Rattle.cc_pieces.specs.Explained.{Answered, Given}
 use Rattle.cc_pieces.specs.Queue.{lines_told, risen, risen_by}
 
+-- whether an action is one at the queue of copied reads
+abbrev pub is_async : Action → Bool
+is_async (action.AsyncRead file at len) = true
+is_async action.Complete = true
+is_async other = false
+
 -- a read under its number
 pub record Numbered : Type 0 where
   pub id : AsyncId
