@@ -12,3 +12,5 @@ pub mod RunMarks
 pub mod RunsRight
 pub mod StampWants
 pub mod StateAsked
+pub mod LockMarks
+pub mod RecordMarks

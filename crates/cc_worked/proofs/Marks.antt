@@ -1,10 +1,13 @@
 -- What a pass did by the entries that no call places on its way: the ends of its calls, its appends, its
--- deferrals and its scans. They tell which calls a line made, and in which order.
+-- deferrals, its scans, its tests against locks and its writes of records. They tell which calls a line made, and in which
+-- order.
 use Rattle.std.specs.Prelude.{◌≡◌, ℕ, ◌==◌, Bool, true, false, List, [], ◌∷◌, ◌++◌, Ok, Err, refl, if◌then◌else◌, map}
 use Rattle.std.proofs.Common.{sym, ap, ◌∙◌, inl, inr, append_assoc, append-nil, eq-eqb}
 use Rattle.std.proofs.lemmas.List.{append_cancel_right}
-use Rattle.cc_entry.specs.Place.{Page}
+use Rattle.std.specs.declared.option.Option.{Option}
+use Rattle.cc_entry.specs.Place.{File, Page, Range}
 use Rattle.cc_entry.specs.declared.call.Call.{Call}
+use Rattle.cc_entry.specs.declared.entry.End.{End}
 use Rattle.cc_entry.specs.declared.error.CcError.{CcError}
 use Rattle.cc_entry.specs.declared.error.CcError.TheVariants as error
 use Rattle.cc_entry.specs.declared.reply.Reply.TheVariants as reply
@@ -21,12 +24,14 @@ use Rattle.cc_effects.specs.Calls.{IsPlaced, IsUnplaced, CallLeft, leaves_entry}
 use Rattle.cc_effects.proofs.FrontLaws.{placed-of}
 use Rattle.cc_pieces.specs.Shim.{CallsLeft}
 
--- the end of a call with its outcome, an entry of a log, a deferral, a scan
+-- the end of a call with its outcome, an entry of a log, a deferral, a scan, a test against locks, a write of a record
 pub data Mark : Type 0 where
   Ended : (it : Call) → (answered : Outcome) → Mark
   Logged : (handle lsn : ℕ) → (bytes : List ℕ) → Mark
   Deferred : (id : ℕ) → Mark
   Scanned : (picked : List Page) → Mark
+  Tested : (file : File) → (range : Range) → (write : Bool) → (conflict : Option ℕ) → Mark
+  Recorded : (stream size valid : ℕ) → (end : End) → Mark
 
 abbrev pub mark_if : ℕ → ℕ → Mark → List Mark
 mark_if me pass mark = if pass == me then mark ∷ [] else []
@@ -36,6 +41,8 @@ mark_of me (entry.Call pass nth stream it answered) = mark_if me pass (Ended it 
 mark_of me (entry.Append pass handle lsn bytes) = mark_if me pass (Logged handle lsn bytes)
 mark_of me (entry.Defer pass id file pages retrying) = mark_if me pass (Deferred id)
 mark_of me (entry.Scan pass picked) = mark_if me pass (Scanned picked)
+mark_of me (entry.Tested pass file range write conflict) = mark_if me pass (Tested file range write conflict)
+mark_of me (entry.Record pass stream size valid end) = mark_if me pass (Recorded stream size valid end)
 mark_of me other = []
 
 -- the marks of the pass in a stretch, oldest first
@@ -62,6 +69,8 @@ unmarked me (entry.Call pass nth stream it answered) is = not-mine me pass (Ende
 unmarked me (entry.Append pass handle lsn bytes) is = not-mine me pass (Logged handle lsn bytes) is
 unmarked me (entry.Defer pass id file pages retrying) is = not-mine me pass (Deferred id) is
 unmarked me (entry.Scan pass picked) is = not-mine me pass (Scanned picked) is
+unmarked me (entry.Tested pass file range write conflict) is = not-mine me pass (Tested file range write conflict) is
+unmarked me (entry.Record pass stream size valid end) is = not-mine me pass (Recorded stream size valid end) is
 unmarked me other is = refl
 
 pub marks-others : (me : ℕ) (during : List Entry) → Others me during → marks me during ≡ []
@@ -80,6 +89,8 @@ placeable me work old past (entry.Call pass nth stream it answered) may = may-no
 placeable me work old past (entry.Append pass handle lsn bytes) may = may-not me pass (Logged handle lsn bytes) may
 placeable me work old past (entry.Defer pass id file pages retrying) may = may-not me pass (Deferred id) may
 placeable me work old past (entry.Scan pass picked) may = may-not me pass (Scanned picked) may
+placeable me work old past (entry.Tested pass file range write conflict) may = may-not me pass (Tested file range write conflict) may
+placeable me work old past (entry.Record pass stream size valid end) may = may-not me pass (Recorded stream size valid end) may
 placeable me work old past other may = refl
 
 -- what a call places on its way leaves none

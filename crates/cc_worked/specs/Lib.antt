@@ -39,3 +39,5 @@ pub mod PiecesFlushes
 pub mod PiecesAnswered
 pub mod PiecesQueue
 pub mod PiecesEvents
+pub mod PiecesLocks
+pub mod PiecesRecords
