@@ -175,14 +175,7 @@ fn serve_phase<
         rt, alloc, &mut desk, queues, lines, gate, calls, names, replies,
     );
     serve_ticks(alloc, &mut desk, phase, ticks);
-    serve_steps(
-        rt,
-        alloc,
-        &mut desk,
-        &queues.ahead,
-        phase,
-        &mut aheads,
-    );
+    serve_steps(rt, alloc, &mut desk, &queues.ahead, phase, &mut aheads);
     (desk, aheads)
 }
 

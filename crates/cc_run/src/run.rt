@@ -87,7 +87,8 @@ pub(crate) fn run_script<
         return Err((rest, further, posts));
     };
     let Places {
-        ahead: mut place, ..
+        ahead: mut place,
+        ..
     } = first;
     let lazy = queues.ahead.split(&mut place);
     let Ok(aheads) = Aheads::with_room(alloc, script.aheads, script.phases, place) else {
@@ -128,8 +129,20 @@ pub(crate) fn run_script<
                 logs,
                 posts,
             } = run_on(
-                rt, alloc, script, gate, desk, &queues, names, replies, ticks, aheads, lazy, places,
-                async_places, posts,
+                rt,
+                alloc,
+                script,
+                gate,
+                desk,
+                &queues,
+                names,
+                replies,
+                ticks,
+                aheads,
+                lazy,
+                places,
+                async_places,
+                posts,
             );
             Ok(RunResult {
                 replies,

@@ -252,14 +252,7 @@ fn run_stepper<R: Wait, D: PageDisk, L: LogFile, Q: PostRoutine>(
 {
     let Stepper { pass, mut aheads } = stepper;
     let mut seated = Seated::new(rt, board, pass);
-    make_steps(
-        rt,
-        alloc,
-        &mut seated,
-        &queues.ahead,
-        phase,
-        &mut aheads,
-    );
+    make_steps(rt, alloc, &mut seated, &queues.ahead, phase, &mut aheads);
     Stepper {
         pass: seated.into_pass(),
         aheads,

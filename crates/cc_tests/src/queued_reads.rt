@@ -68,9 +68,7 @@ fn a_read_of_no_stream(rt: HostRuntime) -> Result<(), Fail> {
     let Parts { .. } = two.end();
     let mut one = desk_of(alloc, vec![in alloc; disk(alloc)]?)?;
     one.act_as(5);
-    let Some(AsyncDone { answer, .. }) =
-        async_step(&rt, alloc, &mut one, &queue, &mut place)
-    else {
+    let Some(AsyncDone { answer, .. }) = async_step(&rt, alloc, &mut one, &queue, &mut place) else {
         return Err(Fail::from("no read was queued"));
     };
     assert!(rt; matches!(answer, Err(CcError::NotCached)));
