@@ -5,6 +5,7 @@ use Rattle.cc_pieces.specs.Queue.{AskPlaced}
 use Rattle.cc_lines.specs.Holds.{NamesState}
 use Rattle.cc_lines.specs.Line.{StepAt}
 use Rattle.cc_lines.specs.Queues.{copies_of, hand_of}
+use Rattle.cc_lines.specs.declared.queues.Queues.{Queues}
 use Rattle.cc_lines.proofs.AheadLines.{any-as, ask-line, not-async, not-queue, other-line, step-line}
 use Rattle.cc_lines.proofs.AsyncLines.{complete-line, start-line}
 use Rattle.cc_lines.proofs.ServeLines.{can-as, may-free, may-on}
@@ -12,6 +13,9 @@ use Rattle.cc_lines.proofs.line.serve_any.Goals as goal
 
 pub ask_ahead-requires-clause-can : goal.ask_ahead-requires-clause-can
 ask_ahead-requires-clause-can g c = may-on (g.T.Turns.standing c.args.turns.now) _ c.args.names.now c.in-AskAhead.file.stream c.requires.can (can-as (g.T.Turns.standing c.args.turns.now) _ _ c.args.names.now c.in-AskAhead.is c.requires.can).servable
+
+pub ask_ahead-requires-clause-own : goal.ask_ahead-requires-clause-own
+ask_ahead-requires-clause-own g c = ap (λ (n : NamesState). n.places.ahead.queue) c.names.view_is ∙ ap (λ (q : Queues). q.ahead) c.requires.own
 
 pub returns-in-AskAhead : goal.returns-in-AskAhead
 returns-in-AskAhead g c =
@@ -26,6 +30,9 @@ returns-in-AskAhead g c =
 pub serve_step-requires-clause-free : goal.serve_step-requires-clause-free
 serve_step-requires-clause-free g c = may-free (g.T.Turns.standing c.args.turns.now) _ c.args.names.now c.requires.can
 
+pub serve_step-requires-clause-own : goal.serve_step-requires-clause-own
+serve_step-requires-clause-own g c = ap (λ (n : NamesState). n.places.ahead.queue) c.names-in-AheadStep.view_is ∙ ap (λ (q : Queues). q.ahead) c.requires.own
+
 pub returns-in-AheadStep : goal.returns-in-AheadStep
 returns-in-AheadStep g c =
     let view = c.names-in-AheadStep.view_is in
@@ -38,6 +45,9 @@ returns-in-AheadStep g c =
 
 pub start_read-requires-clause-can : goal.start_read-requires-clause-can
 start_read-requires-clause-can g c = may-on (g.T.Turns.standing c.args.turns.now) _ c.args.names.now c.in-AsyncRead.file.stream c.requires.can (can-as (g.T.Turns.standing c.args.turns.now) _ _ c.args.names.now c.in-AsyncRead.is c.requires.can).servable
+
+pub start_read-requires-clause-own : goal.start_read-requires-clause-own
+start_read-requires-clause-own g c = ap (λ (n : NamesState). n.places.copies.queue) c.names-in-AsyncRead.view_is ∙ ap (λ (q : Queues). q.copies) c.requires.own
 
 pub returns-in-AsyncRead : goal.returns-in-AsyncRead
 returns-in-AsyncRead g c =
@@ -52,6 +62,9 @@ returns-in-AsyncRead g c =
 
 pub complete_read-requires-clause-free : goal.complete_read-requires-clause-free
 complete_read-requires-clause-free g c = may-free (g.T.Turns.standing c.args.turns.now) _ c.args.names.now c.requires.can
+
+pub complete_read-requires-clause-own : goal.complete_read-requires-clause-own
+complete_read-requires-clause-own g c = ap (λ (n : NamesState). n.places.copies.queue) c.names-in-Complete.view_is ∙ ap (λ (q : Queues). q.copies) c.requires.own
 
 pub returns-in-Complete : goal.returns-in-Complete
 returns-in-Complete g c =
